@@ -1,0 +1,16 @@
+mod Bridge
+mod Blocks
+mod Checks
+mod Comments
+mod Confusing
+mod Cuts
+mod Elements
+mod Fronts
+mod HexRows
+mod Lines
+mod Pieces
+mod RunKinds
+mod Digits
+mod Tails
+mod NumberKinds
+mod NumberSteps

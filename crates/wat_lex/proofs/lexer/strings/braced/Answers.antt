@@ -1,0 +1,26 @@
+use Rattle.std.proofs.Common.{sym, ap, ◌∙◌, subst, ◌≡◌, [], ◌∷◌, length}
+use Rattle.std.specs.Str.Iter.{chars_rest}
+use Rattle.wat_lex.proofs.Elements.{Took, took, refused, open_missing, open_wrong, escaped_on, breaks_on, on_ok, if_err}
+use Rattle.wat_lex.proofs.lexer.strings.braced.Goals as goal
+use Rattle.wat_lex.proofs.lexer.strings.braced.Goals.{In-Some}
+
+first : (c : In-Some) → Took (chars_rest c.args.it.now) c.in-Some.c (chars_rest c.next.new.self)
+first c = took (chars_rest c.args.it.now) (chars_rest c.next.new.self) c.in-Some.c c.requires.utf8 c.in-Some.ensures.steps.0
+
+was : (c : In-Some) → c.in-Some.c ≡ 123 → Took (chars_rest c.args.it.now) 123 (chars_rest c.next.new.self)
+was c e = subst (λ x. Took (chars_rest c.args.it.now) x (chars_rest c.next.new.self)) e (first c)
+
+pub digits-requires : goal.digits-requires
+digits-requires c = let t = first (goal.at.digits-requires c).In-Some in record { utf8 = t.utf8 }
+
+pub returns-then-c-eq123-clause-ok : goal.returns-then-c-eq123-clause-ok
+returns-then-c-eq123-clause-ok c = on_ok c.digits.result _ _ (escaped_on _ (92 ∷ 117 ∷ []) (chars_rest c.args.it.now) (chars_rest c.next.new.self) (chars_rest c.digits.new.it) 123 (was (goal.at.returns-then-c-eq123-clause-ok c).In-Some c.if-c-eq123.true)) c.digits.ensures.ok
+
+pub returns-then-c-eq123-clause-err : goal.returns-then-c-eq123-clause-err
+returns-then-c-eq123-clause-err c = if_err c.digits.result _ _ (λ f. breaks_on _ (92 ∷ 117 ∷ []) (chars_rest c.args.it.now) (chars_rest c.next.new.self) 123 f (was (goal.at.returns-then-c-eq123-clause-err c).In-Some c.if-c-eq123.true)) c.digits.ensures.err
+
+pub returns-in-None-clause-err : goal.returns-in-None-clause-err
+returns-in-None-clause-err c = refused _ _ _ c.refuse.ensures (open_missing _ _ c.in-None.ensures.steps.0.0)
+
+pub returns-else-c-eq123-clause-err : goal.returns-else-c-eq123-clause-err
+returns-else-c-eq123-clause-err c = refused _ _ _ c.refuse-in-Some.ensures (open_wrong _ _ _ c.in-Some.c _ (first (goal.at.returns-else-c-eq123-clause-err c).In-Some) (ap length c.as_str-left.ensures) c.if-c-eq123.false)

@@ -1,0 +1,23 @@
+use Rattle.std.proofs.Common.{sym, ap, ◌∙◌, subst, ◌≡◌, [], ◌∷◌, length}
+use Rattle.std.specs.Str.Iter.{chars_rest}
+use Rattle.wat_lex.proofs.Elements.{Took, took, refused, digits_missing, digits_wrong, escaped_on, breaks_on, on_ok, if_err}
+use Rattle.wat_lex.proofs.lexer.strings.digits.Goals as goal
+use Rattle.wat_lex.proofs.lexer.strings.digits.Goals.{In-Some}
+
+first : (c : In-Some) → Took (chars_rest c.args.it.now) c.in-Some.c (chars_rest c.next.new.self)
+first c = took (chars_rest c.args.it.now) (chars_rest c.next.new.self) c.in-Some.c c.requires.utf8 c.in-Some.ensures.steps.0
+
+pub number-requires-clause-utf8 : goal.number-requires-clause-utf8
+number-requires-clause-utf8 c = let t = first (goal.at.number-requires-clause-utf8 c).In-Some in t.utf8
+
+pub returns-then-is_hex-clause-ok : goal.returns-then-is_hex-clause-ok
+returns-then-is_hex-clause-ok c = on_ok c.number.result _ _ (escaped_on _ (92 ∷ 117 ∷ 123 ∷ []) (chars_rest c.args.it.now) (chars_rest c.next.new.self) (chars_rest c.number.new.it) c.in-Some.c (first (goal.at.returns-then-is_hex-clause-ok c).In-Some)) c.number.ensures.ok
+
+pub returns-then-is_hex-clause-err : goal.returns-then-is_hex-clause-err
+returns-then-is_hex-clause-err c = if_err c.number.result _ _ (λ f. breaks_on _ (92 ∷ 117 ∷ 123 ∷ []) (chars_rest c.args.it.now) (chars_rest c.next.new.self) c.in-Some.c f (first (goal.at.returns-then-is_hex-clause-err c).In-Some)) c.number.ensures.err
+
+pub returns-in-None-clause-err : goal.returns-in-None-clause-err
+returns-in-None-clause-err c = refused _ _ _ c.refuse.ensures (digits_missing _ _ c.in-None.ensures.steps.0.0)
+
+pub returns-else-is_hex-clause-err : goal.returns-else-is_hex-clause-err
+returns-else-is_hex-clause-err c = refused _ _ _ c.refuse-in-Some.ensures (digits_wrong _ _ _ c.in-Some.c _ (first (goal.at.returns-else-is_hex-clause-err c).In-Some) (ap length c.as_str-left.ensures) (sym c.is_hex.ensures ∙ c.if-is_hex.false))

@@ -1,0 +1,98 @@
+-- WebAssembly specification, text format. Lexical format: characters, white space, tokens (reserved). Values: names and
+-- identifiers (idchar). The finite sets of characters, and words on lists of characters.
+use Rattle.std.specs.Prelude.{ℕ, Bool, true, false, ◌||◌, ◌==◌, List, [], ◌∷◌, codes, length, encode_utf8_all, IsTrue}
+use Rattle.std.specs.Char.{is_ascii_alphanumeric, is_ascii_hexdigit, char_set_contains}
+use Rattle.std.specs.Str.{NonePass}
+
+abbrev pub line_feed : ℕ
+line_feed = 10
+
+abbrev pub carriage_return : ℕ
+carriage_return = 13
+
+abbrev pub quote : ℕ
+quote = 34
+
+abbrev pub dollar : ℕ
+dollar = 36
+
+abbrev pub open_paren : ℕ
+open_paren = 40
+
+abbrev pub close_paren : ℕ
+close_paren = 41
+
+abbrev pub plus : ℕ
+plus = 43
+
+abbrev pub minus : ℕ
+minus = 45
+
+abbrev pub dot : ℕ
+dot = 46
+
+abbrev pub semicolon : ℕ
+semicolon = 59
+
+abbrev pub at_sign : ℕ
+at_sign = 64
+
+abbrev pub backslash : ℕ
+backslash = 92
+
+abbrev pub underscore : ℕ
+underscore = 95
+
+abbrev pub letter_u : ℕ
+letter_u = 117
+
+abbrev pub open_brace : ℕ
+open_brace = 123
+
+abbrev pub close_brace : ℕ
+close_brace = 125
+
+-- space, LF, CR and TAB
+abbrev pub is_blank : ℕ → Bool
+is_blank c = char_set_contains (32 ∷ line_feed ∷ carriage_return ∷ 9 ∷ []) c
+
+abbrev pub is_line_end : ℕ → Bool
+is_line_end c = char_set_contains (line_feed ∷ carriage_return ∷ []) c
+
+abbrev pub is_idchar : ℕ → Bool
+is_idchar c = is_ascii_alphanumeric c || char_set_contains (codes "!#$%&'*+-./:<=>?@\\^_`|~") c
+
+abbrev pub is_hex : ℕ → Bool
+is_hex c = is_ascii_hexdigit c
+
+-- the reserved characters of one byte, apart from `;`
+abbrev pub is_mark : ℕ → Bool
+is_mark c = char_set_contains (codes ",[]{}") c
+
+-- what a run is made of: an idchar, or the quote that begins a string
+abbrev pub is_run_char : ℕ → Bool
+is_run_char c = is_idchar c || c == quote
+
+-- The characters that change the direction in which text is shown: U+202A, U+202B, U+202D, U+202E, U+2066 to U+2069,
+-- U+206C. The standard allows them; a lexer refuses them in comments and strings unless told otherwise.
+abbrev pub is_confusing : ℕ → Bool
+is_confusing c = char_set_contains (0x202A ∷ 0x202B ∷ 0x202D ∷ 0x202E ∷ 0x2066 ∷ 0x2067 ∷ 0x2068 ∷ 0x2069 ∷ 0x206C ∷ []) c
+
+-- each character passes
+abbrev pub Each : (ℕ → Bool) → List ℕ → Type 0
+Each p [] = Unit {0}
+Each p (c ∷ cs) = IsTrue (p c) × Each p cs
+
+-- there is a first character, and it passes
+abbrev pub Begins : (ℕ → Bool) → List ℕ → Type 0
+Begins p [] = ⊥
+Begins p (c ∷ cs) = IsTrue (p c)
+
+-- there is no confusing character, unless these are allowed
+abbrev pub IsClear : Bool → List ℕ → Type 0
+IsClear true w = Unit {0}
+IsClear false w = NonePass is_confusing w
+
+-- the bytes that the characters take
+abbrev pub size : List ℕ → ℕ
+size cs = length (encode_utf8_all cs)

@@ -1,0 +1,15 @@
+pub mod Classes
+pub mod Setting
+pub mod Comments
+pub mod Strings
+pub mod StringFaults
+pub mod Numbers
+pub mod NumberReads
+pub mod Runs
+pub mod Words
+pub mod Faults
+pub mod Tiling
+pub mod Raw
+pub mod Reads
+pub mod Results
+pub mod RunReads

@@ -1,0 +1,28 @@
+-- What the readers of numbers answer.
+use Rattle.std.specs.Prelude.{◌≡◌, ◌||◌, ◌==◌, ◌⊎◌, ℕ, Bool, List, []}
+use Rattle.wat_lex.specs.Classes.{Begins, underscore}
+use Rattle.wat_lex.specs.Numbers.{Digits, is_digit, Whole, Tail}
+
+-- neither a digit nor an underscore comes next
+abbrev pub Stops : Bool → List ℕ → Type 0
+Stops hex r = Begins (λ c. is_digit hex c || c == underscore) r → ⊥
+
+-- the digits that nothing lengthens, and then the rest
+pub record LongestDigits (hex : Bool) (text rest : List ℕ) : Type 0 where
+  pub digits : Digits hex text rest
+  pub stops : Stops hex rest
+
+abbrev pub NoDigits : Bool → List ℕ → Type 0
+NoDigits hex text = (rest : List ℕ) → LongestDigits hex text rest → ⊥
+
+-- what may follow a number's first digits
+abbrev pub Follows : Bool → List ℕ → Type 0
+Follows hex rest = (rest ≡ []) ⊎ Tail hex rest
+
+-- the only first digits of a number that the text can be
+pub record OnlyWhole (hex : Bool) (text rest : List ℕ) : Type 0 where
+  pub whole : Whole hex text rest
+  pub only : (k : Bool) (r : List ℕ) → Whole k text r → Follows k r → (k ≡ hex) × (r ≡ rest)
+
+abbrev pub NoWhole : List ℕ → Type 0
+NoWhole text = (k : Bool) (r : List ℕ) → Whole k text r → Follows k r → ⊥

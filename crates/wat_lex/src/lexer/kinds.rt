@@ -1,0 +1,81 @@
+//! Tokens and their kinds.
+
+/// A single token of a text.
+#[derive(Clone, Copy, Debug, PartialEq)]
+pub struct Token {
+    /// What kind of token this is.
+    pub kind: TokenKind,
+    /// Where the token begins, in bytes from the text's start.
+    pub offset: usize,
+    /// How many bytes the token has.
+    pub len: u32,
+}
+
+/// The kinds of tokens, white space and comments among them.
+#[derive(Clone, Copy, Debug, PartialEq)]
+pub enum TokenKind {
+    /// `;;` up to the end of the line, which does not belong to it.
+    LineComment,
+    /// `(;` up to the `;)` that closes it; block comments nest.
+    BlockComment,
+    /// Spaces, tabs and line ends.
+    Whitespace,
+    /// `(`
+    LParen,
+    /// `)`
+    RParen,
+    /// A string in quotes.
+    String,
+    /// `$` and a name, as idchars or as a string.
+    Id,
+    /// A word that begins with `a` to `z` and is no number.
+    Keyword,
+    /// `@` and a name, as idchars or as a string.
+    Annotation,
+    /// What the format reserves: any other run, and each of `,` `;` `[` `]` `{` `}`.
+    Reserved,
+    /// An integer.
+    Integer(IntegerKind),
+    /// A floating-point number.
+    Float(FloatKind),
+}
+
+/// What the lexer knows of an integer.
+#[derive(Clone, Copy, Debug, PartialEq)]
+pub struct IntegerKind {
+    pub(crate) sign: Option<SignToken>,
+    pub(crate) has_underscores: bool,
+    pub(crate) hex: bool,
+}
+
+/// What the lexer knows of a floating-point number.
+#[derive(Clone, Copy, Debug, PartialEq)]
+pub enum FloatKind {
+    /// `inf`
+    Inf { negative: bool },
+    /// `nan`
+    Nan { negative: bool },
+    /// `nan:0x` and a payload.
+    NanVal {
+        negative: bool,
+        has_underscores: bool,
+    },
+    /// Digits with a fraction, an exponent, or both.
+    Normal { has_underscores: bool, hex: bool },
+}
+
+/// The sign that a number begins with.
+#[derive(Clone, Copy, Debug, PartialEq, Eq)]
+pub enum SignToken {
+    /// `+`
+    Plus,
+    /// `-`
+    Minus,
+}
+
+/// What stands at the front of a text: a token's kind and its length in bytes.
+#[derive(Clone, Copy)]
+pub struct Lexeme {
+    pub kind: TokenKind,
+    pub len: usize,
+}

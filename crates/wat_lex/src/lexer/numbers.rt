@@ -1,0 +1,171 @@
+//! The words of numbers.
+ghost use Rattle.std.specs.Prelude.{◌≡◌, ◌≢◌, ◌↔◌, ◌++◌, ℕ, List, [], MatchOption, IfSome, IfNone, IsTrue};
+ghost use Rattle.wat_lex.specs.declared.lexer.kinds.TokenKind.{TokenKind};
+ghost use Rattle.wat_lex.specs.Numbers.{is_digit, is_exponent_letter, sign_of, unsigned, is_negative, has_underscores, Digits, Exponent, Tail, Number};
+ghost use Rattle.wat_lex.specs.NumberReads.{LongestDigits, NoDigits, OnlyWhole, NoWhole};
+
+use crate::lexer::kinds::{FloatKind, IntegerKind, SignToken, TokenKind};
+
+fn is_digit(b: u8, hex: bool) -> bool
+    ensures { result ≡ is_digit hex b }
+{
+    if hex { b.is_ascii_hexdigit() } else { b.is_ascii_digit() }
+}
+
+fn is_exponent_letter(b: u8, hex: bool) -> bool
+    ensures { result ≡ is_exponent_letter hex b }
+{
+    if hex { b == b'p' || b == b'P' } else { b == b'e' || b == b'E' }
+}
+
+fn sign_of(word: &[u8]) -> Option<SignToken>
+    ensures { result ≡ sign_of word.now }
+{
+    if word.is_empty() {
+        None
+    } else if word[0] == b'+' {
+        Some(SignToken::Plus)
+    } else if word[0] == b'-' {
+        Some(SignToken::Minus)
+    } else {
+        None
+    }
+}
+
+pub fn is_negative(word: &[u8]) -> bool
+    ensures { result ≡ is_negative word.now }
+{
+    if word.is_empty() { false } else { word[0] == b'-' }
+}
+
+/// The word without its sign.
+pub fn unsigned(word: &[u8]) -> &[u8]
+    ensures { result.now ≡ unsigned word.now }
+{
+    if !word.is_empty() && (word[0] == b'+' || word[0] == b'-') {
+        &word[1..]
+    } else {
+        word
+    }
+}
+
+fn has_underscores(word: &[u8]) -> bool
+    ensures { result ≡ has_underscores word.now }
+{
+    word.contains(&b'_')
+}
+
+/// What follows a front of the text.
+fn after<'a>(text: &'a [u8], front: &[u8]) -> Option<&'a [u8]>
+    ensures { MatchOption result ((rest : List ℕ) → text.now ≢ front.now ++ rest) (λ rest. text.now ≡ front.now ++ rest.now) }
+{
+    text.strip_prefix(front)
+}
+
+/// What follows the digits at the front, and None where there are none or an underscore stands alone.
+fn after_digits(text: &[u8], hex: bool) -> Option<&[u8]>
+    ensures { MatchOption result (NoDigits hex text.now) (λ rest. LongestDigits hex text.now rest.now) }
+{
+    let mut i = 0;
+    while i < text.len() && is_digit(text[i], hex) {
+        i += 1;
+        if i == text.len() {
+            return Some(&text[i..]);
+        }
+        if text[i] == b'_' {
+            i += 1;
+        } else if !is_digit(text[i], hex) {
+            return Some(&text[i..]);
+        }
+    }
+    None
+}
+
+fn is_digits(text: &[u8], hex: bool) -> bool
+    ensures { IsTrue result ↔ Digits hex text.now [] }
+{
+    match after_digits(text, hex) {
+        Some(rest) => rest.is_empty(),
+        None => false,
+    }
+}
+
+fn is_exponent(text: &[u8], hex: bool) -> bool
+    ensures { IsTrue result ↔ Exponent hex text.now }
+{
+    if text.is_empty() || !is_exponent_letter(text[0], hex) {
+        return false;
+    }
+    is_digits(unsigned(&text[1..]), false)
+}
+
+/// Whether a float's first digits can be followed so.
+fn is_tail(text: &[u8], hex: bool) -> bool
+    ensures { IsTrue result ↔ Tail hex text.now }
+{
+    if text.is_empty() {
+        return false;
+    }
+    if text[0] != b'.' {
+        return is_exponent(text, hex);
+    }
+    let behind = &text[1..];
+    if behind.is_empty() || is_exponent(behind, hex) {
+        return true;
+    }
+    match after_digits(behind, hex) {
+        Some(rest) => rest.is_empty() || is_exponent(rest, hex),
+        None => false,
+    }
+}
+
+/// Whether a number's first digits are hexadecimal, and what follows them.
+fn after_whole(text: &[u8]) -> Option<(bool, &[u8])>
+    ensures { MatchOption result (NoWhole text.now) (λ f. OnlyWhole f.0 text.now f.1.now) }
+{
+    if let Some(digits) = after(text, b"0x".as_slice()) {
+        return match after_digits(digits, true) {
+            Some(rest) => Some((true, rest)),
+            None => None,
+        };
+    }
+    match after_digits(text, false) {
+        Some(rest) => Some((false, rest)),
+        None => None,
+    }
+}
+
+/// The kind of a number's word.
+pub fn classify(word: &[u8]) -> Option<TokenKind>
+    ensures some { IfSome result (λ kind. Number word.now kind) }
+    ensures none { IfNone result ((kind : TokenKind) → Number word.now kind → ⊥) }
+{
+    let sign = sign_of(word);
+    let negative = is_negative(word);
+    let has_underscores = has_underscores(word);
+    let number = unsigned(word);
+    if number == b"inf".as_slice() {
+        return Some(TokenKind::Float(FloatKind::Inf { negative }));
+    }
+    if number == b"nan".as_slice() {
+        return Some(TokenKind::Float(FloatKind::Nan { negative }));
+    }
+    if let Some(payload) = after(number, b"nan:0x".as_slice()) {
+        if is_digits(payload, true) {
+            return Some(TokenKind::Float(FloatKind::NanVal { negative, has_underscores }));
+        }
+        return None;
+    }
+    match after_whole(number) {
+        Some((hex, rest)) => {
+            if rest.is_empty() {
+                Some(TokenKind::Integer(IntegerKind { sign, has_underscores, hex }))
+            } else if is_tail(rest, hex) {
+                Some(TokenKind::Float(FloatKind::Normal { has_underscores, hex }))
+            } else {
+                None
+            }
+        }
+        None => None,
+    }
+}

@@ -1,0 +1,4 @@
+//! The lowest layer of a parser of the WebAssembly text formats: spans, the lexer with its raw tokens, and faults.
+#![tactic(auto)]
+
+pub mod lexer;
