@@ -14,3 +14,5 @@ mod Digits
 mod Tails
 mod NumberKinds
 mod NumberSteps
+mod Scans
+mod Raws

@@ -13,3 +13,6 @@ pub mod Raw
 pub mod Reads
 pub mod Results
 pub mod RunReads
+pub mod Messages
+pub mod Errors
+pub mod ErrorView

@@ -1,21 +1,52 @@
--- The raw tokens from a place as one list of items: each a token or, last, the one fault.
-use Rattle.std.specs.Prelude.{◌≡◌, ℕ, List, [], ◌∷◌, ◌++◌, Option, Some, None, Result, Ok, Err, map}
+-- The raw tokens from a place as one list of items: each a token or, last, the error of the one fault.
+use Rattle.std.specs.Prelude.{◌≡◌, ◌+◌, ◌-◌, ◌⊎◌, ℕ, Bool, true, false, length, List, [], ◌∷◌, Option, Some, None, MatchOption, Result, Ok, Err, MatchResult, if◌then◌else◌}
+use Rattle.wat_lex.specs.Errors.{Report, lexical, IsUnlessMemory}
+use Rattle.wat_lex.specs.Faults.{FaultAt}
 use Rattle.wat_lex.specs.Setting.{Setting}
-use Rattle.wat_lex.specs.Tiling.{MaximalTiling}
+use Rattle.wat_lex.specs.Tiling.{TokenAt, MaximalTiling}
 use Rattle.wat_lex.specs.declared.lexer.kinds.Token.{Token}
 use Rattle.wat_lex.specs.declared.lexer.faults.LexFault.{LexFault}
 
+-- a token, or an error: a report, or want of memory
 abbrev pub Item : Type 0
-Item = Result Token LexFault
+Item = Result Token (Option Report)
 
-abbrev pub items_of : List Token → Option LexFault → List Item
-items_of [] None = []
-items_of [] (Some f) = Err f ∷ []
-items_of (t ∷ ts) ending = Ok t ∷ items_of ts ending
+-- the items are these tokens, and then the error of the fault if there is one
+abbrev pub Spells : List Token → Option LexFault → List Item → Type 0
+Spells [] None items = items ≡ []
+Spells [] (Some f) items = (e : Option Report) × (items ≡ Err e ∷ []) × IsUnlessMemory e (lexical f)
+Spells (t ∷ ts) ending items = (rest : List Item) × (items ≡ Ok t ∷ rest) × Spells ts ending rest
 
 -- the items are a maximal tiling from the place, with its ending
 pub record Raw (s : Setting) (from : ℕ) (items : List Item) : Type 0 where
   pub tokens : List Token
   pub ending : Option LexFault
   pub tiling : MaximalTiling s from tokens ending
-  pub spelled : items ≡ items_of tokens ending
+  pub spelled : Spells tokens ending items
+
+-- at the place no word stands, and this is the error of the fault there
+pub record ErrorAt (s : Setting) (p : ℕ) (e : Option Report) : Type 0 where
+  pub fault : LexFault
+  pub stands : FaultAt s p fault
+  pub told : IsUnlessMemory e (lexical fault)
+
+-- an iterator over the tokens: the text and the flags, the place, and whether it has ended
+pub record Progress : Type 0 where
+  pub setting : Setting
+  pub at : ℕ
+  pub done : Bool
+
+-- what one call gives, and where it leaves the iterator
+abbrev pub Gives : Progress → Option Item → Progress → Type 0
+Gives p r q = MatchOption r
+    (((p.done ≡ true) ⊎ (p.at ≡ length p.setting.text)) × (q.done ≡ true))
+    (λ item. (p.done ≡ false) × MatchResult item
+        (λ t. TokenAt p.setting p.at t × (q.at ≡ t.offset + t.len) × (q.done ≡ false))
+        (λ e. ErrorAt p.setting p.at e × (q.done ≡ true)))
+
+abbrev pub token_steps : Progress → Option Item → Progress → Type 0
+token_steps p r q = (q.setting ≡ p.setting) × Gives p r q
+
+-- no items more than the bytes that are left and one
+abbrev pub most_left : Progress → ℕ
+most_left p = if p.done then 0 else (length p.setting.text + 1) - p.at

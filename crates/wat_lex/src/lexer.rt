@@ -1,4 +1,15 @@
 //! The lexer of the WebAssembly text format.
+ghost use Rattle.std.specs.Prelude.{◌≡◌, ◌<◌, ◌^◌, ◌+◌, ℕ, Bool, true, false, List, length, IfOk, IfErr, IfSome, IfNone, OnErr};
+ghost use Rattle.std.specs.Str.{IsCharBoundary};
+ghost use Rattle.wat_lex.specs.Faults.{FaultAt};
+ghost use Rattle.wat_lex.specs.Raw.{ErrorAt};
+ghost use Rattle.wat_lex.specs.Tiling.{TokenAt};
+
+use std::alloc::Global;
+use std::marker::Model;
+
+use crate::error::Error;
+use crate::token::Span;
 
 mod classes;
 mod comments;
@@ -13,3 +24,186 @@ mod strings;
 pub use faults::{LexError, LexFault};
 pub use kinds::{FloatKind, IntegerKind, SignToken, Token, TokenKind};
 pub use settings::Settings;
+
+use front::front;
+
+/// A lexer over a text: it cuts the text into tokens, white space and comments, and accounts for every byte of it.
+#[derive(Clone, Drop)]
+pub struct Lexer<'a> {
+    input: &'a str,
+    settings: Settings,
+}
+
+impl<'a> Model for Lexer<'a> {
+    ghost use Rattle.std.specs.Prelude.{◌<◌, ◌^◌, length};
+    ghost use Rattle.wat_lex.specs.Setting.{Setting};
+
+    ghost Value = { Setting };
+
+    ghost view = { λ l. record { text = l.input.now; flags = l.settings } };
+
+    ghost invariant = { λ l. length l.input.now < 2 ^ 32 };
+}
+
+impl<'a> Lexer<'a> {
+    /// A lexer over a text of at most `u32::MAX` bytes, with both settings off.
+    pub fn new(input: &'a str) -> Lexer<'a>
+        requires { length input.now < 2 ^ 32 }
+        ensures { result ≡ record { text = input.now; flags = record { allow = false; strict = false } } }
+    {
+        Lexer {
+            input,
+            settings: Settings {
+                allow: false,
+                strict: false,
+            },
+        }
+    }
+
+    /// The text.
+    pub fn input(&self) -> &'a str
+        ensures text { result.now ≡ self.now.text }
+        ensures short { length self.now.text < 2 ^ 32 }
+    {
+        self.input
+    }
+
+    /// Sets whether characters that change the direction in which text is shown may stand in comments and strings.
+    pub fn allow_confusing_unicode(&mut self, allow: bool) -> &mut Self
+        ensures same { result.ghost_name ≡ self.entry.ghost_name }
+        ensures setting { result.now ≡ record self.old { flags = record self.old.flags { allow = allow } } }
+    {
+        self.settings.allow = allow;
+        self
+    }
+
+    /// Sets whether an underscore directly after another is a fault inside `\u{..}`.
+    pub fn strict_underscores(&mut self, strict: bool) -> &mut Self
+        ensures same { result.ghost_name ≡ self.entry.ghost_name }
+        ensures setting { result.now ≡ record self.old { flags = record self.old.flags { strict = strict } } }
+    {
+        self.settings.strict = strict;
+        self
+    }
+
+    /// The token at a byte of the text, None at its end, or the fault there.
+    pub fn scan(&self, pos: usize) -> Result<Option<Token>, LexFault>
+        requires { IsCharBoundary self.now.text pos }
+        ensures token { IfOk result (λ found. IfSome found (TokenAt self.now pos)) }
+        ensures end { IfOk result (λ found. IfNone found (pos ≡ length self.now.text)) }
+        ensures fault { IfErr result (FaultAt self.now pos) }
+
+        // What follows a token is nearer the text's end, and may be scanned in turn.
+        ensures some { IfOk result (λ found. IfSome found (λ t. 0 < t.len)) }
+        ensures boundary { IfOk result (λ found. IfSome found (λ t. IsCharBoundary self.now.text (pos + t.len))) }
+        ensures short { IfOk result (λ found. IfSome found (λ t. t.offset + t.len < 2 ^ 32)) }
+    {
+        match front(&self.input[pos..], self.settings) {
+            Ok(Some(lexeme)) => Ok(Some(Token {
+                kind: lexeme.kind,
+                offset: pos,
+                len: lexeme.len as u32,
+            })),
+            Ok(None) => Ok(None),
+            Err(fault) => Err(LexFault {
+                offset: pos + fault.offset,
+                error: fault.error,
+            }),
+        }
+    }
+
+    /// The token at `pos`, which moves to the token's end, or None at the text's end, or the error of the fault there.
+    pub fn parse(&self, alloc: Global, pos: &mut usize) -> Result<Option<Token>, Error>
+        requires { IsCharBoundary self.now.text pos.old }
+        ensures token { IfOk result (λ found. IfSome found (λ t. TokenAt self.now pos.old t × (pos.new ≡ t.offset + t.len))) }
+        ensures end { IfOk result (λ found. IfNone found ((pos.old ≡ length self.now.text) × (pos.new ≡ pos.old))) }
+        ensures fault { IfErr result (ErrorAt self.now pos.old) }
+        ensures progress { IfOk result (λ found. IfSome found (λ t. pos.old < pos.new)) }
+        ensures kept { OnErr result (pos.new ≡ pos.old) }
+        ensures boundary { IsCharBoundary self.now.text pos.new }
+    {
+        match self.scan(*pos) {
+            Ok(Some(token)) => {
+                *pos += token.len as usize;
+                Ok(Some(token))
+            }
+            Ok(None) => Ok(None),
+            Err(fault) => Err(self.error(alloc, fault)),
+        }
+    }
+
+    ghost use Rattle.wat_lex.specs.Errors.{lexical, IsUnlessMemory};
+
+    fn error(&self, alloc: Global, fault: LexFault) -> Error
+        ensures { IsUnlessMemory result (lexical fault) }
+    {
+        Error::lex(alloc, Span::from_offset(fault.offset), self.input, fault.error)
+    }
+
+    ghost use Rattle.std.specs.Iterator.{Drains};
+    ghost use Rattle.std.specs.Iterator.Runs.{EachRunFrom};
+    ghost use Rattle.wat_lex.specs.Raw.{Item, Raw, token_steps};
+
+    /// The tokens from a byte of the text on, up to its end or its first fault.
+    pub fn iter<'l>(&'l self, alloc: Global, pos: usize) -> Tokens<'l, 'a>
+        requires { IsCharBoundary self.now.text pos }
+        ensures start { result ≡ record { setting = self.now; at = pos; done = false } }
+        ensures raw { (items : List Item) → Drains token_steps result items → Raw self.now pos items }
+        ensures runs { EachRunFrom token_steps result (λ p. p.whole ≡ true → Raw self.now pos p.items) }
+    {
+        Tokens {
+            lexer: self,
+            alloc,
+            pos,
+            done: false,
+        }
+    }
+}
+
+/// The tokens from a place on. It ends for good after the first fault, or at the text's end.
+#[derive(Drop)]
+pub struct Tokens<'l, 'a> {
+    lexer: &'l Lexer<'a>,
+    alloc: Global,
+    pos: usize,
+    done: bool,
+}
+
+impl<'l, 'a> Model for Tokens<'l, 'a> {
+    ghost use Rattle.std.specs.Str.{IsCharBoundary};
+    ghost use Rattle.wat_lex.specs.Raw.{Progress};
+
+    ghost Value = { Progress };
+
+    ghost view = { λ t. record { setting = t.lexer.now; at = t.pos; done = t.done } };
+
+    ghost invariant = { λ t. IsCharBoundary t.lexer.now.text t.pos };
+}
+
+impl<'l, 'a> Iterator for Tokens<'l, 'a> {
+    type Item = Result<Token, Error>;
+
+    ghost use Rattle.std.specs.Iterator.{at_most};
+    ghost use Rattle.wat_lex.specs.Raw.{token_steps, most_left};
+
+    ghost next_gives = { token_steps };
+
+    ghost remaining = { λ s. at_most (most_left s) };
+
+    fn next(&mut self) -> Option<Result<Token, Error>> {
+        if self.done {
+            return None;
+        }
+        match self.lexer.parse(self.alloc, &mut self.pos) {
+            Ok(Some(token)) => Some(Ok(token)),
+            Ok(None) => {
+                self.done = true;
+                None
+            }
+            Err(error) => {
+                self.done = true;
+                Some(Err(error))
+            }
+        }
+    }
+}

@@ -1,0 +1,9 @@
+use Rattle.std.proofs.Common.{refl}
+use Rattle.wat_lex.proofs.Raws.{tiled, tiled_run}
+use Rattle.wat_lex.proofs.lexer.Lexer.iter.Goals as goal
+
+pub returns-clause-raw : goal.returns-clause-raw
+returns-clause-raw c = λ items h. tiled _ items refl h
+
+pub returns-clause-runs : goal.returns-clause-runs
+returns-clause-runs c = λ p _ e w. tiled_run _ refl p e w

@@ -1,0 +1,29 @@
+use Rattle.std.proofs.Common.{◌≤◌, ◌+◌, length, arith, ap, subst}
+use Rattle.std.specs.Str.{IsCharBoundary}
+use Rattle.wat_lex.specs.Setting.{Setting}
+use Rattle.wat_lex.specs.Results.{Found}
+use Rattle.wat_lex.proofs.Scans.{found_fits, found_some, part_ends}
+use Rattle.wat_lex.proofs.lexer.Lexer.scan.Goals as goal
+use Rattle.wat_lex.proofs.lexer.Lexer.scan.Goals.{In-Ok-Some}
+
+found : (c : In-Ok-Some) → Found c.self.inside.settings c.range_from.result.now c.in-Ok-Some.lexeme
+found c = rw c.in-Ok-Some.field-0-is at c.in-Ok-Some.ensures
+
+fits : (c : In-Ok-Some) → c.in-Ok-Some.lexeme.len ≤ length c.range_from.result.now
+fits c = found_fits c.self.inside.settings c.range_from.result.now c.in-Ok-Some.lexeme c.range_from.utf8 (found c)
+
+pub overflow_cast-result : goal.overflow_cast-result
+overflow_cast-result c = omega (arith, fits (goal.at.overflow_cast-result c).In-Ok-Some, c.range_from.ensures.len, c.self.invariant)
+
+pub returns-in-Ok-Some-clause-some : goal.returns-in-Ok-Some-clause-some
+returns-in-Ok-Some-clause-some c = found_some c.self.inside.settings c.range_from.result.now c.in-Ok-Some.lexeme (found (goal.at.returns-in-Ok-Some-clause-some c).In-Ok-Some)
+
+pub returns-in-Ok-Some-clause-boundary : goal.returns-in-Ok-Some-clause-boundary
+returns-in-Ok-Some-clause-boundary c =
+    let inside : Setting = record { text = c.self.inside.input.now; flags = c.self.inside.settings } in
+    let same = ap (λ (s : Setting). length s.text) c.self.view_is in
+    subst (λ (s : Setting). IsCharBoundary s.text (c.args.pos + c.in-Ok-Some.lexeme.len)) c.self.view_is
+      (part_ends inside c.range_from.result.now c.args.pos c.in-Ok-Some.lexeme (omega (arith, same, c.requires.0)) c.range_from.ensures.value c.range_from.utf8 (found (goal.at.returns-in-Ok-Some-clause-boundary c).In-Ok-Some))
+
+pub returns-in-Ok-Some-clause-short : goal.returns-in-Ok-Some-clause-short
+returns-in-Ok-Some-clause-short c = omega (arith, fits (goal.at.returns-in-Ok-Some-clause-short c).In-Ok-Some, c.range_from.ensures.len, c.self.invariant, c.requires.0)
