@@ -1,0 +1,111 @@
+//! From a source of bytes to the lines on a sink.
+ghost use Rattle.std.specs.Prelude.{◌≡◌, ◌⊎◌, ◌↔◌, ℕ, Bool, true, false, List, length, IfOk, OnOk, IfErr, IfSome, IsErrOf};
+ghost use Rattle.std.specs.Io.KnownBytes.{Appends, IsAtEnd};
+ghost use Rattle.std.specs.Str.{IsUtf8};
+ghost use Rattle.wat_tokens.specs.Lists.{Lists};
+ghost use Rattle.wat_tokens.specs.Runs.{Whole, IsLong};
+
+use std::alloc::{AllocError, Global};
+use std::str;
+
+use crate::ends::{Sink, Source};
+use crate::list::list;
+use wat_lex::error::Error;
+use wat_lex::lexer::Settings;
+use wat_lex::token::Span;
+
+/// Why a run ended without its lines.
+#[derive(Clone, Copy, Debug, PartialEq, Eq)]
+pub enum RunError {
+    /// A read failed.
+    Read,
+    /// The input has more than `u32::MAX` bytes.
+    TooLong,
+    /// The input is not UTF-8.
+    NotUtf8,
+    /// The write failed.
+    Write,
+    /// A request for memory was refused.
+    Memory,
+}
+
+impl From<AllocError> for RunError {
+    ghost use Rattle.std.specs.Prelude.{◌≡◌};
+    ghost use Rattle.wat_tokens.specs.declared.run.RunError.TheVariants.{Memory};
+
+    ghost from_gives = { λ _ e. e ≡ Memory };
+
+    fn from(_e: AllocError) -> RunError {
+        RunError::Memory
+    }
+}
+
+/// How many bytes the longest text has.
+const LONGEST: usize = 4_294_967_295;
+
+/// How many bytes are read at a time.
+const PIECE: usize = 65_536;
+
+/// All that a source has left, or the refusal: it is read to its end, or to one byte past the longest text.
+fn read_whole<R: Source>(alloc: Global, input: &mut R) -> Result<Vec<u8>, RunError>
+    requires { R.has_failed input.old ≡ false }
+    ensures whole { IfOk result (λ bytes. Whole (R.left input.old) (R.left input.new) bytes.items) }
+    ensures too_long { IsErrOf result RunError.TooLong → IsLong (R.left input.old) }
+    ensures read { IsErrOf result RunError.Read ↔ (R.has_failed input.new ≡ true) }
+    ensures refused { IfErr result (λ e. (e ≡ RunError.Read) ⊎ ((e ≡ RunError.TooLong) ⊎ (e ≡ RunError.Memory))) }
+{
+    let mut bytes = Vec::new(alloc);
+    let mut piece = [0u8; PIECE];
+    'pieces: loop {
+        let room = PIECE.min(LONGEST - bytes.len() + 1);
+        match input.read(&mut piece[..room]) {
+            Err(_) => return Err(RunError::Read),
+            Ok(0) => return Ok(bytes),
+            Ok(count) => {
+                if bytes.extend_from_slice(&piece[..count]).is_err() {
+                    return Err(RunError::Memory);
+                }
+                if bytes.len() > LONGEST {
+                    return Err(RunError::TooLong);
+                }
+            }
+        }
+    }
+}
+
+/// Writes the list of the raw tokens of all that the source has left, up to the first fault, and answers that fault.
+pub fn run_list<R: Source, W: Sink>(
+    alloc: Global,
+    input: &mut R,
+    output: &mut W,
+    settings: Settings,
+) -> Result<Option<Error>, RunError>
+    requires input { R.has_failed input.old ≡ false }
+    requires output { W.has_failed output.old ≡ false }
+    ensures listed { IfOk result (λ error. IfSome (R.left input.old) (λ bytes.
+        (text : List ℕ) × Lists settings bytes text error × Appends (W.held output.old) (W.held output.new) text)) }
+    ensures ended { OnOk result (IsAtEnd (R.left input.new)) }
+
+    // When each refusal comes, and that only a failed write may have written.
+    ensures too_long { IsErrOf result RunError.TooLong → IsLong (R.left input.old) }
+    ensures not_utf8 { IsErrOf result RunError.NotUtf8 → IfSome (R.left input.old) (λ bytes. ¬ IsUtf8 bytes) }
+    ensures read { IsErrOf result RunError.Read ↔ (R.has_failed input.new ≡ true) }
+    ensures write { IsErrOf result RunError.Write ↔ (W.has_failed output.new ≡ true) }
+    ensures unwritten { IfErr result (λ e. (e ≡ RunError.Write) ⊎ (output.new ≡ output.old)) }
+{
+    let bytes = read_whole(alloc, input)?;
+    let Ok(text) = str::from_utf8(&bytes) else {
+        return Err(RunError::NotUtf8);
+    };
+    let Ok(listing) = list(alloc, text, settings) else {
+        return Err(RunError::Memory);
+    };
+    if output.write_all(&listing.lines).is_err() {
+        return Err(RunError::Write);
+    }
+    let Some(fault) = listing.fault else {
+        return Ok(None);
+    };
+    let span = Span::from_offset(fault.offset);
+    Ok(Some(Error::lex(alloc, span, text, fault.error)))
+}
