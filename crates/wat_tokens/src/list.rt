@@ -4,7 +4,6 @@ ghost use Rattle.wat_tokens.specs.Lists.{kind_name, line, ListText};
 
 use itoa::Buffer;
 use std::alloc::{AllocError, Global};
-
 use wat_lex::lexer::{LexFault, Lexer, Settings, Token, TokenKind};
 
 /// The lines of a text's raw tokens, and its fault where it has one.

@@ -5,11 +5,10 @@ ghost use Rattle.std.specs.Str.{IsUtf8};
 ghost use Rattle.wat_tokens.specs.Lists.{Lists};
 ghost use Rattle.wat_tokens.specs.Runs.{Whole, IsLong};
 
-use std::alloc::{AllocError, Global};
-use std::str;
-
 use crate::ends::{Sink, Source};
 use crate::list::list;
+use std::alloc::{AllocError, Global};
+use std::str;
 use wat_lex::error::Error;
 use wat_lex::lexer::Settings;
 use wat_lex::token::Span;
