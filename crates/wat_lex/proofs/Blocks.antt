@@ -79,10 +79,10 @@ block_found flags text n u a b l h =
         ends = tt;
       };
       len =
-        let e : length (drop 2 text) ≡ size k.front + size rest.chars = ap length (sym spelt) ∙ ap size k.cut ∙ size-append k.front rest.chars in
-        let f : length (drop n (drop 2 text)) ≡ size rest.chars = ap length rest.is in
-        let g : size (40 ∷ 59 ∷ k.front) ≡ 2 + size k.front = size_open k.front in
-        omega (arith, length-drop n (drop 2 text));
+          let e : length (drop 2 text) ≡ size k.front + size rest.chars = ap length (sym spelt) ∙ ap size k.cut ∙ size-append k.front rest.chars in
+          let f : length (drop n (drop 2 text)) ≡ size rest.chars = ap length rest.is in
+          let g : size (40 ∷ 59 ∷ k.front) ≡ 2 + size k.front = size_open k.front in
+          omega (arith, length-drop n (drop 2 text));
     }
 
 pub block_dangles : (flags : Settings) (text : List ℕ) → IsUtf8 text → get_or text 0 0 ≡ 40 → get_or text 1 0 ≡ 59 → ((r : List ℕ) → Closes (drop 2 text) r → ⊥) → Refused flags text (record { offset = 0; error = DanglingBlockComment })

@@ -86,36 +86,36 @@ semicolon_step : (n : ℕ) → Below n → (cs r : List ℕ) → length cs ≤ n
 semicolon_step n ih [] r l h = at_last 59 r h
 semicolon_step n ih (d ∷ cs) r l h =
     elim (cases_eq d 41) [
-      inl e ↦
-        let g : Closes (59 ∷ 41 ∷ encodes cs) r = rw encodes_close at (subst (λ x. Closes (59 ∷ encodes (x ∷ cs)) r) e h) in
-        subst (λ x. Rest (59 ∷ x ∷ cs) r) (sym e) (record { chars = cs; is = sym (at_close (encodes cs) r g); shorter = omega arith; closes = close })
-    | inr a ↦
-        let f = first_of_char d in
-        let g : Closes (59 ∷ f.byte ∷ (f.others ++ encodes cs)) r = subst (λ x. Closes (59 ∷ (x ++ encodes cs)) r) f.is h in
-        let k : Closes (f.byte ∷ (f.others ++ encodes cs)) r = at_lone_semicolon f.byte (f.others ++ encodes cs) r g (λ e. a (f.ascii 41 (omega arith) e)) in
-        Rest_step 59 (d ∷ cs) r (λ ds. lone_semicolon a) (ih (d ∷ cs) r l (subst (λ x. Closes (x ++ encodes cs) r) (sym f.is) k))
+      | inl e ↦
+          let g : Closes (59 ∷ 41 ∷ encodes cs) r = rw encodes_close at (subst (λ x. Closes (59 ∷ encodes (x ∷ cs)) r) e h) in
+          subst (λ x. Rest (59 ∷ x ∷ cs) r) (sym e) (record { chars = cs; is = sym (at_close (encodes cs) r g); shorter = omega arith; closes = close })
+      | inr a ↦
+          let f = first_of_char d in
+          let g : Closes (59 ∷ f.byte ∷ (f.others ++ encodes cs)) r = subst (λ x. Closes (59 ∷ (x ++ encodes cs)) r) f.is h in
+          let k : Closes (f.byte ∷ (f.others ++ encodes cs)) r = at_lone_semicolon f.byte (f.others ++ encodes cs) r g (λ e. a (f.ascii 41 (omega arith) e)) in
+          Rest_step 59 (d ∷ cs) r (λ ds. lone_semicolon a) (ih (d ∷ cs) r l (subst (λ x. Closes (x ++ encodes cs) r) (sym f.is) k))
     ]
 
 paren_step : (n : ℕ) → Below n → (cs r : List ℕ) → length cs ≤ n → Closes (40 ∷ encodes cs) r → Rest (40 ∷ cs) r
 paren_step n ih [] r l h = at_last 40 r h
 paren_step n ih (d ∷ cs) r l h =
     elim (cases_eq d 59) [
-      inl e ↦
-        let g : Closes (40 ∷ 59 ∷ encodes cs) r = rw encodes_semicolon at (subst (λ x. Closes (40 ∷ encodes (x ∷ cs)) r) e h) in
-        let k = at_nested (encodes cs) r g in
-        let inner = ih cs k.0 (omega arith) k.1 in
-        let outer = ih inner.chars r (let s = inner.shorter in omega arith) (subst (λ x. Closes x r) inner.is k.2) in
-        subst (λ x. Rest (40 ∷ x ∷ cs) r) (sym e) (record {
-          chars = outer.chars;
-          is = outer.is;
-          shorter = let s = inner.shorter in let t = outer.shorter in omega arith;
-          closes = nested inner.closes outer.closes;
-        })
-    | inr a ↦
-        let f = first_of_char d in
-        let g : Closes (40 ∷ f.byte ∷ (f.others ++ encodes cs)) r = subst (λ x. Closes (40 ∷ (x ++ encodes cs)) r) f.is h in
-        let k : Closes (f.byte ∷ (f.others ++ encodes cs)) r = at_lone_paren f.byte (f.others ++ encodes cs) r g (λ e. a (f.ascii 59 (omega arith) e)) in
-        Rest_step 40 (d ∷ cs) r (λ ds. lone_paren a) (ih (d ∷ cs) r l (subst (λ x. Closes (x ++ encodes cs) r) (sym f.is) k))
+      | inl e ↦
+          let g : Closes (40 ∷ 59 ∷ encodes cs) r = rw encodes_semicolon at (subst (λ x. Closes (40 ∷ encodes (x ∷ cs)) r) e h) in
+          let k = at_nested (encodes cs) r g in
+          let inner = ih cs k.0 (omega arith) k.1 in
+          let outer = ih inner.chars r (let s = inner.shorter in omega arith) (subst (λ x. Closes x r) inner.is k.2) in
+          subst (λ x. Rest (40 ∷ x ∷ cs) r) (sym e) (record {
+            chars = outer.chars;
+            is = outer.is;
+            shorter = let s = inner.shorter in let t = outer.shorter in omega arith;
+            closes = nested inner.closes outer.closes;
+          })
+      | inr a ↦
+          let f = first_of_char d in
+          let g : Closes (40 ∷ f.byte ∷ (f.others ++ encodes cs)) r = subst (λ x. Closes (40 ∷ (x ++ encodes cs)) r) f.is h in
+          let k : Closes (f.byte ∷ (f.others ++ encodes cs)) r = at_lone_paren f.byte (f.others ++ encodes cs) r g (λ e. a (f.ascii 59 (omega arith) e)) in
+          Rest_step 40 (d ∷ cs) r (λ ds. lone_paren a) (ih (d ∷ cs) r l (subst (λ x. Closes (x ++ encodes cs) r) (sym f.is) k))
     ]
 
 -- what closes over bytes closes over characters; n bounds the number of characters
@@ -124,9 +124,9 @@ from_bytes n [] r l h = at_nil r h
 from_bytes zero (c ∷ cs) r l h = absurd (omega arith)
 from_bytes (suc n) (c ∷ cs) r l h =
     elim (cases_eq c 59) [
-      inl e ↦ subst (λ x. Rest (x ∷ cs) r) (sym e) (semicolon_step n (from_bytes n) cs r (omega arith) (rw encodes_semicolon at (subst (λ x. Closes (encodes (x ∷ cs)) r) e h)))
-    | inr a ↦ elim (cases_eq c 40) [
-        inl e ↦ subst (λ x. Rest (x ∷ cs) r) (sym e) (paren_step n (from_bytes n) cs r (omega arith) (rw encodes_open at (subst (λ x. Closes (encodes (x ∷ cs)) r) e h)))
-      | inr b ↦ Rest_step c cs r (λ ds. plain a b) (from_bytes n cs r (omega arith) (unskip (encode c) (encodes cs) r (Inert_char c a b) h))
+      | inl e ↦ subst (λ x. Rest (x ∷ cs) r) (sym e) (semicolon_step n (from_bytes n) cs r (omega arith) (rw encodes_semicolon at (subst (λ x. Closes (encodes (x ∷ cs)) r) e h)))
+      | inr a ↦ elim (cases_eq c 40) [
+        | inl e ↦ subst (λ x. Rest (x ∷ cs) r) (sym e) (paren_step n (from_bytes n) cs r (omega arith) (rw encodes_open at (subst (λ x. Closes (encodes (x ∷ cs)) r) e h)))
+        | inr b ↦ Rest_step c cs r (λ ds. plain a b) (from_bytes n cs r (omega arith) (unskip (encode c) (encodes cs) r (Inert_char c a b) h))
       ]
     ]

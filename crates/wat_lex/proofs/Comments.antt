@@ -121,23 +121,23 @@ step_other : (s t : List ℕ) (c n : ℕ) → 0 < n → Reaches s n (c ∷ t) �
 step_other s [] c n p h a b = step_last s c n p h
 step_other s (d ∷ t) c n p h a b =
     elim (cases_eq c 40) [
-      inl e ↦ step_paren s t d n p (a e (omega arith)) (subst (λ x. Reaches s n (x ∷ d ∷ t)) e h)
-    | inr ne ↦ elim (cases_eq c 59) [
-        inl e ↦ step_semicolon s t d n p (b e (omega arith)) (subst (λ x. Reaches s n (x ∷ d ∷ t)) e h)
-      | inr nf ↦ step_plain s (d ∷ t) c n p nf ne h
+      | inl e ↦ step_paren s t d n p (a e (omega arith)) (subst (λ x. Reaches s n (x ∷ d ∷ t)) e h)
+      | inr ne ↦ elim (cases_eq c 59) [
+        | inl e ↦ step_semicolon s t d n p (b e (omega arith)) (subst (λ x. Reaches s n (x ∷ d ∷ t)) e h)
+        | inr nf ↦ step_plain s (d ∷ t) c n p nf ne h
       ]
     ]
 
 pub other_at : (s : List ℕ) (i n : ℕ) → i < length s → 0 < n → Reaches s n (drop i s)
-  → (get_or s i 0 ≡ 40 → i + 1 < length s → get_or s (i + 1) 0 ≡ 59 → ⊥)
-  → (get_or s i 0 ≡ 59 → i + 1 < length s → get_or s (i + 1) 0 ≡ 41 → ⊥)
-  → Reaches s n (drop (i + 1) s)
+    → (get_or s i 0 ≡ 40 → i + 1 < length s → get_or s (i + 1) 0 ≡ 59 → ⊥)
+    → (get_or s i 0 ≡ 59 → i + 1 < length s → get_or s (i + 1) 0 ≡ 41 → ⊥)
+    → Reaches s n (drop (i + 1) s)
 other_at s i n h p g a b =
     let e = drop_more s i 0 h in
     let l = length-drop (i + 1) s in
     let f : get_or (drop (i + 1) s) 0 0 ≡ get_or s (i + 1) 0 = get_or-drop (i + 1) s 0 0 ∙ ap (λ x. get_or s x 0) (add-zero (i + 1)) in
     step_other s (drop (i + 1) s) (get_or s i 0) n p (subst (λ x. Reaches s n x) e g)
-      (λ x y z. a x (omega (arith, l)) (sym f ∙ z)) (λ x y z. b x (omega (arith, l)) (sym f ∙ z))
+    (λ x y z. a x (omega (arith, l)) (sym f ∙ z)) (λ x y z. b x (omega (arith, l)) (sym f ∙ z))
 
 -- where no comment is open any more, the text is closed
 pub all_closed : (s : List ℕ) (n : ℕ) (t : List ℕ) → n ≡ 0 → Reaches s n t → Closes s t

@@ -35,8 +35,8 @@ set_lead : (s : List ℕ) (c : ℕ) → Each (λ d. get_or (encode d) 0 0 == 0xE
 set_lead [] c h e = cc
 set_lead (d ∷ s) c h e =
     elim (or_cases (d == c) (char_set_contains s c) e) [
-      inl t ↦ eqb-true (get_or (encode c) 0 0) 0xE2 (subst (λ x. (get_or (encode x) 0 0 == 0xE2) ≡ true) (eqb-true d c t) h.0)
-    | inr t ↦ set_lead s c h.1 t
+      | inl t ↦ eqb-true (get_or (encode c) 0 0) 0xE2 (subst (λ x. (get_or (encode x) 0 0 == 0xE2) ≡ true) (eqb-true d c t) h.0)
+      | inr t ↦ set_lead s c h.1 t
     ]
 
 lead : (c : ℕ) → is_confusing c ≡ true → get_or (encode c) 0 0 ≡ 0xE2
@@ -52,12 +52,13 @@ Leadless bs = (k : ℕ) → k < length bs → get_or bs k 0 ≢ 0xE2
 
 clear_chars : (cs : List ℕ) → Leadless (encodes cs) → NonePass is_confusing cs
 clear_chars [] h = tt
-clear_chars (c ∷ cs) h =
-    (elim (cases_Bool (is_confusing c)) [
-      inl t ↦ absurd (h 0 (omega (arith, length-append (encode c) (encodes cs), encode_some c)) (get_or_append_left (encode c) (encodes cs) 0 0 (encode_some c) ∙ lead c t))
+clear_chars (c ∷ cs) h = (
+  elim (cases_Bool (is_confusing c)) [
+    | inl t ↦ absurd (h 0 (omega (arith, length-append (encode c) (encodes cs), encode_some c)) (get_or_append_left (encode c) (encodes cs) 0 0 (encode_some c) ∙ lead c t))
     | inr f ↦ f
-    ],
-    clear_chars cs (λ k l e. h (length (encode c) + k) (omega (arith, length-append (encode c) (encodes cs))) (get_or-append-add (encode c) (encodes cs) k 0 ∙ e)))
+  ],
+  clear_chars cs (λ k l e. h (length (encode c) + k) (omega (arith, length-append (encode c) (encodes cs))) (get_or-append-add (encode c) (encodes cs) k 0 ∙ e)),
+)
 
 clear_text : (bs : List ℕ) → IsUtf8 bs → Leadless bs → NonePass is_confusing (chars bs)
 clear_text bs u h = clear_chars (chars bs) (subst Leadless (sym (encodes-chars bs u)) h)
@@ -121,7 +122,7 @@ searched_to text hay at n s e h =
     let high = b.high in
     let byte : get_or r n 0 ≡ 0xE2 = eqb-true (get_or r n 0) 0xE2 f.1 in
     searched_skip text at n s (omega (arith, high), λ _ _. omega (arith, byte))
-      (λ k l q. let m : k < n = omega (arith, l, length-take-le n r (omega (arith, high))) in b.before k (omega arith) m (eq-eqb (get_or r k 0) 0xE2 (sym (get_or-take n r k 0 m) ∙ q)))
+    (λ k l q. let m : k < n = omega (arith, l, length-take-le n r (omega (arith, high))) in b.before k (omega arith) m (eq-eqb (get_or r k 0) 0xE2 (sym (get_or-take n r k 0 m) ∙ q)))
 
 -- no byte begins one
 pub searched_end : (text hay : List ℕ) (at : ℕ) → Searched text at → hay ≡ drop at text → IsFirstByte (is_byte 0xE2) hay None → NonePass is_confusing (chars text)

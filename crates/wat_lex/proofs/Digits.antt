@@ -87,7 +87,7 @@ past_underscore hex text i l a e h = row_parted hex text (drop (i + 1 + 1) text)
 pub past_digit : (hex : Bool) (text : List ℕ) (i : ℕ) → i + 1 < length text → is_digit hex (get_or text i 0) ≡ true → is_digit hex (get_or text (i + 1) 0) ≡ true → Row hex text (drop i text) → Row hex text (drop (i + 1) text)
 past_digit hex text i l a b h =
     subst (Row hex text) (sym (at text (i + 1) l))
-      (row_next hex text (drop (i + 1 + 1) text) (get_or text i 0) (get_or text (i + 1) 0) a b (subst (Row hex text) (two text i (get_or text (i + 1) 0) l refl) h))
+    (row_next hex text (drop (i + 1 + 1) text) (get_or text i 0) (get_or text (i + 1) 0) a b (subst (Row hex text) (two text i (get_or text (i + 1) 0) l refl) h))
 
 pub row_ends : (hex : Bool) (text : List ℕ) (i : ℕ) → i < length text → is_digit hex (get_or text i 0) ≡ true → Stops hex (drop (i + 1) text) → Row hex text (drop i text) → LongestDigits hex text (drop (i + 1) text)
 row_ends hex text i l a s h = record { digits = h.on (drop (i + 1) text) (subst (λ x. Digits hex x (drop (i + 1) text)) (sym (at text i l)) (last a)); stops = s }

@@ -46,19 +46,19 @@ pub ascii_front : (p : ℕ → Bool) → ((c : ℕ) → p c ≡ true → c < 128
 ascii_front p ascii [] u = record { cut = refl; passes = tt; size_is = refl; utf8 = u; stops = λ h. subst (Begins p) chars-nil h }
 ascii_front p ascii (b ∷ bs) u =
     elim (cases_Bool (p b)) [
-      inl t ↦
-        let l = led (b ∷ bs) b u (omega arith) refl (ascii b t) in
-        let r = ascii_front p ascii bs l.utf8 in
-        let n = prefix_len p bs in
-        let made : AsciiFront p (b ∷ bs) (suc n) = record {
-          cut = l.chars ∙ ap (λ x. b ∷ x) r.cut;
-          passes = (t, r.passes);
-          size_is = size-append (b ∷ []) (take n bs) ∙ ap (λ x. x + size (take n bs)) (size_one b ∙ len_utf8_ascii b (ascii b t)) ∙ ap (λ x. 1 + x) r.size_is ∙ one-add n;
-          utf8 = r.utf8;
-          stops = r.stops;
-        } in
-        subst (AsciiFront p (b ∷ bs)) (sym (ap (λ x. cond x (1 + n) 0) t ∙ one-add n)) made
-    | inr f ↦
-        let made : AsciiFront p (b ∷ bs) 0 = record { cut = refl; passes = tt; size_is = refl; utf8 = u; stops = not_begun p (b ∷ bs) u ascii (λ l. f) } in
-        subst (AsciiFront p (b ∷ bs)) (sym (ap (λ x. cond x (1 + prefix_len p bs) 0) f)) made
+      | inl t ↦
+          let l = led (b ∷ bs) b u (omega arith) refl (ascii b t) in
+          let r = ascii_front p ascii bs l.utf8 in
+          let n = prefix_len p bs in
+          let made : AsciiFront p (b ∷ bs) (suc n) = record {
+            cut = l.chars ∙ ap (λ x. b ∷ x) r.cut;
+            passes = (t, r.passes);
+            size_is = size-append (b ∷ []) (take n bs) ∙ ap (λ x. x + size (take n bs)) (size_one b ∙ len_utf8_ascii b (ascii b t)) ∙ ap (λ x. 1 + x) r.size_is ∙ one-add n;
+            utf8 = r.utf8;
+            stops = r.stops;
+          } in
+          subst (AsciiFront p (b ∷ bs)) (sym (ap (λ x. cond x (1 + n) 0) t ∙ one-add n)) made
+      | inr f ↦
+          let made : AsciiFront p (b ∷ bs) 0 = record { cut = refl; passes = tt; size_is = refl; utf8 = u; stops = not_begun p (b ∷ bs) u ascii (λ l. f) } in
+          subst (AsciiFront p (b ∷ bs)) (sym (ap (λ x. cond x (1 + prefix_len p bs) 0) f)) made
     ]

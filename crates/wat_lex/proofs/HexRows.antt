@@ -42,16 +42,16 @@ filter_hex : (xs : List ℕ) (c : ℕ) → is_hex c ≡ true → filter is_hex (
 filter_hex [] c h = ap (λ b. cond b (c ∷ []) []) h
 filter_hex (x ∷ xs) c h =
     elim (is_hex x) as (λ b. cond b (x ∷ filter is_hex (xs ++ c ∷ [])) (filter is_hex (xs ++ c ∷ [])) ≡ cond b (x ∷ filter is_hex xs) (filter is_hex xs) ++ c ∷ []) [
-      true ↦ ap (λ y. x ∷ y) (filter_hex xs c h)
-    | false ↦ filter_hex xs c h
+      | true ↦ ap (λ y. x ∷ y) (filter_hex xs c h)
+      | false ↦ filter_hex xs c h
     ]
 
 filter_other : (xs : List ℕ) (c : ℕ) → is_hex c ≡ false → filter is_hex (xs ++ c ∷ []) ≡ filter is_hex xs
 filter_other [] c h = ap (λ b. cond b (c ∷ []) []) h
 filter_other (x ∷ xs) c h =
     elim (is_hex x) as (λ b. cond b (x ∷ filter is_hex (xs ++ c ∷ [])) (filter is_hex (xs ++ c ∷ [])) ≡ cond b (x ∷ filter is_hex xs) (filter is_hex xs)) [
-      true ↦ ap (λ y. x ∷ y) (filter_other xs c h)
-    | false ↦ filter_other xs c h
+      | true ↦ ap (λ y. x ∷ y) (filter_other xs c h)
+      | false ↦ filter_other xs c h
     ]
 
 pub hex_push : (xs : List ℕ) (c : ℕ) → is_hex c ≡ true → hex_value (xs ++ c ∷ []) ≡ hex_value xs * 16 + digit_value c
@@ -170,19 +170,19 @@ pub row_doubled : (flags : Settings) (first : ℕ) (start rest next : List ℕ) 
 row_doubled flags first start rest next n last left b r s e t l =
     let k = r.row in
     number_breaks flags first start left LoneUnderscore (95 ∷ chars next) k.first (l ∙ t.size_is ∙ ap size t.spelled)
-      (doubled r.ds (r.cut ∙ ap (λ x. r.ds ++ x) t.spelled) r.row s (is_under r.ds (chars rest) last (subst (λ x. RowEnd r.ds (chars rest) x last) e r.ends)))
+    (doubled r.ds (r.cut ∙ ap (λ x. r.ds ++ x) t.spelled) r.row s (is_under r.ds (chars rest) last (subst (λ x. RowEnd r.ds (chars rest) x last) e r.ends)))
 
 lone_by : (flags : Settings) (first : ℕ) (start ds rest : List ℕ) (last : ℕ) → HexRow flags first ds → chars start ≡ ds ++ rest → RowEnd ds rest true last → (Begins is_hex_or_underscore rest → ⊥) → Breaks flags (92 ∷ 117 ∷ 123 ∷ first ∷ []) start (record { left = last; error = LoneUnderscore })
 lone_by flags first start ds rest last row cut (under front e l) stop =
     let r : HexRow flags first (front ++ 95 ∷ []) = subst (HexRow flags first) e row in
     let v : hex_value (first ∷ front ++ 95 ∷ []) ≡ hex_value (first ∷ front) = hex_skip (first ∷ front) 95 refl in
     number_breaks flags first start last LoneUnderscore (95 ∷ rest) r.first l
-      (lone front (cut ∙ ap (λ x. x ++ rest) e ∙ append_assoc front (95 ∷ []) rest) (record {
-        first = r.first;
-        others = Each_front is_hex_or_underscore front (95 ∷ []) r.others;
-        small = subst (λ x. x < 2 ^ 32) v r.small;
-        parted = λ q. parted_front front (95 ∷ []) (r.parted q);
-      }) stop)
+    (lone front (cut ∙ ap (λ x. x ++ rest) e ∙ append_assoc front (95 ∷ []) rest) (record {
+      first = r.first;
+      others = Each_front is_hex_or_underscore front (95 ∷ []) r.others;
+      small = subst (λ x. x < 2 ^ 32) v r.small;
+      parted = λ q. parted_front front (95 ∷ []) (r.parted q);
+    }) stop)
 
 pub row_lone : (flags : Settings) (first : ℕ) (start rest : List ℕ) (n last : ℕ) → Row flags first start rest n true last → (Begins is_hex_or_underscore (chars rest) → ⊥) → Breaks flags (92 ∷ 117 ∷ 123 ∷ first ∷ []) start (record { left = last; error = LoneUnderscore })
 row_lone flags first start rest n last r stop = lone_by flags first start r.ds (chars rest) last r.row r.cut r.ends stop
@@ -197,13 +197,13 @@ no_scalar_by flags first start ds rest last row cut (digit e front h f l) stop s
     let r : HexRow flags first (front ++ e ∷ []) = subst (HexRow flags first) f row in
     let t : scalar (hex_value (first ∷ front ++ e ∷ [])) ≡ false = subst (λ x. scalar (hex_value (first ∷ x)) ≡ false) f s in
     subst (λ x. Breaks flags (92 ∷ 117 ∷ 123 ∷ first ∷ []) start (record { left = last; error = InvalidUnicodeValue (hex_value (first ∷ x)) })) (sym f)
-      (number_breaks flags first start last (InvalidUnicodeValue (hex_value (first ∷ front ++ e ∷ []))) (e ∷ rest) r.first l
-        (no_scalar front (cut ∙ ap (λ x. x ++ rest) f ∙ append_assoc front (e ∷ []) rest) r h stop (λ k. both_ways (scalar (hex_value (first ∷ front ++ e ∷ []))) t k)))
+    (number_breaks flags first start last (InvalidUnicodeValue (hex_value (first ∷ front ++ e ∷ []))) (e ∷ rest) r.first l
+    (no_scalar front (cut ∙ ap (λ x. x ++ rest) f ∙ append_assoc front (e ∷ []) rest) r h stop (λ k. both_ways (scalar (hex_value (first ∷ front ++ e ∷ []))) t k)))
 
 pub row_no_scalar : (flags : Settings) (first : ℕ) (start rest : List ℕ) (n last : ℕ) → Row flags first start rest n false last → (Begins is_hex_or_underscore (chars rest) → ⊥) → scalar n ≡ false → Breaks flags (92 ∷ 117 ∷ 123 ∷ first ∷ []) start (record { left = last; error = InvalidUnicodeValue n })
 row_no_scalar flags first start rest n last r stop s =
     subst (λ x. Breaks flags (92 ∷ 117 ∷ 123 ∷ first ∷ []) start (record { left = last; error = InvalidUnicodeValue x })) (sym r.value)
-      (no_scalar_by flags first start r.ds (chars rest) last r.row r.cut r.ends stop (subst (λ x. scalar x ≡ false) r.value s))
+    (no_scalar_by flags first start r.ds (chars rest) last r.row r.cut r.ends stop (subst (λ x. scalar x ≡ false) r.value s))
 
 pub row_too_big : (flags : Settings) (first : ℕ) (start rest next : List ℕ) (n last left c : ℕ) (b : Bool) → Row flags first start rest n b last → Took rest c next → left ≡ length rest → is_hex c ≡ true → 2 ^ 32 ≤ n * 16 + digit_value c → Breaks flags (92 ∷ 117 ∷ 123 ∷ first ∷ []) start (record { left = left; error = NumberTooBig })
 row_too_big flags first start rest next n last left c b r t l h s =
@@ -215,14 +215,14 @@ pub row_no_brace : (flags : Settings) (first : ℕ) (start rest next : List ℕ)
 row_no_brace flags first start rest next n last left c r t l s h a b =
     let k = r.row in
     number_breaks flags first start left (Expected 125 c) (c ∷ chars next) k.first (l ∙ t.size_is ∙ ap size t.spelled)
-      (no_brace r.ds (r.cut ∙ ap (λ x. r.ds ++ x) t.spelled) r.row (not_under r.ds (chars rest) last r.ends) (subst IsScalar r.value s) (λ x. both_ways (is_hex_or_underscore c) (or_from (is_hex c) (c == 95) h (ne_eqb c 95 a)) x) b)
+    (no_brace r.ds (r.cut ∙ ap (λ x. r.ds ++ x) t.spelled) r.row (not_under r.ds (chars rest) last r.ends) (subst IsScalar r.value s) (λ x. both_ways (is_hex_or_underscore c) (or_from (is_hex c) (c == 95) h (ne_eqb c 95 a)) x) b)
 
 pub row_no_more : (flags : Settings) (first : ℕ) (start rest : List ℕ) (n last : ℕ) → Row flags first start rest n false last → length rest ≡ 0 → scalar n ≡ true → Breaks flags (92 ∷ 117 ∷ 123 ∷ first ∷ []) start (record { left = 0; error = UnexpectedEof })
 row_no_more flags first start rest n last r l s =
     let k = r.row in
     let e : chars start ≡ r.ds = r.cut ∙ ap (λ x. r.ds ++ x) (at_end rest l) ∙ append-nil r.ds in
     number_breaks flags first start 0 UnexpectedEof [] k.first refl
-      (subst (λ x. NumberFault flags first x UnexpectedEof []) (sym e) (no_more r.row (not_under r.ds (chars rest) last r.ends) (subst IsScalar r.value s)))
+    (subst (λ x. NumberFault flags first x UnexpectedEof []) (sym e) (no_more r.row (not_under r.ds (chars rest) last r.ends) (subst IsScalar r.value s)))
 
 pub row_read : (flags : Settings) (first : ℕ) (start rest next : List ℕ) (n last : ℕ) → Row flags first start rest n false last → Took rest 125 next → scalar n ≡ true → Escaped flags (92 ∷ 117 ∷ 123 ∷ first ∷ []) start next
 row_read flags first start rest next n last r t s = record {
@@ -261,8 +261,8 @@ Reading flags front old new result = OnOk result (Escaped flags front old new) �
 
 -- a character that is neither digit nor underscore ends the row
 pub row_stops : (flags : Settings) (first : ℕ) (start rest next : List ℕ) (n last left c : ℕ) (b : Bool) (fault : Option Broken) (result : Result Unit Broken)
-  → Row flags first start rest n b last → Took rest c next → left ≡ length rest → is_hex c ≡ false → c ≢ 95 → IsRowFault n b last fault → Ends c left fault result
-  → Reading flags (92 ∷ 117 ∷ 123 ∷ first ∷ []) start next result
+    → Row flags first start rest n b last → Took rest c next → left ≡ length rest → is_hex c ≡ false → c ≢ 95 → IsRowFault n b last fault → Ends c left fault result
+    → Reading flags (92 ∷ 117 ∷ 123 ∷ first ∷ []) start next result
 row_stops flags first start rest next n last left c b (Some fault) result r t l h a f e =
     subst (Reading flags (92 ∷ 117 ∷ 123 ∷ first ∷ []) start next) (sym e) (tt, row_ends flags first start rest n last b fault r (stops_at rest next c t h a) f)
 row_stops flags first start rest next n last left c b None result r t l h a f e =
@@ -271,7 +271,7 @@ row_stops flags first start rest next n last left c b None result r t l h a f e 
     by : (c ≡ 125) ⊎ (c ≢ 125) → Good flags first start rest n last → Reading flags (92 ∷ 117 ∷ 123 ∷ first ∷ []) start next (cond (c == 125) (Ok tt) (Err (record { left = left; error = Expected 125 c })))
     by (inl k) g =
         subst (λ x. Reading flags (92 ∷ 117 ∷ 123 ∷ first ∷ []) start next (cond x (Ok tt) (Err (record { left = left; error = Expected 125 c })))) (sym (eq-eqb c 125 k))
-          (row_read flags first start rest next n last g.row (subst (λ x. Took rest x next) k t) g.is, tt)
+        (row_read flags first start rest next n last g.row (subst (λ x. Took rest x next) k t) g.is, tt)
     by (inr k) g =
         subst (λ x. Reading flags (92 ∷ 117 ∷ 123 ∷ first ∷ []) start next (cond x (Ok tt) (Err (record { left = left; error = Expected 125 c })))) (sym (ne_eqb c 125 k))
-          (tt, row_no_brace flags first start rest next n last left c g.row t l g.is h a k)
+        (tt, row_no_brace flags first start rest next n last left c g.row t l g.is h a k)

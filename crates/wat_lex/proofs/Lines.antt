@@ -44,7 +44,7 @@ pub until : (p : ℕ → Bool) → ((c : ℕ) → p c ≡ true → c < 128) → 
 until p ascii [] = record { front = []; rest = []; cut = refl; passes = tt; stops = inl refl; len = refl }
 until p ascii (c ∷ cs) =
     elim (cases_Bool (p c)) [
-      inl t ↦ record {
+      | inl t ↦ record {
         front = [];
         rest = c ∷ cs;
         cut = refl;
@@ -52,26 +52,26 @@ until p ascii (c ∷ cs) =
         stops = inr t;
         len = ap (λ x. prefix_len (λ c. not (p c)) (x ++ encodes cs)) (encode_ascii c (ascii c t)) ∙ ap (λ x. cond (not x) (1 + prefix_len (λ c. not (p c)) (encodes cs)) 0) t;
       }
-    | inr f ↦
-        let u = until p ascii cs in
-        record {
-          front = c ∷ u.front;
-          rest = u.rest;
-          cut = ap (λ x. c ∷ x) u.cut;
-          passes = (ap not f, u.passes);
-          stops = u.stops;
-          len =
-            prefix_past (λ c. not (p c)) (encode c) (encodes cs) (λ k l. ap not (inner c f k l))
-            ∙ ap (λ x. length (encode c) + x) u.len
-            ∙ sym (length-append (encode c) (encodes u.front));
-        }
+      | inr f ↦
+          let u = until p ascii cs in
+          record {
+            front = c ∷ u.front;
+            rest = u.rest;
+            cut = ap (λ x. c ∷ x) u.cut;
+            passes = (ap not f, u.passes);
+            stops = u.stops;
+            len =
+                prefix_past (λ c. not (p c)) (encode c) (encodes cs) (λ k l. ap not (inner c f k l))
+                ∙ ap (λ x. length (encode c) + x) u.len
+                ∙ sym (length-append (encode c) (encodes u.front));
+          }
     ]
   where
     inner : (c : ℕ) → p c ≡ false → (k : ℕ) → k < length (encode c) → p (get_or (encode c) k 0) ≡ false
     inner c f k l =
         elim (cases_Bool (p (get_or (encode c) k 0))) [
-          inl t ↦ absurd (both_ways (p c) f (ap p (ascii_in c k (get_or (encode c) k 0) l refl (ascii (get_or (encode c) k 0) t)) ∙ t))
-        | inr g ↦ g
+          | inl t ↦ absurd (both_ways (p c) f (ap p (ascii_in c k (get_or (encode c) k 0) l refl (ascii (get_or (encode c) k 0) t)) ∙ t))
+          | inr g ↦ g
         ]
 
 -- the characters of a set
@@ -79,8 +79,8 @@ pub set_ascii : (s : List ℕ) (c : ℕ) → Each (λ d. nat_lt d 128) s → cha
 set_ascii [] c h e = cc
 set_ascii (d ∷ s) c h e =
     elim (or_cases (d == c) (char_set_contains s c) e) [
-      inl t ↦ subst (λ x. x < 128) (eqb-true d c t) (ltb-true d 128 h.0)
-    | inr t ↦ set_ascii s c h.1 t
+      | inl t ↦ subst (λ x. x < 128) (eqb-true d c t) (ltb-true d 128 h.0)
+      | inr t ↦ set_ascii s c h.1 t
     ]
 
 pub line_end_ascii : (c : ℕ) → is_line_end c ≡ true → c < 128
@@ -120,7 +120,7 @@ found_one flags text kind c u l e s w f =
 no_semicolon : (text : List ℕ) (c : ℕ) → IsUtf8 text → 0 < length text → get_or text 0 0 ≡ c → c < 128 → (get_or text 1 0 ≡ 59 → ⊥) → Begins (λ d. d == 59) (chars (drop 1 text)) → ⊥
 no_semicolon text c u l e s n =
     not_begun (λ d. d == 59) (drop 1 text) (led text c u l e s).utf8 (λ d t. let k = eqb-true d 59 t in omega arith)
-      (λ _. ne_eqb (get_or (drop 1 text) 0 0) 59 (λ k. n (sym (get_or-drop 1 text 0 0) ∙ k)))
+    (λ _. ne_eqb (get_or (drop 1 text) 0 0) 59 (λ k. n (sym (get_or-drop 1 text 0 0) ∙ k)))
 
 pub found_open : (flags : Settings) (text : List ℕ) → IsUtf8 text → 0 < length text → get_or text 0 0 ≡ 40 → (get_or text 1 0 ≡ 59 → ⊥) → Found flags text (record { kind = LParen; len = 1 })
 found_open flags text u l e n = found_one flags text LParen 40 u l e (omega arith) refl (no_semicolon text 40 u l e (omega arith) n)
@@ -167,8 +167,8 @@ each_ascii (d ∷ s) h = let p = and_parts (nat_lt d 128) (list_all (λ d. nat_l
 pub idchar_ascii : (c : ℕ) → is_idchar c ≡ true → c < 128
 idchar_ascii c h =
     elim (or_cases (is_ascii_alphanumeric c) (char_set_contains (codes "!#$%&'*+-./:<=>?@\\^_`|~") c) h) [
-      inl t ↦ alphanumeric_ascii c t
-    | inr t ↦ set_ascii (codes "!#$%&'*+-./:<=>?@\\^_`|~") c (each_ascii (codes "!#$%&'*+-./:<=>?@\\^_`|~") refl) t
+      | inl t ↦ alphanumeric_ascii c t
+      | inr t ↦ set_ascii (codes "!#$%&'*+-./:<=>?@\\^_`|~") c (each_ascii (codes "!#$%&'*+-./:<=>?@\\^_`|~") refl) t
     ]
 
 pub run_char_ascii : (c : ℕ) → is_run_char c ≡ true → c < 128
@@ -177,12 +177,12 @@ run_char_ascii c h = elim (or_cases (is_idchar c) (c == 34) h) [ inl t ↦ idcha
 word_ascii : (c : ℕ) → begins_word c ≡ true → c < 128
 word_ascii c h =
     elim (or_cases (is_blank c || is_run_char c) (is_mark c || ((c == 40 || c == 41) || c == 59)) h) [
-      inl t ↦ elim (or_cases (is_blank c) (is_run_char c) t) [ inl k ↦ blank_ascii c k | inr k ↦ run_char_ascii c k ]
-    | inr t ↦ elim (or_cases (is_mark c) ((c == 40 || c == 41) || c == 59) t) [
-        inl k ↦ mark_ascii c k
-      | inr k ↦ elim (or_cases (c == 40 || c == 41) (c == 59) k) [
-          inl g ↦ elim (or_cases (c == 40) (c == 41) g) [ inl j ↦ let i = eqb-true c 40 j in omega arith | inr j ↦ let i = eqb-true c 41 j in omega arith ]
-        | inr g ↦ let i = eqb-true c 59 g in omega arith
+      | inl t ↦ elim (or_cases (is_blank c) (is_run_char c) t) [ inl k ↦ blank_ascii c k | inr k ↦ run_char_ascii c k ]
+      | inr t ↦ elim (or_cases (is_mark c) ((c == 40 || c == 41) || c == 59) t) [
+        | inl k ↦ mark_ascii c k
+        | inr k ↦ elim (or_cases (c == 40 || c == 41) (c == 59) k) [
+          | inl g ↦ elim (or_cases (c == 40) (c == 41) g) [ inl j ↦ let i = eqb-true c 40 j in omega arith | inr j ↦ let i = eqb-true c 41 j in omega arith ]
+          | inr g ↦ let i = eqb-true c 59 g in omega arith
         ]
       ]
     ]

@@ -21,8 +21,8 @@ is_nil xs b e f = elim (empty_or xs b e) [ inl k ↦ k.1 | inr k ↦ absurd (bot
 pub digits_whole : (hex : Bool) (text rest : List ℕ) (b : Bool) → b ≡ (length rest == 0) → LongestDigits hex text rest → (IsTrue b ↔ Digits hex text [])
 digits_whole hex text rest b e l =
     elim (empty_or rest b e) [
-      inl k ↦ (λ h. subst (Digits hex text) k.1 l.digits, λ h. k.0)
-    | inr k ↦ (λ h. absurd (both_ways b k.0 h), λ h. absurd (k.1 (digits_end hex text rest l h)))
+      | inl k ↦ (λ h. subst (Digits hex text) k.1 l.digits, λ h. k.0)
+      | inr k ↦ (λ h. absurd (both_ways b k.0 h), λ h. absurd (k.1 (digits_end hex text rest l h)))
     ]
 
 pub exponent_is : (hex : Bool) (text body : List ℕ) (b : Bool) → text ≢ [] → is_exponent_letter hex (get_or text 0 0) ≡ true → body ≡ unsigned (drop 1 text) → (IsTrue b ↔ Digits false body []) → (IsTrue b ↔ Exponent hex text)

@@ -83,7 +83,7 @@ pub behind_quote : (flags : Settings) (text : List ℕ) (len ids strs : ℕ) →
 behind_quote flags text len ids strs j l e = let k = at_byte flags text len ids strs 34 j l e (omega arith) in subst IsUtf8 (drop-drop 1 len text) k.utf8
 
 pub joined_string : (flags : Settings) (text : List ℕ) (len ids strs n more : ℕ) → Joined flags text len ids strs → len < length text → get_or text len 0 ≡ 34 → StringTaken flags (drop (len + 1) text) n
-  → more ≡ prefix_len is_idchar (drop (len + (1 + n)) text) → Joined flags text (len + (1 + n) + more) (ids + more) (strs + 1)
+    → more ≡ prefix_len is_idchar (drop (len + (1 + n)) text) → Joined flags text (len + (1 + n) + more) (ids + more) (strs + 1)
 joined_string flags text len ids strs n more j l e h m =
     let at = len + (1 + n) in
     let behind : drop n (drop (len + 1) text) ≡ drop at text = drop-drop n (len + 1) text ∙ ap (λ x. drop x text) (let k : len + 1 + n ≡ at = omega arith in k) in
@@ -95,7 +95,7 @@ joined_string flags text len ids strs n more j l e h m =
           let inner : Run flags (chars (drop at text)) (next.pieces ++ qs) r = next.run qs r (subst (λ x. Run flags (chars x) qs r) (sym past) k) in
           let quoted : Run flags (34 ∷ chars (drop (len + 1) text)) (Quoted h.value ∷ (next.pieces ++ qs)) r = string h.quoted (subst (λ x. Run flags (chars x) (next.pieces ++ qs) r) (sym behind) inner) in
           subst (λ x. Run flags (chars text) x r) (sym (append_assoc j.pieces (Quoted h.value ∷ next.pieces) qs))
-            (j.run (Quoted h.value ∷ (next.pieces ++ qs)) r (subst (λ x. Run flags x (Quoted h.value ∷ (next.pieces ++ qs)) r) (sym (past_quote flags text len ids strs j l e)) quoted));
+          (j.run (Quoted h.value ∷ (next.pieces ++ qs)) r (subst (λ x. Run flags x (Quoted h.value ∷ (next.pieces ++ qs)) r) (sym (past_quote flags text len ids strs j l e)) quoted));
       utf8 = subst IsUtf8 past next.utf8;
       first = let a = j.first in let b = next.first in let c = ids_append j.pieces (Quoted h.value ∷ next.pieces) in omega arith;
       second = let a = j.second in let b = next.second in let c = strs_append j.pieces (Quoted h.value ∷ next.pieces) in omega arith;
@@ -118,14 +118,15 @@ joined_end flags text len ids strs j e = record {
     quote_first : (d : ℕ) (ds : List ℕ) → chars (drop len text) ≡ d ∷ ds → d ≡ 34 → ⊥
     quote_first d ds k q =
         not_begun (λ c. c == 34) (drop len text) j.utf8 (λ c t. let i = eqb-true c 34 t in omega arith)
-          (λ l. ne_eqb (get_or (drop len text) 0 0) 34 (λ i. let m : len < length text = omega (arith, length-drop len text) in e m (ap (λ x. get_or x 0 0) (sym (drop_more text len 0 m)) ∙ i)))
-          (subst (Begins (λ c. c == 34)) (sym k) (eq-eqb d 34 q))
+        (λ l. ne_eqb (get_or (drop len text) 0 0) 34 (λ i. let m : len < length text = omega (arith, length-drop len text) in e m (ap (λ x. get_or x 0 0) (sym (drop_more text len 0 m)) ∙ i)))
+        (subst (Begins (λ c. c == 34)) (sym k) (eq-eqb d 34 q))
+
     by : (cs : List ℕ) → chars (drop len text) ≡ cs → Begins is_run_char cs → ⊥
     by [] k g = g
     by (d ∷ ds) k g =
         elim (or_cases (is_idchar d) (d == 34) g) [
-          inl t ↦ j.ends (subst (Begins is_idchar) (sym k) t)
-        | inr t ↦ quote_first d ds k (eqb-true d 34 t)
+          | inl t ↦ j.ends (subst (Begins is_idchar) (sym k) t)
+          | inr t ↦ quote_first d ds k (eqb-true d 34 t)
         ]
 
 pub joined_wrong : (flags : Settings) (text : List ℕ) (len ids strs : ℕ) (f : LexFault) → Joined flags text len ids strs → len < length text → get_or text len 0 ≡ 34 → StringRefused flags (drop (len + 1) text) f → Refused flags text (record { offset = len + 1 + f.offset; error = f.error })

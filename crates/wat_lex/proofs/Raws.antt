@@ -18,8 +18,8 @@ tiled_by : (s : Setting) (items : List Item) (p q r : Progress) → p.setting �
 tiled_by s [] p q r l d h e =
     let g : token_steps p None r = subst (λ x. token_steps x None r) (sym h) e in
     elim g.1.0 [
-      inl k ↦ absurd (both_ways p.done d k)
-    | inr k ↦ record { tokens = []; ending = None; tiling = record { to = p.at; tiling = refl; ends = k ∙ ap (λ x. length x.text) l }; spelled = refl }
+      | inl k ↦ absurd (both_ways p.done d k)
+      | inr k ↦ record { tokens = []; ending = None; tiling = record { to = p.at; tiling = refl; ends = k ∙ ap (λ x. length x.text) l }; spelled = refl }
     ]
 tiled_by s (Ok t ∷ items) p q r l d h e =
     let j = h.0 in

@@ -192,7 +192,7 @@ pub run_fits : (flags : Settings) (text : List ℕ) (found : Pieces) → RunFoun
 run_fits flags text found f = omega (arith, f.place)
 
 pub found_run : (flags : Settings) (text : List ℕ) (found : Pieces) (kind : TokenKind) → IsUtf8 text → 0 < length text → is_run_char (get_or text 0 0) ≡ true
-  → RunFound flags text found → IsKindOfRun (take found.len text) found.idchars found.strings kind → Found flags text (record { kind = kind; len = found.len })
+    → RunFound flags text found → IsKindOfRun (take found.len text) found.idchars found.strings kind → Found flags text (record { kind = kind; len = found.len })
 found_run flags text found kind u l b f k =
     let t = run_taken flags (chars text) f.pieces f.rest f.run in
     let w = t.front in

@@ -29,7 +29,7 @@ pub data Fault : Settings → List ℕ → LexError → List ℕ → Type 0 wher
   dangling : {flags : Settings} {t : List ℕ} → ((r : List ℕ) → Commented (open_paren ∷ semicolon ∷ t) r → ⊥) → Fault flags (open_paren ∷ semicolon ∷ t) DanglingBlockComment (open_paren ∷ semicolon ∷ t)
   -- c is the first confusing character of a comment that would stand here if they were allowed
   confusing : {flags : Settings} {s t : List ℕ} {c : ℕ} {kind : TokenKind} {w rest : List ℕ} (front : List ℕ) → flags.allow ≡ false → IsComment kind → Stands (allowing flags) s kind w rest
-    → s ≡ front ++ c ∷ t → NonePass is_confusing front → IsTrue (is_confusing c) → length front < length w → Fault flags s (ConfusingUnicode c) (c ∷ t)
+      → s ≡ front ++ c ∷ t → NonePass is_confusing front → IsTrue (is_confusing c) → length front < length w → Fault flags s (ConfusingUnicode c) (c ∷ t)
   -- idchars and strings, and then a string that goes wrong
   in_string : {flags : Settings} {s t at : List ℕ} {ps : List Piece} {e : LexError} → Run flags s ps (quote ∷ t) → StringFault flags t e at → Fault flags s e at
 

@@ -41,8 +41,8 @@ abbrev pub Gives : Progress → Option Item → Progress → Type 0
 Gives p r q = MatchOption r
     (((p.done ≡ true) ⊎ (p.at ≡ length p.setting.text)) × (q.done ≡ true))
     (λ item. (p.done ≡ false) × MatchResult item
-        (λ t. TokenAt p.setting p.at t × (q.at ≡ t.offset + t.len) × (q.done ≡ false))
-        (λ e. ErrorAt p.setting p.at e × (q.done ≡ true)))
+    (λ t. TokenAt p.setting p.at t × (q.at ≡ t.offset + t.len) × (q.done ≡ false))
+    (λ e. ErrorAt p.setting p.at e × (q.done ≡ true)))
 
 abbrev pub token_steps : Progress → Option Item → Progress → Type 0
 token_steps p r q = (q.setting ≡ p.setting) × Gives p r q

@@ -18,10 +18,10 @@ pub data NumberFault : Settings → ℕ → List ℕ → LexError → List ℕ �
   lone : {flags : Settings} {d : ℕ} {s t : List ℕ} (ds : List ℕ) → s ≡ ds ++ underscore ∷ t → HexRow flags d ds → (Begins is_hex_or_underscore t → ⊥) → NumberFault flags d s LoneUnderscore (underscore ∷ t)
   -- they end in the digit e, and write no scalar value
   no_scalar : {flags : Settings} {d e : ℕ} {s t : List ℕ} (ds : List ℕ) → s ≡ ds ++ e ∷ t → HexRow flags d (ds ++ e ∷ []) → IsTrue (is_hex e) → (Begins is_hex_or_underscore t → ⊥)
-    → (IsScalar (hex_value (d ∷ ds ++ e ∷ [])) → ⊥) → NumberFault flags d s (InvalidUnicodeValue (hex_value (d ∷ ds ++ e ∷ []))) (e ∷ t)
+      → (IsScalar (hex_value (d ∷ ds ++ e ∷ [])) → ⊥) → NumberFault flags d s (InvalidUnicodeValue (hex_value (d ∷ ds ++ e ∷ []))) (e ∷ t)
   -- another character than `}` stands behind them
   no_brace : {flags : Settings} {d c : ℕ} {s t : List ℕ} (ds : List ℕ) → s ≡ ds ++ c ∷ t → HexRow flags d ds → (EndsInUnderscore ds → ⊥) → IsScalar (hex_value (d ∷ ds))
-    → (IsTrue (is_hex_or_underscore c) → ⊥) → c ≢ close_brace → NumberFault flags d s (Expected close_brace c) (c ∷ t)
+      → (IsTrue (is_hex_or_underscore c) → ⊥) → c ≢ close_brace → NumberFault flags d s (Expected close_brace c) (c ∷ t)
   -- the text ends with them
   no_more : {flags : Settings} {d : ℕ} {s : List ℕ} → HexRow flags d s → (EndsInUnderscore s → ⊥) → IsScalar (hex_value (d ∷ s)) → NumberFault flags d s UnexpectedEof []
 

@@ -52,7 +52,7 @@ pub data Element : Settings → List ℕ → List ℕ → List ℕ → Type 0 wh
   letter : {flags : Settings} {c v : ℕ} {r : List ℕ} → letter_value c ≡ Some v → Element flags (backslash ∷ c ∷ r) (v ∷ []) r
   byte : {flags : Settings} {c d : ℕ} {r : List ℕ} → IsTrue (is_hex c) → IsTrue (is_hex d) → Element flags (backslash ∷ c ∷ d ∷ r) ((16 * digit_value c + digit_value d) ∷ []) r
   unicode : {flags : Settings} {d : ℕ} {s r : List ℕ} (ds : List ℕ) → s ≡ ds ++ close_brace ∷ r → HexRow flags d ds → (EndsInUnderscore ds → ⊥) → IsScalar (hex_value (d ∷ ds))
-    → Element flags (backslash ∷ letter_u ∷ open_brace ∷ d ∷ s) (encode_utf8 (hex_value (d ∷ ds))) r
+      → Element flags (backslash ∷ letter_u ∷ open_brace ∷ d ∷ s) (encode_utf8 (hex_value (d ∷ ds))) r
 
 -- The text is elements and a quote, with this joined value, and then the rest.
 pub data Quoted : Settings → List ℕ → List ℕ → List ℕ → Type 0 where

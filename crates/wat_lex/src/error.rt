@@ -3,12 +3,11 @@ ghost use Rattle.std.specs.Prelude.{◌≡◌, ◌↔◌, Some, None, IsTrue, Is
 ghost use Rattle.std.specs.Option.{option_copied};
 ghost use Rattle.wat_lex.specs.Errors.{lexical, Custom, lex_error_of, offset_of, message_of};
 
+use crate::lexer::LexError;
+use crate::token::Span;
 use std::alloc::{AllocError, Global};
 use std::fmt;
 use std::marker::Model;
-
-use crate::lexer::LexError;
-use crate::token::Span;
 
 /// What went wrong, and where: a fault of the text, a message, or want of memory.
 #[derive(Debug, Drop)]

@@ -5,11 +5,10 @@ ghost use Rattle.wat_lex.specs.Faults.{FaultAt};
 ghost use Rattle.wat_lex.specs.Raw.{ErrorAt};
 ghost use Rattle.wat_lex.specs.Tiling.{TokenAt};
 
-use std::alloc::Global;
-use std::marker::Model;
-
 use crate::error::Error;
 use crate::token::Span;
+use std::alloc::Global;
+use std::marker::Model;
 
 mod classes;
 mod comments;
@@ -20,12 +19,13 @@ mod numbers;
 mod runs;
 mod settings;
 mod strings;
+#[cfg(test)]
+mod tests;
 
 pub use faults::{LexError, LexFault};
+use front::front;
 pub use kinds::{FloatKind, IntegerKind, SignToken, Token, TokenKind};
 pub use settings::Settings;
-
-use front::front;
 
 /// A lexer over a text: it cuts the text into tokens, white space and comments, and accounts for every byte of it.
 #[derive(Clone, Drop)]
@@ -49,7 +49,8 @@ impl<'a> Lexer<'a> {
     /// A lexer over a text of at most `u32::MAX` bytes, with both settings off.
     pub fn new(input: &'a str) -> Lexer<'a>
         requires { length input.now < 2 ^ 32 }
-        ensures { result ≡ record { text = input.now; flags = record { allow = false; strict = false } } }
+        ensures setting { result ≡ record { text = input.now; flags = record { allow = false; strict = false } } }
+        ensures start { IsCharBoundary input.now 0 }
     {
         Lexer {
             input,
@@ -137,7 +138,12 @@ impl<'a> Lexer<'a> {
     fn error(&self, alloc: Global, fault: LexFault) -> Error
         ensures { IsUnlessMemory result (lexical fault) }
     {
-        Error::lex(alloc, Span::from_offset(fault.offset), self.input, fault.error)
+        Error::lex(
+            alloc,
+            Span::from_offset(fault.offset),
+            self.input(),
+            fault.error,
+        )
     }
 
     ghost use Rattle.std.specs.Iterator.{Drains};

@@ -4,6 +4,8 @@
 pub mod ends;
 pub mod list;
 pub mod run;
+#[cfg(test)]
+mod tests;
 
 use ends::Plain;
 use run::{RunError, run_list};

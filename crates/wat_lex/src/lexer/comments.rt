@@ -8,12 +8,11 @@ ghost use Rattle.wat_lex.specs.Faults.{IsComment};
 ghost use Rattle.wat_lex.specs.Results.{Found, Answers, FirstConfusing};
 ghost use Rattle.wat_lex.specs.Setting.{allowing};
 
-use memchr::{memchr, memchr2};
-
 use crate::lexer::classes::is_confusing;
 use crate::lexer::faults::{LexError, LexFault};
 use crate::lexer::kinds::{Lexeme, TokenKind};
 use crate::lexer::settings::Settings;
+use memchr::{memchr, memchr2};
 
 /// How many bytes stand before the end of the line.
 fn line_len(text: &[u8]) -> usize

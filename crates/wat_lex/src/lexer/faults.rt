@@ -107,7 +107,11 @@ impl fmt::Display for LexError {
             LexError::InvalidStringElement(c) => {
                 write!(f, "invalid character in string {}", QuotedChar(c))
             }
-            LexError::InvalidStringEscape(c) => write!(f, "invalid string escape {}", QuotedChar(c)),
+            LexError::InvalidStringEscape(c) => write!(
+                f,
+                "invalid string escape {}",
+                QuotedChar(c)
+            ),
             LexError::InvalidHexDigit(c) => write!(f, "invalid hex digit {}", QuotedChar(c)),
             LexError::InvalidDigit(c) => write!(f, "invalid decimal digit {}", QuotedChar(c)),
             LexError::Expected { wanted, found } => {
@@ -120,7 +124,10 @@ impl fmt::Display for LexError {
             LexError::LoneUnderscore => write!(f, "bare underscore in numeric literal"),
             LexError::ConfusingUnicode(c) => {
                 let code = u32::from(c);
-                write!(f, "likely-confusing unicode character found '\\u{{{code:x}}}'")
+                write!(
+                    f,
+                    "likely-confusing unicode character found '\\u{{{code:x}}}'"
+                )
             }
             LexError::InvalidUtf8Id => write!(f, "malformed UTF-8 encoding of string-based id"),
             LexError::EmptyId => write!(f, "empty identifier"),

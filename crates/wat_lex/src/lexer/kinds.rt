@@ -52,16 +52,23 @@ pub struct IntegerKind {
 #[derive(Clone, Copy, Debug, PartialEq)]
 pub enum FloatKind {
     /// `inf`
-    Inf { negative: bool },
+    Inf {
+        negative: bool,
+    },
     /// `nan`
-    Nan { negative: bool },
+    Nan {
+        negative: bool,
+    },
     /// `nan:0x` and a payload.
     NanVal {
         negative: bool,
         has_underscores: bool,
     },
     /// Digits with a fraction, an exponent, or both.
-    Normal { has_underscores: bool, hex: bool },
+    Normal {
+        has_underscores: bool,
+        hex: bool,
+    },
 }
 
 /// The sign that a number begins with.

@@ -9,13 +9,21 @@ use crate::lexer::kinds::{FloatKind, IntegerKind, SignToken, TokenKind};
 fn is_digit(b: u8, hex: bool) -> bool
     ensures { result ≡ is_digit hex b }
 {
-    if hex { b.is_ascii_hexdigit() } else { b.is_ascii_digit() }
+    if hex {
+        b.is_ascii_hexdigit()
+    } else {
+        b.is_ascii_digit()
+    }
 }
 
 fn is_exponent_letter(b: u8, hex: bool) -> bool
     ensures { result ≡ is_exponent_letter hex b }
 {
-    if hex { b == b'p' || b == b'P' } else { b == b'e' || b == b'E' }
+    if hex {
+        b == b'p' || b == b'P'
+    } else {
+        b == b'e' || b == b'E'
+    }
 }
 
 fn sign_of(word: &[u8]) -> Option<SignToken>
@@ -35,7 +43,11 @@ fn sign_of(word: &[u8]) -> Option<SignToken>
 pub fn is_negative(word: &[u8]) -> bool
     ensures { result ≡ is_negative word.now }
 {
-    if word.is_empty() { false } else { word[0] == b'-' }
+    if word.is_empty() {
+        false
+    } else {
+        word[0] == b'-'
+    }
 }
 
 /// The word without its sign.
@@ -152,16 +164,26 @@ pub fn classify(word: &[u8]) -> Option<TokenKind>
     }
     if let Some(payload) = after(number, b"nan:0x".as_slice()) {
         if is_digits(payload, true) {
-            return Some(TokenKind::Float(FloatKind::NanVal { negative, has_underscores }));
+            return Some(TokenKind::Float(FloatKind::NanVal {
+                negative,
+                has_underscores,
+            }));
         }
         return None;
     }
     match after_whole(number) {
         Some((hex, rest)) => {
             if rest.is_empty() {
-                Some(TokenKind::Integer(IntegerKind { sign, has_underscores, hex }))
+                Some(TokenKind::Integer(IntegerKind {
+                    sign,
+                    has_underscores,
+                    hex,
+                }))
             } else if is_tail(rest, hex) {
-                Some(TokenKind::Float(FloatKind::Normal { has_underscores, hex }))
+                Some(TokenKind::Float(FloatKind::Normal {
+                    has_underscores,
+                    hex,
+                }))
             } else {
                 None
             }

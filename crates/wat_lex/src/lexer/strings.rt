@@ -8,11 +8,10 @@ ghost use Rattle.wat_lex.specs.Classes.{is_hex};
 ghost use Rattle.wat_lex.specs.Strings.{letter_value, is_control};
 ghost use Rattle.wat_lex.specs.Reads.{Escaped, Breaks, Closed, Wrong, IsRowFault, Ends, StringTaken, StringRefused};
 
-use std::str::Chars;
-
 use crate::lexer::classes::{is_confusing, is_hex};
 use crate::lexer::faults::{LexError, LexFault};
 use crate::lexer::settings::Settings;
+use std::str::Chars;
 
 /// What is wrong with a string, and how many bytes are left from the place where it is told.
 #[derive(Clone, Copy)]

@@ -23,7 +23,7 @@ returns-in-Ok-Some-clause-boundary c =
     let inside : Setting = record { text = c.self.inside.input.now; flags = c.self.inside.settings } in
     let same = ap (λ (s : Setting). length s.text) c.self.view_is in
     subst (λ (s : Setting). IsCharBoundary s.text (c.args.pos + c.in-Ok-Some.lexeme.len)) c.self.view_is
-      (part_ends inside c.range_from.result.now c.args.pos c.in-Ok-Some.lexeme (omega (arith, same, c.requires.0)) c.range_from.ensures.value c.range_from.utf8 (found (goal.at.returns-in-Ok-Some-clause-boundary c).In-Ok-Some))
+    (part_ends inside c.range_from.result.now c.args.pos c.in-Ok-Some.lexeme (omega (arith, same, c.requires.0)) c.range_from.ensures.value c.range_from.utf8 (found (goal.at.returns-in-Ok-Some-clause-boundary c).In-Ok-Some))
 
 pub returns-in-Ok-Some-clause-short : goal.returns-in-Ok-Some-clause-short
 returns-in-Ok-Some-clause-short c = omega (arith, fits (goal.at.returns-in-Ok-Some-clause-short c).In-Ok-Some, c.range_from.ensures.len, c.self.invariant, c.requires.0)

@@ -10,5 +10,5 @@ returns-in-Ok-Some-clause-goes c =
     let on = rw c.in-Ok-Some.field-0-is at c.in-Ok-Some.ensures.progress in
     let inside : Progress = record { setting = c.self.inside.lexer.now; at = c.self.inside.pos; done = c.self.inside.done } in
     let less : most_left (record inside { at = c.parse.new.pos }) < most_left c.args.self.now =
-        subst (λ (p : Progress). most_left (record inside { at = c.parse.new.pos }) < most_left p) c.self.view_is (nearer _ _ _ _ c.if-self.false on c.parse.ensures.boundary.0) in
+    subst (λ (p : Progress). most_left (record inside { at = c.parse.new.pos }) < most_left p) c.self.view_is (nearer _ _ _ _ c.if-self.false on c.parse.ensures.boundary.0) in
     record { on = λ f. (tt, tt, less); keeps = tt; rests = λ _. tt }

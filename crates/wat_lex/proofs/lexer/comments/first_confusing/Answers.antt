@@ -24,7 +24,7 @@ pub places-preserved : goal.places-preserved
 places-preserved c =
     let at = (goal.at.places-preserved c).In-Some-next in
     subst (λ x. Searched c.args.text.now (c.places.at + c.in-Some.skipped + x)) (sym c.len_utf8-at.ensures.value)
-      (searched_more c.args.text.now (chars_rest c.next.new.self) _ c.in-Some-next.c (here at) (spelled at) (sym c.is_confusing.ensures ∙ c.if-is_confusing.false))
+    (searched_more c.args.text.now (chars_rest c.next.new.self) _ c.in-Some-next.c (here at) (spelled at) (sym c.is_confusing.ensures ∙ c.if-is_confusing.false))
 
 pub returns : goal.returns
 returns c = searched_end c.args.text.now c.as_bytes.result.now c.places.at c.places.invariant (c.as_bytes.ensures.value ∙ c.range_from.ensures.value) c.in_default.ensures

@@ -19,4 +19,4 @@ pub checked-requires-clause-found : goal.checked-requires-clause-found
 checked-requires-clause-found c =
     let e = tail_is c.args.text.now c.as_bytes.result.now c.as_bytes.ensures.value in
     line_found c.args.flags c.args.text.now c.line_len-len.result c.utf8.text c.requires.begun.0 c.requires.begun.1
-      (c.line_len-len.ensures ∙ ap (prefix_len (λ c. not (is_line_end c))) e)
+    (c.line_len-len.ensures ∙ ap (prefix_len (λ c. not (is_line_end c))) e)

@@ -24,32 +24,32 @@ returns-then-first-eq40 c =
     let e = c.as_bytes-bytes.ensures.value in
     let bs = c.as_bytes-bytes.result.now in
     answered _ _ _ _ c.lexeme-then-first-eq40.ensures (found_open _ c.args.text.now c.utf8.text (filled c.args.text.now bs c.is_empty.result e c.is_empty.ensures c.if-is_empty.false)
-      (reads c.args.text.now bs 0 _ _ e c.byte_at-first.ensures c.if-first-eq40.true) (λ k. c.if-second-eq59.false (c.byte_at-second.ensures ∙ ap (λ t. get_or t 1 0) e ∙ k)))
+    (reads c.args.text.now bs 0 _ _ e c.byte_at-first.ensures c.if-first-eq40.true) (λ k. c.if-second-eq59.false (c.byte_at-second.ensures ∙ ap (λ t. get_or t 1 0) e ∙ k)))
 
 pub returns-then-first-eq59 : goal.returns-then-first-eq59
 returns-then-first-eq59 c =
     let e = c.as_bytes-bytes.ensures.value in
     let bs = c.as_bytes-bytes.result.now in
     answered _ _ _ _ c.lexeme-then-first-eq59.ensures (found_semicolon _ c.args.text.now c.utf8.text (filled c.args.text.now bs c.is_empty.result e c.is_empty.ensures c.if-is_empty.false)
-      (reads c.args.text.now bs 0 _ _ e c.byte_at-first.ensures c.if-first-eq59.true) (λ k. c.if-second-eq59-2.false (c.byte_at-second.ensures ∙ ap (λ t. get_or t 1 0) e ∙ k)))
+    (reads c.args.text.now bs 0 _ _ e c.byte_at-first.ensures c.if-first-eq59.true) (λ k. c.if-second-eq59-2.false (c.byte_at-second.ensures ∙ ap (λ t. get_or t 1 0) e ∙ k)))
 
 pub returns-then-first-eq41 : goal.returns-then-first-eq41
 returns-then-first-eq41 c =
     let e = c.as_bytes-bytes.ensures.value in
     let bs = c.as_bytes-bytes.result.now in
     answered _ _ _ _ c.lexeme-then-first-eq41.ensures (found_close _ c.args.text.now c.utf8.text (filled c.args.text.now bs c.is_empty.result e c.is_empty.ensures c.if-is_empty.false)
-      (reads c.args.text.now bs 0 _ _ e c.byte_at-first.ensures c.if-first-eq41.true))
+    (reads c.args.text.now bs 0 _ _ e c.byte_at-first.ensures c.if-first-eq41.true))
 
 pub returns-then-is_mark : goal.returns-then-is_mark
 returns-then-is_mark c =
     let e = c.as_bytes-bytes.ensures.value in
     let bs = c.as_bytes-bytes.result.now in
     answered _ _ _ _ c.lexeme-then-is_mark.ensures (found_mark _ c.args.text.now c.utf8.text (filled c.args.text.now bs c.is_empty.result e c.is_empty.ensures c.if-is_empty.false)
-      (ap is_mark (reads c.args.text.now bs 0 _ _ e c.byte_at-first.ensures refl) ∙ sym c.is_mark.ensures ∙ c.if-is_mark.true))
+    (ap is_mark (reads c.args.text.now bs 0 _ _ e c.byte_at-first.ensures refl) ∙ sym c.is_mark.ensures ∙ c.if-is_mark.true))
 
 pub returns-then-is_blank : goal.returns-then-is_blank
 returns-then-is_blank c =
     let e = c.as_bytes-bytes.ensures.value in
     let bs = c.as_bytes-bytes.result.now in
     answered _ _ _ _ c.lexeme.ensures (found_blank _ c.args.text.now _ c.utf8.text (filled c.args.text.now bs c.is_empty.result e c.is_empty.ensures c.if-is_empty.false)
-      (ap is_blank (reads c.args.text.now bs 0 _ _ e c.byte_at-first.ensures refl) ∙ sym c.is_blank.ensures ∙ c.if-is_blank.true) (c.blank_len.ensures ∙ ap (prefix_len is_blank) e))
+    (ap is_blank (reads c.args.text.now bs 0 _ _ e c.byte_at-first.ensures refl) ∙ sym c.is_blank.ensures ∙ c.if-is_blank.true) (c.blank_len.ensures ∙ ap (prefix_len is_blank) e))

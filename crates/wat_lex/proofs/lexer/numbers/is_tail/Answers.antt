@@ -15,29 +15,33 @@ returns-then-text-ne46 c =
 pub returns-then-is_empty-2 : goal.returns-then-is_empty-2
 unfolding behind
 returns-then-is_empty-2 c =
-    let n = not_empty c.args.text.now c.is_empty.result c.is_empty.ensures c.if-is_empty.false in
-    (λ h. elim c.then-is_empty-2.branch [
-        then-is_empty-2-via-then-is_empty-2 w ↦ tail_bare c.args.hex c.args.text.now (behind c.args.text.now) n c.if-text-ne46.false (take_rest c.args.text.now 1) (is_nil (behind c.args.text.now) c.is_empty-2.result c.is_empty-2.ensures w.if-is_empty-2.true)
-      | then-is_empty-2-via-else-is_empty-2+then-is_exponent w ↦ tail_bare_power c.args.hex c.args.text.now (behind c.args.text.now) n c.if-text-ne46.false (take_rest c.args.text.now 1) (w.is_exponent-else-is_empty-2.ensures.0 w.if-is_exponent.true)
-      ], λ h. refl)
+    let n = not_empty c.args.text.now c.is_empty.result c.is_empty.ensures c.if-is_empty.false in (
+      λ h. elim c.then-is_empty-2.branch [
+        | then-is_empty-2-via-then-is_empty-2 w ↦ tail_bare c.args.hex c.args.text.now (behind c.args.text.now) n c.if-text-ne46.false (take_rest c.args.text.now 1) (is_nil (behind c.args.text.now) c.is_empty-2.result c.is_empty-2.ensures w.if-is_empty-2.true)
+        | then-is_empty-2-via-else-is_empty-2+then-is_exponent w ↦ tail_bare_power c.args.hex c.args.text.now (behind c.args.text.now) n c.if-text-ne46.false (take_rest c.args.text.now 1) (w.is_exponent-else-is_empty-2.ensures.0 w.if-is_exponent.true)
+      ],
+      λ h. refl,
+    )
 
 pub returns-then-is_empty-3 : goal.returns-then-is_empty-3
 unfolding behind
 returns-then-is_empty-3 c =
     tail_digits c.args.hex c.args.text.now (behind c.args.text.now) (not_empty c.args.text.now c.is_empty.result c.is_empty.ensures c.if-is_empty.false) c.if-text-ne46.false (take_rest c.args.text.now 1)
-      c.in-Some.rest.now c.is_empty-in-Some.result c.if-is_empty-3.true (is_nil c.in-Some.rest.now c.is_empty-in-Some.result c.is_empty-in-Some.ensures c.if-is_empty-3.true) c.in-Some.ensures
+    c.in-Some.rest.now c.is_empty-in-Some.result c.if-is_empty-3.true (is_nil c.in-Some.rest.now c.is_empty-in-Some.result c.is_empty-in-Some.ensures c.if-is_empty-3.true) c.in-Some.ensures
 
 pub returns-else-is_empty-3 : goal.returns-else-is_empty-3
 unfolding behind
 returns-else-is_empty-3 c =
     tail_digits_power c.args.hex c.args.text.now (behind c.args.text.now) (not_empty c.args.text.now c.is_empty.result c.is_empty.ensures c.if-is_empty.false) c.if-text-ne46.false (take_rest c.args.text.now 1)
-      c.in-Some.rest.now c.is_exponent-else-is_empty-3.result (not_empty (behind c.args.text.now) c.is_empty-2.result c.is_empty-2.ensures c.if-is_empty-2.false)
-      (λ x. both_ways c.is_exponent-else-is_empty-2.result c.if-is_exponent.false (c.is_exponent-else-is_empty-2.ensures.1 x))
-      (not_empty c.in-Some.rest.now c.is_empty-in-Some.result c.is_empty-in-Some.ensures c.if-is_empty-3.false) c.is_exponent-else-is_empty-3.ensures c.in-Some.ensures
+    c.in-Some.rest.now c.is_exponent-else-is_empty-3.result (not_empty (behind c.args.text.now) c.is_empty-2.result c.is_empty-2.ensures c.if-is_empty-2.false)
+    (λ x. both_ways c.is_exponent-else-is_empty-2.result c.if-is_exponent.false (c.is_exponent-else-is_empty-2.ensures.1 x))
+    (not_empty c.in-Some.rest.now c.is_empty-in-Some.result c.is_empty-in-Some.ensures c.if-is_empty-3.false) c.is_exponent-else-is_empty-3.ensures c.in-Some.ensures
 
 pub returns-in-None : goal.returns-in-None
 unfolding behind
-returns-in-None c =
-    (λ h. cc, λ h. absurd (tail_no_digits c.args.hex c.args.text.now (behind c.args.text.now) (not_empty c.args.text.now c.is_empty.result c.is_empty.ensures c.if-is_empty.false) c.if-text-ne46.false (take_rest c.args.text.now 1)
+returns-in-None c = (
+  λ h. cc,
+  λ h. absurd (tail_no_digits c.args.hex c.args.text.now (behind c.args.text.now) (not_empty c.args.text.now c.is_empty.result c.is_empty.ensures c.if-is_empty.false) c.if-text-ne46.false (take_rest c.args.text.now 1)
       (not_empty (behind c.args.text.now) c.is_empty-2.result c.is_empty-2.ensures c.if-is_empty-2.false)
-      (λ x. both_ways c.is_exponent-else-is_empty-2.result c.if-is_exponent.false (c.is_exponent-else-is_empty-2.ensures.1 x)) c.in-None.ensures h))
+      (λ x. both_ways c.is_exponent-else-is_empty-2.result c.if-is_exponent.false (c.is_exponent-else-is_empty-2.ensures.1 x)) c.in-None.ensures h),
+)

@@ -31,7 +31,7 @@ pub returns-in-Err-clause-err : goal.returns-in-Err-clause-err
 returns-in-Err-clause-err c =
     let q = quote (goal.at.returns-in-Err-clause-err c).Then-bytes-len-eq34 in
     joined_wrong c.args.flags c.args.text.now c.loop-len.len c.loop-len.idchars c.loop-len.strings c.in-Err.fault c.loop-len.invariant q.inside q.byte
-      (subst (λ x. StringRefused c.args.flags x c.in-Err.fault) c.range_from.ensures.value c.in-Err.ensures.err)
+    (subst (λ x. StringRefused c.args.flags x c.in-Err.fault) c.range_from.ensures.value c.in-Err.ensures.err)
 
 rest_is : (text bs : List ℕ) (n : ℕ) → bs ≡ text → take (length bs - n) (drop n bs) ≡ drop n text
 rest_is text bs n e = take_rest bs n ∙ ap (drop n) e
@@ -40,8 +40,8 @@ longer : (c : After-idchar_len-more) → Joined c.args.flags c.args.text.now (c.
 longer c =
     let q = quote_at c.args.text.now c.as_bytes-bytes.result.now c.loop-len.len c.as_bytes-bytes.ensures.value c.loop-len-test.true c.if-bytes-len-eq34.true in
     joined_string c.args.flags c.args.text.now c.loop-len.len c.loop-len.idchars c.loop-len.strings c.in-Ok.taken c.idchar_len-more.result c.loop-len.invariant q.inside q.byte
-      (subst (λ x. StringTaken c.args.flags x c.in-Ok.taken) c.range_from.ensures.value c.in-Ok.ensures.ok)
-      (c.idchar_len-more.ensures ∙ ap (prefix_len is_idchar) (rest_is c.args.text.now c.as_bytes-bytes.result.now _ c.as_bytes-bytes.ensures.value))
+    (subst (λ x. StringTaken c.args.flags x c.in-Ok.taken) c.range_from.ensures.value c.in-Ok.ensures.ok)
+    (c.idchar_len-more.ensures ∙ ap (prefix_len is_idchar) (rest_is c.args.text.now c.as_bytes-bytes.result.now _ c.as_bytes-bytes.ensures.value))
 
 pub overflow_add-idchars : goal.overflow_add-idchars
 overflow_add-idchars c = let j = longer c in omega (arith, j.range, j.bound, c.as_bytes-bytes.type_inv.0, ap length c.as_bytes-bytes.ensures.value)
@@ -58,9 +58,9 @@ no_quote text bs len e f k = f (ap (λ x. get_or x len 0) e ∙ k)
 pub returns-else-bytes-len-eq34-clause-ok : goal.returns-else-bytes-len-eq34-clause-ok
 returns-else-bytes-len-eq34-clause-ok c =
     joined_end c.args.flags c.args.text.now c.loop-len.len c.loop-len.idchars c.loop-len.strings c.loop-len.invariant
-      (λ _. no_quote c.args.text.now c.as_bytes-bytes.result.now c.loop-len.len c.as_bytes-bytes.ensures.value c.if-bytes-len-eq34.false)
+    (λ _. no_quote c.args.text.now c.as_bytes-bytes.result.now c.loop-len.len c.as_bytes-bytes.ensures.value c.if-bytes-len-eq34.false)
 
 pub returns-after-loop-len-clause-ok : goal.returns-after-loop-len-clause-ok
 returns-after-loop-len-clause-ok c =
     joined_end c.args.flags c.args.text.now c.loop-len.len c.loop-len.idchars c.loop-len.strings c.loop-len.invariant
-      (λ l. absurd (omega (arith, c.loop-len-test.false, ap length c.as_bytes-bytes.ensures.value)))
+    (λ l. absurd (omega (arith, c.loop-len-test.false, ap length c.as_bytes-bytes.ensures.value)))

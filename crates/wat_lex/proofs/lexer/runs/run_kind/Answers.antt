@@ -13,9 +13,9 @@ returns-then-strings-eq0 c = λ flags w ps e r i s.
 pub returns-then-strings-gt1 : goal.returns-then-strings-gt1
 returns-then-strings-gt1 c = λ flags w ps e r i s.
     let many : (1 < string_count ps) ⊎ (1 < idchar_count ps) = elim c.then-strings-gt1.branch [
-        then-strings-gt1-via-then-strings-gt1 v ↦ inl (subst (λ x. 1 < x) s v.if-strings-gt1.true)
+      | then-strings-gt1-via-then-strings-gt1 v ↦ inl (subst (λ x. 1 < x) s v.if-strings-gt1.true)
       | then-strings-gt1-via-else-strings-gt1+then-idchars-gt1 v ↦ inr (subst (λ x. 1 < x) i v.if-idchars-gt1.true)
-      ] in
+    ] in
     kind_of_many ps (omega (arith, s, c.if-strings-eq0.false)) many
 
 pub returns-then-idchars-eq0 : goal.returns-then-idchars-eq0
@@ -25,4 +25,4 @@ returns-then-idchars-eq0 c = λ flags w ps e r i s.
 pub returns : goal.returns
 returns c = λ flags w ps e r i s.
     subst (RunKind ps) (ap named_kind (sym e) ∙ sym c.named_kind.ensures)
-      (kind_of_two flags w ps r (omega (arith, s, c.if-strings-eq0.false, c.if-strings-gt1.false)) (omega (arith, i, c.if-idchars-eq0.false, c.if-idchars-gt1.false)))
+    (kind_of_two flags w ps r (omega (arith, s, c.if-strings-eq0.false, c.if-strings-gt1.false)) (omega (arith, i, c.if-idchars-eq0.false, c.if-idchars-gt1.false)))

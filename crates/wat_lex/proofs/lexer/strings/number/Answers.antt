@@ -27,17 +27,17 @@ returns-in-None-clause-err c =
 pub returns-then-underscore-clause-err : goal.returns-then-underscore-clause-err
 returns-then-underscore-clause-err c =
     refused _ _ _ c.refuse-then-underscore.ensures
-      (row_doubled c.args.flags c.args.first _ (chars_rest c.row.it) _ c.row.n c.row.last _ c.row.underscore c.row.invariant c.if-flags.true c.if-underscore.true (was 95 (goal.at.returns-then-underscore-clause-err c).In-Some c.if-c-eq95.true) (ap length c.as_str-left.ensures))
+    (row_doubled c.args.flags c.args.first _ (chars_rest c.row.it) _ c.row.n c.row.last _ c.row.underscore c.row.invariant c.if-flags.true c.if-underscore.true (was 95 (goal.at.returns-then-underscore-clause-err c).In-Some c.if-c-eq95.true) (ap length c.as_str-left.ensures))
 
 pub returns-then-wide-ge4294967296-clause-err : goal.returns-then-wide-ge4294967296-clause-err
 returns-then-wide-ge4294967296-clause-err c =
     refused _ _ _ c.refuse-then-wide-ge4294967296.ensures
-      (row_too_big c.args.flags c.args.first _ (chars_rest c.row.it) _ c.row.n c.row.last _ c.in-Some.c c.row.underscore c.row.invariant (first_of (goal.at.returns-then-wide-ge4294967296-clause-err c).In-Some) (ap length c.as_str-left.ensures) (sym c.is_hex.ensures ∙ c.if-is_hex.true) (let e = c.hex_digit.ensures.value in omega arith))
+    (row_too_big c.args.flags c.args.first _ (chars_rest c.row.it) _ c.row.n c.row.last _ c.in-Some.c c.row.underscore c.row.invariant (first_of (goal.at.returns-then-wide-ge4294967296-clause-err c).In-Some) (ap length c.as_str-left.ensures) (sym c.is_hex.ensures ∙ c.if-is_hex.true) (let e = c.hex_digit.ensures.value in omega arith))
 
 stopped : (c : After-ended) → Reading c.args.flags (92 ∷ 117 ∷ 123 ∷ c.args.first ∷ []) (chars_rest c.args.it.now) (chars_rest c.next.new.self) c.ended.result
 stopped c =
     row_stops c.args.flags c.args.first (chars_rest c.args.it.now) (chars_rest c.row.it) (chars_rest c.next.new.self) c.row.n c.row.last _ c.in-Some.c c.row.underscore c.row_fault-else-is_hex.result c.ended.result c.row.invariant
-      (took (chars_rest c.row.it) (chars_rest c.next.new.self) c.in-Some.c (let u = c.row.invariant in u.utf8) c.in-Some.ensures.steps.0) (ap length c.as_str-left.ensures) (sym c.is_hex.ensures ∙ c.if-is_hex.false) c.if-c-eq95.false c.row_fault-else-is_hex.ensures c.ended.ensures
+    (took (chars_rest c.row.it) (chars_rest c.next.new.self) c.in-Some.c (let u = c.row.invariant in u.utf8) c.in-Some.ensures.steps.0) (ap length c.as_str-left.ensures) (sym c.is_hex.ensures ∙ c.if-is_hex.false) c.if-c-eq95.false c.row_fault-else-is_hex.ensures c.ended.ensures
 
 pub returns-else-is_hex-clause-ok : goal.returns-else-is_hex-clause-ok
 returns-else-is_hex-clause-ok c = (stopped c).0
@@ -48,8 +48,8 @@ returns-else-is_hex-clause-err c = (stopped c).1
 pub row-preserved-else-flags : goal.row-preserved-else-flags
 row-preserved-else-flags c =
     row_underscore c.args.flags c.args.first _ (chars_rest c.row.it) _ c.row.n c.row.last _ c.row.underscore c.row.invariant
-      (λ s. elim c.else-flags.branch [ else-flags-via-then-flags+else-underscore w ↦ w.if-underscore.false | else-flags-via-else-flags w ↦ absurd (both_ways c.args.flags.strict w.if-flags.false s) ])
-      (was 95 (goal.at.row-preserved-else-flags c).In-Some c.if-c-eq95.true) (ap length c.as_str-left.ensures)
+    (λ s. elim c.else-flags.branch [ else-flags-via-then-flags+else-underscore w ↦ w.if-underscore.false | else-flags-via-else-flags w ↦ absurd (both_ways c.args.flags.strict w.if-flags.false s) ])
+    (was 95 (goal.at.row-preserved-else-flags c).In-Some c.if-c-eq95.true) (ap length c.as_str-left.ensures)
 
 pub row-preserved : goal.row-preserved
 row-preserved c =

@@ -37,17 +37,17 @@ escape-requires c = let t = first (goal.at.escape-requires c).In-Some in record 
 pub returns-then-is_control-clause-err : goal.returns-then-is_control-clause-err
 returns-then-is_control-clause-err c =
     refused _ _ _ c.refuse-then-is_control.ensures
-      (string_control c.args.flags _ _ _ c.in-Some.c _ c.elements.invariant (first (goal.at.returns-then-is_control-clause-err c).In-Some) (ap length c.as_str-left.ensures) (sym c.is_control.ensures ∙ c.if-is_control.true))
+    (string_control c.args.flags _ _ _ c.in-Some.c _ c.elements.invariant (first (goal.at.returns-then-is_control-clause-err c).In-Some) (ap length c.as_str-left.ensures) (sym c.is_control.ensures ∙ c.if-is_control.true))
 
 pub returns-then-is_confusing-clause-err : goal.returns-then-is_confusing-clause-err
 returns-then-is_confusing-clause-err c =
     refused _ _ _ c.refuse-then-is_confusing.ensures
-      (string_confusing c.args.flags _ _ _ c.in-Some.c _ c.elements.invariant (first (goal.at.returns-then-is_confusing-clause-err c).In-Some) (ap length c.as_str-left.ensures) (denied _ c.if-not-flags.true) (sym c.is_confusing.ensures ∙ c.if-is_confusing.true))
+    (string_confusing c.args.flags _ _ _ c.in-Some.c _ c.elements.invariant (first (goal.at.returns-then-is_confusing-clause-err c).In-Some) (ap length c.as_str-left.ensures) (denied _ c.if-not-flags.true) (sym c.is_confusing.ensures ∙ c.if-is_confusing.true))
 
 pub elements-preserved : goal.elements-preserved
 elements-preserved c =
     continue_raw c.args.flags _ _ _ c.in-Some.c c.elements.invariant (first (goal.at.elements-preserved c).In-Some) c.if-c-eq34.false c.if-c-eq92.false (sym c.is_control.ensures ∙ c.if-is_control.false)
-      (λ a. elim c.else-not-flags.branch [ else-not-flags-via-then-not-flags+else-is_confusing w ↦ sym w.is_confusing.ensures ∙ w.if-is_confusing.false | else-not-flags-via-else-not-flags w ↦ absurd (both_ways c.args.flags.allow a (allowed _ w.if-not-flags.false)) ])
+    (λ a. elim c.else-not-flags.branch [ else-not-flags-via-then-not-flags+else-is_confusing w ↦ sym w.is_confusing.ensures ∙ w.if-is_confusing.false | else-not-flags-via-else-not-flags w ↦ absurd (both_ways c.args.flags.allow a (allowed _ w.if-not-flags.false)) ])
 
 pub returns-in-Err-clause-err : goal.returns-in-Err-clause-err
 returns-in-Err-clause-err c = string_escape c.args.flags _ (chars_rest c.elements.it) (chars_rest c.next.new.self) _ c.elements.invariant (was 92 (goal.at.returns-in-Err-clause-err c).In-Some c.if-c-eq92.true) c.in-Err.ensures.err

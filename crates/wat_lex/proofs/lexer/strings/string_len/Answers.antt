@@ -10,7 +10,7 @@ overflow_sub-result-in-Err c = string_broken c.args.flags c.args.text.now c.in-E
 pub returns-in-Ok-clause-ok : goal.returns-in-Ok-clause-ok
 returns-in-Ok-clause-ok c =
     subst (λ x. StringTaken c.args.flags c.args.text.now (length c.args.text.now - length x)) (sym c.as_str.ensures)
-      (string_taken c.args.flags c.args.text.now (chars_rest c.string.new.it) c.utf8.text (subst (λ x. Closed c.args.flags x (chars_rest c.string.new.it)) c.chars-it.ensures.rest c.in-Ok.ensures.ok))
+    (string_taken c.args.flags c.args.text.now (chars_rest c.string.new.it) c.utf8.text (subst (λ x. Closed c.args.flags x (chars_rest c.string.new.it)) c.chars-it.ensures.rest c.in-Ok.ensures.ok))
 
 pub returns-in-Err-clause-err : goal.returns-in-Err-clause-err
 returns-in-Err-clause-err c = string_refused c.args.flags c.args.text.now c.in-Err.fault c.utf8.text (subst (λ x. Wrong c.args.flags x c.in-Err.fault) c.chars-it.ensures.rest c.in-Err.ensures.err)
