@@ -65,7 +65,7 @@ is_idchar c = is_ascii_alphanumeric c || char_set_contains (codes "!#$%&'*+-./:<
 abbrev pub is_hex : ℕ → Bool
 is_hex c = is_ascii_hexdigit c
 
--- the reserved characters of one byte, apart from `;`
+-- the characters that are a reserved token of their own, apart from `;`
 abbrev pub is_mark : ℕ → Bool
 is_mark c = char_set_contains (codes ",[]{}") c
 
@@ -73,7 +73,7 @@ is_mark c = char_set_contains (codes ",[]{}") c
 abbrev pub is_run_char : ℕ → Bool
 is_run_char c = is_idchar c || c == quote
 
--- The characters that change the direction in which text is shown: U+202A, U+202B, U+202D, U+202E, U+2066 to U+2069,
+-- The nine characters that can make a text look other than it is: U+202A, U+202B, U+202D, U+202E, U+2066 to U+2069,
 -- U+206C. The standard allows them; a lexer refuses them in comments and strings unless told otherwise.
 abbrev pub is_confusing : ℕ → Bool
 is_confusing c = char_set_contains (0x202A ∷ 0x202B ∷ 0x202D ∷ 0x202E ∷ 0x2066 ∷ 0x2067 ∷ 0x2068 ∷ 0x2069 ∷ 0x206C ∷ []) c

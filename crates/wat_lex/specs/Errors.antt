@@ -1,4 +1,4 @@
--- An error, as its callers see it: what it reports, or want of memory.
+-- An error, as its callers see it: what it reports, or want of memory. No part of the standard.
 use Rattle.std.specs.Prelude.{◌≡◌, ℕ, List, Option, Some, None, codes, ◌++◌}
 use Rattle.std.specs.Fmt.{decimal}
 use Rattle.wat_lex.specs.Messages.{message}

@@ -1,4 +1,4 @@
--- The messages of the lexer's errors, in bytes.
+-- The messages of the lexer's errors, in bytes. They are the lexer's own: the standard has none.
 use Rattle.std.specs.Prelude.{◌==◌, ◌&&◌, nat_le, false, ℕ, List, [], ◌∷◌, ◌++◌, codes, if◌then◌else◌}
 use Rattle.std.specs.Fmt.{digits}
 use Rattle.wat_lex.specs.Classes.{line_feed, carriage_return, backslash}
@@ -13,7 +13,8 @@ lower_hex n = digits 16 false n
 abbrev pub unicode_escape : ℕ → List ℕ
 unicode_escape c = codes "\\u{" ++ lower_hex c ++ codes "}"
 
--- a character as a message shows it: TAB, CR, LF, `\` and `'` by their escapes, others from 0x20 to 0x7E as themselves
+-- a character as a message shows it: TAB, CR, LF, `\` and `'` by their escapes, others from 0x20 to 0x7E as themselves,
+-- and any other as `\u{..}`
 abbrev pub shown_char : ℕ → List ℕ
 shown_char c =
     if c == 9 then codes "\\t"

@@ -1,5 +1,5 @@
--- WebAssembly specification, text format, values: integers and floating-point. The bare languages of number words, what
--- is left of a text behind a front that is in them, and the kind of a number word, whose fields are facts of the word.
+-- WebAssembly specification, text format, values: integers and floating-point. The bare languages of number words. Those
+-- that name two lists say "the text begins so, and then comes the rest". The fields of a number's kind are facts of its word.
 use Rattle.std.specs.Prelude.{◌≡◌, ℕ, Bool, true, false, ◌||◌, ◌==◌, if◌then◌else◌, List, [], ◌∷◌, ◌++◌, IsTrue, Option, Some, None, codes}
 use Rattle.std.specs.Char.{is_ascii_digit, is_ascii_hexdigit, char_set_contains}
 use Rattle.std.specs.List.{list_any}

@@ -1,4 +1,5 @@
--- The raw tokens from a place as one list of items: each a token or, last, the error of the one fault.
+-- WebAssembly specification, text format, lexical format. The raw tokens from a place as one list of items: each a token
+-- or, last, the error of the one fault.
 use Rattle.std.specs.Prelude.{◌≡◌, ◌+◌, ◌-◌, ◌⊎◌, ℕ, Bool, true, false, length, List, [], ◌∷◌, Option, Some, None, MatchOption, Result, Ok, Err, MatchResult, if◌then◌else◌}
 use Rattle.wat_lex.specs.Errors.{Report, lexical, IsUnlessMemory}
 use Rattle.wat_lex.specs.Faults.{FaultAt}

@@ -1,5 +1,6 @@
 -- WebAssembly specification, text format. Lexical format: tokens (keyword, reserved) and annotations. Values: identifiers.
--- A run is a joined list of idchars and strings; its kind is the first that fits.
+-- A run is a joined list of idchars and strings; its kind is the first that fits. Other than in the standard, `$` and `@`
+-- alone are an identifier and an annotation, whose missing name is a fault when it is read.
 use Rattle.std.specs.Prelude.{◌≡◌, ◌≢◌, ℕ, ◌==◌, ◌⊎◌, List, [], ◌∷◌, IsTrue, Option, Some, None, if◌then◌else◌, nat_le, ◌&&◌}
 use Rattle.std.specs.Option.{option_map, MatchOption}
 use Rattle.wat_lex.specs.Classes.{quote, dollar, at_sign, is_idchar}

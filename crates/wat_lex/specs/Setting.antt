@@ -1,4 +1,4 @@
--- What a lexer reads: a text and the two flags.
+-- What a lexer reads: a text and the two flags. No part of the standard, which has no flags.
 use Rattle.std.specs.Prelude.{ℕ, List, Bool, true, false}
 use Rattle.wat_lex.specs.declared.lexer.settings.Settings.{Settings}
 

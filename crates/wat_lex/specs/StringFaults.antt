@@ -12,7 +12,7 @@ use Rattle.wat_lex.specs.declared.lexer.faults.LexError.TheVariants.{InvalidStri
 pub data NumberFault : Settings → ℕ → List ℕ → LexError → List ℕ → Type 0 where
   -- with the digit e the number passes 2^32-1
   too_big : {flags : Settings} {d e : ℕ} {s t : List ℕ} (ds : List ℕ) → s ≡ ds ++ e ∷ t → HexRow flags d ds → IsTrue (is_hex e) → 2 ^ 32 ≤ hex_value (d ∷ ds ++ e ∷ []) → NumberFault flags d s NumberTooBig (e ∷ t)
-  -- an underscore directly after another
+  -- with strict underscores, an underscore directly after another
   doubled : {flags : Settings} {d : ℕ} {s t : List ℕ} (ds : List ℕ) → s ≡ ds ++ underscore ∷ t → HexRow flags d ds → flags.strict ≡ true → EndsInUnderscore ds → NumberFault flags d s LoneUnderscore (underscore ∷ t)
   -- the digits and underscores end in an underscore
   lone : {flags : Settings} {d : ℕ} {s t : List ℕ} (ds : List ℕ) → s ≡ ds ++ underscore ∷ t → HexRow flags d ds → (Begins is_hex_or_underscore t → ⊥) → NumberFault flags d s LoneUnderscore (underscore ∷ t)

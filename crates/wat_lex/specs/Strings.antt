@@ -1,5 +1,6 @@
 -- WebAssembly specification, text format, values: strings. A string is a quote, elements and a quote; its value is the
--- joined bytes of its elements.
+-- joined bytes of its elements. With strict underscores the number of an escape is the standard's; without them doubled
+-- underscores in it are taken too.
 use Rattle.std.specs.Prelude.{◌≡◌, ◌≢◌, ◌<◌, ◌+◌, ◌*◌, ◌^◌, ℕ, Bool, true, not, ◌&&◌, ◌||◌, ◌==◌, nat_lt, List, [], ◌∷◌, ◌++◌, IsTrue, Option, Some, None, if◌then◌else◌, encode_utf8}
 use Rattle.std.specs.Char.{IsScalar, digit_value}
 use Rattle.std.specs.Str.Parse.{digits_value}

@@ -1,5 +1,6 @@
 -- WebAssembly specification, text format, lexical format: tokens, white space, comments, annotations. The language of
--- each kind of token, and what may follow a word of it.
+-- each kind of token, and what may follow a word of it. Other than in the standard, each of `,` `;` `[` `]` `{` `}` is a
+-- reserved token of its own, which joins no run.
 use Rattle.std.specs.Prelude.{◌≡◌, ◌≢◌, ℕ, ◌||◌, ◌==◌, ◌⊎◌, List, [], ◌∷◌, ◌++◌, IsTrue}
 use Rattle.wat_lex.specs.Classes.{open_paren, close_paren, semicolon, is_blank, is_line_end, is_mark, is_run_char, Each, Begins, IsClear}
 use Rattle.wat_lex.specs.Comments.{BlockComment as Commented, LineComment as CommentedLine}

@@ -1,6 +1,6 @@
 //! The lexer of the WebAssembly text format.
 ghost use Rattle.std.specs.Prelude.{◌≡◌, ◌<◌, ◌^◌, ◌+◌, ℕ, Bool, true, false, List, length, IfOk, IfErr, IfSome, IfNone, OnErr};
-ghost use Rattle.std.specs.Str.{IsCharBoundary};
+ghost use Rattle.std.specs.Str.{IsCharBoundary, IsUtf8};
 ghost use Rattle.wat_lex.specs.Faults.{FaultAt};
 ghost use Rattle.wat_lex.specs.Raw.{ErrorAt};
 ghost use Rattle.wat_lex.specs.Tiling.{TokenAt};
@@ -64,12 +64,13 @@ impl<'a> Lexer<'a> {
     /// The text.
     pub fn input(&self) -> &'a str
         ensures text { result.now ≡ self.now.text }
+        ensures utf8 { IsUtf8 self.now.text }
         ensures short { length self.now.text < 2 ^ 32 }
     {
         self.input
     }
 
-    /// Sets whether characters that change the direction in which text is shown may stand in comments and strings.
+    /// Sets whether the nine characters that can make a text look other than it is may stand in comments and strings.
     pub fn allow_confusing_unicode(&mut self, allow: bool) -> &mut Self
         ensures same { result.ghost_name ≡ self.entry.ghost_name }
         ensures setting { result.now ≡ record self.old { flags = record self.old.flags { allow = allow } } }
@@ -138,12 +139,8 @@ impl<'a> Lexer<'a> {
     fn error(&self, alloc: Global, fault: LexFault) -> Error
         ensures { IsUnlessMemory result (lexical fault) }
     {
-        Error::lex(
-            alloc,
-            Span::from_offset(fault.offset),
-            self.input(),
-            fault.error,
-        )
+        let span = Span::from_offset(fault.offset);
+        Error::lex(alloc, span, self.input(), fault.error)
     }
 
     ghost use Rattle.std.specs.Iterator.{Drains};

@@ -3,7 +3,6 @@ use Rattle.std.proofs.Common.{◌≡◌, ◌≤◌, ◌<◌, ◌^◌, ℕ, List,
 use Rattle.std.specs.Prelude.{Some, None, Option}
 use Rattle.std.specs.Io.KnownBytes.{Consumes, Appends, Keeps, IsAtEnd}
 use Rattle.std.proofs.lemmas.List.{append-nil}
-use Rattle.wat_tokens.specs.Runs.{IsLong}
 
 pub consumes_none : (a : Option (List ℕ)) (bs : List ℕ) → bs ≡ [] → Consumes a a bs
 consumes_none None bs e = tt
@@ -14,11 +13,6 @@ consumes_more None b c xs ys zs h g e = tt
 consumes_more (Some x) None c xs ys zs h g e = absurd h
 consumes_more (Some x) (Some y) None xs ys zs h g e = absurd g
 consumes_more (Some x) (Some y) (Some z) xs ys zs h g e = h ∙ ap (λ v. xs ++ v) g ∙ sym (append_assoc xs ys z) ∙ ap (λ v. v ++ z) (sym e)
-
-pub consumes_long : (a b : Option (List ℕ)) (xs : List ℕ) → Consumes a b xs → 2 ^ 32 ≤ length xs → IsLong a
-consumes_long None b xs h l = tt
-consumes_long (Some x) None xs h l = absurd h
-consumes_long (Some x) (Some y) xs h l = omega (arith, ap length h, length-append xs y)
 
 -- where the end is reached, what was read is all that was left
 pub consumes_all : (x : List ℕ) (b : Option (List ℕ)) (xs : List ℕ) → Consumes (Some x) b xs → IsAtEnd b → xs ≡ x

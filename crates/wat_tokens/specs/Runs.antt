@@ -1,8 +1,7 @@
 -- What reading a source to its end gives.
-use Rattle.std.specs.Prelude.{◌≡◌, ◌<◌, ◌≤◌, ◌^◌, ◌⊎◌, ℕ, Bool, true, List, length, Option, IfSome, Result, Ok, Err}
+use Rattle.std.specs.Prelude.{◌≡◌, ◌<◌, ◌^◌, ℕ, List, length, Option}
 use Rattle.std.specs.Io.KnownBytes.{Consumes, IsAtEnd}
-use Rattle.wat_tokens.specs.declared.run.RunError.{RunError}
-use Rattle.wat_tokens.specs.declared.run.RunError.TheVariants.{Read, TooLong, Memory}
+use Rattle.std.specs.Str.{IsUtf8}
 
 -- all that the source had left was read, and it is short enough for a text
 pub record Whole (old new : Option (List ℕ)) (bytes : List ℕ) : Type 0 where
@@ -10,6 +9,14 @@ pub record Whole (old new : Option (List ℕ)) (bytes : List ℕ) : Type 0 where
   pub ended : IsAtEnd new
   pub short : length bytes < 2 ^ 32
 
--- more was left than a text may have
-abbrev pub IsLong : Option (List ℕ) → Type 0
-IsLong left = IfSome left (λ bytes. 2 ^ 32 ≤ length bytes)
+-- one byte more was read than a text may have
+pub record ReadsPast (old new : Option (List ℕ)) : Type 0 where
+  pub bytes : List ℕ
+  pub given : Consumes old new bytes
+  pub long : length bytes ≡ 2 ^ 32
+
+-- all that the source had left was read, and it is short enough for a text, and is none
+pub record IsNoText (old new : Option (List ℕ)) : Type 0 where
+  pub bytes : List ℕ
+  pub whole : Whole old new bytes
+  pub other : ¬ IsUtf8 bytes

@@ -1,9 +1,8 @@
 //! From a source of bytes to the lines on a sink.
 ghost use Rattle.std.specs.Prelude.{◌≡◌, ◌⊎◌, ◌↔◌, ℕ, Bool, true, false, List, length, IfOk, OnOk, IfErr, IfSome, IsErrOf};
 ghost use Rattle.std.specs.Io.KnownBytes.{Appends, IsAtEnd};
-ghost use Rattle.std.specs.Str.{IsUtf8};
 ghost use Rattle.wat_tokens.specs.Lists.{Lists};
-ghost use Rattle.wat_tokens.specs.Runs.{Whole, IsLong};
+ghost use Rattle.wat_tokens.specs.Runs.{Whole, ReadsPast, IsNoText};
 
 use crate::ends::{Sink, Source};
 use crate::list::list;
@@ -49,7 +48,7 @@ const PIECE: usize = 65_536;
 fn read_whole<R: Source>(alloc: Global, input: &mut R) -> Result<Vec<u8>, RunError>
     requires { R.has_failed input.old ≡ false }
     ensures whole { IfOk result (λ bytes. Whole (R.left input.old) (R.left input.new) bytes.items) }
-    ensures too_long { IsErrOf result RunError.TooLong → IsLong (R.left input.old) }
+    ensures too_long { IsErrOf result RunError.TooLong → ReadsPast (R.left input.old) (R.left input.new) }
     ensures read { IsErrOf result RunError.Read ↔ (R.has_failed input.new ≡ true) }
     ensures refused { IfErr result (λ e. (e ≡ RunError.Read) ⊎ ((e ≡ RunError.TooLong) ⊎ (e ≡ RunError.Memory))) }
 {
@@ -85,11 +84,14 @@ pub fn run_list<R: Source, W: Sink>(
         (text : List ℕ) × Lists settings bytes text error × Appends (W.held output.old) (W.held output.new) text)) }
     ensures ended { OnOk result (IsAtEnd (R.left input.new)) }
 
-    // When each refusal comes, and that only a failed write may have written.
-    ensures too_long { IsErrOf result RunError.TooLong → IsLong (R.left input.old) }
-    ensures not_utf8 { IsErrOf result RunError.NotUtf8 → IfSome (R.left input.old) (λ bytes. ¬ IsUtf8 bytes) }
+    // When each refusal comes; that of memory comes only where a request for memory was refused.
+    ensures too_long { IsErrOf result RunError.TooLong → ReadsPast (R.left input.old) (R.left input.new) }
+    ensures not_utf8 { IsErrOf result RunError.NotUtf8 → IsNoText (R.left input.old) (R.left input.new) }
     ensures read { IsErrOf result RunError.Read ↔ (R.has_failed input.new ≡ true) }
     ensures write { IsErrOf result RunError.Write ↔ (W.has_failed output.new ≡ true) }
+    ensures written_last { IsErrOf result RunError.Write → IsAtEnd (R.left input.new) }
+
+    // Only a failed write may have written something.
     ensures unwritten { IfErr result (λ e. (e ≡ RunError.Write) ⊎ (output.new ≡ output.old)) }
 {
     let bytes = read_whole(alloc, input)?;

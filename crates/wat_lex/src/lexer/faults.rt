@@ -30,9 +30,9 @@ pub enum LexError {
     NumberTooBig,
     /// A number that is no Unicode scalar value.
     InvalidUnicodeValue(u32),
-    /// An underscore with no digit behind it.
+    /// An underscore with no digit behind it or, where underscores are strict, one directly after another.
     LoneUnderscore,
-    /// A character that changes the direction in which text is shown.
+    /// One of the nine characters that can make a text look other than it is.
     ConfusingUnicode(char),
     /// A quoted name that is not UTF-8.
     InvalidUtf8Id,
