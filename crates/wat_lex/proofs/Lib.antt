@@ -16,3 +16,5 @@ mod NumberKinds
 mod NumberSteps
 mod Scans
 mod Raws
+mod Looser
+mod TokensOf

@@ -9,6 +9,7 @@ pub mod Runs
 pub mod Words
 pub mod Faults
 pub mod Tiling
+pub mod Readers
 pub mod Raw
 pub mod Reads
 pub mod Results

@@ -16,6 +16,7 @@ mod faults;
 mod front;
 mod kinds;
 mod numbers;
+mod readers;
 mod runs;
 mod settings;
 mod strings;

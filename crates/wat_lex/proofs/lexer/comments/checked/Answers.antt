@@ -1,13 +1,10 @@
-use Rattle.std.proofs.Common.{sym, subst, ◌≡◌, ℕ, List, take, ◌-◌, arith, ◌∙◌, ap}
-use Rattle.std.specs.Prelude.{slice_range}
+use Rattle.std.proofs.Common.{subst}
 use Rattle.std.specs.Str.{chars, NonePass}
 use Rattle.wat_lex.specs.Classes.{is_confusing}
 use Rattle.wat_lex.specs.Results.{FirstConfusing}
+use Rattle.wat_lex.proofs.TokensOf.{front_is}
 use Rattle.wat_lex.proofs.Checks.{boundary_at, found_allowed, found_clear, found_confusing}
 use Rattle.wat_lex.proofs.lexer.comments.checked.Goals as goal
-
-cut_is : (text : List ℕ) (n : ℕ) (r : List ℕ) → r ≡ slice_range text 0 n → r ≡ take n text
-cut_is text n r e = let k : n - 0 ≡ n = omega arith in e ∙ ap (λ x. take x text) k
 
 pub range-requires-clause-end_boundary : goal.range-requires-clause-end_boundary
 range-requires-clause-end_boundary c = boundary_at _ _ _ c.utf8.text c.requires.found
@@ -16,7 +13,7 @@ pub returns-then-flags : goal.returns-then-flags
 returns-then-flags c = found_allowed _ _ _ c.if-flags.true c.requires.found
 
 pub returns-in-None : goal.returns-in-None
-returns-in-None c = found_clear _ _ _ c.utf8.text c.requires.comment c.requires.found (subst (λ x. NonePass is_confusing (chars x)) (cut_is c.args.text.now c.args.comment.len c.range.result.now c.range.ensures.value) c.in-None.ensures)
+returns-in-None c = found_clear _ _ _ c.utf8.text c.requires.comment c.requires.found (subst (λ x. NonePass is_confusing (chars x)) (front_is c.args.text.now c.args.comment.len c.range.result.now c.range.ensures.value) c.in-None.ensures)
 
 pub returns-in-Some : goal.returns-in-Some
-returns-in-Some c = found_confusing _ _ _ _ _ c.if-flags.false c.utf8.text c.requires.comment c.requires.found (subst (λ x. FirstConfusing x c.in-Some.offset c.in-Some.c) (cut_is c.args.text.now c.args.comment.len c.range.result.now c.range.ensures.value) c.in-Some.ensures)
+returns-in-Some c = found_confusing _ _ _ _ _ c.if-flags.false c.utf8.text c.requires.comment c.requires.found (subst (λ x. FirstConfusing x c.in-Some.offset c.in-Some.c) (front_is c.args.text.now c.args.comment.len c.range.result.now c.range.ensures.value) c.in-Some.ensures)
