@@ -18,3 +18,4 @@ mod Scans
 mod Raws
 mod Looser
 mod TokensOf
+mod Laws

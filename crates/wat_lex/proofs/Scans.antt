@@ -36,7 +36,7 @@ fault_at s part p f l k h = let g = subst (λ x. Refused s.flags x f) k h in rec
 pub part_ends : (s : Setting) (part : List ℕ) (p : ℕ) (lexeme : Lexeme) → p ≤ length s.text → part ≡ drop p s.text → IsUtf8 part → Found s.flags part lexeme → IsCharBoundary s.text (p + lexeme.len)
 part_ends s part p lexeme l e u h = IsCharBoundary-from_rest s.text p lexeme.len l (subst (λ x. IsCharBoundary x lexeme.len) e (boundary_at s.flags part lexeme u h))
 
-some_size : (w : List ℕ) → w ≢ [] → 0 < size w
+pub some_size : (w : List ℕ) → w ≢ [] → 0 < size w
 some_size [] h = absurd (h refl)
 some_size (c ∷ w) h = omega (arith, length-append (encode c) (encodes w), length-encode c, (len_utf8_bounds c).0)
 
@@ -54,7 +54,7 @@ line_some w (begun k) e = cc
 block_some : (w r : List ℕ) → Commented w r → w ≢ []
 block_some w r (opened k) e = cc
 
-word_some : (kind : TokenKind) (w : List ℕ) (flags : Settings) → Word kind w flags → w ≢ []
+pub word_some : (kind : TokenKind) (w : List ℕ) (flags : Settings) → Word kind w flags → w ≢ []
 word_some Whitespace w flags h = h.0
 word_some LineComment w flags h = line_some w h.0
 word_some BlockComment w flags h = block_some w [] h.0

@@ -11,6 +11,7 @@ pub mod Faults
 pub mod Tiling
 pub mod Readers
 pub mod Raw
+pub mod Laws
 pub mod Reads
 pub mod Results
 pub mod RunReads

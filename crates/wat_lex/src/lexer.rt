@@ -3,6 +3,7 @@ ghost use Rattle.std.specs.Prelude.{◌≡◌, ◌<◌, ◌^◌, ◌+◌, ℕ, B
 ghost use Rattle.std.specs.Str.{IsCharBoundary, IsUtf8};
 ghost use Rattle.wat_lex.specs.Faults.{FaultAt};
 ghost use Rattle.wat_lex.specs.Raw.{ErrorAt};
+ghost use Rattle.wat_lex.specs.Readers.{IsTokenOf};
 ghost use Rattle.wat_lex.specs.Tiling.{TokenAt};
 
 use crate::error::Error;
@@ -96,7 +97,8 @@ impl<'a> Lexer<'a> {
         ensures end { IfOk result (λ found. IfNone found (pos ≡ length self.now.text)) }
         ensures fault { IfErr result (FaultAt self.now pos) }
 
-        // What follows a token is nearer the text's end, and may be scanned in turn.
+        // The token may be read. What follows it is nearer the text's end, and may be scanned in turn.
+        ensures reader { IfOk result (λ found. IfSome found (IsTokenOf self.now.text)) }
         ensures some { IfOk result (λ found. IfSome found (λ t. 0 < t.len)) }
         ensures boundary { IfOk result (λ found. IfSome found (λ t. IsCharBoundary self.now.text (pos + t.len))) }
         ensures short { IfOk result (λ found. IfSome found (λ t. t.offset + t.len < 2 ^ 32)) }
@@ -121,6 +123,7 @@ impl<'a> Lexer<'a> {
         ensures token { IfOk result (λ found. IfSome found (λ t. TokenAt self.now pos.old t × (pos.new ≡ t.offset + t.len))) }
         ensures end { IfOk result (λ found. IfNone found ((pos.old ≡ length self.now.text) × (pos.new ≡ pos.old))) }
         ensures fault { IfErr result (ErrorAt self.now pos.old) }
+        ensures reader { IfOk result (λ found. IfSome found (IsTokenOf self.now.text)) }
         ensures progress { IfOk result (λ found. IfSome found (λ t. pos.old < pos.new)) }
         ensures kept { OnErr result (pos.new ≡ pos.old) }
         ensures boundary { IsCharBoundary self.now.text pos.new }
@@ -146,6 +149,7 @@ impl<'a> Lexer<'a> {
 
     ghost use Rattle.std.specs.Iterator.{Drains};
     ghost use Rattle.std.specs.Iterator.Runs.{EachRunFrom};
+    ghost use Rattle.wat_lex.specs.Laws.{Laws};
     ghost use Rattle.wat_lex.specs.Raw.{Item, Raw, token_steps};
 
     /// The tokens from a byte of the text on, up to its end or its first fault.
@@ -153,8 +157,11 @@ impl<'a> Lexer<'a> {
         requires { IsCharBoundary self.now.text pos }
         ensures start { result ≡ record { setting = self.now; at = pos; done = false } }
         ensures raw { (items : List Item) → Drains token_steps result items → Raw self.now pos items }
+        ensures laws { (items : List Item) → Drains token_steps result items → Laws self.now pos items }
         ensures runs { EachRunFrom token_steps result (λ p. p.whole ≡ true → Raw self.now pos p.items) }
     {
+        // The proof of the laws takes from here that the text is UTF-8.
+        let _ = self.input();
         Tokens {
             lexer: self,
             alloc,

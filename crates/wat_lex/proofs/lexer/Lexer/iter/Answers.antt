@@ -1,4 +1,5 @@
 use Rattle.std.proofs.Common.{refl}
+use Rattle.wat_lex.proofs.Laws.{laws_of}
 use Rattle.wat_lex.proofs.Raws.{tiled, tiled_run}
 use Rattle.wat_lex.proofs.lexer.Lexer.iter.Goals as goal
 
@@ -7,3 +8,6 @@ returns-clause-raw c = λ items h. tiled _ items refl h
 
 pub returns-clause-runs : goal.returns-clause-runs
 returns-clause-runs c = λ p _ e w. tiled_run _ refl p e w
+
+pub returns-clause-laws : goal.returns-clause-laws
+returns-clause-laws c = λ items h. laws_of _ _ items c.input.ensures.utf8 c.requires (tiled _ items refl h)

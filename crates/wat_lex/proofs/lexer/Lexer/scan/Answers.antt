@@ -1,8 +1,10 @@
-use Rattle.std.proofs.Common.{◌≤◌, ◌+◌, length, arith, ap, subst}
+use Rattle.std.proofs.Common.{◌≤◌, ◌+◌, length, arith, ap, subst, sym}
 use Rattle.std.specs.Str.{IsCharBoundary}
 use Rattle.wat_lex.specs.Setting.{Setting}
 use Rattle.wat_lex.specs.Results.{Found}
-use Rattle.wat_lex.proofs.Scans.{found_fits, found_some, part_ends}
+use Rattle.wat_lex.specs.Readers.{IsTokenOf}
+use Rattle.wat_lex.proofs.TokensOf.{token_of}
+use Rattle.wat_lex.proofs.Scans.{token_at, found_fits, found_some, part_ends}
 use Rattle.wat_lex.proofs.lexer.Lexer.scan.Goals as goal
 use Rattle.wat_lex.proofs.lexer.Lexer.scan.Goals.{In-Ok-Some}
 
@@ -27,3 +29,10 @@ returns-in-Ok-Some-clause-boundary c =
 
 pub returns-in-Ok-Some-clause-short : goal.returns-in-Ok-Some-clause-short
 returns-in-Ok-Some-clause-short c = omega (arith, fits (goal.at.returns-in-Ok-Some-clause-short c).In-Ok-Some, c.range_from.ensures.len, c.self.invariant, c.requires.0)
+
+pub returns-in-Ok-Some-clause-reader : goal.returns-in-Ok-Some-clause-reader
+returns-in-Ok-Some-clause-reader c =
+    let inside : Setting = record { text = c.self.inside.input.now; flags = c.self.inside.settings } in
+    let at = token_at inside c.range_from.result.now c.args.pos c.in-Ok-Some.lexeme c.range_from.ensures.value (found (goal.at.returns-in-Ok-Some-clause-reader c).In-Ok-Some) in
+    subst (λ (s : Setting). IsTokenOf s.text (record { kind = c.in-Ok-Some.lexeme.kind; offset = c.args.pos; len = c.in-Ok-Some.lexeme.len })) c.self.view_is
+    (token_of inside c.args.pos (record { kind = c.in-Ok-Some.lexeme.kind; offset = c.args.pos; len = c.in-Ok-Some.lexeme.len }) (subst (λ (s : Setting). IsCharBoundary s.text c.args.pos) (sym c.self.view_is) c.requires) at)
