@@ -253,3 +253,50 @@ fn parse_moves_to_the_end_of_a_token(rt: HostRuntime) -> Result<(), Fail> {
     assert_eq!(rt; copy.scan(3), Ok(None));
     Ok(())
 }
+
+/// The first token's kind and its text.
+#[test]
+fn first_tokens(rt: HostRuntime) -> Result<(), Fail> {
+    let rows = [
+        (" ", "Whitespace", " "),
+        ("  ", "Whitespace", "  "),
+        ("  \n ", "Whitespace", "  \n "),
+        ("  x", "Whitespace", "  "),
+        ("  ;", "Whitespace", "  "),
+        (";;", "LineComment", ";;"),
+        (";; xyz", "LineComment", ";; xyz"),
+        (";; xyz\nabc", "LineComment", ";; xyz"),
+        (";;\nabc", "LineComment", ";;"),
+        (";;   \nabc", "LineComment", ";;   "),
+        (";;   \rabc", "LineComment", ";;   "),
+        (";;   \r\nabc", "LineComment", ";;   "),
+        ("(;;)", "BlockComment", "(;;)"),
+        ("(; ;)", "BlockComment", "(; ;)"),
+        ("(; (;;) ;)", "BlockComment", "(; (;;) ;)"),
+        ("((", "LParen", "("),
+        (")(", "RParen", ")"),
+        ("x", "Keyword", "x"),
+        ("xyz", "Keyword", "xyz"),
+        ("x_z", "Keyword", "x_z"),
+        ("x ", "Keyword", "x"),
+        ("xyz ", "Keyword", "xyz"),
+        ("x_z ", "Keyword", "x_z"),
+        ("^_x ", "Reserved", "^_x"),
+    ];
+    for (text, kind, want) in rows {
+        assert!(rt; text.len() < 1_000_000);
+        let lexer = Lexer::new(text);
+        let token = lexer
+            .parse(rt.alloc(), &mut 0)?
+            .ok_or("the text is empty")?;
+        assert_eq!(rt; name(token.kind), kind, "{text}");
+        assert_eq!(rt; token.src(text), want, "{text}");
+        if token.kind == TokenKind::Keyword {
+            assert_eq!(rt; token.keyword(text), want);
+        }
+        if token.kind == TokenKind::Reserved {
+            assert_eq!(rt; token.reserved(text), want);
+        }
+    }
+    Ok(())
+}
