@@ -19,3 +19,4 @@ mod Raws
 mod Looser
 mod TokensOf
 mod Laws
+mod Leb128Laws

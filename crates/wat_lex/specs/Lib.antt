@@ -18,3 +18,8 @@ pub mod RunReads
 pub mod Messages
 pub mod Errors
 pub mod ErrorView
+pub mod Encoding
+pub mod Identifiers
+pub mod IndexLaws
+pub mod Indices
+pub mod Leb128

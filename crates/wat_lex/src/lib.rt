@@ -1,6 +1,9 @@
-//! The lowest layer of a parser of the WebAssembly text formats: spans, the lexer with its raw tokens, and faults.
+//! The lowest layer of a parser of the WebAssembly text formats: the lexer with its raw tokens and their readers, faults,
+//! spans, identifiers, fresh identifiers, and the binary encoding of integers and lists.
 #![tactic(auto)]
 
+pub mod encode;
 pub mod error;
+pub mod gensym;
 pub mod lexer;
 pub mod token;

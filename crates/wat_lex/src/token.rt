@@ -1,10 +1,18 @@
-//! Positions in a text.
-ghost use Rattle.std.specs.Prelude.{◌≡◌};
+//! Tokens that readers of the text format share: places, identifiers and indices.
 
+ghost use Rattle.std.specs.Prelude.{◌≡◌, ◌<◌, ◌↔◌, IsTrue, IfOk};
+ghost use Rattle.std.specs.Cow.{cow_str_bytes};
+ghost use Rattle.wat_lex.specs.Identifiers.{IsSameIdentifier, generated, is_same_identifier};
+ghost use Rattle.wat_lex.specs.Indices.{IsSameIndex, is_same_index, span_of};
+
+use std::alloc::{AllocError, Global};
+use std::borrow::CowStr;
+use std::fmt;
+use std::hash::{Hash, Hasher};
 use std::marker::Model;
 
-/// A position in a text, in bytes from its start.
-#[derive(Clone, Copy, Debug, PartialOrd, Ord, PartialEq, Eq, Hash)]
+/// A place in a text, as an offset in bytes.
+#[derive(Copy, Clone, Debug, PartialOrd, Ord, PartialEq, Eq, Hash)]
 pub struct Span {
     pub(crate) offset: usize,
 }
@@ -20,17 +28,352 @@ impl Model for Span {
 }
 
 impl Span {
-    /// The position at a byte.
-    pub fn from_offset(offset: usize) -> Span
+    /// The place at an offset.
+    pub fn from_offset(offset: usize) -> Self
         ensures { result ≡ offset }
     {
         Span { offset }
     }
 
-    /// The position in bytes.
+    /// The offset of the place.
     pub fn offset(&self) -> usize
         ensures { result ≡ self.now }
     {
         self.offset
+    }
+}
+
+/// An identifier: a name, and where it stands. The name is without the `$` that the text has before it.
+///
+/// What a text spells has generation 0. [`Gensym`](crate::gensym::Gensym) makes identifiers of other generations,
+/// which differ from each of those. Equality and hash look at name and generation alone.
+#[derive(Drop)]
+pub struct Id<'a> {
+    name: CowStr<'a>,
+    generation: u32,
+    span: Span,
+}
+
+impl<'a> Model for Id<'a> {
+    ghost use Rattle.std.specs.Cow.{cow_str_bytes};
+    ghost use Rattle.wat_lex.specs.Identifiers.{Identifier};
+
+    ghost Value = { Identifier };
+
+    ghost view = { λ i. record { name = cow_str_bytes i.name; generation = i.generation; span = i.span } };
+}
+
+impl<'a> Id<'a> {
+    /// The identifier of a name at a place. Any text is a name.
+    pub fn new(name: &'a str, span: Span) -> Id<'a>
+        ensures { result ≡ record { name = name.now; generation = 0; span = span } }
+    {
+        Id::from_cow(CowStr::Borrowed(name), span)
+    }
+
+    /// The same, of a name that may be owned.
+    pub fn from_cow(name: CowStr<'a>, span: Span) -> Id<'a>
+        ensures { result ≡ record { name = cow_str_bytes name.entry; generation = 0; span = span } }
+    {
+        Id {
+            name,
+            generation: 0,
+            span,
+        }
+    }
+
+    /// The identifier of a generation, which a program made.
+    pub(crate) fn gensym(span: Span, generation: u32) -> Id<'a>
+        ensures { result ≡ generated generation span }
+    {
+        Id {
+            name: CowStr::Borrowed("gensym"),
+            generation,
+            span,
+        }
+    }
+
+    /// The name, without `$`.
+    pub fn name(&self) -> &str
+        ensures { result.now ≡ self.now.name }
+    {
+        self.name.as_str()
+    }
+
+    /// Where the identifier stands.
+    pub fn span(&self) -> Span
+        ensures { result ≡ self.now.span }
+    {
+        self.span
+    }
+
+    /// A copy. An owned name is copied too.
+    pub fn clone(&self, alloc: Global) -> Result<Self, AllocError>
+        ensures { IfOk result (λ copy. copy ≡ self.now) }
+    {
+        let name = match &self.name {
+            CowStr::Borrowed(name) => CowStr::Borrowed(*name),
+            CowStr::Owned(name) => CowStr::Owned(String::from_str(alloc, name.as_str())?),
+        };
+        Ok(Id {
+            name,
+            generation: self.generation,
+            span: self.span,
+        })
+    }
+}
+
+impl<'a> PartialEq for Id<'a> {
+    ghost use Rattle.std.specs.Cmp.Rules.{comparing};
+    ghost use Rattle.std.proofs.Common.{rules};
+    ghost use Rattle.wat_lex.specs.Identifiers.{is_same_identifier};
+
+    ghost eq = { is_same_identifier };
+
+    ghost laws = { Prim.search (comparing, rules) };
+
+    fn eq(&self, other: &Id<'a>) -> bool
+        ensures value { result ≡ is_same_identifier self.now other.now }
+        ensures same { IsTrue result ↔ IsSameIdentifier self.now other.now }
+    {
+        self.name() == other.name() && self.generation == other.generation
+    }
+}
+
+impl<'a> Eq for Id<'a> {
+    ghost use Rattle.std.specs.Cmp.Rules.{comparing};
+    ghost use Rattle.std.proofs.Common.{rules};
+
+    ghost laws = { Prim.search (comparing, rules) };
+}
+
+impl<'a> Hash for Id<'a> {
+    ghost use Rattle.std.specs.Prelude.{◌++◌};
+    ghost use Rattle.std.specs.Hash as fed;
+    ghost use Rattle.std.specs.Cmp.Rules.{hashing};
+    ghost use Rattle.std.proofs.Common.{rules};
+
+    ghost hash_input = { λ i. fed.str i.name ++ fed.u32 i.generation };
+
+    ghost respects_eq = { Prim.search (hashing, rules) };
+
+    fn hash<H: Hasher>(&self, state: &mut H) {
+        self.name().hash(state);
+        self.generation.hash(state);
+    }
+}
+
+/// That of the name, or the generation alone where a program made the identifier.
+impl fmt::Debug for Id<'_> {
+    fn fmt<W: fmt::Write>(&self, f: &mut fmt::Formatter<W>) -> fmt::Result {
+        if self.generation == 0 {
+            return self.name.fmt(f);
+        }
+        f.debug_struct("Id")
+            .field("generation", &self.generation)
+            .finish()
+    }
+}
+
+/// A reference to something that the text defines, by its number or by an identifier.
+///
+/// Equality and hash look at the number or the identifier alone, and not at places.
+#[derive(Debug, Drop)]
+pub enum Index<'a> {
+    /// A number, and where it stands.
+    Num(u32, Span),
+    /// An identifier.
+    Id(Id<'a>),
+}
+
+impl<'a> Index<'a> {
+    /// Where the number or the identifier stands.
+    pub fn span(&self) -> Span
+        ensures { result ≡ span_of self.now }
+    {
+        match self {
+            Index::Num(_, span) => *span,
+            Index::Id(id) => id.span(),
+        }
+    }
+
+    /// A copy, as [`Id::clone`] makes one of an identifier.
+    pub fn clone(&self, alloc: Global) -> Result<Self, AllocError>
+        ensures { IfOk result (λ copy. copy ≡ self.now) }
+    {
+        match self {
+            Index::Num(number, span) => Ok(Index::Num(*number, *span)),
+            Index::Id(id) => Ok(Index::Id(id.clone(alloc)?)),
+        }
+    }
+}
+
+impl<'a> PartialEq for Index<'a> {
+    ghost use Rattle.std.specs.Cmp;
+    ghost use Rattle.wat_lex.specs.Indices.{is_same_index};
+    ghost use Rattle.wat_lex.specs.IndexLaws.{is_same_index_laws};
+
+    ghost eq = { is_same_index };
+
+    ghost laws = { Cmp.partial_equiv_from_equiv is_same_index_laws };
+
+    fn eq(&self, other: &Index<'a>) -> bool
+        ensures value { result ≡ is_same_index self.now other.now }
+        ensures same { IsTrue result ↔ IsSameIndex self.now other.now }
+    {
+        match (self, other) {
+            (Index::Num(number, _), Index::Num(other, _)) => number == other,
+            (Index::Id(id), Index::Id(other)) => id == other,
+            _ => false,
+        }
+    }
+}
+
+impl<'a> Eq for Index<'a> {
+    ghost use Rattle.wat_lex.specs.IndexLaws.{is_same_index_laws};
+
+    ghost laws = { is_same_index_laws };
+}
+
+impl<'a> Hash for Index<'a> {
+    ghost use Rattle.wat_lex.specs.Indices.{hash_input_of};
+    ghost use Rattle.wat_lex.specs.IndexLaws.{hash_input_of-same};
+
+    ghost hash_input = { hash_input_of };
+
+    ghost respects_eq = { hash_input_of-same };
+
+    fn hash<H: Hasher>(&self, state: &mut H) {
+        match self {
+            Index::Num(number, _) => {
+                state.write_u8(0);
+                number.hash(state);
+            }
+            Index::Id(id) => {
+                state.write_u8(1);
+                id.hash(state);
+            }
+        }
+    }
+}
+
+impl<'a> From<Id<'a>> for Index<'a> {
+    ghost use Rattle.std.specs.Prelude.{◌≡◌};
+    ghost use Rattle.wat_lex.specs.declared.token.Index.TheVariants as variants;
+
+    ghost from_gives = { λ id index. index ≡ variants.Id id };
+
+    fn from(id: Id<'a>) -> Index<'a> {
+        Index::Id(id)
+    }
+}
+
+#[cfg(test)]
+mod tests {
+    use super::*;
+    use std::hash::DefaultHasher;
+    use std::process::Abort;
+    use std::test::Fail;
+
+    // What crates above know of the order of places.
+    fn is_before(a: Span, b: Span) -> bool
+        ensures { IsTrue result ↔ (a < b) }
+    {
+        a < b
+    }
+
+    fn hash_of<T: Hash>(value: &T) -> u64 {
+        let mut hasher = DefaultHasher::new();
+        value.hash(&mut hasher);
+        hasher.finish()
+    }
+
+    fn are_alike<T: Hash>(a: &T, b: &T) -> bool {
+        a == b && hash_of(a) == hash_of(b)
+    }
+
+    #[test]
+    fn spans_are_their_offsets(rt: HostRuntime) {
+        for (a, b) in [(0, 0), (0, 1), (1, 0), (7, usize::MAX)] {
+            let (first, second) = (Span::from_offset(a), Span::from_offset(b));
+            assert_eq!(rt; first.offset(), a);
+            assert_eq!(rt; is_before(first, second), a < b, "{a} {b}");
+            assert_eq!(rt; first.cmp(&second), a.cmp(&b), "{a} {b}");
+            assert_eq!(rt; are_alike(&first, &second), a == b, "{a} {b}");
+        }
+    }
+
+    #[test]
+    fn identifiers_are_equal_whatever_their_spans(rt: HostRuntime) -> Result<(), Fail> {
+        let alloc = rt.alloc();
+        let (near, far) = (Span::from_offset(0), Span::from_offset(9));
+        let x = Id::new("x", near);
+        assert!(rt; are_alike(&x, &Id::new("x", far)));
+        let owned = CowStr::Owned(String::from_str(alloc, "x")?);
+        assert!(rt; are_alike(&x, &Id::from_cow(owned, far)));
+        assert!(rt; x != Id::new("y", near));
+        assert!(rt; Id::new("gensym", near) != Id::gensym(near, 1));
+        assert!(rt; Id::gensym(near, 1) != Id::gensym(near, 2));
+        assert!(rt; are_alike(&Id::gensym(near, 1), &Id::gensym(far, 1)));
+        Ok(())
+    }
+
+    #[test]
+    fn indices_are_equal_whatever_their_spans(rt: HostRuntime) {
+        let (near, far) = (Span::from_offset(0), Span::from_offset(9));
+        let x = Index::Id(Id::new("x", near));
+        assert!(rt; are_alike(&Index::Num(12, near), &Index::Num(12, far)));
+        assert!(rt; are_alike(&x, &Index::from(Id::new("x", far))));
+        assert!(rt; Index::Num(12, near) != Index::Num(13, near));
+        assert!(rt; x != Index::Id(Id::new("y", near)));
+        assert!(rt; x != Index::Num(0, near));
+    }
+
+    fn is_at(rt: &impl Abort, id: &Id<'_>, name: &str, offset: usize) {
+        assert_eq!(rt; id.name(), name);
+        assert_eq!(rt; id.span().offset(), offset, "{name}");
+    }
+
+    #[test]
+    fn copies_keep_name_and_span(rt: HostRuntime) -> Result<(), Fail> {
+        let alloc = rt.alloc();
+        for name in ["a", "", "\u{6f22}"] {
+            let borrowed = Id::new(name, Span::from_offset(0));
+            is_at(&rt, &borrowed.clone(alloc)?, name, 0);
+            let owned = CowStr::Owned(String::from_str(alloc, name)?);
+            let owned = Id::from_cow(owned, Span::from_offset(4));
+            is_at(&rt, &owned.clone(alloc)?, name, 4);
+        }
+        Ok(())
+    }
+
+    #[test]
+    fn copies_of_indices_keep_number_and_span(rt: HostRuntime) -> Result<(), Fail> {
+        let alloc = rt.alloc();
+        let copy = Index::Id(Id::new("a", Span::from_offset(0))).clone(alloc)?;
+        assert_eq!(rt; copy.span().offset(), 0);
+        assert!(rt; copy == Index::Id(Id::new("a", Span::from_offset(0))));
+        let copy = Index::Num(12, Span::from_offset(3)).clone(alloc)?;
+        assert_eq!(rt; copy.span().offset(), 3);
+        assert!(rt; copy == Index::Num(12, Span::from_offset(3)));
+        Ok(())
+    }
+
+    #[test]
+    fn debug_shows_a_name_or_a_generation(rt: HostRuntime) -> Result<(), Fail> {
+        let alloc = rt.alloc();
+        let span = Span::from_offset(2);
+        let ids = [
+            Id::new("x", span),
+            Id::new("a\"b", span),
+            Id::gensym(span, 1),
+        ];
+        for (id, text) in ids
+            .iter()
+            .zip(["\"x\"", "\"a\\\"b\"", "Id { generation: 1 }"])
+        {
+            assert_eq!(rt; format!(in alloc; "{id:?}")?.as_str(), text);
+        }
+        Ok(())
     }
 }

@@ -1,0 +1,17 @@
+-- WebAssembly specification, binary format, conventions: vectors; and values: names. A list and a text stand behind
+-- their length.
+use Rattle.std.specs.Prelude.{ℕ, ◌^◌, ◌<◌, List, ◌++◌, length, All}
+use Rattle.std.specs.List.{flat_map}
+use Rattle.wat_lex.specs.Leb128.{unsigned_leb128}
+
+-- a list: how many items it has, and then each of them
+abbrev pub list_encoding : {T : Type 0} → (T → List ℕ) → List T → List ℕ
+list_encoding item items = unsigned_leb128 (length items) ++ flat_map item items
+
+-- each length in a list fits, its own and those of its items
+abbrev pub ListFits : {T : Type 0} → (T → Type 0) → List T → Type 0
+ListFits item items = (length items < 2 ^ 32) × All item items
+
+-- a text: how many bytes it has, and then these
+abbrev pub text_encoding : List ℕ → List ℕ
+text_encoding bytes = unsigned_leb128 (length bytes) ++ bytes

@@ -1,0 +1,535 @@
+//! Values as bytes of the binary format.
+
+ghost use Rattle.std.specs.Prelude.{◌≡◌, ◌++◌, ◌^◌, ◌<◌, ◌≤◌, ◌↔◌, ℕ, List, [], ◌∷◌, IsErrOf, OnErr, OnOk, length, string_bytes, take, vec_len};
+ghost use Rattle.wat_lex.specs.Encoding.{ListFits, list_encoding, text_encoding};
+ghost use Rattle.wat_lex.specs.Leb128.{IsTheEncoding, high_bits_of, low_bits_of, signed_leb128, signed_value, unsigned_leb128, unsigned_value};
+
+use std::alloc::{AllocError, AllocFailed};
+
+/// Why a value was not encoded.
+#[derive(Clone, Copy, Debug, PartialEq, Eq)]
+pub enum EncodeError {
+    /// There is no memory for the bytes.
+    Memory,
+    /// A length or a `usize` is above `u32::MAX`.
+    TooLong,
+}
+
+impl From<AllocError> for EncodeError {
+    ghost use Rattle.std.specs.Prelude.{◌≡◌};
+    ghost use Rattle.wat_lex.specs.declared.encode.EncodeError.TheVariants.{Memory};
+
+    ghost from_gives = { λ _ error. error ≡ Memory };
+
+    fn from(_failed: AllocError) -> EncodeError {
+        EncodeError::Memory
+    }
+}
+
+impl<T: Drop> From<AllocFailed<T>> for EncodeError {
+    ghost use Rattle.std.specs.Prelude.{◌≡◌};
+    ghost use Rattle.wat_lex.specs.declared.encode.EncodeError.TheVariants.{Memory};
+
+    ghost from_gives = { λ _ error. error ≡ Memory };
+
+    fn from(_failed: AllocFailed<T>) -> EncodeError {
+        EncodeError::Memory
+    }
+}
+
+/// A value that the binary format has bytes for.
+pub trait Encode {
+    /// The bytes of a value.
+    ghost encoding: { Self → List ℕ };
+
+    /// Each length and each `usize` in a value is at most `u32::MAX`.
+    ghost fits: { Self → Type 0 };
+
+    /// Appends the bytes of the value. A refusal leaves the buffer as it was.
+    fn encode(&self, e: &mut Vec<u8>) -> Result<(), EncodeError>
+        ensures ok { OnOk result (e.new.items ≡ e.old.items ++ encoding self.now) }
+        ensures fitting { OnOk result (fits self.now) }
+        ensures too_long { IsErrOf result EncodeError.TooLong → ¬ fits self.now }
+        ensures err { OnErr result (e.new.items ≡ e.old.items) };
+}
+
+/// What a write answered, after the bytes of a refused one were taken back.
+fn taken_back(
+    written: Result<(), EncodeError>,
+    start: usize,
+    e: &mut Vec<u8>,
+) -> Result<(), EncodeError>
+    ensures same { result ≡ written }
+    ensures ok { OnOk result (e.new.items ≡ e.old.items) }
+    ensures err { OnErr result (e.new.items ≡ take start e.old.items) }
+{
+    if written.is_err() {
+        e.truncate(start);
+    }
+    written
+}
+
+/// Appends the unsigned LEB128 bytes of a number, of which a refusal leaves some.
+fn push_unsigned(mut rest: u64, e: &mut Vec<u8>) -> Result<(), EncodeError>
+    ensures ok { OnOk result (e.new.items ≡ e.old.items ++ unsigned_leb128 rest) }
+    ensures memory { OnErr result (result ≡ Err EncodeError.Memory) }
+    ensures front { take (vec_len e.old) e.new.items ≡ e.old.items }
+{
+    while rest >= 0x80 {
+        e.push((rest & 0x7f) as u8 | 0x80)?;
+        rest >>= 7;
+    }
+    e.push(rest as u8)?;
+    Ok(())
+}
+
+/// Appends the signed LEB128 bytes of a number, of which a refusal leaves some.
+fn push_signed(mut rest: i64, e: &mut Vec<u8>) -> Result<(), EncodeError>
+    ensures ok { OnOk result (e.new.items ≡ e.old.items ++ signed_leb128 rest) }
+    ensures memory { OnErr result (result ≡ Err EncodeError.Memory) }
+    ensures front { take (vec_len e.old) e.new.items ≡ e.old.items }
+{
+    while rest < -0x40 || rest >= 0x40 {
+        e.push(low_bits(rest) | 0x80)?;
+        rest = high_bits(rest);
+    }
+    e.push(low_bits(rest))?;
+    Ok(())
+}
+
+fn low_bits(number: i64) -> u8
+    ensures { result ≡ low_bits_of number }
+{
+    (number & 0x7f) as u8
+}
+
+fn high_bits(number: i64) -> i64
+    ensures { result ≡ high_bits_of number }
+{
+    number >> 7
+}
+
+/// Appends the unsigned LEB128 bytes of a number.
+fn encode_unsigned(number: u64, e: &mut Vec<u8>) -> Result<(), EncodeError>
+    ensures ok { OnOk result (e.new.items ≡ e.old.items ++ unsigned_leb128 number) }
+    ensures err { OnErr result ((result ≡ Err EncodeError.Memory) × (e.new.items ≡ e.old.items)) }
+{
+    let start = e.len();
+    let written = push_unsigned(number, e);
+    taken_back(written, start, e)
+}
+
+/// Appends the signed LEB128 bytes of a number.
+fn encode_signed(number: i64, e: &mut Vec<u8>) -> Result<(), EncodeError>
+    ensures ok { OnOk result (e.new.items ≡ e.old.items ++ signed_leb128 number) }
+    ensures err { OnErr result ((result ≡ Err EncodeError.Memory) × (e.new.items ≡ e.old.items)) }
+{
+    let start = e.len();
+    let written = push_signed(number, e);
+    taken_back(written, start, e)
+}
+
+/// Appends a length, of which a refusal leaves nothing.
+fn encode_length(length: usize, e: &mut Vec<u8>) -> Result<(), EncodeError>
+    ensures ok { OnOk result (e.new.items ≡ e.old.items ++ unsigned_leb128 length) }
+    ensures fitting { OnOk result (length < 2 ^ 32) }
+    ensures too_long { IsErrOf result EncodeError.TooLong ↔ (2 ^ 32 ≤ length) }
+    ensures err { OnErr result (e.new.items ≡ e.old.items) }
+{
+    let Ok(length) = u32::try_from(length) else {
+        return Err(EncodeError::TooLong);
+    };
+    encode_unsigned(u64::from(length), e)
+}
+
+impl Encode for u8 {
+    ghost use Rattle.std.specs.Prelude.{[], ◌∷◌};
+
+    ghost encoding = { λ byte. byte ∷ [] };
+
+    ghost fits = { λ _. Unit {0} };
+
+    fn encode(&self, e: &mut Vec<u8>) -> Result<(), EncodeError>
+        ensures ok { OnOk result (e.new.items ≡ e.old.items ++ self.now ∷ []) }
+        ensures err { OnErr result ((result ≡ Err EncodeError.Memory) × (e.new.items ≡ e.old.items)) }
+    {
+        e.push(*self)?;
+        Ok(())
+    }
+}
+
+/// In the shortest form of unsigned LEB128.
+impl Encode for u32 {
+    ghost use Rattle.wat_lex.specs.Leb128.{unsigned_leb128};
+
+    ghost encoding = { unsigned_leb128 };
+
+    ghost fits = { λ _. Unit {0} };
+
+    fn encode(&self, e: &mut Vec<u8>) -> Result<(), EncodeError>
+        ensures ok { OnOk result (e.new.items ≡ e.old.items ++ unsigned_leb128 self.now) }
+        ensures err { OnErr result ((result ≡ Err EncodeError.Memory) × (e.new.items ≡ e.old.items)) }
+
+        // The bytes decode to the number, no shorter ones do, and no others of their length.
+        ensures law { IsTheEncoding unsigned_value self.now (unsigned_leb128 self.now) }
+    {
+        encode_unsigned(u64::from(*self), e)
+    }
+}
+
+/// In the shortest form of unsigned LEB128.
+impl Encode for u64 {
+    ghost use Rattle.wat_lex.specs.Leb128.{unsigned_leb128};
+
+    ghost encoding = { unsigned_leb128 };
+
+    ghost fits = { λ _. Unit {0} };
+
+    fn encode(&self, e: &mut Vec<u8>) -> Result<(), EncodeError>
+        ensures ok { OnOk result (e.new.items ≡ e.old.items ++ unsigned_leb128 self.now) }
+        ensures err { OnErr result ((result ≡ Err EncodeError.Memory) × (e.new.items ≡ e.old.items)) }
+
+        // The bytes decode to the number, no shorter ones do, and no others of their length.
+        ensures law { IsTheEncoding unsigned_value self.now (unsigned_leb128 self.now) }
+    {
+        encode_unsigned(*self, e)
+    }
+}
+
+/// In the shortest form of signed LEB128.
+impl Encode for i32 {
+    ghost use Rattle.wat_lex.specs.Leb128.{signed_leb128};
+
+    ghost encoding = { signed_leb128 };
+
+    ghost fits = { λ _. Unit {0} };
+
+    fn encode(&self, e: &mut Vec<u8>) -> Result<(), EncodeError>
+        ensures ok { OnOk result (e.new.items ≡ e.old.items ++ signed_leb128 self.now) }
+        ensures err { OnErr result ((result ≡ Err EncodeError.Memory) × (e.new.items ≡ e.old.items)) }
+
+        // The bytes decode to the number, no shorter ones do, and no others of their length.
+        ensures law { IsTheEncoding signed_value self.now (signed_leb128 self.now) }
+    {
+        encode_signed(i64::from(*self), e)
+    }
+}
+
+/// In the shortest form of signed LEB128.
+impl Encode for i64 {
+    ghost use Rattle.wat_lex.specs.Leb128.{signed_leb128};
+
+    ghost encoding = { signed_leb128 };
+
+    ghost fits = { λ _. Unit {0} };
+
+    fn encode(&self, e: &mut Vec<u8>) -> Result<(), EncodeError>
+        ensures ok { OnOk result (e.new.items ≡ e.old.items ++ signed_leb128 self.now) }
+        ensures err { OnErr result ((result ≡ Err EncodeError.Memory) × (e.new.items ≡ e.old.items)) }
+
+        // The bytes decode to the number, no shorter ones do, and no others of their length.
+        ensures law { IsTheEncoding signed_value self.now (signed_leb128 self.now) }
+    {
+        encode_signed(*self, e)
+    }
+}
+
+/// As the `u32` of its value.
+impl Encode for usize {
+    ghost use Rattle.std.specs.Prelude.{◌<◌, ◌^◌};
+    ghost use Rattle.wat_lex.specs.Leb128.{unsigned_leb128};
+
+    ghost encoding = { unsigned_leb128 };
+
+    ghost fits = { λ length. length < 2 ^ 32 };
+
+    fn encode(&self, e: &mut Vec<u8>) -> Result<(), EncodeError>
+        ensures ok { OnOk result (e.new.items ≡ e.old.items ++ unsigned_leb128 self.now) }
+        ensures fitting { OnOk result (self.now < 2 ^ 32) }
+        ensures too_long { IsErrOf result EncodeError.TooLong ↔ (2 ^ 32 ≤ self.now) }
+        ensures err { OnErr result (e.new.items ≡ e.old.items) }
+    {
+        encode_length(*self, e)
+    }
+}
+
+/// Appends a list: how many items it has, as a `u32`, and then each of them. A refusal leaves the buffer as it was.
+pub fn encode_slice<T: Encode>(items: &[T], e: &mut Vec<u8>) -> Result<(), EncodeError>
+    ensures ok { OnOk result (e.new.items ≡ e.old.items ++ list_encoding T.encoding items.now) }
+    ensures fitting { OnOk result (ListFits T.fits items.now) }
+    ensures too_long { IsErrOf result EncodeError.TooLong → ¬ ListFits T.fits items.now }
+    ensures too_many { 2 ^ 32 ≤ length items.now → IsErrOf result EncodeError.TooLong }
+    ensures err { OnErr result (e.new.items ≡ e.old.items) }
+{
+    let start = e.len();
+    let written = push_items(items, e);
+    taken_back(written, start, e)
+}
+
+/// Appends a list, of which a refusal leaves a part.
+fn push_items<T: Encode>(items: &[T], e: &mut Vec<u8>) -> Result<(), EncodeError>
+    ensures ok { OnOk result (e.new.items ≡ e.old.items ++ list_encoding T.encoding items.now) }
+    ensures fitting { OnOk result (ListFits T.fits items.now) }
+    ensures too_long { IsErrOf result EncodeError.TooLong → ¬ ListFits T.fits items.now }
+    ensures too_many { 2 ^ 32 ≤ length items.now → IsErrOf result EncodeError.TooLong }
+    ensures front { take (vec_len e.old) e.new.items ≡ e.old.items }
+{
+    encode_length(items.len(), e)?;
+    for item in items {
+        item.encode(e)?;
+    }
+    Ok(())
+}
+
+/// Appends a text: how many bytes it has, as a `u32`, and then these. A refusal leaves the buffer as it was.
+pub fn encode_str(text: &str, e: &mut Vec<u8>) -> Result<(), EncodeError>
+    ensures ok { OnOk result (e.new.items ≡ e.old.items ++ text_encoding text.now) }
+    ensures fitting { OnOk result (length text.now < 2 ^ 32) }
+    ensures too_long { IsErrOf result EncodeError.TooLong ↔ (2 ^ 32 ≤ length text.now) }
+    ensures err { OnErr result (e.new.items ≡ e.old.items) }
+{
+    let start = e.len();
+    let written = push_text(text, e);
+    taken_back(written, start, e)
+}
+
+/// Appends a text, of which a refusal leaves a part.
+fn push_text(text: &str, e: &mut Vec<u8>) -> Result<(), EncodeError>
+    ensures ok { OnOk result (e.new.items ≡ e.old.items ++ text_encoding text.now) }
+    ensures fitting { OnOk result (length text.now < 2 ^ 32) }
+    ensures too_long { IsErrOf result EncodeError.TooLong ↔ (2 ^ 32 ≤ length text.now) }
+    ensures front { take (vec_len e.old) e.new.items ≡ e.old.items }
+{
+    encode_length(text.len(), e)?;
+    e.extend_from_slice(text.as_bytes())?;
+    Ok(())
+}
+
+impl<T: Encode> Encode for Vec<T> {
+    ghost use Rattle.wat_lex.specs.Encoding.{ListFits, list_encoding};
+
+    ghost encoding = { λ list. list_encoding T.encoding list.items };
+
+    ghost fits = { λ list. ListFits T.fits list.items };
+
+    fn encode(&self, e: &mut Vec<u8>) -> Result<(), EncodeError>
+        ensures ok { OnOk result (e.new.items ≡ e.old.items ++ list_encoding T.encoding self.now.items) }
+        ensures fitting { OnOk result (ListFits T.fits self.now.items) }
+        ensures too_long { IsErrOf result EncodeError.TooLong → ¬ ListFits T.fits self.now.items }
+        ensures too_many { 2 ^ 32 ≤ vec_len self.now → IsErrOf result EncodeError.TooLong }
+        ensures err { OnErr result (e.new.items ≡ e.old.items) }
+    {
+        encode_slice(self.as_slice(), e)
+    }
+}
+
+impl Encode for String {
+    ghost use Rattle.std.specs.Prelude.{◌<◌, ◌^◌, length, string_bytes};
+    ghost use Rattle.wat_lex.specs.Encoding.{text_encoding};
+
+    ghost encoding = { λ text. text_encoding (string_bytes text) };
+
+    ghost fits = { λ text. length (string_bytes text) < 2 ^ 32 };
+
+    fn encode(&self, e: &mut Vec<u8>) -> Result<(), EncodeError>
+        ensures ok { OnOk result (e.new.items ≡ e.old.items ++ text_encoding (string_bytes self.now)) }
+        ensures fitting { OnOk result (length (string_bytes self.now) < 2 ^ 32) }
+        ensures too_long { IsErrOf result EncodeError.TooLong ↔ (2 ^ 32 ≤ length (string_bytes self.now)) }
+        ensures err { OnErr result (e.new.items ≡ e.old.items) }
+    {
+        encode_str(self.as_str(), e)
+    }
+}
+
+impl<'a, T: Encode> Encode for &'a T {
+    ghost encoding = { λ value. T.encoding value.now };
+
+    ghost fits = { λ value. T.fits value.now };
+
+    fn encode(&self, e: &mut Vec<u8>) -> Result<(), EncodeError> {
+        T::encode(*self, e)
+    }
+}
+
+impl<T: Encode> Encode for Box<T> {
+    ghost encoding = { λ value. T.encoding value.value };
+
+    ghost fits = { λ value. T.fits value.value };
+
+    fn encode(&self, e: &mut Vec<u8>) -> Result<(), EncodeError> {
+        T::encode(&**self, e)
+    }
+}
+
+/// The first part, and then the second.
+impl<T: Encode, U: Encode> Encode for (T, U) {
+    ghost use Rattle.std.specs.Prelude.{◌++◌};
+
+    ghost encoding = { λ pair. T.encoding pair.0 ++ U.encoding pair.1 };
+
+    ghost fits = { λ pair. T.fits pair.0 × U.fits pair.1 };
+
+    fn encode(&self, e: &mut Vec<u8>) -> Result<(), EncodeError> {
+        let start = e.len();
+        self.0.encode(e)?;
+        let written = self.1.encode(e);
+        taken_back(written, start, e)
+    }
+}
+
+/// The first part, the second, and then the third.
+impl<T: Encode, U: Encode, V: Encode> Encode for (T, U, V) {
+    ghost use Rattle.std.specs.Prelude.{◌++◌};
+
+    ghost encoding = { λ triple. T.encoding triple.0 ++ U.encoding triple.1 ++ V.encoding triple.2 };
+
+    ghost fits = { λ triple. T.fits triple.0 × U.fits triple.1 × V.fits triple.2 };
+
+    fn encode(&self, e: &mut Vec<u8>) -> Result<(), EncodeError> {
+        let (first, second, third) = self;
+        ((first, second), third).encode(e)
+    }
+}
+
+#[cfg(test)]
+mod tests {
+    use super::*;
+    use std::alloc::Global;
+    use std::process::Abort;
+    use std::test::Fail;
+
+    /// The bytes that a value adds to a buffer, through its bound.
+    fn bytes_of<T: Encode>(alloc: Global, value: &T) -> Result<Vec<u8>, EncodeError> {
+        let mut e = Vec::new(alloc);
+        value.encode(&mut e)?;
+        Ok(e)
+    }
+
+    /// A value too long for the format is refused, and the buffer still holds what it held.
+    fn is_too_long<T: Encode>(rt: &impl Abort, alloc: Global, value: &T) -> Result<(), Fail> {
+        let mut e = vec![in alloc; 0xff]?;
+        let refused = value.encode(&mut e);
+        assert_eq!(rt; e.as_slice(), [0xff].as_slice());
+        if refused == Err(EncodeError::Memory) {
+            return Ok(refused?);
+        }
+        assert_eq!(rt; refused, Err(EncodeError::TooLong));
+        Ok(())
+    }
+
+    #[test]
+    fn unsigned_numbers_take_their_shortest_form(rt: HostRuntime) -> Result<(), Fail> {
+        let alloc = rt.alloc();
+        let vectors: [(u32, &[u8]); 4] = [
+            (0, &[0x00]),
+            (127, &[0x7f]),
+            (128, &[0x80, 0x01]),
+            (4294967295, &[0xff, 0xff, 0xff, 0xff, 0x0f]),
+        ];
+        for (number, bytes) in vectors {
+            assert_eq!(rt; bytes_of(alloc, &number)?.as_slice(), bytes, "{number}");
+            assert_eq!(rt;
+                bytes_of(alloc, &u64::from(number))?.as_slice(),
+                bytes,
+                "{number}"
+            );
+            assert_eq!(rt;
+                bytes_of(alloc, &(number as usize))?.as_slice(),
+                bytes,
+                "{number}"
+            );
+        }
+        let most: &[u8] = &[0xff, 0xff, 0xff, 0xff, 0xff, 0xff, 0xff, 0xff, 0xff, 0x01];
+        assert_eq!(rt; bytes_of(alloc, &18446744073709551615u64)?.as_slice(), most);
+        Ok(())
+    }
+
+    #[test]
+    fn signed_numbers_take_their_shortest_form(rt: HostRuntime) -> Result<(), Fail> {
+        let alloc = rt.alloc();
+        let vectors: [(i32, &[u8]); 6] = [
+            (63, &[0x3f]),
+            (64, &[0xc0, 0x00]),
+            (-1, &[0x7f]),
+            (-64, &[0x40]),
+            (-65, &[0xbf, 0x7f]),
+            (-2147483648, &[0x80, 0x80, 0x80, 0x80, 0x78]),
+        ];
+        for (number, bytes) in vectors {
+            assert_eq!(rt; bytes_of(alloc, &number)?.as_slice(), bytes, "{number}");
+            assert_eq!(rt;
+                bytes_of(alloc, &i64::from(number))?.as_slice(),
+                bytes,
+                "{number}"
+            );
+        }
+        let least: &[u8] = &[0x80, 0x80, 0x80, 0x80, 0x80, 0x80, 0x80, 0x80, 0x80, 0x7f];
+        assert_eq!(rt;
+            bytes_of(alloc, &-9223372036854775808i64)?.as_slice(),
+            least
+        );
+        Ok(())
+    }
+
+    #[test]
+    fn lists_and_texts_stand_behind_their_length(rt: HostRuntime) -> Result<(), Fail> {
+        let alloc = rt.alloc();
+        let list = vec![in alloc; 1u32, 300]?;
+        let list_bytes: &[u8] = &[0x02, 0x01, 0xac, 0x02];
+        assert_eq!(rt; bytes_of(alloc, &list)?.as_slice(), list_bytes);
+        assert_eq!(rt; bytes_of(alloc, &&list)?.as_slice(), list_bytes);
+        let text = String::from_str(alloc, "ab")?;
+        let text_bytes: &[u8] = &[0x02, 0x61, 0x62];
+        assert_eq!(rt; bytes_of(alloc, &text)?.as_slice(), text_bytes);
+        assert_eq!(rt;
+            bytes_of(alloc, &Box::new(alloc, text)?)?.as_slice(),
+            text_bytes
+        );
+        let mut e = Vec::new(alloc);
+        encode_slice(list.as_slice(), &mut e)?;
+        encode_str("ab", &mut e)?;
+        encode_slice::<u32>(&[], &mut e)?;
+        encode_str("", &mut e)?;
+        let all: &[u8] = &[0x02, 0x01, 0xac, 0x02, 0x02, 0x61, 0x62, 0x00, 0x00];
+        assert_eq!(rt; e.as_slice(), all);
+        Ok(())
+    }
+
+    #[test]
+    fn parts_stand_one_behind_the_other(rt: HostRuntime) -> Result<(), Fail> {
+        let alloc = rt.alloc();
+        let triple: &[u8] = &[0x01, 0x7f, 0x80, 0x01];
+        assert_eq!(rt;
+            bytes_of(alloc, &(1u8, -1i64, 128usize))?.as_slice(),
+            triple
+        );
+        let pair: &[u8] = &[0x05, 0xc0, 0x00];
+        assert_eq!(rt; bytes_of(alloc, &(5u8, 64i32))?.as_slice(), pair);
+        Ok(())
+    }
+
+    #[test]
+    fn what_is_too_long_leaves_the_buffer(rt: HostRuntime) -> Result<(), Fail> {
+        let alloc = rt.alloc();
+        is_too_long(&rt, alloc, &4294967296usize)?;
+        is_too_long(&rt, alloc, &(5u8, 4294967296usize))?;
+        is_too_long(&rt, alloc, &(5u8, usize::MAX, 5u8))?;
+        is_too_long(&rt, alloc, &(5u8, 5u8, usize::MAX))?;
+        is_too_long(&rt, alloc, &vec![in alloc; 1usize, usize::MAX, 1]?)
+    }
+
+    #[test]
+    fn want_of_memory_leaves_the_buffer(rt: HostRuntime) -> Result<(), Fail> {
+        let alloc = rt.alloc();
+        let numbers = [300u32; 60];
+        let mut e = vec![in alloc; 0xff]?;
+        match encode_slice(&numbers, &mut e) {
+            Ok(()) => assert_eq!(rt; e.len(), 122),
+            Err(error) => {
+                assert_eq!(rt; error, EncodeError::Memory);
+                assert_eq!(rt; e.as_slice(), [0xff].as_slice());
+            }
+        }
+        Ok(())
+    }
+}

@@ -1,0 +1,183 @@
+//! Identifiers that a program makes, each of which differs from all that a text spells.
+
+ghost use Rattle.std.specs.Prelude.{◌≡◌, ◌≢◌, ◌+◌, ◌≤◌, ◌↔◌, ℕ, None, Some, IsErr, IsErrOf, IfErr, IfOk, OnErr, OnOk, IfSome, IfNone};
+ghost use Rattle.wat_lex.specs.Identifiers.{Identifier, IsSameIdentifier, generated};
+
+use crate::token::{Id, Span};
+use std::alloc::Global;
+use std::marker::Model;
+
+/// A counter of the identifiers that a program has made, the generation of the newest one.
+#[derive(Drop)]
+pub struct Gensym {
+    generation: u32,
+}
+
+impl Model for Gensym {
+    ghost use Rattle.std.specs.Prelude.{ℕ};
+
+    ghost Value = { ℕ };
+
+    ghost view = { λ g. g.generation };
+}
+
+/// The counter is at its last value, `u32::MAX`.
+#[derive(Clone, Copy, Debug, PartialEq, Eq)]
+pub struct GensymFull;
+
+/// Why a slot was not filled.
+#[derive(Clone, Copy, Debug, PartialEq, Eq)]
+pub enum FillError {
+    /// The counter is at its last value, `u32::MAX`.
+    Full,
+    /// There is no memory for a copy.
+    Memory,
+}
+
+impl Gensym {
+    /// A counter from which nothing was made.
+    pub fn new() -> Gensym
+        ensures { result ≡ 0 }
+    {
+        Gensym { generation: 0 }
+    }
+
+    /// Starts anew: later identifiers may equal those made before.
+    pub fn reset(&mut self)
+        ensures { self.new ≡ 0 }
+    {
+        self.generation = 0;
+    }
+
+    /// Makes an identifier at a place. It takes no memory.
+    pub fn generate(&mut self, span: Span) -> Result<Id<'static>, GensymFull>
+        ensures ok { IfOk result (λ id. id ≡ generated self.new span) }
+        ensures counts { OnOk result (self.new ≡ self.old + 1) }
+        ensures full { IsErr result ↔ (self.old ≡ u32.MAX) }
+        ensures err { OnErr result (self.new ≡ self.old) }
+
+        // It differs from what a text spells and from what the counter has made since it was last reset, whose
+        // generations are at most the counter.
+        ensures fresh { IfOk result (λ id. (other : Identifier) → other.generation ≤ self.old → ¬ IsSameIdentifier id other) }
+    {
+        if self.generation == u32::MAX {
+            return Err(GensymFull);
+        }
+        self.generation += 1;
+        Ok(Id::gensym(span, self.generation))
+    }
+
+    /// A copy of what a slot holds, after an identifier was put into an empty one. Filling an empty one takes no memory.
+    pub fn fill<'a>(
+        &mut self,
+        alloc: Global,
+        span: Span,
+        slot: &mut Option<Id<'a>>,
+    ) -> Result<Id<'a>, FillError>
+        // A slot that holds an identifier keeps it, and only the copy can find no memory.
+        ensures held { IfSome slot.old (λ id. (slot.new ≡ Some id) × (self.new ≡ self.old) × (IfOk result (λ copy. copy ≡ id)) × IfErr result (λ e. e ≡ FillError.Memory)) }
+
+        // An empty one is filled as `generate` makes identifiers, unless the counter is at its last value.
+        ensures empty { IfNone slot.old (IfOk result (λ id. (id ≡ generated self.new span) × (slot.new ≡ Some id) × (self.new ≡ self.old + 1))) }
+        ensures full { IsErrOf result FillError.Full ↔ ((slot.old ≡ None) × (self.old ≡ u32.MAX)) }
+        ensures no_memory { IfNone slot.old (result ≢ Err FillError.Memory) }
+        ensures err { OnErr result ((slot.new ≡ slot.old) × (self.new ≡ self.old)) }
+        ensures fresh { IfNone slot.old (IfOk result (λ id. (other : Identifier) → other.generation ≤ self.old → ¬ IsSameIdentifier id other)) }
+    {
+        if let Some(id) = slot {
+            return id.clone(alloc).map_err(|_| FillError::Memory);
+        }
+        let id = self.generate(span).map_err(|_| FillError::Full)?;
+        *slot = Some(id);
+        Ok(Id::gensym(span, self.generation))
+    }
+}
+
+#[cfg(test)]
+mod tests {
+    use super::*;
+    use std::borrow::CowStr;
+    use std::test::Fail;
+
+    #[test]
+    fn generated_identifiers_differ(rt: HostRuntime) -> Result<(), Fail> {
+        let span = Span::from_offset(3);
+        let mut gensym = Gensym::new();
+        let first = gensym.generate(span)?;
+        let second = gensym.generate(span)?;
+        gensym.reset();
+        let third = gensym.generate(Span::from_offset(5))?;
+        assert!(rt; first != second);
+        assert!(rt; third == first);
+        assert_eq!(rt; third.span().offset(), 5);
+        for id in [&first, &second, &third] {
+            assert_eq!(rt; id.name(), "gensym");
+            assert!(rt; *id != Id::new("gensym", span));
+        }
+        Ok(())
+    }
+
+    #[test]
+    fn a_full_slot_is_copied(rt: HostRuntime) -> Result<(), Fail> {
+        let alloc = rt.alloc();
+        let span = Span::from_offset(0);
+        let mut gensym = Gensym::new();
+        let mut slot = Some(Id::new("x", span));
+        let copy = gensym.fill(alloc, Span::from_offset(9), &mut slot)?;
+        assert!(rt; copy == Id::new("x", span));
+        assert_eq!(rt; copy.span().offset(), 0);
+        assert!(rt; slot == Some(copy));
+        assert!(rt; gensym.generate(span)? == Gensym::new().generate(span)?);
+        Ok(())
+    }
+
+    #[test]
+    fn want_of_memory_leaves_slot_and_counter(rt: HostRuntime) -> Result<(), Fail> {
+        let alloc = rt.alloc();
+        let span = Span::from_offset(0);
+        let name = CowStr::Owned(String::from_str(alloc, "x")?);
+        let mut gensym = Gensym { generation: 7 };
+        let mut slot = Some(Id::from_cow(name, span));
+        match gensym.fill(alloc, span, &mut slot) {
+            Ok(copy) => assert!(rt; copy == Id::new("x", span)),
+            Err(error) => assert_eq!(rt; error, FillError::Memory),
+        }
+        assert!(rt; slot == Some(Id::new("x", span)));
+        assert_eq!(rt; gensym.generation, 7);
+        Ok(())
+    }
+
+    #[test]
+    fn an_empty_slot_is_filled(rt: HostRuntime) -> Result<(), Fail> {
+        let alloc = rt.alloc();
+        let span = Span::from_offset(4);
+        let mut gensym = Gensym::new();
+        let mut slot = None;
+        let made = gensym.fill(alloc, span, &mut slot)?;
+        assert!(rt; made == Gensym::new().generate(span)?);
+        assert_eq!(rt; made.span().offset(), 4);
+        let again = gensym.fill(alloc, Span::from_offset(9), &mut slot)?;
+        assert!(rt; again == made);
+        assert!(rt; gensym.generate(span)? != made);
+        Ok(())
+    }
+
+    #[test]
+    fn the_last_generation_is_followed_by_none(rt: HostRuntime) -> Result<(), Fail> {
+        let alloc = rt.alloc();
+        let span = Span::from_offset(0);
+        let mut gensym = Gensym {
+            generation: u32::MAX - 1,
+        };
+        let last = gensym.generate(span)?;
+        assert!(rt; matches!(gensym.generate(span), Err(GensymFull)));
+        let mut slot = None;
+        let refused = gensym.fill(alloc, span, &mut slot);
+        assert!(rt; matches!(&refused, Err(FillError::Full)));
+        assert!(rt; slot == None);
+        assert_eq!(rt; gensym.generation, u32::MAX);
+        let mut slot = Some(last);
+        assert!(rt; gensym.fill(alloc, span, &mut slot)? == Id::gensym(span, u32::MAX));
+        Ok(())
+    }
+}
