@@ -60,9 +60,10 @@ unstrict_tiling : (s : Setting) (from to : ℕ) (tokens : List Token) → Tiling
 unstrict_tiling s from to [] h = h
 unstrict_tiling s from to (t ∷ ts) h =
     let g = h.0 in
-    let loose : Looser s.flags (record s.flags { strict = false }) = record { allow = λ a. a; strict = λ x. absurd (let k : false ≡ true = x in cc) } in
-    (record { offset = g.offset; word = g.word; rest = g.rest; stands = stands_looser s.flags (record s.flags { strict = false }) _ t.kind g.word g.rest loose g.stands; len = g.len },
-    unstrict_tiling s (t.offset + t.len) to ts h.1)
+    let loose : Looser s.flags (record s.flags { strict = false }) = record { allow = λ a. a; strict = λ x. absurd (let k : false ≡ true = x in cc) } in (
+      record { offset = g.offset; word = g.word; rest = g.rest; stands = stands_looser s.flags (record s.flags { strict = false }) _ t.kind g.word g.rest loose g.stands; len = g.len },
+      unstrict_tiling s (t.offset + t.len) to ts h.1,
+    )
 
 no_fault : (tokens : List Token) (f : LexFault) (items : List Item) → Spells tokens (Some f) items → AreTokens items → ⊥
 no_fault [] f items h a = subst AreTokens h.1 a

@@ -12,6 +12,7 @@ pub mod Tiling
 pub mod Readers
 pub mod Raw
 pub mod Laws
+pub mod Annotations
 pub mod Reads
 pub mod Results
 pub mod RunReads

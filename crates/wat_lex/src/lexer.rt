@@ -138,6 +138,30 @@ impl<'a> Lexer<'a> {
         }
     }
 
+    ghost use Rattle.wat_lex.specs.Annotations.{AnnotationAt};
+
+    /// The annotation's token at any position, or the error of the fault there, where the byte there is `@`; None where it is
+    /// not, and where a token of another kind stands there.
+    pub fn annotation(&self, alloc: Global, pos: usize) -> Result<Option<Token>, Error>
+        ensures found { AnnotationAt self.now pos result }
+        ensures reader { IfOk result (λ found. IfSome found (IsTokenOf self.now.text)) }
+    {
+        let bytes = self.input().as_bytes();
+        if pos >= bytes.len() || bytes[pos] != b'@' {
+            return Ok(None);
+        }
+        match self.parse(alloc, &mut { pos }) {
+            Ok(Some(token)) => {
+                if token.kind == TokenKind::Annotation {
+                    return Ok(Some(token));
+                }
+                Ok(None)
+            }
+            Ok(None) => Ok(None),
+            Err(error) => Err(error),
+        }
+    }
+
     ghost use Rattle.wat_lex.specs.Errors.{lexical, IsUnlessMemory};
 
     fn error(&self, alloc: Global, fault: LexFault) -> Error

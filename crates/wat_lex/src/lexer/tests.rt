@@ -286,9 +286,7 @@ fn first_tokens(rt: HostRuntime) -> Result<(), Fail> {
     for (text, kind, want) in rows {
         assert!(rt; text.len() < 1_000_000);
         let lexer = Lexer::new(text);
-        let token = lexer
-            .parse(rt.alloc(), &mut 0)?
-            .ok_or("the text is empty")?;
+        let token = lexer.parse(rt.alloc(), &mut 0)?.ok_or("the text is empty")?;
         assert_eq!(rt; name(token.kind), kind, "{text}");
         assert_eq!(rt; token.src(text), want, "{text}");
         if token.kind == TokenKind::Keyword {
@@ -298,5 +296,29 @@ fn first_tokens(rt: HostRuntime) -> Result<(), Fail> {
             assert_eq!(rt; token.reserved(text), want);
         }
     }
+    Ok(())
+}
+
+#[test]
+fn annotations(rt: HostRuntime) -> Result<(), Fail> {
+    let rows = [
+        ("@a b", 0, Some(2)),
+        ("(@a.b)", 1, Some(4)),
+        ("@\"x\" ", 0, Some(4)),
+        ("@", 0, Some(1)),
+        ("@a\"b\"", 0, None),
+        ("x@a", 0, None),
+        ("x@a", 1, Some(2)),
+        ("a", 1, None),
+        ("a", 7, None),
+        ("é", 1, None),
+    ];
+    for (text, pos, want) in rows {
+        assert!(rt; text.len() < 1_000_000);
+        let found = Lexer::new(text).annotation(rt.alloc(), pos)?;
+        assert_eq!(rt; found.map(|token| token.len), want, "{text} {pos}");
+    }
+    let fault = Lexer::new("(@\"x").annotation(rt.alloc(), 1);
+    assert!(rt; matches!(&fault, Err(error) if error.span().offset() == 4));
     Ok(())
 }
