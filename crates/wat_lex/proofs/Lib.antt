@@ -20,3 +20,6 @@ mod Looser
 mod TokensOf
 mod Laws
 mod Leb128Laws
+mod NumberValues
+mod NumberParts
+mod NumberWords

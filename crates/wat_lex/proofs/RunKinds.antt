@@ -36,7 +36,7 @@ no_strings flags w ps (idchar {c = c} {t = t} {ps = qs} h k) e =
     record { same = ap (option_map (λ cs. c ∷ cs)) p.same; bytes = ap (λ x. x ++ encodes t) (encode_ascii c (idchar_ascii c h)) ∙ ap (λ x. c ∷ x) p.bytes }
 no_strings flags w ps (string {ps = qs} h k) e = absurd (omega (arith, e))
 
-some_string : (ps : List Piece) → 0 < string_count ps → idchars ps ≡ None
+pub some_string : (ps : List Piece) → 0 < string_count ps → idchars ps ≡ None
 some_string [] h = absurd (omega (arith, h))
 some_string (Idchar c ∷ ps) h = ap (option_map (λ cs. c ∷ cs)) (some_string ps h)
 some_string (Quoted v ∷ ps) h = refl

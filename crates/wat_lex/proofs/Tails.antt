@@ -64,7 +64,7 @@ tail_power hex c t n (both {t = r} h k) = absurd (no_dot hex c t r n h)
     no_dot hex c t r n (filled h) = n refl
 
 -- what may follow a dot: nothing or an exponent, or digits and then one of these
-data Behind : Bool → List ℕ → Type 0 where
+pub data Behind : Bool → List ℕ → Type 0 where
   nothing : {hex : Bool} → Behind hex []
   powered : {hex : Bool} {s : List ℕ} → Exponent hex s → Behind hex s
   digits : {hex : Bool} {s : List ℕ} → Digits hex s [] → Behind hex s
@@ -74,7 +74,7 @@ dot_power : (hex : Bool) (t : List ℕ) → Exponent hex (46 ∷ t) → ⊥
 dot_power true t (exponent h k) = cc
 dot_power false t (exponent h k) = cc
 
-behind : (hex : Bool) (t : List ℕ) → Tail hex (46 ∷ t) → Behind hex t
+pub behind : (hex : Bool) (t : List ℕ) → Tail hex (46 ∷ t) → Behind hex t
 behind hex t (fraction bare) = nothing
 behind hex t (fraction (filled h)) = digits h
 behind hex t (power h) = absurd (dot_power hex t h)

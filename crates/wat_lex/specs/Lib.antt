@@ -5,6 +5,7 @@ pub mod Strings
 pub mod StringFaults
 pub mod Numbers
 pub mod NumberReads
+pub mod NumberValues
 pub mod Runs
 pub mod Words
 pub mod Faults

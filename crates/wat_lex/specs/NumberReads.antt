@@ -1,7 +1,7 @@
 -- What the readers of numbers answer.
-use Rattle.std.specs.Prelude.{◌≡◌, ◌||◌, ◌==◌, ◌⊎◌, ℕ, Bool, List, []}
-use Rattle.wat_lex.specs.Classes.{Begins, underscore}
-use Rattle.wat_lex.specs.Numbers.{Digits, is_digit, Whole, Tail}
+use Rattle.std.specs.Prelude.{◌≡◌, ◌||◌, ◌==◌, ◌⊎◌, if◌then◌else◌, ℕ, Bool, List, [], ◌∷◌}
+use Rattle.wat_lex.specs.Classes.{Begins, plus, underscore}
+use Rattle.wat_lex.specs.Numbers.{Digits, is_digit, Whole, Exponent, Tail}
 
 -- neither a digit nor an underscore comes next
 abbrev pub Stops : Bool → List ℕ → Type 0
@@ -26,3 +26,12 @@ pub record OnlyWhole (hex : Bool) (text rest : List ℕ) : Type 0 where
 
 abbrev pub NoWhole : List ℕ → Type 0
 NoWhole text = (k : Bool) (r : List ℕ) → Whole k text r → Follows k r → ⊥
+
+-- the word without a `+`
+abbrev pub without_plus : List ℕ → List ℕ
+without_plus [] = []
+without_plus (c ∷ t) = if c == plus then t else c ∷ t
+
+-- an exponent or nothing
+abbrev pub EndsFloat : Bool → List ℕ → Type 0
+EndsFloat hex r = (r ≡ []) ⊎ Exponent hex r

@@ -16,7 +16,10 @@ mod comments;
 mod faults;
 mod front;
 mod kinds;
+mod number_values;
 mod numbers;
+#[cfg(test)]
+mod reader_tests;
 mod readers;
 mod runs;
 mod settings;
@@ -27,6 +30,7 @@ mod tests;
 pub use faults::{LexError, LexFault};
 use front::front;
 pub use kinds::{FloatKind, IntegerKind, SignToken, Token, TokenKind};
+pub use number_values::{Float, Integer};
 pub use settings::Settings;
 
 /// A lexer over a text: it cuts the text into tokens, white space and comments, and accounts for every byte of it.

@@ -75,7 +75,7 @@ fn after<'a>(text: &'a [u8], front: &[u8]) -> Option<&'a [u8]>
 }
 
 /// What follows the digits at the front, and None where there are none or an underscore stands alone.
-fn after_digits(text: &[u8], hex: bool) -> Option<&[u8]>
+pub fn after_digits(text: &[u8], hex: bool) -> Option<&[u8]>
     ensures { MatchOption result (NoDigits hex text.now) (λ rest. LongestDigits hex text.now rest.now) }
 {
     let mut i = 0;
