@@ -1,10 +1,11 @@
 -- Steps of the readers of strings.
-use Rattle.std.proofs.Common.{◌≡◌, ◌≢◌, ◌≤◌, ◌<◌, ℕ, List, [], ◌∷◌, ◌++◌, length, refl, arith, ap, sym, ◌∙◌, subst, Bool, true, false, not, ◌&&◌, ◌||◌, length-append, append_assoc}
-use Rattle.std.specs.Prelude.{Some, None, Option, Result, Ok, Err, OnOk, IfErr, IsTrue, is_some, encode_utf8, ◌==◌}
+use Rattle.std.proofs.Common.{◌≡◌, ◌≢◌, ◌≤◌, ◌<◌, ◌+◌, ◌*◌, ℕ, List, [], ◌∷◌, ◌++◌, length, refl, arith, ap, sym, ◌∙◌, subst, Bool, true, false, not, ◌&&◌, ◌||◌, length-append, append_assoc}
+use Rattle.std.specs.Prelude.{Some, None, Option, Result, Ok, Err, IfOk, IfErr, IsTrue, encode_utf8, ◌==◌}
 use Rattle.std.proofs.lemmas.Bool.{both_ways, ne_eqb}
 use Rattle.std.proofs.lemmas.List.{nil_from_length}
 use Rattle.std.proofs.lemmas.Str.{chars_past_char, chars-nil, encodes-chars, IsUtf8-past_char}
 use Rattle.std.specs.Str.{chars, IsUtf8}
+use Rattle.std.specs.Char.{digit_value}
 use lib.Utf8.{encode}
 use Rattle.wat_lex.specs.Classes.{size, is_hex, is_confusing}
 use Rattle.wat_lex.specs.Strings.{Element, raw, letter, byte, unicode, Quoted, ends, more, letter_value, is_raw, is_control}
@@ -34,10 +35,9 @@ pub at_end : (old : List ℕ) → length old ≡ 0 → chars old ≡ []
 at_end old e = ap chars (nil_from_length old e) ∙ chars-nil
 
 -- one character less in front
-pub escaped_on : (flags : Settings) (front old mid new : List ℕ) (c : ℕ) → Took old c mid → Escaped flags (front ++ c ∷ []) mid new → Escaped flags front old new
-escaped_on flags front old mid new c t h = record {
-  value = h.value;
-  element = subst (λ x. Element flags x h.value (chars new)) (append_assoc front (c ∷ []) (chars mid) ∙ ap (λ x. front ++ x) (sym t.spelled)) h.element;
+pub escaped_on : (flags : Settings) (front old mid new value : List ℕ) (c : ℕ) → Took old c mid → Escaped flags (front ++ c ∷ []) mid new value → Escaped flags front old new value
+escaped_on flags front old mid new value c t h = record {
+  element = subst (λ x. Element flags x value (chars new)) (append_assoc front (c ∷ []) (chars mid) ∙ ap (λ x. front ++ x) (sym t.spelled)) h.element;
   utf8 = h.utf8;
   shorter = let a = t.shorter in let b = h.shorter in omega arith;
 }
@@ -49,9 +49,8 @@ breaks_on flags front old mid c broken t h = record {
   place = h.place;
 }
 
-pub made_escape : (flags : Settings) (front old new : List ℕ) (d : ℕ) (v : List ℕ) → Took old d new → Element flags (front ++ d ∷ chars new) v (chars new) → Escaped flags front old new
+pub made_escape : (flags : Settings) (front old new : List ℕ) (d : ℕ) (v : List ℕ) → Took old d new → Element flags (front ++ d ∷ chars new) v (chars new) → Escaped flags front old new v
 made_escape flags front old new d v t h = record {
-  value = v;
   element = subst (λ x. Element flags (front ++ x) v (chars new)) (sym t.spelled) h;
   utf8 = t.utf8;
   shorter = t.shorter;
@@ -71,7 +70,7 @@ breaks_end flags front old e l h = record { at = []; fault = subst (λ x. String
 pub fails : (b : Bool) → b ≡ false → IsTrue b → ⊥
 fails b e t = both_ways b e t
 
-pub second_read : (flags : Settings) (old new : List ℕ) (c d : ℕ) → Took old d new → is_hex c ≡ true → is_hex d ≡ true → Escaped flags (92 ∷ c ∷ []) old new
+pub second_read : (flags : Settings) (old new : List ℕ) (c d : ℕ) → Took old d new → is_hex c ≡ true → is_hex d ≡ true → Escaped flags (92 ∷ c ∷ []) old new ((16 * digit_value c + digit_value d) ∷ [])
 second_read flags old new c d t a b = made_escape flags (92 ∷ c ∷ []) old new d _ t (byte a b)
 
 pub second_missing : (flags : Settings) (old : List ℕ) (c : ℕ) → length old ≡ 0 → is_hex c ≡ true → Breaks flags (92 ∷ c ∷ []) old (record { left = 0; error = UnexpectedEof })
@@ -83,19 +82,11 @@ second_wrong flags old new c d left t l a b = breaks_here flags (92 ∷ c ∷ []
 pub escape_missing : (flags : Settings) (old : List ℕ) → length old ≡ 0 → Breaks flags (92 ∷ []) old (record { left = 0; error = UnexpectedEof })
 escape_missing flags old l = breaks_end flags (92 ∷ []) old UnexpectedEof l no_escape
 
-some_value : (o : Option ℕ) → is_some o ≡ true → (v : ℕ) × (o ≡ Some v)
-some_value None e = cc
-some_value (Some v) e = (v, refl)
+pub escape_letter : (flags : Settings) (old new : List ℕ) (c v : ℕ) → Took old c new → letter_value c ≡ Some v → Escaped flags (92 ∷ []) old new (v ∷ [])
+escape_letter flags old new c v t h = made_escape flags (92 ∷ []) old new c (v ∷ []) t (letter h)
 
-none_value : (o : Option ℕ) → is_some o ≡ false → o ≡ None
-none_value None e = refl
-none_value (Some v) e = cc
-
-pub escape_letter : (flags : Settings) (old new : List ℕ) (c : ℕ) → Took old c new → is_some (letter_value c) ≡ true → Escaped flags (92 ∷ []) old new
-escape_letter flags old new c t h = let v = some_value (letter_value c) h in made_escape flags (92 ∷ []) old new c _ t (letter v.1)
-
-pub escape_wrong : (flags : Settings) (old new : List ℕ) (c left : ℕ) → Took old c new → left ≡ length old → is_some (letter_value c) ≡ false → is_hex c ≡ false → c ≢ 117 → Breaks flags (92 ∷ []) old (record { left = left; error = InvalidStringEscape c })
-escape_wrong flags old new c left t l a b n = breaks_here flags (92 ∷ []) old new c left (InvalidStringEscape c) t l (bad_escape (none_value (letter_value c) a) (fails (is_hex c) b) n)
+pub escape_wrong : (flags : Settings) (old new : List ℕ) (c left : ℕ) → Took old c new → left ≡ length old → letter_value c ≡ None → is_hex c ≡ false → c ≢ 117 → Breaks flags (92 ∷ []) old (record { left = left; error = InvalidStringEscape c })
+escape_wrong flags old new c left t l a b n = breaks_here flags (92 ∷ []) old new c left (InvalidStringEscape c) t l (bad_escape a (fails (is_hex c) b) n)
 
 pub open_missing : (flags : Settings) (old : List ℕ) → length old ≡ 0 → Breaks flags (92 ∷ 117 ∷ []) old (record { left = 0; error = UnexpectedEof })
 open_missing flags old l = breaks_end flags (92 ∷ 117 ∷ []) old UnexpectedEof l no_open
@@ -145,11 +136,11 @@ pub continue_raw : (flags : Settings) (start rest next : List ℕ) (c : ℕ) →
 continue_raw flags start rest next c h t a b e f =
     continue_over flags start rest next (encode_utf8 c) h (subst (λ x. Element flags x (encode_utf8 c) (chars next)) (sym t.spelled) (raw (raw_char flags c a b e f))) t.utf8 t.shorter (c ∷ []) t.spelled
 
-pub continue_escape : (flags : Settings) (start rest mid next : List ℕ) → Continues flags start rest → Took rest 92 mid → Escaped flags (92 ∷ []) mid next → Continues flags start next
-continue_escape flags start rest mid next h t e =
-    let k : Element flags (chars rest) e.value (chars next) = subst (λ x. Element flags x e.value (chars next)) (sym t.spelled) e.element in
-    let w = element_suffix flags (chars rest) e.value (chars next) k in
-    continue_over flags start rest next e.value h k e.utf8 (let a = e.shorter in let b = t.shorter in omega arith) w.0 w.1
+pub continue_escape : (flags : Settings) (start rest mid next value : List ℕ) → Continues flags start rest → Took rest 92 mid → Escaped flags (92 ∷ []) mid next value → Continues flags start next
+continue_escape flags start rest mid next value h t e =
+    let k : Element flags (chars rest) value (chars next) = subst (λ x. Element flags x value (chars next)) (sym t.spelled) e.element in
+    let w = element_suffix flags (chars rest) value (chars next) k in
+    continue_over flags start rest next value h k e.utf8 (let a = e.shorter in let b = t.shorter in omega arith) w.0 w.1
 
 pub string_closed : (flags : Settings) (start rest next : List ℕ) → Continues flags start rest → Took rest 34 next → length next < length rest → Closed flags start next
 string_closed flags start rest next h t l =
@@ -177,9 +168,9 @@ digits_missing flags old l = breaks_end flags (92 ∷ 117 ∷ 123 ∷ []) old Un
 pub digits_wrong : (flags : Settings) (old new : List ℕ) (c left : ℕ) → Took old c new → left ≡ length old → is_hex c ≡ false → Breaks flags (92 ∷ 117 ∷ 123 ∷ []) old (record { left = left; error = InvalidHexDigit c })
 digits_wrong flags old new c left t l b = breaks_here flags (92 ∷ 117 ∷ 123 ∷ []) old new c left (InvalidHexDigit c) t l (bad_digit (fails (is_hex c) b))
 
-pub on_ok : {T E : Type 0} (r : Result T E) (P Q : Type 0) → (P → Q) → OnOk r P → OnOk r Q
-on_ok (Ok x) P Q f h = f h
-on_ok (Err e) P Q f h = h
+pub if_ok : {T E : Type 0} (r : Result T E) (P Q : T → Type 0) → ((x : T) → P x → Q x) → IfOk r P → IfOk r Q
+if_ok (Ok x) P Q f h = f x h
+if_ok (Err e) P Q f h = h
 
 pub if_err : {T E : Type 0} (r : Result T E) (P Q : E → Type 0) → ((e : E) → P e → Q e) → IfErr r P → IfErr r Q
 if_err (Ok x) P Q f h = h

@@ -1,6 +1,6 @@
 -- The number of an escape.
 use Rattle.std.proofs.Common.{◌≡◌, ◌≢◌, ◌≤◌, ◌<◌, ◌+◌, ◌*◌, ◌^◌, ℕ, List, [], ◌∷◌, ◌++◌, length, refl, arith, ap, sym, ◌∙◌, subst, Bool, true, false, ◌||◌, cond, lit<, zero-add, append_assoc, inl, inr, eq-eqb}
-use Rattle.std.specs.Prelude.{IsTrue, ◌==◌, Option, Some, None, Result, Ok, Err, OnOk, IfErr, ◌⊎◌}
+use Rattle.std.specs.Prelude.{IsTrue, ◌==◌, Result, Ok, Err, IfOk, IfErr, encode_utf8, ◌⊎◌}
 use Rattle.std.proofs.lemmas.Bool.{both_ways, or_from, ne_eqb, cases_eq}
 use Rattle.std.proofs.lemmas.Bool.Decides.{nat_tests}
 use Rattle.std.proofs.lemmas.List.{append-nil, same_from_push}
@@ -10,10 +10,12 @@ use Rattle.std.specs.List.{filter}
 use Rattle.std.specs.Char.{digit_value, IsScalar}
 use lib.Utf8.{scalar, low_scalar}
 use Rattle.wat_lex.specs.Classes.{size, is_hex, Each, Begins}
-use Rattle.wat_lex.specs.Strings.{unicode, is_hex_or_underscore, hex_value, IsParted, EndsInUnderscore, HexRow}
+use Rattle.wat_lex.specs.Strings.{Element, unicode, is_hex_or_underscore, hex_value, IsParted, EndsInUnderscore, HexRow}
 use Rattle.wat_lex.specs.StringFaults.{NumberFault, too_big, doubled, lone, no_scalar, no_brace, no_more, number}
-use Rattle.wat_lex.specs.Reads.{Escaped, Breaks, IsRowFault, Ends}
+use Rattle.wat_lex.specs.Reads.{Escaped, escape_bytes, Breaks, IsRowValue, Ends}
 use Rattle.wat_lex.specs.declared.lexer.strings.Broken.{Broken}
+use Rattle.wat_lex.specs.declared.lexer.strings.EscapeValue.{EscapeValue}
+use Rattle.wat_lex.specs.declared.lexer.strings.EscapeValue.TheVariants.{Scalar}
 use Rattle.wat_lex.specs.declared.lexer.faults.LexError.{LexError}
 use Rattle.wat_lex.specs.declared.lexer.faults.LexError.TheVariants.{Expected, UnexpectedEof, NumberTooBig, InvalidUnicodeValue, LoneUnderscore}
 use Rattle.wat_lex.specs.declared.lexer.settings.Settings.{Settings}
@@ -224,10 +226,10 @@ row_no_more flags first start rest n last r l s =
     number_breaks flags first start 0 UnexpectedEof [] k.first refl
     (subst (λ x. NumberFault flags first x UnexpectedEof []) (sym e) (no_more r.row (not_under r.ds (chars rest) last r.ends) (subst IsScalar r.value s)))
 
-pub row_read : (flags : Settings) (first : ℕ) (start rest next : List ℕ) (n last : ℕ) → Row flags first start rest n false last → Took rest 125 next → scalar n ≡ true → Escaped flags (92 ∷ 117 ∷ 123 ∷ first ∷ []) start next
+pub row_read : (flags : Settings) (first : ℕ) (start rest next : List ℕ) (n last : ℕ) → Row flags first start rest n false last → Took rest 125 next → scalar n ≡ true → Escaped flags (92 ∷ 117 ∷ 123 ∷ first ∷ []) start next (encode_utf8 n)
 row_read flags first start rest next n last r t s = record {
-  value = _;
-  element = unicode r.ds (r.cut ∙ ap (λ x. r.ds ++ x) t.spelled) r.row (not_under r.ds (chars rest) last r.ends) (subst IsScalar r.value s);
+  element = subst (λ x. Element flags (92 ∷ 117 ∷ 123 ∷ first ∷ chars start) (encode_utf8 x) (chars next)) (sym r.value)
+      (unicode r.ds (r.cut ∙ ap (λ x. r.ds ++ x) t.spelled) r.row (not_under r.ds (chars rest) last r.ends) (subst IsScalar r.value s));
   utf8 = t.utf8;
   shorter = let a = r.shorter in let b = t.shorter in omega arith;
 }
@@ -238,40 +240,45 @@ stops_at rest next c t h a g = both_ways (is_hex_or_underscore c) (or_from (is_h
 pub stops_end : (rest : List ℕ) → length rest ≡ 0 → Begins is_hex_or_underscore (chars rest) → ⊥
 stops_end rest l g = subst (Begins is_hex_or_underscore) (at_end rest l) g
 
+abbrev fault_or : Broken → Result ℕ Broken → Broken
+fault_or other (Err fault) = fault
+fault_or other (Ok c) = other
+
 -- the row that ends here, by what is wrong with it
-pub row_ends : (flags : Settings) (first : ℕ) (start rest : List ℕ) (n last : ℕ) (b : Bool) (fault : Broken) → Row flags first start rest n b last → (Begins is_hex_or_underscore (chars rest) → ⊥) → IsRowFault n b last (Some fault) → Breaks flags (92 ∷ 117 ∷ 123 ∷ first ∷ []) start fault
-row_ends flags first start rest n last true fault r stop f = subst (Breaks flags (92 ∷ 117 ∷ 123 ∷ first ∷ []) start) (sym (some_same fault _ f)) (row_lone flags first start rest n last r stop)
-  where
-    some_same : (x y : Broken) → Some x ≡ Some y → x ≡ y
-    some_same x y e = cc
+pub row_ends : (flags : Settings) (first : ℕ) (start rest : List ℕ) (n last : ℕ) (b : Bool) (fault : Broken) → Row flags first start rest n b last → (Begins is_hex_or_underscore (chars rest) → ⊥) → IsRowValue n b last (Err fault) → Breaks flags (92 ∷ 117 ∷ 123 ∷ first ∷ []) start fault
+row_ends flags first start rest n last true fault r stop f = subst (Breaks flags (92 ∷ 117 ∷ 123 ∷ first ∷ []) start) (sym (ap (fault_or fault) f)) (row_lone flags first start rest n last r stop)
 row_ends flags first start rest n last false fault r stop f = subst (Breaks flags (92 ∷ 117 ∷ 123 ∷ first ∷ []) start) (sym f.1) (row_no_scalar flags first start rest n last r stop f.0)
 
 -- a row with nothing wrong
-pub record Good (flags : Settings) (first : ℕ) (start rest : List ℕ) (n last : ℕ) : Type 0 where
+pub record Good (flags : Settings) (first : ℕ) (start rest : List ℕ) (n last value : ℕ) : Type 0 where
   pub row : Row flags first start rest n false last
   pub is : scalar n ≡ true
+  pub value_is : value ≡ n
 
-pub row_good : (flags : Settings) (first : ℕ) (start rest : List ℕ) (n last : ℕ) (b : Bool) → Row flags first start rest n b last → IsRowFault n b last None → Good flags first start rest n last
-row_good flags first start rest n last true r f = absurd cc
-row_good flags first start rest n last false r f = record { row = r; is = f }
+pub row_good : (flags : Settings) (first : ℕ) (start rest : List ℕ) (n last value : ℕ) (b : Bool) → Row flags first start rest n b last → IsRowValue n b last (Ok value) → Good flags first start rest n last value
+row_good flags first start rest n last value true r f = absurd cc
+row_good flags first start rest n last value false r f = record { row = r; is = f.0; value_is = f.1 }
 
 -- what a reader of an escape answers
-abbrev pub Reading : Settings → List ℕ → List ℕ → List ℕ → Result Unit Broken → Type 0
-Reading flags front old new result = OnOk result (Escaped flags front old new) × IfErr result (Breaks flags front old)
+abbrev pub Reading : Settings → List ℕ → List ℕ → List ℕ → Result EscapeValue Broken → Type 0
+Reading flags front old new result = IfOk result (λ e. Escaped flags front old new (escape_bytes e)) × IfErr result (Breaks flags front old)
 
 -- a character that is neither digit nor underscore ends the row
-pub row_stops : (flags : Settings) (first : ℕ) (start rest next : List ℕ) (n last left c : ℕ) (b : Bool) (fault : Option Broken) (result : Result Unit Broken)
-    → Row flags first start rest n b last → Took rest c next → left ≡ length rest → is_hex c ≡ false → c ≢ 95 → IsRowFault n b last fault → Ends c left fault result
+pub row_stops : (flags : Settings) (first : ℕ) (start rest next : List ℕ) (n last left c : ℕ) (b : Bool) (value : Result ℕ Broken) (result : Result EscapeValue Broken)
+    → Row flags first start rest n b last → Took rest c next → left ≡ length rest → is_hex c ≡ false → c ≢ 95 → IsRowValue n b last value → Ends c left value result
     → Reading flags (92 ∷ 117 ∷ 123 ∷ first ∷ []) start next result
-row_stops flags first start rest next n last left c b (Some fault) result r t l h a f e =
+row_stops flags first start rest next n last left c b (Err fault) result r t l h a f e =
     subst (Reading flags (92 ∷ 117 ∷ 123 ∷ first ∷ []) start next) (sym e) (tt, row_ends flags first start rest n last b fault r (stops_at rest next c t h a) f)
-row_stops flags first start rest next n last left c b None result r t l h a f e =
-    subst (Reading flags (92 ∷ 117 ∷ 123 ∷ first ∷ []) start next) (sym e) (by (cases_eq c 125) (row_good flags first start rest n last b r f))
+row_stops flags first start rest next n last left c b (Ok value) result r t l h a f e =
+    subst (Reading flags (92 ∷ 117 ∷ 123 ∷ first ∷ []) start next) (sym e) (by (cases_eq c 125) (row_good flags first start rest n last value b r f))
   where
-    by : (c ≡ 125) ⊎ (c ≢ 125) → Good flags first start rest n last → Reading flags (92 ∷ 117 ∷ 123 ∷ first ∷ []) start next (cond (c == 125) (Ok tt) (Err (record { left = left; error = Expected 125 c })))
+    front : List ℕ
+    front = 92 ∷ 117 ∷ 123 ∷ first ∷ []
+
+    by : (c ≡ 125) ⊎ (c ≢ 125) → Good flags first start rest n last value → Reading flags front start next (cond (c == 125) (Ok (Scalar value)) (Err (record { left = left; error = Expected 125 c })))
     by (inl k) g =
-        subst (λ x. Reading flags (92 ∷ 117 ∷ 123 ∷ first ∷ []) start next (cond x (Ok tt) (Err (record { left = left; error = Expected 125 c })))) (sym (eq-eqb c 125 k))
-        (row_read flags first start rest next n last g.row (subst (λ x. Took rest x next) k t) g.is, tt)
+        subst (λ x. Reading flags front start next (cond x (Ok (Scalar value)) (Err (record { left = left; error = Expected 125 c })))) (sym (eq-eqb c 125 k))
+        (subst (λ x. Escaped flags front start next (encode_utf8 x)) (sym g.value_is) (row_read flags first start rest next n last g.row (subst (λ x. Took rest x next) k t) g.is), tt)
     by (inr k) g =
-        subst (λ x. Reading flags (92 ∷ 117 ∷ 123 ∷ first ∷ []) start next (cond x (Ok tt) (Err (record { left = left; error = Expected 125 c })))) (sym (ne_eqb c 125 k))
+        subst (λ x. Reading flags front start next (cond x (Ok (Scalar value)) (Err (record { left = left; error = Expected 125 c })))) (sym (ne_eqb c 125 k))
         (tt, row_no_brace flags first start rest next n last left c g.row t l g.is h a k)

@@ -23,3 +23,4 @@ mod Leb128Laws
 mod NumberValues
 mod NumberParts
 mod NumberWords
+mod Unique

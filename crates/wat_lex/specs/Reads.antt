@@ -1,5 +1,5 @@
 -- What the readers of strings inside the lexer do to an iterator's rest, by bytes.
-use Rattle.std.specs.Prelude.{◌≡◌, ◌≤◌, ◌<◌, ◌+◌, ◌==◌, ℕ, Bool, true, false, if◌then◌else◌, List, ◌++◌, length, drop, Option, Some, None, Result, Ok, Err}
+use Rattle.std.specs.Prelude.{◌≡◌, ◌≤◌, ◌<◌, ◌+◌, ◌==◌, ℕ, Bool, true, false, if◌then◌else◌, List, [], ◌∷◌, ◌++◌, length, drop, Result, Ok, Err, encode_utf8}
 use Rattle.std.specs.Str.{chars, IsUtf8}
 use lib.Utf8.{scalar}
 use Rattle.wat_lex.specs.Classes.{size, close_brace}
@@ -7,12 +7,18 @@ use Rattle.wat_lex.specs.Strings.{Element, Quoted}
 use Rattle.wat_lex.specs.StringFaults.{StringFault}
 use Rattle.wat_lex.specs.declared.lexer.settings.Settings.{Settings}
 use Rattle.wat_lex.specs.declared.lexer.strings.Broken.{Broken}
+use Rattle.wat_lex.specs.declared.lexer.strings.EscapeValue.{EscapeValue}
+use Rattle.wat_lex.specs.declared.lexer.strings.EscapeValue.TheVariants.{Byte, Scalar}
 use Rattle.wat_lex.specs.declared.lexer.faults.LexError.TheVariants.{LoneUnderscore, InvalidUnicodeValue, Expected}
 use Rattle.wat_lex.specs.declared.lexer.faults.LexFault.{LexFault}
 
--- behind the given characters, the old rest begins with what is left of an element
-pub record Escaped (flags : Settings) (front old new : List ℕ) : Type 0 where
-  pub value : List ℕ
+-- what an escape stands for: a byte, or a character's bytes
+abbrev pub escape_bytes : EscapeValue → List ℕ
+escape_bytes (Byte b) = b ∷ []
+escape_bytes (Scalar c) = encode_utf8 c
+
+-- behind the given characters, the old rest begins with what is left of an element of this value
+pub record Escaped (flags : Settings) (front old new value : List ℕ) : Type 0 where
   pub element : Element flags (front ++ chars old) value (chars new)
   pub utf8 : IsUtf8 new
   pub shorter : length new ≤ length old
@@ -36,16 +42,16 @@ pub record Wrong (flags : Settings) (old : List ℕ) (broken : Broken) : Type 0 
   pub fault : StringFault flags (chars old) broken.error at
   pub place : broken.left ≡ size at
 
--- a number that ends in an underscore is refused, else one that is no scalar value
-abbrev pub IsRowFault : ℕ → Bool → ℕ → Option Broken → Type 0
-IsRowFault n true last fault = fault ≡ Some (record { left = last; error = LoneUnderscore })
-IsRowFault n false last None = scalar n ≡ true
-IsRowFault n false last (Some broken) = (scalar n ≡ false) × (broken ≡ record { left = last; error = InvalidUnicodeValue n })
+-- a number that ends in an underscore is refused, else one that is no scalar value; any other is a character
+abbrev pub IsRowValue : ℕ → Bool → ℕ → Result ℕ Broken → Type 0
+IsRowValue n true last value = value ≡ Err (record { left = last; error = LoneUnderscore })
+IsRowValue n false last (Ok c) = (scalar n ≡ true) × (c ≡ n)
+IsRowValue n false last (Err broken) = (scalar n ≡ false) × (broken ≡ record { left = last; error = InvalidUnicodeValue n })
 
 -- the fault that is there, else that of any other character than a brace
-abbrev pub Ends : ℕ → ℕ → Option Broken → Result Unit Broken → Type 0
-Ends c left (Some broken) result = result ≡ Err broken
-Ends c left None result = result ≡ (if c == close_brace then Ok tt else Err (record { left = left; error = Expected close_brace c }))
+abbrev pub Ends : ℕ → ℕ → Result ℕ Broken → Result EscapeValue Broken → Type 0
+Ends c left (Err broken) result = result ≡ Err broken
+Ends c left (Ok value) result = result ≡ (if c == close_brace then Ok (Scalar value) else Err (record { left = left; error = Expected close_brace c }))
 
 -- so many bytes are the elements of a string and its closing quote
 pub record StringTaken (flags : Settings) (text : List ℕ) (n : ℕ) : Type 0 where

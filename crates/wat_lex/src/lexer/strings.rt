@@ -1,12 +1,11 @@
 //! Strings.
-ghost use Rattle.std.specs.Prelude.{◌≡◌, ◌<◌, ◌∷◌, [], true, IfErr, OnOk, IfOk, is_some};
+ghost use Rattle.std.specs.Prelude.{◌≡◌, ◌<◌, ◌∷◌, [], true, IfErr, OnOk, IfOk};
 ghost use Rattle.std.specs.Str.{IsUtf8};
 ghost use Rattle.std.specs.Str.Iter.{chars_rest};
 ghost use Rattle.std.specs.Char.{digit_value};
-ghost use lib.Utf8.{scalar};
 ghost use Rattle.wat_lex.specs.Classes.{is_hex};
 ghost use Rattle.wat_lex.specs.Strings.{letter_value, is_control};
-ghost use Rattle.wat_lex.specs.Reads.{Escaped, Breaks, Closed, Wrong, IsRowFault, Ends, StringTaken, StringRefused};
+ghost use Rattle.wat_lex.specs.Reads.{Escaped, escape_bytes, Breaks, Closed, Wrong, IsRowValue, Ends, StringTaken, StringRefused};
 
 use crate::lexer::classes::{is_confusing, is_hex};
 use crate::lexer::faults::{LexError, LexFault};
@@ -20,22 +19,32 @@ pub struct Broken {
     pub error: LexError,
 }
 
+/// What an escape stands for.
+#[derive(Clone, Copy)]
+pub enum EscapeValue {
+    Byte(u8),
+    Scalar(char),
+}
+
 fn is_control(c: char) -> bool
     ensures { result ≡ is_control c }
 {
     (c as u32) < 0x20 || c as u32 == 0x7f
 }
 
-fn is_letter(c: char) -> bool
-    ensures { result ≡ is_some (letter_value c) }
+/// What a letter stands for behind a backslash.
+fn letter(c: char) -> Option<u8>
+    ensures { result ≡ letter_value c }
 {
-    matches!(c, '"' | '\'' | 't' | 'n' | 'r' | '\\')
-}
-
-fn is_scalar(n: u32) -> bool
-    ensures { result ≡ scalar n }
-{
-    n < 0xd800 || (0xe000 <= n && n < 0x11_0000)
+    match c {
+        '"' => Some(b'"'),
+        '\'' => Some(b'\''),
+        '\\' => Some(b'\\'),
+        't' => Some(b'\t'),
+        'n' => Some(b'\n'),
+        'r' => Some(b'\r'),
+        _ => None,
+    }
 }
 
 fn hex_digit(c: char) -> u32
@@ -51,17 +60,17 @@ fn hex_digit(c: char) -> u32
 }
 
 /// A refusal.
-fn refuse(left: usize, error: LexError) -> Result<(), Broken>
+fn refuse<T>(left: usize, error: LexError) -> Result<T, Broken>
     ensures { result ≡ Err (record { left = left; error = error }) }
 {
     Err(Broken { left, error })
 }
 
 /// The second hexadecimal digit of an escape.
-fn second(it: &mut Chars<'_>, first: char, flags: Settings) -> Result<(), Broken>
+fn second(it: &mut Chars<'_>, first: char, flags: Settings) -> Result<EscapeValue, Broken>
     requires utf8 { IsUtf8 (chars_rest it.old) }
     requires hex { is_hex first ≡ true }
-    ensures ok { OnOk result (Escaped flags (92 ∷ first ∷ []) (chars_rest it.old) (chars_rest it.new)) }
+    ensures ok { IfOk result (λ e. Escaped flags (92 ∷ first ∷ []) (chars_rest it.old) (chars_rest it.new) (escape_bytes e)) }
     ensures err { IfErr result (Breaks flags (92 ∷ first ∷ []) (chars_rest it.old)) }
 {
     let left = it.as_str().len();
@@ -69,41 +78,36 @@ fn second(it: &mut Chars<'_>, first: char, flags: Settings) -> Result<(), Broken
         None => refuse(0, LexError::UnexpectedEof),
         Some(c) => {
             if is_hex(c) {
-                return Ok(());
+                let value = 16 * hex_digit(first) + hex_digit(c);
+                return Ok(EscapeValue::Byte(value as u8));
             }
             refuse(left, LexError::InvalidHexDigit(c))
         }
     }
 }
 
-/// What is wrong with a number's digits and underscores by themselves: a last underscore, or no scalar value.
-fn row_fault(n: u32, underscore: bool, last: usize) -> Option<Broken>
-    ensures { IsRowFault n underscore last result }
+/// The character of a number, from its digits and underscores by themselves, unless they end in an underscore.
+fn row_value(n: u32, underscore: bool, last: usize) -> Result<char, Broken>
+    ensures { IsRowValue n underscore last result }
 {
     if underscore {
-        return Some(Broken {
-            left: last,
-            error: LexError::LoneUnderscore,
-        });
+        return refuse(last, LexError::LoneUnderscore);
     }
-    if is_scalar(n) {
-        return None;
+    match char::from_u32(n) {
+        Some(c) => Ok(c),
+        None => refuse(last, LexError::InvalidUnicodeValue(n)),
     }
-    Some(Broken {
-        left: last,
-        error: LexError::InvalidUnicodeValue(n),
-    })
 }
 
-/// What a character that is no digit and no underscore ends a number's digits with, of which this is wrong.
-fn ended(c: char, left: usize, fault: Option<Broken>) -> Result<(), Broken>
-    ensures { Ends c left fault result }
+/// What a character that is no digit and no underscore ends a number's digits with, whose value this is.
+fn ended(c: char, left: usize, value: Result<char, Broken>) -> Result<EscapeValue, Broken>
+    ensures { Ends c left value result }
 {
-    match fault {
-        Some(fault) => Err(fault),
-        None => {
+    match value {
+        Err(fault) => Err(fault),
+        Ok(value) => {
             if c == '}' {
-                return Ok(());
+                return Ok(EscapeValue::Scalar(value));
             }
             let error = LexError::Expected {
                 wanted: '}',
@@ -115,10 +119,10 @@ fn ended(c: char, left: usize, fault: Option<Broken>) -> Result<(), Broken>
 }
 
 /// What follows the first digit of a number behind `\u{`.
-fn number(it: &mut Chars<'_>, first: char, flags: Settings) -> Result<(), Broken>
+fn number(it: &mut Chars<'_>, first: char, flags: Settings) -> Result<EscapeValue, Broken>
     requires utf8 { IsUtf8 (chars_rest it.old) }
     requires hex { is_hex first ≡ true }
-    ensures ok { OnOk result (Escaped flags (92 ∷ 117 ∷ 123 ∷ first ∷ []) (chars_rest it.old) (chars_rest it.new)) }
+    ensures ok { IfOk result (λ e. Escaped flags (92 ∷ 117 ∷ 123 ∷ first ∷ []) (chars_rest it.old) (chars_rest it.new) (escape_bytes e)) }
     ensures err { IfErr result (Breaks flags (92 ∷ 117 ∷ 123 ∷ first ∷ []) (chars_rest it.old)) }
 {
     let mut n = hex_digit(first);
@@ -128,7 +132,7 @@ fn number(it: &mut Chars<'_>, first: char, flags: Settings) -> Result<(), Broken
         let left = it.as_str().len();
         match it.next() {
             None => {
-                if let Some(fault) = row_fault(n, underscore, last) {
+                if let Err(fault) = row_value(n, underscore, last) {
                     return Err(fault);
                 }
                 return refuse(0, LexError::UnexpectedEof);
@@ -147,7 +151,7 @@ fn number(it: &mut Chars<'_>, first: char, flags: Settings) -> Result<(), Broken
                     n = wide as u32;
                     underscore = false;
                 } else {
-                    return ended(c, left, row_fault(n, underscore, last));
+                    return ended(c, left, row_value(n, underscore, last));
                 }
                 last = left;
             }
@@ -156,9 +160,9 @@ fn number(it: &mut Chars<'_>, first: char, flags: Settings) -> Result<(), Broken
 }
 
 /// What follows `\u{`.
-fn digits(it: &mut Chars<'_>, flags: Settings) -> Result<(), Broken>
+fn digits(it: &mut Chars<'_>, flags: Settings) -> Result<EscapeValue, Broken>
     requires utf8 { IsUtf8 (chars_rest it.old) }
-    ensures ok { OnOk result (Escaped flags (92 ∷ 117 ∷ 123 ∷ []) (chars_rest it.old) (chars_rest it.new)) }
+    ensures ok { IfOk result (λ e. Escaped flags (92 ∷ 117 ∷ 123 ∷ []) (chars_rest it.old) (chars_rest it.new) (escape_bytes e)) }
     ensures err { IfErr result (Breaks flags (92 ∷ 117 ∷ 123 ∷ []) (chars_rest it.old)) }
 {
     let left = it.as_str().len();
@@ -174,9 +178,9 @@ fn digits(it: &mut Chars<'_>, flags: Settings) -> Result<(), Broken>
 }
 
 /// What follows `\u`.
-fn braced(it: &mut Chars<'_>, flags: Settings) -> Result<(), Broken>
+fn braced(it: &mut Chars<'_>, flags: Settings) -> Result<EscapeValue, Broken>
     requires utf8 { IsUtf8 (chars_rest it.old) }
-    ensures ok { OnOk result (Escaped flags (92 ∷ 117 ∷ []) (chars_rest it.old) (chars_rest it.new)) }
+    ensures ok { IfOk result (λ e. Escaped flags (92 ∷ 117 ∷ []) (chars_rest it.old) (chars_rest it.new) (escape_bytes e)) }
     ensures err { IfErr result (Breaks flags (92 ∷ 117 ∷ []) (chars_rest it.old)) }
 {
     let left = it.as_str().len();
@@ -196,17 +200,17 @@ fn braced(it: &mut Chars<'_>, flags: Settings) -> Result<(), Broken>
 }
 
 /// What follows a backslash.
-fn escape(it: &mut Chars<'_>, flags: Settings) -> Result<(), Broken>
+fn escape(it: &mut Chars<'_>, flags: Settings) -> Result<EscapeValue, Broken>
     requires utf8 { IsUtf8 (chars_rest it.old) }
-    ensures ok { OnOk result (Escaped flags (92 ∷ []) (chars_rest it.old) (chars_rest it.new)) }
+    ensures ok { IfOk result (λ e. Escaped flags (92 ∷ []) (chars_rest it.old) (chars_rest it.new) (escape_bytes e)) }
     ensures err { IfErr result (Breaks flags (92 ∷ []) (chars_rest it.old)) }
 {
     let left = it.as_str().len();
     match it.next() {
         None => refuse(0, LexError::UnexpectedEof),
         Some(c) => {
-            if is_letter(c) {
-                return Ok(());
+            if let Some(byte) = letter(c) {
+                return Ok(EscapeValue::Byte(byte));
             }
             if is_hex(c) {
                 return second(it, c, flags);

@@ -1,6 +1,7 @@
 use Rattle.std.proofs.Common.{sym, ap, ◌∙◌, subst, ◌≡◌, [], ◌∷◌, length}
 use Rattle.std.specs.Str.Iter.{chars_rest}
-use Rattle.wat_lex.proofs.Elements.{Took, took, refused, open_missing, open_wrong, escaped_on, breaks_on, on_ok, if_err}
+use Rattle.wat_lex.specs.Reads.{escape_bytes}
+use Rattle.wat_lex.proofs.Elements.{Took, took, refused, open_missing, open_wrong, escaped_on, breaks_on, if_ok, if_err}
 use Rattle.wat_lex.proofs.lexer.strings.braced.Goals as goal
 use Rattle.wat_lex.proofs.lexer.strings.braced.Goals.{In-Some}
 
@@ -14,7 +15,7 @@ pub digits-requires : goal.digits-requires
 digits-requires c = let t = first (goal.at.digits-requires c).In-Some in record { utf8 = t.utf8 }
 
 pub returns-then-c-eq123-clause-ok : goal.returns-then-c-eq123-clause-ok
-returns-then-c-eq123-clause-ok c = on_ok c.digits.result _ _ (escaped_on _ (92 ∷ 117 ∷ []) (chars_rest c.args.it.now) (chars_rest c.next.new.self) (chars_rest c.digits.new.it) 123 (was (goal.at.returns-then-c-eq123-clause-ok c).In-Some c.if-c-eq123.true)) c.digits.ensures.ok
+returns-then-c-eq123-clause-ok c = if_ok c.digits.result _ _ (λ e. escaped_on _ (92 ∷ 117 ∷ []) (chars_rest c.args.it.now) (chars_rest c.next.new.self) (chars_rest c.digits.new.it) (escape_bytes e) 123 (was (goal.at.returns-then-c-eq123-clause-ok c).In-Some c.if-c-eq123.true)) c.digits.ensures.ok
 
 pub returns-then-c-eq123-clause-err : goal.returns-then-c-eq123-clause-err
 returns-then-c-eq123-clause-err c = if_err c.digits.result _ _ (λ f. breaks_on _ (92 ∷ 117 ∷ []) (chars_rest c.args.it.now) (chars_rest c.next.new.self) 123 f (was (goal.at.returns-then-c-eq123-clause-err c).In-Some c.if-c-eq123.true)) c.digits.ensures.err

@@ -1,6 +1,7 @@
 use Rattle.std.proofs.Common.{sym, ap, ◌∙◌, subst, ◌≡◌, [], ◌∷◌, length}
 use Rattle.std.specs.Str.Iter.{chars_rest}
-use Rattle.wat_lex.proofs.Elements.{Took, took, refused, digits_missing, digits_wrong, escaped_on, breaks_on, on_ok, if_err}
+use Rattle.wat_lex.specs.Reads.{escape_bytes}
+use Rattle.wat_lex.proofs.Elements.{Took, took, refused, digits_missing, digits_wrong, escaped_on, breaks_on, if_ok, if_err}
 use Rattle.wat_lex.proofs.lexer.strings.digits.Goals as goal
 use Rattle.wat_lex.proofs.lexer.strings.digits.Goals.{In-Some}
 
@@ -11,7 +12,7 @@ pub number-requires-clause-utf8 : goal.number-requires-clause-utf8
 number-requires-clause-utf8 c = let t = first (goal.at.number-requires-clause-utf8 c).In-Some in t.utf8
 
 pub returns-then-is_hex-clause-ok : goal.returns-then-is_hex-clause-ok
-returns-then-is_hex-clause-ok c = on_ok c.number.result _ _ (escaped_on _ (92 ∷ 117 ∷ 123 ∷ []) (chars_rest c.args.it.now) (chars_rest c.next.new.self) (chars_rest c.number.new.it) c.in-Some.c (first (goal.at.returns-then-is_hex-clause-ok c).In-Some)) c.number.ensures.ok
+returns-then-is_hex-clause-ok c = if_ok c.number.result _ _ (λ e. escaped_on _ (92 ∷ 117 ∷ 123 ∷ []) (chars_rest c.args.it.now) (chars_rest c.next.new.self) (chars_rest c.number.new.it) (escape_bytes e) c.in-Some.c (first (goal.at.returns-then-is_hex-clause-ok c).In-Some)) c.number.ensures.ok
 
 pub returns-then-is_hex-clause-err : goal.returns-then-is_hex-clause-err
 returns-then-is_hex-clause-err c = if_err c.number.result _ _ (λ f. breaks_on _ (92 ∷ 117 ∷ 123 ∷ []) (chars_rest c.args.it.now) (chars_rest c.next.new.self) c.in-Some.c f (first (goal.at.returns-then-is_hex-clause-err c).In-Some)) c.number.ensures.err

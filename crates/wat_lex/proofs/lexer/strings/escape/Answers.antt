@@ -1,6 +1,7 @@
 use Rattle.std.proofs.Common.{sym, ap, ◌∙◌, subst, ◌≡◌, [], ◌∷◌, length}
 use Rattle.std.specs.Str.Iter.{chars_rest}
-use Rattle.wat_lex.proofs.Elements.{Took, took, refused, escape_missing, escape_letter, escape_wrong, escaped_on, breaks_on, on_ok, if_err}
+use Rattle.wat_lex.specs.Reads.{escape_bytes}
+use Rattle.wat_lex.proofs.Elements.{Took, took, refused, escape_missing, escape_letter, escape_wrong, escaped_on, breaks_on, if_ok, if_err}
 use Rattle.wat_lex.proofs.lexer.strings.escape.Goals as goal
 use Rattle.wat_lex.proofs.lexer.strings.escape.Goals.{In-Some}
 
@@ -10,14 +11,14 @@ first c = took (chars_rest c.args.it.now) (chars_rest c.next.new.self) c.in-Some
 was : (c : In-Some) → c.in-Some.c ≡ 117 → Took (chars_rest c.args.it.now) 117 (chars_rest c.next.new.self)
 was c e = subst (λ x. Took (chars_rest c.args.it.now) x (chars_rest c.next.new.self)) e (first c)
 
-pub returns-then-is_letter-clause-ok : goal.returns-then-is_letter-clause-ok
-returns-then-is_letter-clause-ok c = escape_letter _ _ _ c.in-Some.c (first (goal.at.returns-then-is_letter-clause-ok c).In-Some) (sym c.is_letter.ensures ∙ c.if-is_letter.true)
+pub returns-in-Some-letter-clause-ok : goal.returns-in-Some-letter-clause-ok
+returns-in-Some-letter-clause-ok c = escape_letter _ _ _ c.in-Some.c _ (first (goal.at.returns-in-Some-letter-clause-ok c).In-Some) (sym c.in-Some-letter.ensures)
 
 pub second-requires-clause-utf8 : goal.second-requires-clause-utf8
 second-requires-clause-utf8 c = let t = first (goal.at.second-requires-clause-utf8 c).In-Some in t.utf8
 
 pub returns-then-is_hex-clause-ok : goal.returns-then-is_hex-clause-ok
-returns-then-is_hex-clause-ok c = on_ok c.second.result _ _ (escaped_on _ (92 ∷ []) (chars_rest c.args.it.now) (chars_rest c.next.new.self) (chars_rest c.second.new.it) c.in-Some.c (first (goal.at.returns-then-is_hex-clause-ok c).In-Some)) c.second.ensures.ok
+returns-then-is_hex-clause-ok c = if_ok c.second.result _ _ (λ e. escaped_on _ (92 ∷ []) (chars_rest c.args.it.now) (chars_rest c.next.new.self) (chars_rest c.second.new.it) (escape_bytes e) c.in-Some.c (first (goal.at.returns-then-is_hex-clause-ok c).In-Some)) c.second.ensures.ok
 
 pub returns-then-is_hex-clause-err : goal.returns-then-is_hex-clause-err
 returns-then-is_hex-clause-err c = if_err c.second.result _ _ (λ f. breaks_on _ (92 ∷ []) (chars_rest c.args.it.now) (chars_rest c.next.new.self) c.in-Some.c f (first (goal.at.returns-then-is_hex-clause-err c).In-Some)) c.second.ensures.err
@@ -26,7 +27,7 @@ pub braced-requires : goal.braced-requires
 braced-requires c = let t = first (goal.at.braced-requires c).In-Some in record { utf8 = t.utf8 }
 
 pub returns-then-c-eq117-clause-ok : goal.returns-then-c-eq117-clause-ok
-returns-then-c-eq117-clause-ok c = on_ok c.braced.result _ _ (escaped_on _ (92 ∷ []) (chars_rest c.args.it.now) (chars_rest c.next.new.self) (chars_rest c.braced.new.it) 117 (was (goal.at.returns-then-c-eq117-clause-ok c).In-Some c.if-c-eq117.true)) c.braced.ensures.ok
+returns-then-c-eq117-clause-ok c = if_ok c.braced.result _ _ (λ e. escaped_on _ (92 ∷ []) (chars_rest c.args.it.now) (chars_rest c.next.new.self) (chars_rest c.braced.new.it) (escape_bytes e) 117 (was (goal.at.returns-then-c-eq117-clause-ok c).In-Some c.if-c-eq117.true)) c.braced.ensures.ok
 
 pub returns-then-c-eq117-clause-err : goal.returns-then-c-eq117-clause-err
 returns-then-c-eq117-clause-err c = if_err c.braced.result _ _ (λ f. breaks_on _ (92 ∷ []) (chars_rest c.args.it.now) (chars_rest c.next.new.self) 117 f (was (goal.at.returns-then-c-eq117-clause-err c).In-Some c.if-c-eq117.true)) c.braced.ensures.err
@@ -35,4 +36,4 @@ pub returns-in-None-clause-err : goal.returns-in-None-clause-err
 returns-in-None-clause-err c = refused _ _ _ c.refuse.ensures (escape_missing _ _ c.in-None.ensures.steps.0.0)
 
 pub returns-else-c-eq117-clause-err : goal.returns-else-c-eq117-clause-err
-returns-else-c-eq117-clause-err c = refused _ _ _ c.refuse-in-Some.ensures (escape_wrong _ _ _ c.in-Some.c _ (first (goal.at.returns-else-c-eq117-clause-err c).In-Some) (ap length c.as_str-left.ensures) (sym c.is_letter.ensures ∙ c.if-is_letter.false) (sym c.is_hex.ensures ∙ c.if-is_hex.false) c.if-c-eq117.false)
+returns-else-c-eq117-clause-err c = refused _ _ _ c.refuse-in-Some.ensures (escape_wrong _ _ _ c.in-Some.c _ (first (goal.at.returns-else-c-eq117-clause-err c).In-Some) (ap length c.as_str-left.ensures) (sym c.in_default.ensures) (sym c.is_hex.ensures ∙ c.if-is_hex.false) c.if-c-eq117.false)

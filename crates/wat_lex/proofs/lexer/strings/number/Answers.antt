@@ -15,13 +15,13 @@ was d c e = subst (λ x. Took (chars_rest c.row.it) x (chars_rest c.next.new.sel
 pub row-init : goal.row-init
 row-init c = row_begins c.args.flags c.args.first _ _ _ c.requires.utf8 c.requires.hex c.hex_digit-n.ensures.value
 
-pub returns-in-Some-row_fault-clause-err : goal.returns-in-Some-row_fault-clause-err
-returns-in-Some-row_fault-clause-err c =
-    row_ends c.args.flags c.args.first _ (chars_rest c.row.it) c.row.n c.row.last c.row.underscore c.in-Some-row_fault.fault c.row.invariant (stops_end _ c.in-None.ensures.steps.0.0) c.in-Some-row_fault.ensures
+pub returns-in-Err-clause-err : goal.returns-in-Err-clause-err
+returns-in-Err-clause-err c =
+    row_ends c.args.flags c.args.first _ (chars_rest c.row.it) c.row.n c.row.last c.row.underscore c.in-Err.fault c.row.invariant (stops_end _ c.in-None.ensures.steps.0.0) c.in-Err.ensures
 
 pub returns-in-None-clause-err : goal.returns-in-None-clause-err
 returns-in-None-clause-err c =
-    let g = row_good c.args.flags c.args.first _ (chars_rest c.row.it) c.row.n c.row.last c.row.underscore c.row.invariant c.in_default.ensures in
+    let g = row_good c.args.flags c.args.first _ (chars_rest c.row.it) c.row.n c.row.last _ c.row.underscore c.row.invariant c.in_default.ensures in
     refused _ _ _ c.refuse.ensures (row_no_more c.args.flags c.args.first _ (chars_rest c.row.it) c.row.n c.row.last g.row c.in-None.ensures.steps.0.0 g.is)
 
 pub returns-then-underscore-clause-err : goal.returns-then-underscore-clause-err
@@ -36,8 +36,8 @@ returns-then-wide-ge4294967296-clause-err c =
 
 stopped : (c : After-ended) → Reading c.args.flags (92 ∷ 117 ∷ 123 ∷ c.args.first ∷ []) (chars_rest c.args.it.now) (chars_rest c.next.new.self) c.ended.result
 stopped c =
-    row_stops c.args.flags c.args.first (chars_rest c.args.it.now) (chars_rest c.row.it) (chars_rest c.next.new.self) c.row.n c.row.last _ c.in-Some.c c.row.underscore c.row_fault-else-is_hex.result c.ended.result c.row.invariant
-    (took (chars_rest c.row.it) (chars_rest c.next.new.self) c.in-Some.c (let u = c.row.invariant in u.utf8) c.in-Some.ensures.steps.0) (ap length c.as_str-left.ensures) (sym c.is_hex.ensures ∙ c.if-is_hex.false) c.if-c-eq95.false c.row_fault-else-is_hex.ensures c.ended.ensures
+    row_stops c.args.flags c.args.first (chars_rest c.args.it.now) (chars_rest c.row.it) (chars_rest c.next.new.self) c.row.n c.row.last _ c.in-Some.c c.row.underscore c.row_value-else-is_hex.result c.ended.result c.row.invariant
+    (took (chars_rest c.row.it) (chars_rest c.next.new.self) c.in-Some.c (let u = c.row.invariant in u.utf8) c.in-Some.ensures.steps.0) (ap length c.as_str-left.ensures) (sym c.is_hex.ensures ∙ c.if-is_hex.false) c.if-c-eq95.false c.row_value-else-is_hex.ensures c.ended.ensures
 
 pub returns-else-is_hex-clause-ok : goal.returns-else-is_hex-clause-ok
 returns-else-is_hex-clause-ok c = (stopped c).0

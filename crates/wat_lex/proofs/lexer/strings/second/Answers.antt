@@ -1,5 +1,7 @@
-use Rattle.std.proofs.Common.{sym, ap, ◌∙◌, subst, ◌≡◌, [], ◌∷◌, length}
+use Rattle.std.proofs.Common.{sym, ap, ◌∙◌, subst, ◌≡◌, ◌+◌, ◌*◌, [], ◌∷◌, length}
 use Rattle.std.specs.Str.Iter.{chars_rest}
+use Rattle.std.specs.Char.{digit_value}
+use Rattle.wat_lex.specs.Reads.{Escaped}
 use Rattle.wat_lex.proofs.Elements.{Took, took, refused, second_read, second_missing, second_wrong}
 use Rattle.wat_lex.proofs.lexer.strings.second.Goals as goal
 use Rattle.wat_lex.proofs.lexer.strings.second.Goals.{In-Some}
@@ -11,7 +13,10 @@ pub returns-in-None-clause-err : goal.returns-in-None-clause-err
 returns-in-None-clause-err c = refused _ _ _ c.refuse.ensures (second_missing _ _ _ c.in-None.ensures.steps.0.0 c.requires.hex)
 
 pub returns-then-is_hex-clause-ok : goal.returns-then-is_hex-clause-ok
-returns-then-is_hex-clause-ok c = second_read _ _ _ _ c.in-Some.c (first (goal.at.returns-then-is_hex-clause-ok c).In-Some) c.requires.hex (sym c.is_hex.ensures ∙ c.if-is_hex.true)
+returns-then-is_hex-clause-ok c =
+    subst (λ x. Escaped c.args.flags (92 ∷ c.args.first ∷ []) (chars_rest c.args.it.now) (chars_rest c.next.new.self) (x ∷ []))
+    (ap (λ x. 16 * x + digit_value c.in-Some.c) (sym c.hex_digit.ensures.value) ∙ ap (λ x. 16 * c.hex_digit.result + x) (sym c.hex_digit-then-is_hex.ensures.value))
+    (second_read _ _ _ _ c.in-Some.c (first (goal.at.returns-then-is_hex-clause-ok c).In-Some) c.requires.hex (sym c.is_hex.ensures ∙ c.if-is_hex.true))
 
 pub returns-else-is_hex-clause-err : goal.returns-else-is_hex-clause-err
 returns-else-is_hex-clause-err c = refused _ _ _ c.refuse-in-Some.ensures (second_wrong _ _ _ _ c.in-Some.c _ (first (goal.at.returns-else-is_hex-clause-err c).In-Some) (ap length c.as_str-left.ensures) c.requires.hex (sym c.is_hex.ensures ∙ c.if-is_hex.false))

@@ -53,4 +53,4 @@ pub returns-in-Err-clause-err : goal.returns-in-Err-clause-err
 returns-in-Err-clause-err c = string_escape c.args.flags _ (chars_rest c.elements.it) (chars_rest c.next.new.self) _ c.elements.invariant (was 92 (goal.at.returns-in-Err-clause-err c).In-Some c.if-c-eq92.true) c.in-Err.ensures.err
 
 pub elements-preserved-in_default : goal.elements-preserved-in_default
-elements-preserved-in_default c = continue_escape c.args.flags _ (chars_rest c.elements.it) (chars_rest c.next.new.self) _ c.elements.invariant (was 92 (goal.at.elements-preserved-in_default c).In-Some c.if-c-eq92.true) c.in_default.ensures.ok
+elements-preserved-in_default c = continue_escape c.args.flags _ (chars_rest c.elements.it) (chars_rest c.next.new.self) _ _ c.elements.invariant (was 92 (goal.at.elements-preserved-in_default c).In-Some c.if-c-eq92.true) c.in_default.ensures.ok
