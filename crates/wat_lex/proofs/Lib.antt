@@ -24,3 +24,5 @@ mod NumberValues
 mod NumberParts
 mod NumberWords
 mod Unique
+mod Names
+mod Values

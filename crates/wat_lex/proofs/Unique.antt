@@ -47,15 +47,15 @@ chosen false x y z e = inr (refl, e)
 letter_not_hex : (c v : ℕ) → letter_value c ≡ Some v → is_hex c ≡ true → ⊥
 letter_not_hex c v e h =
     elim (chosen ((c == 34 || c == 39) || c == 92) _ _ _ e) [
-      inl k ↦ elim (or_cases (c == 34 || c == 39) (c == 92) k.0) [
-        inl l ↦ elim (or_cases (c == 34) (c == 39) l) [ inl m ↦ when c 34 is_hex m refl h | inr m ↦ when c 39 is_hex m refl h ]
-      | inr l ↦ when c 92 is_hex l refl h
+      | inl k ↦ elim (or_cases (c == 34 || c == 39) (c == 92) k.0) [
+        | inl l ↦ elim (or_cases (c == 34) (c == 39) l) [ inl m ↦ when c 34 is_hex m refl h | inr m ↦ when c 39 is_hex m refl h ]
+        | inr l ↦ when c 92 is_hex l refl h
       ]
-    | inr k ↦ elim (chosen (c == 116) _ _ _ k.1) [
-        inl l ↦ when c 116 is_hex l.0 refl h
-      | inr l ↦ elim (chosen (c == 110) _ _ _ l.1) [
-          inl m ↦ when c 110 is_hex m.0 refl h
-        | inr m ↦ elim (chosen (c == 114) _ _ _ m.1) [ inl n ↦ when c 114 is_hex n.0 refl h | inr n ↦ cc ]
+      | inr k ↦ elim (chosen (c == 116) _ _ _ k.1) [
+        | inl l ↦ when c 116 is_hex l.0 refl h
+        | inr l ↦ elim (chosen (c == 110) _ _ _ l.1) [
+          | inl m ↦ when c 110 is_hex m.0 refl h
+          | inr m ↦ elim (chosen (c == 114) _ _ _ m.1) [ inl n ↦ when c 114 is_hex n.0 refl h | inr n ↦ cc ]
         ]
       ]
     ]
@@ -63,7 +63,7 @@ letter_not_hex c v e h =
 no_quote_element : {flags : Settings} {s u t : List ℕ} → Element flags (34 ∷ s) u t → ⊥
 no_quote_element (raw a) = false≢true a
 
-element_unique : (flags : Settings) (s u v t r : List ℕ) → Element flags s u t → Element flags s v r → (u ≡ v) × (t ≡ r)
+pub element_unique : (flags : Settings) (s u v t r : List ℕ) → Element flags s u t → Element flags s v r → (u ≡ v) × (t ≡ r)
 element_unique flags s u v t r (raw a) (raw b) = (refl, refl)
 element_unique flags s u v t r (raw a) (letter b) = absurd (false≢true a)
 element_unique flags s u v t r (raw a) (byte b c) = absurd (false≢true a)
@@ -124,8 +124,8 @@ filter_append : (xs ys : List ℕ) → filter is_hex (xs ++ ys) ≡ filter is_he
 filter_append [] ys = refl
 filter_append (x ∷ xs) ys =
     elim (is_hex x) as (λ b. cond b (x ∷ filter is_hex (xs ++ ys)) (filter is_hex (xs ++ ys)) ≡ cond b (x ∷ filter is_hex xs) (filter is_hex xs) ++ filter is_hex ys) [
-      true ↦ ap (λ y. x ∷ y) (filter_append xs ys)
-    | false ↦ filter_append xs ys
+      | true ↦ ap (λ y. x ∷ y) (filter_append xs ys)
+      | false ↦ filter_append xs ys
     ]
 
 value_prefix : (xs ys : List ℕ) → hex_value xs ≤ hex_value (xs ++ ys)

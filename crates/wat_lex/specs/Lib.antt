@@ -10,6 +10,7 @@ pub mod Runs
 pub mod Words
 pub mod Faults
 pub mod Tiling
+pub mod Names
 pub mod Readers
 pub mod Raw
 pub mod Laws

@@ -26,6 +26,7 @@ mod settings;
 mod strings;
 #[cfg(test)]
 mod tests;
+mod values;
 
 pub use faults::{LexError, LexFault};
 use front::front;

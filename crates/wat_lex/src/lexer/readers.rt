@@ -1,15 +1,24 @@
 //! What the tokens of a text read as.
-ghost use Rattle.std.specs.Prelude.{◌≡◌, ◌||◌, false, IfOk, IsOk};
+ghost use Rattle.std.specs.Prelude.{◌≡◌, ◌≢◌, ◌⊎◌, ◌↔◌, ◌||◌, [], false, IfOk, IfErr, IsOk};
+ghost use Rattle.std.specs.Cow.{cow_str_bytes, cow_slice_items, IsBorrowedSlice, IsBorrowedStr};
 ghost use Rattle.std.specs.Str.{chars};
+ghost use Rattle.wat_lex.specs.Classes.{backslash};
+ghost use Rattle.wat_lex.specs.Names.{Name, NameError, HasNone, HasNoEscape};
 ghost use Rattle.wat_lex.specs.NumberValues.{is_anew, IsFloatOf, IsIntegerOf};
 ghost use Rattle.wat_lex.specs.Readers.{IsTokenOf, token_text};
 ghost use Rattle.wat_lex.specs.Setting.{lenient};
+ghost use Rattle.wat_lex.specs.Strings.{StringWord};
 ghost use Rattle.wat_lex.specs.Words.{Word};
-ghost use Rattle.wat_lex.specs.declared.lexer.kinds.TokenKind.TheVariants.{Keyword, Reserved};
+ghost use Rattle.wat_lex.specs.declared.lexer.faults.LexError.TheVariants.{EmptyId, EmptyAnnotation};
+ghost use Rattle.wat_lex.specs.declared.lexer.kinds.TokenKind.TheVariants.{String, Id, Keyword, Annotation, Reserved};
 ghost use Rattle.wat_lex.specs.declared.lexer.kinds.TokenKind.TheVariants as token_kind;
 
-use crate::lexer::{Float, FloatKind, Integer, IntegerKind, Token};
+use crate::error::Error;
+use crate::lexer::values::{name, plain, unescaped};
+use crate::lexer::{Float, FloatKind, Integer, IntegerKind, LexError, Token};
+use crate::token::Span;
 use std::alloc::{AllocError, Global};
+use std::borrow::{CowSlice, CowStr};
 
 impl Token {
     /// The token's text, which is a word of its kind.
@@ -40,6 +49,46 @@ impl Token {
         self.src(s)
     }
 
+    /// The value of a string. It is borrowed where no escape stands in the string, and then no memory is taken.
+    pub fn string<'a>(&self, alloc: Global, s: &'a str) -> Result<CowSlice<'a, u8>, AllocError>
+        requires token { IsTokenOf s.now self.now }
+        requires kind { self.now.kind ≡ String }
+        ensures value { IfOk result (λ v. StringWord lenient (chars (token_text s.now self.now)) (cow_slice_items v)) }
+        ensures borrowed { IfOk result (λ v. IsBorrowedSlice v ↔ HasNone backslash (chars (token_text s.now self.now))) }
+        ensures free { HasNone backslash (chars (token_text s.now self.now)) → IsOk result }
+    {
+        let elements = &self.src(s)[1..];
+        if let Some(value) = plain(elements) {
+            return Ok(CowSlice::Borrowed(value.as_bytes()));
+        }
+        let value = unescaped(alloc, elements)?;
+        Ok(CowSlice::Owned(value))
+    }
+
+    /// The name of an identifier. It is borrowed where no escape stands in it, and then no memory is taken.
+    pub fn id<'a>(&self, alloc: Global, s: &'a str) -> Result<CowStr<'a>, Error>
+        requires token { IsTokenOf s.now self.now }
+        requires kind { self.now.kind ≡ Id }
+        ensures name { IfOk result (λ name. Name (chars (token_text s.now self.now)) (cow_str_bytes name)) }
+        ensures some { IfOk result (λ name. cow_str_bytes name ≢ []) }
+        ensures error { IfErr result (NameError EmptyId self.now.offset (chars (token_text s.now self.now))) }
+        ensures borrowed { IfOk result (λ name. IsBorrowedStr name ↔ HasNoEscape (chars (token_text s.now self.now))) }
+    {
+        self.named(alloc, s, LexError::EmptyId)
+    }
+
+    /// The name of an annotation. It is borrowed where no escape stands in it, and then no memory is taken.
+    pub fn annotation<'a>(&self, alloc: Global, s: &'a str) -> Result<CowStr<'a>, Error>
+        requires token { IsTokenOf s.now self.now }
+        requires kind { self.now.kind ≡ Annotation }
+        ensures name { IfOk result (λ name. Name (chars (token_text s.now self.now)) (cow_str_bytes name)) }
+        ensures some { IfOk result (λ name. cow_str_bytes name ≢ []) }
+        ensures error { IfErr result (NameError EmptyAnnotation self.now.offset (chars (token_text s.now self.now))) }
+        ensures borrowed { IfOk result (λ name. IsBorrowedStr name ↔ HasNoEscape (chars (token_text s.now self.now))) }
+    {
+        self.named(alloc, s, LexError::EmptyAnnotation)
+    }
+
     /// What an integer token reads as. Memory is taken where its digits have underscores or `0x`.
     pub fn integer<'a>(
         &self,
@@ -68,5 +117,27 @@ impl Token {
         ensures free { is_anew kind ≡ false → IsOk result }
     {
         Float::from_word(alloc, self.src(s), kind)
+    }
+
+    /// The name behind the first character, or the given error where it is empty.
+    fn named<'a>(&self, alloc: Global, s: &'a str, empty: LexError) -> Result<CowStr<'a>, Error>
+        requires token { IsTokenOf s.now self.now }
+        requires kind { (self.now.kind ≡ Id) ⊎ (self.now.kind ≡ Annotation) }
+        ensures name { IfOk result (λ name. Name (chars (token_text s.now self.now)) (cow_str_bytes name)) }
+        ensures some { IfOk result (λ name. cow_str_bytes name ≢ []) }
+        ensures error { IfErr result (NameError empty self.now.offset (chars (token_text s.now self.now))) }
+        ensures borrowed { IfOk result (λ name. IsBorrowedStr name ↔ HasNoEscape (chars (token_text s.now self.now))) }
+    {
+        let error = match name(alloc, &self.src(s)[1..])? {
+            None => LexError::InvalidUtf8Id,
+            Some(name) => {
+                if name.len() > 0 {
+                    return Ok(name);
+                }
+                empty
+            }
+        };
+        let span = Span::from_offset(self.offset);
+        Err(Error::lex(alloc, span, s, error))
     }
 }

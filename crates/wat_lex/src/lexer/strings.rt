@@ -200,7 +200,7 @@ fn braced(it: &mut Chars<'_>, flags: Settings) -> Result<EscapeValue, Broken>
 }
 
 /// What follows a backslash.
-fn escape(it: &mut Chars<'_>, flags: Settings) -> Result<EscapeValue, Broken>
+pub fn escape(it: &mut Chars<'_>, flags: Settings) -> Result<EscapeValue, Broken>
     requires utf8 { IsUtf8 (chars_rest it.old) }
     ensures ok { IfOk result (λ e. Escaped flags (92 ∷ []) (chars_rest it.old) (chars_rest it.new) (escape_bytes e)) }
     ensures err { IfErr result (Breaks flags (92 ∷ []) (chars_rest it.old)) }
