@@ -1,18 +1,22 @@
 -- The words of strings and names.
-use Rattle.std.proofs.Common.{◌≡◌, ◌≢◌, ◌<◌, ◌++◌, ◌⊎◌, drop, arith, ℕ, List, [], ◌∷◌, refl, ap, sym, ◌∙◌, subst, Bool, true, false, cond, inl, inr}
-use Rattle.std.specs.Prelude.{Some, None, Option, MatchOption, IsTrue, ◌==◌, ◌&&◌, nat_le}
+use Rattle.std.proofs.Common.{◌≡◌, ◌≢◌, ◌<◌, ◌≤◌, length, ◌++◌, ◌⊎◌, drop, arith, ℕ, List, [], ◌∷◌, refl, ap, sym, ◌∙◌, subst, Bool, true, false, cond, inl, inr}
+use Rattle.std.specs.Prelude.{Some, None, Option, MatchOption, Result, Ok, Err, IfErr, IsErrAnd, IsTrue, ◌==◌, ◌&&◌, nat_le}
 use Rattle.std.specs.Option.{option_map}
 use Rattle.std.proofs.lemmas.Bool.{both_ways, ne_eqb, false≢true}
+use Rattle.std.proofs.lemmas.List.{nil_from_length}
 use Rattle.std.proofs.lemmas.Str.{chars_past_char, encode_ascii, encodes-chars}
 use Rattle.std.specs.Str.{chars, IsUtf8, IsCharBoundary}
 use lib.Utf8.{encodes}
 use Rattle.wat_lex.specs.Classes.{Each, is_idchar}
-use Rattle.wat_lex.specs.Names.{Name, Named, bare, quoted as named_string, HasNone, HasNoEscape, IsNamed, IsQuoted}
+use Rattle.wat_lex.specs.Names.{Name, Named, bare, quoted as named_string, HasNone, HasNoEscape, IsNamed, IsQuoted, NameFault, no_name, not_utf8, NameError}
+use Rattle.wat_lex.specs.Errors.{Report, lexical}
 use Rattle.wat_lex.specs.Numbers.{Number}
 use Rattle.wat_lex.specs.Runs.{Piece, Idchar, Quoted, Run, none, idchar, string, idchars, RunKind, RunWord, WordKind, named_kind, kind_by_first}
 use Rattle.wat_lex.specs.Setting.{lenient}
 use Rattle.wat_lex.specs.Strings.{Quoted as Elements, StringWord, quoted}
 use Rattle.wat_lex.specs.Words.{Word}
+use Rattle.wat_lex.specs.declared.lexer.faults.LexError.{LexError}
+use Rattle.wat_lex.specs.declared.lexer.faults.LexError.TheVariants.{InvalidUtf8Id}
 use Rattle.wat_lex.specs.declared.lexer.kinds.TokenKind.{TokenKind}
 use Rattle.wat_lex.specs.declared.lexer.kinds.TokenKind.TheVariants.{LineComment, BlockComment, Whitespace, LParen, RParen, String, Id, Keyword, Annotation, Reserved, Integer, Float}
 use Rattle.wat_lex.proofs.Lines.{idchar_ascii}
@@ -260,3 +264,19 @@ no_quotes (c ∷ cs) h = (ne_eqb c 34 (λ e. both_ways (is_idchar c) (ap is_idch
 
 pub bare_free : (cs : List ℕ) → Each is_idchar cs → HasNoEscape cs
 bare_free cs h = inl (no_quotes cs h)
+
+-- the error of a name: want of memory, or what is wrong with it
+pub memory_error : {T : Type 0} (r : Result T (Option Report)) (empty : LexError) (offset : ℕ) (w : List ℕ) → IsErrAnd r (λ e. e ≡ None) → (HasNoEscape w → ⊥) → IfErr r (NameError empty offset w)
+memory_error (Ok x) empty offset w h n = tt
+memory_error (Err e) empty offset w h n = subst (NameError empty offset w) (sym h) n
+
+pub fault_error : (r : Option Report) (empty error : LexError) (offset span : ℕ) (w : List ℕ) → NameFault empty w error → span ≡ offset → r ≡ Some (lexical (record { offset = span; error = error })) → NameError empty offset w r
+fault_error r empty error offset span w f s e =
+    subst (NameError empty offset w) (sym (e ∙ ap (λ x. Some (lexical (record { offset = x; error = error }))) s)) (error, f, refl)
+
+pub empty_fault : (empty error : LexError) (text rest bytes : List ℕ) → NameTail text → rest ≡ drop 1 text → Named (chars rest) bytes → length bytes ≤ 0 → error ≡ empty → NameFault empty (chars text) error
+empty_fault empty error text rest bytes t e h l k =
+    subst (NameFault empty (chars text)) (sym k) (no_name (subst (Name (chars text)) (nil_from_length bytes (omega (arith, l))) (name_value text rest bytes t e h)))
+
+pub utf8_fault : (empty error : LexError) (text rest : List ℕ) → NameTail text → rest ≡ drop 1 text → (bytes : List ℕ) × Named (chars rest) bytes × (IsUtf8 bytes → ⊥) → error ≡ InvalidUtf8Id → NameFault empty (chars text) error
+utf8_fault empty error text rest t e h k = subst (NameFault empty (chars text)) (sym k) (not_utf8 (name_value text rest h.0 t e h.1) h.2)

@@ -201,8 +201,8 @@ reading_escape start rest done next u n h b e =
     let p = plain_front a.front 92 mid (chars rest) h.value a.clear h.left a.cut in
     let f = first_element (92 ∷ mid) u (chars next) p.rest 92 mid (λ x. false≢true (ap (λ y. y == 34) x)) p.quoted refl e.element in
     let v : done ++ h.value ≡ ((done ++ take n rest) ++ u) ++ f.rest =
-        ap (λ x. done ++ x) (p.value ∙ ap (λ x. encodes a.front ++ x) f.value ∙ ap (λ x. x ++ (u ++ f.rest)) (sym a.bytes))
-        ∙ sym (append_assoc done (take n rest) (u ++ f.rest)) ∙ sym (append_assoc (done ++ take n rest) u f.rest) in
+    ap (λ x. done ++ x) (p.value ∙ ap (λ x. encodes a.front ++ x) f.value ∙ ap (λ x. x ++ (u ++ f.rest)) (sym a.bytes))
+    ∙ sym (append_assoc done (take n rest) (u ++ f.rest)) ∙ sym (append_assoc (done ++ take n rest) u f.rest) in
     record { value = f.rest; left = f.quoted; whole = subst (λ x. Quoted lenient (chars start) x []) v h.whole; utf8 = e.utf8 }
 
 pub reading_sound : (start rest done : List ℕ) (n : ℕ) (broken : Broken) → Reading start rest done → IsFirstByte (is_byte 92) rest (Some n) → Breaks lenient (92 ∷ []) (drop (n + 1) rest) broken → ⊥

@@ -17,6 +17,8 @@ mod faults;
 mod front;
 mod kinds;
 mod number_values;
+#[cfg(test)]
+mod name_tests;
 mod numbers;
 #[cfg(test)]
 mod reader_tests;

@@ -1,6 +1,7 @@
 use Rattle.std.proofs.Common.{sym, ap, ◌∙◌, subst, ◌≡◌, ◌≢◌, List, ℕ, [], ◌∷◌, lit<}
 use Rattle.std.specs.Prelude.{None, Some}
 use Rattle.std.specs.Str.{chars}
+use Rattle.std.proofs.lemmas.Bool.{false≢true}
 use Rattle.std.proofs.lemmas.Str.Pattern.{strip_prefix_char}
 use Rattle.wat_lex.specs.Classes.{Each, is_idchar}
 use Rattle.wat_lex.specs.Names.{Named}
@@ -47,5 +48,5 @@ pub returns-clause-none : goal.returns-clause-none
 returns-clause-none c = (
   c.in_ok-unescaped.field-0.items,
   quoted_named c.args.text.now c.in-Some.elements.now c.in_ok-unescaped.field-0.items c.utf8.text (quote (goal.at.returns-clause-none c).In-Some) c.in_ok-unescaped.ensures,
-  c.in-Err.ensures.succeeds,
+  λ u. false≢true (c.in-Err.ensures.succeeds u),
 )

@@ -41,13 +41,12 @@ escapes-preserved c =
     let rest = c.escapes.rest.now in
     let cut : take c.in-Some.before c.as_bytes-in-Some.result.now ≡ take c.in-Some.before rest = ap (λ x. take c.in-Some.before x) c.as_bytes-in-Some.ensures.value in
     let items : c.append.new.value.items ≡ (done ++ take c.in-Some.before rest) ++ escape_bytes c.in-Ok.read =
-        c.in_ok-append.ensures ∙ ap (λ x. x ++ escape_bytes c.in-Ok.read) (c.in_ok-extend_from_slice.ensures.items ∙ ap (λ x. done ++ x) cut) in
-    (
+    c.in_ok-append.ensures ∙ ap (λ x. x ++ escape_bytes c.in-Ok.read) (c.in_ok-extend_from_slice.ensures.items ∙ ap (λ x. done ++ x) cut) in (
       c.as_str-rest.utf8,
       subst (λ x. Reading c.args.elements.now x c.append.new.value.items) (sym c.as_str-rest.ensures)
-      (subst (Reading c.args.elements.now (chars_rest c.escape.new.it)) (sym items)
-      (reading_escape c.args.elements.now rest done (chars_rest c.escape.new.it) (escape_bytes c.in-Ok.read) c.in-Some.before c.escapes.invariant.1 (found s)
-      (subst (λ x. Escaped lenient (92 ∷ []) x (chars_rest c.escape.new.it) (escape_bytes c.in-Ok.read)) (c.chars-it.ensures.rest ∙ c.range_from.ensures.value) c.in-Ok.ensures.ok))),
+          (subst (Reading c.args.elements.now (chars_rest c.escape.new.it)) (sym items)
+          (reading_escape c.args.elements.now rest done (chars_rest c.escape.new.it) (escape_bytes c.in-Ok.read) c.in-Some.before c.escapes.invariant.1 (found s)
+          (subst (λ x. Escaped lenient (92 ∷ []) x (chars_rest c.escape.new.it) (escape_bytes c.in-Ok.read)) (c.chars-it.ensures.rest ∙ c.range_from.ensures.value) c.in-Ok.ensures.ok))),
     )
 
 pub slice_bounds-extend_from_slice-count : goal.slice_bounds-extend_from_slice-count

@@ -1,0 +1,99 @@
+//! Strings and names of tokens, with their values from outside.
+use super::{Lexer, TokenKind};
+use std::alloc::Global;
+use std::process::Abort;
+use std::test::Fail;
+
+/// The value of the string at the text's front.
+fn value(rt: &impl Abort, alloc: Global, text: &str) -> Result<Vec<u8>, Fail> {
+    assert!(rt; text.len() < 1_000_000);
+    let mut lexer = Lexer::new(text);
+    lexer.allow_confusing_unicode(true);
+    let mut bytes = Vec::new(alloc);
+    if let Ok(Some(token)) = lexer.scan(0) {
+        if let TokenKind::String = token.kind {
+            bytes.extend_from_slice(token.string(alloc, text)?.as_slice())?;
+            return Ok(bytes);
+        }
+    }
+    panic!(rt; "no string: {text}")
+}
+
+/// The name that stands at a byte of the text, or what its error prints.
+fn name(rt: &impl Abort, alloc: Global, text: &str, at: usize) -> Result<String, Fail> {
+    assert!(rt; text.len() < 1_000_000);
+    assert!(rt; text.is_char_boundary(at));
+    let lexer = Lexer::new(text);
+    let Ok(Some(token)) = lexer.scan(at) else {
+        panic!(rt; "no token: {text}")
+    };
+    let name = match token.kind {
+        TokenKind::Id => token.id(alloc, text),
+        TokenKind::Annotation => token.annotation(alloc, text),
+        _ => panic!(rt; "no name: {text}"),
+    };
+    match name {
+        Ok(name) => Ok(String::from_str(alloc, name.as_str())?),
+        Err(error) => Ok(format!(in alloc; "{error}")?),
+    }
+}
+
+#[test]
+fn values_of_strings(rt: HostRuntime) -> Result<(), Fail> {
+    let rows: [(&str, &[u8]); 12] = [
+        ("\"\"", b""),
+        ("\"a\"", b"a"),
+        ("\"\\n\"", b"\x0a"),
+        ("\"\\22\"", b"\x22"),
+        ("\"\\u{1F600}\"", b"\xf0\x9f\x98\x80"),
+        ("\"\\ff\"", b"\xff"),
+        ("\"\\\"\"", b"\""),
+        ("\"\\t\\r\\'\\\\\"", b"\x09\x0d'\\"),
+        (
+            "\"a\u{20ac}\\41b\\u{2_0ac}c\"",
+            b"a\xe2\x82\xacAb\xe2\x82\xacc",
+        ),
+        ("\"\\E9\\e9\"", b"\xe9\xe9"),
+        ("\"\\u{0}\\00\"", b"\x00\x00"),
+        ("\"\u{202a}\"", b"\xe2\x80\xaa"),
+    ];
+    for (text, want) in rows.as_slice() {
+        let got = value(&rt, rt.alloc(), text)?;
+        assert!(rt; got.as_slice() == *want, "{text}");
+    }
+    Ok(())
+}
+
+#[test]
+fn names(rt: HostRuntime) -> Result<(), Fail> {
+    let rows = [
+        ("$a", 0, "a"),
+        ("$a\\b", 0, "a\\b"),
+        ("$\"a\"", 0, "a"),
+        ("$\"\u{20ac} \"", 0, "\u{20ac} "),
+        ("$\"\\u{61}b\"", 0, "ab"),
+        ("$\"\\e2\\82\\ac\"", 0, "\u{20ac}"),
+        ("$", 0, "empty identifier at byte offset 0"),
+        (" $\"\"", 1, "empty identifier at byte offset 1"),
+        (
+            "$\"\\ff\"",
+            0,
+            "malformed UTF-8 encoding of string-based id at byte offset 0",
+        ),
+        ("@a.b", 0, "a.b"),
+        ("@\"a b\"", 0, "a b"),
+        ("@\"\\41\"", 0, "A"),
+        ("@", 0, "empty annotation id at byte offset 0"),
+        ("( @\"\"", 2, "empty annotation id at byte offset 2"),
+        (
+            "@\"\\e2\\82\"",
+            0,
+            "malformed UTF-8 encoding of string-based id at byte offset 0",
+        ),
+    ];
+    for (text, at, want) in rows.as_slice() {
+        let got = name(&rt, rt.alloc(), text, *at)?;
+        assert!(rt; got.as_str() == *want, "{text}: {got}");
+    }
+    Ok(())
+}
