@@ -16,9 +16,9 @@ mod comments;
 mod faults;
 mod front;
 mod kinds;
-mod number_values;
 #[cfg(test)]
 mod name_tests;
+mod number_values;
 mod numbers;
 #[cfg(test)]
 mod reader_tests;
