@@ -1,5 +1,5 @@
 -- Runs and faults of a text: what stands before their rest.
-use Rattle.std.proofs.Common.{◌≡◌, ◌≤◌, ℕ, List, [], ◌∷◌, ◌++◌, refl, arith, ap, sym, ◌∙◌, subst, Bool, append_assoc}
+use Rattle.std.proofs.Common.{◌≡◌, ◌≤◌, ℕ, List, [], ◌∷◌, ◌++◌, refl, arith, ap, sym, ◌∙◌, subst, append_assoc}
 use Rattle.std.proofs.lemmas.List.{append-nil}
 use Rattle.wat_lex.specs.Classes.{size}
 use Rattle.wat_lex.specs.Strings.{Element, raw, letter, byte, unicode, Quoted, ends, more}

@@ -1,6 +1,6 @@
 -- Steps of the readers of strings.
 use Rattle.std.proofs.Common.{◌≡◌, ◌≢◌, ◌≤◌, ◌<◌, ◌+◌, ◌*◌, ℕ, List, [], ◌∷◌, ◌++◌, length, refl, arith, ap, sym, ◌∙◌, subst, Bool, true, false, not, ◌&&◌, ◌||◌, length-append, append_assoc}
-use Rattle.std.specs.Prelude.{Some, None, Option, Result, Ok, Err, IfOk, IfErr, IsTrue, encode_utf8, ◌==◌}
+use Rattle.std.specs.Prelude.{Some, None, Result, Ok, Err, IfOk, IfErr, IsTrue, encode_utf8, ◌==◌}
 use Rattle.std.proofs.lemmas.Bool.{both_ways, ne_eqb}
 use Rattle.std.proofs.lemmas.List.{nil_from_length}
 use Rattle.std.proofs.lemmas.Str.{chars_past_char, chars-nil, encodes-chars, IsUtf8-past_char}
@@ -10,7 +10,7 @@ use lib.Utf8.{encode}
 use Rattle.wat_lex.specs.Classes.{size, is_hex, is_confusing}
 use Rattle.wat_lex.specs.Strings.{Element, raw, letter, byte, unicode, Quoted, ends, more, letter_value, is_raw, is_control}
 use Rattle.wat_lex.specs.StringFaults.{StringFault, later, no_quote, control, confusing, no_escape, bad_escape, no_second, bad_second, no_open, bad_open, no_digit, bad_digit}
-use Rattle.wat_lex.specs.Reads.{Escaped, Breaks, Closed, Wrong, StringTaken, StringRefused}
+use Rattle.wat_lex.specs.Reads.{Escaped, Breaks, Closed, Wrong}
 use Rattle.wat_lex.specs.declared.lexer.strings.Broken.{Broken}
 use Rattle.wat_lex.specs.declared.lexer.faults.LexError.{LexError}
 use Rattle.wat_lex.specs.declared.lexer.faults.LexError.TheVariants.{InvalidStringElement, InvalidStringEscape, InvalidHexDigit, Expected, UnexpectedEof, ConfusingUnicode}

@@ -1,6 +1,6 @@
 -- What holds of each list of raw tokens.
-use Rattle.std.proofs.Common.{◌≡◌, ◌≤◌, ◌<◌, ◌+◌, ℕ, List, [], ◌∷◌, ◌++◌, length, take, drop, refl, arith, ap, sym, ◌∙◌, subst, true, false}
-use Rattle.std.specs.Prelude.{Option, Some, None, Ok, Err}
+use Rattle.std.proofs.Common.{◌≡◌, ◌≤◌, ◌<◌, ◌+◌, ℕ, List, [], ◌∷◌, ◌++◌, length, drop, arith, ap, sym, ◌∙◌, subst, true, false}
+use Rattle.std.specs.Prelude.{Option, Some, None}
 use Rattle.std.proofs.lemmas.List.{take-append-drop, drop-drop}
 use Rattle.std.proofs.Math.Seq.{drop-length}
 use Rattle.std.proofs.lemmas.Str.{IsCharBoundary-from_rest}
@@ -12,7 +12,6 @@ use Rattle.wat_lex.specs.Readers.{IsTokenOf, token_text}
 use Rattle.wat_lex.specs.Laws.{AreTokens, EachToken, joined_texts, Laws}
 use Rattle.wat_lex.specs.declared.lexer.kinds.Token.{Token}
 use Rattle.wat_lex.specs.declared.lexer.faults.LexFault.{LexFault}
-use Rattle.wat_lex.specs.declared.lexer.settings.Settings.{Settings}
 use Rattle.wat_lex.proofs.Looser.{Looser, stands_looser}
 use Rattle.wat_lex.proofs.Scans.{some_size, word_some}
 use Rattle.wat_lex.proofs.TokensOf.{token_of, token_ends}

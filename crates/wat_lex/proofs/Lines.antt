@@ -1,5 +1,5 @@
 -- Line comments, single characters and blanks at the front of a text.
-use Rattle.std.proofs.Common.{◌≡◌, ◌<◌, ◌+◌, ◌⊎◌, ℕ, zero, suc, List, [], ◌∷◌, ◌++◌, length, take, drop, get_or, refl, arith, ap, sym, ◌∙◌, subst, length-append, Bool, true, false, cond, not, ◌||◌, inl, inr, one-add}
+use Rattle.std.proofs.Common.{◌≡◌, ◌<◌, ◌+◌, ◌⊎◌, ℕ, suc, List, [], ◌∷◌, ◌++◌, length, take, drop, get_or, refl, arith, ap, sym, ◌∙◌, subst, length-append, Bool, true, false, cond, not, ◌||◌, inl, inr, one-add}
 use Rattle.std.specs.Prelude.{◌==◌, nat_lt, codes, Option, Some, None, unwrap_or}
 use Rattle.memchr.specs.Find.{IsFirstByte, is_byte2}
 use Rattle.std.proofs.lemmas.List.{get_or-drop}

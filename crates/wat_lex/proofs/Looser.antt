@@ -1,5 +1,5 @@
 -- What some flags take, looser flags take too.
-use Rattle.std.proofs.Common.{◌≡◌, ℕ, List, [], ◌∷◌, refl, ap, ◌∙◌, Bool, true, false, ◌&&◌, ◌||◌, inl, inr}
+use Rattle.std.proofs.Common.{◌≡◌, ℕ, List, [], refl, ap, ◌∙◌, Bool, true, false, ◌&&◌, ◌||◌, inl, inr}
 use Rattle.std.specs.Prelude.{not, IsTrue, ◌==◌}
 use Rattle.std.proofs.lemmas.Bool.{and_parts}
 use Rattle.wat_lex.specs.Classes.{quote, backslash, is_confusing, IsClear}

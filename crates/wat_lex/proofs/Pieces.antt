@@ -1,5 +1,5 @@
 -- Steps of the reader of runs.
-use Rattle.std.proofs.Common.{◌≡◌, ◌≢◌, ◌≤◌, ◌<◌, ◌+◌, ℕ, List, [], ◌∷◌, ◌++◌, length, take, drop, get_or, refl, arith, ap, sym, ◌∙◌, subst, Bool, true, false, length-append, length-drop, append_assoc, inl, inr, eq-eqb}
+use Rattle.std.proofs.Common.{◌≡◌, ◌≢◌, ◌≤◌, ◌<◌, ◌+◌, ℕ, List, [], ◌∷◌, ◌++◌, length, take, drop, get_or, refl, arith, ap, sym, ◌∙◌, subst, length-drop, append_assoc, inl, inr, eq-eqb}
 use Rattle.std.specs.Prelude.{◌==◌, map}
 use Rattle.std.proofs.lemmas.Bool.{or_cases, ne_eqb, eqb-true}
 use Rattle.std.proofs.lemmas.List.{append-nil, drop-drop, drop_more, length-take-le}
@@ -7,7 +7,7 @@ use Rattle.std.proofs.lemmas.List.Sums.{prefix_len-le-length}
 use Rattle.std.proofs.lemmas.Str.{encodes-chars}
 use Rattle.std.specs.List.{prefix_len}
 use Rattle.std.specs.Str.{chars, IsUtf8}
-use Rattle.wat_lex.specs.Classes.{size, Each, Begins, is_idchar, is_run_char}
+use Rattle.wat_lex.specs.Classes.{Each, Begins, is_idchar, is_run_char}
 use Rattle.wat_lex.specs.Runs.{Piece, Idchar, Quoted, Run, none, idchar, string}
 use Rattle.wat_lex.specs.Faults.{in_string}
 use Rattle.wat_lex.specs.Reads.{StringTaken, StringRefused}

@@ -1,10 +1,9 @@
 -- What the iterator's calls give, one after another, is a maximal tiling with its ending.
-use Rattle.std.proofs.Common.{◌≡◌, ◌+◌, List, [], ◌∷◌, length, refl, ap, sym, ◌∙◌, subst, true, false, inl, inr}
+use Rattle.std.proofs.Common.{◌≡◌, List, [], ◌∷◌, length, refl, ap, sym, ◌∙◌, subst, true, false, inl, inr}
 use Rattle.std.specs.Prelude.{Some, None, Ok, Err}
 use Rattle.std.specs.Iterator.Runs.{Run as Calls, YieldsRun}
 use Rattle.std.specs.Iterator.{Yields, Drains}
 use Rattle.std.proofs.lemmas.Bool.{both_ways}
-use Rattle.wat_lex.specs.Faults.{FaultAt}
 use Rattle.wat_lex.specs.Setting.{Setting}
 use Rattle.wat_lex.specs.Tiling.{TokenAt, Tiling}
 use Rattle.wat_lex.specs.Raw.{Item, Raw, ErrorAt, Progress, token_steps}

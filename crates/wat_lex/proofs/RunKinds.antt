@@ -1,5 +1,5 @@
 -- The kinds of runs.
-use Rattle.std.proofs.Common.{◌≡◌, ◌≢◌, ◌≤◌, ◌<◌, ◌+◌, ◌-◌, ◌⊎◌, ℕ, List, [], ◌∷◌, ◌++◌, length, take, get_or, refl, arith, ap, sym, ◌∙◌, subst, Bool, true, false, cond, inl, inr}
+use Rattle.std.proofs.Common.{◌≡◌, ◌≢◌, ◌≤◌, ◌<◌, ◌⊎◌, ℕ, List, [], ◌∷◌, ◌++◌, length, take, get_or, refl, arith, ap, sym, ◌∙◌, subst, Bool, true, false, cond, inl, inr}
 use Rattle.std.specs.Prelude.{Some, None, Option, MatchOption, ◌==◌, ◌&&◌, nat_le}
 use Rattle.std.specs.Option.{option_map}
 use Rattle.std.proofs.lemmas.List.{append-nil, take_at}
@@ -16,7 +16,6 @@ use Rattle.wat_lex.specs.RunReads.{RunFound, IsKindOfRun, idchar_count, string_c
 use Rattle.wat_lex.specs.declared.lexer.runs.Pieces.{Pieces}
 use Rattle.wat_lex.specs.declared.lexer.kinds.TokenKind.{TokenKind}
 use Rattle.wat_lex.specs.declared.lexer.kinds.TokenKind.TheVariants.{LineComment, BlockComment, Whitespace, LParen, RParen, String, Id, Keyword, Annotation, Reserved, Integer, Float}
-use Rattle.wat_lex.specs.declared.lexer.faults.LexError.{LexError}
 use Rattle.wat_lex.proofs.Lines.{run_char_ascii, idchar_ascii}
 use Rattle.wat_lex.proofs.Checks.{halves}
 use Rattle.wat_lex.proofs.Confusing.{size-append}

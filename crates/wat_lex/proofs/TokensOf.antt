@@ -1,11 +1,10 @@
 -- The tokens of a text, as their readers see them.
-use Rattle.std.proofs.Common.{◌≡◌, ◌-◌, ℕ, List, ◌++◌, take, drop, refl, arith, ap, sym, ◌∙◌, subst}
+use Rattle.std.proofs.Common.{◌≡◌, ◌-◌, ℕ, List, take, drop, refl, arith, ap, sym, ◌∙◌, subst}
 use Rattle.std.specs.Prelude.{slice_range}
 use Rattle.std.proofs.lemmas.List.{take_at}
 use Rattle.std.proofs.lemmas.Str.{chars-encodes, IsUtf8-drop, IsCharBoundary-at_seam}
 use Rattle.std.specs.Str.{chars, IsUtf8, IsCharBoundary}
 use lib.Utf8.{encodes}
-use Rattle.wat_lex.specs.Classes.{size}
 use Rattle.wat_lex.specs.Readers.{IsTokenOf, token_text}
 use Rattle.wat_lex.specs.Setting.{Setting, lenient}
 use Rattle.wat_lex.specs.Tiling.{TokenAt}

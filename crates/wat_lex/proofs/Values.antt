@@ -2,9 +2,9 @@
 use Rattle.std.proofs.Common.{◌≡◌, ◌≢◌, ◌≤◌, ◌<◌, ◌+◌, ◌-◌, ◌⊎◌, ℕ, List, [], ◌∷◌, ◌++◌, length, take, drop, refl, arith, ap, sym, ◌∙◌, subst, Bool, true, false, not, length-append, append_assoc, inl, inr}
 use Rattle.std.specs.Prelude.{Some, None, Option, unwrap_or, ◌==◌}
 use Rattle.std.proofs.lemmas.Bool.{both_ways, eqb-true, eq-eqb, false≢true}
-use Rattle.std.proofs.lemmas.List.{append-nil, take_at, drop_at, drop-drop}
-use Rattle.std.proofs.lemmas.Str.{chars-encodes, encodes-append, encodes-chars, encode_ascii, IsCharBoundary-at_seam}
-use Rattle.std.specs.Str.{chars, IsUtf8, IsCharBoundary, NonePass}
+use Rattle.std.proofs.lemmas.List.{append-nil, take_at, drop_at}
+use Rattle.std.proofs.lemmas.Str.{chars-encodes, encodes-chars, encode_ascii, IsCharBoundary-at_seam}
+use Rattle.std.specs.Str.{chars, IsUtf8, IsCharBoundary}
 use Rattle.std.specs.List.{prefix_len}
 use lib.Utf8.{encode, encodes}
 use Rattle.memchr.specs.Find.{IsFirstByte, is_byte}

@@ -1,6 +1,6 @@
 -- WebAssembly specification, text format, values: identifiers; the annotations proposal: annotation names. Behind `$` or
 -- `@` stands a name: idchars, which are their own bytes, or a string.
-use Rattle.std.specs.Prelude.{◌≡◌, ◌≢◌, ◌⊎◌, ◌==◌, ℕ, List, [], ◌∷◌, Option, Some, None, encode_utf8_all}
+use Rattle.std.specs.Prelude.{◌≡◌, ◌⊎◌, ◌==◌, ℕ, List, [], ◌∷◌, Option, Some, None, encode_utf8_all}
 use Rattle.std.specs.Str.{NonePass, IsUtf8}
 use Rattle.wat_lex.specs.Classes.{quote, backslash, is_idchar, Each}
 use Rattle.wat_lex.specs.Errors.{Report, lexical}

@@ -5,7 +5,6 @@ use Rattle.wat_lex.specs.Classes.{size, is_confusing}
 use Rattle.wat_lex.specs.Faults.{Fault}
 use Rattle.wat_lex.specs.Words.{Stands}
 use Rattle.wat_lex.specs.declared.lexer.settings.Settings.{Settings}
-use Rattle.wat_lex.specs.declared.lexer.kinds.TokenKind.{TokenKind}
 use Rattle.wat_lex.specs.declared.lexer.kinds.Lexeme.{Lexeme}
 use Rattle.wat_lex.specs.declared.lexer.faults.LexFault.{LexFault}
 

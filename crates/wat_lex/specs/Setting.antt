@@ -1,5 +1,5 @@
 -- What a lexer reads: a text and the two flags. No part of the standard, which has no flags.
-use Rattle.std.specs.Prelude.{ℕ, List, Bool, true, false}
+use Rattle.std.specs.Prelude.{ℕ, List, true, false}
 use Rattle.wat_lex.specs.declared.lexer.settings.Settings.{Settings}
 
 -- the bytes of a text, and the flags

@@ -1,6 +1,6 @@
 -- WebAssembly specification, text format, values: strings. How a text that begins as a string goes wrong: good elements
 -- in front, and then one of the cases below. Each names the error and the text from the place where it is told.
-use Rattle.std.specs.Prelude.{◌≡◌, ◌≢◌, ◌≤◌, ◌^◌, ℕ, Bool, true, false, List, [], ◌∷◌, ◌++◌, IsTrue, Option, None}
+use Rattle.std.specs.Prelude.{◌≡◌, ◌≢◌, ◌≤◌, ◌^◌, ℕ, true, false, List, [], ◌∷◌, ◌++◌, IsTrue, None}
 use Rattle.std.specs.Char.{IsScalar}
 use Rattle.wat_lex.specs.Classes.{backslash, underscore, letter_u, open_brace, close_brace, is_hex, is_confusing, Begins}
 use Rattle.wat_lex.specs.Strings.{is_control, letter_value, is_hex_or_underscore, hex_value, EndsInUnderscore, HexRow, Element}

@@ -1,4 +1,4 @@
-use Rattle.std.proofs.Common.{sym, ap, ◌∙◌, subst, ◌≡◌, [], ◌∷◌, length}
+use Rattle.std.proofs.Common.{sym, ap, ◌∙◌, [], ◌∷◌, length}
 use Rattle.std.specs.Str.Iter.{chars_rest}
 use Rattle.wat_lex.specs.Reads.{escape_bytes}
 use Rattle.wat_lex.proofs.Elements.{Took, took, refused, digits_missing, digits_wrong, escaped_on, breaks_on, if_ok, if_err}

@@ -1,4 +1,4 @@
-use Rattle.std.proofs.Common.{sym, ap, ◌∙◌, subst, ◌≡◌, ℕ, List, [], ◌∷◌, length, Bool, true, false, arith, ◌+◌, ◌*◌}
+use Rattle.std.proofs.Common.{sym, ap, ◌∙◌, subst, ◌≡◌, ℕ, [], ◌∷◌, length, arith, ◌+◌, ◌*◌}
 use Rattle.std.specs.Str.Iter.{chars_rest}
 use Rattle.std.proofs.lemmas.Bool.{both_ways}
 use Rattle.wat_lex.proofs.Elements.{Took, took, refused}

@@ -1,4 +1,4 @@
-use Rattle.std.proofs.Common.{sym, ap, ◌∙◌, subst, ◌≡◌, ◌+◌, ◌*◌, [], ◌∷◌, length}
+use Rattle.std.proofs.Common.{sym, ap, ◌∙◌, subst, ◌+◌, ◌*◌, [], ◌∷◌, length}
 use Rattle.std.specs.Str.Iter.{chars_rest}
 use Rattle.std.specs.Char.{digit_value}
 use Rattle.wat_lex.specs.Reads.{Escaped}

@@ -1,4 +1,4 @@
-use Rattle.std.proofs.Common.{subst, sym, ap, ◌∙◌, ◌-◌, ◌≤◌, length}
+use Rattle.std.proofs.Common.{subst, sym, ◌-◌, length}
 use Rattle.std.specs.Str.Iter.{chars_rest}
 use Rattle.wat_lex.specs.Reads.{Closed, Wrong, StringTaken}
 use Rattle.wat_lex.proofs.Cuts.{string_taken, string_broken, string_refused}

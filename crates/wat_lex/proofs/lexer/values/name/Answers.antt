@@ -1,4 +1,4 @@
-use Rattle.std.proofs.Common.{sym, ap, ◌∙◌, subst, ◌≡◌, ◌≢◌, List, ℕ, [], ◌∷◌, lit<}
+use Rattle.std.proofs.Common.{sym, subst, ◌≡◌, ◌∷◌, lit<}
 use Rattle.std.specs.Prelude.{None, Some}
 use Rattle.std.specs.Str.{chars}
 use Rattle.std.proofs.lemmas.Bool.{false≢true}

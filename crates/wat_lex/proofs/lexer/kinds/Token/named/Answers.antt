@@ -1,5 +1,5 @@
-use Rattle.std.proofs.Common.{sym, ap, ◌∙◌, subst, ◌≡◌, ◌≤◌, ℕ, List, length, arith}
-use Rattle.std.specs.Prelude.{None, Some, Option, IfNone, IfSome, ◌↔◌}
+use Rattle.std.proofs.Common.{sym, subst, ◌≤◌, ℕ, List}
+use Rattle.std.specs.Prelude.{IfNone, IfSome, ◌↔◌}
 use Rattle.std.specs.Cow.{cow_str_bytes, IsBorrowedStr}
 use Rattle.std.specs.Str.{chars, IsUtf8}
 use Rattle.std.proofs.lemmas.Bool.{false≢true}

@@ -1,4 +1,4 @@
-use Rattle.std.proofs.Common.{sym, ap, ◌∙◌, subst, []}
+use Rattle.std.proofs.Common.{sym, subst, []}
 use Rattle.std.specs.Str.{chars}
 use Rattle.wat_lex.specs.Names.{IsQuoted, HasNone}
 use Rattle.wat_lex.specs.Setting.{lenient}
