@@ -26,3 +26,4 @@ mod NumberWords
 mod Unique
 mod Names
 mod Values
+mod Numerals

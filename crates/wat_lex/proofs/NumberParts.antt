@@ -14,11 +14,11 @@ use Rattle.wat_lex.proofs.Digits.{digits_one, digits_first, digits_none}
 use Rattle.wat_lex.proofs.Tails.{tail_stops, tail_none, tail_power, exponent_stops, stops_nil, digits_end, Behind, behind, nothing, powered, digits, digits_powered}
 
 -- a digit is no sign
-no_plus : (hex : Bool) (c : ℕ) → is_digit hex c ≡ true → c ≢ 43
+pub no_plus : (hex : Bool) (c : ℕ) → is_digit hex c ≡ true → c ≢ 43
 no_plus true c h e = let k = subst (λ x. is_digit true x ≡ true) e h in cc
 no_plus false c h e = let k = subst (λ x. is_digit false x ≡ true) e h in cc
 
-no_minus : (hex : Bool) (c : ℕ) → is_digit hex c ≡ true → c ≢ 45
+pub no_minus : (hex : Bool) (c : ℕ) → is_digit hex c ≡ true → c ≢ 45
 no_minus true c h e = let k = subst (λ x. is_digit true x ≡ true) e h in cc
 no_minus false c h e = let k = subst (λ x. is_digit false x ≡ true) e h in cc
 
@@ -60,7 +60,7 @@ cut_word hex (c ∷ t) r h = by (c == 43 || c == 45) refl h
     by true e h = let p = cut_whole hex t r h in (c ∷ p.0, ap (λ x. c ∷ x) p.1, subst (λ b. Whole hex (cond b p.0 (c ∷ p.0)) []) (sym e) p.2)
     by false e h = let p = cut_whole hex (c ∷ t) r h in (p.0, p.1, subst (λ x. Whole hex x []) (sym (whole_unsigned hex p.0 [] p.2)) p.2)
 
-whole_digits : (hex : Bool) (s r : List ℕ) → Whole hex s r → Digits hex (behind_prefix hex s) r
+pub whole_digits : (hex : Bool) (s r : List ℕ) → Whole hex s r → Digits hex (behind_prefix hex s) r
 whole_digits hex s r (decimal h) = h
 whole_digits hex s r (hexadecimal h) = h
 

@@ -3,7 +3,7 @@
 use Rattle.std.specs.Prelude.{◌≡◌, ℕ, Bool, true, false, not, ◌||◌, ◌==◌, if◌then◌else◌, Option, Some, None, List, [], ◌∷◌, ◌++◌, drop, IsTrue}
 use Rattle.std.specs.List.{filter}
 use Rattle.std.specs.Option.{option_map}
-use Rattle.std.specs.Str.Parse.{digits_value}
+use Rattle.std.specs.Str.Parse.{IsNumeral, without_leading_sign, digits_value}
 use Rattle.std.specs.Cow.{cow_str_bytes, IsBorrowedStr, IsOwnedStr}
 use Rattle.std.specs.declared.borrow.CowStr.{CowStr}
 use Rattle.wat_lex.specs.Classes.{underscore, minus, dot}
@@ -79,6 +79,11 @@ pub record IsIntegerOf (kind : IntegerKind) (word : List ℕ) (integer : Integer
   pub sign : integer.sign ≡ kind.sign
   pub digits : IsText (kind.hex || kind.has_underscores) (number_text kind.hex word) integer.digits
   pub hex : integer.hex ≡ kind.hex
+
+-- Its digits are a numeral in its base, which denotes what the word does.
+pub record IsNumeralOf (kind : IntegerKind) (word : List ℕ) (integer : Integer) : Type 0 where
+  pub numeral : IsNumeral (base integer.hex) (without_leading_sign (cow_str_bytes integer.digits))
+  pub value : digits_value (base integer.hex) (without_leading_sign (cow_str_bytes integer.digits)) ≡ integer_value kind.hex word
 
 -- Where the word has underscores each part is written anew, where it is hexadecimal the first digits are.
 pub record IsDecimalsOf {Z : Type 0} (hex underscores : Bool) (word : List ℕ) (integral : CowStr Z) (fractional exponent : Option (CowStr Z)) : Type 0 where

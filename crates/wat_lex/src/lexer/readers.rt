@@ -4,7 +4,7 @@ ghost use Rattle.std.specs.Cow.{cow_str_bytes, cow_slice_items, IsBorrowedSlice,
 ghost use Rattle.std.specs.Str.{chars};
 ghost use Rattle.wat_lex.specs.Classes.{backslash};
 ghost use Rattle.wat_lex.specs.Names.{Name, NameError, HasNone, HasNoEscape};
-ghost use Rattle.wat_lex.specs.NumberValues.{is_anew, IsFloatOf, IsIntegerOf};
+ghost use Rattle.wat_lex.specs.NumberValues.{is_anew, IsFloatOf, IsIntegerOf, IsNumeralOf};
 ghost use Rattle.wat_lex.specs.Readers.{IsTokenOf, token_text};
 ghost use Rattle.wat_lex.specs.Setting.{lenient};
 ghost use Rattle.wat_lex.specs.Strings.{StringWord};
@@ -99,6 +99,7 @@ impl Token {
         requires token { IsTokenOf s.now self.now }
         requires kind { self.now.kind ≡ token_kind.Integer kind }
         ensures value { IfOk result (IsIntegerOf kind (chars (token_text s.now self.now))) }
+        ensures numeral { IfOk result (IsNumeralOf kind (chars (token_text s.now self.now))) }
         ensures free { (kind.hex || kind.has_underscores) ≡ false → IsOk result }
     {
         Integer::from_word(alloc, self.src(s), kind)
