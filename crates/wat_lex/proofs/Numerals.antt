@@ -1,5 +1,5 @@
 -- The digits of an integer are a numeral.
-use Rattle.std.proofs.Common.{◌≡◌, ◌≢◌, ◌<◌, ℕ, List, [], ◌∷◌, length, drop, refl, arith, ap, sym, ◌∙◌, subst, Bool, true, false, cond, not}
+use Rattle.std.proofs.Common.{◌≡◌, ◌≢◌, ◌<◌, ℕ, List, [], ◌∷◌, drop, refl, arith, ap, sym, ◌∙◌, subst, Bool, true, false, cond, not}
 use Rattle.std.specs.Prelude.{◌==◌, Result, Ok, Err, IfOk}
 use Rattle.std.specs.Char.{digit_value}
 use Rattle.std.specs.Str.Parse.{AllDigits, IsNumeral, without_leading_sign, digits_value}
