@@ -1,5 +1,5 @@
 -- The list that the program writes: a line for each raw token, `{offset}..{end} {kind}`.
-use Rattle.std.specs.Prelude.{◌≡◌, ◌<◌, ◌+◌, ◌^◌, ◌++◌, ◌∷◌, ℕ, [], List, length, codes, Option, Some, None, flat_map}
+use Rattle.std.specs.Prelude.{◌≡◌, ◌<◌, ◌+◌, ◌^◌, ◌++◌, ℕ, List, length, codes, Option, Some, flat_map}
 use Rattle.std.specs.Option.{option_map}
 use Rattle.std.specs.Fmt.{decimal}
 use Rattle.std.specs.Str.{IsUtf8}

@@ -1,4 +1,4 @@
-use Rattle.std.proofs.Common.{◌≡◌, ◌≤◌, ◌+◌, ◌-◌, ◌++◌, ℕ, List, length, length-drop, take, drop, take-add, arith, sym, ◌∙◌, ap}
+use Rattle.std.proofs.Common.{◌++◌, length, length-drop, take, take-add, arith, sym, ◌∙◌, ap}
 use Rattle.std.proofs.lemmas.List.{take_rest}
 use Rattle.wat_tokens.proofs.KnownBytes.{appends_more}
 use Rattle.wat_tokens.proofs.ends.write_through.Goals as goal

@@ -1,4 +1,4 @@
-use Rattle.std.proofs.Common.{subst, sym, ap, ◌∙◌, ◌≡◌}
+use Rattle.std.proofs.Common.{subst, sym}
 use Rattle.std.specs.Prelude.{Some, None}
 use Rattle.std.specs.Str.{IsUtf8}
 use Rattle.wat_lex.specs.Setting.{Setting}
