@@ -40,10 +40,21 @@ fn name(rt: &impl Abort, alloc: Global, text: &str, at: usize) -> Result<String,
 
 #[test]
 fn values_of_strings(rt: HostRuntime) -> Result<(), Fail> {
-    let rows: [(&str, &[u8]); 12] = [
+    let rows: [(&str, &[u8]); 23] = [
         ("\"\"", b""),
         ("\"a\"", b"a"),
+        ("\"a b c d\"", b"a b c d"),
+        ("\"\\'\"", b"'"),
         ("\"\\n\"", b"\x0a"),
+        ("\"\\t\"", b"\x09"),
+        ("\"\\r\"", b"\x0d"),
+        ("\"\\\\\"", b"\\"),
+        ("\"\\01\"", b"\x01"),
+        ("\"\\u{1}\"", b"\x01"),
+        ("\"\\u{0f3}\"", b"\xc3\xb3"),
+        ("\"\\u{0_f_3}\"", b"\xc3\xb3"),
+        ("\"\\u{1__0}\"", b"\x10"),
+        ("\"\\u{202e}\"", b"\xe2\x80\xae"),
         ("\"\\22\"", b"\x22"),
         ("\"\\u{1F600}\"", b"\xf0\x9f\x98\x80"),
         ("\"\\ff\"", b"\xff"),
@@ -68,6 +79,29 @@ fn values_of_strings(rt: HostRuntime) -> Result<(), Fail> {
 fn names(rt: HostRuntime) -> Result<(), Fail> {
     let rows = [
         ("$a", 0, "a"),
+        ("$x", 0, "x"),
+        ("$xyz", 0, "xyz"),
+        ("$x_z", 0, "x_z"),
+        ("$0^", 0, "0^"),
+        ("$0^;;", 0, "0^"),
+        ("$0^ ;;", 0, "0^"),
+        ("(;;);;x\r\n$0^;;", 9, "0^"),
+        ("$\"x\" ;;", 0, "x"),
+        ("@foo", 0, "foo"),
+        ("@foo ", 0, "foo"),
+        ("@f ", 0, "f"),
+        ("@\"x\" ", 0, "x"),
+        ("@0 ", 0, "0"),
+        (
+            "\"x\"$ @a\"b\" $\"x\" $ @",
+            16,
+            "empty identifier at byte offset 16",
+        ),
+        (
+            "\"x\"$ @a\"b\" $\"x\" $ @",
+            18,
+            "empty annotation id at byte offset 18",
+        ),
         ("$a\\b", 0, "a\\b"),
         ("$\"a\"", 0, "a"),
         ("$\"\u{20ac} \"", 0, "\u{20ac} "),
@@ -94,6 +128,16 @@ fn names(rt: HostRuntime) -> Result<(), Fail> {
     for (text, at, want) in rows.as_slice() {
         let got = name(&rt, rt.alloc(), text, *at)?;
         assert!(rt; got.as_str() == *want, "{text}: {got}");
+    }
+    Ok(())
+}
+
+#[test]
+fn each_byte_has_an_escape(rt: HostRuntime) -> Result<(), Fail> {
+    for byte in 0..=255u8 {
+        let text = format!(in rt.alloc(); "\"\\{byte:02x}\"")?;
+        let got = value(&rt, rt.alloc(), text.as_str())?;
+        assert!(rt; got.as_slice() == [byte].as_slice(), "{text}");
     }
     Ok(())
 }

@@ -22,6 +22,12 @@ fn first(rt: &impl Abort, text: &str) -> Token
 #[test]
 fn integers(rt: HostRuntime) -> Result<(), Fail> {
     let rows = [
+        ("1", None, "1", 10),
+        ("+1_000", Some(SignToken::Plus), "1000", 10),
+        ("+1_0_0_0", Some(SignToken::Plus), "1000", 10),
+        ("+0x10", Some(SignToken::Plus), "10", 16),
+        ("0x10", None, "10", 16),
+        ("-0x10", Some(SignToken::Minus), "-10", 16),
         ("+1", Some(SignToken::Plus), "1", 10),
         ("-1", Some(SignToken::Minus), "-1", 10),
         ("0x1_F", None, "1F", 16),
@@ -66,6 +72,13 @@ fn part(digits: &str) -> Option<CowStr<'_>> {
 #[test]
 fn floats(rt: HostRuntime) -> Result<(), Fail> {
     let rows = [
+        ("1.2", false, "1", "2", ""),
+        ("1.2e3", false, "1", "2", "3"),
+        ("-1_2.1_1E+0_1", false, "-12", "11", "01"),
+        ("+1_2.1_1E-0_1", false, "12", "11", "-01"),
+        ("0x1_2.3_4p5_6", true, "12", "34", "56"),
+        ("+0x1_2.3_4P-5_6", true, "12", "34", "-56"),
+        ("0x1p-24", true, "1", "", "-24"),
         ("1.5", false, "1", "5", ""),
         ("1.", false, "1", "", ""),
         ("1e+5", false, "1", "", "5"),
@@ -102,6 +115,8 @@ fn infinities_and_nans(rt: HostRuntime) -> Result<(), Fail> {
     }
     let rows = [
         ("-nan", "", true),
+        ("+nan", "", false),
+        ("+nan:0x1", "1", false),
         ("nan", "", false),
         ("nan:0x7f_ffff", "7fffff", false),
         ("-nan:0x1", "1", true),
