@@ -127,3 +127,100 @@ impl fmt::Display for Error {
         }
     }
 }
+
+#[cfg(test)]
+mod tests {
+    use super::*;
+    use std::process::Abort;
+    use std::test::Fail;
+
+    /// What an error answers, field by field.
+    fn answers(
+        rt: &impl Abort,
+        alloc: Global,
+        error: &Error,
+        message: &str,
+        printed: &str,
+    ) -> Result<(), Fail> {
+        assert_eq!(rt; error.message(alloc)?.as_str(), message);
+        assert_eq!(rt; format!(in alloc; "{error}")?.as_str(), printed);
+        Ok(())
+    }
+
+    #[test]
+    fn each_fault_has_its_message(rt: HostRuntime) -> Result<(), Fail> {
+        let rows = [
+            (LexError::DanglingBlockComment, "unterminated block comment"),
+            (LexError::Unexpected('é'), "unexpected character '\\u{e9}'"),
+            (
+                LexError::InvalidStringElement('\n'),
+                "invalid character in string '\\n'",
+            ),
+            (
+                LexError::InvalidStringEscape('q'),
+                "invalid string escape 'q'",
+            ),
+            (LexError::InvalidHexDigit('\\'), "invalid hex digit '\\\\'"),
+            (
+                LexError::InvalidDigit('\u{7f}'),
+                "invalid decimal digit '\\u{7f}'",
+            ),
+            (
+                LexError::Expected {
+                    wanted: '{',
+                    found: '\'',
+                },
+                "expected '{' but found '\\''",
+            ),
+            (LexError::UnexpectedEof, "unexpected end-of-file"),
+            (LexError::NumberTooBig, "number is too big to parse"),
+            (
+                LexError::InvalidUnicodeValue(0x11_ABCD),
+                "invalid unicode scalar value 0x11abcd",
+            ),
+            (
+                LexError::LoneUnderscore,
+                "bare underscore in numeric literal",
+            ),
+            (
+                LexError::ConfusingUnicode('\u{202e}'),
+                "likely-confusing unicode character found '\\u{202e}'",
+            ),
+            (
+                LexError::InvalidUtf8Id,
+                "malformed UTF-8 encoding of string-based id",
+            ),
+            (LexError::EmptyId, "empty identifier"),
+            (LexError::EmptyAnnotation, "empty annotation id"),
+        ];
+        for (fault, message) in rows {
+            let error = Error::lex(rt.alloc(), Span::from_offset(12), "", fault);
+            assert_eq!(rt; error.lex_error().copied(), Some(fault));
+            assert_eq!(rt; error.span().offset(), 12);
+            assert!(rt; !error.is_out_of_memory());
+            let printed = format!(in rt.alloc(); "{message} at byte offset 12")?;
+            answers(&rt, rt.alloc(), &error, message, printed.as_str())?;
+        }
+        Ok(())
+    }
+
+    #[test]
+    fn messages_and_want_of_memory(rt: HostRuntime) -> Result<(), Fail> {
+        let message = String::from_str(rt.alloc(), "no such thing")?;
+        let error = Error::new(Span::from_offset(7), message);
+        assert!(rt; error.lex_error().is_none());
+        assert_eq!(rt; error.span().offset(), 7);
+        answers(
+            &rt,
+            rt.alloc(),
+            &error,
+            "no such thing",
+            "no such thing at byte offset 7",
+        )?;
+        let error = Error::out_of_memory();
+        assert!(rt; error.is_out_of_memory());
+        assert!(rt; error.lex_error().is_none());
+        assert_eq!(rt; error.span().offset(), 0);
+        answers(&rt, rt.alloc(), &error, "out of memory", "out of memory")
+    }
+}
