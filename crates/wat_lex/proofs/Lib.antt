@@ -27,3 +27,5 @@ mod Unique
 mod Names
 mod Values
 mod Numerals
+mod Positions
+mod Rendering

@@ -9,7 +9,7 @@ use Rattle.std.specs.Str.{chars, IsUtf8, IsCharBoundary}
 use lib.Utf8.{encodes}
 use Rattle.wat_lex.specs.Classes.{Each, is_idchar}
 use Rattle.wat_lex.specs.Names.{Name, Named, bare, quoted as named_string, HasNone, HasNoEscape, IsNamed, IsQuoted, NameFault, no_name, not_utf8, NameError}
-use Rattle.wat_lex.specs.Errors.{Report, lexical}
+use Rattle.wat_lex.specs.Errors.{Report, lexical, IsUnlessMemory}
 use Rattle.wat_lex.specs.Numbers.{Number}
 use Rattle.wat_lex.specs.Runs.{Piece, Idchar, Quoted, Run, none, idchar, string, idchars, RunKind, RunWord, WordKind, named_kind, kind_by_first}
 use Rattle.wat_lex.specs.Setting.{lenient}
@@ -266,13 +266,13 @@ pub bare_free : (cs : List ℕ) → Each is_idchar cs → HasNoEscape cs
 bare_free cs h = inl (no_quotes cs h)
 
 -- the error of a name: want of memory, or what is wrong with it
-pub memory_error : {T : Type 0} (r : Result T (Option Report)) (empty : LexError) (offset : ℕ) (w : List ℕ) → IsErrAnd r (λ e. e ≡ None) → (HasNoEscape w → ⊥) → IfErr r (NameError empty offset w)
-memory_error (Ok x) empty offset w h n = tt
-memory_error (Err e) empty offset w h n = subst (NameError empty offset w) (sym h) n
+pub memory_error : {T : Type 0} (r : Result T (Option Report)) (text : List ℕ) (empty : LexError) (offset : ℕ) (w : List ℕ) → IsErrAnd r (λ e. e ≡ None) → (HasNoEscape w → ⊥) → IfErr r (NameError text empty offset w)
+memory_error (Ok x) text empty offset w h n = tt
+memory_error (Err e) text empty offset w h n = subst (NameError text empty offset w) (sym h) (λ free. absurd (n free))
 
-pub fault_error : (r : Option Report) (empty error : LexError) (offset span : ℕ) (w : List ℕ) → NameFault empty w error → span ≡ offset → r ≡ Some (lexical (record { offset = span; error = error })) → NameError empty offset w r
-fault_error r empty error offset span w f s e =
-    subst (NameError empty offset w) (sym (e ∙ ap (λ x. Some (lexical (record { offset = x; error = error }))) s)) (error, f, refl)
+pub fault_error : (r : Option Report) (text : List ℕ) (empty error : LexError) (offset span : ℕ) (w : List ℕ) → NameFault empty w error → span ≡ offset → IsUnlessMemory r (lexical text (record { offset = span; error = error })) → NameError text empty offset w r
+fault_error None text empty error offset span w f s e = λ free. (error, f)
+fault_error (Some r) text empty error offset span w f s e = (error, f, e ∙ ap (λ x. lexical text (record { offset = x; error = error })) s)
 
 pub empty_fault : (empty error : LexError) (text rest bytes : List ℕ) → NameTail text → rest ≡ drop 1 text → Named (chars rest) bytes → length bytes ≤ 0 → error ≡ empty → NameFault empty (chars text) error
 empty_fault empty error text rest bytes t e h l k =

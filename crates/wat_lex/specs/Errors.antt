@@ -1,7 +1,8 @@
 -- An error, as its callers see it: what it reports, or want of memory. No part of the standard.
-use Rattle.std.specs.Prelude.{◌≡◌, ℕ, List, Option, Some, None, codes, ◌++◌}
+use Rattle.std.specs.Prelude.{◌≡◌, ℕ, List, Option, Some, None, IsSome, codes, ◌++◌}
 use Rattle.std.specs.Fmt.{decimal}
 use Rattle.wat_lex.specs.Messages.{message}
+use Rattle.wat_lex.specs.Rendering.{Excerpt, excerpt, shown_place}
 use Rattle.wat_lex.specs.declared.lexer.faults.LexError.{LexError}
 use Rattle.wat_lex.specs.declared.lexer.faults.LexFault.{LexFault}
 
@@ -10,14 +11,33 @@ pub data Cause : Type 0 where
   Lexical : LexError → Cause
   Custom : List ℕ → Cause
 
--- what is wrong, and at which byte of the text
+-- what is wrong, at which byte of the text, and what is kept of the text, if anything is
 pub record Report : Type 0 where
   pub offset : ℕ
   pub cause : Cause
+  pub excerpt : Option Excerpt
 
--- the report of a lexical fault
-abbrev pub lexical : LexFault → Report
-lexical f = record { offset = f.offset; cause = Lexical f.error }
+-- the report of what is wrong at a byte of a text
+abbrev pub report_in : List ℕ → ℕ → Cause → Report
+report_in text offset cause = record { offset = offset; cause = cause; excerpt = Some (excerpt text offset) }
+
+-- the report of a lexical fault of a text
+abbrev pub lexical : List ℕ → LexFault → Report
+lexical text f = report_in text f.offset (Lexical f.error)
+
+-- something of a text is kept, or the error is want of memory, which keeps none
+abbrev pub HasText : Option Report → Type 0
+HasText None = Unit {0}
+HasText (Some r) = IsSome r.excerpt
+
+-- the error with what is kept of this text, if nothing is yet
+abbrev pub with_text : List ℕ → Option Report → Option Report
+with_text text None = None
+with_text text (Some r) = by r.excerpt
+  where
+    by : Option Excerpt → Option Report
+    by None = Some (report_in text r.offset r.cause)
+    by (Some e) = Some r
 
 -- the error is this report, or want of memory
 abbrev pub IsUnlessMemory : Option Report → Report → Type 0
@@ -36,7 +56,11 @@ message_of (Some r) = cause_text r.cause
 -- what an error prints
 abbrev pub printed : Option Report → List ℕ
 printed None = codes "out of memory"
-printed (Some r) = cause_text r.cause ++ codes " at byte offset " ++ decimal r.offset
+printed (Some r) = cause_text r.cause ++ place r.excerpt
+  where
+    place : Option Excerpt → List ℕ
+    place None = codes " at byte offset " ++ decimal r.offset
+    place (Some e) = shown_place e
 
 -- the lexer's error that an error is about
 abbrev pub lex_error_of : Option Report → Option LexError

@@ -19,6 +19,8 @@ pub mod Reads
 pub mod Results
 pub mod RunReads
 pub mod Messages
+pub mod Positions
+pub mod Rendering
 pub mod Errors
 pub mod ErrorView
 pub mod Encoding

@@ -32,11 +32,11 @@ pub data NameFault : LexError → List ℕ → LexError → Type 0 where
   no_name : {empty : LexError} {w : List ℕ} → Name w [] → NameFault empty w empty
   not_utf8 : {empty : LexError} {w bytes : List ℕ} → Name w bytes → (IsUtf8 bytes → ⊥) → NameFault empty w InvalidUtf8Id
 
--- The error is told at the word, and is what is wrong with its name; or it is want of memory, which only the value of
--- an escape takes.
-abbrev pub NameError : LexError → ℕ → List ℕ → Option Report → Type 0
-NameError empty offset w None = HasNoEscape w → ⊥
-NameError empty offset w (Some report) = (e : LexError) × NameFault empty w e × (report ≡ lexical (record { offset = offset; error = e }))
+-- The error is told at the word of the text, and is what is wrong with its name; or it is want of memory, which only the
+-- value of an escape and the error of a name take.
+abbrev pub NameError : List ℕ → LexError → ℕ → List ℕ → Option Report → Type 0
+NameError text empty offset w None = HasNoEscape w → (e : LexError) × NameFault empty w e
+NameError text empty offset w (Some report) = (e : LexError) × NameFault empty w e × (report ≡ lexical text (record { offset = offset; error = e }))
 
 -- the text has a string's elements and its closing quote
 abbrev pub IsQuoted : List ℕ → Type 0

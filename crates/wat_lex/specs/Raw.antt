@@ -12,24 +12,24 @@ use Rattle.wat_lex.specs.declared.lexer.faults.LexFault.{LexFault}
 abbrev pub Item : Type 0
 Item = Result Token (Option Report)
 
--- the items are these tokens, and then the error of the fault if there is one
-abbrev pub Spells : List Token → Option LexFault → List Item → Type 0
-Spells [] None items = items ≡ []
-Spells [] (Some f) items = (e : Option Report) × (items ≡ Err e ∷ []) × IsUnlessMemory e (lexical f)
-Spells (t ∷ ts) ending items = (rest : List Item) × (items ≡ Ok t ∷ rest) × Spells ts ending rest
+-- the items are these tokens, and then the error of the fault of the text if there is one
+abbrev pub Spells : List ℕ → List Token → Option LexFault → List Item → Type 0
+Spells text [] None items = items ≡ []
+Spells text [] (Some f) items = (e : Option Report) × (items ≡ Err e ∷ []) × IsUnlessMemory e (lexical text f)
+Spells text (t ∷ ts) ending items = (rest : List Item) × (items ≡ Ok t ∷ rest) × Spells text ts ending rest
 
 -- the items are a maximal tiling from the place, with its ending
 pub record Raw (s : Setting) (from : ℕ) (items : List Item) : Type 0 where
   pub tokens : List Token
   pub ending : Option LexFault
   pub tiling : MaximalTiling s from tokens ending
-  pub spelled : Spells tokens ending items
+  pub spelled : Spells s.text tokens ending items
 
 -- at the place no word stands, and this is the error of the fault there
 pub record ErrorAt (s : Setting) (p : ℕ) (e : Option Report) : Type 0 where
   pub fault : LexFault
   pub stands : FaultAt s p fault
-  pub told : IsUnlessMemory e (lexical fault)
+  pub told : IsUnlessMemory e (lexical s.text fault)
 
 -- an iterator over the tokens: the text and the flags, the place, and whether it has ended
 pub record Progress : Type 0 where

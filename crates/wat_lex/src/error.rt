@@ -1,7 +1,10 @@
 //! Errors.
-ghost use Rattle.std.specs.Prelude.{◌≡◌, ◌↔◌, Some, None, IsTrue, IsNone, IfOk, string_bytes};
+ghost use Rattle.std.specs.Prelude.{◌≡◌, ◌↔◌, ◌⊎◌, Some, None, IsTrue, IsNone, IsOk, IfOk, OnOk, OnErr, IfSome, string_bytes};
 ghost use Rattle.std.specs.Option.{option_copied};
-ghost use Rattle.wat_lex.specs.Errors.{lexical, Custom, lex_error_of, offset_of, message_of};
+ghost use Rattle.wat_lex.specs.ErrorView.{report_of};
+ghost use Rattle.wat_lex.specs.Errors.{IsUnlessMemory, report_in, lexical, Custom, HasText, with_text, lex_error_of, offset_of, message_of, printed};
+ghost use Rattle.wat_lex.specs.Messages.{message};
+ghost use Rattle.wat_lex.specs.Rendering.{rendered};
 
 use crate::lexer::LexError;
 use crate::token::Span;
@@ -9,9 +12,18 @@ use std::alloc::{AllocError, Global};
 use std::fmt;
 use std::marker::Model;
 
+#[cfg(test)]
+mod tests;
+mod text;
+
+use text::Text;
+
 /// What went wrong, and where: a fault of the text, a message, or want of memory.
+///
+/// Once it has been given the text, it prints the line that it is about, with a mark under the column.
 #[derive(Debug, Drop)]
 pub struct Error {
+    text: Option<Text>,
     span: Span,
     kind: Kind,
 }
@@ -35,24 +47,60 @@ impl Model for Error {
 }
 
 impl Error {
-    /// An error of one's own at a position.
+    /// An error of one's own at a position. It has no text; [`set_text`](Error::set_text) gives it one.
     pub fn new(span: Span, message: String) -> Error
-        ensures { result ≡ Some (record { offset = span; cause = Custom (string_bytes message) }) }
+        ensures { result ≡ Some (record { offset = span; cause = Custom (string_bytes message); excerpt = None }) }
     {
         Error {
+            text: None,
             span,
             kind: Kind::Message(message),
         }
     }
 
-    /// The error of a fault of the text `_content`.
-    pub fn lex(_alloc: Global, span: Span, _content: &str, error: LexError) -> Error
-        ensures { result ≡ Some (lexical (record { offset = span; error = error })) }
+    /// The error of a fault of the text `content`, or want of memory.
+    pub fn lex(alloc: Global, span: Span, content: &str, error: LexError) -> Error
+        ensures report { IsUnlessMemory result (lexical content.now (record { offset = span; error = error })) }
+        ensures rendered { IfSome result (λ r. printed (Some r) ≡ rendered content.now (message error) span) }
     {
-        Error {
+        Error::in_text(alloc, span, content, Kind::Lex(error))
+    }
+
+    /// An error of one's own at a position of the text `content`, or want of memory.
+    pub fn parse(alloc: Global, span: Span, content: &str, message: String) -> Error
+        ensures report { IsUnlessMemory result (report_in content.now span (Custom (string_bytes message))) }
+        ensures rendered { IfSome result (λ r. printed (Some r) ≡ rendered content.now (string_bytes message) span) }
+    {
+        Error::in_text(alloc, span, content, Kind::Message(message))
+    }
+
+    /// The error of a kind with its text, or want of memory.
+    fn in_text(alloc: Global, span: Span, content: &str, kind: Kind) -> Error
+        ensures { (result ≡ None) ⊎ (result ≡ with_text content.now (report_of span None kind)) }
+    {
+        let mut error = Error {
+            text: None,
             span,
-            kind: Kind::Lex(error),
+            kind,
+        };
+        match error.set_text(alloc, content) {
+            Ok(()) => error,
+            Err(_) => Error::out_of_memory(),
         }
+    }
+
+    /// Gives the error the text that it is about, unless it has one, or is want of memory. Where that finds no memory the
+    /// error is as it was.
+    pub fn set_text(&mut self, alloc: Global, contents: &str) -> Result<(), AllocError>
+        ensures set { OnOk result (self.new ≡ with_text contents.now self.old) }
+        ensures kept { OnErr result (self.new ≡ self.old) }
+        ensures free { HasText self.old → IsOk result }
+    {
+        if self.text.is_some() || self.is_out_of_memory() {
+            return Ok(());
+        }
+        self.text = Some(Text::new(alloc, contents, self.span)?);
+        Ok(())
     }
 
     /// The error that stands for a refused request for memory.
@@ -60,6 +108,7 @@ impl Error {
         ensures { result ≡ None }
     {
         Error {
+            text: None,
             span: Span { offset: 0 },
             kind: Kind::Memory,
         }
@@ -119,108 +168,14 @@ impl fmt::Display for Error {
     ghost output = { λ e. Some (printed e) };
 
     fn fmt<W: fmt::Write>(&self, f: &mut fmt::Formatter<W>) -> fmt::Result {
-        let offset = self.span.offset;
         match &self.kind {
-            Kind::Memory => write!(f, "out of memory"),
-            Kind::Lex(error) => write!(f, "{error} at byte offset {offset}"),
-            Kind::Message(message) => write!(f, "{message} at byte offset {offset}"),
+            Kind::Memory => return write!(f, "out of memory"),
+            Kind::Lex(error) => write!(f, "{error}")?,
+            Kind::Message(message) => write!(f, "{message}")?,
         }
-    }
-}
-
-#[cfg(test)]
-mod tests {
-    use super::*;
-    use std::process::Abort;
-    use std::test::Fail;
-
-    /// What an error answers, field by field.
-    fn answers(
-        rt: &impl Abort,
-        alloc: Global,
-        error: &Error,
-        message: &str,
-        printed: &str,
-    ) -> Result<(), Fail> {
-        assert_eq!(rt; error.message(alloc)?.as_str(), message);
-        assert_eq!(rt; format!(in alloc; "{error}")?.as_str(), printed);
-        Ok(())
-    }
-
-    #[test]
-    fn each_fault_has_its_message(rt: HostRuntime) -> Result<(), Fail> {
-        let rows = [
-            (LexError::DanglingBlockComment, "unterminated block comment"),
-            (LexError::Unexpected('é'), "unexpected character '\\u{e9}'"),
-            (
-                LexError::InvalidStringElement('\n'),
-                "invalid character in string '\\n'",
-            ),
-            (
-                LexError::InvalidStringEscape('q'),
-                "invalid string escape 'q'",
-            ),
-            (LexError::InvalidHexDigit('\\'), "invalid hex digit '\\\\'"),
-            (
-                LexError::InvalidDigit('\u{7f}'),
-                "invalid decimal digit '\\u{7f}'",
-            ),
-            (
-                LexError::Expected {
-                    wanted: '{',
-                    found: '\'',
-                },
-                "expected '{' but found '\\''",
-            ),
-            (LexError::UnexpectedEof, "unexpected end-of-file"),
-            (LexError::NumberTooBig, "number is too big to parse"),
-            (
-                LexError::InvalidUnicodeValue(0x11_ABCD),
-                "invalid unicode scalar value 0x11abcd",
-            ),
-            (
-                LexError::LoneUnderscore,
-                "bare underscore in numeric literal",
-            ),
-            (
-                LexError::ConfusingUnicode('\u{202e}'),
-                "likely-confusing unicode character found '\\u{202e}'",
-            ),
-            (
-                LexError::InvalidUtf8Id,
-                "malformed UTF-8 encoding of string-based id",
-            ),
-            (LexError::EmptyId, "empty identifier"),
-            (LexError::EmptyAnnotation, "empty annotation id"),
-        ];
-        for (fault, message) in rows {
-            let error = Error::lex(rt.alloc(), Span::from_offset(12), "", fault);
-            assert_eq!(rt; error.lex_error().copied(), Some(fault));
-            assert_eq!(rt; error.span().offset(), 12);
-            assert!(rt; !error.is_out_of_memory());
-            let printed = format!(in rt.alloc(); "{message} at byte offset 12")?;
-            answers(&rt, rt.alloc(), &error, message, printed.as_str())?;
+        match &self.text {
+            Some(text) => write!(f, "{text}"),
+            None => write!(f, " at byte offset {}", self.span.offset),
         }
-        Ok(())
-    }
-
-    #[test]
-    fn messages_and_want_of_memory(rt: HostRuntime) -> Result<(), Fail> {
-        let message = String::from_str(rt.alloc(), "no such thing")?;
-        let error = Error::new(Span::from_offset(7), message);
-        assert!(rt; error.lex_error().is_none());
-        assert_eq!(rt; error.span().offset(), 7);
-        answers(
-            &rt,
-            rt.alloc(),
-            &error,
-            "no such thing",
-            "no such thing at byte offset 7",
-        )?;
-        let error = Error::out_of_memory();
-        assert!(rt; error.is_out_of_memory());
-        assert!(rt; error.lex_error().is_none());
-        assert_eq!(rt; error.span().offset(), 0);
-        answers(&rt, rt.alloc(), &error, "out of memory", "out of memory")
     }
 }

@@ -30,6 +30,7 @@ mod strings;
 mod tests;
 mod values;
 
+pub(crate) use classes::is_confusing;
 pub use faults::{LexError, LexFault};
 use front::front;
 pub use kinds::{FloatKind, IntegerKind, SignToken, Token, TokenKind};
@@ -172,7 +173,7 @@ impl<'a> Lexer<'a> {
     ghost use Rattle.wat_lex.specs.Errors.{lexical, IsUnlessMemory};
 
     fn error(&self, alloc: Global, fault: LexFault) -> Error
-        ensures { IsUnlessMemory result (lexical fault) }
+        ensures { IsUnlessMemory result (lexical self.now.text fault) }
     {
         let span = Span::from_offset(fault.offset);
         Error::lex(alloc, span, self.input(), fault.error)

@@ -1,10 +1,13 @@
 //! Tokens that readers of the text format share: places, identifiers and indices.
 
-ghost use Rattle.std.specs.Prelude.{◌≡◌, ◌<◌, ◌↔◌, IsTrue, IfOk};
+ghost use Rattle.std.specs.Prelude.{◌≡◌, ◌<◌, ◌≤◌, ◌↔◌, not, length, IsTrue, IfOk};
 ghost use Rattle.std.specs.Cow.{cow_str_bytes};
+ghost use Rattle.std.specs.List.{count_by, suffix_len};
 ghost use Rattle.wat_lex.specs.Identifiers.{IsSameIdentifier, generated, is_same_identifier};
 ghost use Rattle.wat_lex.specs.Indices.{IsSameIndex, is_same_index, span_of};
+ghost use Rattle.wat_lex.specs.Positions.{is_line_feed, line_and_column};
 
+use memchr::{memchr_iter, memrchr};
 use std::alloc::{AllocError, Global};
 use std::borrow::CowStr;
 use std::fmt;
@@ -40,6 +43,40 @@ impl Span {
         ensures { result ≡ self.now }
     {
         self.offset
+    }
+
+    /// Line and column of the place in a text, both from 0. A line ends at a line feed, and a column is a number of bytes.
+    ///
+    /// Past the text's end the line is the number of lines, and the column 0.
+    pub fn linecol_in(&self, text: &str) -> (usize, usize)
+        ensures place { result ≡ line_and_column text.now self.now }
+        ensures line { result.0 ≤ length text.now }
+        ensures column { result.1 ≤ length text.now }
+    {
+        if self.offset > text.len() {
+            return (text.lines().count(), 0);
+        }
+        let before = &text.as_bytes()[..self.offset];
+        (line_feeds(before), since_line_feed(before))
+    }
+}
+
+/// How many line feeds there are.
+fn line_feeds(text: &[u8]) -> usize
+    ensures count { result ≡ count_by is_line_feed text.now }
+    ensures bound { result ≤ length text.now }
+{
+    memchr_iter(b'\n', text).count()
+}
+
+/// How many bytes stand behind the last line feed.
+fn since_line_feed(text: &[u8]) -> usize
+    ensures count { result ≡ suffix_len (λ b. not (is_line_feed b)) text.now }
+    ensures bound { result ≤ length text.now }
+{
+    match memrchr(b'\n', text) {
+        Some(end) => text.len() - (end + 1),
+        None => text.len(),
     }
 }
 
@@ -290,6 +327,30 @@ mod tests {
 
     fn are_alike<T: Hash>(a: &T, b: &T) -> bool {
         a == b && hash_of(a) == hash_of(b)
+    }
+
+    #[test]
+    fn lines_and_columns(rt: HostRuntime) -> Result<(), Fail> {
+        let rows = [
+            ("a\n", 2, 1, 0),
+            ("a", 5, 1, 0),
+            ("a", 1, 0, 1),
+            ("", 0, 0, 0),
+            ("", 1, 0, 0),
+            ("a\r\n(;", 2, 0, 2),
+            ("a\r\n(;", 3, 1, 0),
+            ("\n\n", 1, 1, 0),
+            ("\n\n", 2, 2, 0),
+            ("\n\n", 3, 2, 0),
+            ("a\nb\n", 9, 2, 0),
+            ("a\nb", 9, 2, 0),
+            ("\"é\"\u{2028}b", 7, 0, 7),
+        ];
+        for (text, offset, line, column) in rows {
+            let got = Span::from_offset(offset).linecol_in(text);
+            assert_eq!(rt; got, (line, column), "{text}");
+        }
+        Ok(())
     }
 
     #[test]

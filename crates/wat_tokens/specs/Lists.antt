@@ -41,4 +41,4 @@ pub record Lists (settings : Settings) (bytes text : List ℕ) (error : Option (
   pub short : length bytes < 2 ^ 32
   pub fault : Option LexFault
   pub list : ListText (record { text = bytes; flags = settings }) text fault
-  pub told : error ≡ option_map (λ f. Some (lexical f)) fault
+  pub told : error ≡ option_map (λ f. Some (lexical bytes f)) fault

@@ -1,6 +1,8 @@
 //! From a source of bytes to the lines on a sink.
-ghost use Rattle.std.specs.Prelude.{◌≡◌, ◌⊎◌, ◌↔◌, ℕ, Bool, true, false, List, length, IfOk, OnOk, IfErr, IfSome, IsErrOf};
+ghost use Rattle.std.specs.Prelude.{◌≡◌, ◌⊎◌, ◌↔◌, ℕ, Bool, true, false, List, length, Some, IfOk, OnOk, IfErr, IfSome, IsErrOf};
+ghost use Rattle.std.specs.Option.{option_map};
 ghost use Rattle.std.specs.Io.KnownBytes.{Appends, IsAtEnd};
+ghost use Rattle.wat_lex.specs.Errors.{lexical};
 ghost use Rattle.wat_tokens.specs.Lists.{Lists};
 ghost use Rattle.wat_tokens.specs.Runs.{Whole, ReadsPast, IsNoText};
 
@@ -9,7 +11,7 @@ use crate::list::list;
 use std::alloc::{AllocError, Global};
 use std::str;
 use wat_lex::error::Error;
-use wat_lex::lexer::Settings;
+use wat_lex::lexer::{LexFault, Settings};
 use wat_lex::token::Span;
 
 /// Why a run ended without its lines.
@@ -71,7 +73,28 @@ fn read_whole<R: Source>(alloc: Global, input: &mut R) -> Result<Vec<u8>, RunErr
     }
 }
 
-/// Writes the list of the raw tokens of all that the source has left, up to the first fault, and answers that fault.
+/// The error of the fault of a text, where it has one.
+fn error_of(
+    alloc: Global,
+    text: &str,
+    fault: Option<LexFault>,
+) -> Result<Option<Error>, RunError>
+    ensures error { IfOk result (λ error. error ≡ option_map (λ f. Some (lexical text.now f)) fault) }
+    ensures refused { IfErr result (λ e. e ≡ RunError.Memory) }
+{
+    let Some(fault) = fault else {
+        return Ok(None);
+    };
+    let span = Span::from_offset(fault.offset);
+    let error = Error::lex(alloc, span, text, fault.error);
+    if error.is_out_of_memory() {
+        return Err(RunError::Memory);
+    }
+    Ok(Some(error))
+}
+
+/// Writes the list of the raw tokens of all that the source has left, up to the first fault, and answers
+/// that fault's error, which prints its line.
 pub fn run_list<R: Source, W: Sink>(
     alloc: Global,
     input: &mut R,
@@ -101,12 +124,9 @@ pub fn run_list<R: Source, W: Sink>(
     let Ok(listing) = list(alloc, text, settings) else {
         return Err(RunError::Memory);
     };
+    let error = error_of(alloc, text, listing.fault)?;
     if output.write_all(&listing.lines).is_err() {
         return Err(RunError::Write);
     }
-    let Some(fault) = listing.fault else {
-        return Ok(None);
-    };
-    let span = Span::from_offset(fault.offset);
-    Ok(Some(Error::lex(alloc, span, text, fault.error)))
+    Ok(error)
 }

@@ -88,13 +88,17 @@ fn lists(rt: HostRuntime) -> Result<(), Fail> {
         (
             "1 é",
             "0..1 Integer\n1..2 Whitespace\n",
-            "unexpected character '\\u{e9}' at byte offset 2",
+            "unexpected character '\\u{e9}'\n     --> <anon>:1:3\n      |\n    1 | 1 é\n      |   ^",
         ),
-        ("a\"b", "", "unexpected end-of-file at byte offset 3"),
+        (
+            "a\"b",
+            "",
+            "unexpected end-of-file\n     --> <anon>:1:4\n      |\n    1 | a\"b\n      |    ^",
+        ),
         (
             "x(;",
             "0..1 Keyword\n",
-            "unterminated block comment at byte offset 1",
+            "unterminated block comment\n     --> <anon>:1:2\n      |\n    1 | x(;\n      |  ^",
         ),
     ];
     for (text, lines, fault) in rows {

@@ -19,7 +19,7 @@ fn value(rt: &impl Abort, alloc: Global, text: &str) -> Result<Vec<u8>, Fail> {
     panic!(rt; "no string: {text}")
 }
 
-/// The name that stands at a byte of the text, or what its error prints.
+/// The name that stands at a byte of the text, or its error's message and place.
 fn name(rt: &impl Abort, alloc: Global, text: &str, at: usize) -> Result<String, Fail> {
     assert!(rt; text.len() < 1_000_000);
     assert!(rt; text.is_char_boundary(at));
@@ -34,7 +34,10 @@ fn name(rt: &impl Abort, alloc: Global, text: &str, at: usize) -> Result<String,
     };
     match name {
         Ok(name) => Ok(String::from_str(alloc, name.as_str())?),
-        Err(error) => Ok(format!(in alloc; "{error}")?),
+        Err(error) => {
+            let message = error.message(alloc)?;
+            Ok(format!(in alloc; "{message} at {}", error.span().offset())?)
+        }
     }
 }
 
@@ -92,37 +95,29 @@ fn names(rt: HostRuntime) -> Result<(), Fail> {
         ("@f ", 0, "f"),
         ("@\"x\" ", 0, "x"),
         ("@0 ", 0, "0"),
-        (
-            "\"x\"$ @a\"b\" $\"x\" $ @",
-            16,
-            "empty identifier at byte offset 16",
-        ),
-        (
-            "\"x\"$ @a\"b\" $\"x\" $ @",
-            18,
-            "empty annotation id at byte offset 18",
-        ),
+        ("\"x\"$ @a\"b\" $\"x\" $ @", 16, "empty identifier at 16"),
+        ("\"x\"$ @a\"b\" $\"x\" $ @", 18, "empty annotation id at 18"),
         ("$a\\b", 0, "a\\b"),
         ("$\"a\"", 0, "a"),
         ("$\"\u{20ac} \"", 0, "\u{20ac} "),
         ("$\"\\u{61}b\"", 0, "ab"),
         ("$\"\\e2\\82\\ac\"", 0, "\u{20ac}"),
-        ("$", 0, "empty identifier at byte offset 0"),
-        (" $\"\"", 1, "empty identifier at byte offset 1"),
+        ("$", 0, "empty identifier at 0"),
+        (" $\"\"", 1, "empty identifier at 1"),
         (
             "$\"\\ff\"",
             0,
-            "malformed UTF-8 encoding of string-based id at byte offset 0",
+            "malformed UTF-8 encoding of string-based id at 0",
         ),
         ("@a.b", 0, "a.b"),
         ("@\"a b\"", 0, "a b"),
         ("@\"\\41\"", 0, "A"),
-        ("@", 0, "empty annotation id at byte offset 0"),
-        ("( @\"\"", 2, "empty annotation id at byte offset 2"),
+        ("@", 0, "empty annotation id at 0"),
+        ("( @\"\"", 2, "empty annotation id at 2"),
         (
             "@\"\\e2\\82\"",
             0,
-            "malformed UTF-8 encoding of string-based id at byte offset 0",
+            "malformed UTF-8 encoding of string-based id at 0",
         ),
     ];
     for (text, at, want) in rows.as_slice() {

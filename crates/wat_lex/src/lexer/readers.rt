@@ -71,7 +71,7 @@ impl Token {
         requires kind { self.now.kind ≡ Id }
         ensures name { IfOk result (λ name. Name (chars (token_text s.now self.now)) (cow_str_bytes name)) }
         ensures some { IfOk result (λ name. cow_str_bytes name ≢ []) }
-        ensures error { IfErr result (NameError EmptyId self.now.offset (chars (token_text s.now self.now))) }
+        ensures error { IfErr result (NameError s.now EmptyId self.now.offset (chars (token_text s.now self.now))) }
         ensures borrowed { IfOk result (λ name. IsBorrowedStr name ↔ HasNoEscape (chars (token_text s.now self.now))) }
     {
         self.named(alloc, s, LexError::EmptyId)
@@ -83,7 +83,7 @@ impl Token {
         requires kind { self.now.kind ≡ Annotation }
         ensures name { IfOk result (λ name. Name (chars (token_text s.now self.now)) (cow_str_bytes name)) }
         ensures some { IfOk result (λ name. cow_str_bytes name ≢ []) }
-        ensures error { IfErr result (NameError EmptyAnnotation self.now.offset (chars (token_text s.now self.now))) }
+        ensures error { IfErr result (NameError s.now EmptyAnnotation self.now.offset (chars (token_text s.now self.now))) }
         ensures borrowed { IfOk result (λ name. IsBorrowedStr name ↔ HasNoEscape (chars (token_text s.now self.now))) }
     {
         self.named(alloc, s, LexError::EmptyAnnotation)
@@ -126,7 +126,7 @@ impl Token {
         requires kind { (self.now.kind ≡ Id) ⊎ (self.now.kind ≡ Annotation) }
         ensures name { IfOk result (λ name. Name (chars (token_text s.now self.now)) (cow_str_bytes name)) }
         ensures some { IfOk result (λ name. cow_str_bytes name ≢ []) }
-        ensures error { IfErr result (NameError empty self.now.offset (chars (token_text s.now self.now))) }
+        ensures error { IfErr result (NameError s.now empty self.now.offset (chars (token_text s.now self.now))) }
         ensures borrowed { IfOk result (λ name. IsBorrowedStr name ↔ HasNoEscape (chars (token_text s.now self.now))) }
     {
         let error = match name(alloc, &self.src(s)[1..])? {

@@ -37,15 +37,18 @@ fn name(kind: TokenKind) -> &'static str {
     }
 }
 
-/// Writes `Kind a..b`, or what an error prints, and a comma.
-fn show(shown: &mut String, item: Result<Token, Error>) -> Result<(), Fail> {
+/// Writes `Kind a..b`, or an error's message and place, and a comma.
+fn show(alloc: Global, shown: &mut String, item: Result<Token, Error>) -> Result<(), Fail> {
     match item {
         Ok(token) => {
             let end = token.offset.saturating_add(token.len as usize);
             let kind = name(token.kind);
             write!(shown, "{kind} {}..{end}, ", token.offset)?;
         }
-        Err(error) => write!(shown, "{error}, ")?,
+        Err(error) => {
+            let message = error.message(alloc)?;
+            write!(shown, "{message} at {}, ", error.span().offset())?;
+        }
     }
     Ok(())
 }
@@ -64,7 +67,7 @@ fn items(rt: &impl Abort, alloc: Global, text: &str, settings: Settings) -> Resu
             Err(_) => false,
         };
         if !blank {
-            show(&mut shown, item)?;
+            show(alloc, &mut shown, item)?;
         }
     }
     Ok(shown)
@@ -96,7 +99,7 @@ fn words_and_faults(rt: HostRuntime) -> Result<(), Fail> {
             "Reserved 0..1, Reserved 1..2, Reserved 2..3, Keyword 3..4, ",
         ),
         ("(; (;;) ;)", "BlockComment 0..10, "),
-        ("(;)", "unterminated block comment at byte offset 0, "),
+        ("(;)", "unterminated block comment at 0, "),
         (
             "(;;);;x\r\n$0^;;",
             "BlockComment 0..4, LineComment 4..7, Id 9..12, LineComment 12..14, ",
@@ -117,10 +120,10 @@ fn words_and_faults(rt: HostRuntime) -> Result<(), Fail> {
             "-1_2.1_1E+0_1 -0x10 +0x1_2.3_4P-5_6",
             "Float 0..13, Integer 14..19, Float 20..35, ",
         ),
-        ("é", "unexpected character '\\u{e9}' at byte offset 0, "),
+        ("é", "unexpected character '\\u{e9}' at 0, "),
         (
             "x \u{7f}",
-            "Keyword 0..1, unexpected character '\\u{7f}' at byte offset 2, ",
+            "Keyword 0..1, unexpected character '\\u{7f}' at 2, ",
         ),
         ("1__0", "Reserved 0..4, "),
     ];
@@ -132,43 +135,28 @@ fn strings(rt: HostRuntime) -> Result<(), Fail> {
     let rows = [
         (
             "\"\\u{110000}\"",
-            "invalid unicode scalar value 0x110000 at byte offset 9, ",
+            "invalid unicode scalar value 0x110000 at 9, ",
         ),
-        (
-            "\"\\u{100000000}\"",
-            "number is too big to parse at byte offset 12, ",
-        ),
-        (
-            "\"\\u{1_",
-            "bare underscore in numeric literal at byte offset 5, ",
-        ),
+        ("\"\\u{100000000}\"", "number is too big to parse at 12, "),
+        ("\"\\u{1_", "bare underscore in numeric literal at 5, "),
         ("\"\\u{0_f_3}\"", "String 0..11, "),
         ("\"\\u{1__0}\"", "String 0..10, "),
-        ("\"ab", "unexpected end-of-file at byte offset 3, "),
-        (
-            "\"a\n",
-            "invalid character in string '\\n' at byte offset 2, ",
-        ),
+        ("\"ab", "unexpected end-of-file at 3, "),
+        ("\"a\n", "invalid character in string '\\n' at 2, "),
         (
             "\"\\u{d800}\"",
-            "invalid unicode scalar value 0xd800 at byte offset 7, ",
+            "invalid unicode scalar value 0xd800 at 7, ",
         ),
-        (
-            "\"\\u{41\"",
-            "expected '}' but found '\"' at byte offset 6, ",
-        ),
-        ("\"\\u41\"", "expected '{' but found '4' at byte offset 3, "),
-        ("\"\\u{}\"", "invalid hex digit '}' at byte offset 4, "),
-        ("\"\\u{_}\"", "invalid hex digit '_' at byte offset 4, "),
-        ("\"\\4g\"", "invalid hex digit 'g' at byte offset 3, "),
-        ("a\"b", "unexpected end-of-file at byte offset 3, "),
-        (
-            "\"\\u{d800_",
-            "bare underscore in numeric literal at byte offset 8, ",
-        ),
-        ("\"\\q\"", "invalid string escape 'q' at byte offset 2, "),
-        ("\"\\'", "unexpected end-of-file at byte offset 3, "),
-        ("\"\\", "unexpected end-of-file at byte offset 2, "),
+        ("\"\\u{41\"", "expected '}' but found '\"' at 6, "),
+        ("\"\\u41\"", "expected '{' but found '4' at 3, "),
+        ("\"\\u{}\"", "invalid hex digit '}' at 4, "),
+        ("\"\\u{_}\"", "invalid hex digit '_' at 4, "),
+        ("\"\\4g\"", "invalid hex digit 'g' at 3, "),
+        ("a\"b", "unexpected end-of-file at 3, "),
+        ("\"\\u{d800_", "bare underscore in numeric literal at 8, "),
+        ("\"\\q\"", "invalid string escape 'q' at 2, "),
+        ("\"\\'", "unexpected end-of-file at 3, "),
+        ("\"\\", "unexpected end-of-file at 2, "),
     ];
     compare(&rt, rt.alloc(), rows.as_slice(), DENIED)
 }
@@ -177,10 +165,10 @@ fn strings(rt: HostRuntime) -> Result<(), Fail> {
 fn confusing_characters(rt: HostRuntime) -> Result<(), Fail> {
     let fault = "likely-confusing unicode character found ";
     let denied = [
-        (";;\u{202e}", "'\\u{202e}' at byte offset 2, "),
-        ("\"\u{202e}\"", "'\\u{202e}' at byte offset 1, "),
-        (";;€\u{202e}", "'\\u{202e}' at byte offset 5, "),
-        ("(;–\u{2066};)", "'\\u{2066}' at byte offset 5, "),
+        (";;\u{202e}", "'\\u{202e}' at 2, "),
+        ("\"\u{202e}\"", "'\\u{202e}' at 1, "),
+        (";;€\u{202e}", "'\\u{202e}' at 5, "),
+        ("(;–\u{2066};)", "'\\u{2066}' at 5, "),
     ];
     for (text, want) in denied.iter() {
         let got = items(&rt, rt.alloc(), text, DENIED)?;
@@ -192,20 +180,14 @@ fn confusing_characters(rt: HostRuntime) -> Result<(), Fail> {
         (";;\u{202c}", "LineComment 0..5, "),
         (";;â", "LineComment 0..4, "),
         ("\"\\u{202e}\"", "String 0..10, "),
-        (
-            "(;\u{202e}",
-            "unterminated block comment at byte offset 0, ",
-        ),
+        ("(;\u{202e}", "unterminated block comment at 0, "),
     ];
     compare(&rt, rt.alloc(), clear.as_slice(), DENIED)?;
     let allowed = [
         (";;\u{202e}", "LineComment 0..5, "),
         ("\"\u{202e}\"", "String 0..5, "),
         ("\"\\u{202e}\"", "String 0..10, "),
-        (
-            "(;\u{202e}",
-            "unterminated block comment at byte offset 0, ",
-        ),
+        ("(;\u{202e}", "unterminated block comment at 0, "),
     ];
     compare(&rt, rt.alloc(), allowed.as_slice(), ALLOWED)
 }
@@ -213,22 +195,16 @@ fn confusing_characters(rt: HostRuntime) -> Result<(), Fail> {
 #[test]
 fn strict_underscores(rt: HostRuntime) -> Result<(), Fail> {
     let rows = [
-        (
-            "\"\\u{1__0}\"",
-            "bare underscore in numeric literal at byte offset 6, ",
-        ),
+        ("\"\\u{1__0}\"", "bare underscore in numeric literal at 6, "),
         ("\"\\u{0_f_3}\"", "String 0..11, "),
-        (
-            "\"\\u{1__",
-            "bare underscore in numeric literal at byte offset 6, ",
-        ),
+        ("\"\\u{1__", "bare underscore in numeric literal at 6, "),
         (
             "\"\\u{fffffffff__0}\"",
-            "number is too big to parse at byte offset 12, ",
+            "number is too big to parse at 12, ",
         ),
         (
             "$\"\\u{61__62}\"",
-            "bare underscore in numeric literal at byte offset 8, ",
+            "bare underscore in numeric literal at 8, ",
         ),
         ("1__0", "Reserved 0..4, "),
     ];

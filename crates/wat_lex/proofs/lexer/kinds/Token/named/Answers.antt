@@ -19,7 +19,7 @@ name-requires c = let t = tail (goal.at.name-requires c).After-src in subst (λ 
 
 pub returns-in_err-name-clause-error : goal.returns-in_err-name-clause-error
 returns-in_err-name-clause-error c =
-    memory_error c.from_residual.result c.args.empty c.args.self.now.offset _ c.from_residual.ensures.1
+    memory_error c.from_residual.result c.args.s.now c.args.empty c.args.self.now.offset _ c.from_residual.ensures.1
     (λ h. false≢true (c.in_err-name.ensures.free (free_name c.src.result.now c.range_from.result.now (tail (goal.at.returns-in_err-name-clause-error c).After-src) c.range_from.ensures.value (subst (λ x. HasNoEscape (chars x)) (sym c.src.ensures.text) h))))
 
 pub returns-then-len-gt0-clause-name : goal.returns-then-len-gt0-clause-name
@@ -55,5 +55,5 @@ fault c t =
 
 pub returns-clause-error : goal.returns-clause-error
 returns-clause-error c =
-    subst (λ x. NameError c.args.empty c.args.self.now.offset (chars x) c.lex.result) c.src.ensures.text
-    (fault_error c.lex.result c.args.empty c.match-branch-2.error c.args.self.now.offset c.from_offset-span.result (chars c.src.result.now) (fault (goal.at.returns-clause-error c).After-lex (tail (goal.at.returns-clause-error c).After-src)) c.from_offset-span.ensures c.lex.ensures)
+    subst (λ x. NameError c.args.s.now c.args.empty c.args.self.now.offset (chars x) c.lex.result) c.src.ensures.text
+    (fault_error c.lex.result c.args.s.now c.args.empty c.match-branch-2.error c.args.self.now.offset c.from_offset-span.result (chars c.src.result.now) (fault (goal.at.returns-clause-error c).After-lex (tail (goal.at.returns-clause-error c).After-src)) c.from_offset-span.ensures c.lex.ensures.report)
