@@ -1,5 +1,5 @@
--- WebAssembly specification, text format, values: identifiers. An identifier is its name; those that a program makes
--- have a generation above 0 beside it, which keeps them apart from all that a text can spell.
+-- WebAssembly specification, text format, values: identifiers. An identifier is its name. No part of the standard is the
+-- generation beside it: above 0 for those that a program makes, which keeps them apart from all that a text can spell.
 use Rattle.std.specs.Prelude.{◌≡◌, ℕ, Bool, List, ◌&&◌, ◌==◌, codes}
 use Rattle.std.specs.Cmp.Lexicographic.{pointwise}
 

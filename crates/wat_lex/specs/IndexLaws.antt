@@ -1,5 +1,5 @@
--- WebAssembly specification, text format, values and modules: identifiers and indices. That two of them are the same
--- is an equivalence, and those that are the same feed a hasher alike.
+-- Identifiers and indices as keys: that two of them are the same is an equivalence, and those that are the same feed a hasher
+-- alike. No part of the standard.
 use Rattle.std.specs.Prelude.{◌≡◌, true, ◌++◌, ◌==◌, refl, nat_eq}
 use Rattle.std.specs.Cmp.Lexicographic.{nat_list_eq_equiv, pointwise, same_text}
 use Rattle.std.proofs.Common.{ap, sym, ◌∙◌}

@@ -1,6 +1,6 @@
 -- WebAssembly specification, binary format, values: integers (LEB128). A byte holds seven bits of the integer, the
 -- least significant first; its bit 7 says that more bytes follow. A signed integer is in two's complement, so that bit 6
--- of the last byte is its sign.
+-- of the last byte is its sign. The standard lets an integer have longer forms too; an encoder here writes the shortest.
 use Rattle.std.specs.Prelude.{◌≡◌, ℕ, zero, suc, ◌+◌, ◌-◌, ◌*◌, ◌/◌, ◌%◌, ◌^◌, ◌<◌, ◌≤◌, max, Bool, false, nat_le, if◌then◌else◌, ℤ, pos, negsuc, ◌-ℤ◌, List, [], ◌∷◌, length, map}
 use Rattle.std.specs.Int.Digits.{digits_of}
 

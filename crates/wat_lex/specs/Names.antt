@@ -1,5 +1,6 @@
--- WebAssembly specification, text format, values: identifiers; the annotations proposal: annotation names. Behind `$` or
--- `@` stands a name: idchars, which are their own bytes, or a string.
+-- WebAssembly specification, text format, values: identifiers; lexical format: annotations. Behind `$` or `@` stands a name:
+-- idchars, which are their own bytes, or a string. The standard's names are UTF-8 and not empty; the words of other bytes are
+-- words here too, and what is wrong with their names is told apart.
 use Rattle.std.specs.Prelude.{◌≡◌, ◌⊎◌, ◌==◌, ℕ, List, [], ◌∷◌, Option, Some, None, encode_utf8_all}
 use Rattle.std.specs.Str.{NonePass, IsUtf8}
 use Rattle.wat_lex.specs.Classes.{quote, backslash, is_idchar, Each}

@@ -80,7 +80,7 @@ pub record IsIntegerOf (kind : IntegerKind) (word : List ℕ) (integer : Integer
   pub digits : IsText (kind.hex || kind.has_underscores) (number_text kind.hex word) integer.digits
   pub hex : integer.hex ≡ kind.hex
 
--- Its digits are a numeral in its base, which denotes what the word does.
+-- Its digits are a numeral in its base, which denotes what the word does, the sign of both left out.
 pub record IsNumeralOf (kind : IntegerKind) (word : List ℕ) (integer : Integer) : Type 0 where
   pub numeral : IsNumeral (base integer.hex) (without_leading_sign (cow_str_bytes integer.digits))
   pub value : digits_value (base integer.hex) (without_leading_sign (cow_str_bytes integer.digits)) ≡ integer_value kind.hex word
