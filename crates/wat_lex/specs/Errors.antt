@@ -30,7 +30,7 @@ abbrev pub HasText : Option Report → Type 0
 HasText None = Unit {0}
 HasText (Some r) = IsSome r.excerpt
 
--- the error with what is kept of this text, if nothing is yet
+-- the error with what is kept of this text, if nothing is yet; want of memory stays what it is
 abbrev pub with_text : List ℕ → Option Report → Option Report
 with_text text None = None
 with_text text (Some r) = by r.excerpt

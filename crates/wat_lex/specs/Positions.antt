@@ -1,4 +1,5 @@
--- Where a byte of a text stands, by the lines that Rust's `str::lines` gives. No part of the standard, which has no lines.
+-- Where a byte of a text stands: on which line, and in which column. No part of the standard, which has no positions. A line ends
+-- behind its line feed, and a column counts bytes, a carriage return among them.
 use Rattle.std.specs.Prelude.{ℕ, Bool, not, ◌==◌, nat_le, List, length, take, if◌then◌else◌}
 use Rattle.std.specs.List.{count_by, suffix_len}
 use Rattle.std.specs.Str.Lines.{lines}

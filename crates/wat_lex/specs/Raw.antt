@@ -25,7 +25,7 @@ pub record Raw (s : Setting) (from : ℕ) (items : List Item) : Type 0 where
   pub tiling : MaximalTiling s from tokens ending
   pub spelled : Spells s.text tokens ending items
 
--- at the place no word stands, and this is the error of the fault there
+-- at the place no word stands, and this is the error of the fault there, or want of memory
 pub record ErrorAt (s : Setting) (p : ℕ) (e : Option Report) : Type 0 where
   pub fault : LexFault
   pub stands : FaultAt s p fault

@@ -26,7 +26,8 @@ abbrev pub columns : List ℕ → ℕ → ℕ
 columns text n = if nat_le n (length text) && is_char_start (slice_index text n) then str_width false (chars (take n text)) else n
 
 -- The line that the byte stands in is without its line feed, or carriage return and line feed. It is empty where the byte
--- stands in no line.
+-- stands in no line. The column is measured on the line as it is shown, so a TAB before the byte, or a character that is
+-- dropped, puts it off.
 abbrev pub excerpt : List ℕ → ℕ → Excerpt
 excerpt text offset =
     let place = line_and_column text offset in

@@ -107,7 +107,7 @@ pub fn run_list<R: Source, W: Sink>(
         (text : List ℕ) × Lists settings bytes text error × Appends (W.held output.old) (W.held output.new) text)) }
     ensures ended { OnOk result (IsAtEnd (R.left input.new)) }
 
-    // When each refusal comes; that of memory comes only where a request for memory was refused.
+    // When each refusal but that of memory comes.
     ensures too_long { IsErrOf result RunError.TooLong → ReadsPast (R.left input.old) (R.left input.new) }
     ensures not_utf8 { IsErrOf result RunError.NotUtf8 → IsNoText (R.left input.old) (R.left input.new) }
     ensures read { IsErrOf result RunError.Read ↔ (R.has_failed input.new ≡ true) }

@@ -214,6 +214,16 @@ fn errors_of_ones_own_print_their_line(rt: HostRuntime) -> Result<(), Fail> {
             "m\n     --> <anon>:1:1\n      |\n    1 | \n      | ^",
         ),
         (
+            "",
+            1,
+            "m\n     --> <anon>:1:1\n      |\n    1 | \n      | ^",
+        ),
+        (
+            "a\r\nb",
+            2,
+            "m\n     --> <anon>:1:3\n      |\n    1 | a\n      |   ^",
+        ),
+        (
             "é",
             1,
             "m\n     --> <anon>:1:2\n      |\n    1 | é\n      |  ^",
