@@ -9,6 +9,9 @@ use std::alloc::{AllocError, Global};
 use std::fmt;
 use unicode_width::UnicodeWidthStr;
 
+/// The last column that is marked below its line.
+const LAST_MARKED: usize = 500;
+
 /// The line of a text that an error is about, and its place.
 #[derive(Debug, Drop)]
 pub struct Text {
@@ -69,7 +72,7 @@ impl fmt::Display for Text {
     fn fmt<W: fmt::Write>(&self, f: &mut fmt::Formatter<W>) -> fmt::Result {
         let line = self.line;
         let column = self.column;
-        if column > 500 {
+        if column > LAST_MARKED {
             return write!(f, " at <anon>:{line}:{column}");
         }
         let snippet = self.snippet.as_str();

@@ -11,4 +11,4 @@ returns-clause-writes g c plain ok =
     let three = c.write-4.ensures.writes two.plain ok in
     let t = excerpt_of c.args.self.now in
     put_three _ _ _ _ _ _ _ _ _ one two three
-    (shown_in_three t _ _ c.as_str-snippet.result.now (omega (arith, c.if-column-gt500.false)) (styled_line c.laid_out.result t.line c.laid_out.ensures) c.as_str-snippet.ensures.value (styled_mark c.laid_out-2.result t.column c.laid_out-2.ensures))
+    (shown_in_three t _ _ c.as_str-snippet.result.now (omega (arith, c.if-column-gt-LAST_MARKED.false)) (styled_line c.laid_out.result t.line c.laid_out.ensures) c.as_str-snippet.ensures.value (styled_mark c.laid_out-2.result t.column c.laid_out-2.ensures))
