@@ -262,3 +262,32 @@ fn a_text_is_set_once(rt: HostRuntime) -> Result<(), Fail> {
     error.set_text(rt.alloc(), "ab")?;
     answers(&rt, rt.alloc(), &error, "out of memory", "out of memory")
 }
+
+#[test]
+fn an_error_that_finds_no_memory_says_so(rt: HostRuntime) -> Result<(), Fail> {
+    let error = Error::lex(
+        rt.alloc(),
+        Span::from_offset(0),
+        "(;",
+        LexError::DanglingBlockComment,
+    );
+    if error.is_out_of_memory() {
+        assert_eq!(rt; error.span().offset(), 0);
+        assert!(rt; error.lex_error().is_none());
+        return answers(&rt, rt.alloc(), &error, "out of memory", "out of memory");
+    }
+    let message = "unterminated block comment";
+    let printed = "unterminated block comment\n     --> <anon>:1:1\n      |\n    1 | (;\n      | ^";
+    answers(&rt, rt.alloc(), &error, message, printed)
+}
+
+#[test]
+fn a_refused_text_leaves_the_error(rt: HostRuntime) -> Result<(), Fail> {
+    let message = String::from_str(rt.alloc(), "m")?;
+    let mut error = Error::new(Span::from_offset(1), message);
+    let printed = match error.set_text(rt.alloc(), "ab") {
+        Ok(()) => "m\n     --> <anon>:1:2\n      |\n    1 | ab\n      |  ^",
+        Err(_) => "m at byte offset 1",
+    };
+    answers(&rt, rt.alloc(), &error, "m", printed)
+}
