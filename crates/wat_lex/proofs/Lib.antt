@@ -24,6 +24,7 @@ mod NumberValues
 mod NumberParts
 mod NumberWords
 mod Unique
+mod OneKind
 mod Names
 mod Values
 mod Numerals
