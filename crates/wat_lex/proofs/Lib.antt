@@ -25,6 +25,7 @@ mod NumberParts
 mod NumberWords
 mod Unique
 mod OneKind
+mod OneNumberFault
 mod Names
 mod Values
 mod Numerals
