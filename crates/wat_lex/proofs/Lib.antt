@@ -26,6 +26,8 @@ mod NumberWords
 mod Unique
 mod OneKind
 mod OneNumberFault
+mod OneStringFault
+mod OneRun
 mod Names
 mod Values
 mod Numerals
