@@ -28,6 +28,7 @@ mod OneKind
 mod OneNumberFault
 mod OneStringFault
 mod OneRun
+mod OneWord
 mod Names
 mod Values
 mod Numerals
