@@ -29,6 +29,7 @@ mod OneNumberFault
 mod OneStringFault
 mod OneRun
 mod OneWord
+mod OneFault
 mod Names
 mod Values
 mod Numerals

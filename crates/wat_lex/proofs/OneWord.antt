@@ -74,10 +74,10 @@ class_second [] x y n = refl
 class_second (d ∷ t) x y n = ap (λ b. cond b x y) (fails (d == semicolon) n)
 
 -- a word is one character
-One : TokenKind → TokenKind → List ℕ → Type 0
+pub One : TokenKind → TokenKind → List ℕ → Type 0
 One kind k w = (k ≡ kind) × (c : ℕ) × (w ≡ c ∷ [])
 
-record IsLine (k : TokenKind) (w r : List ℕ) : Type 0 where
+pub record IsLine (k : TokenKind) (w r : List ℕ) : Type 0 where
   kind : k ≡ LineComment
   front : List ℕ
   cut : w ≡ semicolon ∷ semicolon ∷ front
@@ -91,7 +91,7 @@ pub record IsRun (flags : Settings) (k : TokenKind) (w r : List ℕ) : Type 0 wh
   pub ends : EndsRun r
 
 -- the word w of the kind k before r, by its class
-pub Form : Class → Settings → TokenKind → List ℕ → List ℕ → Type 0
+unfoldable pub Form : Class → Settings → TokenKind → List ℕ → List ℕ → Type 0
 Form Nothing flags k w r = ⊥
 Form Blanks flags k w r = (k ≡ Whitespace) × Each is_blank w × (Begins is_blank r → ⊥)
 Form Joined flags k w r = IsRun flags k w r
@@ -195,8 +195,12 @@ mark_form flags w r m f =
           in_class Single flags Reserved w r (ap (λ y. class_of (y ++ r)) e ∙ class_second r Line Single (f.0 e)) (refl, semicolon, e)
     ]
 
+pub begun_class : (s : List ℕ) → Begins is_run_char s → class_of s ≡ Joined
+begun_class [] h = absurd h
+begun_class (c ∷ t) h = class_run c t h
+
 -- a run that is not empty begins with an idchar or a quote
-pub run_class : (flags : Settings) (s r : List ℕ) (ps : List Piece) → ps ≢ [] → Run flags s ps r → class_of s ≡ Joined
+run_class : (flags : Settings) (s r : List ℕ) (ps : List Piece) → ps ≢ [] → Run flags s ps r → class_of s ≡ Joined
 run_class flags s r ps n none = absurd (n refl)
 run_class flags s r ps n (idchar {c = c} {t = t} h k) = class_run c t (idchar_runs c h)
 run_class flags s r ps n (string {t = t} h k) = class_run quote t refl
