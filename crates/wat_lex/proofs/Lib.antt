@@ -30,6 +30,7 @@ mod OneStringFault
 mod OneRun
 mod OneWord
 mod OneFault
+mod OneTilings
 mod Names
 mod Values
 mod Numerals

@@ -1,5 +1,6 @@
 use Rattle.std.proofs.Common.{refl}
 use Rattle.wat_lex.proofs.Laws.{laws_of}
+use Rattle.wat_lex.proofs.OneTilings.{one_tiling}
 use Rattle.wat_lex.proofs.Raws.{tiled, tiled_run}
 use Rattle.wat_lex.proofs.lexer.Lexer.iter.Goals as goal
 
@@ -11,3 +12,6 @@ returns-clause-runs c = λ p _ e w. tiled_run _ refl p e w
 
 pub returns-clause-laws : goal.returns-clause-laws
 returns-clause-laws c = λ items h. laws_of _ _ items c.input.ensures.utf8 c.requires (tiled _ items refl h)
+
+pub returns-clause-one : goal.returns-clause-one
+returns-clause-one c = one_tiling _ _
