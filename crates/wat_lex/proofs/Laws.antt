@@ -24,7 +24,7 @@ token_some : (s : Setting) (p : ℕ) (t : Token) → TokenAt s p t → 0 < t.len
 token_some s p t h = let k = some_size h.word (word_some t.kind h.word s.flags h.stands.word) in omega (arith, h.len, k)
 
 -- the boundary behind a token
-behind : (s : Setting) (p : ℕ) (t : Token) → IsUtf8 s.text → IsCharBoundary s.text p → TokenAt s p t → IsCharBoundary s.text (t.offset + t.len)
+pub behind : (s : Setting) (p : ℕ) (t : Token) → IsUtf8 s.text → IsCharBoundary s.text p → TokenAt s p t → IsCharBoundary s.text (t.offset + t.len)
 behind s p t u b h = token_past s.text t u (token_of s p t b h)
 
 few : (s : Setting) (from to : ℕ) (tokens : List Token) (ending : Option LexFault) (items : List Item) → IsUtf8 s.text → IsCharBoundary s.text from → Tiling s from to tokens → Spells tokens ending items → from + length items ≤ length s.text + 1

@@ -31,6 +31,8 @@ mod OneRun
 mod OneWord
 mod OneFault
 mod OneTilings
+mod CutTexts
+mod MovedTexts
 mod Names
 mod Values
 mod Numerals

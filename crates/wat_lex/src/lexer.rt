@@ -5,7 +5,7 @@ ghost use Rattle.wat_lex.specs.Faults.{FaultAt};
 ghost use Rattle.wat_lex.specs.Raw.{ErrorAt};
 ghost use Rattle.wat_lex.specs.Readers.{IsTokenOf};
 ghost use Rattle.wat_lex.specs.Tiling.{TokenAt};
-ghost use Rattle.wat_lex.specs.Unique.{StandsAt, OneTiling};
+ghost use Rattle.wat_lex.specs.Unique.{StandsAt};
 
 use crate::error::Error;
 use crate::token::Span;
@@ -183,7 +183,9 @@ impl<'a> Lexer<'a> {
     ghost use Rattle.std.specs.Iterator.{Drains};
     ghost use Rattle.std.specs.Iterator.Runs.{EachRunFrom};
     ghost use Rattle.wat_lex.specs.Laws.{Laws};
+    ghost use Rattle.wat_lex.specs.Parts.{Cuts, Moves};
     ghost use Rattle.wat_lex.specs.Raw.{Item, Raw, token_steps};
+    ghost use Rattle.wat_lex.specs.Unique.{OneTiling};
 
     /// The tokens from a byte of the text on, up to its end or its first fault.
     pub fn iter<'l>(&'l self, alloc: Global, pos: usize) -> Tokens<'l, 'a>
@@ -193,6 +195,8 @@ impl<'a> Lexer<'a> {
         ensures laws { (items : List Item) → Drains token_steps result items → Laws self.now pos items }
         ensures runs { EachRunFrom token_steps result (λ p. p.whole ≡ true → Raw self.now pos p.items) }
         ensures one { OneTiling self.now pos }
+        ensures cuts { Cuts self.now pos }
+        ensures moves { Moves self.now pos }
     {
         // The proof of the laws takes from here that the text is UTF-8.
         let _ = self.input();
