@@ -1,13 +1,13 @@
 -- The tokens of a text that is cut, but for its last, are tokens of the whole.
-use Rattle.std.proofs.Common.{Bool, ◌≡◌, ◌≢◌, ◌≤◌, ◌+◌, ◌-◌, ℕ, List, [], ◌∷◌, ◌++◌, length, take, drop, refl, arith, ap, sym, ◌∙◌, subst, append_assoc, inl, inr}
+use Rattle.std.proofs.Common.{Bool, ◌≡◌, ◌≢◌, ◌≤◌, ◌+◌, ◌-◌, ℕ, List, [], ◌∷◌, ◌++◌, take, drop, refl, arith, ap, sym, ◌∙◌, subst, append_assoc, inl, inr}
 use Rattle.std.specs.Prelude.{Option, Some, None, ◌==◌}
 use Rattle.std.proofs.lemmas.List.{take-append-drop, drop-take, drop-drop, drop_at, length-take-le}
 use Rattle.std.proofs.lemmas.Str.{chars-append, chars-encodes, IsUtf8-drop, IsUtf8-take, IsUtf8-between, IsCharBoundary-from_drop}
 use Rattle.std.specs.Str.{chars, IsUtf8, IsCharBoundary}
 use lib.Utf8.{encodes}
-use Rattle.wat_lex.specs.Classes.{Begins, is_blank, is_line_end, is_run_char, semicolon}
+use Rattle.wat_lex.specs.Classes.{Begins, is_blank, is_run_char, semicolon}
 use Rattle.wat_lex.specs.Setting.{Setting}
-use Rattle.wat_lex.specs.Tiling.{TokenAt, Tiling, EndsAt, MaximalTiling}
+use Rattle.wat_lex.specs.Tiling.{TokenAt, Tiling, EndsAt}
 use Rattle.wat_lex.specs.Parts.{sure, Cuts}
 use Rattle.wat_lex.specs.Words.{MayFollow, Stands}
 use Rattle.wat_lex.specs.declared.lexer.settings.Settings.{Settings}

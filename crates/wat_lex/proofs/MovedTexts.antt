@@ -1,5 +1,5 @@
 -- The tokens from a place on are those of the text that begins there, moved.
-use Rattle.std.proofs.Common.{◌≡◌, ◌≤◌, ◌+◌, ◌-◌, ℕ, List, [], ◌∷◌, ◌++◌, length, drop, refl, arith, ap, sym, ◌∙◌, subst, length-drop}
+use Rattle.std.proofs.Common.{◌≡◌, ◌≤◌, ◌+◌, ◌-◌, ℕ, List, [], ◌∷◌, length, drop, refl, arith, ap, sym, subst, length-drop}
 use Rattle.std.specs.Prelude.{Option, Some, None}
 use Rattle.std.proofs.lemmas.List.{drop-drop}
 use Rattle.std.proofs.lemmas.Str.{encodes-chars, IsUtf8-drop}
@@ -8,7 +8,7 @@ use Rattle.wat_lex.specs.Classes.{size, quote}
 use Rattle.wat_lex.specs.Faults.{Fault, FaultAt, unexpected, dangling, confusing, in_string}
 use Rattle.wat_lex.specs.Parts.{moved_tokens, moved_ending, Moves}
 use Rattle.wat_lex.specs.Setting.{Setting}
-use Rattle.wat_lex.specs.Tiling.{TokenAt, Tiling, EndsAt, MaximalTiling}
+use Rattle.wat_lex.specs.Tiling.{TokenAt, Tiling, EndsAt}
 use Rattle.wat_lex.specs.Words.{Stands}
 use Rattle.wat_lex.specs.declared.lexer.settings.Settings.{Settings}
 use Rattle.wat_lex.specs.declared.lexer.kinds.Token.{Token}

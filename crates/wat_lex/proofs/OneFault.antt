@@ -1,9 +1,9 @@
 -- A text has one fault, and no word where it has one.
-use Rattle.std.proofs.Common.{◌≡◌, ◌≢◌, ◌<◌, ℕ, List, [], ◌∷◌, ◌++◌, length, refl, arith, ap, sym, ◌∙◌, subst, Bool, true, false, not, cond, ◌||◌, inl, inr}
+use Rattle.std.proofs.Common.{◌≡◌, ◌<◌, ℕ, List, [], ◌∷◌, ◌++◌, length, refl, arith, ap, sym, ◌∙◌, subst, Bool, true, false, cond, ◌||◌, inl, inr}
 use Rattle.std.specs.Prelude.{◌==◌, IsTrue}
-use Rattle.std.proofs.lemmas.Bool.{both_ways, false≢true, cases_Bool}
+use Rattle.std.proofs.lemmas.Bool.{both_ways, false≢true}
 use Rattle.std.specs.Str.{NonePass}
-use Rattle.wat_lex.specs.Classes.{Begins, is_idchar, is_run_char, is_blank, is_mark, is_confusing, IsClear, open_paren, close_paren, semicolon, quote}
+use Rattle.wat_lex.specs.Classes.{Begins, is_run_char, is_blank, is_mark, is_confusing, IsClear, open_paren, close_paren, semicolon, quote}
 use Rattle.wat_lex.specs.Comments.{BlockComment as Commented, opened, LineComment as CommentedLine, begun}
 use Rattle.wat_lex.specs.Faults.{begins_word, IsComment, Fault, unexpected, dangling, confusing, in_string}
 use Rattle.wat_lex.specs.Runs.{Piece, Run, none, idchar, string}
@@ -11,7 +11,7 @@ use Rattle.wat_lex.specs.Setting.{allowing}
 use Rattle.wat_lex.specs.Words.{Word, Stands}
 use Rattle.wat_lex.specs.declared.lexer.settings.Settings.{Settings}
 use Rattle.wat_lex.specs.declared.lexer.kinds.TokenKind.{TokenKind}
-use Rattle.wat_lex.specs.declared.lexer.kinds.TokenKind.TheVariants.{LineComment, BlockComment}
+use Rattle.wat_lex.specs.declared.lexer.kinds.TokenKind.TheVariants.{BlockComment}
 use Rattle.wat_lex.specs.declared.lexer.faults.LexError.{LexError}
 use Rattle.wat_lex.specs.declared.lexer.faults.LexError.TheVariants.{ConfusingUnicode}
 use Rattle.wat_lex.proofs.Looser.{Looser, stands_looser}

@@ -1,8 +1,8 @@
 -- The number of an escape goes wrong in one way.
-use Rattle.std.proofs.Common.{◌≡◌, ◌⊎◌, ◌≤◌, ◌<◌, ◌^◌, ℕ, List, [], ◌∷◌, ◌++◌, refl, arith, ap, sym, ◌∙◌, subst, true, inl, inr, append_assoc, ◌||◌}
+use Rattle.std.proofs.Common.{◌≡◌, ◌⊎◌, ◌≤◌, ◌<◌, ◌^◌, ℕ, List, [], ◌∷◌, ◌++◌, refl, arith, ap, sym, ◌∙◌, subst, inl, inr, append_assoc, ◌||◌}
 use Rattle.std.specs.Prelude.{IsTrue, ◌==◌}
 use Rattle.std.proofs.lemmas.List.{append-nil}
-use Rattle.std.proofs.lemmas.Bool.{both_ways, false≢true}
+use Rattle.std.proofs.lemmas.Bool.{both_ways}
 use Rattle.std.specs.Char.{IsScalar}
 use Rattle.wat_lex.specs.Classes.{Each, Begins, is_hex, underscore, close_brace}
 use Rattle.wat_lex.specs.Strings.{is_hex_or_underscore, hex_value, HexRow, EndsInUnderscore}

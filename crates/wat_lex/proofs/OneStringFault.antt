@@ -1,7 +1,7 @@
 -- A string goes wrong in one way.
-use Rattle.std.proofs.Common.{◌≡◌, ◌≤◌, ◌<◌, ℕ, Bool, zero, suc, List, [], ◌∷◌, ◌++◌, length, refl, arith, ap, sym, ◌∙◌, subst, true, false, inl, inr, length-append}
+use Rattle.std.proofs.Common.{◌≡◌, ◌<◌, ℕ, Bool, zero, suc, List, [], ◌∷◌, length, refl, arith, ap, ◌∙◌, true, inl, inr, length-append}
 use Rattle.std.specs.Prelude.{not, ◌==◌}
-use Rattle.std.proofs.lemmas.Bool.{both_ways, false≢true, or_cases, eqb-true, cases_Bool}
+use Rattle.std.proofs.lemmas.Bool.{both_ways, false≢true, or_cases, eqb-true}
 use Rattle.std.specs.Char.{char_set_contains}
 use Rattle.wat_lex.specs.Classes.{Each, is_confusing}
 use Rattle.wat_lex.specs.Strings.{Element, raw, letter, byte, unicode, is_control}

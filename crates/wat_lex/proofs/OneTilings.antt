@@ -7,7 +7,7 @@ use Rattle.std.specs.Str.{chars}
 use Rattle.wat_lex.specs.Classes.{size}
 use Rattle.wat_lex.specs.Faults.{FaultAt}
 use Rattle.wat_lex.specs.Setting.{Setting}
-use Rattle.wat_lex.specs.Tiling.{TokenAt, Tiling, EndsAt, MaximalTiling}
+use Rattle.wat_lex.specs.Tiling.{TokenAt, Tiling, EndsAt}
 use Rattle.wat_lex.specs.Unique.{StandsAt, OneTiling}
 use Rattle.wat_lex.specs.declared.lexer.kinds.Token.{Token}
 use Rattle.wat_lex.specs.declared.lexer.faults.LexFault.{LexFault}

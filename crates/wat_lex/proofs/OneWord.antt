@@ -1,8 +1,8 @@
 -- At the front of a text stands one word.
 use Rattle.std.proofs.Common.{◌≡◌, ◌≢◌, ◌⊎◌, ℕ, List, [], ◌∷◌, ◌++◌, refl, ap, sym, ◌∙◌, subst, Bool, true, false, cond, not, ◌||◌, inl, inr}
-use Rattle.std.specs.Prelude.{◌==◌, IsTrue, codes, encode_utf8_all}
+use Rattle.std.specs.Prelude.{◌==◌, codes}
 use Rattle.std.proofs.lemmas.List.{append-nil, append_cancel_right}
-use Rattle.std.proofs.lemmas.Bool.{both_ways, or_cases, eqb-true, cases_Bool, false≢true}
+use Rattle.std.proofs.lemmas.Bool.{both_ways, or_cases, eqb-true, false≢true}
 use Rattle.wat_lex.specs.Classes.{Each, Begins, is_blank, is_idchar, is_run_char, is_mark, is_line_end, open_paren, close_paren, semicolon, quote}
 use Rattle.wat_lex.specs.Comments.{Closes, BlockComment as Commented, opened, LineComment as CommentedLine, begun}
 use Rattle.wat_lex.specs.Runs.{Piece, Run, none, idchar, string, RunKind, RunWord}
