@@ -29,6 +29,8 @@ mod settings;
 mod strings;
 #[cfg(test)]
 mod tests;
+#[cfg(test)]
+mod unique_tests;
 mod values;
 
 pub use faults::{LexError, LexFault};
