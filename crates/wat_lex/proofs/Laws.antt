@@ -20,7 +20,7 @@ use Rattle.wat_lex.proofs.TokensOf.{token_of, token_ends}
 token_past : (text : List ℕ) (t : Token) → IsUtf8 text → IsTokenOf text t → IsCharBoundary text (t.offset + t.len)
 token_past text t u h = IsCharBoundary-from_rest text t.offset t.len h.boundary.0 (token_ends text t u h)
 
-token_some : (s : Setting) (p : ℕ) (t : Token) → TokenAt s p t → 0 < t.len
+pub token_some : (s : Setting) (p : ℕ) (t : Token) → TokenAt s p t → 0 < t.len
 token_some s p t h = let k = some_size h.word (word_some t.kind h.word s.flags h.stands.word) in omega (arith, h.len, k)
 
 -- the boundary behind a token

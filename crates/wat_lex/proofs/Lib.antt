@@ -33,6 +33,11 @@ mod OneFault
 mod OneTilings
 mod CutTexts
 mod MovedTexts
+mod SomeString
+mod SomeNumber
+mod SomeRun
+mod SomeAnswer
+mod SomeTilings
 mod Names
 mod Values
 mod Numerals

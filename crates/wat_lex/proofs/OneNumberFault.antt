@@ -69,7 +69,7 @@ record Ended (flags : Settings) (d : ℕ) (s : List ℕ) (e : LexError) (at : Li
   row : HexRow flags d s
   goes : Goes d s []
 
-row_front : (flags : Settings) (d : ℕ) (ds more : List ℕ) → HexRow flags d (ds ++ more) → HexRow flags d ds
+pub row_front : (flags : Settings) (d : ℕ) (ds more : List ℕ) → HexRow flags d (ds ++ more) → HexRow flags d ds
 row_front flags d ds more h = record {
   first = h.first;
   others = each_front ds more h.others;

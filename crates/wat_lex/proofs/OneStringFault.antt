@@ -23,7 +23,7 @@ set_apart p (d ∷ s) c h e k =
 control_confusing : (c : ℕ) → is_control c ≡ true → is_confusing c ≡ true → ⊥
 control_confusing c h k = set_apart is_control (0x202A ∷ 0x202B ∷ 0x202D ∷ 0x202E ∷ 0x2066 ∷ 0x2067 ∷ 0x2068 ∷ 0x2069 ∷ 0x206C ∷ []) c (refl, (refl, (refl, (refl, (refl, (refl, (refl, (refl, (refl, tt))))))))) k h
 
-element_shorter : (flags : Settings) (s u t : List ℕ) → Element flags s u t → length t < length s
+pub element_shorter : (flags : Settings) (s u t : List ℕ) → Element flags s u t → length t < length s
 element_shorter flags s u t (raw h) = omega arith
 element_shorter flags s u t (letter h) = omega arith
 element_shorter flags s u t (byte h k) = omega arith

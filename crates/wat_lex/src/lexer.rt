@@ -187,7 +187,7 @@ impl<'a> Lexer<'a> {
     ghost use Rattle.wat_lex.specs.Laws.{Laws};
     ghost use Rattle.wat_lex.specs.Parts.{Cuts, Moves};
     ghost use Rattle.wat_lex.specs.Raw.{Item, Raw, token_steps};
-    ghost use Rattle.wat_lex.specs.Unique.{OneTiling};
+    ghost use Rattle.wat_lex.specs.Unique.{SomeTiling, OneTiling};
 
     /// The tokens from a byte of the text on, up to its end or its first fault.
     pub fn iter<'l>(&'l self, alloc: Global, pos: usize) -> Tokens<'l, 'a>
@@ -196,6 +196,7 @@ impl<'a> Lexer<'a> {
         ensures raw { (items : List Item) → Drains token_steps result items → Raw self.now pos items }
         ensures laws { (items : List Item) → Drains token_steps result items → Laws self.now pos items }
         ensures runs { EachRunFrom token_steps result (λ p. p.whole ≡ true → Raw self.now pos p.items) }
+        ensures some { SomeTiling self.now pos }
         ensures one { OneTiling self.now pos }
         ensures cuts { Cuts self.now pos }
         ensures moves { Moves self.now pos }

@@ -4,6 +4,7 @@ use Rattle.wat_lex.proofs.CutTexts.{cuts}
 use Rattle.wat_lex.proofs.MovedTexts.{moves}
 use Rattle.wat_lex.proofs.OneTilings.{one_tiling}
 use Rattle.wat_lex.proofs.Raws.{tiled, tiled_run}
+use Rattle.wat_lex.proofs.SomeTilings.{some_tiling}
 use Rattle.wat_lex.proofs.lexer.Lexer.iter.Goals as goal
 
 pub returns-clause-raw : goal.returns-clause-raw
@@ -14,6 +15,9 @@ returns-clause-runs c = λ p _ e w. tiled_run _ refl p e w
 
 pub returns-clause-laws : goal.returns-clause-laws
 returns-clause-laws c = λ items h. laws_of _ _ items c.input.ensures.utf8 c.requires (tiled _ items refl h)
+
+pub returns-clause-some : goal.returns-clause-some
+returns-clause-some c = some_tiling _ _ c.input.ensures.utf8 c.requires
 
 pub returns-clause-one : goal.returns-clause-one
 returns-clause-one c = one_tiling _ _
