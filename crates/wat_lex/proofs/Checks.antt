@@ -48,7 +48,7 @@ is_clear : (allow : Bool) (w : List ℕ) → NonePass is_confusing w → IsClear
 is_clear true w n = tt
 is_clear false w n = n
 
-clear_word : (flags : Settings) (kind : TokenKind) (w : List ℕ) → IsComment kind → Word kind w (allowing flags) → NonePass is_confusing w → Word kind w flags
+pub clear_word : (flags : Settings) (kind : TokenKind) (w : List ℕ) → IsComment kind → Word kind w (allowing flags) → NonePass is_confusing w → Word kind w flags
 clear_word flags kind w (inl e) h n = subst (λ k. Word k w flags) (sym e) (let g = subst (λ k. Word k w (allowing flags)) e h in (g.0, is_clear flags.allow w n))
 clear_word flags kind w (inr e) h n = subst (λ k. Word k w flags) (sym e) (let g = subst (λ k. Word k w (allowing flags)) e h in (g.0, is_clear flags.allow w n))
 

@@ -125,7 +125,7 @@ allowed : (allow : Bool) (c : ℕ) → (allow ≡ false → is_confusing c ≡ f
 allowed true c f = refl
 allowed false c f = ap not (f refl)
 
-raw_char : (flags : Settings) (c : ℕ) → c ≢ 34 → c ≢ 92 → is_control c ≡ false → (flags.allow ≡ false → is_confusing c ≡ false) → is_raw flags c ≡ true
+pub raw_char : (flags : Settings) (c : ℕ) → c ≢ 34 → c ≢ 92 → is_control c ≡ false → (flags.allow ≡ false → is_confusing c ≡ false) → is_raw flags c ≡ true
 raw_char flags c a b e f =
     ap (λ x. (not x && not (c == 34) && not (c == 92)) && (flags.allow || not (is_confusing c))) e
     ∙ ap (λ x. (true && not x && not (c == 92)) && (flags.allow || not (is_confusing c))) (ne_eqb c 34 a)

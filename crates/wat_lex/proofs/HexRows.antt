@@ -59,16 +59,16 @@ filter_other (x ∷ xs) c h =
 pub hex_push : (xs : List ℕ) (c : ℕ) → is_hex c ≡ true → hex_value (xs ++ c ∷ []) ≡ hex_value xs * 16 + digit_value c
 hex_push xs c h = ap (digits_value 16) (filter_hex xs c h) ∙ digits_push 0 (filter is_hex xs) c
 
-hex_skip : (xs : List ℕ) (c : ℕ) → is_hex c ≡ false → hex_value (xs ++ c ∷ []) ≡ hex_value xs
+pub hex_skip : (xs : List ℕ) (c : ℕ) → is_hex c ≡ false → hex_value (xs ++ c ∷ []) ≡ hex_value xs
 hex_skip xs c h = ap (digits_value 16) (filter_other xs c h)
 
-hex_one : (c : ℕ) → is_hex c ≡ true → hex_value (c ∷ []) ≡ digit_value c
+pub hex_one : (c : ℕ) → is_hex c ≡ true → hex_value (c ∷ []) ≡ digit_value c
 hex_one c h = ap (λ x. digits_value 16 x) (filter_hex [] c h) ∙ zero-add (digit_value c)
 
-hex_small : (c : ℕ) → is_hex c ≡ true → digit_value c < 16
+pub hex_small : (c : ℕ) → is_hex c ≡ true → digit_value c < 16
 hex_small c h = grind (arith, nat_tests)
 
-Each_push : (p : ℕ → Bool) (xs : List ℕ) (c : ℕ) → Each p xs → p c ≡ true → Each p (xs ++ c ∷ [])
+pub Each_push : (p : ℕ → Bool) (xs : List ℕ) (c : ℕ) → Each p xs → p c ≡ true → Each p (xs ++ c ∷ [])
 Each_push p [] c h e = (e, tt)
 Each_push p (x ∷ xs) c h e = (h.0, Each_push p xs c h.1 e)
 
@@ -82,11 +82,11 @@ last_of : (x : ℕ) (xs : List ℕ) → Last (x ∷ xs)
 last_of x [] = record { front = []; last = x; is = refl }
 last_of x (y ∷ ys) = let l = last_of y ys in record { front = x ∷ l.front; last = l.last; is = ap (λ z. x ∷ z) l.is }
 
-parted_none : IsParted []
+pub parted_none : IsParted []
 parted_none [] back e = cc
 parted_none (x ∷ front) back e = cc
 
-parted_push : (ds : List ℕ) (c : ℕ) → IsParted ds → (c ≡ 95 → EndsInUnderscore ds → ⊥) → IsParted (ds ++ c ∷ [])
+pub parted_push : (ds : List ℕ) (c : ℕ) → IsParted ds → (c ≡ 95 → EndsInUnderscore ds → ⊥) → IsParted (ds ++ c ∷ [])
 parted_push ds c p n front [] e =
     let k = same_from_push ds (front ++ 95 ∷ []) c 95 (e ∙ sym (append_assoc front (95 ∷ []) (95 ∷ []))) in
     n k.1 (front, k.0)

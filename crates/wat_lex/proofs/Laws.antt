@@ -20,11 +20,11 @@ use Rattle.wat_lex.proofs.TokensOf.{token_of, token_ends}
 token_past : (text : List ℕ) (t : Token) → IsUtf8 text → IsTokenOf text t → IsCharBoundary text (t.offset + t.len)
 token_past text t u h = IsCharBoundary-from_rest text t.offset t.len h.boundary.0 (token_ends text t u h)
 
-token_some : (s : Setting) (p : ℕ) (t : Token) → TokenAt s p t → 0 < t.len
+pub token_some : (s : Setting) (p : ℕ) (t : Token) → TokenAt s p t → 0 < t.len
 token_some s p t h = let k = some_size h.word (word_some t.kind h.word s.flags h.stands.word) in omega (arith, h.len, k)
 
 -- the boundary behind a token
-behind : (s : Setting) (p : ℕ) (t : Token) → IsUtf8 s.text → IsCharBoundary s.text p → TokenAt s p t → IsCharBoundary s.text (t.offset + t.len)
+pub behind : (s : Setting) (p : ℕ) (t : Token) → IsUtf8 s.text → IsCharBoundary s.text p → TokenAt s p t → IsCharBoundary s.text (t.offset + t.len)
 behind s p t u b h = token_past s.text t u (token_of s p t b h)
 
 few : (s : Setting) (from to : ℕ) (tokens : List Token) (ending : Option LexFault) (items : List Item) → IsUtf8 s.text → IsCharBoundary s.text from → Tiling s from to tokens → Spells s.text tokens ending items → from + length items ≤ length s.text + 1

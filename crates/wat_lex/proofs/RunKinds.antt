@@ -140,7 +140,7 @@ of_option : (o : Option (List ℕ)) (kind : TokenKind) → MatchOption o (kind �
 of_option None kind h = ap is_run_kind h
 of_option (Some w) kind h = of_word w kind h
 
-kind_of_run : (ps : List Piece) (kind : TokenKind) → RunKind ps kind → is_run_kind kind ≡ true
+pub kind_of_run : (ps : List Piece) (kind : TokenKind) → RunKind ps kind → is_run_kind kind ≡ true
 kind_of_run [] kind h = of_option (idchars []) kind h
 kind_of_run (Quoted v ∷ []) kind h = ap is_run_kind h
 kind_of_run (Quoted v ∷ p ∷ ps) kind h = of_option None kind h
@@ -149,7 +149,7 @@ kind_of_run (Idchar c ∷ Quoted v ∷ []) kind h = ap is_run_kind h ∙ named (
 kind_of_run (Idchar c ∷ Quoted v ∷ p ∷ ps) kind h = of_option (idchars (Idchar c ∷ Quoted v ∷ p ∷ ps)) kind h
 kind_of_run (Idchar c ∷ Idchar d ∷ ps) kind h = of_option (idchars (Idchar c ∷ Idchar d ∷ ps)) kind h
 
-word_of_run : (kind : TokenKind) (w : List ℕ) (flags : Settings) → is_run_kind kind ≡ true → RunWord kind w flags → Word kind w flags
+pub word_of_run : (kind : TokenKind) (w : List ℕ) (flags : Settings) → is_run_kind kind ≡ true → RunWord kind w flags → Word kind w flags
 word_of_run LineComment w flags e h = absurd cc
 word_of_run BlockComment w flags e h = absurd cc
 word_of_run Whitespace w flags e h = absurd cc
@@ -163,12 +163,12 @@ word_of_run Reserved w flags e h = inr h
 word_of_run (Integer k) w flags e h = h
 word_of_run (Float k) w flags e h = h
 
-no_semicolon : (flags : Settings) (w : List ℕ) (ps : List Piece) → Run flags w ps [] → w ≡ 59 ∷ [] → ⊥
+pub no_semicolon : (flags : Settings) (w : List ℕ) (ps : List Piece) → Run flags w ps [] → w ≡ 59 ∷ [] → ⊥
 no_semicolon flags w ps none e = cc
 no_semicolon flags w ps (idchar {c = c} h k) e = let g : c ≡ 59 = cc in both_ways (is_idchar c) (ap is_idchar g) h
 no_semicolon flags w ps (string {t = t} h k) e = let g : 34 ≡ 59 = ap (λ x. get_or x 0 0) e in omega (arith, g)
 
-ends_of_run : (kind : TokenKind) (w rest : List ℕ) → is_run_kind kind ≡ true → (w ≡ 59 ∷ [] → ⊥) → EndsRun rest → MayFollow kind w rest
+pub ends_of_run : (kind : TokenKind) (w rest : List ℕ) → is_run_kind kind ≡ true → (w ≡ 59 ∷ [] → ⊥) → EndsRun rest → MayFollow kind w rest
 ends_of_run LineComment w rest e n h = absurd cc
 ends_of_run BlockComment w rest e n h = absurd cc
 ends_of_run Whitespace w rest e n h = absurd cc
@@ -182,7 +182,7 @@ ends_of_run Reserved w rest e n h = (λ k. absurd (n k), λ k. h)
 ends_of_run (Integer k) w rest e n h = h
 ends_of_run (Float k) w rest e n h = h
 
-some_pieces : (flags : Settings) (s r : List ℕ) (ps : List Piece) → Run flags s ps r → Begins is_run_char s → (Begins is_run_char r → ⊥) → ps ≢ []
+pub some_pieces : (flags : Settings) (s r : List ℕ) (ps : List Piece) → Run flags s ps r → Begins is_run_char s → (Begins is_run_char r → ⊥) → ps ≢ []
 some_pieces flags s r ps none b e = absurd (e b)
 some_pieces flags s r ps (idchar h k) b e = λ x. cc
 some_pieces flags s r ps (string h k) b e = λ x. cc

@@ -44,7 +44,7 @@ chosen : (b : Bool) (x y z : Option ℕ) → cond b x y ≡ z → ((b ≡ true) 
 chosen true x y z e = inl (refl, e)
 chosen false x y z e = inr (refl, e)
 
-letter_not_hex : (c v : ℕ) → letter_value c ≡ Some v → is_hex c ≡ true → ⊥
+pub letter_not_hex : (c v : ℕ) → letter_value c ≡ Some v → is_hex c ≡ true → ⊥
 letter_not_hex c v e h =
     elim (chosen ((c == 34 || c == 39) || c == 92) _ _ _ e) [
       | inl k ↦ elim (or_cases (c == 34 || c == 39) (c == 92) k.0) [
@@ -60,7 +60,7 @@ letter_not_hex c v e h =
       ]
     ]
 
-no_quote_element : {flags : Settings} {s u t : List ℕ} → Element flags (34 ∷ s) u t → ⊥
+pub no_quote_element : {flags : Settings} {s u t : List ℕ} → Element flags (34 ∷ s) u t → ⊥
 no_quote_element (raw a) = false≢true a
 
 pub element_unique : (flags : Settings) (s u v t r : List ℕ) → Element flags s u t → Element flags s v r → (u ≡ v) × (t ≡ r)
@@ -128,19 +128,19 @@ filter_append (x ∷ xs) ys =
       | false ↦ filter_append xs ys
     ]
 
-value_prefix : (xs ys : List ℕ) → hex_value xs ≤ hex_value (xs ++ ys)
+pub value_prefix : (xs ys : List ℕ) → hex_value xs ≤ hex_value (xs ++ ys)
 value_prefix xs ys =
     subst (λ x. hex_value xs ≤ x) (sym (ap (digits_value 16) (filter_append xs ys) ∙ digits_append 0 (filter is_hex xs) (filter is_hex ys))) (value_grows (hex_value xs) (filter is_hex ys))
 
-begins_more : (more r t : List ℕ) → Each is_hex_or_underscore more → t ≡ more ++ 125 ∷ r → (Begins is_hex_or_underscore t → ⊥) → more ≡ []
-begins_more [] r t a e f = refl
-begins_more (y ∷ ys) r t a e f = absurd (f (subst (Begins is_hex_or_underscore) (sym e) a.0))
+pub begins_stop : (more u t : List ℕ) → Each is_hex_or_underscore more → t ≡ more ++ u → (Begins is_hex_or_underscore t → ⊥) → more ≡ []
+begins_stop [] u t a e f = refl
+begins_stop (y ∷ ys) u t a e f = absurd (f (subst (Begins is_hex_or_underscore) (sym e) a.0))
 
-each_behind : (p : ℕ → Bool) (xs : List ℕ) (x : ℕ) (ys : List ℕ) → Each p (xs ++ x ∷ ys) → Each p ys
+pub each_behind : (p : ℕ → Bool) (xs : List ℕ) (x : ℕ) (ys : List ℕ) → Each p (xs ++ x ∷ ys) → Each p ys
 each_behind p [] x ys h = h.1
 each_behind p (z ∷ xs) x ys h = each_behind p xs x ys h.1
 
-each_front : (xs ys : List ℕ) → Each is_hex_or_underscore (xs ++ ys) → Each is_hex_or_underscore xs
+pub each_front : (xs ys : List ℕ) → Each is_hex_or_underscore (xs ++ ys) → Each is_hex_or_underscore xs
 each_front [] ys h = tt
 each_front (x ∷ xs) ys h = (h.0, each_front xs ys h.1)
 
@@ -160,11 +160,11 @@ number_clash flags d ds s r at e q h n k (doubled {t = t} es eq row st un) =
     h.parted st un.0 p.more (p.is ∙ ap (λ a. a ++ 95 ∷ p.more) un.1 ∙ append_assoc un.0 (95 ∷ []) (95 ∷ p.more))
 number_clash flags d ds s r at e q h n k (lone {t = t} es eq row stop) =
     let p = row_prefix ds es 95 t r h.others row.others refl (sym q ∙ eq) in
-    let m = begins_more p.more r t (each_behind is_hex_or_underscore es 95 p.more (subst (Each is_hex_or_underscore) p.is h.others)) p.behind stop in
+    let m = begins_stop p.more (125 ∷ r) t (each_behind is_hex_or_underscore es 95 p.more (subst (Each is_hex_or_underscore) p.is h.others)) p.behind stop in
     n (es, p.is ∙ ap (λ a. es ++ 95 ∷ a) m)
 number_clash flags d ds s r at e q h n k (no_scalar {e = x} {t = t} es eq row hx stop bad) =
     let p = row_prefix ds es x t r h.others (each_front es (x ∷ []) row.others) (ap (λ b. b || x == 95) hx) (sym q ∙ eq) in
-    let m = begins_more p.more r t (each_behind is_hex_or_underscore es x p.more (subst (Each is_hex_or_underscore) p.is h.others)) p.behind stop in
+    let m = begins_stop p.more (125 ∷ r) t (each_behind is_hex_or_underscore es x p.more (subst (Each is_hex_or_underscore) p.is h.others)) p.behind stop in
     bad (subst (λ a. IsScalar (hex_value (d ∷ a))) (p.is ∙ ap (λ a. es ++ x ∷ a) m) k)
 number_clash flags d ds s r at e q h n k (no_brace {c = c} {t = t} es eq row m sc out ne) =
     let w = span_unique is_hex_or_underscore ds es (125 ∷ r) (c ∷ t) h.others row.others (λ b. false≢true b) out (sym q ∙ eq) in
@@ -183,7 +183,7 @@ raw_confusing flags c o a k =
     both_ways (flags.allow || not (is_confusing c)) (ap (λ x. x || not (is_confusing c)) o ∙ ap not k) p.1
 
 -- behind an element stands the fault that stands behind it
-element_fault : (flags : Settings) (s u t at : List ℕ) (e : LexError) → Element flags s u t → StringFault flags s e at → StringFault flags t e at
+pub element_fault : (flags : Settings) (s u t at : List ℕ) (e : LexError) → Element flags s u t → StringFault flags s e at → StringFault flags t e at
 element_fault flags s u t at e x (later {t = r} {u = v} y k) = subst (λ z. StringFault flags z e at) (sym (element_unique flags s u v t r x y).1) k
 element_fault flags s u t at e x no_quote = elim x [ ]
 element_fault flags s u t at e (raw {c = c} a) (control k) = absurd (raw_control flags c a k)

@@ -10,6 +10,8 @@ pub mod Runs
 pub mod Words
 pub mod Faults
 pub mod Tiling
+pub mod Unique
+pub mod Parts
 pub mod Names
 pub mod Readers
 pub mod Raw

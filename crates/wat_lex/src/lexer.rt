@@ -1,10 +1,11 @@
 //! The lexer of the WebAssembly text format.
-ghost use Rattle.std.specs.Prelude.{◌≡◌, ◌<◌, ◌^◌, ◌+◌, ℕ, Bool, true, false, List, length, IfOk, IfErr, IfSome, IfNone, OnErr};
+ghost use Rattle.std.specs.Prelude.{◌≡◌, ◌<◌, ◌^◌, ◌+◌, ℕ, Bool, true, false, List, length, Option, Result, IfOk, IfErr, IfSome, IfNone, OnErr};
 ghost use Rattle.std.specs.Str.{IsCharBoundary, IsUtf8};
 ghost use Rattle.wat_lex.specs.Faults.{FaultAt};
 ghost use Rattle.wat_lex.specs.Raw.{ErrorAt};
 ghost use Rattle.wat_lex.specs.Readers.{IsTokenOf};
 ghost use Rattle.wat_lex.specs.Tiling.{TokenAt};
+ghost use Rattle.wat_lex.specs.Unique.{StandsAt};
 
 use crate::error::Error;
 use crate::token::Span;
@@ -28,6 +29,8 @@ mod settings;
 mod strings;
 #[cfg(test)]
 mod tests;
+#[cfg(test)]
+mod unique_tests;
 mod values;
 
 pub(crate) use classes::is_confusing;
@@ -104,6 +107,7 @@ impl<'a> Lexer<'a> {
         ensures token { IfOk result (λ found. IfSome found (TokenAt self.now pos)) }
         ensures end { IfOk result (λ found. IfNone found (pos ≡ length self.now.text)) }
         ensures fault { IfErr result (FaultAt self.now pos) }
+        ensures one { (r : Result (Option Token) LexFault) → StandsAt self.now pos r → r ≡ result }
 
         // The token may be read. What follows it is nearer the text's end, and may be scanned in turn.
         ensures reader { IfOk result (λ found. IfSome found (IsTokenOf self.now.text)) }
@@ -182,7 +186,9 @@ impl<'a> Lexer<'a> {
     ghost use Rattle.std.specs.Iterator.{Drains};
     ghost use Rattle.std.specs.Iterator.Runs.{EachRunFrom};
     ghost use Rattle.wat_lex.specs.Laws.{Laws};
+    ghost use Rattle.wat_lex.specs.Parts.{Cuts, Moves};
     ghost use Rattle.wat_lex.specs.Raw.{Item, Raw, token_steps};
+    ghost use Rattle.wat_lex.specs.Unique.{SomeTiling, OneTiling};
 
     /// The tokens from a byte of the text on, up to its end or its first fault.
     pub fn iter<'l>(&'l self, alloc: Global, pos: usize) -> Tokens<'l, 'a>
@@ -191,6 +197,10 @@ impl<'a> Lexer<'a> {
         ensures raw { (items : List Item) → Drains token_steps result items → Raw self.now pos items }
         ensures laws { (items : List Item) → Drains token_steps result items → Laws self.now pos items }
         ensures runs { EachRunFrom token_steps result (λ p. p.whole ≡ true → Raw self.now pos p.items) }
+        ensures some { SomeTiling self.now pos }
+        ensures one { OneTiling self.now pos }
+        ensures cuts { Cuts self.now pos }
+        ensures moves { Moves self.now pos }
     {
         // The proof of the laws takes from here that the text is UTF-8.
         let _ = self.input();

@@ -74,11 +74,7 @@ fn read_whole<R: Source>(alloc: Global, input: &mut R) -> Result<Vec<u8>, RunErr
 }
 
 /// The error of the fault of a text, where it has one.
-fn error_of(
-    alloc: Global,
-    text: &str,
-    fault: Option<LexFault>,
-) -> Result<Option<Error>, RunError>
+fn error_of(alloc: Global, text: &str, fault: Option<LexFault>) -> Result<Option<Error>, RunError>
     ensures error { IfOk result (λ error. error ≡ option_map (λ f. Some (lexical text.now f)) fault) }
     ensures refused { IfErr result (λ e. e ≡ RunError.Memory) }
 {

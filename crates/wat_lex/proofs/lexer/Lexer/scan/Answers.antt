@@ -1,10 +1,13 @@
+use Rattle.std.specs.Prelude.{Some, None, Ok, Err}
 use Rattle.std.proofs.Common.{◌≤◌, ◌+◌, length, arith, ap, subst, sym}
 use Rattle.std.specs.Str.{IsCharBoundary}
 use Rattle.wat_lex.specs.Setting.{Setting}
 use Rattle.wat_lex.specs.Results.{Found}
 use Rattle.wat_lex.specs.Readers.{IsTokenOf}
 use Rattle.wat_lex.proofs.TokensOf.{token_of}
-use Rattle.wat_lex.proofs.Scans.{token_at, found_fits, found_some, part_ends}
+use Rattle.wat_lex.specs.Unique.{StandsAt}
+use Rattle.wat_lex.proofs.OneTilings.{stands_one}
+use Rattle.wat_lex.proofs.Scans.{token_at, fault_at, found_fits, found_some, part_ends}
 use Rattle.wat_lex.proofs.lexer.Lexer.scan.Goals as goal
 use Rattle.wat_lex.proofs.lexer.Lexer.scan.Goals.{In-Ok-Some}
 
@@ -36,3 +39,24 @@ returns-in-Ok-Some-clause-reader c =
     let at = token_at inside c.range_from.result.now c.args.pos c.in-Ok-Some.lexeme c.range_from.ensures.value (found (goal.at.returns-in-Ok-Some-clause-reader c).In-Ok-Some) in
     subst (λ (s : Setting). IsTokenOf s.text (record { kind = c.in-Ok-Some.lexeme.kind; offset = c.args.pos; len = c.in-Ok-Some.lexeme.len })) c.self.view_is
     (token_of inside c.args.pos (record { kind = c.in-Ok-Some.lexeme.kind; offset = c.args.pos; len = c.in-Ok-Some.lexeme.len }) (subst (λ (s : Setting). IsCharBoundary s.text c.args.pos) (sym c.self.view_is) c.requires) at)
+
+pub returns-in-Ok-Some-clause-one : goal.returns-in-Ok-Some-clause-one
+returns-in-Ok-Some-clause-one c =
+    let inside : Setting = record { text = c.self.inside.input.now; flags = c.self.inside.settings } in
+    let at = token_at inside c.range_from.result.now c.args.pos c.in-Ok-Some.lexeme c.range_from.ensures.value (found (goal.at.returns-in-Ok-Some-clause-one c).In-Ok-Some) in
+    λ r h. stands_one c.args.self.now c.args.pos r (Ok (Some (record { kind = c.in-Ok-Some.lexeme.kind; offset = c.args.pos; len = c.in-Ok-Some.lexeme.len }))) h
+    (subst (λ (s : Setting). StandsAt s c.args.pos (Ok (Some (record { kind = c.in-Ok-Some.lexeme.kind; offset = c.args.pos; len = c.in-Ok-Some.lexeme.len })))) c.self.view_is at)
+
+pub returns-in-Ok-None-clause-one : goal.returns-in-Ok-None-clause-one
+returns-in-Ok-None-clause-one c =
+    let nothing = rw c.in-Ok-None.field-0-is at c.in-Ok-None.ensures in
+    let same = ap (λ (s : Setting). length s.text) c.self.view_is in
+    λ r h. stands_one c.args.self.now c.args.pos r (Ok None) h (omega (arith, ap length nothing, c.range_from.ensures.len, c.requires.0, same))
+
+pub returns-in-Err-clause-one : goal.returns-in-Err-clause-one
+returns-in-Err-clause-one c =
+    let inside : Setting = record { text = c.self.inside.input.now; flags = c.self.inside.settings } in
+    let same = ap (λ (s : Setting). length s.text) c.self.view_is in
+    let at = fault_at inside c.range_from.result.now c.args.pos c.in-Err.fault (omega (arith, same, c.requires.0)) c.range_from.ensures.value c.in-Err.ensures in
+    λ r h. stands_one c.args.self.now c.args.pos r (Err (record { offset = c.args.pos + c.in-Err.fault.offset; error = c.in-Err.fault.error })) h
+    (subst (λ (s : Setting). StandsAt s c.args.pos (Err (record { offset = c.args.pos + c.in-Err.fault.offset; error = c.in-Err.fault.error }))) c.self.view_is at)

@@ -1,0 +1,122 @@
+//! Texts that are cut at each character: the lines of a front, without the last one, begin the lines of the whole text.
+use crate::Settings;
+use crate::ends::Plain;
+use crate::run::run_list;
+use std::alloc::Global;
+use std::process::Abort;
+use std::str;
+use std::test::Fail;
+
+/// The list text of a text.
+fn listed(alloc: Global, text: &str, settings: Settings) -> Result<String, Fail> {
+    let mut input = Plain::new(text.as_bytes());
+    let mut output = Plain::new(Vec::new(alloc));
+    run_list(alloc, &mut input, &mut output, settings).map_err(|_| "the run is refused")?;
+    let lines = output.into_inner();
+    let shown = str::from_utf8(&lines).map_err(|_| "the lines are not UTF-8")?;
+    Ok(String::from_str(alloc, shown)?)
+}
+
+/// Cuts a text everywhere, and compares the lines of each front with those of the whole.
+fn cut(rt: &impl Abort, alloc: Global, text: &str, settings: Settings) -> Result<(), Fail> {
+    let whole = listed(alloc, text, settings)?;
+    for (end, _) in text.char_indices() {
+        assert!(rt; text.is_char_boundary(end));
+        let front = listed(alloc, &text[..end], settings)?;
+        let mut expected = whole.lines();
+        let mut last = None;
+        for line in front.lines() {
+            if let Some(sure) = last {
+                assert_eq!(rt; Some(sure), expected.next(), "{text} {end}");
+            }
+            last = Some(line);
+        }
+    }
+    Ok(())
+}
+
+#[test]
+fn fronts_begin_the_whole(rt: HostRuntime) -> Result<(), Fail> {
+    let texts = [
+        "(module (func $foo))",
+        "",
+        "(; (;;) ;)",
+        "(;)",
+        "(;;);;x\r\n$0^;;",
+        "1_ 1__0 1._5 1e 0x 0x1e5 1. inf nan:0x",
+        "\"x\"$ @a\"b\" $\"x\" $ @",
+        "\"\\u{110000}\"",
+        "\"\\u{100000000}\"",
+        "\"\\u{1_",
+        "\"\\u{0_f_3}\"",
+        "\"ab",
+        "\"a\n",
+        ";;\u{202e}",
+        "\"\\u{202e}\"",
+        "\"\u{202e}\"",
+        "(;\u{202e}",
+        "-1_2.1_1E+0_1",
+        "-0x10",
+        "+0x1_2.3_4P-5_6",
+        "(@a \")\" (; ) ;)) 7",
+        "(@a (@)) 1",
+        "(@)",
+        "(@a 1",
+        "(@\"bad",
+        "(\"bad",
+        "( @a)",
+        "module (@name \"m\") x",
+        "(a b",
+        "x ;;c",
+        "4294967295",
+        "4294967296",
+        "-2147483649",
+        "-0",
+        "\"\\ff\"",
+        "12 13",
+        "\t(;",
+        "\"é\" \"\\q\"",
+        "a\n",
+        "$\"\\ff\"",
+        "x",
+        ")",
+        "(func $f)",
+        "(func)",
+        "\"\\u{1_0}\"",
+        "\"\\u{1__0}\\n\\7f\\u{d800}\" x",
+        "(; (; x ;) ;;) ;;) y",
+        ";; a\r\n;;b\n;c;;",
+        "$\"a\" @\"b\"c $d\"e\" \"f\"\"g\"",
+        "-0x1_2.8p+3 1e5 +nan:0x7f inf 1_ 0x",
+        ",[]{};)(\t\n\r ",
+        "a é b",
+        "(;\u{2066};) ;;\u{206c}\nz",
+        "é@a",
+    ];
+    for text in texts {
+        for allow in [false, true] {
+            for strict in [false, true] {
+                cut(&rt, rt.alloc(), text, Settings { allow, strict })?;
+            }
+        }
+    }
+    Ok(())
+}
+
+#[test]
+fn fronts_of_a_long_line_begin_it(rt: HostRuntime) -> Result<(), Fail> {
+    let mut text = String::new(rt.alloc());
+    for _ in 0..500 {
+        text.push(' ')?;
+    }
+    text.push_str("(;")?;
+    cut(
+        &rt,
+        rt.alloc(),
+        text.as_str(),
+        Settings {
+            allow: false,
+            strict: false,
+        },
+    )
+}
