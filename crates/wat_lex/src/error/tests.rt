@@ -4,6 +4,14 @@ use crate::lexer::Lexer;
 use std::process::Abort;
 use std::test::Fail;
 
+/// The error, unless it is want of memory.
+fn known(error: Error) -> Result<Error, Fail> {
+    if error.is_out_of_memory() {
+        Err("out of memory")?;
+    }
+    Ok(error)
+}
+
 /// What an error answers, field by field.
 fn answers(
     rt: &impl Abort,
@@ -64,7 +72,7 @@ fn each_fault_has_its_message(rt: HostRuntime) -> Result<(), Fail> {
         (LexError::EmptyAnnotation, "empty annotation id"),
     ];
     for (fault, message) in rows {
-        let error = Error::lex(rt.alloc(), Span::from_offset(2), "a\nb c", fault);
+        let error = known(Error::lex(rt.alloc(), Span::from_offset(2), "a\nb c", fault))?;
         assert_eq!(rt; error.lex_error().copied(), Some(fault));
         assert_eq!(rt; error.span().offset(), 2);
         assert!(rt; !error.is_out_of_memory());
@@ -103,6 +111,7 @@ fn fault_of(rt: &impl Abort, alloc: Global, text: &str, allow: bool) -> Result<S
     lexer.allow_confusing_unicode(allow);
     for item in lexer.iter(alloc, 0) {
         if let Err(error) = item {
+            let error = known(error)?;
             return Ok(format!(in alloc; "{error}")?);
         }
     }
@@ -236,7 +245,7 @@ fn errors_of_ones_own_print_their_line(rt: HostRuntime) -> Result<(), Fail> {
     ];
     for (text, at, want) in rows.as_slice() {
         let message = String::from_str(rt.alloc(), "m")?;
-        let error = Error::parse(rt.alloc(), Span::from_offset(*at), text, message);
+        let error = known(Error::parse(rt.alloc(), Span::from_offset(*at), text, message))?;
         assert!(rt; error.lex_error().is_none());
         assert_eq!(rt; error.span().offset(), *at);
         answers(&rt, rt.alloc(), &error, "m", want)?;
@@ -254,7 +263,7 @@ fn a_text_is_set_once(rt: HostRuntime) -> Result<(), Fail> {
     answers(&rt, rt.alloc(), &error, "m", first)?;
     error.set_text(rt.alloc(), "x\ny")?;
     answers(&rt, rt.alloc(), &error, "m", first)?;
-    let mut error = Error::lex(rt.alloc(), Span::from_offset(0), "$", LexError::EmptyId);
+    let mut error = known(Error::lex(rt.alloc(), Span::from_offset(0), "$", LexError::EmptyId))?;
     error.set_text(rt.alloc(), "x\ny")?;
     let of_its_own = "empty identifier\n     --> <anon>:1:1\n      |\n    1 | $\n      | ^";
     answers(&rt, rt.alloc(), &error, "empty identifier", of_its_own)?;

@@ -35,6 +35,9 @@ fn name(rt: &impl Abort, alloc: Global, text: &str, at: usize) -> Result<String,
     match name {
         Ok(name) => Ok(String::from_str(alloc, name.as_str())?),
         Err(error) => {
+            if error.is_out_of_memory() {
+                Err("out of memory")?;
+            }
             let message = error.message(alloc)?;
             Ok(format!(in alloc; "{message} at {}", error.span().offset())?)
         }

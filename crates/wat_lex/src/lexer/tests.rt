@@ -46,6 +46,9 @@ fn show(alloc: Global, shown: &mut String, item: Result<Token, Error>) -> Result
             write!(shown, "{kind} {}..{end}, ", token.offset)?;
         }
         Err(error) => {
+            if error.is_out_of_memory() {
+                Err("out of memory")?;
+            }
             let message = error.message(alloc)?;
             write!(shown, "{message} at {}, ", error.span().offset())?;
         }
@@ -295,6 +298,8 @@ fn annotations(rt: HostRuntime) -> Result<(), Fail> {
         assert_eq!(rt; found.map(|token| token.len), want, "{text} {pos}");
     }
     let fault = Lexer::new("(@\"x").annotation(rt.alloc(), 1);
-    assert!(rt; matches!(&fault, Err(error) if error.span().offset() == 4));
+    assert!(rt;
+        matches!(&fault, Err(error) if error.is_out_of_memory() || error.span().offset() == 4)
+    );
     Ok(())
 }
