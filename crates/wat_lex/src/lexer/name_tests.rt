@@ -1,6 +1,8 @@
 //! Strings and names of tokens, with their values from outside.
 use super::{Lexer, TokenKind};
+use crate::error::Error;
 use std::alloc::Global;
+use std::borrow::CowStr;
 use std::process::Abort;
 use std::test::Fail;
 
@@ -19,20 +21,24 @@ fn value(rt: &impl Abort, alloc: Global, text: &str) -> Result<Vec<u8>, Fail> {
     panic!(rt; "no string: {text}")
 }
 
-/// The name that stands at a byte of the text, or its error's message and place.
-fn name(rt: &impl Abort, alloc: Global, text: &str, at: usize) -> Result<String, Fail> {
+/// What the reader of the name at a byte of the text answers.
+fn read<'a>(rt: &impl Abort, alloc: Global, text: &'a str, at: usize) -> Result<CowStr<'a>, Error> {
     assert!(rt; text.len() < 1_000_000);
     assert!(rt; text.is_char_boundary(at));
     let lexer = Lexer::new(text);
     let Ok(Some(token)) = lexer.scan(at) else {
         panic!(rt; "no token: {text}")
     };
-    let name = match token.kind {
+    match token.kind {
         TokenKind::Id => token.id(alloc, text),
         TokenKind::Annotation => token.annotation(alloc, text),
         _ => panic!(rt; "no name: {text}"),
-    };
-    match name {
+    }
+}
+
+/// The name that stands at a byte of the text, or its error's message and place.
+fn name(rt: &impl Abort, alloc: Global, text: &str, at: usize) -> Result<String, Fail> {
+    match read(rt, alloc, text, at) {
         Ok(name) => Ok(String::from_str(alloc, name.as_str())?),
         Err(error) => {
             if error.is_out_of_memory() {
@@ -136,6 +142,45 @@ fn each_byte_has_an_escape(rt: HostRuntime) -> Result<(), Fail> {
         let text = format!(in rt.alloc(); "\"\\{byte:02x}\"")?;
         let got = value(&rt, rt.alloc(), text.as_str())?;
         assert!(rt; got.as_slice() == [byte].as_slice(), "{text}");
+    }
+    Ok(())
+}
+
+/// What the error of the name at a byte of the text prints.
+fn told(rt: &impl Abort, alloc: Global, text: &str, at: usize) -> Result<String, Fail> {
+    match read(rt, alloc, text, at) {
+        Ok(_) => panic!(rt; "no error: {text}"),
+        Err(error) => {
+            if error.is_out_of_memory() {
+                Err("out of memory")?;
+            }
+            Ok(format!(in alloc; "{error}")?)
+        }
+    }
+}
+
+#[test]
+fn faults_of_names_print_their_line(rt: HostRuntime) -> Result<(), Fail> {
+    let rows = [
+        (
+            " $\"\"",
+            1,
+            "empty identifier\n     --> <anon>:1:2\n      |\n    1 |  $\"\"\n      |  ^",
+        ),
+        (
+            "a\n@ b",
+            2,
+            "empty annotation id\n     --> <anon>:2:1\n      |\n    2 | @ b\n      | ^",
+        ),
+        (
+            "\t$\"\\ff\" x",
+            1,
+            "malformed UTF-8 encoding of string-based id\n     --> <anon>:1:2\n      |\n    1 |     $\"\\ff\" x\n      |  ^",
+        ),
+    ];
+    for (text, at, want) in rows.as_slice() {
+        let got = told(&rt, rt.alloc(), text, *at)?;
+        assert_eq!(rt; got.as_str(), *want, "{text}");
     }
     Ok(())
 }
