@@ -1,4 +1,4 @@
-//! Texts that are cut at each character: the lines of a front, without the last one, begin the lines of the whole text.
+//! Texts that are cut at each character: the lines of a front begin the lines of the whole text.
 use crate::Settings;
 use crate::ends::Plain;
 use crate::run::run_list;
@@ -7,29 +7,34 @@ use std::process::Abort;
 use std::str;
 use std::test::Fail;
 
-/// The list text of a text.
-fn listed(alloc: Global, text: &str, settings: Settings) -> Result<String, Fail> {
+/// The list text of a text, and whether it has a fault.
+fn listed(alloc: Global, text: &str, settings: Settings) -> Result<(String, bool), Fail> {
     let mut input = Plain::new(text.as_bytes());
     let mut output = Plain::new(Vec::new(alloc));
-    run_list(alloc, &mut input, &mut output, settings).map_err(|_| "the run is refused")?;
+    let fault = run_list(alloc, &mut input, &mut output, settings).map_err(
+        |_| "the run is refused",
+    )?;
     let lines = output.into_inner();
     let shown = str::from_utf8(&lines).map_err(|_| "the lines are not UTF-8")?;
-    Ok(String::from_str(alloc, shown)?)
+    Ok((String::from_str(alloc, shown)?, fault.is_some()))
 }
 
-/// Cuts a text everywhere, and compares the lines of each front with those of the whole.
+/// Cuts a text everywhere, and compares the lines of each front with those of the whole: all of them before a fault, all but the
+/// last before the end.
 fn cut(rt: &impl Abort, alloc: Global, text: &str, settings: Settings) -> Result<(), Fail> {
-    let whole = listed(alloc, text, settings)?;
+    let (whole, _) = listed(alloc, text, settings)?;
     for (end, _) in text.char_indices() {
         assert!(rt; text.is_char_boundary(end));
-        let front = listed(alloc, &text[..end], settings)?;
+        let (front, is_faulty) = listed(alloc, &text[..end], settings)?;
+        let count = front.lines().count();
+        let sure = if is_faulty {
+            count
+        } else {
+            count.saturating_sub(1)
+        };
         let mut expected = whole.lines();
-        let mut last = None;
-        for line in front.lines() {
-            if let Some(sure) = last {
-                assert_eq!(rt; Some(sure), expected.next(), "{text} {end}");
-            }
-            last = Some(line);
+        for line in front.lines().take(sure) {
+            assert_eq!(rt; Some(line), expected.next(), "{text} {end}");
         }
     }
     Ok(())

@@ -41,7 +41,7 @@ impl From<AllocError> for RunError {
 }
 
 /// How many bytes the longest text has.
-const LONGEST: usize = 4_294_967_295;
+const LONGEST: usize = u32::MAX as usize;
 
 /// How many bytes are read at a time.
 const PIECE: usize = 65_536;
@@ -62,9 +62,7 @@ fn read_whole<R: Source>(alloc: Global, input: &mut R) -> Result<Vec<u8>, RunErr
             Err(_) => return Err(RunError::Read),
             Ok(0) => return Ok(bytes),
             Ok(count) => {
-                if bytes.extend_from_slice(&piece[..count]).is_err() {
-                    return Err(RunError::Memory);
-                }
+                bytes.extend_from_slice(&piece[..count])?;
                 if bytes.len() > LONGEST {
                     return Err(RunError::TooLong);
                 }
@@ -117,9 +115,7 @@ pub fn run_list<R: Source, W: Sink>(
     let Ok(text) = str::from_utf8(&bytes) else {
         return Err(RunError::NotUtf8);
     };
-    let Ok(listing) = list(alloc, text, settings) else {
-        return Err(RunError::Memory);
-    };
+    let listing = list(alloc, text, settings)?;
     let error = error_of(alloc, text, listing.fault)?;
     if output.write_all(&listing.lines).is_err() {
         return Err(RunError::Write);
