@@ -1,4 +1,4 @@
--- What callers see of the fields of an error.
+-- What callers see of the fields of an error. No part of the standard.
 use Rattle.std.specs.Prelude.{ℕ, Option, Some, None}
 use Rattle.std.specs.Option.{option_map}
 use Rattle.std.specs.String.{string_bytes}

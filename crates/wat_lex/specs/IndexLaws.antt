@@ -11,7 +11,7 @@ use Rattle.wat_lex.specs.Indices.{hash_input_of, identifier_hash_input, is_same_
 use Rattle.wat_lex.specs.declared.token.Index.{Index}
 use Rattle.wat_lex.specs.declared.token.Index.TheVariants.{Id, Num}
 
-pub is_same_identifier_laws : IsEquivalence is_same_identifier
+is_same_identifier_laws : IsEquivalence is_same_identifier
 is_same_identifier_laws =
     and_equiv (on_equiv (λ i. i.name) nat_list_eq_equiv) (on_equiv (λ i. i.generation) nat_eq_equiv)
 

@@ -1,4 +1,4 @@
--- What the readers of numbers answer.
+-- What the readers of numbers inside the lexer answer. No part of the standard.
 use Rattle.std.specs.Prelude.{◌≡◌, ◌||◌, ◌==◌, ◌⊎◌, if◌then◌else◌, ℕ, Bool, List, [], ◌∷◌}
 use Rattle.wat_lex.specs.Classes.{Begins, plus, underscore}
 use Rattle.wat_lex.specs.Numbers.{Digits, is_digit, Whole, Exponent, Tail}

@@ -1,4 +1,4 @@
--- What the readers of strings inside the lexer do to an iterator's rest, by bytes.
+-- What the readers of strings inside the lexer do to an iterator's rest, by bytes. No part of the standard.
 use Rattle.std.specs.Prelude.{◌≡◌, ◌≤◌, ◌<◌, ◌+◌, ◌==◌, ℕ, Bool, true, false, if◌then◌else◌, List, [], ◌∷◌, ◌++◌, length, drop, Result, Ok, Err, encode_utf8}
 use Rattle.std.specs.Str.{chars, IsUtf8}
 use lib.Utf8.{scalar}

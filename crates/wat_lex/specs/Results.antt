@@ -1,4 +1,4 @@
--- What the parts of the lexer answer for the text from a place on, by bytes.
+-- What the parts of the lexer answer for the text from a place on, by bytes. No part of the standard.
 use Rattle.std.specs.Prelude.{◌≡◌, ◌+◌, ℕ, List, [], ◌∷◌, ◌++◌, length, IsTrue, Option, MatchOption, Result, MatchResult}
 use Rattle.std.specs.Str.{chars, NonePass}
 use Rattle.wat_lex.specs.Classes.{size, is_confusing}

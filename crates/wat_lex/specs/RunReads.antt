@@ -1,4 +1,4 @@
--- What the reader of runs inside the lexer answers.
+-- What the reader of runs inside the lexer answers. No part of the standard.
 use Rattle.std.specs.Prelude.{◌≡◌, ◌+◌, ℕ, List, [], ◌∷◌, encode_utf8_all, length}
 use Rattle.std.specs.Str.{chars}
 use Rattle.wat_lex.specs.Classes.{size}

@@ -518,6 +518,7 @@ mod tests {
         is_too_long(&rt, alloc, &vec![in alloc; 1usize, usize::MAX, 1]?)
     }
 
+    // The branches of want of memory are taken where the run refuses a request, as `--fail-alloc 2` does.
     #[test]
     fn want_of_memory_leaves_the_buffer(rt: HostRuntime) -> Result<(), Fail> {
         let alloc = rt.alloc();

@@ -131,6 +131,7 @@ mod tests {
         Ok(())
     }
 
+    // The branches of want of memory are taken where the run refuses a request, as `--fail-alloc 2` does.
     #[test]
     fn want_of_memory_leaves_slot_and_counter(rt: HostRuntime) -> Result<(), Fail> {
         let alloc = rt.alloc();

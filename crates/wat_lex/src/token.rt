@@ -1,4 +1,4 @@
-//! Tokens that readers of the text format share: places, identifiers and indices.
+//! What readers of the text format share: places, identifiers and indices.
 
 ghost use Rattle.std.specs.Prelude.{◌≡◌, ◌<◌, ◌≤◌, ◌↔◌, not, length, IsTrue, IfOk};
 ghost use Rattle.std.specs.Cow.{cow_str_bytes};

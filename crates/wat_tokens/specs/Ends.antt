@@ -1,4 +1,5 @@
--- What a read takes of the bytes that a source tells, and what a write adds to those that a sink tells.
+-- What a read takes of the bytes that a source tells, and what a write adds to those that a sink tells. No part
+-- of the standard.
 use Rattle.std.specs.Prelude.{◌≡◌, ◌<◌, ◌≤◌, ℕ, Bool, true, List, length, take, Option, Result, if◌then◌else◌, is_err}
 use Rattle.std.specs.Io.KnownBytes.{Consumes, IsAtEnd}
 

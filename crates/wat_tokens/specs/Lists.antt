@@ -1,4 +1,4 @@
--- The list that the program writes: a line for each raw token, `{offset}..{end} {kind}`.
+-- The list that the program writes: a line for each raw token, `{offset}..{end} {kind}`. No part of the standard.
 use Rattle.std.specs.Prelude.{◌≡◌, ◌<◌, ◌+◌, ◌^◌, ◌++◌, ℕ, List, length, codes, Option, Some, flat_map}
 use Rattle.std.specs.Option.{option_map}
 use Rattle.std.specs.Fmt.{decimal}

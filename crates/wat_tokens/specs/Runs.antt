@@ -1,4 +1,4 @@
--- What reading a source to its end gives.
+-- What reading a source to its end gives. No part of the standard.
 use Rattle.std.specs.Prelude.{◌≡◌, ◌<◌, ◌^◌, ℕ, List, length, Option}
 use Rattle.std.specs.Io.KnownBytes.{Consumes, IsAtEnd}
 use Rattle.std.specs.Str.{IsUtf8}

@@ -9,7 +9,9 @@ use wat_lex::lexer::{LexFault, Lexer, Settings, Token, TokenKind};
 /// The lines of a text's raw tokens, and its fault where it has one.
 #[derive(Drop)]
 pub struct Listing {
+    /// A line for each token, in order.
     pub lines: Vec<u8>,
+    /// Where the text stops being tokens, and why.
     pub fault: Option<LexFault>,
 }
 

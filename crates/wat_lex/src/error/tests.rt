@@ -272,6 +272,7 @@ fn a_text_is_set_once(rt: HostRuntime) -> Result<(), Fail> {
     answers(&rt, rt.alloc(), &error, "out of memory", "out of memory")
 }
 
+// The branch of want of memory is taken where the run refuses the first request, as `--fail-alloc 1` does.
 #[test]
 fn an_error_that_finds_no_memory_says_so(rt: HostRuntime) -> Result<(), Fail> {
     let error = Error::lex(
@@ -290,6 +291,7 @@ fn an_error_that_finds_no_memory_says_so(rt: HostRuntime) -> Result<(), Fail> {
     answers(&rt, rt.alloc(), &error, message, printed)
 }
 
+// The branch of want of memory is taken where the run refuses the second request.
 #[test]
 fn a_refused_text_leaves_the_error(rt: HostRuntime) -> Result<(), Fail> {
     let message = String::from_str(rt.alloc(), "m")?;

@@ -15,7 +15,7 @@ pub enum LexError {
     InvalidStringEscape(char),
     /// Something else where a hexadecimal digit is needed.
     InvalidHexDigit(char),
-    /// Something else where a decimal digit is needed.
+    /// Something else where a decimal digit is needed. The lexer never answers it.
     InvalidDigit(char),
     /// Another character than the one that is needed.
     Expected {

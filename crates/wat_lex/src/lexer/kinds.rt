@@ -53,20 +53,26 @@ pub struct IntegerKind {
 pub enum FloatKind {
     /// `inf`
     Inf {
+        /// Whether it begins with `-`.
         negative: bool,
     },
     /// `nan`
     Nan {
+        /// Whether it begins with `-`.
         negative: bool,
     },
     /// `nan:0x` and a payload.
     NanVal {
+        /// Whether it begins with `-`.
         negative: bool,
+        /// Whether underscores stand between its digits.
         has_underscores: bool,
     },
     /// Digits with a fraction, an exponent, or both.
     Normal {
+        /// Whether underscores stand between its digits.
         has_underscores: bool,
+        /// Whether its digits stand behind `0x`.
         hex: bool,
     },
 }

@@ -63,18 +63,25 @@ impl<'a> Integer<'a> {
 pub enum Float<'a> {
     /// `nan`, with the digits of its payload.
     Nan {
+        /// The payload's hexadecimal digits behind `nan:0x`, without underscores.
         val: Option<CowStr<'a>>,
+        /// Whether it begins with `-`.
         negative: bool,
     },
     /// `inf`
     Inf {
+        /// Whether it begins with `-`.
         negative: bool,
     },
-    /// Digits before the dot, behind it, and of the exponent.
+    /// Digits before the dot, behind it, and of the exponent, each without `+` and underscores.
     Val {
+        /// Whether the digits are hexadecimal. Those of the exponent never are.
         hex: bool,
+        /// The digits before the dot, without `0x`; a `-` is kept.
         integral: CowStr<'a>,
+        /// The digits behind the dot, None where there are none.
         fractional: Option<CowStr<'a>>,
+        /// The digits of the exponent, None where there is none; a `-` is kept.
         exponent: Option<CowStr<'a>>,
     },
 }

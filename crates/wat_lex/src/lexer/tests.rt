@@ -1,5 +1,5 @@
 //! Rows of texts with what the lexer answers, from outside.
-use super::{Lexer, Settings, Token, TokenKind};
+use super::{LexError, Lexer, Settings, Token, TokenKind};
 use crate::error::Error;
 use std::alloc::Global;
 use std::process::Abort;
@@ -217,8 +217,7 @@ fn strict_underscores(rt: HostRuntime) -> Result<(), Fail> {
 #[test]
 fn parse_moves_to_the_end_of_a_token(rt: HostRuntime) -> Result<(), Fail> {
     let lexer = Lexer::new("x \"");
-    let text = lexer.input();
-    assert_eq!(rt; text.len(), 3);
+    assert_eq!(rt; lexer.input(), "x \"");
     let mut pos = 0;
     let word = lexer.parse(rt.alloc(), &mut pos)?;
     assert_eq!(rt; word.map(|token| token.kind), Some(TokenKind::Keyword));
@@ -226,7 +225,13 @@ fn parse_moves_to_the_end_of_a_token(rt: HostRuntime) -> Result<(), Fail> {
     let blank = lexer.parse(rt.alloc(), &mut pos)?;
     assert_eq!(rt; blank.map(|token| token.kind), Some(TokenKind::Whitespace));
     assert_eq!(rt; pos, 2);
-    assert!(rt; lexer.parse(rt.alloc(), &mut pos).is_err());
+    if let Err(error) = lexer.parse(rt.alloc(), &mut pos) {
+        assert!(rt;
+            error.is_out_of_memory() || error.lex_error().copied() == Some(LexError::UnexpectedEof)
+        );
+    } else {
+        panic!(rt; "no fault");
+    }
     assert_eq!(rt; pos, 2);
     let copy = lexer.clone()?;
     assert_eq!(rt; copy.scan(3), Ok(None));
