@@ -41,5 +41,6 @@ mod SomeTilings
 mod Names
 mod Values
 mod Numerals
+mod OneReading
 mod Positions
 mod Rendering

@@ -5,6 +5,7 @@ ghost use Rattle.std.specs.Str.{chars};
 ghost use Rattle.wat_lex.specs.Classes.{backslash};
 ghost use Rattle.wat_lex.specs.Names.{Name, NameError, HasNone, HasNoEscape};
 ghost use Rattle.wat_lex.specs.NumberValues.{is_anew, IsFloatOf, IsIntegerOf, IsNumeralOf};
+ghost use Rattle.wat_lex.specs.OneReading.{OneValue, OneName, OneCut};
 ghost use Rattle.wat_lex.specs.Readers.{IsTokenOf, token_text};
 ghost use Rattle.wat_lex.specs.Setting.{lenient};
 ghost use Rattle.wat_lex.specs.Strings.{StringWord};
@@ -54,6 +55,7 @@ impl Token {
         requires token { IsTokenOf s.now self.now }
         requires kind { self.now.kind ≡ String }
         ensures value { IfOk result (λ v. StringWord lenient (chars (token_text s.now self.now)) (cow_slice_items v)) }
+        ensures one { OneValue (chars (token_text s.now self.now)) }
         ensures borrowed { IfOk result (λ v. IsBorrowedSlice v ↔ HasNone backslash (chars (token_text s.now self.now))) }
         ensures free { HasNone backslash (chars (token_text s.now self.now)) → IsOk result }
     {
@@ -72,6 +74,7 @@ impl Token {
         ensures name { IfOk result (λ name. Name (chars (token_text s.now self.now)) (cow_str_bytes name)) }
         ensures some { IfOk result (λ name. cow_str_bytes name ≢ []) }
         ensures error { IfErr result (NameError s.now EmptyId self.now.offset (chars (token_text s.now self.now))) }
+        ensures one { OneName EmptyId (chars (token_text s.now self.now)) }
         ensures borrowed { IfOk result (λ name. IsBorrowedStr name ↔ HasNoEscape (chars (token_text s.now self.now))) }
     {
         self.named(alloc, s, LexError::EmptyId)
@@ -84,6 +87,7 @@ impl Token {
         ensures name { IfOk result (λ name. Name (chars (token_text s.now self.now)) (cow_str_bytes name)) }
         ensures some { IfOk result (λ name. cow_str_bytes name ≢ []) }
         ensures error { IfErr result (NameError s.now EmptyAnnotation self.now.offset (chars (token_text s.now self.now))) }
+        ensures one { OneName EmptyAnnotation (chars (token_text s.now self.now)) }
         ensures borrowed { IfOk result (λ name. IsBorrowedStr name ↔ HasNoEscape (chars (token_text s.now self.now))) }
     {
         self.named(alloc, s, LexError::EmptyAnnotation)
@@ -115,6 +119,7 @@ impl Token {
         requires token { IsTokenOf s.now self.now }
         requires kind { self.now.kind ≡ token_kind.Float kind }
         ensures value { IfOk result (IsFloatOf kind (chars (token_text s.now self.now))) }
+        ensures one { OneCut (chars (token_text s.now self.now)) }
         ensures free { is_anew kind ≡ false → IsOk result }
     {
         Float::from_word(alloc, self.src(s), kind)
@@ -127,6 +132,7 @@ impl Token {
         ensures name { IfOk result (λ name. Name (chars (token_text s.now self.now)) (cow_str_bytes name)) }
         ensures some { IfOk result (λ name. cow_str_bytes name ≢ []) }
         ensures error { IfErr result (NameError s.now empty self.now.offset (chars (token_text s.now self.now))) }
+        ensures one { OneName empty (chars (token_text s.now self.now)) }
         ensures borrowed { IfOk result (λ name. IsBorrowedStr name ↔ HasNoEscape (chars (token_text s.now self.now))) }
     {
         let error = match name(alloc, &self.src(s)[1..])? {

@@ -1,0 +1,25 @@
+-- WebAssembly specification, text format, values: strings, identifiers, floating-point. The grammar leaves no choice of what a
+-- word reads as.
+use Rattle.std.specs.Prelude.{◌≡◌, ◌≢◌, ℕ, Bool, Option, List, []}
+use Rattle.std.specs.Str.{IsUtf8}
+use Rattle.wat_lex.specs.Names.{Name, NameFault}
+use Rattle.wat_lex.specs.NumberValues.{FloatParts}
+use Rattle.wat_lex.specs.Setting.{lenient}
+use Rattle.wat_lex.specs.Strings.{StringWord}
+use Rattle.wat_lex.specs.declared.lexer.faults.LexError.{LexError}
+
+-- any two values of a string's word are the same
+abbrev pub OneValue : List ℕ → Type 0
+OneValue w = (u v : List ℕ) → StringWord lenient w u → StringWord lenient w v → u ≡ v
+
+-- Any two names of the word are the same, and so are any two faults of its name. A name that is UTF-8 and not empty has none.
+pub record OneName (empty : LexError) (w : List ℕ) : Type 0 where
+  pub name : (a b : List ℕ) → Name w a → Name w b → a ≡ b
+  pub fault : (e f : LexError) → NameFault empty w e → NameFault empty w f → e ≡ f
+  pub good : (a : List ℕ) (e : LexError) → Name w a → IsUtf8 a → a ≢ [] → NameFault empty w e → ⊥
+
+-- Any two cuts of the word into first digits, a fraction and an exponent are the same, and in the same base.
+abbrev pub OneCut : List ℕ → Type 0
+OneCut w =
+    (h k : Bool) (front other : List ℕ) (f g x y : Option (List ℕ)) → FloatParts h w front f x → FloatParts k w other g y
+    → (h ≡ k) × (front ≡ other) × (f ≡ g) × (x ≡ y)
