@@ -8,7 +8,7 @@ use Rattle.std.proofs.lemmas.Str.{IsUtf8-nil}
 use Rattle.wat_lex.specs.Names.{Name, Named, bare, quoted as named_string, NameFault, no_name, not_utf8}
 use Rattle.wat_lex.specs.Numbers.{Digits, last, next, parted, Whole, decimal, hexadecimal, Fraction, bare as dot_alone, filled as dot_filled, Exponent, exponent, fraction, power, both, unsigned}
 use Rattle.wat_lex.specs.NumberReads.{Stops, Follows}
-use Rattle.wat_lex.specs.NumberValues.{Point, no_point, bare as point_bare, filled, Power, no_power, present}
+use Rattle.wat_lex.specs.NumberValues.{Point, no_point, bare as point_bare, filled, Power, no_power, present, FloatParts}
 use Rattle.wat_lex.specs.OneReading.{OneValue, OneName, OneCut}
 use Rattle.wat_lex.specs.Setting.{lenient}
 use Rattle.wat_lex.specs.Strings.{quoted}
@@ -131,14 +131,24 @@ whole_at : (hex : Bool) (w front tail : List ℕ) → w ≡ front ++ tail → Wh
 whole_at hex w front tail e h =
     subst (λ s. Whole hex s tail) (sym (ap unsigned e ∙ unsigned_on hex front [] tail h)) (whole_on hex (unsigned front) [] tail h)
 
+-- where the first digits end, and the base
+record SameTail (h k : Bool) (s t : List ℕ) : Type 0 where
+  base : h ≡ k
+  tail : s ≡ t
+
+same_tail : (w : List ℕ) (h k : Bool) (a b : List ℕ) (f g x y : Option (List ℕ)) (p : FloatParts h w a f x) (q : FloatParts k w b g y) → SameTail h k p.tail q.tail
+same_tail w h k a b f g x y p q =
+    let s = parts_follow h p.tail p.rest f x p.point p.power in
+    let t = parts_follow k q.tail q.rest g y q.point q.power in
+    let same = whole_one h k (unsigned w) p.tail q.tail (whole_at h w a p.tail p.cut p.first) s (whole_at k w b q.tail q.cut q.first) t in
+    record { base = same.0; tail = same.1 }
+
+same_parts : (w : List ℕ) (hex : Bool) (a b : List ℕ) (f g x y : Option (List ℕ)) → FloatParts hex w a f x → FloatParts hex w b g y → (a ≡ b) × (f ≡ g) × (x ≡ y)
+same_parts w hex a b f g x y p q =
+    let tails = (same_tail w hex hex a b f g x y p q).tail in
+    let fronts : a ≡ b = append_cancel_right a b p.tail (sym p.cut ∙ q.cut ∙ ap (λ z. b ++ z) (sym tails)) in
+    let parts = parts_one hex p.tail p.rest q.rest f g x y p.point p.power (subst (λ z. Point hex z g q.rest) (sym tails) q.point) q.power in
+    (fronts, parts.fraction, parts.exponent)
+
 pub one_cut : (w : List ℕ) → OneCut w
-one_cut w h k front other f g x y a b =
-    let s = parts_follow h a.tail a.rest f x a.point a.power in
-    let t = parts_follow k b.tail b.rest g y b.point b.power in
-    let same = whole_one h k (unsigned w) a.tail b.tail (whole_at h w front a.tail a.cut a.first) s (whole_at k w other b.tail b.cut b.first) t in
-    let tails : a.tail ≡ b.tail = same.1 in
-    let fronts : front ≡ other = append_cancel_right front other a.tail (sym a.cut ∙ b.cut ∙ ap (λ z. other ++ z) (sym tails)) in
-    let point : Point h a.tail g b.rest = subst (λ z. Point h z g b.rest) (sym tails) (subst (λ i. Point i b.tail g b.rest) (sym same.0) b.point) in
-    let rest : Power h b.rest y = subst (λ i. Power i b.rest y) (sym same.0) b.power in
-    let parts = parts_one h a.tail a.rest b.rest f g x y a.point a.power point rest in
-    (same.0, fronts, parts.fraction, parts.exponent)
+one_cut w = record { base = λ h k a b f g x y p q. (same_tail w h k a b f g x y p q).base; parts = same_parts w }

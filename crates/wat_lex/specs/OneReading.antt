@@ -18,8 +18,7 @@ pub record OneName (empty : LexError) (w : List ℕ) : Type 0 where
   pub fault : (e f : LexError) → NameFault empty w e → NameFault empty w f → e ≡ f
   pub good : (a : List ℕ) (e : LexError) → Name w a → IsUtf8 a → a ≢ [] → NameFault empty w e → ⊥
 
--- Any two cuts of the word into first digits, a fraction and an exponent are the same, and in the same base.
-abbrev pub OneCut : List ℕ → Type 0
-OneCut w =
-    (h k : Bool) (front other : List ℕ) (f g x y : Option (List ℕ)) → FloatParts h w front f x → FloatParts k w other g y
-    → (h ≡ k) × (front ≡ other) × (f ≡ g) × (x ≡ y)
+-- The word is cut into first digits, a fraction and an exponent in one base at most, and in one way.
+pub record OneCut (w : List ℕ) : Type 0 where
+  pub base : (h k : Bool) (a b : List ℕ) (f g x y : Option (List ℕ)) → FloatParts h w a f x → FloatParts k w b g y → h ≡ k
+  pub parts : (hex : Bool) (a b : List ℕ) (f g x y : Option (List ℕ)) → FloatParts hex w a f x → FloatParts hex w b g y → (a ≡ b) × (f ≡ g) × (x ≡ y)

@@ -51,6 +51,7 @@ impl Token {
     }
 
     /// The value of a string. It is borrowed where no escape stands in the string, and then no memory is taken.
+    #[tactic(auto, using(crate::proofs::OneReading::one_value))]
     pub fn string<'a>(&self, alloc: Global, s: &'a str) -> Result<CowSlice<'a, u8>, AllocError>
         requires token { IsTokenOf s.now self.now }
         requires kind { self.now.kind ≡ String }
@@ -110,6 +111,7 @@ impl Token {
     }
 
     /// What a floating-point token reads as. Memory is taken where it has underscores, or `0x` before its digits.
+    #[tactic(auto, using(crate::proofs::OneReading::one_cut))]
     pub fn float<'a>(
         &self,
         alloc: Global,
@@ -126,6 +128,7 @@ impl Token {
     }
 
     /// The name behind the first character, or the given error where it is empty.
+    #[tactic(auto, using(crate::proofs::OneReading::one_name))]
     fn named<'a>(&self, alloc: Global, s: &'a str, empty: LexError) -> Result<CowStr<'a>, Error>
         requires token { IsTokenOf s.now self.now }
         requires kind { (self.now.kind ≡ Id) ⊎ (self.now.kind ≡ Annotation) }

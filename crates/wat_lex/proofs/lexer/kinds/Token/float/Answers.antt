@@ -3,7 +3,6 @@ use Rattle.std.specs.Prelude.{IfOk}
 use Rattle.std.specs.Str.{chars}
 use Rattle.wat_lex.specs.NumberValues.{IsFloatOf}
 use Rattle.wat_lex.proofs.NumberWords.{float_word}
-use Rattle.wat_lex.proofs.OneReading.{one_cut}
 use Rattle.wat_lex.proofs.lexer.kinds.Token.float.Goals as goal
 
 pub from_word-requires : goal.from_word-requires
@@ -15,6 +14,3 @@ pub returns-clause-value : goal.returns-clause-value
 returns-clause-value c =
     let n = float_word c.src.result.now c.args.self.now.kind c.args.kind c.src.utf8 c.requires.kind c.src.ensures.word in
     subst (λ w. IfOk c.from_word.result (IsFloatOf c.args.kind w)) (sym n.same ∙ ap chars c.src.ensures.text) c.from_word.ensures.value
-
-pub returns-clause-one : goal.returns-clause-one
-returns-clause-one c = one_cut _

@@ -5,7 +5,6 @@ use Rattle.std.specs.Str.{chars, IsUtf8}
 use Rattle.std.proofs.lemmas.Bool.{false≢true}
 use Rattle.wat_lex.specs.Names.{Name, Named, NameFault, NameError, HasNoEscape, IsNamed}
 use Rattle.wat_lex.proofs.Names.{NameTail, name_tail, name_value, name_free, free_name, memory_error, fault_error, empty_fault, utf8_fault}
-use Rattle.wat_lex.proofs.OneReading.{one_name}
 use Rattle.wat_lex.proofs.lexer.kinds.Token.named.Goals as goal
 use Rattle.wat_lex.proofs.lexer.kinds.Token.named.Goals.{After-src, After-lex, in-None, in-Some+else-len-gt0+in-Owned-1, in-Some+else-len-gt0+in-Borrowed-1}
 
@@ -58,12 +57,3 @@ pub returns-clause-error : goal.returns-clause-error
 returns-clause-error c =
     subst (λ x. NameError c.args.s.now c.args.empty c.args.self.now.offset (chars x) c.lex.result) c.src.ensures.text
     (fault_error c.lex.result c.args.s.now c.args.empty c.match-branch-2.error c.args.self.now.offset c.from_offset-span.result (chars c.src.result.now) (fault (goal.at.returns-clause-error c).After-lex (tail (goal.at.returns-clause-error c).After-src)) c.from_offset-span.ensures c.lex.ensures.report)
-
-pub returns-in_err-name-clause-one : goal.returns-in_err-name-clause-one
-returns-in_err-name-clause-one c = one_name c.args.empty _
-
-pub returns-then-len-gt0-clause-one : goal.returns-then-len-gt0-clause-one
-returns-then-len-gt0-clause-one c = one_name c.args.empty _
-
-pub returns-clause-one : goal.returns-clause-one
-returns-clause-one c = one_name c.args.empty _

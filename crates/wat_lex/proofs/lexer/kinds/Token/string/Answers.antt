@@ -4,7 +4,6 @@ use Rattle.wat_lex.specs.Names.{IsQuoted, HasNone}
 use Rattle.wat_lex.specs.Setting.{lenient}
 use Rattle.wat_lex.specs.Strings.{StringWord, Quoted}
 use Rattle.wat_lex.proofs.Names.{StringTail, string_tail, string_value, string_none, string_has}
-use Rattle.wat_lex.proofs.OneReading.{one_value}
 use Rattle.wat_lex.proofs.lexer.kinds.Token.string.Goals as goal
 use Rattle.wat_lex.proofs.lexer.kinds.Token.string.Goals.{After-src}
 
@@ -46,12 +45,3 @@ returns-clause-borrowed c = (
   λ h. absurd h,
   λ h. c.in_default.ensures.none (string_has c.src.result.now c.range_from-elements.result.now (tail (goal.at.returns-clause-borrowed c).After-src) c.range_from-elements.ensures.value (subst (λ x. HasNone 92 (chars x)) (sym c.src.ensures.text) h)),
 )
-
-pub returns-in-Some-clause-one : goal.returns-in-Some-clause-one
-returns-in-Some-clause-one c = one_value _
-
-pub returns-in_err-value-clause-one : goal.returns-in_err-value-clause-one
-returns-in_err-value-clause-one c = one_value _
-
-pub returns-clause-one : goal.returns-clause-one
-returns-clause-one c = one_value _
