@@ -42,5 +42,6 @@ mod Names
 mod Values
 mod Numerals
 mod OneReading
+mod SomeReading
 mod Positions
 mod Rendering
