@@ -70,6 +70,7 @@ impl Token {
     }
 
     /// The name of an identifier. It is borrowed where no escape stands in it, and then no memory is taken.
+    #[tactic(auto, using(crate::proofs::OneReading::one_name, crate::proofs::SomeReading::some_name))]
     pub fn id<'a>(&self, alloc: Global, s: &'a str) -> Result<CowStr<'a>, Error>
         requires token { IsTokenOf s.now self.now }
         requires kind { self.now.kind ≡ Id }
@@ -84,6 +85,7 @@ impl Token {
     }
 
     /// The name of an annotation. It is borrowed where no escape stands in it, and then no memory is taken.
+    #[tactic(auto, using(crate::proofs::OneReading::one_name, crate::proofs::SomeReading::some_name))]
     pub fn annotation<'a>(&self, alloc: Global, s: &'a str) -> Result<CowStr<'a>, Error>
         requires token { IsTokenOf s.now self.now }
         requires kind { self.now.kind ≡ Annotation }
