@@ -41,5 +41,7 @@ mod SomeTilings
 mod Names
 mod Values
 mod Numerals
+mod OneReading
+mod SomeReading
 mod Positions
 mod Rendering

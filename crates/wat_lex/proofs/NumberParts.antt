@@ -49,7 +49,7 @@ cut_whole : (hex : Bool) (s r : List ℕ) → Whole hex s r → (d : List ℕ) �
 cut_whole hex s r (decimal h) = let p = cut_digits false s r h in (p.0, p.1, decimal p.2)
 cut_whole hex s r (hexadecimal {t = t} h) = let p = cut_digits true t r h in (48 ∷ 120 ∷ p.0, ap (λ x. 48 ∷ 120 ∷ x) p.1, hexadecimal p.2)
 
-cut_word : (hex : Bool) (w r : List ℕ) → Whole hex (unsigned w) r → (d : List ℕ) × (w ≡ d ++ r) × Whole hex (unsigned d) []
+pub cut_word : (hex : Bool) (w r : List ℕ) → Whole hex (unsigned w) r → (d : List ℕ) × (w ≡ d ++ r) × Whole hex (unsigned d) []
 cut_word hex [] r h = absurd (none hex r h)
   where
     none : (hex : Bool) (r : List ℕ) → Whole hex [] r → ⊥

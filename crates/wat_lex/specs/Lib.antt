@@ -13,6 +13,7 @@ pub mod Tiling
 pub mod Unique
 pub mod Parts
 pub mod Names
+pub mod OneReading
 pub mod Readers
 pub mod Raw
 pub mod Laws

@@ -248,6 +248,9 @@ impl Encode for usize {
         ensures fitting { OnOk result (self.now < 2 ^ 32) }
         ensures too_long { IsErrOf result EncodeError.TooLong ↔ (2 ^ 32 ≤ self.now) }
         ensures err { OnErr result (e.new.items ≡ e.old.items) }
+
+        // The bytes decode to the number, no shorter ones do, and no others of their length.
+        ensures law { IsTheEncoding unsigned_value self.now (unsigned_leb128 self.now) }
     {
         encode_length(*self, e)
     }
@@ -260,6 +263,9 @@ pub fn encode_slice<T: Encode>(items: &[T], e: &mut Vec<u8>) -> Result<(), Encod
     ensures too_long { IsErrOf result EncodeError.TooLong → ¬ ListFits T.fits items.now }
     ensures too_many { 2 ^ 32 ≤ length items.now → IsErrOf result EncodeError.TooLong }
     ensures err { OnErr result (e.new.items ≡ e.old.items) }
+
+    // The bytes in front decode to the length, no shorter ones do, and no others of their length.
+    ensures law { IsTheEncoding unsigned_value (length items.now) (unsigned_leb128 (length items.now)) }
 {
     let start = e.len();
     let written = push_items(items, e);
@@ -287,6 +293,9 @@ pub fn encode_str(text: &str, e: &mut Vec<u8>) -> Result<(), EncodeError>
     ensures fitting { OnOk result (length text.now < 2 ^ 32) }
     ensures too_long { IsErrOf result EncodeError.TooLong ↔ (2 ^ 32 ≤ length text.now) }
     ensures err { OnErr result (e.new.items ≡ e.old.items) }
+
+    // The bytes in front decode to the length, no shorter ones do, and no others of their length.
+    ensures law { IsTheEncoding unsigned_value (length text.now) (unsigned_leb128 (length text.now)) }
 {
     let start = e.len();
     let written = push_text(text, e);
@@ -318,6 +327,9 @@ impl<T: Encode> Encode for Vec<T> {
         ensures too_long { IsErrOf result EncodeError.TooLong → ¬ ListFits T.fits self.now.items }
         ensures too_many { 2 ^ 32 ≤ vec_len self.now → IsErrOf result EncodeError.TooLong }
         ensures err { OnErr result (e.new.items ≡ e.old.items) }
+
+        // The bytes in front decode to the length, no shorter ones do, and no others of their length.
+        ensures law { IsTheEncoding unsigned_value (vec_len self.now) (unsigned_leb128 (vec_len self.now)) }
     {
         encode_slice(self.as_slice(), e)
     }
@@ -336,6 +348,9 @@ impl Encode for String {
         ensures fitting { OnOk result (length (string_bytes self.now) < 2 ^ 32) }
         ensures too_long { IsErrOf result EncodeError.TooLong ↔ (2 ^ 32 ≤ length (string_bytes self.now)) }
         ensures err { OnErr result (e.new.items ≡ e.old.items) }
+
+        // The bytes in front decode to the length, no shorter ones do, and no others of their length.
+        ensures law { IsTheEncoding unsigned_value (length (string_bytes self.now)) (unsigned_leb128 (length (string_bytes self.now))) }
     {
         encode_str(self.as_str(), e)
     }

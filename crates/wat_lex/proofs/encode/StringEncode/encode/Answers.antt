@@ -1,0 +1,7 @@
+use Rattle.std.proofs.Common.{length}
+use Rattle.std.specs.Prelude.{string_bytes}
+use Rattle.wat_lex.proofs.Leb128Laws.{unsigned_leb128-law}
+use Rattle.wat_lex.proofs.encode.StringEncode.encode.Goals as goal
+
+pub returns-clause-law : goal.returns-clause-law
+returns-clause-law c = unsigned_leb128-law (length (string_bytes c.args.self.now))
