@@ -8,7 +8,8 @@ use lib.Utf8.{encodes}
 use Rattle.wat_lex.specs.Classes.{Begins, is_blank, is_run_char, semicolon}
 use Rattle.wat_lex.specs.Setting.{Setting}
 use Rattle.wat_lex.specs.Tiling.{TokenAt, Tiling, EndsAt}
-use Rattle.wat_lex.specs.Parts.{sure, Cuts}
+use Rattle.wat_lex.specs.Parts.{sure, front, Cuts}
+use Rattle.wat_lex.proofs.SomeTilings.{some_tiling}
 use Rattle.wat_lex.specs.Words.{MayFollow, Stands}
 use Rattle.wat_lex.specs.declared.lexer.settings.Settings.{Settings}
 use Rattle.wat_lex.specs.declared.lexer.kinds.Token.{Token}
@@ -140,4 +141,9 @@ module _ (s : Setting) (n : ℕ) (utf8 : IsUtf8 s.text) (cut : IsCharBoundary s.
 
 pub cuts : (s : Setting) (p : ℕ) → IsUtf8 s.text → IsCharBoundary s.text p → Cuts s p
 unfolding Begun front_of
-cuts s p u b n c l ts us e f h g = begins_whole s n u c p h.to g.to ts us e f (front_boundary s.text n p u c b l) h.tiling h.ends g.tiling g.ends
+cuts s p u b n c l =
+    let at = front_boundary s.text n p u c b l in
+    record {
+      some = some_tiling (front s n) p (IsUtf8-take s.text n u c) at;
+      begins = λ ts us e f h g. begins_whole s n u c p h.to g.to ts us e f at h.tiling h.ends g.tiling g.ends;
+    }

@@ -19,7 +19,7 @@ pub record SomeValue (w : List ℕ) : Type 0 where
 abbrev pub OneValue : List ℕ → Type 0
 OneValue w = (u v : List ℕ) → StringWord lenient w u → StringWord lenient w v → u ≡ v
 
--- the word has a name that is UTF-8 and not empty, or a fault of its name
+-- the word has a name that is UTF-8 and not empty, or a fault of its name; `empty` is the error that is told for an empty one
 pub data SomeName : LexError → List ℕ → Type 0 where
   good : {empty : LexError} {w name : List ℕ} → Name w name → IsUtf8 name → name ≢ [] → SomeName empty w
   fault : {empty e : LexError} {w : List ℕ} → NameFault empty w e → SomeName empty w
@@ -37,12 +37,13 @@ pub record SomeParts (hex : Bool) (w : List ℕ) : Type 0 where
   pub exponent : Option (List ℕ)
   pub parts : FloatParts hex w front fraction exponent
 
--- where the float has digits
+-- a float that is neither `inf` nor `nan` has such parts
 abbrev pub SomeCut : FloatKind → List ℕ → Type 0
 SomeCut (Normal underscores hex) w = SomeParts hex w
 SomeCut kind w = Unit {0}
 
--- The word is cut into first digits, a fraction and an exponent in one base at most, and in one way.
+-- The word is cut into first digits, a fraction and an exponent in one base at most, and in one way. The words of `inf` and `nan`
+-- are not cut at all.
 pub record OneCut (w : List ℕ) : Type 0 where
   pub base : (h k : Bool) (a b : List ℕ) (f g x y : Option (List ℕ)) → FloatParts h w a f x → FloatParts k w b g y → h ≡ k
   pub parts : (hex : Bool) (a b : List ℕ) (f g x y : Option (List ℕ)) → FloatParts hex w a f x → FloatParts hex w b g y → (a ≡ b) × (f ≡ g) × (x ≡ y)

@@ -5,20 +5,30 @@ use Rattle.std.specs.Option.{option_map}
 use Rattle.std.specs.Str.{IsCharBoundary}
 use Rattle.wat_lex.specs.Setting.{Setting}
 use Rattle.wat_lex.specs.Tiling.{MaximalTiling}
+use Rattle.wat_lex.specs.Unique.{SomeTiling}
 use Rattle.wat_lex.specs.declared.lexer.kinds.Token.{Token}
 use Rattle.wat_lex.specs.declared.lexer.faults.LexFault.{LexFault}
 
--- the tokens that stay as they are whatever follows the text: all of them before a fault, all but the last before its end
+-- the tokens that stay whatever follows the text, as far as its ending tells: all of them before a fault, all but the last before
+-- its end
 abbrev pub sure : List Token → Option LexFault → List Token
 sure ts (Some f) = ts
 sure [] None = []
 sure (t ∷ []) None = []
 sure (t ∷ u ∷ us) None = t ∷ sure (u ∷ us) None
 
--- However the text is cut behind the byte p, the raw tokens of its front from p on, but for the last, begin those of the whole.
+-- the first n bytes of the text, with its flags
+abbrev pub front : Setting → ℕ → Setting
+front s n = record s { text = take n s.text }
+
+-- The front has raw tokens from the byte p on, and those of them that stay begin the raw tokens of the whole.
+pub record CutAt (s : Setting) (p n : ℕ) : Type 0 where
+  pub some : SomeTiling (front s n) p
+  pub begins : (ts us : List Token) (e f : Option LexFault) → MaximalTiling (front s n) p ts e → MaximalTiling s p us f → (rest : List Token) × (us ≡ sure ts e ++ rest)
+
+-- So it is wherever the text is cut between two characters, at the byte p or behind it.
 abbrev pub Cuts : Setting → ℕ → Type 0
-Cuts s p = (n : ℕ) → IsCharBoundary s.text n → p ≤ n → (ts us : List Token) (e f : Option LexFault) → MaximalTiling (record s { text = take n s.text }) p ts e → MaximalTiling s p us f
-    → (rest : List Token) × (us ≡ sure ts e ++ rest)
+Cuts s p = (n : ℕ) → IsCharBoundary s.text n → p ≤ n → CutAt s p n
 
 abbrev pub moved_tokens : ℕ → List Token → List Token
 moved_tokens p ts = map (λ (t : Token). record t { offset = p + t.offset }) ts

@@ -125,3 +125,27 @@ fn fronts_of_a_long_line_begin_it(rt: HostRuntime) -> Result<(), Fail> {
         },
     )
 }
+
+#[test]
+fn deep_nesting(rt: HostRuntime) -> Result<(), Fail> {
+    let settings = Settings {
+        allow: false,
+        strict: false,
+    };
+    let mut comment = "(;".repeat(rt.alloc(), 10_000)?;
+    comment.push_str(&";)".repeat(rt.alloc(), 9_999)?)?;
+    let (lines, is_faulty) = listed(rt.alloc(), &comment, settings)?;
+    assert_eq!(rt; (lines.as_str(), is_faulty), ("", true));
+    comment.push_str(";)")?;
+    let (lines, is_faulty) = listed(rt.alloc(), &comment, settings)?;
+    assert_eq!(rt;
+        (lines.as_str(), is_faulty),
+        ("0..40000 BlockComment\n", false)
+    );
+    let parens = "(".repeat(rt.alloc(), 10_000)?;
+    let (lines, is_faulty) = listed(rt.alloc(), &parens, settings)?;
+    assert!(rt; !is_faulty);
+    assert_eq!(rt; lines.lines().count(), 10_000);
+    assert!(rt; lines.lines().all(|line| line.ends_with(" LParen")));
+    Ok(())
+}

@@ -84,7 +84,7 @@ fn deep_nesting(rt: HostRuntime) -> Result<(), Fail> {
 fn places_inside_of_tokens(rt: HostRuntime) {
     assert_eq!(rt; token_at(&rt, "abc", 1), Some((TokenKind::Keyword, 1, 3)));
     assert_eq!(rt;
-        fault_at(&rt, "\"a\"", 2),
+        fault_at(&rt, "\"a\"", 1),
         Some((3, LexError::UnexpectedEof))
     );
     assert_eq!(rt; token_at(&rt, ";;x", 1), Some((TokenKind::Reserved, 1, 2)));
