@@ -2,8 +2,6 @@
 use Rattle.std.proofs.Common.{◌≡◌, ◌≢◌, ◌⊎◌, ℕ, List, [], ◌∷◌, ◌++◌, length, drop, get_or, refl, arith, ap, sym, ◌∙◌, subst, Bool, true, false, inl, inr}
 use Rattle.std.specs.Prelude.{◌==◌, ◌↔◌, IsTrue}
 use Rattle.std.proofs.lemmas.Bool.{both_ways, ne_eqb}
-use lib.Pointwise.{pointwise}
-use lib.Dec.{eqb}
 use Rattle.wat_lex.specs.Numbers.{Digits, is_exponent_letter, Exponent, exponent, Tail, fraction, power, both, bare, filled, unsigned}
 use Rattle.wat_lex.specs.NumberReads.{LongestDigits, NoDigits}
 use Rattle.wat_lex.proofs.Tails.{digits_end, exponent_some, tail_power, behind_digits, behind_none}
@@ -58,9 +56,6 @@ module _ (hex : Bool) (text behind : List ℕ) (n : text ≢ []) (d : get_or tex
   pub tail_no_digits : behind ≢ [] → (Exponent hex behind → ⊥) → NoDigits hex behind → (Tail hex text → ⊥)
   tail_no_digits m x l h = behind_none hex behind m x l (subst (Tail hex) dotted h)
 
--- no equal bytes, and no front
-pub not_word : (s t word given : List ℕ) (b : Bool) → t ≡ s → given ≡ word → b ≡ pointwise eqb t given → b ≡ false → pointwise eqb word word ≡ true → s ≢ word
-not_word s t word given b q g e f h k = both_ways b f (e ∙ ap (λ x. pointwise eqb x given) (q ∙ k) ∙ ap (λ x. pointwise eqb word x) g ∙ h)
-
+-- no front
 pub not_front : (s t word given : List ℕ) → t ≡ s → given ≡ word → ((rest : List ℕ) → t ≢ given ++ rest) → (rest : List ℕ) → s ≢ word ++ rest
 not_front s t word given q g n rest e = n rest (q ∙ e ∙ ap (λ x. x ++ rest) (sym g))

@@ -1,7 +1,7 @@
 //! The words of numbers.
-ghost use Rattle.std.specs.Prelude.{◌≡◌, ◌≢◌, ◌↔◌, ◌++◌, ℕ, List, [], MatchOption, IfSome, IfNone, IsTrue};
+ghost use Rattle.std.specs.Prelude.{◌≡◌, ◌≢◌, ◌↔◌, ◌++◌, ℕ, List, [], MatchOption, IfSome, IfNone, IsTrue, codes};
 ghost use Rattle.wat_lex.specs.declared.lexer.kinds.TokenKind.{TokenKind};
-ghost use Rattle.wat_lex.specs.Numbers.{is_digit, is_exponent_letter, sign_of, unsigned, is_negative, has_underscores, Digits, Exponent, Tail, Number};
+ghost use Rattle.wat_lex.specs.Numbers.{is_digit, is_exponent_letter, sign_of, unsigned, is_negative, has_underscores, Digits, Exponent, Tail, Payload, Number};
 ghost use Rattle.wat_lex.specs.NumberReads.{LongestDigits, NoDigits, OnlyWhole, NoWhole};
 
 use crate::lexer::kinds::{FloatKind, IntegerKind, SignToken, TokenKind};
@@ -147,14 +147,38 @@ fn after_whole(text: &[u8]) -> Option<(bool, &[u8])>
     }
 }
 
+/// The kind of a number's word that is neither an infinity nor a NaN.
+fn digits_kind(word: &[u8]) -> Option<TokenKind>
+    requires infinity { unsigned word.now ≢ codes "inf" }
+    requires nan { unsigned word.now ≢ codes "nan" }
+    requires payload { Payload (unsigned word.now) → ⊥ }
+    ensures some { IfSome result (λ kind. Number word.now kind) }
+    ensures none { IfNone result ((kind : TokenKind) → Number word.now kind → ⊥) }
+{
+    let (hex, rest) = after_whole(unsigned(word))?;
+    let has_underscores = has_underscores(word);
+    if rest.is_empty() {
+        return Some(TokenKind::Integer(IntegerKind {
+            sign: sign_of(word),
+            has_underscores,
+            hex,
+        }));
+    }
+    if !is_tail(rest, hex) {
+        return None;
+    }
+    Some(TokenKind::Float(FloatKind::Normal {
+        has_underscores,
+        hex,
+    }))
+}
+
 /// The kind of a number's word.
 pub fn classify(word: &[u8]) -> Option<TokenKind>
     ensures some { IfSome result (λ kind. Number word.now kind) }
     ensures none { IfNone result ((kind : TokenKind) → Number word.now kind → ⊥) }
 {
-    let sign = sign_of(word);
     let negative = is_negative(word);
-    let has_underscores = has_underscores(word);
     let number = unsigned(word);
     if number == b"inf".as_slice() {
         return Some(TokenKind::Float(FloatKind::Inf { negative }));
@@ -162,32 +186,14 @@ pub fn classify(word: &[u8]) -> Option<TokenKind>
     if number == b"nan".as_slice() {
         return Some(TokenKind::Float(FloatKind::Nan { negative }));
     }
-    if let Some(payload) = after(number, b"nan:0x".as_slice()) {
-        if is_digits(payload, true) {
-            return Some(TokenKind::Float(FloatKind::NanVal {
-                negative,
-                has_underscores,
-            }));
-        }
+    let Some(payload) = after(number, b"nan:0x".as_slice()) else {
+        return digits_kind(word);
+    };
+    if !is_digits(payload, true) {
         return None;
     }
-    match after_whole(number) {
-        Some((hex, rest)) => {
-            if rest.is_empty() {
-                Some(TokenKind::Integer(IntegerKind {
-                    sign,
-                    has_underscores,
-                    hex,
-                }))
-            } else if is_tail(rest, hex) {
-                Some(TokenKind::Float(FloatKind::Normal {
-                    has_underscores,
-                    hex,
-                }))
-            } else {
-                None
-            }
-        }
-        None => None,
-    }
+    Some(TokenKind::Float(FloatKind::NanVal {
+        negative,
+        has_underscores: has_underscores(word),
+    }))
 }
