@@ -105,14 +105,10 @@ pub fn front_run(text: &str, flags: Settings) -> Result<Option<Lexeme>, LexFault
     requires first { is_run_char (slice_index text.now 0) ≡ true }
     ensures { Answers flags text.now result }
 {
-    match run(text, flags) {
-        Ok(found) => {
-            let word = &text.as_bytes()[..found.len];
-            Ok(Some(Lexeme {
-                kind: run_kind(word, found.idchars, found.strings),
-                len: found.len,
-            }))
-        }
-        Err(fault) => Err(fault),
-    }
+    let found = run(text, flags)?;
+    let word = &text.as_bytes()[..found.len];
+    Ok(Some(Lexeme {
+        kind: run_kind(word, found.idchars, found.strings),
+        len: found.len,
+    }))
 }
