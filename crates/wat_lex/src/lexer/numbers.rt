@@ -29,35 +29,26 @@ fn is_exponent_letter(b: u8, hex: bool) -> bool
 fn sign_of(word: &[u8]) -> Option<SignToken>
     ensures { result ≡ sign_of word.now }
 {
-    if word.is_empty() {
-        None
-    } else if word[0] == b'+' {
-        Some(SignToken::Plus)
-    } else if word[0] == b'-' {
-        Some(SignToken::Minus)
-    } else {
-        None
+    match word {
+        [b'+', ..] => Some(SignToken::Plus),
+        [b'-', ..] => Some(SignToken::Minus),
+        _ => None,
     }
 }
 
 pub fn is_negative(word: &[u8]) -> bool
     ensures { result ≡ is_negative word.now }
 {
-    if word.is_empty() {
-        false
-    } else {
-        word[0] == b'-'
-    }
+    matches!(word, [b'-', ..])
 }
 
 /// The word without its sign.
 pub fn unsigned(word: &[u8]) -> &[u8]
     ensures { result.now ≡ unsigned word.now }
 {
-    if !word.is_empty() && (word[0] == b'+' || word[0] == b'-') {
-        &word[1..]
-    } else {
-        word
+    match word {
+        [b'+' | b'-', rest @ ..] => rest,
+        _ => word,
     }
 }
 
@@ -136,15 +127,9 @@ fn after_whole(text: &[u8]) -> Option<(bool, &[u8])>
     ensures { MatchOption result (NoWhole text.now) (λ f. OnlyWhole f.0 text.now f.1.now) }
 {
     if let Some(digits) = after(text, b"0x".as_slice()) {
-        return match after_digits(digits, true) {
-            Some(rest) => Some((true, rest)),
-            None => None,
-        };
+        return Some((true, after_digits(digits, true)?));
     }
-    match after_digits(text, false) {
-        Some(rest) => Some((false, rest)),
-        None => None,
-    }
+    Some((false, after_digits(text, false)?))
 }
 
 /// The kind of a number's word that is neither an infinity nor a NaN.
