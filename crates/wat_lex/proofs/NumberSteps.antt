@@ -1,5 +1,5 @@
 -- Steps of the readers of numbers.
-use Rattle.std.proofs.Common.{◌≡◌, ◌≢◌, ◌⊎◌, ℕ, List, [], ◌∷◌, ◌++◌, length, drop, get_or, refl, arith, ap, sym, ◌∙◌, subst, Bool, true, false, inl, inr}
+use Rattle.std.proofs.Common.{◌≡◌, ◌≢◌, ◌⊎◌, ◌<◌, ℕ, List, [], ◌∷◌, ◌++◌, length, drop, get_or, refl, arith, ap, sym, ◌∙◌, subst, Bool, true, false, inl, inr}
 use Rattle.std.specs.Prelude.{◌==◌, ◌↔◌, IsTrue}
 use Rattle.std.proofs.lemmas.Bool.{both_ways, ne_eqb}
 use Rattle.wat_lex.specs.Numbers.{Digits, is_exponent_letter, Exponent, exponent, Tail, fraction, power, both, bare, filled, unsigned}
@@ -27,9 +27,15 @@ pub exponent_is : (hex : Bool) (text body : List ℕ) (b : Bool) → text ≢ []
 exponent_is hex [] body b n l e d = absurd (n refl)
 exponent_is hex (c ∷ t) body b n l e d = (λ h. exponent l (subst (λ x. Digits false x []) e (d.0 h)), λ h. d.1 (subst (λ x. Digits false x []) (sym e) (exponent_some hex c t h).1))
 
-pub tail_no_dot : (hex : Bool) (text : List ℕ) (b : Bool) → text ≢ [] → get_or text 0 0 ≢ 46 → (IsTrue b ↔ Exponent hex text) → (IsTrue b ↔ Tail hex text)
-tail_no_dot hex [] b n d e = absurd (n refl)
-tail_no_dot hex (c ∷ t) b n d e = (λ h. power (e.0 h), λ h. e.1 (tail_power hex c t d h))
+no_tail : (hex : Bool) → Tail hex [] → ⊥
+no_tail hex (fraction h) = elim h [ ]
+no_tail hex (power h) = elim h [ ]
+no_tail hex (both h k) = elim h [ ]
+
+pub tail_no_dot : (hex : Bool) (text : List ℕ) (b : Bool) → (length text < 1) ⊎ (get_or text 0 0 ≢ 46) → (IsTrue b ↔ Exponent hex text) → (IsTrue b ↔ Tail hex text)
+tail_no_dot hex [] b d e = (λ h. power (e.0 h), λ h. absurd (no_tail hex h))
+tail_no_dot hex (c ∷ t) b (inl l) e = absurd (omega arith)
+tail_no_dot hex (c ∷ t) b (inr d) e = (λ h. power (e.0 h), λ h. e.1 (tail_power hex c t d h))
 
 -- behind a dot
 module _ (hex : Bool) (text behind : List ℕ) (n : text ≢ []) (d : get_or text 0 0 ≡ 46) (at : behind ≡ drop 1 text) where

@@ -96,23 +96,19 @@ fn is_digits(text: &[u8], hex: bool) -> bool
 fn is_exponent(text: &[u8], hex: bool) -> bool
     ensures { IsTrue result ↔ Exponent hex text.now }
 {
-    if text.is_empty() || !is_exponent_letter(text[0], hex) {
-        return false;
+    match text {
+        [first, rest @ ..] => is_exponent_letter(*first, hex) && is_digits(unsigned(rest), false),
+        [] => false,
     }
-    is_digits(unsigned(&text[1..]), false)
 }
 
 /// Whether a float's first digits can be followed so.
 fn is_tail(text: &[u8], hex: bool) -> bool
     ensures { IsTrue result ↔ Tail hex text.now }
 {
-    if text.is_empty() {
-        return false;
-    }
-    if text[0] != b'.' {
+    let [b'.', behind @ ..] = text else {
         return is_exponent(text, hex);
-    }
-    let behind = &text[1..];
+    };
     if behind.is_empty() || is_exponent(behind, hex) {
         return true;
     }

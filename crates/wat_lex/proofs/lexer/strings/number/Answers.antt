@@ -62,18 +62,18 @@ row-preserved c =
     let t = first_of (goal.at.row-preserved c).In-Some in
     elim c.if-is_hex.branch [
       | then-is_hex+in_ok-n w ↦
-        let hex = sym c.is_hex.ensures ∙ w.if-is_hex.true in
-        let small : w.in_ok-n.n < 2 ^ 32 = omega arith in
-        rw (ne_eqb c.in-Some.c 95 (λ k. both_ways (is_hex c.in-Some.c) (ap is_hex k) hex), w.n-is)
-        (row_digit c.args.flags c.args.first _ (chars_rest c.row.it) _ c.row.n c.row.last _ _ c.in-Some.c c.row.underscore c.row.invariant t (ap length c.as_str-left.ensures) hex w.in_ok-n.ensures.ok small)
+          let hex = sym c.is_hex.ensures ∙ w.if-is_hex.true in
+          let small : w.in_ok-n.n < 2 ^ 32 = omega arith in
+          rw (ne_eqb c.in-Some.c 95 (λ k. both_ways (is_hex c.in-Some.c) (ap is_hex k) hex), w.n-is)
+          (row_digit c.args.flags c.args.first _ (chars_rest c.row.it) _ c.row.n c.row.last _ _ c.in-Some.c c.row.underscore c.row.invariant t (ap length c.as_str-left.ensures) hex w.in_ok-n.ensures.ok small)
       | else-is_hex+else-c-ne95 w ↦
-        let e = w.if-c-ne95.false in
-        rw (eq-eqb c.in-Some.c 95 e, w.n-is)
-        (row_underscore c.args.flags c.args.first _ (chars_rest c.row.it) _ c.row.n c.row.last _ c.row.underscore c.row.invariant
-        (λ s. elim c.else-c-eq95.branch [
-          | else-c-eq95-via-then-c-eq95+then-underscore+else-flags v ↦ absurd (both_ways c.args.flags.strict v.if-flags.false s)
-          | else-c-eq95-via-then-c-eq95+else-underscore v ↦ v.if-underscore.false
-          | else-c-eq95-via-else-c-eq95 v ↦ absurd (v.if-c-eq95.false e)
-        ])
-        (was 95 (goal.at.row-preserved c).In-Some e) (ap length c.as_str-left.ensures))
+          let e = w.if-c-ne95.false in
+          rw (eq-eqb c.in-Some.c 95 e, w.n-is)
+          (row_underscore c.args.flags c.args.first _ (chars_rest c.row.it) _ c.row.n c.row.last _ c.row.underscore c.row.invariant
+          (λ s. elim c.else-c-eq95.branch [
+            | else-c-eq95-via-then-c-eq95+then-underscore+else-flags v ↦ absurd (both_ways c.args.flags.strict v.if-flags.false s)
+            | else-c-eq95-via-then-c-eq95+else-underscore v ↦ v.if-underscore.false
+            | else-c-eq95-via-else-c-eq95 v ↦ absurd (v.if-c-eq95.false e)
+          ])
+          (was 95 (goal.at.row-preserved c).In-Some e) (ap length c.as_str-left.ensures))
     ]
