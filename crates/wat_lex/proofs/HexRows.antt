@@ -264,12 +264,10 @@ abbrev pub Reading : Settings → List ℕ → List ℕ → List ℕ → Result 
 Reading flags front old new result = IfOk result (λ e. Escaped flags front old new (escape_bytes e)) × IfErr result (Breaks flags front old)
 
 -- a character that is neither digit nor underscore ends the row
-pub row_stops : (flags : Settings) (first : ℕ) (start rest next : List ℕ) (n last left c : ℕ) (b : Bool) (value : Result ℕ Broken) (result : Result EscapeValue Broken)
-    → Row flags first start rest n b last → Took rest c next → left ≡ length rest → is_hex c ≡ false → c ≢ 95 → IsRowValue n b last value → Ends c left value result
+pub row_stops : (flags : Settings) (first : ℕ) (start rest next : List ℕ) (n last left c : ℕ) (b : Bool) (value : ℕ) (result : Result EscapeValue Broken)
+    → Row flags first start rest n b last → Took rest c next → left ≡ length rest → is_hex c ≡ false → c ≢ 95 → IsRowValue n b last (Ok value) → Ends c left value result
     → Reading flags (92 ∷ 117 ∷ 123 ∷ first ∷ []) start next result
-row_stops flags first start rest next n last left c b (Err fault) result r t l h a f e =
-    subst (Reading flags (92 ∷ 117 ∷ 123 ∷ first ∷ []) start next) (sym e) (tt, row_ends flags first start rest n last b fault r (stops_at rest next c t h a) f)
-row_stops flags first start rest next n last left c b (Ok value) result r t l h a f e =
+row_stops flags first start rest next n last left c b value result r t l h a f e =
     subst (Reading flags (92 ∷ 117 ∷ 123 ∷ first ∷ []) start next) (sym e) (by (cases_eq c 125) (row_good flags first start rest n last value b r f))
   where
     front : List ℕ

@@ -82,12 +82,12 @@ no_number w n Reserved h = h
 no_whole : (s : List ℕ) → NoWhole s → (hex : Bool) → Decimals hex s → ⊥
 no_whole s n hex (decimals {t = t} h k) = n hex t h (inr k)
 
+pub no_payload : (s : List ℕ) → ((t : List ℕ) → s ≢ codes "nan:0x" ++ t) → Payload s → ⊥
+no_payload s p (payload {t = t} e h) = p t e
+
 -- no first digits
 pub none_whole : (s : List ℕ) → s ≢ codes "inf" → s ≢ codes "nan" → ((t : List ℕ) → s ≢ codes "nan:0x" ++ t) → NoWhole s → NoNumber s
 none_whole s i a p n = record { inf = i; nan = a; payload = no_payload s p; integer = λ hex h. n hex [] h (inl refl); float = no_whole s n }
-  where
-    no_payload : (s : List ℕ) → ((t : List ℕ) → s ≢ codes "nan:0x" ++ t) → Payload s → ⊥
-    no_payload s p (payload {t = t} e h) = p t e
 
 -- first digits, and then no tail
 pub none_tail : (s rest : List ℕ) (hex : Bool) → s ≢ codes "inf" → s ≢ codes "nan" → ((t : List ℕ) → s ≢ codes "nan:0x" ++ t) → OnlyWhole hex s rest → rest ≢ [] → (Tail hex rest → ⊥) → NoNumber s
@@ -105,10 +105,10 @@ n_no_decimals : (hex : Bool) (t : List ℕ) → Decimals hex (110 ∷ t) → ⊥
 n_no_decimals hex t (decimals {t = r} h k) = n_no_whole hex t r h
 
 none_behind : (t : List ℕ) → (Digits true t [] → ⊥) → NoNumber (codes "nan:0x" ++ t)
-none_behind t n = record { inf = λ e. cc; nan = λ e. cc; payload = no_payload; integer = λ hex h. n_no_whole hex _ [] h; float = λ hex h. n_no_decimals hex _ h }
+none_behind t n = record { inf = λ e. cc; nan = λ e. cc; payload = no_digits; integer = λ hex h. n_no_whole hex _ [] h; float = λ hex h. n_no_decimals hex _ h }
   where
-    no_payload : Payload (codes "nan:0x" ++ t) → ⊥
-    no_payload (payload {t = u} e h) = let k : t ≡ u = cc in n (subst (λ x. Digits true x []) (sym k) h)
+    no_digits : Payload (codes "nan:0x" ++ t) → ⊥
+    no_digits (payload {t = u} e h) = let k : t ≡ u = cc in n (subst (λ x. Digits true x []) (sym k) h)
 
 pub none_payload : (s t : List ℕ) → s ≡ codes "nan:0x" ++ t → (Digits true t [] → ⊥) → NoNumber s
 none_payload s t e n = subst NoNumber (sym e) (none_behind t n)

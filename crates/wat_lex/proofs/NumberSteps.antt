@@ -1,9 +1,7 @@
 -- Steps of the readers of numbers.
-use Rattle.std.proofs.Common.{◌≡◌, ◌≢◌, ◌⊎◌, ℕ, List, [], ◌∷◌, ◌++◌, length, drop, get_or, refl, arith, ap, sym, ◌∙◌, subst, Bool, true, false, inl, inr}
+use Rattle.std.proofs.Common.{◌≡◌, ◌≢◌, ◌⊎◌, ◌<◌, ℕ, List, [], ◌∷◌, ◌++◌, length, drop, get_or, refl, arith, ap, sym, ◌∙◌, subst, Bool, true, false, inl, inr}
 use Rattle.std.specs.Prelude.{◌==◌, ◌↔◌, IsTrue}
 use Rattle.std.proofs.lemmas.Bool.{both_ways, ne_eqb}
-use lib.Pointwise.{pointwise}
-use lib.Dec.{eqb}
 use Rattle.wat_lex.specs.Numbers.{Digits, is_exponent_letter, Exponent, exponent, Tail, fraction, power, both, bare, filled, unsigned}
 use Rattle.wat_lex.specs.NumberReads.{LongestDigits, NoDigits}
 use Rattle.wat_lex.proofs.Tails.{digits_end, exponent_some, tail_power, behind_digits, behind_none}
@@ -29,9 +27,15 @@ pub exponent_is : (hex : Bool) (text body : List ℕ) (b : Bool) → text ≢ []
 exponent_is hex [] body b n l e d = absurd (n refl)
 exponent_is hex (c ∷ t) body b n l e d = (λ h. exponent l (subst (λ x. Digits false x []) e (d.0 h)), λ h. d.1 (subst (λ x. Digits false x []) (sym e) (exponent_some hex c t h).1))
 
-pub tail_no_dot : (hex : Bool) (text : List ℕ) (b : Bool) → text ≢ [] → get_or text 0 0 ≢ 46 → (IsTrue b ↔ Exponent hex text) → (IsTrue b ↔ Tail hex text)
-tail_no_dot hex [] b n d e = absurd (n refl)
-tail_no_dot hex (c ∷ t) b n d e = (λ h. power (e.0 h), λ h. e.1 (tail_power hex c t d h))
+no_tail : (hex : Bool) → Tail hex [] → ⊥
+no_tail hex (fraction h) = elim h [ ]
+no_tail hex (power h) = elim h [ ]
+no_tail hex (both h k) = elim h [ ]
+
+pub tail_no_dot : (hex : Bool) (text : List ℕ) (b : Bool) → (length text < 1) ⊎ (get_or text 0 0 ≢ 46) → (IsTrue b ↔ Exponent hex text) → (IsTrue b ↔ Tail hex text)
+tail_no_dot hex [] b d e = (λ h. power (e.0 h), λ h. absurd (no_tail hex h))
+tail_no_dot hex (c ∷ t) b (inl l) e = absurd (omega arith)
+tail_no_dot hex (c ∷ t) b (inr d) e = (λ h. power (e.0 h), λ h. e.1 (tail_power hex c t d h))
 
 -- behind a dot
 module _ (hex : Bool) (text behind : List ℕ) (n : text ≢ []) (d : get_or text 0 0 ≡ 46) (at : behind ≡ drop 1 text) where
@@ -58,9 +62,6 @@ module _ (hex : Bool) (text behind : List ℕ) (n : text ≢ []) (d : get_or tex
   pub tail_no_digits : behind ≢ [] → (Exponent hex behind → ⊥) → NoDigits hex behind → (Tail hex text → ⊥)
   tail_no_digits m x l h = behind_none hex behind m x l (subst (Tail hex) dotted h)
 
--- no equal bytes, and no front
-pub not_word : (s t word given : List ℕ) (b : Bool) → t ≡ s → given ≡ word → b ≡ pointwise eqb t given → b ≡ false → pointwise eqb word word ≡ true → s ≢ word
-not_word s t word given b q g e f h k = both_ways b f (e ∙ ap (λ x. pointwise eqb x given) (q ∙ k) ∙ ap (λ x. pointwise eqb word x) g ∙ h)
-
+-- no front
 pub not_front : (s t word given : List ℕ) → t ≡ s → given ≡ word → ((rest : List ℕ) → t ≢ given ++ rest) → (rest : List ℕ) → s ≢ word ++ rest
 not_front s t word given q g n rest e = n rest (q ∙ e ∙ ap (λ x. x ++ rest) (sym g))

@@ -48,10 +48,9 @@ IsRowValue n true last value = value ≡ Err (record { left = last; error = Lone
 IsRowValue n false last (Ok c) = (scalar n ≡ true) × (c ≡ n)
 IsRowValue n false last (Err broken) = (scalar n ≡ false) × (broken ≡ record { left = last; error = InvalidUnicodeValue n })
 
--- the fault that is there, else that of any other character than a brace
-abbrev pub Ends : ℕ → ℕ → Result ℕ Broken → Result EscapeValue Broken → Type 0
-Ends c left (Err broken) result = result ≡ Err broken
-Ends c left (Ok value) result = result ≡ (if c == close_brace then Ok (Scalar value) else Err (record { left = left; error = Expected close_brace c }))
+-- the character before a brace, else the fault of any other character
+abbrev pub Ends : ℕ → ℕ → ℕ → Result EscapeValue Broken → Type 0
+Ends c left value result = result ≡ (if c == close_brace then Ok (Scalar value) else Err (record { left = left; error = Expected close_brace c }))
 
 -- so many bytes are the elements of a string and its closing quote
 pub record StringTaken (flags : Settings) (text : List ℕ) (n : ℕ) : Type 0 where

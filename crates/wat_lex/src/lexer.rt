@@ -158,20 +158,11 @@ impl<'a> Lexer<'a> {
         ensures found { AnnotationAt self.now pos result }
         ensures reader { IfOk result (λ found. IfSome found (IsTokenOf self.now.text)) }
     {
-        let bytes = self.input().as_bytes();
-        if pos >= bytes.len() || bytes[pos] != b'@' {
+        if self.input().as_bytes().get(pos) != Some(&b'@') {
             return Ok(None);
         }
-        match self.parse(alloc, &mut { pos }) {
-            Ok(Some(token)) => {
-                if token.kind == TokenKind::Annotation {
-                    return Ok(Some(token));
-                }
-                Ok(None)
-            }
-            Ok(None) => Ok(None),
-            Err(error) => Err(error),
-        }
+        let token = self.parse(alloc, &mut { pos })?;
+        Ok(token.filter(|token| token.kind == TokenKind::Annotation))
     }
 
     ghost use Rattle.wat_lex.specs.Errors.{lexical, IsUnlessMemory};

@@ -1,7 +1,7 @@
 //! The words of numbers.
-ghost use Rattle.std.specs.Prelude.{◌≡◌, ◌≢◌, ◌↔◌, ◌++◌, ℕ, List, [], MatchOption, IfSome, IfNone, IsTrue};
+ghost use Rattle.std.specs.Prelude.{◌≡◌, ◌≢◌, ◌↔◌, ◌++◌, ℕ, List, [], MatchOption, IfSome, IfNone, IsTrue, codes};
 ghost use Rattle.wat_lex.specs.declared.lexer.kinds.TokenKind.{TokenKind};
-ghost use Rattle.wat_lex.specs.Numbers.{is_digit, is_exponent_letter, sign_of, unsigned, is_negative, has_underscores, Digits, Exponent, Tail, Number};
+ghost use Rattle.wat_lex.specs.Numbers.{is_digit, is_exponent_letter, sign_of, unsigned, is_negative, has_underscores, Digits, Exponent, Tail, Payload, Number};
 ghost use Rattle.wat_lex.specs.NumberReads.{LongestDigits, NoDigits, OnlyWhole, NoWhole};
 
 use crate::lexer::kinds::{FloatKind, IntegerKind, SignToken, TokenKind};
@@ -29,35 +29,26 @@ fn is_exponent_letter(b: u8, hex: bool) -> bool
 fn sign_of(word: &[u8]) -> Option<SignToken>
     ensures { result ≡ sign_of word.now }
 {
-    if word.is_empty() {
-        None
-    } else if word[0] == b'+' {
-        Some(SignToken::Plus)
-    } else if word[0] == b'-' {
-        Some(SignToken::Minus)
-    } else {
-        None
+    match word {
+        [b'+', ..] => Some(SignToken::Plus),
+        [b'-', ..] => Some(SignToken::Minus),
+        _ => None,
     }
 }
 
 pub fn is_negative(word: &[u8]) -> bool
     ensures { result ≡ is_negative word.now }
 {
-    if word.is_empty() {
-        false
-    } else {
-        word[0] == b'-'
-    }
+    matches!(word, [b'-', ..])
 }
 
 /// The word without its sign.
 pub fn unsigned(word: &[u8]) -> &[u8]
     ensures { result.now ≡ unsigned word.now }
 {
-    if !word.is_empty() && (word[0] == b'+' || word[0] == b'-') {
-        &word[1..]
-    } else {
-        word
+    match word {
+        [b'+' | b'-', rest @ ..] => rest,
+        _ => word,
     }
 }
 
@@ -105,23 +96,19 @@ fn is_digits(text: &[u8], hex: bool) -> bool
 fn is_exponent(text: &[u8], hex: bool) -> bool
     ensures { IsTrue result ↔ Exponent hex text.now }
 {
-    if text.is_empty() || !is_exponent_letter(text[0], hex) {
-        return false;
+    match text {
+        [first, rest @ ..] => is_exponent_letter(*first, hex) && is_digits(unsigned(rest), false),
+        [] => false,
     }
-    is_digits(unsigned(&text[1..]), false)
 }
 
 /// Whether a float's first digits can be followed so.
 fn is_tail(text: &[u8], hex: bool) -> bool
     ensures { IsTrue result ↔ Tail hex text.now }
 {
-    if text.is_empty() {
-        return false;
-    }
-    if text[0] != b'.' {
+    let [b'.', behind @ ..] = text else {
         return is_exponent(text, hex);
-    }
-    let behind = &text[1..];
+    };
     if behind.is_empty() || is_exponent(behind, hex) {
         return true;
     }
@@ -136,15 +123,35 @@ fn after_whole(text: &[u8]) -> Option<(bool, &[u8])>
     ensures { MatchOption result (NoWhole text.now) (λ f. OnlyWhole f.0 text.now f.1.now) }
 {
     if let Some(digits) = after(text, b"0x".as_slice()) {
-        return match after_digits(digits, true) {
-            Some(rest) => Some((true, rest)),
-            None => None,
-        };
+        return Some((true, after_digits(digits, true)?));
     }
-    match after_digits(text, false) {
-        Some(rest) => Some((false, rest)),
-        None => None,
+    Some((false, after_digits(text, false)?))
+}
+
+/// The kind of a number's word that is neither an infinity nor a NaN.
+fn digits_kind(word: &[u8]) -> Option<TokenKind>
+    requires infinity { unsigned word.now ≢ codes "inf" }
+    requires nan { unsigned word.now ≢ codes "nan" }
+    requires payload { Payload (unsigned word.now) → ⊥ }
+    ensures some { IfSome result (λ kind. Number word.now kind) }
+    ensures none { IfNone result ((kind : TokenKind) → Number word.now kind → ⊥) }
+{
+    let (hex, rest) = after_whole(unsigned(word))?;
+    let has_underscores = has_underscores(word);
+    if rest.is_empty() {
+        return Some(TokenKind::Integer(IntegerKind {
+            sign: sign_of(word),
+            has_underscores,
+            hex,
+        }));
     }
+    if !is_tail(rest, hex) {
+        return None;
+    }
+    Some(TokenKind::Float(FloatKind::Normal {
+        has_underscores,
+        hex,
+    }))
 }
 
 /// The kind of a number's word.
@@ -152,9 +159,7 @@ pub fn classify(word: &[u8]) -> Option<TokenKind>
     ensures some { IfSome result (λ kind. Number word.now kind) }
     ensures none { IfNone result ((kind : TokenKind) → Number word.now kind → ⊥) }
 {
-    let sign = sign_of(word);
     let negative = is_negative(word);
-    let has_underscores = has_underscores(word);
     let number = unsigned(word);
     if number == b"inf".as_slice() {
         return Some(TokenKind::Float(FloatKind::Inf { negative }));
@@ -162,32 +167,14 @@ pub fn classify(word: &[u8]) -> Option<TokenKind>
     if number == b"nan".as_slice() {
         return Some(TokenKind::Float(FloatKind::Nan { negative }));
     }
-    if let Some(payload) = after(number, b"nan:0x".as_slice()) {
-        if is_digits(payload, true) {
-            return Some(TokenKind::Float(FloatKind::NanVal {
-                negative,
-                has_underscores,
-            }));
-        }
+    let Some(payload) = after(number, b"nan:0x".as_slice()) else {
+        return digits_kind(word);
+    };
+    if !is_digits(payload, true) {
         return None;
     }
-    match after_whole(number) {
-        Some((hex, rest)) => {
-            if rest.is_empty() {
-                Some(TokenKind::Integer(IntegerKind {
-                    sign,
-                    has_underscores,
-                    hex,
-                }))
-            } else if is_tail(rest, hex) {
-                Some(TokenKind::Float(FloatKind::Normal {
-                    has_underscores,
-                    hex,
-                }))
-            } else {
-                None
-            }
-        }
-        None => None,
-    }
+    Some(TokenKind::Float(FloatKind::NanVal {
+        negative,
+        has_underscores: has_underscores(word),
+    }))
 }

@@ -1,5 +1,5 @@
 //! Runs of idchars and strings.
-ghost use Rattle.std.specs.Prelude.{◌≡◌, ◌<◌, true, length, slice_index, IfOk, IfErr};
+ghost use Rattle.std.specs.Prelude.{◌≡◌, ◌<◌, ◌+◌, ◌^◌, true, length, slice_index, IfOk, IfErr};
 ghost use Rattle.wat_lex.specs.Results.{Answers, Refused};
 ghost use Rattle.wat_lex.specs.RunReads.{RunFound, IsKindOfRun};
 ghost use Rattle.wat_lex.specs.Runs.{WordKind, kind_by_first, named_kind};
@@ -20,6 +20,17 @@ pub struct Pieces {
     pub strings: usize,
 }
 
+/// The fault, told so many bytes further on.
+fn further(fault: LexFault, by: usize) -> LexFault
+    requires { by + fault.offset < 2 ^ 64 }
+    ensures { result ≡ record { offset = by + fault.offset; error = fault.error } }
+{
+    LexFault {
+        offset: by + fault.offset,
+        error: fault.error,
+    }
+}
+
 /// The longest run at the front.
 fn run(text: &str, flags: Settings) -> Result<Pieces, LexFault>
     ensures ok { IfOk result (RunFound flags text.now) }
@@ -30,21 +41,15 @@ fn run(text: &str, flags: Settings) -> Result<Pieces, LexFault>
     let mut len = idchars;
     let mut strings = 0usize;
     while len < bytes.len() && bytes[len] == b'"' {
-        match string_len(&text[len + 1..], flags) {
-            Err(fault) => {
-                return Err(LexFault {
-                    offset: len + 1 + fault.offset,
-                    error: fault.error,
-                });
-            }
-            Ok(taken) => {
-                strings += 1;
-                len += 1 + taken;
-                let more = idchar_len(&bytes[len..]);
-                idchars += more;
-                len += more;
-            }
-        }
+        let taken = match string_len(&text[len + 1..], flags) {
+            Ok(taken) => taken,
+            Err(fault) => return Err(further(fault, len + 1)),
+        };
+        strings += 1;
+        len += 1 + taken;
+        let more = idchar_len(&bytes[len..]);
+        idchars += more;
+        len += more;
     }
     Ok(Pieces {
         len,
@@ -105,14 +110,10 @@ pub fn front_run(text: &str, flags: Settings) -> Result<Option<Lexeme>, LexFault
     requires first { is_run_char (slice_index text.now 0) ≡ true }
     ensures { Answers flags text.now result }
 {
-    match run(text, flags) {
-        Ok(found) => {
-            let word = &text.as_bytes()[..found.len];
-            Ok(Some(Lexeme {
-                kind: run_kind(word, found.idchars, found.strings),
-                len: found.len,
-            }))
-        }
-        Err(fault) => Err(fault),
-    }
+    let found = run(text, flags)?;
+    let word = &text.as_bytes()[..found.len];
+    Ok(Some(Lexeme {
+        kind: run_kind(word, found.idchars, found.strings),
+        len: found.len,
+    }))
 }

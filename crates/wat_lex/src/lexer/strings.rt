@@ -1,8 +1,9 @@
 //! Strings.
-ghost use Rattle.std.specs.Prelude.{◌≡◌, ◌<◌, ◌∷◌, [], true, IfErr, OnOk, IfOk};
+ghost use Rattle.std.specs.Prelude.{◌≡◌, ◌≤◌, ◌<◌, ◌+◌, ◌*◌, ◌^◌, ◌∷◌, [], true, IfErr, OnOk, IfOk};
 ghost use Rattle.std.specs.Str.{IsUtf8};
 ghost use Rattle.std.specs.Str.Iter.{chars_rest};
 ghost use Rattle.std.specs.Char.{digit_value};
+ghost use Rattle.wat_lex.specs.declared.lexer.faults.LexError.TheVariants.{NumberTooBig};
 ghost use Rattle.wat_lex.specs.Classes.{is_hex};
 ghost use Rattle.wat_lex.specs.Strings.{letter_value, is_control};
 ghost use Rattle.wat_lex.specs.Reads.{Escaped, escape_bytes, Breaks, Closed, Wrong, IsRowValue, Ends, StringTaken, StringRefused};
@@ -74,16 +75,14 @@ fn second(it: &mut Chars<'_>, first: char, flags: Settings) -> Result<EscapeValu
     ensures err { IfErr result (Breaks flags (92 ∷ first ∷ []) (chars_rest it.old)) }
 {
     let left = it.as_str().len();
-    match it.next() {
-        None => refuse(0, LexError::UnexpectedEof),
-        Some(c) => {
-            if is_hex(c) {
-                let value = 16 * hex_digit(first) + hex_digit(c);
-                return Ok(EscapeValue::Byte(value as u8));
-            }
-            refuse(left, LexError::InvalidHexDigit(c))
-        }
+    let Some(c) = it.next() else {
+        return refuse(0, LexError::UnexpectedEof);
+    };
+    if !is_hex(c) {
+        return refuse(left, LexError::InvalidHexDigit(c));
     }
+    let value = 16 * hex_digit(first) + hex_digit(c);
+    Ok(EscapeValue::Byte(value as u8))
 }
 
 /// The character of a number, from its digits and underscores by themselves, unless they end in an underscore.
@@ -99,23 +98,31 @@ fn row_value(n: u32, underscore: bool, last: usize) -> Result<char, Broken>
     }
 }
 
-/// What a character that is no digit and no underscore ends a number's digits with, whose value this is.
-fn ended(c: char, left: usize, value: Result<char, Broken>) -> Result<EscapeValue, Broken>
+/// The escape of a number's character, unless another character than a brace follows the digits.
+fn ended(c: char, left: usize, value: char) -> Result<EscapeValue, Broken>
     ensures { Ends c left value result }
 {
-    match value {
-        Err(fault) => Err(fault),
-        Ok(value) => {
-            if c == '}' {
-                return Ok(EscapeValue::Scalar(value));
-            }
-            let error = LexError::Expected {
-                wanted: '}',
-                found: c,
-            };
-            refuse(left, error)
-        }
+    if c != '}' {
+        let error = LexError::Expected {
+            wanted: '}',
+            found: c,
+        };
+        return refuse(left, error);
     }
+    Ok(EscapeValue::Scalar(value))
+}
+
+/// A number with one hexadecimal digit more, unless it takes more than 32 bits.
+fn with_digit(n: u32, digit: char, left: usize) -> Result<u32, Broken>
+    requires { is_hex digit ≡ true }
+    ensures ok { IfOk result (λ m. m ≡ n * 16 + digit_value digit) }
+    ensures err { IfErr result (λ broken. (2 ^ 32 ≤ n * 16 + digit_value digit) × (broken ≡ record { left = left; error = NumberTooBig })) }
+{
+    let wide = n as u64 * 16 + hex_digit(digit) as u64;
+    if wide >= 0x1_0000_0000 {
+        return refuse(left, LexError::NumberTooBig);
+    }
+    Ok(wide as u32)
 }
 
 /// What follows the first digit of a number behind `\u{`.
@@ -130,32 +137,20 @@ fn number(it: &mut Chars<'_>, first: char, flags: Settings) -> Result<EscapeValu
     let mut last = 0usize;
     'row: loop {
         let left = it.as_str().len();
-        match it.next() {
-            None => {
-                if let Err(fault) = row_value(n, underscore, last) {
-                    return Err(fault);
-                }
-                return refuse(0, LexError::UnexpectedEof);
-            }
-            Some(c) => {
-                if c == '_' {
-                    if flags.strict && underscore {
-                        return refuse(left, LexError::LoneUnderscore);
-                    }
-                    underscore = true;
-                } else if is_hex(c) {
-                    let wide = n as u64 * 16 + hex_digit(c) as u64;
-                    if wide >= 0x1_0000_0000 {
-                        return refuse(left, LexError::NumberTooBig);
-                    }
-                    n = wide as u32;
-                    underscore = false;
-                } else {
-                    return ended(c, left, row_value(n, underscore, last));
-                }
-                last = left;
-            }
+        let Some(c) = it.next() else {
+            row_value(n, underscore, last)?;
+            return refuse(0, LexError::UnexpectedEof);
+        };
+        if c == '_' && underscore && flags.strict {
+            return refuse(left, LexError::LoneUnderscore);
         }
+        if is_hex(c) {
+            n = with_digit(n, c, left)?;
+        } else if c != '_' {
+            return ended(c, left, row_value(n, underscore, last)?);
+        }
+        underscore = c == '_';
+        last = left;
     }
 }
 
@@ -166,15 +161,13 @@ fn digits(it: &mut Chars<'_>, flags: Settings) -> Result<EscapeValue, Broken>
     ensures err { IfErr result (Breaks flags (92 ∷ 117 ∷ 123 ∷ []) (chars_rest it.old)) }
 {
     let left = it.as_str().len();
-    match it.next() {
-        None => refuse(0, LexError::UnexpectedEof),
-        Some(c) => {
-            if is_hex(c) {
-                return number(it, c, flags);
-            }
-            refuse(left, LexError::InvalidHexDigit(c))
-        }
+    let Some(c) = it.next() else {
+        return refuse(0, LexError::UnexpectedEof);
+    };
+    if !is_hex(c) {
+        return refuse(left, LexError::InvalidHexDigit(c));
     }
+    number(it, c, flags)
 }
 
 /// What follows `\u`.
@@ -184,19 +177,17 @@ fn braced(it: &mut Chars<'_>, flags: Settings) -> Result<EscapeValue, Broken>
     ensures err { IfErr result (Breaks flags (92 ∷ 117 ∷ []) (chars_rest it.old)) }
 {
     let left = it.as_str().len();
-    match it.next() {
-        None => refuse(0, LexError::UnexpectedEof),
-        Some(c) => {
-            if c == '{' {
-                return digits(it, flags);
-            }
-            let error = LexError::Expected {
-                wanted: '{',
-                found: c,
-            };
-            refuse(left, error)
-        }
+    let Some(c) = it.next() else {
+        return refuse(0, LexError::UnexpectedEof);
+    };
+    if c != '{' {
+        let error = LexError::Expected {
+            wanted: '{',
+            found: c,
+        };
+        return refuse(left, error);
     }
+    digits(it, flags)
 }
 
 /// What follows a backslash.
@@ -206,21 +197,19 @@ pub fn escape(it: &mut Chars<'_>, flags: Settings) -> Result<EscapeValue, Broken
     ensures err { IfErr result (Breaks flags (92 ∷ []) (chars_rest it.old)) }
 {
     let left = it.as_str().len();
-    match it.next() {
-        None => refuse(0, LexError::UnexpectedEof),
-        Some(c) => {
-            if let Some(byte) = letter(c) {
-                return Ok(EscapeValue::Byte(byte));
-            }
-            if is_hex(c) {
-                return second(it, c, flags);
-            }
-            if c == 'u' {
-                return braced(it, flags);
-            }
-            refuse(left, LexError::InvalidStringEscape(c))
-        }
+    let Some(c) = it.next() else {
+        return refuse(0, LexError::UnexpectedEof);
+    };
+    if let Some(byte) = letter(c) {
+        return Ok(EscapeValue::Byte(byte));
     }
+    if is_hex(c) {
+        return second(it, c, flags);
+    }
+    if c != 'u' {
+        return refuse(left, LexError::InvalidStringEscape(c));
+    }
+    braced(it, flags)
 }
 
 /// What follows the opening quote of a string.
@@ -231,25 +220,18 @@ fn string(it: &mut Chars<'_>, flags: Settings) -> Result<(), Broken>
 {
     'elements: loop {
         let left = it.as_str().len();
-        match it.next() {
-            None => return refuse(0, LexError::UnexpectedEof),
-            Some(c) => {
-                if c == '"' {
-                    return Ok(());
-                }
-                if c == '\\' {
-                    if let Err(fault) = escape(it, flags) {
-                        return Err(fault);
-                    }
-                } else {
-                    if is_control(c) {
-                        return refuse(left, LexError::InvalidStringElement(c));
-                    }
-                    if !flags.allow && is_confusing(c) {
-                        return refuse(left, LexError::ConfusingUnicode(c));
-                    }
-                }
-            }
+        let Some(c) = it.next() else {
+            return refuse(0, LexError::UnexpectedEof);
+        };
+        if c == '"' {
+            return Ok(());
+        }
+        if c == '\\' {
+            escape(it, flags)?;
+        } else if is_control(c) {
+            return refuse(left, LexError::InvalidStringElement(c));
+        } else if !flags.allow && is_confusing(c) {
+            return refuse(left, LexError::ConfusingUnicode(c));
         }
     }
 }

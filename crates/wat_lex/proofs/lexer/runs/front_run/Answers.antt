@@ -6,7 +6,7 @@ use Rattle.wat_lex.proofs.lexer.runs.front_run.Goals as goal
 front_is : (text bs : List ℕ) (n : ℕ) → bs ≡ text → take n bs ≡ take n text
 front_is text bs n e = ap (take n) e
 
-pub returns-in-Ok : goal.returns-in-Ok
-returns-in-Ok c =
-    found_run c.args.flags c.args.text.now c.in-Ok.found c.run_kind.result c.utf8.text c.requires.some c.requires.first c.in-Ok.ensures.ok
-    (subst (λ x. IsKindOfRun x c.in-Ok.found.idchars c.in-Ok.found.strings c.run_kind.result) (front_is c.args.text.now c.as_bytes.result.now c.in-Ok.found.len c.as_bytes.ensures.value) c.run_kind.ensures)
+pub returns : goal.returns
+returns c =
+    found_run c.args.flags c.args.text.now c.in_ok-found.found c.run_kind.result c.utf8.text c.requires.some c.requires.first c.in_ok-found.ensures.ok
+    (subst (λ x. IsKindOfRun x c.in_ok-found.found.idchars c.in_ok-found.found.strings c.run_kind.result) (front_is c.args.text.now c.as_bytes.result.now c.in_ok-found.found.len c.as_bytes.ensures.value) c.run_kind.ensures)

@@ -30,8 +30,9 @@ range_from-requires c = λ _.
 pub returns-in-Err-clause-err : goal.returns-in-Err-clause-err
 returns-in-Err-clause-err c =
     let q = quote (goal.at.returns-in-Err-clause-err c).Then-bytes-len-eq34 in
-    joined_wrong c.args.flags c.args.text.now c.loop-len.len c.loop-len.idchars c.loop-len.strings c.in-Err.fault c.loop-len.invariant q.inside q.byte
-    (subst (λ x. StringRefused c.args.flags x c.in-Err.fault) c.range_from.ensures.value c.in-Err.ensures.err)
+    rw c.further.ensures
+    (joined_wrong c.args.flags c.args.text.now c.loop-len.len c.loop-len.idchars c.loop-len.strings c.in-Err.fault c.loop-len.invariant q.inside q.byte
+    (subst (λ x. StringRefused c.args.flags x c.in-Err.fault) c.range_from.ensures.value c.in-Err.ensures.err))
 
 rest_is : (text bs : List ℕ) (n : ℕ) → bs ≡ text → take (length bs - n) (drop n bs) ≡ drop n text
 rest_is text bs n e = take_rest bs n ∙ ap (drop n) e
@@ -46,8 +47,8 @@ longer c =
 pub overflow_add-idchars : goal.overflow_add-idchars
 overflow_add-idchars c = let j = longer c in omega (arith, j.range, j.bound, c.as_bytes-bytes.type_inv.0, ap length c.as_bytes-bytes.ensures.value)
 
-pub overflow_add-len-in-Ok-3 : goal.overflow_add-len-in-Ok-3
-overflow_add-len-in-Ok-3 c = let j = longer c in omega (arith, j.range, c.as_bytes-bytes.type_inv.0, ap length c.as_bytes-bytes.ensures.value)
+pub overflow_add-len-in-loop-len-3 : goal.overflow_add-len-in-loop-len-3
+overflow_add-len-in-loop-len-3 c = let j = longer c in omega (arith, j.range, c.as_bytes-bytes.type_inv.0, ap length c.as_bytes-bytes.ensures.value)
 
 pub loop-len-preserved : goal.loop-len-preserved
 loop-len-preserved c = longer c

@@ -14,14 +14,14 @@ was c e = subst (λ x. Took (chars_rest c.args.it.now) x (chars_rest c.next.new.
 pub digits-requires : goal.digits-requires
 digits-requires c = let t = first (goal.at.digits-requires c).In-Some in record { utf8 = t.utf8 }
 
-pub returns-then-c-eq123-clause-ok : goal.returns-then-c-eq123-clause-ok
-returns-then-c-eq123-clause-ok c = if_ok c.digits.result _ _ (λ e. escaped_on _ (92 ∷ 117 ∷ []) (chars_rest c.args.it.now) (chars_rest c.next.new.self) (chars_rest c.digits.new.it) (escape_bytes e) 123 (was (goal.at.returns-then-c-eq123-clause-ok c).In-Some c.if-c-eq123.true)) c.digits.ensures.ok
+pub returns-clause-ok : goal.returns-clause-ok
+returns-clause-ok c = if_ok c.digits.result _ _ (λ e. escaped_on _ (92 ∷ 117 ∷ []) (chars_rest c.args.it.now) (chars_rest c.next.new.self) (chars_rest c.digits.new.it) (escape_bytes e) 123 (was (goal.at.returns-clause-ok c).In-Some c.if-c-ne123.false)) c.digits.ensures.ok
 
-pub returns-then-c-eq123-clause-err : goal.returns-then-c-eq123-clause-err
-returns-then-c-eq123-clause-err c = if_err c.digits.result _ _ (λ f. breaks_on _ (92 ∷ 117 ∷ []) (chars_rest c.args.it.now) (chars_rest c.next.new.self) 123 f (was (goal.at.returns-then-c-eq123-clause-err c).In-Some c.if-c-eq123.true)) c.digits.ensures.err
+pub returns-clause-err : goal.returns-clause-err
+returns-clause-err c = if_err c.digits.result _ _ (λ f. breaks_on _ (92 ∷ 117 ∷ []) (chars_rest c.args.it.now) (chars_rest c.next.new.self) 123 f (was (goal.at.returns-clause-err c).In-Some c.if-c-ne123.false)) c.digits.ensures.err
 
-pub returns-in-None-clause-err : goal.returns-in-None-clause-err
-returns-in-None-clause-err c = refused _ _ _ c.refuse.ensures (open_missing _ _ c.in-None.ensures.steps.0.0)
+pub returns-in_default-clause-err : goal.returns-in_default-clause-err
+returns-in_default-clause-err c = refused _ _ _ c.refuse.ensures (open_missing _ _ c.in_default.ensures.steps.0.0)
 
-pub returns-else-c-eq123-clause-err : goal.returns-else-c-eq123-clause-err
-returns-else-c-eq123-clause-err c = refused _ _ _ c.refuse-in-Some.ensures (open_wrong _ _ _ c.in-Some.c _ (first (goal.at.returns-else-c-eq123-clause-err c).In-Some) (ap length c.as_str-left.ensures) c.if-c-eq123.false)
+pub returns-then-c-ne123-clause-err : goal.returns-then-c-ne123-clause-err
+returns-then-c-ne123-clause-err c = refused _ _ _ c.refuse-then-c-ne123.ensures (open_wrong _ _ _ c.in-Some.c _ (first (goal.at.returns-then-c-ne123-clause-err c).In-Some) (ap length c.as_str-left.ensures) c.if-c-ne123.true)

@@ -26,14 +26,14 @@ returns-then-is_hex-clause-err c = if_err c.second.result _ _ (λ f. breaks_on _
 pub braced-requires : goal.braced-requires
 braced-requires c = let t = first (goal.at.braced-requires c).In-Some in record { utf8 = t.utf8 }
 
-pub returns-then-c-eq117-clause-ok : goal.returns-then-c-eq117-clause-ok
-returns-then-c-eq117-clause-ok c = if_ok c.braced.result _ _ (λ e. escaped_on _ (92 ∷ []) (chars_rest c.args.it.now) (chars_rest c.next.new.self) (chars_rest c.braced.new.it) (escape_bytes e) 117 (was (goal.at.returns-then-c-eq117-clause-ok c).In-Some c.if-c-eq117.true)) c.braced.ensures.ok
+pub returns-clause-ok : goal.returns-clause-ok
+returns-clause-ok c = if_ok c.braced.result _ _ (λ e. escaped_on _ (92 ∷ []) (chars_rest c.args.it.now) (chars_rest c.next.new.self) (chars_rest c.braced.new.it) (escape_bytes e) 117 (was (goal.at.returns-clause-ok c).In-Some c.if-c-ne117.false)) c.braced.ensures.ok
 
-pub returns-then-c-eq117-clause-err : goal.returns-then-c-eq117-clause-err
-returns-then-c-eq117-clause-err c = if_err c.braced.result _ _ (λ f. breaks_on _ (92 ∷ []) (chars_rest c.args.it.now) (chars_rest c.next.new.self) 117 f (was (goal.at.returns-then-c-eq117-clause-err c).In-Some c.if-c-eq117.true)) c.braced.ensures.err
+pub returns-clause-err : goal.returns-clause-err
+returns-clause-err c = if_err c.braced.result _ _ (λ f. breaks_on _ (92 ∷ []) (chars_rest c.args.it.now) (chars_rest c.next.new.self) 117 f (was (goal.at.returns-clause-err c).In-Some c.if-c-ne117.false)) c.braced.ensures.err
 
-pub returns-in-None-clause-err : goal.returns-in-None-clause-err
-returns-in-None-clause-err c = refused _ _ _ c.refuse.ensures (escape_missing _ _ c.in-None.ensures.steps.0.0)
+pub returns-in_default-clause-err : goal.returns-in_default-clause-err
+returns-in_default-clause-err c = refused _ _ _ c.refuse.ensures (escape_missing _ _ c.in_default.ensures.steps.0.0)
 
-pub returns-else-c-eq117-clause-err : goal.returns-else-c-eq117-clause-err
-returns-else-c-eq117-clause-err c = refused _ _ _ c.refuse-in-Some.ensures (escape_wrong _ _ _ c.in-Some.c _ (first (goal.at.returns-else-c-eq117-clause-err c).In-Some) (ap length c.as_str-left.ensures) (sym c.in_default.ensures) (sym c.is_hex.ensures ∙ c.if-is_hex.false) c.if-c-eq117.false)
+pub returns-then-c-ne117-clause-err : goal.returns-then-c-ne117-clause-err
+returns-then-c-ne117-clause-err c = refused _ _ _ c.refuse-then-c-ne117.ensures (escape_wrong _ _ _ c.in-Some.c _ (first (goal.at.returns-then-c-ne117-clause-err c).In-Some) (ap length c.as_str-left.ensures) (sym c.in_default-letter.ensures) (sym c.is_hex.ensures ∙ c.if-is_hex.false) c.if-c-ne117.true)

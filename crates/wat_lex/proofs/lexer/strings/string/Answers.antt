@@ -4,6 +4,7 @@ use Rattle.std.proofs.lemmas.Str.{length-encode, len_utf8_bounds}
 use lib.Utf8.{encode}
 use Rattle.wat_lex.proofs.Elements.{Took, took, refused, string_unclosed, string_closed, string_control, string_confusing, string_escape, continue_raw, continue_escape}
 use Rattle.std.proofs.lemmas.Bool.{both_ways}
+use Rattle.std.proofs.lemmas.Result.{err_from_is_err_and}
 use Rattle.wat_lex.proofs.lexer.strings.string.Goals as goal
 use Rattle.wat_lex.proofs.lexer.strings.string.Goals.{In-Some, else-not-flags-via-then-not-flags+else-is_confusing, else-not-flags-via-else-not-flags}
 
@@ -24,8 +25,8 @@ allowed : (b : Bool) → not b ≡ false → b ≡ true
 allowed true e = sym (ap not e)
 allowed false e = sym e
 
-pub returns-in-None-clause-err : goal.returns-in-None-clause-err
-returns-in-None-clause-err c = refused _ _ _ c.refuse.ensures (string_unclosed c.args.flags _ _ c.elements.invariant c.in-None.ensures.steps.0.0)
+pub returns-in_default-clause-err : goal.returns-in_default-clause-err
+returns-in_default-clause-err c = refused _ _ _ c.refuse.ensures (string_unclosed c.args.flags _ _ c.elements.invariant c.in_default.ensures.steps.0.0)
 
 pub returns-then-c-eq34-clause-ok : goal.returns-then-c-eq34-clause-ok
 returns-then-c-eq34-clause-ok c =
@@ -49,8 +50,10 @@ elements-preserved c =
     continue_raw c.args.flags _ _ _ c.in-Some.c c.elements.invariant (first (goal.at.elements-preserved c).In-Some) c.if-c-eq34.false c.if-c-eq92.false (sym c.is_control.ensures ∙ c.if-is_control.false)
     (λ a. elim c.else-not-flags.branch [ else-not-flags-via-then-not-flags+else-is_confusing w ↦ sym w.is_confusing.ensures ∙ w.if-is_confusing.false | else-not-flags-via-else-not-flags w ↦ absurd (both_ways c.args.flags.allow a (allowed _ w.if-not-flags.false)) ])
 
-pub returns-in-Err-clause-err : goal.returns-in-Err-clause-err
-returns-in-Err-clause-err c = string_escape c.args.flags _ (chars_rest c.elements.it) (chars_rest c.next.new.self) _ c.elements.invariant (was 92 (goal.at.returns-in-Err-clause-err c).In-Some c.if-c-eq92.true) c.in-Err.ensures.err
+pub returns-in_err-escape-clause-err : goal.returns-in_err-escape-clause-err
+returns-in_err-escape-clause-err c =
+    let p = err_from_is_err_and c.from_residual.result c.from_residual.ensures.1 in
+    rw (p.1, p.2) (string_escape c.args.flags _ (chars_rest c.elements.it) (chars_rest c.next.new.self) _ c.elements.invariant (was 92 (goal.at.returns-in_err-escape-clause-err c).In-Some c.if-c-eq92.true) c.in_err-escape.ensures.err)
 
-pub elements-preserved-in_default : goal.elements-preserved-in_default
-elements-preserved-in_default c = continue_escape c.args.flags _ (chars_rest c.elements.it) (chars_rest c.next.new.self) _ _ c.elements.invariant (was 92 (goal.at.elements-preserved-in_default c).In-Some c.if-c-eq92.true) c.in_default.ensures.ok
+pub elements-preserved-in_ok-escape : goal.elements-preserved-in_ok-escape
+elements-preserved-in_ok-escape c = continue_escape c.args.flags _ (chars_rest c.elements.it) (chars_rest c.next.new.self) _ _ c.elements.invariant (was 92 (goal.at.elements-preserved-in_ok-escape c).In-Some c.if-c-eq92.true) c.in_ok-escape.ensures.ok
