@@ -17,7 +17,7 @@ use Rattle.wat_lex.specs.declared.lexer.kinds.TokenKind.{TokenKind}
 use Rattle.wat_lex.specs.declared.lexer.kinds.TokenKind.TheVariants.{LineComment, BlockComment, Whitespace, LParen, RParen, String, Id, Keyword, Annotation, Reserved, Integer, Float}
 use Rattle.wat_lex.specs.declared.lexer.faults.LexFault.{LexFault}
 use Rattle.wat_lex.proofs.Checks.{halves}
-use Rattle.wat_lex.proofs.Laws.{behind}
+use Rattle.wat_lex.proofs.RawLaws.{behind}
 use Rattle.wat_lex.proofs.OneTilings.{token_one, no_token_left, no_fault_left, ending_no_token}
 
 -- what may follow is said of the first character behind the word

@@ -18,7 +18,7 @@ mod Scans
 mod Raws
 mod Looser
 mod TokensOf
-mod Laws
+mod RawLaws
 mod Leb128Laws
 mod NumberValues
 mod NumberParts
@@ -45,3 +45,5 @@ mod OneReading
 mod SomeReading
 mod Positions
 mod Rendering
+mod WordValues
+mod EverySetting

@@ -16,7 +16,7 @@ use Rattle.wat_lex.specs.declared.lexer.faults.LexError.{LexError}
 use Rattle.wat_lex.specs.declared.lexer.faults.LexFault.{LexFault}
 use Rattle.wat_lex.proofs.Confusing.{size-append}
 use Rattle.wat_lex.proofs.Cuts.{run_taken, string_fault_fits}
-use Rattle.wat_lex.proofs.Laws.{behind}
+use Rattle.wat_lex.proofs.RawLaws.{behind}
 
 -- a fault is told inside the text
 pub fault_fits : (flags : Settings) (s : List ℕ) (e : LexError) (at : List ℕ) → Fault flags s e at → size at ≤ size s

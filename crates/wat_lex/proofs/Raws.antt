@@ -24,12 +24,12 @@ tiled_by s (Ok t ∷ items) p q r l d h e =
     let j = h.0 in
     let step = h.1 in
     let at : TokenAt s p.at t = subst (λ x. TokenAt x p.at t) l step.1.1.0 in
-    let rest = tiled_by s items j q r (step.0 ∙ l) step.1.1.2 h.2 e in
+    let rest = tiled_by s items j q r (step.0 ∙ l) step.1.1.3 h.2 e in
     let to = rest.tiling.to in
     record {
       tokens = t ∷ rest.tokens;
       ending = rest.ending;
-      tiling = record { to = to; tiling = (at, subst (λ x. Tiling s x to rest.tokens) step.1.1.1 rest.tiling.tiling); ends = rest.tiling.ends };
+      tiling = record { to = to; tiling = (at, subst (λ x. Tiling s x to rest.tokens) step.1.1.2 rest.tiling.tiling); ends = rest.tiling.ends };
       spelled = (items, refl, rest.spelled);
     }
 tiled_by s (Err f ∷ items) p q r l d h e =

@@ -25,7 +25,7 @@ use Rattle.wat_lex.proofs.TokensOf.{token_word}
 
 -- ---- strings
 
-value_of : (kind : TokenKind) (w : List ℕ) → kind ≡ String → Word kind w lenient → SomeValue w
+pub value_of : (kind : TokenKind) (w : List ℕ) → kind ≡ String → Word kind w lenient → SomeValue w
 value_of kind w e h =
     let s = string_word kind w e h in
     let q = s.2 in
@@ -44,7 +44,7 @@ name_with empty w (c ∷ s) h = by (is_utf8 (c ∷ s)) refl
     by true e = good h (IsUtf8-from_is_utf8 (c ∷ s) e) (λ n. cc)
     by false e = fault (not_utf8 h (λ u. both_ways (is_utf8 (c ∷ s)) e (is_utf8-from_IsUtf8 (c ∷ s) u)))
 
-name_of : (empty : LexError) (kind : TokenKind) (w : List ℕ) → (kind ≡ Id) ⊎ (kind ≡ Annotation) → Word kind w lenient → SomeName empty w
+pub name_of : (empty : LexError) (kind : TokenKind) (w : List ℕ) → (kind ≡ Id) ⊎ (kind ≡ Annotation) → Word kind w lenient → SomeName empty w
 name_of empty kind w e h =
     let n = name_word kind w e h in
     name_with empty w n.named.0 (subst (λ x. Name x n.named.0) (sym n.cut) n.named.1)

@@ -10,7 +10,7 @@ use Rattle.wat_lex.specs.Tiling.{TokenAt}
 use Rattle.wat_lex.specs.Unique.{SomeTiling}
 use Rattle.wat_lex.specs.declared.lexer.kinds.Token.{Token}
 use Rattle.wat_lex.specs.declared.lexer.faults.LexFault.{LexFault}
-use Rattle.wat_lex.proofs.Laws.{behind, token_some}
+use Rattle.wat_lex.proofs.RawLaws.{behind, token_some}
 use Rattle.wat_lex.proofs.MovedTexts.{fault_fits}
 use Rattle.wat_lex.proofs.SomeAnswer.{SomeAnswer, nothing, word, fault, some_answer}
 

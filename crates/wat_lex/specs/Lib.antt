@@ -31,3 +31,5 @@ pub mod Identifiers
 pub mod IndexLaws
 pub mod Indices
 pub mod Leb128
+pub mod WordValues
+pub mod EverySetting

@@ -9,6 +9,7 @@ use Rattle.std.specs.declared.borrow.CowStr.{CowStr}
 use Rattle.wat_lex.specs.Classes.{underscore, minus, dot}
 use Rattle.wat_lex.specs.Numbers.{unsigned, is_negative, is_exponent_letter, Digits, Whole}
 use Rattle.wat_lex.specs.declared.lexer.kinds.IntegerKind.{IntegerKind}
+use Rattle.wat_lex.specs.declared.lexer.kinds.SignToken.{SignToken}
 use Rattle.wat_lex.specs.declared.lexer.kinds.FloatKind.{FloatKind}
 use Rattle.wat_lex.specs.declared.lexer.kinds.FloatKind.TheVariants as kind
 use Rattle.wat_lex.specs.declared.lexer.number_values.Integer.{Integer}
@@ -74,16 +75,30 @@ IsOptionalText anew None None = Unit {0}
 IsOptionalText anew (Some digits) (Some text) = IsText anew digits text
 IsOptionalText anew digits text = ⊥
 
+-- whether reading an integer writes its digits anew, which have underscores or stand behind `0x`
+abbrev pub is_integer_rewritten : IntegerKind → Bool
+is_integer_rewritten kind = kind.hex || kind.has_underscores
+
+-- what callers see of an integer: its sign, its digits behind a `-` where it is negative, and their base
+abbrev pub integer_sign : Integer → Option SignToken
+integer_sign integer = integer.sign
+
+abbrev pub integer_digits : Integer → List ℕ
+integer_digits integer = cow_str_bytes integer.digits
+
+abbrev pub integer_base : Integer → ℕ
+integer_base integer = base integer.hex
+
 -- Its digits are borrowed where it has neither underscores nor `0x`, and else written anew.
 pub record IsIntegerOf (kind : IntegerKind) (word : List ℕ) (integer : Integer) : Type 0 where
   pub sign : integer.sign ≡ kind.sign
-  pub digits : IsText (kind.hex || kind.has_underscores) (number_text kind.hex word) integer.digits
+  pub digits : IsText (is_integer_rewritten kind) (number_text kind.hex word) integer.digits
   pub hex : integer.hex ≡ kind.hex
 
 -- Its digits are a numeral in its base, which denotes what the word does, the sign of both left out.
 pub record IsNumeralOf (kind : IntegerKind) (word : List ℕ) (integer : Integer) : Type 0 where
-  pub numeral : IsNumeral (base integer.hex) (without_leading_sign (cow_str_bytes integer.digits))
-  pub value : digits_value (base integer.hex) (without_leading_sign (cow_str_bytes integer.digits)) ≡ integer_value kind.hex word
+  pub numeral : IsNumeral (integer_base integer) (without_leading_sign (integer_digits integer))
+  pub value : digits_value (integer_base integer) (without_leading_sign (integer_digits integer)) ≡ integer_value kind.hex word
 
 -- Where the word has underscores each part is written anew, where it is hexadecimal the first digits are.
 pub record IsDecimalsOf {Z : Type 0} (hex underscores : Bool) (word : List ℕ) (integral : CowStr Z) (fractional exponent : Option (CowStr Z)) : Type 0 where
@@ -103,8 +118,8 @@ IsFloatOf (kind.Normal underscores hex) w (value.Val h integral fractional expon
 IsFloatOf kind w float = ⊥
 
 -- whether reading a float writes a text anew
-abbrev pub is_anew : FloatKind → Bool
-is_anew (kind.Inf n) = false
-is_anew (kind.Nan n) = false
-is_anew (kind.NanVal n underscores) = underscores
-is_anew (kind.Normal underscores hex) = hex || underscores
+abbrev pub is_float_rewritten : FloatKind → Bool
+is_float_rewritten (kind.Inf n) = false
+is_float_rewritten (kind.Nan n) = false
+is_float_rewritten (kind.NanVal n underscores) = underscores
+is_float_rewritten (kind.Normal underscores hex) = hex || underscores

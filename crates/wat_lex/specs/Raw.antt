@@ -3,6 +3,7 @@
 use Rattle.std.specs.Prelude.{◌≡◌, ◌+◌, ◌-◌, ◌⊎◌, ℕ, Bool, true, false, length, List, [], ◌∷◌, Option, Some, None, MatchOption, Result, Ok, Err, MatchResult, if◌then◌else◌}
 use Rattle.wat_lex.specs.Errors.{Report, lexical, IsUnlessMemory}
 use Rattle.wat_lex.specs.Faults.{FaultAt}
+use Rattle.wat_lex.specs.Readers.{IsTokenOf}
 use Rattle.wat_lex.specs.Setting.{Setting}
 use Rattle.wat_lex.specs.Tiling.{TokenAt, MaximalTiling}
 use Rattle.wat_lex.specs.declared.lexer.kinds.Token.{Token}
@@ -37,12 +38,12 @@ pub record Progress : Type 0 where
   pub at : ℕ
   pub done : Bool
 
--- what one call gives, and where it leaves the iterator
+-- what one call gives, a token that may be read or an error, and where it leaves the iterator
 abbrev pub Gives : Progress → Option Item → Progress → Type 0
 Gives p r q = MatchOption r
     (((p.done ≡ true) ⊎ (p.at ≡ length p.setting.text)) × (q.done ≡ true))
     (λ item. (p.done ≡ false) × MatchResult item
-    (λ t. TokenAt p.setting p.at t × (q.at ≡ t.offset + t.len) × (q.done ≡ false))
+    (λ t. TokenAt p.setting p.at t × IsTokenOf p.setting.text t × (q.at ≡ t.offset + t.len) × (q.done ≡ false))
     (λ e. ErrorAt p.setting p.at e × (q.done ≡ true)))
 
 abbrev pub token_steps : Progress → Option Item → Progress → Type 0

@@ -8,7 +8,7 @@ ghost use Rattle.wat_lex.specs.Rendering.{rendered};
 
 use crate::lexer::LexError;
 use crate::token::Span;
-use std::alloc::{AllocError, Global};
+use std::alloc::{AllocError, AllocFailed, Global};
 use std::fmt;
 use std::marker::Model;
 
@@ -157,6 +157,14 @@ impl From<AllocError> for Error {
     ghost from_gives = { λ _ e. e ≡ None };
 
     fn from(_e: AllocError) -> Error {
+        Error::out_of_memory()
+    }
+}
+
+impl<T: Drop> From<AllocFailed<T>> for Error {
+    ghost from_gives = { λ _ e. e ≡ None };
+
+    fn from(_e: AllocFailed<T>) -> Error {
         Error::out_of_memory()
     }
 }

@@ -5,5 +5,6 @@
 pub mod encode;
 pub mod error;
 pub mod gensym;
+pub mod laws;
 pub mod lexer;
 pub mod token;

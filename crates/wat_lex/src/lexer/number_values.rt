@@ -4,7 +4,7 @@ ghost use Rattle.std.specs.Option.{option_map};
 ghost use Rattle.std.specs.Cow.{cow_str_bytes};
 ghost use Rattle.std.specs.Str.{IsAscii};
 ghost use Rattle.wat_lex.specs.Numbers.{unsigned, has_underscores, Number, Whole, Tail, Decimals, Payload};
-ghost use Rattle.wat_lex.specs.NumberValues.{joined, behind_prefix, number_text, base, payload_text, is_anew, Point, Power, IsText, IsOptionalText, IsIntegerOf, IsDecimalsOf, IsFloatOf};
+ghost use Rattle.wat_lex.specs.NumberValues.{joined, behind_prefix, number_text, payload_text, is_integer_rewritten, is_float_rewritten, integer_sign, integer_digits, integer_base, Point, Power, IsText, IsOptionalText, IsIntegerOf, IsDecimalsOf, IsFloatOf};
 ghost use Rattle.wat_lex.specs.NumberReads.{without_plus, EndsFloat};
 ghost use Rattle.wat_lex.specs.declared.lexer.kinds.TokenKind.TheVariants as token_kind;
 ghost use Rattle.wat_lex.specs.declared.lexer.kinds.FloatKind.TheVariants.{Normal};
@@ -25,15 +25,15 @@ pub struct Integer<'a> {
 impl<'a> Integer<'a> {
     /// The sign that stands before the digits.
     pub fn sign(&self) -> Option<SignToken>
-        ensures { result ≡ self.now.sign }
+        ensures { result ≡ integer_sign self.now }
     {
         self.sign
     }
 
     /// The digits, behind a `-` where the integer is negative, and their base.
     pub fn val(&self) -> (&str, u32)
-        ensures digits { result.0.now ≡ cow_str_bytes self.now.digits }
-        ensures base { result.1 ≡ base self.now.hex }
+        ensures digits { result.0.now ≡ integer_digits self.now }
+        ensures base { result.1 ≡ integer_base self.now }
     {
         let base = if self.hex { 16 } else { 10 };
         (self.digits.as_str(), base)
@@ -47,7 +47,7 @@ impl<'a> Integer<'a> {
         requires ascii { IsAscii word.now }
         requires number { Number word.now (token_kind.Integer kind) }
         ensures value { IfOk result (IsIntegerOf kind word.now) }
-        ensures free { (kind.hex || kind.has_underscores) ≡ false → IsOk result }
+        ensures free { is_integer_rewritten kind ≡ false → IsOk result }
     {
         let digits = number_text(alloc, word, kind.hex, kind.has_underscores)?;
         Ok(Integer {
@@ -95,7 +95,7 @@ impl<'a> Float<'a> {
         requires ascii { IsAscii word.now }
         requires number { Number word.now (token_kind.Float kind) }
         ensures value { IfOk result (IsFloatOf kind word.now) }
-        ensures free { is_anew kind ≡ false → IsOk result }
+        ensures free { is_float_rewritten kind ≡ false → IsOk result }
     {
         match kind {
             FloatKind::Inf { negative } => Ok(Float::Inf { negative }),

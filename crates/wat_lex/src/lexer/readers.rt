@@ -1,14 +1,15 @@
 //! What the tokens of a text read as.
-ghost use Rattle.std.specs.Prelude.{◌≡◌, ◌≢◌, ◌⊎◌, ◌↔◌, ◌||◌, [], false, IfOk, IfErr, IsOk};
+ghost use Rattle.std.specs.Prelude.{◌≡◌, ◌≢◌, ◌⊎◌, ◌↔◌, [], Ok, false, IfOk, IfErr, IsOk};
 ghost use Rattle.std.specs.Cow.{cow_str_bytes, cow_slice_items, IsBorrowedSlice, IsBorrowedStr};
-ghost use Rattle.std.specs.Str.{chars};
+ghost use Rattle.std.specs.Str.{chars, IsUtf8};
 ghost use Rattle.wat_lex.specs.Classes.{backslash};
-ghost use Rattle.wat_lex.specs.Names.{Name, NameError, HasNone, HasNoEscape};
-ghost use Rattle.wat_lex.specs.NumberValues.{is_anew, IsFloatOf, IsIntegerOf, IsNumeralOf};
+ghost use Rattle.wat_lex.specs.Names.{Name, NameFault, NameError, HasNone, HasNoEscape};
+ghost use Rattle.wat_lex.specs.NumberValues.{is_integer_rewritten, is_float_rewritten, IsFloatOf, IsIntegerOf, IsNumeralOf};
 ghost use Rattle.wat_lex.specs.OneReading.{SomeValue, OneValue, SomeName, OneName, SomeCut, OneCut};
-ghost use Rattle.wat_lex.specs.Readers.{IsTokenOf, token_text};
+ghost use Rattle.wat_lex.specs.Readers.{IsTokenOf, token_text, word_of};
 ghost use Rattle.wat_lex.specs.Setting.{lenient};
 ghost use Rattle.wat_lex.specs.Strings.{StringWord};
+ghost use Rattle.wat_lex.specs.WordValues.{string_value, name_value, name_answer, empty_name};
 ghost use Rattle.wat_lex.specs.Words.{Word};
 ghost use Rattle.wat_lex.specs.declared.lexer.faults.LexError.TheVariants.{EmptyId, EmptyAnnotation};
 ghost use Rattle.wat_lex.specs.declared.lexer.kinds.TokenKind.TheVariants.{String, Id, Keyword, Annotation, Reserved};
@@ -16,10 +17,20 @@ ghost use Rattle.wat_lex.specs.declared.lexer.kinds.TokenKind.TheVariants as tok
 
 use crate::error::Error;
 use crate::lexer::values::{name, plain, unescaped};
-use crate::lexer::{Float, FloatKind, Integer, IntegerKind, LexError, Token};
+use crate::lexer::{Float, FloatKind, Integer, IntegerKind, LexError, Token, TokenKind};
 use crate::token::Span;
 use std::alloc::{AllocError, Global};
 use std::borrow::{CowSlice, CowStr};
+
+/// What is wrong with an empty name, by the kind of its token.
+fn empty_name(kind: TokenKind) -> LexError
+    ensures { result ≡ empty_name kind }
+{
+    match kind {
+        TokenKind::Annotation => LexError::EmptyAnnotation,
+        _ => LexError::EmptyId,
+    }
+}
 
 impl Token {
     /// The token's text, which is a word of its kind.
@@ -55,11 +66,13 @@ impl Token {
     pub fn string<'a>(&self, alloc: Global, s: &'a str) -> Result<CowSlice<'a, u8>, AllocError>
         requires token { IsTokenOf s.now self.now }
         requires kind { self.now.kind ≡ String }
-        ensures value { IfOk result (λ v. StringWord lenient (chars (token_text s.now self.now)) (cow_slice_items v)) }
-        ensures some { SomeValue (chars (token_text s.now self.now)) }
-        ensures one { OneValue (chars (token_text s.now self.now)) }
-        ensures borrowed { IfOk result (λ v. IsBorrowedSlice v ↔ HasNone backslash (chars (token_text s.now self.now))) }
-        ensures free { HasNone backslash (chars (token_text s.now self.now)) → IsOk result }
+        ensures elements { IfOk result (λ v. StringWord lenient (word_of s.now self.now) (cow_slice_items v)) }
+        ensures value { IfOk result (λ v. cow_slice_items v ≡ string_value (word_of s.now self.now)) }
+        ensures some { SomeValue (word_of s.now self.now) }
+        ensures one { OneValue (word_of s.now self.now) }
+        ensures borrowed { IfOk result (λ v.
+            IsBorrowedSlice v ↔ HasNone backslash (word_of s.now self.now)) }
+        ensures free { HasNone backslash (word_of s.now self.now) → IsOk result }
     {
         let elements = &self.src(s)[1..];
         if let Some(value) = plain(elements) {
@@ -74,14 +87,18 @@ impl Token {
     pub fn id<'a>(&self, alloc: Global, s: &'a str) -> Result<CowStr<'a>, Error>
         requires token { IsTokenOf s.now self.now }
         requires kind { self.now.kind ≡ Id }
-        ensures name { IfOk result (λ name. Name (chars (token_text s.now self.now)) (cow_str_bytes name)) }
+        ensures name { IfOk result (λ name. Name (word_of s.now self.now) (cow_str_bytes name)) }
+        ensures utf8 { IfOk result (λ name. IsUtf8 (cow_str_bytes name)) }
         ensures some { IfOk result (λ name. cow_str_bytes name ≢ []) }
-        ensures error { IfErr result (NameError s.now EmptyId self.now.offset (chars (token_text s.now self.now))) }
-        ensures either { SomeName EmptyId (chars (token_text s.now self.now)) }
-        ensures one { OneName EmptyId (chars (token_text s.now self.now)) }
-        ensures borrowed { IfOk result (λ name. IsBorrowedStr name ↔ HasNoEscape (chars (token_text s.now self.now))) }
+        ensures value { IfOk result (λ name.
+            name_value EmptyId (word_of s.now self.now) ≡ Ok (cow_str_bytes name)) }
+        ensures error { IfErr result (NameError s.now EmptyId self.now.offset (word_of s.now self.now)) }
+        ensures either { SomeName EmptyId (word_of s.now self.now) }
+        ensures one { OneName EmptyId (word_of s.now self.now) }
+        ensures borrowed { IfOk result (λ name.
+            IsBorrowedStr name ↔ HasNoEscape (word_of s.now self.now)) }
     {
-        self.named(alloc, s, LexError::EmptyId)
+        self.name_or_error(alloc, s)
     }
 
     /// The name of an annotation. It is borrowed where no escape stands in it, and then no memory is taken.
@@ -89,14 +106,53 @@ impl Token {
     pub fn annotation<'a>(&self, alloc: Global, s: &'a str) -> Result<CowStr<'a>, Error>
         requires token { IsTokenOf s.now self.now }
         requires kind { self.now.kind ≡ Annotation }
-        ensures name { IfOk result (λ name. Name (chars (token_text s.now self.now)) (cow_str_bytes name)) }
+        ensures name { IfOk result (λ name. Name (word_of s.now self.now) (cow_str_bytes name)) }
+        ensures utf8 { IfOk result (λ name. IsUtf8 (cow_str_bytes name)) }
         ensures some { IfOk result (λ name. cow_str_bytes name ≢ []) }
-        ensures error { IfErr result (NameError s.now EmptyAnnotation self.now.offset (chars (token_text s.now self.now))) }
-        ensures either { SomeName EmptyAnnotation (chars (token_text s.now self.now)) }
-        ensures one { OneName EmptyAnnotation (chars (token_text s.now self.now)) }
-        ensures borrowed { IfOk result (λ name. IsBorrowedStr name ↔ HasNoEscape (chars (token_text s.now self.now))) }
+        ensures value { IfOk result (λ name.
+            name_value EmptyAnnotation (word_of s.now self.now) ≡ Ok (cow_str_bytes name)) }
+        ensures error { IfErr result (
+            NameError s.now EmptyAnnotation self.now.offset (word_of s.now self.now)) }
+        ensures either { SomeName EmptyAnnotation (word_of s.now self.now) }
+        ensures one { OneName EmptyAnnotation (word_of s.now self.now) }
+        ensures borrowed { IfOk result (λ name.
+            IsBorrowedStr name ↔ HasNoEscape (word_of s.now self.now)) }
     {
-        self.named(alloc, s, LexError::EmptyAnnotation)
+        self.name_or_error(alloc, s)
+    }
+
+    /// The name of an identifier or an annotation, or what is wrong with it, at the token: `EmptyId` or `EmptyAnnotation` where it
+    /// is empty, `InvalidUtf8Id` where it is not UTF-8. It is borrowed where no escape stands in it, and memory is taken only
+    /// where one does.
+    #[tactic(auto, using(crate::proofs::OneReading::one_name, crate::proofs::SomeReading::some_name))]
+    pub fn name<'a>(
+        &self,
+        alloc: Global,
+        s: &'a str,
+    ) -> Result<Result<CowStr<'a>, LexError>, AllocError>
+        requires token { IsTokenOf s.now self.now }
+        requires kind { (self.now.kind ≡ Id) ⊎ (self.now.kind ≡ Annotation) }
+        ensures name { IfOk result (λ found. IfOk found (λ name.
+            Name (word_of s.now self.now) (cow_str_bytes name))) }
+        ensures utf8 { IfOk result (λ found. IfOk found (λ name. IsUtf8 (cow_str_bytes name))) }
+        ensures some { IfOk result (λ found. IfOk found (λ name. cow_str_bytes name ≢ [])) }
+        ensures fault { IfOk result (λ found. IfErr found (
+            NameFault (empty_name self.now.kind) (word_of s.now self.now))) }
+        ensures value { IfOk result (λ found.
+            name_answer found ≡ name_value (empty_name self.now.kind) (word_of s.now self.now)) }
+        ensures either { SomeName (empty_name self.now.kind) (word_of s.now self.now) }
+        ensures one { OneName (empty_name self.now.kind) (word_of s.now self.now) }
+        ensures borrowed { IfOk result (λ found. IfOk found (λ name.
+            IsBorrowedStr name ↔ HasNoEscape (word_of s.now self.now))) }
+        ensures free { HasNoEscape (word_of s.now self.now) → IsOk result }
+    {
+        let Some(name) = name(alloc, &self.src(s)[1..])? else {
+            return Ok(Err(LexError::InvalidUtf8Id));
+        };
+        if name.as_str().is_empty() {
+            return Ok(Err(empty_name(self.kind)));
+        }
+        Ok(Ok(name))
     }
 
     /// What an integer token reads as. Memory is taken where its digits have underscores or `0x`.
@@ -108,9 +164,9 @@ impl Token {
     ) -> Result<Integer<'a>, AllocError>
         requires token { IsTokenOf s.now self.now }
         requires kind { self.now.kind ≡ token_kind.Integer kind }
-        ensures value { IfOk result (IsIntegerOf kind (chars (token_text s.now self.now))) }
-        ensures numeral { IfOk result (IsNumeralOf kind (chars (token_text s.now self.now))) }
-        ensures free { (kind.hex || kind.has_underscores) ≡ false → IsOk result }
+        ensures value { IfOk result (IsIntegerOf kind (word_of s.now self.now)) }
+        ensures numeral { IfOk result (IsNumeralOf kind (word_of s.now self.now)) }
+        ensures free { is_integer_rewritten kind ≡ false → IsOk result }
     {
         Integer::from_word(alloc, self.src(s), kind)
     }
@@ -125,36 +181,34 @@ impl Token {
     ) -> Result<Float<'a>, AllocError>
         requires token { IsTokenOf s.now self.now }
         requires kind { self.now.kind ≡ token_kind.Float kind }
-        ensures value { IfOk result (IsFloatOf kind (chars (token_text s.now self.now))) }
-        ensures some { SomeCut kind (chars (token_text s.now self.now)) }
-        ensures one { OneCut (chars (token_text s.now self.now)) }
-        ensures free { is_anew kind ≡ false → IsOk result }
+        ensures value { IfOk result (IsFloatOf kind (word_of s.now self.now)) }
+        ensures some { SomeCut kind (word_of s.now self.now) }
+        ensures one { OneCut (word_of s.now self.now) }
+        ensures free { is_float_rewritten kind ≡ false → IsOk result }
     {
         Float::from_word(alloc, self.src(s), kind)
     }
 
-    /// The name behind the first character, or the given error where it is empty.
-    #[tactic(auto, using(crate::proofs::OneReading::one_name, crate::proofs::SomeReading::some_name))]
-    fn named<'a>(&self, alloc: Global, s: &'a str, empty: LexError) -> Result<CowStr<'a>, Error>
+    /// The name, or the error of what is wrong with it.
+    fn name_or_error<'a>(&self, alloc: Global, s: &'a str) -> Result<CowStr<'a>, Error>
         requires token { IsTokenOf s.now self.now }
         requires kind { (self.now.kind ≡ Id) ⊎ (self.now.kind ≡ Annotation) }
-        ensures name { IfOk result (λ name. Name (chars (token_text s.now self.now)) (cow_str_bytes name)) }
+        ensures name { IfOk result (λ name. Name (word_of s.now self.now) (cow_str_bytes name)) }
+        ensures utf8 { IfOk result (λ name. IsUtf8 (cow_str_bytes name)) }
         ensures some { IfOk result (λ name. cow_str_bytes name ≢ []) }
-        ensures error { IfErr result (NameError s.now empty self.now.offset (chars (token_text s.now self.now))) }
-        ensures either { SomeName empty (chars (token_text s.now self.now)) }
-        ensures one { OneName empty (chars (token_text s.now self.now)) }
-        ensures borrowed { IfOk result (λ name. IsBorrowedStr name ↔ HasNoEscape (chars (token_text s.now self.now))) }
+        ensures value { IfOk result (λ name. name_value (empty_name self.now.kind) (word_of s.now self.now)
+            ≡ Ok (cow_str_bytes name)) }
+        ensures error { IfErr result (
+            NameError s.now (empty_name self.now.kind) self.now.offset (word_of s.now self.now)) }
+        ensures borrowed { IfOk result (λ name.
+            IsBorrowedStr name ↔ HasNoEscape (word_of s.now self.now)) }
     {
-        let error = match name(alloc, &self.src(s)[1..])? {
-            None => LexError::InvalidUtf8Id,
-            Some(name) => {
-                if name.len() > 0 {
-                    return Ok(name);
-                }
-                empty
+        match self.name(alloc, s)? {
+            Ok(name) => Ok(name),
+            Err(error) => {
+                let span = Span::from_offset(self.offset);
+                Err(Error::lex(alloc, span, s, error))
             }
-        };
-        let span = Span::from_offset(self.offset);
-        Err(Error::lex(alloc, span, s, error))
+        }
     }
 }

@@ -1,5 +1,5 @@
 use Rattle.std.proofs.Common.{refl}
-use Rattle.wat_lex.proofs.Laws.{laws_of}
+use Rattle.wat_lex.proofs.RawLaws.{laws_of}
 use Rattle.wat_lex.proofs.CutTexts.{cuts}
 use Rattle.wat_lex.proofs.MovedTexts.{moves}
 use Rattle.wat_lex.proofs.OneTilings.{one_tiling}
