@@ -6,45 +6,38 @@ ghost use Rattle.wat_lex.specs.EverySetting.{SomethingStands, OneThingStands, Ea
 pub fn one_answer()
     ensures some { SomethingStands }
     ensures one { OneThingStands }
-{
-}
+{}
 
 /// From each character boundary on there is one maximal tiling.
 pub fn one_tiling()
     ensures some { EachPlaceIsTiled }
     ensures one { TilingsAreOne }
-{
-}
+{}
 
 /// The raw tokens of a prefix of a text begin those of the text.
 pub fn cuts()
     ensures { TokensOfCuts }
-{
-}
+{}
 
 /// The raw tokens from a place on are those of the text that begins there.
 pub fn moves()
     ensures { TokensOfMoves }
-{
-}
+{}
 
 /// A token of a tiling may be handed to the readers, and another may stand behind it.
 pub fn tokens()
     ensures readable { TokensAreReadable }
     ensures boundary { TokensEndAtBoundaries }
-{
-}
+{}
 
 /// The word of an identifier or an annotation has one name, or one fault of it, and `name_value` is which.
 pub fn names()
     ensures some { NamesAreThere }
     ensures one { NamesAreOne }
     ensures value { NamesAreValues }
-{
-}
+{}
 
 /// The word of a string has one value, and `string_value` is it.
 pub fn strings()
     ensures { StringsAreValues }
-{
-}
+{}

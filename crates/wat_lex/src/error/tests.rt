@@ -104,6 +104,41 @@ fn messages_and_want_of_memory(rt: HostRuntime) -> Result<(), Fail> {
     answers(&rt, rt.alloc(), &error, "out of memory", "out of memory")
 }
 
+// Nothing is padded or cut: a width or a precision of the hole is that of no part of what is printed.
+#[test]
+fn holes_with_a_width_print_the_same(rt: HostRuntime) -> Result<(), Fail> {
+    let alloc = rt.alloc();
+    let faults = [
+        LexError::EmptyId,
+        LexError::Unexpected('é'),
+        LexError::InvalidUnicodeValue(0xd800),
+        LexError::ConfusingUnicode('\u{202e}'),
+        LexError::Expected {
+            wanted: '{',
+            found: 'x',
+        },
+    ];
+    for fault in faults {
+        let plain = fault.to_string(alloc)?;
+        assert_eq!(rt; format!(in alloc; "{fault:>99}")?, plain);
+        assert_eq!(rt; format!(in alloc; "{fault:.3}")?, plain);
+        let error = known(Error::lex(alloc, Span::from_offset(2), "a\nb c", fault))?;
+        let plain = error.to_string(alloc)?;
+        assert_eq!(rt; format!(in alloc; "{error:>99}")?, plain);
+        assert_eq!(rt; format!(in alloc; "{error:.3}")?, plain);
+    }
+    let error = Error::new(Span::from_offset(7), String::from_str(alloc, "m")?);
+    assert_eq!(rt;
+        format!(in alloc; "{error:>99}")?.as_str(),
+        "m at byte offset 7"
+    );
+    assert_eq!(rt;
+        format!(in alloc; "{:>99}", Error::out_of_memory())?.as_str(),
+        "out of memory"
+    );
+    Ok(())
+}
+
 /// What the fault of a text prints.
 fn fault_of(rt: &impl Abort, alloc: Global, text: &str, allow: bool) -> Result<String, Fail> {
     assert!(rt; text.len() < 1_000_000);

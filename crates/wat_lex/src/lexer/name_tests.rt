@@ -12,7 +12,7 @@ fn value(rt: &impl Abort, alloc: Global, text: &str) -> Result<Vec<u8>, Fail> {
     let mut lexer = Lexer::new(text);
     lexer.allow_confusing_unicode(true);
     let mut bytes = Vec::new(alloc);
-    if let Ok(Some(token)) = lexer.scan(0) {
+    if let Ok(Some(token)) = lexer.parse(alloc, &mut 0) {
         if let TokenKind::String = token.kind {
             bytes.extend_from_slice(token.string(alloc, text)?.as_slice())?;
             return Ok(bytes);
@@ -26,7 +26,7 @@ fn read<'a>(rt: &impl Abort, alloc: Global, text: &'a str, at: usize) -> Result<
     assert!(rt; text.len() < 1_000_000);
     assert!(rt; text.is_char_boundary(at));
     let lexer = Lexer::new(text);
-    let Ok(Some(token)) = lexer.scan(at) else {
+    let Ok(Some(token)) = lexer.parse(alloc, &mut { at }) else {
         panic!(rt; "no token: {text}")
     };
     match token.kind {
@@ -110,6 +110,7 @@ fn names(rt: HostRuntime) -> Result<(), Fail> {
         ("$\"a\"", 0, "a"),
         ("$\"\u{20ac} \"", 0, "\u{20ac} "),
         ("$\"\\u{61}b\"", 0, "ab"),
+        ("$\"\\u{61__62}\"", 0, "\u{6162}"),
         ("$\"\\e2\\82\\ac\"", 0, "\u{20ac}"),
         ("$", 0, "empty identifier at 0"),
         (" $\"\"", 1, "empty identifier at 1"),
@@ -132,6 +133,20 @@ fn names(rt: HostRuntime) -> Result<(), Fail> {
     for (text, at, want) in rows.as_slice() {
         let got = name(&rt, rt.alloc(), text, *at)?;
         assert!(rt; got.as_str() == *want, "{text}: {got}");
+    }
+    Ok(())
+}
+
+#[test]
+fn long_strings_with_escapes(rt: HostRuntime) -> Result<(), Fail> {
+    for len in [1, 63, 64, 65, 1000, 70_000] {
+        let want = "a".repeat(rt.alloc(), len)?;
+        let text = format!(in rt.alloc(); "\"{want}\\6a{want}\"")?;
+        let want = format!(in rt.alloc(); "{want}j{want}")?;
+        let got = value(&rt, rt.alloc(), text.as_str())?;
+        assert!(rt; got.as_slice() == want.as_bytes(), "{len}");
+        let named = format!(in rt.alloc(); "${text}")?;
+        assert!(rt; name(&rt, rt.alloc(), named.as_str(), 0)? == want, "{len}");
     }
     Ok(())
 }

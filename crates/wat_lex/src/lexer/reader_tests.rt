@@ -8,12 +8,12 @@ use std::process::Abort;
 use std::test::Fail;
 
 /// The first token of a text.
-fn first(rt: &impl Abort, text: &str) -> Token
+fn first(rt: &impl Abort, alloc: Global, text: &str) -> Token
     ensures { IsTokenOf text.now result }
 {
     assert!(rt; text.len() < 1_000_000);
     let lexer = Lexer::new(text);
-    match lexer.scan(0) {
+    match lexer.parse(alloc, &mut 0) {
         Ok(Some(token)) => token,
         _ => panic!(rt; "no token: {text}"),
     }
@@ -38,7 +38,7 @@ fn integers(rt: HostRuntime) -> Result<(), Fail> {
         ("+0_1", Some(SignToken::Plus), "01", 10),
     ];
     for (text, sign, digits, base) in rows.iter() {
-        let token = first(&rt, text);
+        let token = first(&rt, rt.alloc(), text);
         let TokenKind::Integer(kind) = token.kind else {
             panic!(&rt; "no integer: {text}");
         };
@@ -52,7 +52,7 @@ fn integers(rt: HostRuntime) -> Result<(), Fail> {
 }
 
 fn compare(rt: &impl Abort, alloc: Global, text: &str, want: Float<'_>) -> Result<(), Fail> {
-    let token = first(rt, text);
+    let token = first(rt, alloc, text);
     let TokenKind::Float(kind) = token.kind else {
         panic!(rt; "no float: {text}");
     };
@@ -130,4 +130,83 @@ fn infinities_and_nans(rt: HostRuntime) -> Result<(), Fail> {
         compare(&rt, rt.alloc(), text, want)?;
     }
     Ok(())
+}
+
+/// The text of each token and the name of each identifier, as a crate above reads them.
+fn texts_and_names(rt: &impl Abort, alloc: Global, text: &str) -> Result<String, Fail> {
+    assert!(rt; text.len() < 1_000_000);
+    let lexer = Lexer::new(text);
+    let mut shown = String::new(alloc);
+    for item in lexer.iter(alloc, 0) {
+        let token = item?;
+        write!(shown, "{}|", token.src(text))?;
+        if token.kind == TokenKind::Id {
+            write!(shown, "{}|", token.id(alloc, text)?.as_str())?;
+        }
+    }
+    Ok(shown)
+}
+
+#[test]
+fn tokens_of_iter_are_read(rt: HostRuntime) -> Result<(), Fail> {
+    let rows = [
+        ("", ""),
+        ("(func $f)", "(|func| |$f|f|)|"),
+        ("$\"a\\62\" $b;;c", "$\"a\\62\"|ab| |$b|b|;;c|"),
+    ];
+    for (text, want) in rows {
+        let got = texts_and_names(&rt, rt.alloc(), text)?;
+        assert_eq!(rt; got.as_str(), want, "{text}");
+    }
+    Ok(())
+}
+
+/// Which of five requests for memory is the first to be refused, if one is.
+fn refused_request(alloc: Global) -> Option<usize> {
+    let mut held = [None, None, None, None, None];
+    for request in 0..5 {
+        let Ok(text) = String::from_str(alloc, "held") else {
+            return Some(request);
+        };
+        held[request] = Some(text);
+    }
+    None
+}
+
+/// Whether the readers of a token answer.
+fn is_read(alloc: Global, text: &str, token: Token) -> bool
+    requires { IsTokenOf text.now token }
+{
+    match token.kind {
+        TokenKind::String => token.string(alloc, text).is_ok(),
+        TokenKind::Id => token.id(alloc, text).is_ok() && token.name(alloc, text).is_ok(),
+        TokenKind::Annotation => token.annotation(alloc, text).is_ok(),
+        TokenKind::Integer(kind) => token.integer(alloc, text, kind).is_ok(),
+        TokenKind::Float(kind) => token.float(alloc, text, kind).is_ok(),
+        _ => true,
+    }
+}
+
+/// Reads each token of a text.
+fn read_all(rt: &impl Abort, alloc: Global, text: &str) {
+    assert!(rt; text.len() < 1_000_000);
+    let lexer = Lexer::new(text);
+    for item in lexer.iter(alloc, 0) {
+        let Ok(token) = item else {
+            panic!(rt; "a fault: {text}");
+        };
+        assert!(rt; is_read(alloc, text, token), "{text}");
+    }
+}
+
+// With the fifth request refused, as `--fail-alloc 5` does, the fifth of this test's own has to be the one: then none was made
+// before, not even one whose refusal is ignored.
+#[test]
+fn plain_words_make_no_request(rt: HostRuntime) {
+    read_all(
+        &rt,
+        rt.alloc(),
+        "(\"ab\" \"\" $a $\"b\" @c @\"d\" -12 1.5e3 inf nan nan:0x1 x;;y",
+    );
+    assert!(rt; matches!(refused_request(rt.alloc()), None | Some(4)));
 }

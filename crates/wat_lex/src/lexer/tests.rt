@@ -158,6 +158,20 @@ fn strings(rt: HostRuntime) -> Result<(), Fail> {
         ("a\"b", "unexpected end-of-file at 3, "),
         ("\"\\u{d800_", "bare underscore in numeric literal at 8, "),
         ("\"\\q\"", "invalid string escape 'q' at 2, "),
+        (
+            "\"é\" \"\\q\"",
+            "String 0..4, invalid string escape 'q' at 7, ",
+        ),
+        (
+            "\"漢\" \"\\q\"",
+            "String 0..5, invalid string escape 'q' at 8, ",
+        ),
+        ("\"\\u{1__", "bare underscore in numeric literal at 6, "),
+        (
+            "\"\\u{fffffffff__0}\"",
+            "number is too big to parse at 12, ",
+        ),
+        ("$\"\\u{61__62}\"", "Id 0..13, "),
         ("\"\\'", "unexpected end-of-file at 3, "),
         ("\"\\", "unexpected end-of-file at 2, "),
     ];
@@ -225,13 +239,10 @@ fn parse_moves_to_the_end_of_a_token(rt: HostRuntime) -> Result<(), Fail> {
     let blank = lexer.parse(rt.alloc(), &mut pos)?;
     assert_eq!(rt; blank.map(|token| token.kind), Some(TokenKind::Whitespace));
     assert_eq!(rt; pos, 2);
-    if let Err(error) = lexer.parse(rt.alloc(), &mut pos) {
-        assert!(rt;
-            error.is_out_of_memory() || error.lex_error().copied() == Some(LexError::UnexpectedEof)
-        );
-    } else {
+    let Err(error) = lexer.parse(rt.alloc(), &mut pos) else {
         panic!(rt; "no fault");
-    }
+    };
+    assert_eq!(rt; error.lex_error().copied(), Some(LexError::UnexpectedEof));
     assert_eq!(rt; pos, 2);
     let copy = lexer.clone()?;
     assert_eq!(rt; copy.scan(3), Ok(None));
@@ -302,9 +313,10 @@ fn annotations(rt: HostRuntime) -> Result<(), Fail> {
         let found = Lexer::new(text).annotation(rt.alloc(), pos)?;
         assert_eq!(rt; found.map(|token| token.len), want, "{text} {pos}");
     }
-    let fault = Lexer::new("(@\"x").annotation(rt.alloc(), 1);
-    assert!(rt;
-        matches!(&fault, Err(error) if error.is_out_of_memory() || error.span().offset() == 4)
-    );
+    let Err(error) = Lexer::new("(@\"x").annotation(rt.alloc(), 1) else {
+        panic!(rt; "no fault");
+    };
+    assert_eq!(rt; error.lex_error().copied(), Some(LexError::UnexpectedEof));
+    assert_eq!(rt; error.span().offset(), 4);
     Ok(())
 }

@@ -96,6 +96,13 @@ fn places_inside_of_tokens(rt: HostRuntime) {
 }
 
 #[test]
+fn whitespace_between_tokens(rt: HostRuntime) {
+    let text = "(;;);;x\r\n$0^;;";
+    assert_eq!(rt; token_at(&rt, text, 7), Some((TokenKind::Whitespace, 7, 9)));
+    assert_eq!(rt; token_at(&rt, text, 8), Some((TokenKind::Whitespace, 8, 9)));
+}
+
+#[test]
 fn annotations_at_any_place(rt: HostRuntime) -> Result<(), Fail> {
     let lexer = Lexer::new("é@a");
     for (pos, want) in [
