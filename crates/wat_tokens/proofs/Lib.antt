@@ -1,2 +1,3 @@
-mod Listings
+mod InputLaws
 mod KnownBytes
+mod Listings

@@ -1,3 +1,3 @@
-pub mod Ends
+pub mod Inputs
 pub mod Lists
-pub mod Runs
+pub mod Streams

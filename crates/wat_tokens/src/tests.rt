@@ -24,6 +24,7 @@ struct Pieces<'a> {
     most: usize,
     fails_in: usize,
     failed: bool,
+    ended: bool,
 }
 
 impl<'a> Source for Pieces<'a> {
@@ -31,7 +32,10 @@ impl<'a> Source for Pieces<'a> {
 
     ghost has_failed = { λ s. s.failed };
 
+    ghost has_ended = { λ s. s.ended };
+
     fn read(&mut self, buffer: &mut [u8]) -> Result<usize, Failed> {
+        self.ended = false;
         if self.fails_in == 0 {
             self.failed = true;
             return Err(Failed);
@@ -41,11 +45,16 @@ impl<'a> Source for Pieces<'a> {
         let (front, rest) = self.rest.split_at(count);
         buffer[..count].copy_from_slice(front);
         self.rest = rest;
+        self.ended = count == 0 && !buffer.is_empty();
         Ok(count)
     }
 
     fn failed(&self) -> bool {
         self.failed
+    }
+
+    fn ended(&self) -> bool {
+        self.ended
     }
 }
 
@@ -166,6 +175,7 @@ fn run_in_pieces(
         most,
         fails_in,
         failed: false,
+        ended: false,
     };
     assert!(rt; !room.failed);
     let alloc = *room.held.allocator();
