@@ -1,5 +1,5 @@
 -- What was read of a source, where its bytes are known.
-use Rattle.std.proofs.Common.{◌≡◌, ◌⊎◌, ◌↔◌, ◌<◌, ◌+◌, ◌-◌, ◌≤◌, ℕ, Bool, true, false, List, [], ◌++◌, length, take, length-append, refl, subst, sym, ◌∙◌, ap, arith, inl, inr}
+use Rattle.std.proofs.Common.{◌≡◌, ◌⊎◌, ◌↔◌, ◌<◌, ◌+◌, ◌-◌, ◌≤◌, ℕ, Bool, true, false, List, ◌++◌, length, take, length-append, refl, subst, sym, ◌∙◌, ap, arith, inl, inr}
 use Rattle.std.proofs.lemmas.List.{length-take-le}
 use Rattle.std.specs.Prelude.{Some, None, Option, IfSome}
 use Rattle.std.specs.Io.KnownBytes.{Consumes}

@@ -3,6 +3,7 @@ ghost use Rattle.std.specs.Prelude.{◌≡◌, ℕ, Bool, false, List, Option, I
 ghost use Rattle.std.specs.Bool.{OnTrue, OnFalse};
 ghost use Rattle.std.specs.Io.KnownBytes.{Appends, Keeps};
 ghost use Rattle.wat_tokens.specs.Streams.{Reads, AppendsPrefix, failed_after, gave_end};
+ghost use Rattle.wat_tokens.specs.Plain.{plain_inner, plain_failed, plain_ended};
 
 use std::io;
 
@@ -66,8 +67,9 @@ pub struct Plain<T> {
 impl<T> Plain<T> {
     /// The source or sink over a reader or writer.
     pub fn new(inner: T) -> Plain<T>
-        ensures inner { result.inner ≡ inner }
-        ensures fresh { result.failed ≡ false }
+        ensures inner { plain_inner result ≡ inner }
+        ensures fresh { plain_failed result ≡ false }
+        ensures unread { plain_ended result ≡ false }
     {
         Plain {
             inner,
@@ -78,7 +80,7 @@ impl<T> Plain<T> {
 
     /// The reader or writer.
     pub fn into_inner(self) -> T
-        ensures { result ≡ self.inner }
+        ensures { result ≡ plain_inner self }
     {
         let Plain { inner, .. } = self;
         inner
@@ -86,11 +88,11 @@ impl<T> Plain<T> {
 }
 
 impl<T: io::Read> Source for Plain<T> {
-    ghost left = { λ p. T.remaining p.inner };
+    ghost left = { λ p. T.remaining (plain_inner p) };
 
-    ghost has_failed = { λ p. p.failed };
+    ghost has_failed = { λ p. plain_failed p };
 
-    ghost has_ended = { λ p. p.ended };
+    ghost has_ended = { λ p. plain_ended p };
 
     fn read(&mut self, buffer: &mut [u8]) -> Result<usize, Failed> {
         self.ended = false;
@@ -116,9 +118,9 @@ impl<T: io::Read> Source for Plain<T> {
 }
 
 impl<T: io::Write> Sink for Plain<T> {
-    ghost held = { λ p. T.contents p.inner };
+    ghost held = { λ p. T.contents (plain_inner p) };
 
-    ghost has_failed = { λ p. p.failed };
+    ghost has_failed = { λ p. plain_failed p };
 
     fn write_all(&mut self, bytes: &[u8]) -> Result<(), Failed> {
         if write_through(&mut self.inner, bytes) {

@@ -1,5 +1,5 @@
 use Rattle.std.proofs.Common.{rules, inr}
-use Rattle.wat_tokens.proofs.InputLaws.{lines_cut, whole_is_short, past_known, no_text_known, not_ended_known}
+use Rattle.wat_tokens.proofs.InputLaws.{lines_cut, whole_is_short, past_known, no_text_known}
 use Rattle.wat_tokens.proofs.run.run_list.Goals as goal
 
 pub returns-in_err-bytes-clause-too_long : goal.returns-in_err-bytes-clause-too_long
