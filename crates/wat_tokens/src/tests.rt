@@ -3,7 +3,8 @@ ghost use Rattle.std.specs.Prelude.{◌≡◌, Bool, List, ℕ, Option, Some};
 
 use crate::ends::{Failed, Plain, Sink, Source};
 use crate::run::{RunError, run_list};
-use crate::{Settings, settings_of};
+use crate::Settings;
+use crate::options::settings_of;
 use std::process::Abort;
 use std::test::Fail;
 
