@@ -1,3 +1,5 @@
 mod InputLaws
 mod KnownBytes
 mod Listings
+mod OptionLaws
+mod OutcomeLaws

@@ -1,6 +1,9 @@
 -- What a run of the program ends in: its exit status, and its report on standard error. No part of the standard.
 use Rattle.std.specs.Prelude.{ℕ, List, [], ◌++◌, codes, Option, Some, None, Result, Ok, Err}
+use Rattle.std.specs.Io.KnownBytes.{Keeps}
 use Rattle.wat_lex.specs.Errors.{Report, printed}
+use Rattle.wat_lex.specs.declared.lexer.settings.Settings.{Settings}
+use Rattle.wat_tokens.specs.Lists.{AppendsLines, AppendsSomeLines}
 use Rattle.wat_tokens.specs.declared.outcome.Outcome.{Outcome}
 use Rattle.wat_tokens.specs.declared.outcome.Outcome.TheVariants.{Listed, Faulty, Refused, Usage}
 use Rattle.wat_tokens.specs.declared.run.RunError.{RunError}
@@ -35,3 +38,14 @@ report Listed = []
 report (Faulty error) = printed error ++ codes "\n"
 report (Refused error) = refusal error ++ codes "\n"
 report Usage = usage ++ codes "\n"
+
+-- what the known bytes of the output have become where these settings were asked for and the input had these bytes
+abbrev pub Responds : Settings → List ℕ → Outcome → Option (List ℕ) → Option (List ℕ) → Type 0
+Responds settings bytes Listed old new = AppendsLines settings bytes None old new
+Responds settings bytes (Faulty error) old new = AppendsLines settings bytes (Some error) old new
+Responds settings bytes (Refused Write) old new = AppendsSomeLines settings bytes old new
+Responds settings bytes (Refused Read) old new = Keeps old new
+Responds settings bytes (Refused TooLong) old new = Keeps old new
+Responds settings bytes (Refused NotUtf8) old new = Keeps old new
+Responds settings bytes (Refused Memory) old new = Keeps old new
+Responds settings bytes Usage old new = ⊥

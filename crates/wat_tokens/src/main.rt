@@ -12,9 +12,8 @@ pub mod run;
 mod tests;
 
 use ends::Plain;
-use options::settings_of;
-use outcome::Outcome;
-use run::{RunError, run_list};
+use outcome::{Outcome, respond};
+use run::RunError;
 use std::process::ExitCode;
 use std::{env, io};
 pub use wat_lex::lexer::Settings;
@@ -37,12 +36,9 @@ fn outcome_of(rt: &HostRuntime) -> Outcome {
         }
         Err(_) => return Outcome::Usage,
     };
-    let Some(settings) = settings_of(&words) else {
-        return Outcome::Usage;
-    };
     let mut input = Plain::new(rt.stdin());
     let mut output = Plain::new(rt.stdout());
-    Outcome::of_run(run_list(rt.alloc(), &mut input, &mut output, settings))
+    respond(rt.alloc(), &words, &mut input, &mut output)
 }
 
 fn main(rt: HostRuntime) -> ExitCode {

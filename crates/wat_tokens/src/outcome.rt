@@ -1,9 +1,14 @@
 //! What a run of the program ends in.
-ghost use Rattle.std.specs.Prelude.{◌≡◌, OnOk};
+ghost use Rattle.std.specs.Prelude.{◌≡◌, false, IfSome, OnOk};
 ghost use Rattle.std.specs.Io.KnownBytes.{Appends};
-ghost use Rattle.wat_tokens.specs.Outcomes.{outcome_of, refusal, report, status};
+ghost use Rattle.wat_tokens.specs.Outcomes.{outcome_of, refusal, report, status, Responds};
+ghost use Rattle.wat_lex.specs.declared.lexer.settings.Settings.{Settings};
+ghost use Rattle.wat_tokens.specs.Options.{Selects};
 
-use crate::run::RunError;
+use crate::ends::{Sink, Source};
+use crate::options::settings_of;
+use crate::run::{RunError, run_list};
+use std::alloc::Global;
 use std::io;
 use wat_lex::error::Error;
 
@@ -34,6 +39,26 @@ fn refusal(error: RunError) -> &'static str
         RunError::Write => "wat_tokens: write failed",
         RunError::Memory => "wat_tokens: out of memory",
     }
+}
+
+/// Lists the input on the output, as the words ask.
+pub fn respond<R: Source, W: Sink>(
+    alloc: Global,
+    words: &[String],
+    input: &mut R,
+    output: &mut W,
+) -> Outcome
+    requires input { R.has_failed input.old ≡ false }
+    requires output { W.has_failed output.old ≡ false }
+    ensures selected { (settings : Settings) → Selects words.now settings →
+        IfSome (R.left input.old) (λ bytes.
+        Responds settings bytes result (W.held output.old) (W.held output.new)) }
+    ensures usage { ((settings : Settings) → ¬ Selects words.now settings) → result ≡ Outcome.Usage }
+{
+    let Some(settings) = settings_of(words) else {
+        return Outcome::Usage;
+    };
+    Outcome::of_run(run_list(alloc, input, output, settings))
 }
 
 impl Outcome {

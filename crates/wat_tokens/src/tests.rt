@@ -4,7 +4,7 @@ ghost use Rattle.std.specs.Prelude.{◌≡◌, Bool, List, ℕ, Option, Some};
 use crate::Settings;
 use crate::ends::{Failed, Plain, Sink, Source};
 use crate::options::settings_of;
-use crate::outcome::Outcome;
+use crate::outcome::{Outcome, respond};
 use crate::run::{RunError, run_list};
 use std::alloc::Global;
 use std::io;
@@ -429,6 +429,15 @@ fn outcomes(rt: HostRuntime) -> Result<(), Fail> {
     Ok(())
 }
 
+/// The words of a command line.
+fn words_of(alloc: Global, text: &str) -> Result<Vec<String>, Fail> {
+    let mut words = Vec::new(alloc);
+    for word in text.split_whitespace() {
+        words.push(String::from_str(alloc, word)?)?;
+    }
+    Ok(words)
+}
+
 #[test]
 fn words(rt: HostRuntime) -> Result<(), Fail> {
     let rows = [
@@ -443,12 +452,35 @@ fn words(rt: HostRuntime) -> Result<(), Fail> {
         ("--help", None),
     ];
     for (text, want) in rows {
-        let mut words = Vec::new(rt.alloc());
-        for word in text.split_whitespace() {
-            words.push(String::from_str(rt.alloc(), word)?)?;
-        }
-        let got = settings_of(&words).map(|settings| (settings.allow, settings.strict));
+        let got = settings_of(&words_of(rt.alloc(), text)?).map(|settings| (
+            settings.allow,
+            settings.strict,
+        ));
         assert_eq!(rt; got, want, "{text}");
+    }
+    Ok(())
+}
+
+#[test]
+fn responses(rt: HostRuntime) -> Result<(), Fail> {
+    let rows = [
+        ("", 0, "0..10 String\n"),
+        ("--allow-confusing", 0, "0..10 String\n"),
+        ("--strict-underscores", 1, ""),
+        ("--strict-underscores --allow-confusing", 1, ""),
+        ("sig", 2, ""),
+    ];
+    for (words, status, lines) in rows {
+        let mut input = Plain::new(b"\"\\u{1__0}\"".as_slice());
+        let mut output = Plain::new(Vec::new(rt.alloc()));
+        let outcome = respond(
+            rt.alloc(),
+            &words_of(rt.alloc(), words)?,
+            &mut input,
+            &mut output,
+        );
+        assert_eq!(rt; outcome.status(), status, "{words}");
+        assert_eq!(rt; output.into_inner().as_slice(), lines.as_bytes());
     }
     Ok(())
 }
