@@ -1,2 +1,5 @@
-mod Listings
+mod InputLaws
 mod KnownBytes
+mod Listings
+mod OptionLaws
+mod OutcomeLaws

@@ -1,3 +1,6 @@
-pub mod Ends
+pub mod Inputs
 pub mod Lists
-pub mod Runs
+pub mod Options
+pub mod Outcomes
+pub mod Plain
+pub mod Streams

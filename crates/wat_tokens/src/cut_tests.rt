@@ -1,4 +1,4 @@
-//! Texts that are cut at each character: the lines of a front begin the lines of the whole text.
+//! Texts that are cut at each character: the lines of a prefix begin the lines of the whole text.
 use crate::Settings;
 use crate::ends::Plain;
 use crate::run::run_list;
@@ -19,21 +19,21 @@ fn listed(alloc: Global, text: &str, settings: Settings) -> Result<(String, bool
     Ok((String::from_str(alloc, shown)?, fault.is_some()))
 }
 
-/// Cuts a text everywhere, and compares the lines of each front with those of the whole: all of them before a fault, all but the
+/// Cuts a text everywhere, and compares the lines of each prefix with those of the whole: all of them before a fault, all but the
 /// last before the end.
 fn cut(rt: &impl Abort, alloc: Global, text: &str, settings: Settings) -> Result<(), Fail> {
     let (whole, _) = listed(alloc, text, settings)?;
     for (end, _) in text.char_indices() {
         assert!(rt; text.is_char_boundary(end));
-        let (front, is_faulty) = listed(alloc, &text[..end], settings)?;
-        let count = front.lines().count();
+        let (prefix, is_faulty) = listed(alloc, &text[..end], settings)?;
+        let count = prefix.lines().count();
         let sure = if is_faulty {
             count
         } else {
             count.saturating_sub(1)
         };
         let mut expected = whole.lines();
-        for line in front.lines().take(sure) {
+        for line in prefix.lines().take(sure) {
             assert_eq!(rt; Some(line), expected.next(), "{text} {end}");
         }
     }
@@ -41,7 +41,7 @@ fn cut(rt: &impl Abort, alloc: Global, text: &str, settings: Settings) -> Result
 }
 
 #[test]
-fn fronts_begin_the_whole(rt: HostRuntime) -> Result<(), Fail> {
+fn prefixes_begin_the_whole(rt: HostRuntime) -> Result<(), Fail> {
     let texts = [
         "(module (func $foo))",
         "",
@@ -97,6 +97,10 @@ fn fronts_begin_the_whole(rt: HostRuntime) -> Result<(), Fail> {
         "a é b",
         "(;\u{2066};) ;;\u{206c}\nz",
         "é@a",
+        "(;",
+        "(@name \"m\")",
+        "12",
+        "a",
     ];
     for text in texts {
         for allow in [false, true] {
@@ -108,22 +112,47 @@ fn fronts_begin_the_whole(rt: HostRuntime) -> Result<(), Fail> {
     Ok(())
 }
 
-#[test]
-fn fronts_of_a_long_line_begin_it(rt: HostRuntime) -> Result<(), Fail> {
-    let mut text = String::new(rt.alloc());
-    for _ in 0..500 {
-        text.push(' ')?;
-    }
+/// 500 spaces, and then a comment that nothing closes.
+fn long_line(alloc: Global) -> Result<String, Fail> {
+    let mut text = " ".repeat(alloc, 500)?;
     text.push_str("(;")?;
-    cut(
-        &rt,
-        rt.alloc(),
-        text.as_str(),
-        Settings {
-            allow: false,
-            strict: false,
-        },
-    )
+    Ok(text)
+}
+
+#[test]
+fn prefixes_of_a_long_line_begin_it(rt: HostRuntime) -> Result<(), Fail> {
+    let text = long_line(rt.alloc())?;
+    for allow in [false, true] {
+        for strict in [false, true] {
+            cut(&rt, rt.alloc(), &text, Settings { allow, strict })?;
+        }
+    }
+    Ok(())
+}
+
+#[test]
+fn a_fault_on_a_long_line_is_shown_without_the_line(rt: HostRuntime) -> Result<(), Fail> {
+    let text = long_line(rt.alloc())?;
+    for allow in [false, true] {
+        for strict in [false, true] {
+            let mut input = Plain::new(text.as_bytes());
+            let mut output = Plain::new(Vec::new(rt.alloc()));
+            let settings = Settings { allow, strict };
+            let fault = run_list(rt.alloc(), &mut input, &mut output, settings)
+                .map_err(|_| "the run is refused")?
+                .ok_or("there is no fault")?;
+            let shown = fault.to_string(rt.alloc())?;
+            assert_eq!(rt;
+                shown.as_str(),
+                "unterminated block comment at <anon>:1:501"
+            );
+            assert_eq!(rt;
+                output.into_inner().as_slice(),
+                b"0..500 Whitespace\n".as_slice()
+            );
+        }
+    }
+    Ok(())
 }
 
 #[test]

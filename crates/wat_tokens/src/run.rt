@@ -1,10 +1,10 @@
 //! From a source of bytes to the lines on a sink.
-ghost use Rattle.std.specs.Prelude.{◌≡◌, ◌⊎◌, ◌↔◌, ℕ, Bool, true, false, List, length, Some, IfOk, OnOk, IfErr, IfSome, IsErrOf};
+ghost use Rattle.std.specs.Prelude.{◌≡◌, ◌⊎◌, ◌↔◌, Bool, true, false, ◌<◌, ◌^◌, length, Some, is_ok, IfOk, OnOk, IfErr, IfSome, IsErrOf};
 ghost use Rattle.std.specs.Option.{option_map};
-ghost use Rattle.std.specs.Io.KnownBytes.{Appends, IsAtEnd};
+ghost use Rattle.std.specs.Str.{IsUtf8};
 ghost use Rattle.wat_lex.specs.Errors.{lexical};
-ghost use Rattle.wat_tokens.specs.Lists.{Lists};
-ghost use Rattle.wat_tokens.specs.Runs.{Whole, ReadsPast, IsNoText};
+ghost use Rattle.wat_tokens.specs.Lists.{Lists, AppendsLines, AppendsSomeLines};
+ghost use Rattle.wat_tokens.specs.Inputs.{ReadsWhole, ReadsPast, ReadsShort, HasEnded};
 
 use crate::ends::{Sink, Source};
 use crate::list::list;
@@ -49,8 +49,10 @@ const PIECE: usize = 65_536;
 /// All that a source has left, or the refusal: it is read to its end, or to one byte past the longest text.
 fn read_whole<R: Source>(alloc: Global, input: &mut R) -> Result<Vec<u8>, RunError>
     requires { R.has_failed input.old ≡ false }
-    ensures whole { IfOk result (λ bytes. Whole (R.left input.old) (R.left input.new) bytes.items) }
-    ensures too_long { IsErrOf result RunError.TooLong → ReadsPast (R.left input.old) (R.left input.new) }
+    ensures whole { IfOk result (λ bytes. ReadsWhole (R.left input.old) (R.left input.new) bytes.items) }
+    ensures ended { R.has_ended input.new ≡ is_ok result }
+    ensures past { IsErrOf result RunError.TooLong → ReadsPast (R.left input.old) (R.left input.new) }
+    ensures short { (IsErrOf result RunError.TooLong) ⊎ ReadsShort (R.left input.old) (R.left input.new) }
     ensures read { IsErrOf result RunError.Read ↔ (R.has_failed input.new ≡ true) }
     ensures refused { IfErr result (λ e. (e ≡ RunError.Read) ⊎ ((e ≡ RunError.TooLong) ⊎ (e ≡ RunError.Memory))) }
 {
@@ -62,10 +64,10 @@ fn read_whole<R: Source>(alloc: Global, input: &mut R) -> Result<Vec<u8>, RunErr
             Err(_) => return Err(RunError::Read),
             Ok(0) => return Ok(bytes),
             Ok(count) => {
-                bytes.extend_from_slice(&piece[..count])?;
-                if bytes.len() > LONGEST {
+                if count > LONGEST - bytes.len() {
                     return Err(RunError::TooLong);
                 }
+                bytes.extend_from_slice(&piece[..count])?;
             }
         }
     }
@@ -87,6 +89,32 @@ fn error_of(alloc: Global, text: &str, fault: Option<LexFault>) -> Result<Option
     Ok(Some(error))
 }
 
+/// The lines of the raw tokens of the bytes up to the first fault, and the error of that fault.
+#[derive(Drop)]
+struct Reply {
+    lines: Vec<u8>,
+    error: Option<Error>,
+}
+
+/// Lists bytes that may be no text.
+fn list_bytes(alloc: Global, bytes: &[u8], settings: Settings) -> Result<Reply, RunError>
+    requires { length bytes.now < 2 ^ 32 }
+    ensures listed { IfOk result (λ reply.
+        Lists settings bytes.now reply.lines.items reply.error) }
+    ensures not_utf8 { IsErrOf result RunError.NotUtf8 ↔ (¬ IsUtf8 bytes.now) }
+    ensures refused { IfErr result (λ e. (e ≡ RunError.NotUtf8) ⊎ (e ≡ RunError.Memory)) }
+{
+    let Ok(text) = str::from_utf8(bytes) else {
+        return Err(RunError::NotUtf8);
+    };
+    let listing = list(alloc, text, settings)?;
+    let error = error_of(alloc, text, listing.fault)?;
+    Ok(Reply {
+        lines: listing.lines,
+        error,
+    })
+}
+
 /// Writes the list of the raw tokens of all that the source has left, up to the first fault, and answers
 /// that fault's error, which prints its line.
 pub fn run_list<R: Source, W: Sink>(
@@ -98,26 +126,28 @@ pub fn run_list<R: Source, W: Sink>(
     requires input { R.has_failed input.old ≡ false }
     requires output { W.has_failed output.old ≡ false }
     ensures listed { IfOk result (λ error. IfSome (R.left input.old) (λ bytes.
-        (text : List ℕ) × Lists settings bytes text error × Appends (W.held output.old) (W.held output.new) text)) }
-    ensures ended { OnOk result (IsAtEnd (R.left input.new)) }
+        AppendsLines settings bytes error (W.held output.old) (W.held output.new))) }
+    // A source that has ended was read whole.
+    ensures ended { OnOk result (HasEnded (R.left input.new) (R.has_ended input.new)) }
+    ensures not_utf8_ended { IsErrOf result RunError.NotUtf8 → HasEnded (R.left input.new) (R.has_ended input.new) }
+    ensures write_ended { IsErrOf result RunError.Write → HasEnded (R.left input.new) (R.has_ended input.new) }
 
     // When each refusal but that of memory comes.
-    ensures too_long { IsErrOf result RunError.TooLong → ReadsPast (R.left input.old) (R.left input.new) }
-    ensures not_utf8 { IsErrOf result RunError.NotUtf8 → IsNoText (R.left input.old) (R.left input.new) }
     ensures read { IsErrOf result RunError.Read ↔ (R.has_failed input.new ≡ true) }
+    ensures too_long { IfSome (R.left input.old) (λ _.
+        IsErrOf result RunError.TooLong ↔ ReadsPast (R.left input.old) (R.left input.new)) }
+    ensures not_utf8 { IfSome (R.left input.old) (λ bytes.
+        IsErrOf result RunError.NotUtf8 ↔ ((R.has_ended input.new ≡ true) × (¬ IsUtf8 bytes))) }
     ensures write { IsErrOf result RunError.Write ↔ (W.has_failed output.new ≡ true) }
-    ensures written_last { IsErrOf result RunError.Write → IsAtEnd (R.left input.new) }
 
-    // Only a failed write may have written something.
+    // A failed write has written a prefix of the lines, and each other refusal nothing.
+    ensures cut { IsErrOf result RunError.Write → IfSome (R.left input.old) (λ bytes.
+        AppendsSomeLines settings bytes (W.held output.old) (W.held output.new)) }
     ensures unwritten { IfErr result (λ e. (e ≡ RunError.Write) ⊎ (output.new ≡ output.old)) }
 {
     let bytes = read_whole(alloc, input)?;
-    let Ok(text) = str::from_utf8(&bytes) else {
-        return Err(RunError::NotUtf8);
-    };
-    let listing = list(alloc, text, settings)?;
-    let error = error_of(alloc, text, listing.fault)?;
-    if output.write_all(&listing.lines).is_err() {
+    let Reply { lines, error } = list_bytes(alloc, &bytes, settings)?;
+    if output.write_all(&lines).is_err() {
         return Err(RunError::Write);
     }
     Ok(error)

@@ -1,11 +1,17 @@
-//! Texts with their lists, from outside, and sources and sinks that fail.
+//! Texts with their lists, from outside, and readers, writers, sources and sinks that fail.
 ghost use Rattle.std.specs.Prelude.{◌≡◌, Bool, List, ℕ, Option, Some};
 
+use crate::Settings;
 use crate::ends::{Failed, Plain, Sink, Source};
+use crate::options::settings_of;
+use crate::outcome::{Outcome, respond};
 use crate::run::{RunError, run_list};
-use crate::{Settings, settings_of};
+use std::alloc::Global;
+use std::io;
 use std::process::Abort;
 use std::test::Fail;
+use wat_lex::error::Error;
+use wat_lex::token::Span;
 
 const OFF: Settings = Settings {
     allow: false,
@@ -24,6 +30,7 @@ struct Pieces<'a> {
     most: usize,
     fails_in: usize,
     failed: bool,
+    ended: bool,
 }
 
 impl<'a> Source for Pieces<'a> {
@@ -31,21 +38,29 @@ impl<'a> Source for Pieces<'a> {
 
     ghost has_failed = { λ s. s.failed };
 
+    ghost has_ended = { λ s. s.ended };
+
     fn read(&mut self, buffer: &mut [u8]) -> Result<usize, Failed> {
+        self.ended = false;
         if self.fails_in == 0 {
             self.failed = true;
             return Err(Failed);
         }
         self.fails_in -= 1;
         let count = self.most.max(1).min(self.rest.len()).min(buffer.len());
-        let (front, rest) = self.rest.split_at(count);
-        buffer[..count].copy_from_slice(front);
+        let (prefix, rest) = self.rest.split_at(count);
+        buffer[..count].copy_from_slice(prefix);
         self.rest = rest;
+        self.ended = count == 0 && !buffer.is_empty();
         Ok(count)
     }
 
     fn failed(&self) -> bool {
         self.failed
+    }
+
+    fn ended(&self) -> bool {
+        self.ended
     }
 }
 
@@ -72,6 +87,73 @@ impl Sink for Room {
 
     fn failed(&self) -> bool {
         self.failed
+    }
+}
+
+/// A reader that gives so many bytes a call, and fails at one call only. It counts the calls.
+#[derive(Drop)]
+struct FailsOnce<'a> {
+    rest: &'a [u8],
+    most: usize,
+    fails_at: usize,
+    calls: usize,
+}
+
+impl<'a> io::Read for FailsOnce<'a> {
+    fn read(&mut self, buffer: &mut [u8]) -> io::Result<usize> {
+        let call = self.calls;
+        self.calls = self.calls.saturating_add(1);
+        if call == self.fails_at {
+            return Err(io::ErrorKind::Interrupted.into());
+        }
+        let count = self.most.min(self.rest.len()).min(buffer.len());
+        let (prefix, rest) = self.rest.split_at(count);
+        buffer[..count].copy_from_slice(prefix);
+        self.rest = rest;
+        Ok(count)
+    }
+}
+
+/// A writer that takes so many bytes a call, and fails at one call only, or at each flush. It counts the calls.
+#[derive(Drop)]
+struct Counted {
+    held: Vec<u8>,
+    most: usize,
+    fails_at: usize,
+    writes: usize,
+    flush_fails: bool,
+    flushes: usize,
+}
+
+impl io::Write for Counted {
+    fn write(&mut self, bytes: &[u8]) -> io::Result<usize> {
+        let call = self.writes;
+        self.writes = self.writes.saturating_add(1);
+        let count = self.most.min(bytes.len());
+        if call == self.fails_at || self.held.extend_from_slice(&bytes[..count]).is_err() {
+            return Err(io::ErrorKind::Interrupted.into());
+        }
+        Ok(count)
+    }
+
+    fn flush(&mut self) -> io::Result<()> {
+        self.flushes = self.flushes.saturating_add(1);
+        if self.flush_fails {
+            return Err(io::ErrorKind::Interrupted.into());
+        }
+        Ok(())
+    }
+}
+
+/// A writer that fails at the given write, or at the flush.
+fn counting_writer(alloc: Global, most: usize, fails_at: usize, flush_fails: bool) -> Counted {
+    Counted {
+        held: Vec::new(alloc),
+        most,
+        fails_at,
+        writes: 0,
+        flush_fails,
+        flushes: 0,
     }
 }
 
@@ -104,13 +186,13 @@ fn lists(rt: HostRuntime) -> Result<(), Fail> {
     for (text, lines, fault) in rows {
         let mut input = Plain::new(text.as_bytes());
         let mut output = Plain::new(Vec::new(rt.alloc()));
-        let told = match run_list(rt.alloc(), &mut input, &mut output, OFF).map_err(
+        let reported = match run_list(rt.alloc(), &mut input, &mut output, OFF).map_err(
             |_| "the run is refused",
         )? {
             None => String::new(rt.alloc()),
             Some(error) => error.to_string(rt.alloc())?,
         };
-        assert_eq!(rt; told.as_str(), fault, "{text}");
+        assert_eq!(rt; reported.as_str(), fault, "{text}");
         assert_eq!(rt; output.into_inner().as_slice(), lines.as_bytes(), "{text}");
     }
     Ok(())
@@ -166,6 +248,7 @@ fn run_in_pieces(
         most,
         fails_in,
         failed: false,
+        ended: false,
     };
     assert!(rt; !room.failed);
     let alloc = *room.held.allocator();
@@ -216,6 +299,146 @@ fn a_write_that_fails(rt: HostRuntime) {
 }
 
 #[test]
+fn a_failed_read_is_not_tried_again(rt: HostRuntime) {
+    let mut input = Plain::new(FailsOnce {
+        rest: b"abcd",
+        most: 2,
+        fails_at: 1,
+        calls: 0,
+    });
+    let mut buffer = [0u8; 8];
+    assert_eq!(rt; input.read(&mut buffer), Ok(2));
+    assert_eq!(rt; input.read(&mut buffer), Err(Failed));
+    assert!(rt; input.failed() && !input.ended());
+    assert_eq!(rt; input.read(&mut buffer), Ok(2));
+    assert_eq!(rt; &buffer[..2], b"cd".as_slice());
+    assert_eq!(rt; input.read(&mut []), Ok(0));
+    assert!(rt; !input.ended());
+    assert_eq!(rt; input.read(&mut buffer), Ok(0));
+    assert!(rt; input.failed() && input.ended());
+    assert_eq!(rt; input.into_inner().calls, 5);
+}
+
+#[test]
+fn a_run_ends_at_a_failed_read(rt: HostRuntime) {
+    let mut input = Plain::new(FailsOnce {
+        rest: MODULE.as_bytes(),
+        most: 4,
+        fails_at: 2,
+        calls: 0,
+    });
+    let mut output = Plain::new(Vec::new(rt.alloc()));
+    let result = run_list(rt.alloc(), &mut input, &mut output, OFF);
+    assert!(rt; matches!(&result, Err(RunError::Read)));
+    let reader = input.into_inner();
+    assert_eq!(rt; (reader.calls, reader.rest.len()), (3, MODULE.len() - 8));
+    assert!(rt; output.into_inner().is_empty());
+}
+
+#[test]
+fn nothing_is_written_behind_a_failed_write(rt: HostRuntime) -> Result<(), Fail> {
+    for (most, fails_at, held, writes) in [
+        (1, 0, "", 1),
+        (1, 2, "ab", 3),
+        (2, 1, "ab", 2),
+        (0, 9, "", 1),
+    ] {
+        let mut output = Plain::new(counting_writer(rt.alloc(), most, fails_at, false));
+        assert_eq!(rt; output.write_all(b"abc"), Err(Failed));
+        assert!(rt; output.failed());
+        let writer = output.into_inner();
+        assert_eq!(rt; writer.held.as_slice(), held.as_bytes());
+        assert_eq!(rt; (writer.writes, writer.flushes), (writes, 0));
+    }
+    Ok(())
+}
+
+#[test]
+fn a_run_ends_at_a_failed_write(rt: HostRuntime) {
+    let mut input = Plain::new(MODULE.as_bytes());
+    let mut output = Plain::new(counting_writer(rt.alloc(), 4, 2, false));
+    let result = run_list(rt.alloc(), &mut input, &mut output, OFF);
+    assert!(rt; matches!(&result, Err(RunError::Write)));
+    let writer = output.into_inner();
+    assert_eq!(rt; writer.held.as_slice(), MODULE_LINES[..8].as_bytes());
+    assert_eq!(rt; (writer.writes, writer.flushes), (3, 0));
+}
+
+#[test]
+fn each_write_ends_in_one_flush(rt: HostRuntime) {
+    for flush_fails in [false, true] {
+        let mut input = Plain::new(b"x".as_slice());
+        let mut output = Plain::new(counting_writer(rt.alloc(), 4, 9, flush_fails));
+        let result = run_list(rt.alloc(), &mut input, &mut output, OFF);
+        assert_eq!(rt; matches!(&result, Err(RunError::Write)), flush_fails);
+        assert_eq!(rt; matches!(&result, Ok(None)), !flush_fails);
+        assert_eq!(rt; output.failed(), flush_fails);
+        let writer = output.into_inner();
+        assert_eq!(rt; writer.held.as_slice(), b"0..1 Keyword\n".as_slice());
+        assert_eq!(rt; (writer.writes, writer.flushes), (4, 1));
+    }
+}
+
+#[test]
+fn outcomes(rt: HostRuntime) -> Result<(), Fail> {
+    let message = String::from_str(rt.alloc(), "m")?;
+    let rows = [
+        (Outcome::of_run(Ok(None)), 0, ""),
+        (
+            Outcome::Refused(RunError::Read),
+            2,
+            "wat_tokens: read failed\n",
+        ),
+        (
+            Outcome::Refused(RunError::TooLong),
+            2,
+            "wat_tokens: input is too long\n",
+        ),
+        (
+            Outcome::Refused(RunError::NotUtf8),
+            2,
+            "wat_tokens: input is not UTF-8\n",
+        ),
+        (
+            Outcome::of_run(Err(RunError::Write)),
+            2,
+            "wat_tokens: write failed\n",
+        ),
+        (
+            Outcome::Refused(RunError::Memory),
+            2,
+            "wat_tokens: out of memory\n",
+        ),
+        (
+            Outcome::Usage,
+            2,
+            "usage: wat_tokens [--allow-confusing] [--strict-underscores] [sig NAME.. | play CALL..]\n",
+        ),
+        (
+            Outcome::of_run(Ok(Some(Error::new(Span::from_offset(3), message)))),
+            1,
+            "m at byte offset 3\n",
+        ),
+    ];
+    for (outcome, status, line) in rows {
+        let mut errors = Vec::new(rt.alloc());
+        outcome.report(&mut errors)?;
+        assert_eq!(rt; errors.as_slice(), line.as_bytes());
+        assert_eq!(rt; outcome.status(), status);
+    }
+    Ok(())
+}
+
+/// The words of a command line.
+fn words_of(alloc: Global, text: &str) -> Result<Vec<String>, Fail> {
+    let mut words = Vec::new(alloc);
+    for word in text.split_whitespace() {
+        words.push(String::from_str(alloc, word)?)?;
+    }
+    Ok(words)
+}
+
+#[test]
 fn words(rt: HostRuntime) -> Result<(), Fail> {
     let rows = [
         ("", Some((false, false))),
@@ -229,12 +452,35 @@ fn words(rt: HostRuntime) -> Result<(), Fail> {
         ("--help", None),
     ];
     for (text, want) in rows {
-        let mut words = Vec::new(rt.alloc());
-        for word in text.split_whitespace() {
-            words.push(String::from_str(rt.alloc(), word)?)?;
-        }
-        let got = settings_of(&words).map(|settings| (settings.allow, settings.strict));
+        let got = settings_of(&words_of(rt.alloc(), text)?).map(|settings| (
+            settings.allow,
+            settings.strict,
+        ));
         assert_eq!(rt; got, want, "{text}");
+    }
+    Ok(())
+}
+
+#[test]
+fn responses(rt: HostRuntime) -> Result<(), Fail> {
+    let rows = [
+        ("", 0, "0..10 String\n"),
+        ("--allow-confusing", 0, "0..10 String\n"),
+        ("--strict-underscores", 1, ""),
+        ("--strict-underscores --allow-confusing", 1, ""),
+        ("sig", 2, ""),
+    ];
+    for (words, status, lines) in rows {
+        let mut input = Plain::new(b"\"\\u{1__0}\"".as_slice());
+        let mut output = Plain::new(Vec::new(rt.alloc()));
+        let outcome = respond(
+            rt.alloc(),
+            &words_of(rt.alloc(), words)?,
+            &mut input,
+            &mut output,
+        );
+        assert_eq!(rt; outcome.status(), status, "{words}");
+        assert_eq!(rt; output.into_inner().as_slice(), lines.as_bytes());
     }
     Ok(())
 }

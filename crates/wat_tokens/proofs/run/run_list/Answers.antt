@@ -1,0 +1,20 @@
+use Rattle.std.proofs.Common.{rules, inr}
+use Rattle.wat_tokens.proofs.InputLaws.{lines_cut, whole_is_short, past_known, no_text_known}
+use Rattle.wat_tokens.proofs.run.run_list.Goals as goal
+
+pub returns-in_err-bytes-clause-too_long : goal.returns-in_err-bytes-clause-too_long
+returns-in_err-bytes-clause-too_long g c = past_known _ _ (search rules) (search rules)
+
+pub returns-in_err-lines-clause-not_utf8 : goal.returns-in_err-lines-clause-not_utf8
+returns-in_err-lines-clause-not_utf8 g c = no_text_known _ _ c.in_ok-bytes.ensures.whole (search rules) (search rules)
+
+pub returns-then-is_err-clause-too_long : goal.returns-then-is_err-clause-too_long
+returns-then-is_err-clause-too_long g c = past_known _ _ (search rules) (inr (whole_is_short c.in_ok-bytes.ensures.whole))
+
+pub returns-then-is_err-clause-not_utf8 : goal.returns-then-is_err-clause-not_utf8
+returns-then-is_err-clause-not_utf8 g c = no_text_known _ _ c.in_ok-bytes.ensures.whole (search rules) (search rules)
+
+pub returns-then-is_err-clause-cut : goal.returns-then-is_err-clause-cut
+returns-then-is_err-clause-cut g c =
+    let listed = rw c.deref.ensures.value at c.in_ok-lines.ensures.listed in
+    λ _. lines_cut _ _ _ _ _ _ _ _ c.in_ok-bytes.ensures.whole listed (search rules)

@@ -1,0 +1,99 @@
+//! What a run of the program ends in.
+ghost use Rattle.std.specs.Prelude.{◌≡◌, false, IfSome, OnOk};
+ghost use Rattle.std.specs.Io.KnownBytes.{Appends};
+ghost use Rattle.wat_tokens.specs.Outcomes.{outcome_of, refusal, report, status, Responds};
+ghost use Rattle.wat_lex.specs.declared.lexer.settings.Settings.{Settings};
+ghost use Rattle.wat_tokens.specs.Options.{Selects};
+
+use crate::ends::{Sink, Source};
+use crate::options::settings_of;
+use crate::run::{RunError, run_list};
+use std::alloc::Global;
+use std::io;
+use wat_lex::error::Error;
+
+const USAGE: &str =
+    "usage: wat_tokens [--allow-confusing] [--strict-underscores] [sig NAME.. | play CALL..]";
+
+/// What a run of the program ends in.
+#[derive(Drop)]
+pub enum Outcome {
+    /// All lines are written.
+    Listed,
+    /// The lines before a fault are written.
+    Faulty(Error),
+    /// Nothing is listed.
+    Refused(RunError),
+    /// The words on the command line are none that the program takes.
+    Usage,
+}
+
+/// The message of a refusal.
+fn refusal(error: RunError) -> &'static str
+    ensures { result.now ≡ refusal error }
+{
+    match error {
+        RunError::Read => "wat_tokens: read failed",
+        RunError::TooLong => "wat_tokens: input is too long",
+        RunError::NotUtf8 => "wat_tokens: input is not UTF-8",
+        RunError::Write => "wat_tokens: write failed",
+        RunError::Memory => "wat_tokens: out of memory",
+    }
+}
+
+/// Lists the input on the output, as the words ask.
+pub fn respond<R: Source, W: Sink>(
+    alloc: Global,
+    words: &[String],
+    input: &mut R,
+    output: &mut W,
+) -> Outcome
+    requires input { R.has_failed input.old ≡ false }
+    requires output { W.has_failed output.old ≡ false }
+    ensures selected { (settings : Settings) → Selects words.now settings →
+        IfSome (R.left input.old) (λ bytes.
+        Responds settings bytes result (W.held output.old) (W.held output.new)) }
+    ensures usage { ((settings : Settings) → ¬ Selects words.now settings) → result ≡ Outcome.Usage }
+{
+    let Some(settings) = settings_of(words) else {
+        return Outcome::Usage;
+    };
+    Outcome::of_run(run_list(alloc, input, output, settings))
+}
+
+impl Outcome {
+    /// What listing the input ended in.
+    pub fn of_run(run: Result<Option<Error>, RunError>) -> Outcome
+        ensures { result ≡ outcome_of run }
+    {
+        match run {
+            Ok(None) => Outcome::Listed,
+            Ok(Some(error)) => Outcome::Faulty(error),
+            Err(error) => Outcome::Refused(error),
+        }
+    }
+
+    /// The exit status.
+    pub fn status(&self) -> u8
+        ensures { result ≡ status self.now }
+    {
+        match self {
+            Outcome::Listed => 0,
+            Outcome::Faulty(_) => 1,
+            Outcome::Refused(_) | Outcome::Usage => 2,
+        }
+    }
+
+    /// Writes what there is to report: a line, the fault with its place in the text, or nothing.
+    pub fn report<W: io::Write>(&self, errors: &mut W) -> io::Result<()>
+        ensures { OnOk result
+            (Appends (W.contents errors.old) (W.contents errors.new) (report self.now)) }
+    {
+        match self {
+            Outcome::Listed => Ok(()),
+            Outcome::Faulty(error) => writeln!(errors, "{error}"),
+            Outcome::Refused(error) => writeln!(errors, "{}", refusal(*error)),
+            Outcome::Usage => writeln!(errors, "{USAGE}"),
+        }
+    }
+}
