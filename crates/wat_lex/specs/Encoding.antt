@@ -12,6 +12,10 @@ list_encoding item items = unsigned_leb128 (length items) ++ flat_map item items
 abbrev pub ListFits : {T : Type 0} → (T → Type 0) → List T → Type 0
 ListFits item items = (length items < 2 ^ 32) × All item items
 
+-- the length of a text fits
+abbrev pub TextFits : List ℕ → Type 0
+TextFits bytes = length bytes < 2 ^ 32
+
 -- a text: how many bytes it has, and then these
 abbrev pub text_encoding : List ℕ → List ℕ
 text_encoding bytes = unsigned_leb128 (length bytes) ++ bytes
