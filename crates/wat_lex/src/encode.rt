@@ -1,8 +1,11 @@
 //! Values as bytes of the binary format.
 
 ghost use Rattle.std.specs.Prelude.{◌≡◌, ◌++◌, ◌^◌, ◌<◌, ◌≤◌, ◌↔◌, ℕ, List, [], ◌∷◌};
-ghost use Rattle.std.specs.Prelude.{IsErrOf, IsTrue, OnErr, OnOk, length, string_bytes, take, vec_len};
-ghost use Rattle.wat_lex.specs.Encoding.{ListFits, TextFits, list_encoding, text_encoding};
+ghost use Rattle.std.specs.Prelude.{IsErrOf, IsTrue, OnErr, OnOk};
+ghost use Rattle.std.specs.Prelude.{length, string_bytes, take, vec_len};
+ghost use Rattle.wat_lex.specs.Encoding.{ListFits, StringFits, StringTooLong, TextFits};
+ghost use Rattle.wat_lex.specs.Encoding.{TextTooLong, list_encoding, string_encoding};
+ghost use Rattle.wat_lex.specs.Encoding.{text_encoding, vec_encoding};
 ghost use Rattle.wat_lex.specs.Leb128.{IsSignedEncoded, IsUnsignedEncoded, high_bits_of};
 ghost use Rattle.wat_lex.specs.Leb128.{low_bits_of, signed_leb128, unsigned_leb128};
 
@@ -156,10 +159,10 @@ fn encode_length(length: usize, e: &mut Vec<u8>) -> Result<(), EncodeError>
     ensures memory { IsErrOf result EncodeError.Memory → length < 2 ^ 32 }
     ensures err { OnErr result (e.new.items ≡ e.old.items) }
 {
-    let Ok(length) = u32::try_from(length) else {
+    if !length_fits(length) {
         return Err(EncodeError::TooLong);
-    };
-    encode_unsigned(u64::from(length), e)
+    }
+    encode_unsigned(length as u64, e)
 }
 
 impl Encode for u8 {
@@ -200,7 +203,7 @@ impl Encode for u32 {
         ensures memory { OnErr result (result ≡ Err EncodeError.Memory) }
         ensures err { OnErr result (e.new.items ≡ e.old.items) }
 
-        // The bytes decode to the number, no shorter ones do, and no others of their length.
+        // The bytes decode to the number, no shorter ones do, and no others as long.
         ensures law { IsUnsignedEncoded self.now }
     {
         encode_unsigned(u64::from(*self), e)
@@ -224,7 +227,7 @@ impl Encode for u64 {
         ensures memory { OnErr result (result ≡ Err EncodeError.Memory) }
         ensures err { OnErr result (e.new.items ≡ e.old.items) }
 
-        // The bytes decode to the number, no shorter ones do, and no others of their length.
+        // The bytes decode to the number, no shorter ones do, and no others as long.
         ensures law { IsUnsignedEncoded self.now }
     {
         encode_unsigned(*self, e)
@@ -248,7 +251,7 @@ impl Encode for i32 {
         ensures memory { OnErr result (result ≡ Err EncodeError.Memory) }
         ensures err { OnErr result (e.new.items ≡ e.old.items) }
 
-        // The bytes decode to the number, no shorter ones do, and no others of their length.
+        // The bytes decode to the number, no shorter ones do, and no others as long.
         ensures law { IsSignedEncoded self.now }
     {
         encode_signed(i64::from(*self), e)
@@ -272,7 +275,7 @@ impl Encode for i64 {
         ensures memory { OnErr result (result ≡ Err EncodeError.Memory) }
         ensures err { OnErr result (e.new.items ≡ e.old.items) }
 
-        // The bytes decode to the number, no shorter ones do, and no others of their length.
+        // The bytes decode to the number, no shorter ones do, and no others as long.
         ensures law { IsSignedEncoded self.now }
     {
         encode_signed(*self, e)
@@ -299,7 +302,7 @@ impl Encode for usize {
         ensures memory { IsErrOf result EncodeError.Memory → self.now < 2 ^ 32 }
         ensures err { OnErr result (e.new.items ≡ e.old.items) }
 
-        // The bytes decode to the number, no shorter ones do, and no others of their length.
+        // The bytes decode to the number, no shorter ones do, and no others as long.
         ensures law { IsUnsignedEncoded self.now }
     {
         encode_length(*self, e)
@@ -334,7 +337,7 @@ pub fn encode_slice<T: Encode>(items: &[T], e: &mut Vec<u8>) -> Result<(), Encod
     ensures memory { IsErrOf result EncodeError.Memory → ListFits T.fits items.now }
     ensures err { OnErr result (e.new.items ≡ e.old.items) }
 
-    // The bytes in front decode to the length, no shorter ones do, and no others of their length.
+    // The bytes in front decode to the length, no shorter ones do, and no others as long.
     ensures law { IsUnsignedEncoded (length items.now) }
 {
     if !slice_fits(items) {
@@ -372,11 +375,11 @@ pub fn str_fits(text: &str) -> bool
 pub fn encode_str(text: &str, e: &mut Vec<u8>) -> Result<(), EncodeError>
     ensures ok { OnOk result (e.new.items ≡ e.old.items ++ text_encoding text.now) }
     ensures fitting { OnOk result (TextFits text.now) }
-    ensures too_long { IsErrOf result EncodeError.TooLong ↔ (2 ^ 32 ≤ length text.now) }
+    ensures too_long { IsErrOf result EncodeError.TooLong ↔ TextTooLong text.now }
     ensures memory { IsErrOf result EncodeError.Memory → TextFits text.now }
     ensures err { OnErr result (e.new.items ≡ e.old.items) }
 
-    // The bytes in front decode to the length, no shorter ones do, and no others of their length.
+    // The bytes in front decode to the length, no shorter ones do, and no others as long.
     ensures law { IsUnsignedEncoded (length text.now) }
 {
     let start = e.len();
@@ -388,7 +391,7 @@ pub fn encode_str(text: &str, e: &mut Vec<u8>) -> Result<(), EncodeError>
 fn push_text(text: &str, e: &mut Vec<u8>) -> Result<(), EncodeError>
     ensures ok { OnOk result (e.new.items ≡ e.old.items ++ text_encoding text.now) }
     ensures fitting { OnOk result (TextFits text.now) }
-    ensures too_long { IsErrOf result EncodeError.TooLong ↔ (2 ^ 32 ≤ length text.now) }
+    ensures too_long { IsErrOf result EncodeError.TooLong ↔ TextTooLong text.now }
     ensures memory { IsErrOf result EncodeError.Memory → TextFits text.now }
     ensures front { take (vec_len e.old) e.new.items ≡ e.old.items }
 {
@@ -398,9 +401,9 @@ fn push_text(text: &str, e: &mut Vec<u8>) -> Result<(), EncodeError>
 }
 
 impl<T: Encode> Encode for Vec<T> {
-    ghost use Rattle.wat_lex.specs.Encoding.{ListFits, list_encoding};
+    ghost use Rattle.wat_lex.specs.Encoding.{ListFits, vec_encoding};
 
-    ghost encoding = { λ list. list_encoding T.encoding list.items };
+    ghost encoding = { vec_encoding T.encoding };
 
     ghost fits = { λ list. ListFits T.fits list.items };
 
@@ -409,14 +412,14 @@ impl<T: Encode> Encode for Vec<T> {
     }
 
     fn encode(&self, e: &mut Vec<u8>) -> Result<(), EncodeError>
-        ensures ok { OnOk result (e.new.items ≡ e.old.items ++ list_encoding T.encoding self.now.items) }
+        ensures ok { OnOk result (e.new.items ≡ e.old.items ++ vec_encoding T.encoding self.now) }
         ensures fitting { OnOk result (ListFits T.fits self.now.items) }
         ensures too_long { IsErrOf result EncodeError.TooLong ↔ ¬ ListFits T.fits self.now.items }
         ensures too_many { 2 ^ 32 ≤ vec_len self.now → IsErrOf result EncodeError.TooLong }
         ensures memory { IsErrOf result EncodeError.Memory → ListFits T.fits self.now.items }
         ensures err { OnErr result (e.new.items ≡ e.old.items) }
 
-        // The bytes in front decode to the length, no shorter ones do, and no others of that length.
+        // The bytes in front decode to the length, no shorter ones do, and no others as long.
         ensures law { IsUnsignedEncoded (vec_len self.now) }
     {
         encode_slice(self.as_slice(), e)
@@ -424,25 +427,24 @@ impl<T: Encode> Encode for Vec<T> {
 }
 
 impl Encode for String {
-    ghost use Rattle.std.specs.Prelude.{string_bytes};
-    ghost use Rattle.wat_lex.specs.Encoding.{TextFits, text_encoding};
+    ghost use Rattle.wat_lex.specs.Encoding.{StringFits, string_encoding};
 
-    ghost encoding = { λ text. text_encoding (string_bytes text) };
+    ghost encoding = { string_encoding };
 
-    ghost fits = { λ text. TextFits (string_bytes text) };
+    ghost fits = { StringFits };
 
     fn fits(&self) -> bool {
         str_fits(self.as_str())
     }
 
     fn encode(&self, e: &mut Vec<u8>) -> Result<(), EncodeError>
-        ensures ok { OnOk result (e.new.items ≡ e.old.items ++ text_encoding (string_bytes self.now)) }
-        ensures fitting { OnOk result (TextFits (string_bytes self.now)) }
-        ensures too_long { IsErrOf result EncodeError.TooLong ↔ (2 ^ 32 ≤ length (string_bytes self.now)) }
-        ensures memory { IsErrOf result EncodeError.Memory → TextFits (string_bytes self.now) }
+        ensures ok { OnOk result (e.new.items ≡ e.old.items ++ string_encoding self.now) }
+        ensures fitting { OnOk result (StringFits self.now) }
+        ensures too_long { IsErrOf result EncodeError.TooLong ↔ StringTooLong self.now }
+        ensures memory { IsErrOf result EncodeError.Memory → StringFits self.now }
         ensures err { OnErr result (e.new.items ≡ e.old.items) }
 
-        // The bytes in front decode to the length, no shorter ones do, and no others of that length.
+        // The bytes in front decode to the length, no shorter ones do, and no others as long.
         ensures law { IsUnsignedEncoded (length (string_bytes self.now)) }
     {
         encode_str(self.as_str(), e)
@@ -504,12 +506,13 @@ impl<T: Encode, U: Encode> Encode for (T, U) {
 impl<T: Encode, U: Encode, V: Encode> Encode for (T, U, V) {
     ghost use Rattle.std.specs.Prelude.{◌++◌};
 
-    ghost encoding = { λ triple. T.encoding triple.0 ++ U.encoding triple.1 ++ V.encoding triple.2 };
+    ghost encoding = { λ parts. T.encoding parts.0 ++ U.encoding parts.1 ++ V.encoding parts.2 };
 
-    ghost fits = { λ triple. T.fits triple.0 × U.fits triple.1 × V.fits triple.2 };
+    ghost fits = { λ parts. T.fits parts.0 × U.fits parts.1 × V.fits parts.2 };
 
     fn fits(&self) -> bool {
-        self.0.fits() && self.1.fits() && self.2.fits()
+        let (first, second, third) = self;
+        first.fits() && second.fits() && third.fits()
     }
 
     fn encode(&self, e: &mut Vec<u8>) -> Result<(), EncodeError> {
@@ -532,15 +535,13 @@ mod tests {
         Ok(e)
     }
 
-    /// A value too long for the format is refused, and the buffer still holds what it held.
+    /// A value too long for the format is refused, whatever memory there is, and the buffer still
+    /// holds what it held.
     fn is_too_long<T: Encode>(rt: &impl Abort, alloc: Global, value: &T) -> Result<(), Fail> {
+        assert!(rt; !value.fits());
         let mut e = vec![in alloc; 0xff]?;
-        let refused = value.encode(&mut e);
+        assert_eq!(rt; value.encode(&mut e), Err(EncodeError::TooLong));
         assert_eq!(rt; e.as_slice(), [0xff].as_slice());
-        if refused == Err(EncodeError::Memory) {
-            return Ok(refused?);
-        }
-        assert_eq!(rt; refused, Err(EncodeError::TooLong));
         Ok(())
     }
 
@@ -639,13 +640,44 @@ mod tests {
     fn what_is_too_long_leaves_the_buffer(rt: HostRuntime) -> Result<(), Fail> {
         let alloc = rt.alloc();
         is_too_long(&rt, alloc, &4294967296usize)?;
+        is_too_long(&rt, alloc, &&4294967296usize)?;
+        is_too_long(&rt, alloc, &Box::new(alloc, 4294967296usize)?)?;
         is_too_long(&rt, alloc, &(5u8, 4294967296usize))?;
+        is_too_long(&rt, alloc, &(usize::MAX, 5u8))?;
+        is_too_long(&rt, alloc, &(usize::MAX, 5u8, 5u8))?;
         is_too_long(&rt, alloc, &(5u8, usize::MAX, 5u8))?;
         is_too_long(&rt, alloc, &(5u8, 5u8, usize::MAX))?;
-        is_too_long(&rt, alloc, &vec![in alloc; 1usize, usize::MAX, 1]?)
+        is_too_long(&rt, alloc, &vec![in alloc; 1usize, usize::MAX, 1]?)?;
+        is_too_long(&rt, alloc, &(5u8, vec![in alloc; (5u8, usize::MAX)]?))
     }
 
-    // The branches of want of memory are taken where the run refuses a request, as `--fail-alloc 2` does.
+    #[test]
+    fn a_list_that_is_too_long_leaves_the_buffer(rt: HostRuntime) -> Result<(), Fail> {
+        let alloc = rt.alloc();
+        let lengths = [1usize, 4294967296];
+        let mut e = vec![in alloc; 0xff]?;
+        assert!(rt; !slice_fits(&lengths));
+        assert_eq!(rt; encode_slice(&lengths, &mut e), Err(EncodeError::TooLong));
+        assert_eq!(rt; e.as_slice(), [0xff].as_slice());
+        Ok(())
+    }
+
+    #[test]
+    fn what_has_bytes_fits(rt: HostRuntime) -> Result<(), Fail> {
+        let alloc = rt.alloc();
+        assert!(rt; (5u8, u32::MAX, u64::MAX).fits());
+        assert!(rt; (i32::MIN, i64::MIN).fits());
+        assert!(rt; 4294967295usize.fits());
+        assert!(rt; Box::new(alloc, &4294967295usize)?.fits());
+        assert!(rt; vec![in alloc; 4294967295usize, 0]?.fits());
+        assert!(rt; String::from_str(alloc, "ab")?.fits());
+        assert!(rt; slice_fits::<usize>(&[]));
+        assert!(rt; str_fits(""));
+        Ok(())
+    }
+
+    // The branches of want of memory are taken where the run refuses a request, as does
+    // `--fail-alloc 2`.
     #[test]
     fn want_of_memory_leaves_the_buffer(rt: HostRuntime) -> Result<(), Fail> {
         let alloc = rt.alloc();
