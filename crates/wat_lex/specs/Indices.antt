@@ -10,6 +10,11 @@ abbrev pub span_of : Index → ℕ
 span_of (Num number span) = span
 span_of (Id id) = id.span
 
+-- whether an index holds an owned name: a number holds none
+abbrev pub owns_name : Index → Bool
+owns_name (Num number span) = false
+owns_name (Id id) = id.owned
+
 -- two indices are the same, whatever their places: equal numbers, or the same identifier
 abbrev pub IsSameIndex : Index → Index → Type 0
 IsSameIndex (Num m _) (Num n _) = m ≡ n

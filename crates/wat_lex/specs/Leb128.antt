@@ -61,6 +61,14 @@ unfoldable pub signed_leb128 : ℤ → List ℕ
 signed_leb128 (pos n) = continued (groups (group_count (2 * n)) n)
 signed_leb128 (negsuc n) = continued (map (λ g. 127 - g) (groups (group_count (2 * n)) n))
 
+-- the bytes of a number without a sign are its one encoding
+abbrev pub IsUnsignedEncoded : ℕ → Type 0
+IsUnsignedEncoded n = IsTheEncoding unsigned_value n (unsigned_leb128 n)
+
+-- those of a number with a sign are its one encoding
+abbrev pub IsSignedEncoded : ℤ → Type 0
+IsSignedEncoded n = IsTheEncoding signed_value n (signed_leb128 n)
+
 -- the seven least significant bits of a number in two's complement, and the number that the others are
 abbrev pub low_bits_of : ℤ → ℕ
 low_bits_of (pos n) = n % 128

@@ -1,8 +1,13 @@
 //! Values as bytes of the binary format.
 
-ghost use Rattle.std.specs.Prelude.{◌≡◌, ◌++◌, ◌^◌, ◌<◌, ◌≤◌, ◌↔◌, ℕ, List, [], ◌∷◌, IsErrOf, OnErr, OnOk, length, string_bytes, take, vec_len};
-ghost use Rattle.wat_lex.specs.Encoding.{ListFits, list_encoding, text_encoding};
-ghost use Rattle.wat_lex.specs.Leb128.{IsTheEncoding, high_bits_of, low_bits_of, signed_leb128, signed_value, unsigned_leb128, unsigned_value};
+ghost use Rattle.std.specs.Prelude.{◌≡◌, ◌++◌, ◌^◌, ◌<◌, ◌≤◌, ◌↔◌, ℕ, List, [], ◌∷◌};
+ghost use Rattle.std.specs.Prelude.{IsErrOf, IsTrue, OnErr, OnOk};
+ghost use Rattle.std.specs.Prelude.{length, string_bytes, take, vec_len};
+ghost use Rattle.wat_lex.specs.Encoding.{ListFits, StringFits, StringTooLong, TextFits};
+ghost use Rattle.wat_lex.specs.Encoding.{TextTooLong, list_encoding, string_encoding};
+ghost use Rattle.wat_lex.specs.Encoding.{text_encoding, vec_encoding};
+ghost use Rattle.wat_lex.specs.Leb128.{IsSignedEncoded, IsUnsignedEncoded, high_bits_of};
+ghost use Rattle.wat_lex.specs.Leb128.{low_bits_of, signed_leb128, unsigned_leb128};
 
 use std::alloc::{AllocError, AllocFailed};
 
@@ -45,11 +50,19 @@ pub trait Encode {
     /// Each length and each `usize` in a value is at most `u32::MAX`.
     ghost fits: { Self → Type 0 };
 
+    /// Whether each length and each `usize` in the value is at most `u32::MAX`. Types that hold
+    /// none answer true.
+    fn fits(&self) -> bool
+        ensures { IsTrue result ↔ fits self.now };
+
     /// Appends the bytes of the value. A refusal leaves the buffer as it was.
+    ///
+    /// A value that has no bytes is told as that, whatever memory there is.
     fn encode(&self, e: &mut Vec<u8>) -> Result<(), EncodeError>
         ensures ok { OnOk result (e.new.items ≡ e.old.items ++ encoding self.now) }
         ensures fitting { OnOk result (fits self.now) }
-        ensures too_long { IsErrOf result EncodeError.TooLong → ¬ fits self.now }
+        ensures too_long { IsErrOf result EncodeError.TooLong ↔ ¬ fits self.now }
+        ensures memory { IsErrOf result EncodeError.Memory → fits self.now }
         ensures err { OnErr result (e.new.items ≡ e.old.items) };
 }
 
@@ -112,7 +125,8 @@ fn high_bits(number: i64) -> i64
 /// Appends the unsigned LEB128 bytes of a number.
 fn encode_unsigned(number: u64, e: &mut Vec<u8>) -> Result<(), EncodeError>
     ensures ok { OnOk result (e.new.items ≡ e.old.items ++ unsigned_leb128 number) }
-    ensures err { OnErr result ((result ≡ Err EncodeError.Memory) × (e.new.items ≡ e.old.items)) }
+    ensures memory { OnErr result (result ≡ Err EncodeError.Memory) }
+    ensures err { OnErr result (e.new.items ≡ e.old.items) }
 {
     let start = e.len();
     let written = push_unsigned(number, e);
@@ -122,11 +136,19 @@ fn encode_unsigned(number: u64, e: &mut Vec<u8>) -> Result<(), EncodeError>
 /// Appends the signed LEB128 bytes of a number.
 fn encode_signed(number: i64, e: &mut Vec<u8>) -> Result<(), EncodeError>
     ensures ok { OnOk result (e.new.items ≡ e.old.items ++ signed_leb128 number) }
-    ensures err { OnErr result ((result ≡ Err EncodeError.Memory) × (e.new.items ≡ e.old.items)) }
+    ensures memory { OnErr result (result ≡ Err EncodeError.Memory) }
+    ensures err { OnErr result (e.new.items ≡ e.old.items) }
 {
     let start = e.len();
     let written = push_signed(number, e);
     taken_back(written, start, e)
+}
+
+/// Whether a length is at most `u32::MAX`.
+fn length_fits(length: usize) -> bool
+    ensures { IsTrue result ↔ (length < 2 ^ 32) }
+{
+    u32::try_from(length).is_ok()
 }
 
 /// Appends a length, of which a refusal leaves nothing.
@@ -134,12 +156,13 @@ fn encode_length(length: usize, e: &mut Vec<u8>) -> Result<(), EncodeError>
     ensures ok { OnOk result (e.new.items ≡ e.old.items ++ unsigned_leb128 length) }
     ensures fitting { OnOk result (length < 2 ^ 32) }
     ensures too_long { IsErrOf result EncodeError.TooLong ↔ (2 ^ 32 ≤ length) }
+    ensures memory { IsErrOf result EncodeError.Memory → length < 2 ^ 32 }
     ensures err { OnErr result (e.new.items ≡ e.old.items) }
 {
-    let Ok(length) = u32::try_from(length) else {
+    if !length_fits(length) {
         return Err(EncodeError::TooLong);
-    };
-    encode_unsigned(u64::from(length), e)
+    }
+    encode_unsigned(length as u64, e)
 }
 
 impl Encode for u8 {
@@ -149,9 +172,14 @@ impl Encode for u8 {
 
     ghost fits = { λ _. Unit {0} };
 
+    fn fits(&self) -> bool {
+        true
+    }
+
     fn encode(&self, e: &mut Vec<u8>) -> Result<(), EncodeError>
         ensures ok { OnOk result (e.new.items ≡ e.old.items ++ self.now ∷ []) }
-        ensures err { OnErr result ((result ≡ Err EncodeError.Memory) × (e.new.items ≡ e.old.items)) }
+        ensures memory { OnErr result (result ≡ Err EncodeError.Memory) }
+        ensures err { OnErr result (e.new.items ≡ e.old.items) }
     {
         e.push(*self)?;
         Ok(())
@@ -166,12 +194,17 @@ impl Encode for u32 {
 
     ghost fits = { λ _. Unit {0} };
 
+    fn fits(&self) -> bool {
+        true
+    }
+
     fn encode(&self, e: &mut Vec<u8>) -> Result<(), EncodeError>
         ensures ok { OnOk result (e.new.items ≡ e.old.items ++ unsigned_leb128 self.now) }
-        ensures err { OnErr result ((result ≡ Err EncodeError.Memory) × (e.new.items ≡ e.old.items)) }
+        ensures memory { OnErr result (result ≡ Err EncodeError.Memory) }
+        ensures err { OnErr result (e.new.items ≡ e.old.items) }
 
-        // The bytes decode to the number, no shorter ones do, and no others of their length.
-        ensures law { IsTheEncoding unsigned_value self.now (unsigned_leb128 self.now) }
+        // The bytes decode to the number, no shorter ones do, and no others as long.
+        ensures law { IsUnsignedEncoded self.now }
     {
         encode_unsigned(u64::from(*self), e)
     }
@@ -185,12 +218,17 @@ impl Encode for u64 {
 
     ghost fits = { λ _. Unit {0} };
 
+    fn fits(&self) -> bool {
+        true
+    }
+
     fn encode(&self, e: &mut Vec<u8>) -> Result<(), EncodeError>
         ensures ok { OnOk result (e.new.items ≡ e.old.items ++ unsigned_leb128 self.now) }
-        ensures err { OnErr result ((result ≡ Err EncodeError.Memory) × (e.new.items ≡ e.old.items)) }
+        ensures memory { OnErr result (result ≡ Err EncodeError.Memory) }
+        ensures err { OnErr result (e.new.items ≡ e.old.items) }
 
-        // The bytes decode to the number, no shorter ones do, and no others of their length.
-        ensures law { IsTheEncoding unsigned_value self.now (unsigned_leb128 self.now) }
+        // The bytes decode to the number, no shorter ones do, and no others as long.
+        ensures law { IsUnsignedEncoded self.now }
     {
         encode_unsigned(*self, e)
     }
@@ -204,12 +242,17 @@ impl Encode for i32 {
 
     ghost fits = { λ _. Unit {0} };
 
+    fn fits(&self) -> bool {
+        true
+    }
+
     fn encode(&self, e: &mut Vec<u8>) -> Result<(), EncodeError>
         ensures ok { OnOk result (e.new.items ≡ e.old.items ++ signed_leb128 self.now) }
-        ensures err { OnErr result ((result ≡ Err EncodeError.Memory) × (e.new.items ≡ e.old.items)) }
+        ensures memory { OnErr result (result ≡ Err EncodeError.Memory) }
+        ensures err { OnErr result (e.new.items ≡ e.old.items) }
 
-        // The bytes decode to the number, no shorter ones do, and no others of their length.
-        ensures law { IsTheEncoding signed_value self.now (signed_leb128 self.now) }
+        // The bytes decode to the number, no shorter ones do, and no others as long.
+        ensures law { IsSignedEncoded self.now }
     {
         encode_signed(i64::from(*self), e)
     }
@@ -223,12 +266,17 @@ impl Encode for i64 {
 
     ghost fits = { λ _. Unit {0} };
 
+    fn fits(&self) -> bool {
+        true
+    }
+
     fn encode(&self, e: &mut Vec<u8>) -> Result<(), EncodeError>
         ensures ok { OnOk result (e.new.items ≡ e.old.items ++ signed_leb128 self.now) }
-        ensures err { OnErr result ((result ≡ Err EncodeError.Memory) × (e.new.items ≡ e.old.items)) }
+        ensures memory { OnErr result (result ≡ Err EncodeError.Memory) }
+        ensures err { OnErr result (e.new.items ≡ e.old.items) }
 
-        // The bytes decode to the number, no shorter ones do, and no others of their length.
-        ensures law { IsTheEncoding signed_value self.now (signed_leb128 self.now) }
+        // The bytes decode to the number, no shorter ones do, and no others as long.
+        ensures law { IsSignedEncoded self.now }
     {
         encode_signed(*self, e)
     }
@@ -243,30 +291,58 @@ impl Encode for usize {
 
     ghost fits = { λ length. length < 2 ^ 32 };
 
+    fn fits(&self) -> bool {
+        length_fits(*self)
+    }
+
     fn encode(&self, e: &mut Vec<u8>) -> Result<(), EncodeError>
         ensures ok { OnOk result (e.new.items ≡ e.old.items ++ unsigned_leb128 self.now) }
         ensures fitting { OnOk result (self.now < 2 ^ 32) }
         ensures too_long { IsErrOf result EncodeError.TooLong ↔ (2 ^ 32 ≤ self.now) }
+        ensures memory { IsErrOf result EncodeError.Memory → self.now < 2 ^ 32 }
         ensures err { OnErr result (e.new.items ≡ e.old.items) }
 
-        // The bytes decode to the number, no shorter ones do, and no others of their length.
-        ensures law { IsTheEncoding unsigned_value self.now (unsigned_leb128 self.now) }
+        // The bytes decode to the number, no shorter ones do, and no others as long.
+        ensures law { IsUnsignedEncoded self.now }
     {
         encode_length(*self, e)
     }
 }
 
-/// Appends a list: how many items it has, as a `u32`, and then each of them. A refusal leaves the buffer as it was.
+/// Whether a list has bytes: its length, and each length and each `usize` in its items, is at most
+/// `u32::MAX`.
+pub fn slice_fits<T: Encode>(items: &[T]) -> bool
+    ensures { IsTrue result ↔ ListFits T.fits items.now }
+{
+    if !length_fits(items.len()) {
+        return false;
+    }
+    for item in items {
+        if !item.fits() {
+            return false;
+        }
+    }
+    true
+}
+
+/// Appends a list: how many items it has, as a `u32`, and then each of them.
+///
+/// A refusal leaves the buffer as it was. A list that has no bytes is told as that, whatever memory
+/// there is.
 pub fn encode_slice<T: Encode>(items: &[T], e: &mut Vec<u8>) -> Result<(), EncodeError>
     ensures ok { OnOk result (e.new.items ≡ e.old.items ++ list_encoding T.encoding items.now) }
     ensures fitting { OnOk result (ListFits T.fits items.now) }
-    ensures too_long { IsErrOf result EncodeError.TooLong → ¬ ListFits T.fits items.now }
+    ensures too_long { IsErrOf result EncodeError.TooLong ↔ ¬ ListFits T.fits items.now }
     ensures too_many { 2 ^ 32 ≤ length items.now → IsErrOf result EncodeError.TooLong }
+    ensures memory { IsErrOf result EncodeError.Memory → ListFits T.fits items.now }
     ensures err { OnErr result (e.new.items ≡ e.old.items) }
 
-    // The bytes in front decode to the length, no shorter ones do, and no others of their length.
-    ensures law { IsTheEncoding unsigned_value (length items.now) (unsigned_leb128 (length items.now)) }
+    // The bytes in front decode to the length, no shorter ones do, and no others as long.
+    ensures law { IsUnsignedEncoded (length items.now) }
 {
+    if !slice_fits(items) {
+        return Err(EncodeError::TooLong);
+    }
     let start = e.len();
     let written = push_items(items, e);
     taken_back(written, start, e)
@@ -275,9 +351,7 @@ pub fn encode_slice<T: Encode>(items: &[T], e: &mut Vec<u8>) -> Result<(), Encod
 /// Appends a list, of which a refusal leaves a part.
 fn push_items<T: Encode>(items: &[T], e: &mut Vec<u8>) -> Result<(), EncodeError>
     ensures ok { OnOk result (e.new.items ≡ e.old.items ++ list_encoding T.encoding items.now) }
-    ensures fitting { OnOk result (ListFits T.fits items.now) }
     ensures too_long { IsErrOf result EncodeError.TooLong → ¬ ListFits T.fits items.now }
-    ensures too_many { 2 ^ 32 ≤ length items.now → IsErrOf result EncodeError.TooLong }
     ensures front { take (vec_len e.old) e.new.items ≡ e.old.items }
 {
     encode_length(items.len(), e)?;
@@ -287,15 +361,26 @@ fn push_items<T: Encode>(items: &[T], e: &mut Vec<u8>) -> Result<(), EncodeError
     Ok(())
 }
 
-/// Appends a text: how many bytes it has, as a `u32`, and then these. A refusal leaves the buffer as it was.
+/// Whether a text has bytes: its length in bytes is at most `u32::MAX`.
+pub fn str_fits(text: &str) -> bool
+    ensures { IsTrue result ↔ TextFits text.now }
+{
+    length_fits(text.len())
+}
+
+/// Appends a text: how many bytes it has, as a `u32`, and then these.
+///
+/// A refusal leaves the buffer as it was. A text that has no bytes is told as that, whatever memory
+/// there is.
 pub fn encode_str(text: &str, e: &mut Vec<u8>) -> Result<(), EncodeError>
     ensures ok { OnOk result (e.new.items ≡ e.old.items ++ text_encoding text.now) }
-    ensures fitting { OnOk result (length text.now < 2 ^ 32) }
-    ensures too_long { IsErrOf result EncodeError.TooLong ↔ (2 ^ 32 ≤ length text.now) }
+    ensures fitting { OnOk result (TextFits text.now) }
+    ensures too_long { IsErrOf result EncodeError.TooLong ↔ TextTooLong text.now }
+    ensures memory { IsErrOf result EncodeError.Memory → TextFits text.now }
     ensures err { OnErr result (e.new.items ≡ e.old.items) }
 
-    // The bytes in front decode to the length, no shorter ones do, and no others of their length.
-    ensures law { IsTheEncoding unsigned_value (length text.now) (unsigned_leb128 (length text.now)) }
+    // The bytes in front decode to the length, no shorter ones do, and no others as long.
+    ensures law { IsUnsignedEncoded (length text.now) }
 {
     let start = e.len();
     let written = push_text(text, e);
@@ -305,8 +390,9 @@ pub fn encode_str(text: &str, e: &mut Vec<u8>) -> Result<(), EncodeError>
 /// Appends a text, of which a refusal leaves a part.
 fn push_text(text: &str, e: &mut Vec<u8>) -> Result<(), EncodeError>
     ensures ok { OnOk result (e.new.items ≡ e.old.items ++ text_encoding text.now) }
-    ensures fitting { OnOk result (length text.now < 2 ^ 32) }
-    ensures too_long { IsErrOf result EncodeError.TooLong ↔ (2 ^ 32 ≤ length text.now) }
+    ensures fitting { OnOk result (TextFits text.now) }
+    ensures too_long { IsErrOf result EncodeError.TooLong ↔ TextTooLong text.now }
+    ensures memory { IsErrOf result EncodeError.Memory → TextFits text.now }
     ensures front { take (vec_len e.old) e.new.items ≡ e.old.items }
 {
     encode_length(text.len(), e)?;
@@ -315,42 +401,51 @@ fn push_text(text: &str, e: &mut Vec<u8>) -> Result<(), EncodeError>
 }
 
 impl<T: Encode> Encode for Vec<T> {
-    ghost use Rattle.wat_lex.specs.Encoding.{ListFits, list_encoding};
+    ghost use Rattle.wat_lex.specs.Encoding.{ListFits, vec_encoding};
 
-    ghost encoding = { λ list. list_encoding T.encoding list.items };
+    ghost encoding = { vec_encoding T.encoding };
 
     ghost fits = { λ list. ListFits T.fits list.items };
 
+    fn fits(&self) -> bool {
+        slice_fits(self.as_slice())
+    }
+
     fn encode(&self, e: &mut Vec<u8>) -> Result<(), EncodeError>
-        ensures ok { OnOk result (e.new.items ≡ e.old.items ++ list_encoding T.encoding self.now.items) }
+        ensures ok { OnOk result (e.new.items ≡ e.old.items ++ vec_encoding T.encoding self.now) }
         ensures fitting { OnOk result (ListFits T.fits self.now.items) }
-        ensures too_long { IsErrOf result EncodeError.TooLong → ¬ ListFits T.fits self.now.items }
+        ensures too_long { IsErrOf result EncodeError.TooLong ↔ ¬ ListFits T.fits self.now.items }
         ensures too_many { 2 ^ 32 ≤ vec_len self.now → IsErrOf result EncodeError.TooLong }
+        ensures memory { IsErrOf result EncodeError.Memory → ListFits T.fits self.now.items }
         ensures err { OnErr result (e.new.items ≡ e.old.items) }
 
-        // The bytes in front decode to the length, no shorter ones do, and no others of their length.
-        ensures law { IsTheEncoding unsigned_value (vec_len self.now) (unsigned_leb128 (vec_len self.now)) }
+        // The bytes in front decode to the length, no shorter ones do, and no others as long.
+        ensures law { IsUnsignedEncoded (vec_len self.now) }
     {
         encode_slice(self.as_slice(), e)
     }
 }
 
 impl Encode for String {
-    ghost use Rattle.std.specs.Prelude.{◌<◌, ◌^◌, length, string_bytes};
-    ghost use Rattle.wat_lex.specs.Encoding.{text_encoding};
+    ghost use Rattle.wat_lex.specs.Encoding.{StringFits, string_encoding};
 
-    ghost encoding = { λ text. text_encoding (string_bytes text) };
+    ghost encoding = { string_encoding };
 
-    ghost fits = { λ text. length (string_bytes text) < 2 ^ 32 };
+    ghost fits = { StringFits };
+
+    fn fits(&self) -> bool {
+        str_fits(self.as_str())
+    }
 
     fn encode(&self, e: &mut Vec<u8>) -> Result<(), EncodeError>
-        ensures ok { OnOk result (e.new.items ≡ e.old.items ++ text_encoding (string_bytes self.now)) }
-        ensures fitting { OnOk result (length (string_bytes self.now) < 2 ^ 32) }
-        ensures too_long { IsErrOf result EncodeError.TooLong ↔ (2 ^ 32 ≤ length (string_bytes self.now)) }
+        ensures ok { OnOk result (e.new.items ≡ e.old.items ++ string_encoding self.now) }
+        ensures fitting { OnOk result (StringFits self.now) }
+        ensures too_long { IsErrOf result EncodeError.TooLong ↔ StringTooLong self.now }
+        ensures memory { IsErrOf result EncodeError.Memory → StringFits self.now }
         ensures err { OnErr result (e.new.items ≡ e.old.items) }
 
-        // The bytes in front decode to the length, no shorter ones do, and no others of their length.
-        ensures law { IsTheEncoding unsigned_value (length (string_bytes self.now)) (unsigned_leb128 (length (string_bytes self.now))) }
+        // The bytes in front decode to the length, no shorter ones do, and no others as long.
+        ensures law { IsUnsignedEncoded (length (string_bytes self.now)) }
     {
         encode_str(self.as_str(), e)
     }
@@ -361,6 +456,10 @@ impl<'a, T: Encode> Encode for &'a T {
 
     ghost fits = { λ value. T.fits value.now };
 
+    fn fits(&self) -> bool {
+        T::fits(*self)
+    }
+
     fn encode(&self, e: &mut Vec<u8>) -> Result<(), EncodeError> {
         T::encode(*self, e)
     }
@@ -370,6 +469,10 @@ impl<T: Encode> Encode for Box<T> {
     ghost encoding = { λ value. T.encoding value.value };
 
     ghost fits = { λ value. T.fits value.value };
+
+    fn fits(&self) -> bool {
+        T::fits(&**self)
+    }
 
     fn encode(&self, e: &mut Vec<u8>) -> Result<(), EncodeError> {
         T::encode(&**self, e)
@@ -384,7 +487,14 @@ impl<T: Encode, U: Encode> Encode for (T, U) {
 
     ghost fits = { λ pair. T.fits pair.0 × U.fits pair.1 };
 
+    fn fits(&self) -> bool {
+        self.0.fits() && self.1.fits()
+    }
+
     fn encode(&self, e: &mut Vec<u8>) -> Result<(), EncodeError> {
+        if !self.fits() {
+            return Err(EncodeError::TooLong);
+        }
         let start = e.len();
         self.0.encode(e)?;
         let written = self.1.encode(e);
@@ -396,9 +506,14 @@ impl<T: Encode, U: Encode> Encode for (T, U) {
 impl<T: Encode, U: Encode, V: Encode> Encode for (T, U, V) {
     ghost use Rattle.std.specs.Prelude.{◌++◌};
 
-    ghost encoding = { λ triple. T.encoding triple.0 ++ U.encoding triple.1 ++ V.encoding triple.2 };
+    ghost encoding = { λ parts. T.encoding parts.0 ++ U.encoding parts.1 ++ V.encoding parts.2 };
 
-    ghost fits = { λ triple. T.fits triple.0 × U.fits triple.1 × V.fits triple.2 };
+    ghost fits = { λ parts. T.fits parts.0 × U.fits parts.1 × V.fits parts.2 };
+
+    fn fits(&self) -> bool {
+        let (first, second, third) = self;
+        first.fits() && second.fits() && third.fits()
+    }
 
     fn encode(&self, e: &mut Vec<u8>) -> Result<(), EncodeError> {
         let (first, second, third) = self;
@@ -420,15 +535,13 @@ mod tests {
         Ok(e)
     }
 
-    /// A value too long for the format is refused, and the buffer still holds what it held.
+    /// A value too long for the format is refused, whatever memory there is, and the buffer still
+    /// holds what it held.
     fn is_too_long<T: Encode>(rt: &impl Abort, alloc: Global, value: &T) -> Result<(), Fail> {
+        assert!(rt; !value.fits());
         let mut e = vec![in alloc; 0xff]?;
-        let refused = value.encode(&mut e);
+        assert_eq!(rt; value.encode(&mut e), Err(EncodeError::TooLong));
         assert_eq!(rt; e.as_slice(), [0xff].as_slice());
-        if refused == Err(EncodeError::Memory) {
-            return Ok(refused?);
-        }
-        assert_eq!(rt; refused, Err(EncodeError::TooLong));
         Ok(())
     }
 
@@ -527,13 +640,44 @@ mod tests {
     fn what_is_too_long_leaves_the_buffer(rt: HostRuntime) -> Result<(), Fail> {
         let alloc = rt.alloc();
         is_too_long(&rt, alloc, &4294967296usize)?;
+        is_too_long(&rt, alloc, &&4294967296usize)?;
+        is_too_long(&rt, alloc, &Box::new(alloc, 4294967296usize)?)?;
         is_too_long(&rt, alloc, &(5u8, 4294967296usize))?;
+        is_too_long(&rt, alloc, &(usize::MAX, 5u8))?;
+        is_too_long(&rt, alloc, &(usize::MAX, 5u8, 5u8))?;
         is_too_long(&rt, alloc, &(5u8, usize::MAX, 5u8))?;
         is_too_long(&rt, alloc, &(5u8, 5u8, usize::MAX))?;
-        is_too_long(&rt, alloc, &vec![in alloc; 1usize, usize::MAX, 1]?)
+        is_too_long(&rt, alloc, &vec![in alloc; 1usize, usize::MAX, 1]?)?;
+        is_too_long(&rt, alloc, &(5u8, vec![in alloc; (5u8, usize::MAX)]?))
     }
 
-    // The branches of want of memory are taken where the run refuses a request, as `--fail-alloc 2` does.
+    #[test]
+    fn a_list_that_is_too_long_leaves_the_buffer(rt: HostRuntime) -> Result<(), Fail> {
+        let alloc = rt.alloc();
+        let lengths = [1usize, 4294967296];
+        let mut e = vec![in alloc; 0xff]?;
+        assert!(rt; !slice_fits(&lengths));
+        assert_eq!(rt; encode_slice(&lengths, &mut e), Err(EncodeError::TooLong));
+        assert_eq!(rt; e.as_slice(), [0xff].as_slice());
+        Ok(())
+    }
+
+    #[test]
+    fn what_has_bytes_fits(rt: HostRuntime) -> Result<(), Fail> {
+        let alloc = rt.alloc();
+        assert!(rt; (5u8, u32::MAX, u64::MAX).fits());
+        assert!(rt; (i32::MIN, i64::MIN).fits());
+        assert!(rt; 4294967295usize.fits());
+        assert!(rt; Box::new(alloc, &4294967295usize)?.fits());
+        assert!(rt; vec![in alloc; 4294967295usize, 0]?.fits());
+        assert!(rt; String::from_str(alloc, "ab")?.fits());
+        assert!(rt; slice_fits::<usize>(&[]));
+        assert!(rt; str_fits(""));
+        Ok(())
+    }
+
+    // The branches of want of memory are taken where the run refuses a request, as does
+    // `--fail-alloc 2`.
     #[test]
     fn want_of_memory_leaves_the_buffer(rt: HostRuntime) -> Result<(), Fail> {
         let alloc = rt.alloc();

@@ -1,7 +1,8 @@
 //! Identifiers that a program makes, each of which differs from all that a text spells.
 
-ghost use Rattle.std.specs.Prelude.{◌≡◌, ◌≢◌, ◌+◌, ◌≤◌, ◌↔◌, ℕ, None, Some, IsErr, IsErrOf, IfErr, IfOk, OnErr, OnOk, IfSome, IfNone};
-ghost use Rattle.wat_lex.specs.Identifiers.{Identifier, IsSameIdentifier, generated};
+ghost use Rattle.std.specs.Prelude.{◌≡◌, ◌≢◌, ◌+◌, ◌↔◌, false, None, Some, IsErr, IsErrOf, IsOk};
+ghost use Rattle.std.specs.Prelude.{IfErr, IfNone, IfOk, IfSome, OnErr, OnOk};
+ghost use Rattle.wat_lex.specs.Identifiers.{IsFresh, generated};
 
 use crate::token::{Id, Span};
 use std::alloc::Global;
@@ -56,9 +57,9 @@ impl Gensym {
         ensures full { IsErr result ↔ (self.old ≡ u32.MAX) }
         ensures err { OnErr result (self.new ≡ self.old) }
 
-        // It differs from what a text spells and from what the counter has made since it was last reset, whose
-        // generations are at most the counter.
-        ensures fresh { IfOk result (λ id. (other : Identifier) → other.generation ≤ self.old → ¬ IsSameIdentifier id other) }
+        // It differs from what a text spells and from what the counter has made since it was last
+        // reset, whose generations are at most the counter.
+        ensures fresh { IfOk result (IsFresh self.old) }
     {
         if self.generation == u32::MAX {
             return Err(GensymFull);
@@ -67,7 +68,9 @@ impl Gensym {
         Ok(Id::gensym(span, self.generation))
     }
 
-    /// A copy of what a slot holds, after an identifier was put into an empty one. Filling an empty one takes no memory.
+    /// A copy of what a slot holds, after an identifier was put into an empty one.
+    ///
+    /// It takes memory only where the slot holds an identifier whose name is owned.
     pub fn fill<'a>(
         &mut self,
         alloc: Global,
@@ -75,14 +78,21 @@ impl Gensym {
         slot: &mut Option<Id<'a>>,
     ) -> Result<Id<'a>, FillError>
         // A slot that holds an identifier keeps it, and only the copy can find no memory.
-        ensures held { IfSome slot.old (λ id. (slot.new ≡ Some id) × (self.new ≡ self.old) × (IfOk result (λ copy. copy ≡ id)) × IfErr result (λ e. e ≡ FillError.Memory)) }
+        ensures held { IfSome slot.old (λ id. (slot.new ≡ Some id) × (self.new ≡ self.old)) }
+        ensures copied { IfSome slot.old (λ id. IfOk result (λ copy. copy ≡ id)) }
+        ensures refused { IfSome slot.old (λ _. IfErr result (λ e. e ≡ FillError.Memory)) }
+        ensures free { IfSome slot.old (λ id. id.owned ≡ false → IsOk result) }
 
-        // An empty one is filled as `generate` makes identifiers, unless the counter is at its last value.
-        ensures empty { IfNone slot.old (IfOk result (λ id. (id ≡ generated self.new span) × (slot.new ≡ Some id) × (self.new ≡ self.old + 1))) }
+        // An empty one is filled as `generate` makes identifiers, unless the counter is at its last
+        // value.
+        ensures made { IfNone slot.old (IfOk result (λ id. id ≡ generated self.new span)) }
+        ensures filled { IfNone slot.old (IfOk result (λ id. slot.new ≡ Some id)) }
+        ensures counts { IfNone slot.old (OnOk result (self.new ≡ self.old + 1)) }
         ensures full { IsErrOf result FillError.Full ↔ ((slot.old ≡ None) × (self.old ≡ u32.MAX)) }
         ensures no_memory { IfNone slot.old (result ≢ Err FillError.Memory) }
+        ensures fresh { IfNone slot.old (IfOk result (IsFresh self.old)) }
+
         ensures err { OnErr result ((slot.new ≡ slot.old) × (self.new ≡ self.old)) }
-        ensures fresh { IfNone slot.old (IfOk result (λ id. (other : Identifier) → other.generation ≤ self.old → ¬ IsSameIdentifier id other)) }
     {
         if let Some(id) = slot {
             return id.clone(alloc).map_err(|_| FillError::Memory);
@@ -118,6 +128,15 @@ mod tests {
     }
 
     #[test]
+    fn the_first_identifier_shows_generation_one(rt: HostRuntime) -> Result<(), Fail> {
+        let alloc = rt.alloc();
+        let first = Gensym::new().generate(Span::from_offset(3))?;
+        let shown = format!(in alloc; "{first:?}")?;
+        assert_eq!(rt; shown.as_str(), "Id { generation: 1 }");
+        Ok(())
+    }
+
+    #[test]
     fn a_full_slot_is_copied(rt: HostRuntime) -> Result<(), Fail> {
         let alloc = rt.alloc();
         let span = Span::from_offset(0);
@@ -131,7 +150,8 @@ mod tests {
         Ok(())
     }
 
-    // The branches of want of memory are taken where the run refuses a request, as `--fail-alloc 2` does.
+    // The branches of want of memory are taken where the run refuses a request, as does
+    // `--fail-alloc 2`.
     #[test]
     fn want_of_memory_leaves_slot_and_counter(rt: HostRuntime) -> Result<(), Fail> {
         let alloc = rt.alloc();

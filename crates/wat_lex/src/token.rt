@@ -1,10 +1,10 @@
 //! What readers of the text format share: places, identifiers and indices.
 
-ghost use Rattle.std.specs.Prelude.{◌≡◌, ◌<◌, ◌≤◌, ◌↔◌, not, length, IsTrue, IfOk};
-ghost use Rattle.std.specs.Cow.{cow_str_bytes};
+ghost use Rattle.std.specs.Prelude.{◌≡◌, ◌<◌, ◌≤◌, ◌↔◌, false, not, length, IsTrue, IfOk, IsOk};
 ghost use Rattle.std.specs.List.{count_by, suffix_len};
-ghost use Rattle.wat_lex.specs.Identifiers.{IsSameIdentifier, generated, is_same_identifier};
-ghost use Rattle.wat_lex.specs.Indices.{IsSameIndex, is_same_index, span_of};
+ghost use Rattle.wat_lex.specs.Identifiers.{IsSameIdentifier, generated, identifier};
+ghost use Rattle.wat_lex.specs.Identifiers.{is_same_identifier};
+ghost use Rattle.wat_lex.specs.Indices.{IsSameIndex, is_same_index, owns_name, span_of};
 ghost use Rattle.wat_lex.specs.Positions.{is_line_feed, line_and_column};
 
 use memchr::{memchr_iter, memrchr};
@@ -45,7 +45,8 @@ impl Span {
         self.offset
     }
 
-    /// Line and column of the place in a text, both from 0. A line ends at a line feed, and a column is a number of bytes.
+    /// Line and column of the place in a text, both from 0. A line ends at a line feed, and a
+    /// column is a number of bytes.
     ///
     /// Past the text's end the line is the number of lines, and the column 0.
     pub fn linecol_in(&self, text: &str) -> (usize, usize)
@@ -80,10 +81,12 @@ fn since_line_feed(text: &[u8]) -> usize
     }
 }
 
-/// An identifier: a name, and where it stands. The name is without the `$` that the text has before it.
+/// An identifier: a name, and where it stands. The name is without the `$` that the text has before
+/// it.
 ///
-/// What a text spells has generation 0. [`Gensym`](crate::gensym::Gensym) makes identifiers of other generations,
-/// which differ from each of those. Equality and hash look at name and generation alone.
+/// What a text spells has generation 0. [`Gensym`](crate::gensym::Gensym) makes identifiers of
+/// other generations, which differ from each of those. Equality and hash look at name and
+/// generation alone.
 #[derive(Drop)]
 pub struct Id<'a> {
     name: CowStr<'a>,
@@ -92,25 +95,24 @@ pub struct Id<'a> {
 }
 
 impl<'a> Model for Id<'a> {
-    ghost use Rattle.std.specs.Cow.{cow_str_bytes};
-    ghost use Rattle.wat_lex.specs.Identifiers.{Identifier};
+    ghost use Rattle.wat_lex.specs.Identifiers.{Identifier, identifier};
 
     ghost Value = { Identifier };
 
-    ghost view = { λ i. record { name = cow_str_bytes i.name; generation = i.generation; span = i.span } };
+    ghost view = { λ i. identifier i.name i.generation i.span };
 }
 
 impl<'a> Id<'a> {
     /// The identifier of a name at a place. Any text is a name.
     pub fn new(name: &'a str, span: Span) -> Id<'a>
-        ensures { result ≡ record { name = name.now; generation = 0; span = span } }
+        ensures { result ≡ record { name = name.now; owned = false; generation = 0; span = span } }
     {
         Id::from_cow(CowStr::Borrowed(name), span)
     }
 
     /// The same, of a name that may be owned.
     pub fn from_cow(name: CowStr<'a>, span: Span) -> Id<'a>
-        ensures { result ≡ record { name = cow_str_bytes name.entry; generation = 0; span = span } }
+        ensures { result ≡ identifier name.entry 0 span }
     {
         Id {
             name,
@@ -144,9 +146,10 @@ impl<'a> Id<'a> {
         self.span
     }
 
-    /// A copy. An owned name is copied too.
+    /// A copy. An owned name is copied too. Of a borrowed one the copy takes no memory.
     pub fn clone(&self, alloc: Global) -> Result<Self, AllocError>
-        ensures { IfOk result (λ copy. copy ≡ self.now) }
+        ensures copy { IfOk result (λ copy. copy ≡ self.now) }
+        ensures free { self.now.owned ≡ false → IsOk result }
     {
         let name = match &self.name {
             CowStr::Borrowed(name) => CowStr::Borrowed(*name),
@@ -234,9 +237,10 @@ impl<'a> Index<'a> {
         }
     }
 
-    /// A copy, as [`Id::clone`] makes one of an identifier.
+    /// A copy, as [`Id::clone`] makes one of an identifier. Of a number it takes no memory.
     pub fn clone(&self, alloc: Global) -> Result<Self, AllocError>
-        ensures { IfOk result (λ copy. copy ≡ self.now) }
+        ensures copy { IfOk result (λ copy. copy ≡ self.now) }
+        ensures free { owns_name self.now ≡ false → IsOk result }
     {
         match self {
             Index::Num(number, span) => Ok(Index::Num(*number, *span)),
