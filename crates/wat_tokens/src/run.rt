@@ -134,7 +134,8 @@ pub fn run_list<R: Source, W: Sink>(
     requires output { W.has_failed output.old ≡ false }
     ensures listed { IfOk result (λ error. IfSome (R.left input.old) (λ bytes.
         AppendsLines settings bytes error (W.held output.old) (W.held output.new))) }
-    // A source that has ended was read whole.
+
+    // These come only once the source was read to its end.
     ensures ended { OnOk result (HasEnded (R.left input.new) (R.has_ended input.new)) }
     ensures not_utf8_ended { IsErrOf result RunError.NotUtf8 →
         HasEnded (R.left input.new) (R.has_ended input.new) }
