@@ -19,8 +19,8 @@ fn listed(alloc: Global, text: &str, settings: Settings) -> Result<(String, bool
     Ok((String::from_str(alloc, shown)?, fault.is_some()))
 }
 
-/// Cuts a text everywhere, and compares the lines of each prefix with those of the whole: all of them before a fault, all but the
-/// last before the end.
+/// Cuts a text everywhere, and compares the lines of each prefix with those of the whole: all of
+/// them before a fault, all but the last before the end.
 fn cut(rt: &impl Abort, alloc: Global, text: &str, settings: Settings) -> Result<(), Fail> {
     let (whole, _) = listed(alloc, text, settings)?;
     for (end, _) in text.char_indices() {

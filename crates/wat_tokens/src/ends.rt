@@ -20,8 +20,8 @@ pub trait Source {
 
     ghost has_ended: { Self → Bool };
 
-    /// Reads some bytes into the buffer, and answers how many; none for a buffer that is not empty is the end.
-    /// Where it fails, nothing of what is left is taken.
+    /// Reads some bytes into the buffer, and answers how many; none for a buffer that is not empty
+    /// is the end. Where it fails, nothing of what is left is taken.
     fn read(&mut self, buffer: &mut [u8]) -> Result<usize, Failed>
         ensures bytes { IfOk result (Reads (left self.old) (left self.new) buffer.new) }
         ensures unread { OnErr result (Keeps (left self.old) (left self.new)) }
@@ -55,8 +55,8 @@ pub trait Sink {
         ensures { result ≡ has_failed self.now };
 }
 
-/// A source over a reader of std's, and a sink over a writer. An error of the reader or writer is `Failed`; no call is
-/// tried again.
+/// A source over a reader of std's, and a sink over a writer. An error of the reader or writer is
+/// `Failed`; no call is tried again.
 #[derive(Drop)]
 pub struct Plain<T> {
     inner: T,
@@ -135,9 +135,11 @@ impl<T: io::Write> Sink for Plain<T> {
     }
 }
 
-/// Writes all the bytes and flushes. It stops at the first error, and where the writer takes nothing.
+/// Writes all the bytes and flushes. It stops at the first error, and where the writer takes
+/// nothing.
 fn write_through<W: io::Write>(writer: &mut W, bytes: &[u8]) -> bool
-    ensures bytes { OnTrue result (Appends (W.contents writer.old) (W.contents writer.new) bytes.now) }
+    ensures bytes { OnTrue result
+        (Appends (W.contents writer.old) (W.contents writer.new) bytes.now) }
     ensures cut { OnFalse result
         (AppendsPrefix (W.contents writer.old) (W.contents writer.new) bytes.now) }
 {

@@ -12,7 +12,8 @@ fn occurrences(word: &str, words: &[String]) -> usize
     words.iter().filter(|other| other.as_str() == word).count()
 }
 
-/// The settings that the words ask for: each option at most once, in either order, and no other word.
+/// The settings that the words ask for: each option at most once, in either order, and no other
+/// word.
 pub fn settings_of(words: &[String]) -> Option<Settings>
     ensures selected { IfSome result (λ settings. Selects words.now settings) }
     ensures refused { IfNone result ((settings : Settings) → ¬ Selects words.now settings) }

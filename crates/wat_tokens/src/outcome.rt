@@ -53,7 +53,8 @@ pub fn respond<R: Source, W: Sink>(
     ensures selected { (settings : Settings) → Selects words.now settings →
         IfSome (R.left input.old) (λ bytes.
         Responds settings bytes result (W.held output.old) (W.held output.new)) }
-    ensures usage { ((settings : Settings) → ¬ Selects words.now settings) → result ≡ Outcome.Usage }
+    ensures usage { ((settings : Settings) → ¬ Selects words.now settings) →
+        result ≡ Outcome.Usage }
 {
     let Some(settings) = settings_of(words) else {
         return Outcome::Usage;

@@ -1,5 +1,6 @@
 //! From a source of bytes to the lines on a sink.
-ghost use Rattle.std.specs.Prelude.{◌≡◌, ◌⊎◌, ◌↔◌, Bool, true, false, ◌<◌, ◌^◌, length, Some, is_ok, IfOk, OnOk, IfErr, IfSome, IsErrOf};
+ghost use Rattle.std.specs.Prelude.{◌≡◌, ◌⊎◌, ◌↔◌, Bool, true, false, ◌<◌, ◌^◌, length};
+ghost use Rattle.std.specs.Prelude.{Some, is_ok, IfOk, OnOk, IfErr, IfSome, IsErrOf};
 ghost use Rattle.std.specs.Option.{option_map};
 ghost use Rattle.std.specs.Str.{IsUtf8};
 ghost use Rattle.wat_lex.specs.Errors.{lexical};
@@ -46,15 +47,20 @@ const LONGEST: usize = u32::MAX as usize;
 /// How many bytes are read at a time.
 const PIECE: usize = 65_536;
 
-/// All that a source has left, or the refusal: it is read to its end, or to one byte past the longest text.
+/// All that a source has left, or the refusal: it is read to its end, or to one byte past the
+/// longest text.
 fn read_whole<R: Source>(alloc: Global, input: &mut R) -> Result<Vec<u8>, RunError>
     requires { R.has_failed input.old ≡ false }
-    ensures whole { IfOk result (λ bytes. ReadsWhole (R.left input.old) (R.left input.new) bytes.items) }
+    ensures whole { IfOk result (λ bytes.
+        ReadsWhole (R.left input.old) (R.left input.new) bytes.items) }
     ensures ended { R.has_ended input.new ≡ is_ok result }
-    ensures past { IsErrOf result RunError.TooLong → ReadsPast (R.left input.old) (R.left input.new) }
-    ensures short { (IsErrOf result RunError.TooLong) ⊎ ReadsShort (R.left input.old) (R.left input.new) }
+    ensures past { IsErrOf result RunError.TooLong →
+        ReadsPast (R.left input.old) (R.left input.new) }
+    ensures short { (IsErrOf result RunError.TooLong) ⊎
+        ReadsShort (R.left input.old) (R.left input.new) }
     ensures read { IsErrOf result RunError.Read ↔ (R.has_failed input.new ≡ true) }
-    ensures refused { IfErr result (λ e. (e ≡ RunError.Read) ⊎ ((e ≡ RunError.TooLong) ⊎ (e ≡ RunError.Memory))) }
+    ensures refused { IfErr result (λ e.
+        (e ≡ RunError.Read) ⊎ ((e ≡ RunError.TooLong) ⊎ (e ≡ RunError.Memory))) }
 {
     let mut bytes = Vec::new(alloc);
     let mut piece = [0u8; PIECE];
@@ -75,7 +81,8 @@ fn read_whole<R: Source>(alloc: Global, input: &mut R) -> Result<Vec<u8>, RunErr
 
 /// The error of the fault of a text, where it has one.
 fn error_of(alloc: Global, text: &str, fault: Option<LexFault>) -> Result<Option<Error>, RunError>
-    ensures error { IfOk result (λ error. error ≡ option_map (λ f. Some (lexical text.now f)) fault) }
+    ensures error { IfOk result (λ error.
+        error ≡ option_map (λ f. Some (lexical text.now f)) fault) }
     ensures refused { IfErr result (λ e. e ≡ RunError.Memory) }
 {
     let Some(fault) = fault else {
@@ -115,8 +122,8 @@ fn list_bytes(alloc: Global, bytes: &[u8], settings: Settings) -> Result<Reply, 
     })
 }
 
-/// Writes the list of the raw tokens of all that the source has left, up to the first fault, and answers
-/// that fault's error, which prints its line.
+/// Writes the list of the raw tokens of all that the source has left, up to the first fault, and
+/// answers that fault's error, which prints its line.
 pub fn run_list<R: Source, W: Sink>(
     alloc: Global,
     input: &mut R,
@@ -127,10 +134,13 @@ pub fn run_list<R: Source, W: Sink>(
     requires output { W.has_failed output.old ≡ false }
     ensures listed { IfOk result (λ error. IfSome (R.left input.old) (λ bytes.
         AppendsLines settings bytes error (W.held output.old) (W.held output.new))) }
-    // A source that has ended was read whole.
+
+    // These come only once the source was read to its end.
     ensures ended { OnOk result (HasEnded (R.left input.new) (R.has_ended input.new)) }
-    ensures not_utf8_ended { IsErrOf result RunError.NotUtf8 → HasEnded (R.left input.new) (R.has_ended input.new) }
-    ensures write_ended { IsErrOf result RunError.Write → HasEnded (R.left input.new) (R.has_ended input.new) }
+    ensures not_utf8_ended { IsErrOf result RunError.NotUtf8 →
+        HasEnded (R.left input.new) (R.has_ended input.new) }
+    ensures write_ended { IsErrOf result RunError.Write →
+        HasEnded (R.left input.new) (R.has_ended input.new) }
 
     // When each refusal but that of memory comes.
     ensures read { IsErrOf result RunError.Read ↔ (R.has_failed input.new ≡ true) }

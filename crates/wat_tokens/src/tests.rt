@@ -21,7 +21,8 @@ const OFF: Settings = Settings {
 const MODULE: &str = "(module (func $foo))";
 
 const MODULE_LINES: &str =
-    "0..1 LParen\n1..7 Keyword\n7..8 Whitespace\n8..9 LParen\n9..13 Keyword\n13..14 Whitespace\n14..18 Id\n18..19 RParen\n19..20 RParen\n";
+    "0..1 LParen\n1..7 Keyword\n7..8 Whitespace\n8..9 LParen\n9..13 Keyword\n\
+     13..14 Whitespace\n14..18 Id\n18..19 RParen\n19..20 RParen\n";
 
 /// A source that gives at most so many bytes a call, and fails at one of the calls.
 #[derive(Drop)]
@@ -114,7 +115,8 @@ impl<'a> io::Read for FailsOnce<'a> {
     }
 }
 
-/// A writer that takes so many bytes a call, and fails at one call only, or at each flush. It counts the calls.
+/// A writer that takes so many bytes a call, and fails at one call only, or at each flush. It
+/// counts the calls.
 #[derive(Drop)]
 struct Counted {
     held: Vec<u8>,
@@ -170,7 +172,8 @@ fn lists(rt: HostRuntime) -> Result<(), Fail> {
         (
             "1 é",
             "0..1 Integer\n1..2 Whitespace\n",
-            "unexpected character '\\u{e9}'\n     --> <anon>:1:3\n      |\n    1 | 1 é\n      |   ^",
+            "unexpected character '\\u{e9}'\n\
+             \x20    --> <anon>:1:3\n      |\n    1 | 1 é\n      |   ^",
         ),
         (
             "a\"b",
@@ -412,7 +415,8 @@ fn outcomes(rt: HostRuntime) -> Result<(), Fail> {
         (
             Outcome::Usage,
             2,
-            "usage: wat_tokens [--allow-confusing] [--strict-underscores] [sig NAME.. | play CALL..]\n",
+            "usage: wat_tokens [--allow-confusing] [--strict-underscores] \
+             [sig NAME.. | play CALL..]\n",
         ),
         (
             Outcome::of_run(Ok(Some(Error::new(Span::from_offset(3), message)))),
