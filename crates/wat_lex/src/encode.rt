@@ -3,11 +3,11 @@
 ghost use Rattle.std.specs.Prelude.{◌≡◌, ◌++◌, ◌^◌, ◌<◌, ◌≤◌, ◌↔◌, ℕ, List, [], ◌∷◌};
 ghost use Rattle.std.specs.Prelude.{IsErrOf, IsTrue, OnErr, OnOk};
 ghost use Rattle.std.specs.Prelude.{length, string_bytes, take, vec_len};
-ghost use Rattle.wat_lex.specs.Encoding.{ListFits, StringFits, StringTooLong, TextFits};
-ghost use Rattle.wat_lex.specs.Encoding.{TextTooLong, list_encoding, string_encoding};
-ghost use Rattle.wat_lex.specs.Encoding.{text_encoding, vec_encoding};
-ghost use Rattle.wat_lex.specs.Leb128.{IsSignedEncoded, IsUnsignedEncoded, high_bits_of};
-ghost use Rattle.wat_lex.specs.Leb128.{low_bits_of, signed_leb128, unsigned_leb128};
+ghost use Rattle.wat_lex.specs.binary.Encoding.{ListFits, StringFits, StringTooLong, TextFits};
+ghost use Rattle.wat_lex.specs.binary.Encoding.{TextTooLong, list_encoding, string_encoding};
+ghost use Rattle.wat_lex.specs.binary.Encoding.{text_encoding, vec_encoding};
+ghost use Rattle.wat_lex.specs.binary.Leb128.{IsSignedEncoded, IsUnsignedEncoded, high_bits_of};
+ghost use Rattle.wat_lex.specs.binary.Leb128.{low_bits_of, signed_leb128, unsigned_leb128};
 
 use std::alloc::{AllocError, AllocFailed};
 
@@ -188,7 +188,7 @@ impl Encode for u8 {
 
 /// In the shortest form of unsigned LEB128.
 impl Encode for u32 {
-    ghost use Rattle.wat_lex.specs.Leb128.{unsigned_leb128};
+    ghost use Rattle.wat_lex.specs.binary.Leb128.{unsigned_leb128};
 
     ghost encoding = { unsigned_leb128 };
 
@@ -212,7 +212,7 @@ impl Encode for u32 {
 
 /// In the shortest form of unsigned LEB128.
 impl Encode for u64 {
-    ghost use Rattle.wat_lex.specs.Leb128.{unsigned_leb128};
+    ghost use Rattle.wat_lex.specs.binary.Leb128.{unsigned_leb128};
 
     ghost encoding = { unsigned_leb128 };
 
@@ -236,7 +236,7 @@ impl Encode for u64 {
 
 /// In the shortest form of signed LEB128.
 impl Encode for i32 {
-    ghost use Rattle.wat_lex.specs.Leb128.{signed_leb128};
+    ghost use Rattle.wat_lex.specs.binary.Leb128.{signed_leb128};
 
     ghost encoding = { signed_leb128 };
 
@@ -260,7 +260,7 @@ impl Encode for i32 {
 
 /// In the shortest form of signed LEB128.
 impl Encode for i64 {
-    ghost use Rattle.wat_lex.specs.Leb128.{signed_leb128};
+    ghost use Rattle.wat_lex.specs.binary.Leb128.{signed_leb128};
 
     ghost encoding = { signed_leb128 };
 
@@ -285,7 +285,7 @@ impl Encode for i64 {
 /// As the `u32` of its value.
 impl Encode for usize {
     ghost use Rattle.std.specs.Prelude.{◌<◌, ◌^◌};
-    ghost use Rattle.wat_lex.specs.Leb128.{unsigned_leb128};
+    ghost use Rattle.wat_lex.specs.binary.Leb128.{unsigned_leb128};
 
     ghost encoding = { unsigned_leb128 };
 
@@ -401,7 +401,7 @@ fn push_text(text: &str, e: &mut Vec<u8>) -> Result<(), EncodeError>
 }
 
 impl<T: Encode> Encode for Vec<T> {
-    ghost use Rattle.wat_lex.specs.Encoding.{ListFits, vec_encoding};
+    ghost use Rattle.wat_lex.specs.binary.Encoding.{ListFits, vec_encoding};
 
     ghost encoding = { vec_encoding T.encoding };
 
@@ -427,7 +427,7 @@ impl<T: Encode> Encode for Vec<T> {
 }
 
 impl Encode for String {
-    ghost use Rattle.wat_lex.specs.Encoding.{StringFits, string_encoding};
+    ghost use Rattle.wat_lex.specs.binary.Encoding.{StringFits, string_encoding};
 
     ghost encoding = { string_encoding };
 

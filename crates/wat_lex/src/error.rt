@@ -1,10 +1,12 @@
 //! Errors.
 ghost use Rattle.std.specs.Prelude.{◌≡◌, ◌↔◌, ◌⊎◌, Some, None, IsTrue, IsNone, IsOk, IfOk, OnOk, OnErr, IfSome, string_bytes};
 ghost use Rattle.std.specs.Option.{option_copied};
-ghost use Rattle.wat_lex.specs.ErrorView.{report_of};
-ghost use Rattle.wat_lex.specs.Errors.{IsUnlessMemory, report_in, lexical, Custom, HasText, with_text, lex_error_of, offset_of, message_of, printed};
-ghost use Rattle.wat_lex.specs.Messages.{message};
-ghost use Rattle.wat_lex.specs.Rendering.{rendered};
+ghost use Rattle.wat_lex.specs.errors.ErrorView.{report_of};
+ghost use Rattle.wat_lex.specs.errors.Errors.{IsUnlessMemory, report_in, lexical, Custom, HasText};
+ghost use Rattle.wat_lex.specs.errors.Errors.{with_text, lex_error_of, offset_of, message_of};
+ghost use Rattle.wat_lex.specs.errors.Errors.{printed};
+ghost use Rattle.wat_lex.specs.errors.Messages.{message};
+ghost use Rattle.wat_lex.specs.errors.Rendering.{rendered};
 
 use crate::lexer::LexError;
 use crate::token::Span;
@@ -37,11 +39,11 @@ enum Kind {
 
 impl Model for Error {
     ghost use Rattle.std.specs.Prelude.{Option};
-    ghost use Rattle.wat_lex.specs.Errors.{Report};
+    ghost use Rattle.wat_lex.specs.errors.Errors.{Report};
 
     ghost Value = { Option Report };
 
-    ghost use Rattle.wat_lex.specs.ErrorView.{error_view};
+    ghost use Rattle.wat_lex.specs.errors.ErrorView.{error_view};
 
     ghost view = { error_view };
 }
@@ -171,7 +173,7 @@ impl<T: Drop> From<AllocFailed<T>> for Error {
 
 impl fmt::Display for Error {
     ghost use Rattle.std.specs.Prelude.{Some};
-    ghost use Rattle.wat_lex.specs.Errors.{printed};
+    ghost use Rattle.wat_lex.specs.errors.Errors.{printed};
 
     ghost output = { λ e. Some (printed e) };
 

@@ -2,7 +2,7 @@
 
 ghost use Rattle.std.specs.Prelude.{◌≡◌, ◌≢◌, ◌+◌, ◌↔◌, false, None, Some, IsErr, IsErrOf, IsOk};
 ghost use Rattle.std.specs.Prelude.{IfErr, IfNone, IfOk, IfSome, OnErr, OnOk};
-ghost use Rattle.wat_lex.specs.Identifiers.{IsFresh, generated};
+ghost use Rattle.wat_lex.specs.identifiers.Identifiers.{IsFresh, generated};
 
 use crate::token::{Id, Span};
 use std::alloc::Global;

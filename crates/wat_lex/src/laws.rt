@@ -1,6 +1,10 @@
 //! Laws of the lexical format, for every text of UTF-8 and all settings. Each function does nothing: its contract is the law,
 //! for the proofs of crates above.
-ghost use Rattle.wat_lex.specs.EverySetting.{SomethingStands, OneThingStands, EachPlaceIsTiled, TilingsAreOne, TokensOfCuts, TokensOfMoves, TokensAreReadable, TokensEndAtBoundaries, NamesAreThere, NamesAreOne, NamesAreValues, StringsAreValues};
+ghost use Rattle.wat_lex.specs.tokens.EverySetting.{SomethingStands, OneThingStands};
+ghost use Rattle.wat_lex.specs.tokens.EverySetting.{EachPlaceIsTiled, TilingsAreOne, TokensOfCuts};
+ghost use Rattle.wat_lex.specs.tokens.EverySetting.{TokensOfMoves, TokensAreReadable};
+ghost use Rattle.wat_lex.specs.tokens.EverySetting.{TokensEndAtBoundaries, NamesAreThere};
+ghost use Rattle.wat_lex.specs.tokens.EverySetting.{NamesAreOne, NamesAreValues, StringsAreValues};
 
 /// At each character boundary exactly one thing stands: a token, the text's end, or a fault.
 pub fn one_answer()

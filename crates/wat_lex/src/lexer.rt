@@ -1,11 +1,11 @@
 //! The lexer of the WebAssembly text format.
 ghost use Rattle.std.specs.Prelude.{◌≡◌, ◌<◌, ◌^◌, ◌+◌, ℕ, Bool, true, false, List, length, Option, Result, IfOk, IfErr, IfSome, IfNone, OnErr};
 ghost use Rattle.std.specs.Str.{IsCharBoundary, IsUtf8};
-ghost use Rattle.wat_lex.specs.Faults.{FaultAt};
-ghost use Rattle.wat_lex.specs.Raw.{ErrorAt};
-ghost use Rattle.wat_lex.specs.Readers.{IsTokenOf};
-ghost use Rattle.wat_lex.specs.Tiling.{TokenAt};
-ghost use Rattle.wat_lex.specs.Unique.{StandsAt};
+ghost use Rattle.wat_lex.specs.tokens.Faults.{FaultAt};
+ghost use Rattle.wat_lex.specs.tokens.Raw.{ErrorAt};
+ghost use Rattle.wat_lex.specs.tokens.Readers.{IsTokenOf};
+ghost use Rattle.wat_lex.specs.tokens.Tiling.{TokenAt};
+ghost use Rattle.wat_lex.specs.tokens.Unique.{StandsAt};
 
 use crate::error::Error;
 use crate::token::Span;
@@ -49,7 +49,7 @@ pub struct Lexer<'a> {
 
 impl<'a> Model for Lexer<'a> {
     ghost use Rattle.std.specs.Prelude.{◌<◌, ◌^◌, length};
-    ghost use Rattle.wat_lex.specs.Setting.{Setting};
+    ghost use Rattle.wat_lex.specs.tokens.Setting.{Setting};
 
     ghost Value = { Setting };
 
@@ -150,7 +150,7 @@ impl<'a> Lexer<'a> {
         }
     }
 
-    ghost use Rattle.wat_lex.specs.Annotations.{AnnotationAt};
+    ghost use Rattle.wat_lex.specs.values.Annotations.{AnnotationAt};
 
     /// The annotation's token at any position, or the error of the fault there, where the byte there is `@`; None where it is
     /// not, and where a token of another kind stands there.
@@ -165,7 +165,7 @@ impl<'a> Lexer<'a> {
         Ok(token.filter(|token| token.kind == TokenKind::Annotation))
     }
 
-    ghost use Rattle.wat_lex.specs.Errors.{lexical, IsUnlessMemory};
+    ghost use Rattle.wat_lex.specs.errors.Errors.{lexical, IsUnlessMemory};
 
     fn error(&self, alloc: Global, fault: LexFault) -> Error
         ensures { IsUnlessMemory result (lexical self.now.text fault) }
@@ -176,10 +176,10 @@ impl<'a> Lexer<'a> {
 
     ghost use Rattle.std.specs.Iterator.{Drains};
     ghost use Rattle.std.specs.Iterator.Runs.{EachRunFrom};
-    ghost use Rattle.wat_lex.specs.Laws.{Laws};
-    ghost use Rattle.wat_lex.specs.Parts.{Cuts, Moves};
-    ghost use Rattle.wat_lex.specs.Raw.{Item, Raw, token_steps};
-    ghost use Rattle.wat_lex.specs.Unique.{SomeTiling, OneTiling};
+    ghost use Rattle.wat_lex.specs.tokens.Laws.{Laws};
+    ghost use Rattle.wat_lex.specs.tokens.Parts.{Cuts, Moves};
+    ghost use Rattle.wat_lex.specs.tokens.Raw.{Item, Raw, token_steps};
+    ghost use Rattle.wat_lex.specs.tokens.Unique.{SomeTiling, OneTiling};
 
     /// The tokens from a byte of the text on, up to its end or its first fault.
     pub fn iter<'l>(&'l self, alloc: Global, pos: usize) -> Tokens<'l, 'a>
@@ -215,7 +215,7 @@ pub struct Tokens<'l, 'a> {
 
 impl<'l, 'a> Model for Tokens<'l, 'a> {
     ghost use Rattle.std.specs.Str.{IsCharBoundary};
-    ghost use Rattle.wat_lex.specs.Raw.{Progress};
+    ghost use Rattle.wat_lex.specs.tokens.Raw.{Progress};
 
     ghost Value = { Progress };
 
@@ -228,7 +228,7 @@ impl<'l, 'a> Iterator for Tokens<'l, 'a> {
     type Item = Result<Token, Error>;
 
     ghost use Rattle.std.specs.Iterator.{at_most};
-    ghost use Rattle.wat_lex.specs.Raw.{token_steps, most_left};
+    ghost use Rattle.wat_lex.specs.tokens.Raw.{token_steps, most_left};
 
     ghost next_gives = { token_steps };
 

@@ -2,10 +2,10 @@
 
 ghost use Rattle.std.specs.Prelude.{◌≡◌, ◌<◌, ◌≤◌, ◌↔◌, false, not, length, IsTrue, IfOk, IsOk};
 ghost use Rattle.std.specs.List.{count_by, suffix_len};
-ghost use Rattle.wat_lex.specs.Identifiers.{IsSameIdentifier, generated, identifier};
-ghost use Rattle.wat_lex.specs.Identifiers.{is_same_identifier};
-ghost use Rattle.wat_lex.specs.Indices.{IsSameIndex, is_same_index, owns_name, span_of};
-ghost use Rattle.wat_lex.specs.Positions.{is_line_feed, line_and_column};
+ghost use Rattle.wat_lex.specs.identifiers.Identifiers.{IsSameIdentifier, generated, identifier};
+ghost use Rattle.wat_lex.specs.identifiers.Identifiers.{is_same_identifier};
+ghost use Rattle.wat_lex.specs.identifiers.Indices.{IsSameIndex, is_same_index, owns_name, span_of};
+ghost use Rattle.wat_lex.specs.errors.Positions.{is_line_feed, line_and_column};
 
 use memchr::{memchr_iter, memrchr};
 use std::alloc::{AllocError, Global};
@@ -95,7 +95,7 @@ pub struct Id<'a> {
 }
 
 impl<'a> Model for Id<'a> {
-    ghost use Rattle.wat_lex.specs.Identifiers.{Identifier, identifier};
+    ghost use Rattle.wat_lex.specs.identifiers.Identifiers.{Identifier, identifier};
 
     ghost Value = { Identifier };
 
@@ -166,7 +166,7 @@ impl<'a> Id<'a> {
 impl<'a> PartialEq for Id<'a> {
     ghost use Rattle.std.specs.Cmp.Rules.{comparing};
     ghost use Rattle.std.proofs.Common.{rules};
-    ghost use Rattle.wat_lex.specs.Identifiers.{is_same_identifier};
+    ghost use Rattle.wat_lex.specs.identifiers.Identifiers.{is_same_identifier};
 
     ghost eq = { is_same_identifier };
 
@@ -251,8 +251,8 @@ impl<'a> Index<'a> {
 
 impl<'a> PartialEq for Index<'a> {
     ghost use Rattle.std.specs.Cmp;
-    ghost use Rattle.wat_lex.specs.Indices.{is_same_index};
-    ghost use Rattle.wat_lex.specs.IndexLaws.{is_same_index_laws};
+    ghost use Rattle.wat_lex.specs.identifiers.Indices.{is_same_index};
+    ghost use Rattle.wat_lex.specs.identifiers.IndexLaws.{is_same_index_laws};
 
     ghost eq = { is_same_index };
 
@@ -271,14 +271,14 @@ impl<'a> PartialEq for Index<'a> {
 }
 
 impl<'a> Eq for Index<'a> {
-    ghost use Rattle.wat_lex.specs.IndexLaws.{is_same_index_laws};
+    ghost use Rattle.wat_lex.specs.identifiers.IndexLaws.{is_same_index_laws};
 
     ghost laws = { is_same_index_laws };
 }
 
 impl<'a> Hash for Index<'a> {
-    ghost use Rattle.wat_lex.specs.Indices.{hash_input_of};
-    ghost use Rattle.wat_lex.specs.IndexLaws.{hash_input_of-same};
+    ghost use Rattle.wat_lex.specs.identifiers.Indices.{hash_input_of};
+    ghost use Rattle.wat_lex.specs.identifiers.IndexLaws.{hash_input_of-same};
 
     ghost hash_input = { hash_input_of };
 

@@ -4,7 +4,7 @@ use Rattle.std.proofs.lemmas.List.{length-take-le}
 use Rattle.std.specs.Prelude.{Some, None, Option, IfSome}
 use Rattle.std.specs.Io.KnownBytes.{Consumes}
 use Rattle.std.specs.Str.{IsUtf8}
-use Rattle.wat_lex.specs.Errors.{Report}
+use Rattle.wat_lex.specs.errors.Errors.{Report}
 use Rattle.wat_lex.specs.declared.lexer.settings.Settings.{Settings}
 use Rattle.wat_tokens.specs.Inputs.{ReadsWhole, ReadsPast, ReadsShort}
 use Rattle.wat_tokens.specs.Lists.{Lists, AppendsSomeLines}

@@ -5,9 +5,9 @@ use Rattle.std.specs.Str.{IsCharBoundary, IsUtf8}
 use Rattle.std.proofs.lemmas.List.Concat.{flat_map-append}
 use Rattle.std.proofs.lemmas.List.{append-nil}
 use Rattle.std.proofs.lemmas.Str.{IsCharBoundary-start}
-use Rattle.wat_lex.specs.Setting.{Setting}
-use Rattle.wat_lex.specs.Tiling.{TokenAt, Tiling}
-use Rattle.wat_lex.specs.Faults.{FaultAt}
+use Rattle.wat_lex.specs.tokens.Setting.{Setting}
+use Rattle.wat_lex.specs.tokens.Tiling.{TokenAt, Tiling}
+use Rattle.wat_lex.specs.tokens.Faults.{FaultAt}
 use Rattle.wat_lex.specs.declared.lexer.kinds.Token.{Token}
 use Rattle.wat_lex.specs.declared.lexer.faults.LexFault.{LexFault}
 use Rattle.wat_tokens.specs.Lists.{line, ListText}

@@ -2,7 +2,7 @@
 use Rattle.std.proofs.Common.{◌≡◌, ◌⊎◌, ℕ, List, inl, inr, ap, sym, subst, refl}
 use Rattle.std.specs.Prelude.{Option, Some, None, Result, Ok, Err, IfOk, IfErr, IfSome, IsErrOf}
 use Rattle.std.specs.Io.KnownBytes.{Keeps}
-use Rattle.wat_lex.specs.Errors.{Report}
+use Rattle.wat_lex.specs.errors.Errors.{Report}
 use Rattle.wat_lex.specs.declared.lexer.settings.Settings.{Settings}
 use Rattle.wat_tokens.specs.Lists.{AppendsLines, AppendsSomeLines}
 use Rattle.wat_tokens.specs.Outcomes.{outcome_of, Responds}

@@ -1,7 +1,7 @@
 -- What a run of the program ends in: its exit status, and its report on standard error. No part of the standard.
 use Rattle.std.specs.Prelude.{ℕ, List, [], ◌++◌, codes, Option, Some, None, Result, Ok, Err}
 use Rattle.std.specs.Io.KnownBytes.{Keeps}
-use Rattle.wat_lex.specs.Errors.{Report, printed}
+use Rattle.wat_lex.specs.errors.Errors.{Report, printed}
 use Rattle.wat_lex.specs.declared.lexer.settings.Settings.{Settings}
 use Rattle.wat_tokens.specs.Lists.{AppendsLines, AppendsSomeLines}
 use Rattle.wat_tokens.specs.declared.outcome.Outcome.{Outcome}

@@ -3,7 +3,7 @@ ghost use Rattle.std.specs.Prelude.{◌≡◌, ◌⊎◌, ◌↔◌, Bool, true,
 ghost use Rattle.std.specs.Prelude.{Some, is_ok, IfOk, OnOk, IfErr, IfSome, IsErrOf};
 ghost use Rattle.std.specs.Option.{option_map};
 ghost use Rattle.std.specs.Str.{IsUtf8};
-ghost use Rattle.wat_lex.specs.Errors.{lexical};
+ghost use Rattle.wat_lex.specs.errors.Errors.{lexical};
 ghost use Rattle.wat_tokens.specs.Lists.{Lists, AppendsLines, AppendsSomeLines};
 ghost use Rattle.wat_tokens.specs.Inputs.{ReadsWhole, ReadsPast, ReadsShort, HasEnded};
 

@@ -1,7 +1,7 @@
 //! What an error keeps of the text that it is about.
 ghost use Rattle.std.specs.Prelude.{◌≡◌, ◌≤◌, ◌*◌, ◌⊎◌, IfOk, length, string_bytes};
-ghost use Rattle.wat_lex.specs.ErrorView.{excerpt_of};
-ghost use Rattle.wat_lex.specs.Rendering.{excerpt, shown_line, columns};
+ghost use Rattle.wat_lex.specs.errors.ErrorView.{excerpt_of};
+ghost use Rattle.wat_lex.specs.errors.Rendering.{excerpt, shown_line, columns};
 
 use crate::lexer::is_confusing;
 use crate::token::Span;
@@ -64,8 +64,8 @@ impl Text {
 
 impl fmt::Display for Text {
     ghost use Rattle.std.specs.Prelude.{Some};
-    ghost use Rattle.wat_lex.specs.ErrorView.{excerpt_of};
-    ghost use Rattle.wat_lex.specs.Rendering.{shown_place};
+    ghost use Rattle.wat_lex.specs.errors.ErrorView.{excerpt_of};
+    ghost use Rattle.wat_lex.specs.errors.Rendering.{shown_place};
 
     ghost output = { λ t. Some (shown_place (excerpt_of t)) };
 

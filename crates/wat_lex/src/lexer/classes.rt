@@ -1,7 +1,8 @@
 //! Classes of bytes and characters.
 ghost use Rattle.std.specs.Prelude.{◌≡◌};
 ghost use Rattle.std.specs.List.{prefix_len};
-ghost use Rattle.wat_lex.specs.Classes.{is_blank, is_idchar, is_hex, is_mark, is_run_char, is_confusing};
+ghost use Rattle.wat_lex.specs.grammar.Classes.{is_blank, is_idchar, is_hex, is_mark, is_run_char};
+ghost use Rattle.wat_lex.specs.grammar.Classes.{is_confusing};
 
 pub fn is_blank(b: u8) -> bool
     ensures { result ≡ is_blank b }

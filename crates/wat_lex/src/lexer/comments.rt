@@ -2,11 +2,11 @@
 ghost use Rattle.std.specs.Prelude.{◌≡◌, ◌≤◌, ◌+◌, ℕ, List, not, length, drop, slice_index, IfSome, IfNone, MatchOption};
 ghost use Rattle.std.specs.List.{prefix_len};
 ghost use Rattle.std.specs.Str.{chars, NonePass};
-ghost use Rattle.wat_lex.specs.Classes.{is_line_end, is_confusing};
-ghost use Rattle.wat_lex.specs.Comments.{Closes};
-ghost use Rattle.wat_lex.specs.Faults.{IsComment};
-ghost use Rattle.wat_lex.specs.Results.{Found, Answers, FirstConfusing};
-ghost use Rattle.wat_lex.specs.Setting.{allowing};
+ghost use Rattle.wat_lex.specs.grammar.Classes.{is_line_end, is_confusing};
+ghost use Rattle.wat_lex.specs.grammar.Comments.{Closes};
+ghost use Rattle.wat_lex.specs.tokens.Faults.{IsComment};
+ghost use Rattle.wat_lex.specs.inside.Results.{Found, Answers, FirstConfusing};
+ghost use Rattle.wat_lex.specs.tokens.Setting.{allowing};
 
 use crate::lexer::classes::is_confusing;
 use crate::lexer::faults::{LexError, LexFault};

@@ -57,7 +57,7 @@ struct ShownChar(char);
 
 impl fmt::Display for ShownChar {
     ghost use Rattle.std.specs.Prelude.{Some};
-    ghost use Rattle.wat_lex.specs.Messages.{shown_char};
+    ghost use Rattle.wat_lex.specs.errors.Messages.{shown_char};
 
     ghost output = { λ c. Some (shown_char c.0) };
 
@@ -84,7 +84,7 @@ struct QuotedChar(char);
 
 impl fmt::Display for QuotedChar {
     ghost use Rattle.std.specs.Prelude.{Some};
-    ghost use Rattle.wat_lex.specs.Messages.{quoted_char};
+    ghost use Rattle.wat_lex.specs.errors.Messages.{quoted_char};
 
     ghost output = { λ c. Some (quoted_char c.0) };
 
@@ -96,7 +96,7 @@ impl fmt::Display for QuotedChar {
 
 impl fmt::Display for LexError {
     ghost use Rattle.std.specs.Prelude.{Some};
-    ghost use Rattle.wat_lex.specs.Messages.{message};
+    ghost use Rattle.wat_lex.specs.errors.Messages.{message};
 
     ghost output = { λ e. Some (message e) };
 

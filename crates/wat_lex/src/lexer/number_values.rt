@@ -3,9 +3,15 @@ ghost use Rattle.std.specs.Prelude.{◌≡◌, ◌≤◌, ◌++◌, ◌||◌, Bo
 ghost use Rattle.std.specs.Option.{option_map};
 ghost use Rattle.std.specs.Cow.{cow_str_bytes};
 ghost use Rattle.std.specs.Str.{IsAscii};
-ghost use Rattle.wat_lex.specs.Numbers.{unsigned, has_underscores, Number, Whole, Tail, Decimals, Payload};
-ghost use Rattle.wat_lex.specs.NumberValues.{joined, behind_prefix, number_text, payload_text, is_integer_rewritten, is_float_rewritten, integer_sign, integer_digits, integer_base, Point, Power, IsText, IsOptionalText, IsIntegerOf, IsDecimalsOf, IsFloatOf};
-ghost use Rattle.wat_lex.specs.NumberReads.{without_plus, EndsFloat};
+ghost use Rattle.wat_lex.specs.grammar.Numbers.{unsigned, has_underscores, Number, Whole, Tail};
+ghost use Rattle.wat_lex.specs.grammar.Numbers.{Decimals, Payload};
+ghost use Rattle.wat_lex.specs.values.NumberValues.{joined, behind_prefix, number_text};
+ghost use Rattle.wat_lex.specs.values.NumberValues.{payload_text, is_integer_rewritten};
+ghost use Rattle.wat_lex.specs.values.NumberValues.{is_float_rewritten, integer_sign};
+ghost use Rattle.wat_lex.specs.values.NumberValues.{integer_digits, integer_base, Point, Power};
+ghost use Rattle.wat_lex.specs.values.NumberValues.{IsText, IsOptionalText, IsIntegerOf};
+ghost use Rattle.wat_lex.specs.values.NumberValues.{IsDecimalsOf, IsFloatOf};
+ghost use Rattle.wat_lex.specs.inside.NumberReads.{without_plus, EndsFloat};
 ghost use Rattle.wat_lex.specs.declared.lexer.kinds.TokenKind.TheVariants as token_kind;
 ghost use Rattle.wat_lex.specs.declared.lexer.kinds.FloatKind.TheVariants.{Normal};
 

@@ -1,8 +1,10 @@
 //! The words of numbers.
 ghost use Rattle.std.specs.Prelude.{◌≡◌, ◌≢◌, ◌↔◌, ◌++◌, ℕ, List, [], MatchOption, IfSome, IfNone, IsTrue, codes};
 ghost use Rattle.wat_lex.specs.declared.lexer.kinds.TokenKind.{TokenKind};
-ghost use Rattle.wat_lex.specs.Numbers.{is_digit, is_exponent_letter, sign_of, unsigned, is_negative, has_underscores, Digits, Exponent, Tail, Payload, Number};
-ghost use Rattle.wat_lex.specs.NumberReads.{LongestDigits, NoDigits, OnlyWhole, NoWhole};
+ghost use Rattle.wat_lex.specs.grammar.Numbers.{is_digit, is_exponent_letter, sign_of, unsigned};
+ghost use Rattle.wat_lex.specs.grammar.Numbers.{is_negative, has_underscores, Digits, Exponent};
+ghost use Rattle.wat_lex.specs.grammar.Numbers.{Tail, Payload, Number};
+ghost use Rattle.wat_lex.specs.inside.NumberReads.{LongestDigits, NoDigits, OnlyWhole, NoWhole};
 
 use crate::lexer::kinds::{FloatKind, IntegerKind, SignToken, TokenKind};
 

@@ -2,15 +2,18 @@
 ghost use Rattle.std.specs.Prelude.{◌≡◌, ◌≢◌, ◌⊎◌, ◌↔◌, [], Ok, false, IfOk, IfErr, IsOk};
 ghost use Rattle.std.specs.Cow.{cow_str_bytes, cow_slice_items, IsBorrowedSlice, IsBorrowedStr};
 ghost use Rattle.std.specs.Str.{chars, IsUtf8};
-ghost use Rattle.wat_lex.specs.Classes.{backslash};
-ghost use Rattle.wat_lex.specs.Names.{Name, NameFault, NameError, HasNone, HasNoEscape};
-ghost use Rattle.wat_lex.specs.NumberValues.{is_integer_rewritten, is_float_rewritten, IsFloatOf, IsIntegerOf, IsNumeralOf};
-ghost use Rattle.wat_lex.specs.OneReading.{SomeValue, OneValue, SomeName, OneName, SomeCut, OneCut};
-ghost use Rattle.wat_lex.specs.Readers.{IsTokenOf, token_text, word_of};
-ghost use Rattle.wat_lex.specs.Setting.{lenient};
-ghost use Rattle.wat_lex.specs.Strings.{StringWord};
-ghost use Rattle.wat_lex.specs.WordValues.{string_value, name_value, name_answer, empty_name};
-ghost use Rattle.wat_lex.specs.Words.{Word};
+ghost use Rattle.wat_lex.specs.grammar.Classes.{backslash};
+ghost use Rattle.wat_lex.specs.values.Names.{Name, NameFault, NameError, HasNone, HasNoEscape};
+ghost use Rattle.wat_lex.specs.values.NumberValues.{is_integer_rewritten, is_float_rewritten};
+ghost use Rattle.wat_lex.specs.values.NumberValues.{IsFloatOf, IsIntegerOf, IsNumeralOf};
+ghost use Rattle.wat_lex.specs.values.OneReading.{SomeValue, OneValue, SomeName, OneName, SomeCut};
+ghost use Rattle.wat_lex.specs.values.OneReading.{OneCut};
+ghost use Rattle.wat_lex.specs.tokens.Readers.{IsTokenOf, token_text, word_of};
+ghost use Rattle.wat_lex.specs.tokens.Setting.{lenient};
+ghost use Rattle.wat_lex.specs.grammar.Strings.{StringWord};
+ghost use Rattle.wat_lex.specs.values.WordValues.{string_value, name_value, name_answer};
+ghost use Rattle.wat_lex.specs.values.WordValues.{empty_name};
+ghost use Rattle.wat_lex.specs.grammar.Words.{Word};
 ghost use Rattle.wat_lex.specs.declared.lexer.faults.LexError.TheVariants.{EmptyId, EmptyAnnotation};
 ghost use Rattle.wat_lex.specs.declared.lexer.kinds.TokenKind.TheVariants.{String, Id, Keyword, Annotation, Reserved};
 ghost use Rattle.wat_lex.specs.declared.lexer.kinds.TokenKind.TheVariants as token_kind;
@@ -62,7 +65,7 @@ impl Token {
     }
 
     /// The value of a string. It is borrowed where no escape stands in the string, and then no memory is taken.
-    #[tactic(auto, using(crate::proofs::OneReading::one_value, crate::proofs::SomeReading::some_value))]
+    #[tactic(auto, using(crate::proofs::values::OneReading::one_value, crate::proofs::values::SomeReading::some_value))]
     pub fn string<'a>(&self, alloc: Global, s: &'a str) -> Result<CowSlice<'a, u8>, AllocError>
         requires token { IsTokenOf s.now self.now }
         requires kind { self.now.kind ≡ String }
@@ -83,7 +86,7 @@ impl Token {
     }
 
     /// The name of an identifier. It is borrowed where no escape stands in it, and then no memory is taken.
-    #[tactic(auto, using(crate::proofs::OneReading::one_name, crate::proofs::SomeReading::some_name))]
+    #[tactic(auto, using(crate::proofs::values::OneReading::one_name, crate::proofs::values::SomeReading::some_name))]
     pub fn id<'a>(&self, alloc: Global, s: &'a str) -> Result<CowStr<'a>, Error>
         requires token { IsTokenOf s.now self.now }
         requires kind { self.now.kind ≡ Id }
@@ -102,7 +105,7 @@ impl Token {
     }
 
     /// The name of an annotation. It is borrowed where no escape stands in it, and then no memory is taken.
-    #[tactic(auto, using(crate::proofs::OneReading::one_name, crate::proofs::SomeReading::some_name))]
+    #[tactic(auto, using(crate::proofs::values::OneReading::one_name, crate::proofs::values::SomeReading::some_name))]
     pub fn annotation<'a>(&self, alloc: Global, s: &'a str) -> Result<CowStr<'a>, Error>
         requires token { IsTokenOf s.now self.now }
         requires kind { self.now.kind ≡ Annotation }
@@ -124,7 +127,7 @@ impl Token {
     /// The name of an identifier or an annotation, or what is wrong with it, at the token: `EmptyId` or `EmptyAnnotation` where it
     /// is empty, `InvalidUtf8Id` where it is not UTF-8. It is borrowed where no escape stands in it, and memory is taken only
     /// where one does.
-    #[tactic(auto, using(crate::proofs::OneReading::one_name, crate::proofs::SomeReading::some_name))]
+    #[tactic(auto, using(crate::proofs::values::OneReading::one_name, crate::proofs::values::SomeReading::some_name))]
     pub fn name<'a>(
         &self,
         alloc: Global,
@@ -172,7 +175,7 @@ impl Token {
     }
 
     /// What a floating-point token reads as. Memory is taken where it has underscores, or `0x` before its digits.
-    #[tactic(auto, using(crate::proofs::OneReading::one_cut, crate::proofs::SomeReading::some_cut))]
+    #[tactic(auto, using(crate::proofs::values::OneReading::one_cut, crate::proofs::values::SomeReading::some_cut))]
     pub fn float<'a>(
         &self,
         alloc: Global,

@@ -1,9 +1,9 @@
 //! Runs of idchars and strings.
 ghost use Rattle.std.specs.Prelude.{◌≡◌, ◌<◌, ◌+◌, ◌^◌, true, length, slice_index, IfOk, IfErr};
-ghost use Rattle.wat_lex.specs.Results.{Answers, Refused};
-ghost use Rattle.wat_lex.specs.RunReads.{RunFound, IsKindOfRun};
-ghost use Rattle.wat_lex.specs.Runs.{WordKind, kind_by_first, named_kind};
-ghost use Rattle.wat_lex.specs.Classes.{is_run_char};
+ghost use Rattle.wat_lex.specs.inside.Results.{Answers, Refused};
+ghost use Rattle.wat_lex.specs.inside.RunReads.{RunFound, IsKindOfRun};
+ghost use Rattle.wat_lex.specs.grammar.Runs.{WordKind, kind_by_first, named_kind};
+ghost use Rattle.wat_lex.specs.grammar.Classes.{is_run_char};
 
 use crate::lexer::classes::idchar_len;
 use crate::lexer::faults::LexFault;

@@ -2,11 +2,11 @@
 ghost use Rattle.std.specs.Prelude.{◌≡◌, ◌↔◌, ◌++◌, ℕ, List, [], IfOk, OnOk, IsOk, IfSome, IfNone};
 ghost use Rattle.std.specs.Cow.{cow_str_bytes, IsBorrowedStr};
 ghost use Rattle.std.specs.Str.{chars, IsUtf8};
-ghost use Rattle.wat_lex.specs.Classes.{backslash};
-ghost use Rattle.wat_lex.specs.Names.{Named, HasNone, HasNoEscape, IsQuoted, IsNamed};
-ghost use Rattle.wat_lex.specs.Reads.{escape_bytes};
-ghost use Rattle.wat_lex.specs.Setting.{lenient};
-ghost use Rattle.wat_lex.specs.Strings.{Quoted};
+ghost use Rattle.wat_lex.specs.grammar.Classes.{backslash};
+ghost use Rattle.wat_lex.specs.values.Names.{Named, HasNone, HasNoEscape, IsQuoted, IsNamed};
+ghost use Rattle.wat_lex.specs.inside.Reads.{escape_bytes};
+ghost use Rattle.wat_lex.specs.tokens.Setting.{lenient};
+ghost use Rattle.wat_lex.specs.grammar.Strings.{Quoted};
 
 use crate::lexer::settings::Settings;
 use crate::lexer::strings::{EscapeValue, escape};

@@ -1,5 +1,5 @@
 use Rattle.std.proofs.Common.{◌≡◌, ◌++◌, length, take}
-use Rattle.wat_lex.specs.Leb128.{unsigned_leb128}
+use Rattle.wat_lex.specs.binary.Leb128.{unsigned_leb128}
 use Rattle.std.specs.List.{flat_map}
 use Rattle.wat_lex.proofs.encode.push_items.Given as goal
 

@@ -1,6 +1,6 @@
 use Rattle.std.proofs.Common.{◌≡◌, ◌++◌, take, vec_len}
-use Rattle.wat_lex.specs.Leb128.{signed_leb128}
-use Rattle.wat_lex.proofs.Leb128Laws.{magnitude}
+use Rattle.wat_lex.specs.binary.Leb128.{signed_leb128}
+use Rattle.wat_lex.proofs.binary.Leb128Laws.{magnitude}
 use Rattle.wat_lex.proofs.encode.push_signed.Given as goal
 
 abbrev pub invariant-loop-rest : goal.invariant-loop-rest

@@ -1,7 +1,7 @@
 use Rattle.std.proofs.Common.{◌≡◌, ap, arith, bit_and, bit_or, take, vec_len, sym, ◌∙◌, ◌++◌, ◌+◌, ◌/◌, ◌%◌, ◌∷◌, []}
 use Rattle.std.proofs.lemmas.Nat.{and_mask}
-use Rattle.wat_lex.specs.Leb128.{unsigned_leb128}
-use Rattle.wat_lex.proofs.Leb128Laws.{front-push, moved, unsigned_leb128-small, unsigned_leb128-step, with_bit_7}
+use Rattle.wat_lex.specs.binary.Leb128.{unsigned_leb128}
+use Rattle.wat_lex.proofs.binary.Leb128Laws.{front-push, moved, unsigned_leb128-small, unsigned_leb128-step, with_bit_7}
 use Rattle.wat_lex.proofs.encode.push_unsigned.Goals as goal
 
 pub loop-rest-preserved : goal.loop-rest-preserved

@@ -1,5 +1,5 @@
 use Rattle.std.proofs.Common.{◌≡◌, ◌++◌, take, vec_len}
-use Rattle.wat_lex.specs.Leb128.{unsigned_leb128}
+use Rattle.wat_lex.specs.binary.Leb128.{unsigned_leb128}
 use Rattle.wat_lex.proofs.encode.push_unsigned.Given as goal
 
 abbrev pub invariant-loop-rest : goal.invariant-loop-rest

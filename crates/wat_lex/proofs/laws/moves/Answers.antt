@@ -1,4 +1,4 @@
-use Rattle.wat_lex.proofs.EverySetting.{tokens_of_moves}
+use Rattle.wat_lex.proofs.tokens.EverySetting.{tokens_of_moves}
 use Rattle.wat_lex.proofs.laws.moves.Goals as goal
 
 pub returns : goal.returns

@@ -1,4 +1,4 @@
-use Rattle.wat_lex.proofs.EverySetting.{names_are_there, names_are_one, names_are_values}
+use Rattle.wat_lex.proofs.tokens.EverySetting.{names_are_there, names_are_one, names_are_values}
 use Rattle.wat_lex.proofs.laws.names.Goals as goal
 
 pub returns-clause-some : goal.returns-clause-some

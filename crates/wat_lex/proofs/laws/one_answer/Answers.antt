@@ -1,4 +1,4 @@
-use Rattle.wat_lex.proofs.EverySetting.{something_stands, one_thing_stands}
+use Rattle.wat_lex.proofs.tokens.EverySetting.{something_stands, one_thing_stands}
 use Rattle.wat_lex.proofs.laws.one_answer.Goals as goal
 
 pub returns-clause-some : goal.returns-clause-some

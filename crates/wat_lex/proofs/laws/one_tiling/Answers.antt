@@ -1,4 +1,4 @@
-use Rattle.wat_lex.proofs.EverySetting.{each_place_is_tiled, tilings_are_one}
+use Rattle.wat_lex.proofs.tokens.EverySetting.{each_place_is_tiled, tilings_are_one}
 use Rattle.wat_lex.proofs.laws.one_tiling.Goals as goal
 
 pub returns-clause-some : goal.returns-clause-some

@@ -1,4 +1,4 @@
-use Rattle.wat_lex.proofs.EverySetting.{strings_are_values}
+use Rattle.wat_lex.proofs.tokens.EverySetting.{strings_are_values}
 use Rattle.wat_lex.proofs.laws.strings.Goals as goal
 
 pub returns : goal.returns

@@ -1,4 +1,4 @@
-use Rattle.wat_lex.proofs.EverySetting.{tokens_are_readable, tokens_end_at_boundaries}
+use Rattle.wat_lex.proofs.tokens.EverySetting.{tokens_are_readable, tokens_end_at_boundaries}
 use Rattle.wat_lex.proofs.laws.tokens.Goals as goal
 
 pub returns-clause-readable : goal.returns-clause-readable

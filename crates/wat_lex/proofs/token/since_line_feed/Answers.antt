@@ -1,4 +1,4 @@
-use Rattle.wat_lex.proofs.Positions.{since_last, since_start}
+use Rattle.wat_lex.proofs.errors.Positions.{since_last, since_start}
 use Rattle.wat_lex.proofs.token.since_line_feed.Goals as goal
 
 pub returns-in-Some-clause-count : goal.returns-in-Some-clause-count

@@ -1,7 +1,7 @@
 use Rattle.std.proofs.Common.{subst, sym}
 use Rattle.std.specs.Prelude.{Some, None}
 use Rattle.std.specs.Str.{IsUtf8}
-use Rattle.wat_lex.specs.Setting.{Setting}
+use Rattle.wat_lex.specs.tokens.Setting.{Setting}
 use Rattle.wat_tokens.specs.Lists.{ListText}
 use Rattle.wat_tokens.proofs.Listings.{listed_start, listed_more, listed_end, listed_fault}
 use Rattle.wat_tokens.proofs.list.list.Goals as goal

@@ -1,6 +1,6 @@
 use Rattle.std.proofs.Common.{length}
 use Rattle.std.specs.Prelude.{string_bytes}
-use Rattle.wat_lex.proofs.Leb128Laws.{unsigned_leb128-law}
+use Rattle.wat_lex.proofs.binary.Leb128Laws.{unsigned_leb128-law}
 use Rattle.wat_lex.proofs.encode.StringEncode.encode.Goals as goal
 
 pub returns-clause-law : goal.returns-clause-law

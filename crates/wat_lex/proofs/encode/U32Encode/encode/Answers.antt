@@ -1,4 +1,4 @@
-use Rattle.wat_lex.proofs.Leb128Laws.{unsigned_leb128-law}
+use Rattle.wat_lex.proofs.binary.Leb128Laws.{unsigned_leb128-law}
 use Rattle.wat_lex.proofs.encode.U32Encode.encode.Goals as goal
 
 pub returns-clause-law : goal.returns-clause-law

@@ -1,11 +1,11 @@
 use Rattle.std.proofs.Common.{ap, sym, ◌∙◌, [], ◌∷◌, ◌++◌, string_bytes, rules, map-id}
 use Rattle.std.proofs.lemmas.Iterator.{YieldsList-from_chars}
 use Rattle.std.proofs.lemmas.Iterator.Consumers.{YieldsList-end}
-use Rattle.wat_lex.specs.Rendering.{shown}
+use Rattle.wat_lex.specs.errors.Rendering.{shown}
 use Rattle.std.specs.Prelude.{flat_map, encode_utf8_all, codes, is_ok, encode_utf8, if◌then◌else◌}
 use Rattle.std.proofs.lemmas.List.{append-nil}
 use lib.Utf8.{encode}
-use Rattle.wat_lex.proofs.Rendering.{shown_one, shown_tab, shown_none, shown_self}
+use Rattle.wat_lex.proofs.errors.Rendering.{shown_one, shown_tab, shown_none, shown_self}
 use Rattle.wat_lex.proofs.error.text.shown.Goals as goal
 
 pub loop-c-preserved-in-Continue-1 : goal.loop-c-preserved-in-Continue-1

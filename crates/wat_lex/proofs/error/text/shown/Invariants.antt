@@ -1,6 +1,6 @@
 use Rattle.std.proofs.Common.{◌≡◌, string_bytes}
 use Rattle.std.specs.Prelude.{encode_utf8_all, flat_map}
-use Rattle.wat_lex.specs.Rendering.{shown}
+use Rattle.wat_lex.specs.errors.Rendering.{shown}
 use Rattle.wat_lex.proofs.error.text.shown.Given as goal
 
 abbrev pub invariant-loop-c : goal.invariant-loop-c

@@ -1,10 +1,10 @@
 use Rattle.std.proofs.Common.{refl}
-use Rattle.wat_lex.proofs.RawLaws.{laws_of}
-use Rattle.wat_lex.proofs.CutTexts.{cuts}
-use Rattle.wat_lex.proofs.MovedTexts.{moves}
-use Rattle.wat_lex.proofs.OneTilings.{one_tiling}
-use Rattle.wat_lex.proofs.Raws.{tiled, tiled_run}
-use Rattle.wat_lex.proofs.SomeTilings.{some_tiling}
+use Rattle.wat_lex.proofs.tokens.RawLaws.{laws_of}
+use Rattle.wat_lex.proofs.tokens.CutTexts.{cuts}
+use Rattle.wat_lex.proofs.tokens.MovedTexts.{moves}
+use Rattle.wat_lex.proofs.tokens.OneTilings.{one_tiling}
+use Rattle.wat_lex.proofs.tokens.Raws.{tiled, tiled_run}
+use Rattle.wat_lex.proofs.tokens.SomeTilings.{some_tiling}
 use Rattle.wat_lex.proofs.lexer.Lexer.iter.Goals as goal
 
 pub returns-clause-raw : goal.returns-clause-raw

@@ -1,13 +1,13 @@
 use Rattle.std.specs.Prelude.{Some, None, Ok, Err}
 use Rattle.std.proofs.Common.{◌≤◌, ◌+◌, length, arith, ap, subst, sym}
 use Rattle.std.specs.Str.{IsCharBoundary}
-use Rattle.wat_lex.specs.Setting.{Setting}
-use Rattle.wat_lex.specs.Results.{Found}
-use Rattle.wat_lex.specs.Readers.{IsTokenOf}
-use Rattle.wat_lex.proofs.TokensOf.{token_of}
-use Rattle.wat_lex.specs.Unique.{StandsAt}
-use Rattle.wat_lex.proofs.OneTilings.{stands_one}
-use Rattle.wat_lex.proofs.Scans.{token_at, fault_at, found_fits, found_some, part_ends}
+use Rattle.wat_lex.specs.tokens.Setting.{Setting}
+use Rattle.wat_lex.specs.inside.Results.{Found}
+use Rattle.wat_lex.specs.tokens.Readers.{IsTokenOf}
+use Rattle.wat_lex.proofs.tokens.TokensOf.{token_of}
+use Rattle.wat_lex.specs.tokens.Unique.{StandsAt}
+use Rattle.wat_lex.proofs.tokens.OneTilings.{stands_one}
+use Rattle.wat_lex.proofs.tokens.Scans.{token_at, fault_at, found_fits, found_some, part_ends}
 use Rattle.wat_lex.proofs.lexer.Lexer.scan.Goals as goal
 use Rattle.wat_lex.proofs.lexer.Lexer.scan.Goals.{In-Ok-Some}
 

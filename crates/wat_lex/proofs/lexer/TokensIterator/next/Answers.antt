@@ -1,5 +1,5 @@
 use Rattle.std.proofs.Common.{arith, ◌≡◌, ◌<◌, ◌≤◌, ◌+◌, ◌-◌, ℕ, Bool, false, cond, subst, sym}
-use Rattle.wat_lex.specs.Raw.{Progress, most_left}
+use Rattle.wat_lex.specs.tokens.Raw.{Progress, most_left}
 use Rattle.wat_lex.proofs.lexer.TokensIterator.next.Goals as goal
 
 nearer : (d : Bool) (len pos next : ℕ) → d ≡ false → pos < next → next ≤ len → cond d 0 ((len + 1) - next) < cond d 0 ((len + 1) - pos)

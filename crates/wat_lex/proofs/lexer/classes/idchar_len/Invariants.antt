@@ -1,6 +1,6 @@
 use Rattle.std.proofs.Common.{◌≡◌, ◌≤◌, ◌+◌, ◌-◌, length, drop}
 use Rattle.std.specs.List.{prefix_len}
-use Rattle.wat_lex.specs.Classes.{is_idchar}
+use Rattle.wat_lex.specs.grammar.Classes.{is_idchar}
 use Rattle.wat_lex.proofs.lexer.classes.idchar_len.Given as goal
 
 abbrev pub invariant-loop-i : goal.invariant-loop-i

@@ -1,6 +1,6 @@
 use Rattle.std.proofs.Common.{arith, ◌+◌, ◌-◌, drop, subst}
 use Rattle.std.proofs.lemmas.List.{drop_all}
-use Rattle.wat_lex.proofs.Comments.{Reaches, open_at, close_at, other_at, none_closes, all_closed}
+use Rattle.wat_lex.proofs.grammar.Comments.{Reaches, open_at, close_at, other_at, none_closes, all_closed}
 use Rattle.wat_lex.proofs.lexer.comments.closing_len.Goals as goal
 use Rattle.wat_lex.proofs.lexer.comments.closing_len.Goals.{else-text-i-eq40-via-then-text-i-eq40+then-i-text+else-text-i-eq59, else-text-i-eq40-via-then-text-i-eq40+else-i-text, else-text-i-eq40-via-else-text-i-eq40}
 use Rattle.wat_lex.proofs.lexer.comments.closing_len.Goals.{else-text-i-eq59-2-via-then-text-i-eq59-2+then-i-text-2+else-text-i-eq41, else-text-i-eq59-2-via-then-text-i-eq59-2+else-i-text-2, else-text-i-eq59-2-via-else-text-i-eq59-2}

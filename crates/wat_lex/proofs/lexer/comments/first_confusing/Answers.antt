@@ -2,7 +2,7 @@ use Rattle.std.proofs.Common.{◌≡◌, ◌++◌, ◌+◌, drop, subst, sym, �
 use Rattle.std.proofs.lemmas.Str.{IsCharBoundary-from_drop}
 use Rattle.std.specs.Str.Iter.{chars_rest}
 use lib.Utf8.{encode}
-use Rattle.wat_lex.proofs.Confusing.{Searched, searched_to, searched_end, searched_found, searched_more}
+use Rattle.wat_lex.proofs.inside.Confusing.{Searched, searched_to, searched_end, searched_found, searched_more}
 use Rattle.wat_lex.proofs.lexer.comments.first_confusing.Goals as goal
 use Rattle.wat_lex.proofs.lexer.comments.first_confusing.Goals.{In-Some-next}
 

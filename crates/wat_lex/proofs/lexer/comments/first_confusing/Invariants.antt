@@ -1,5 +1,5 @@
 use Rattle.std.proofs.Common.{◌-◌, length}
-use Rattle.wat_lex.proofs.Confusing.{Searched}
+use Rattle.wat_lex.proofs.inside.Confusing.{Searched}
 use Rattle.wat_lex.proofs.lexer.comments.first_confusing.Given as goal
 
 abbrev pub invariant-places : goal.invariant-places

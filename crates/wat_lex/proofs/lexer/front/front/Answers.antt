@@ -2,12 +2,12 @@ use Rattle.std.proofs.Common.{sym, subst, ◌≡◌, ◌<◌, ℕ, List, length,
 use Rattle.std.proofs.lemmas.Bool.{eqb-false}
 use Rattle.std.specs.Prelude.{◌==◌, Option, Some, Result, Ok}
 use Rattle.std.specs.List.{prefix_len}
-use Rattle.wat_lex.specs.Classes.{is_blank, is_mark}
-use Rattle.wat_lex.specs.Results.{Found, Answers}
+use Rattle.wat_lex.specs.grammar.Classes.{is_blank, is_mark}
+use Rattle.wat_lex.specs.inside.Results.{Found, Answers}
 use Rattle.wat_lex.specs.declared.lexer.settings.Settings.{Settings}
 use Rattle.wat_lex.specs.declared.lexer.kinds.Lexeme.{Lexeme}
 use Rattle.wat_lex.specs.declared.lexer.faults.LexFault.{LexFault}
-use Rattle.wat_lex.proofs.Lines.{found_open, found_close, found_semicolon, found_mark, found_blank}
+use Rattle.wat_lex.proofs.inside.Lines.{found_open, found_close, found_semicolon, found_mark, found_blank}
 use Rattle.wat_lex.proofs.lexer.front.front.Goals as goal
 
 filled : (text bs : List ℕ) (b : Bool) → bs ≡ text → b ≡ (length bs == 0) → b ≡ false → 0 < length text

@@ -1,4 +1,4 @@
-use Rattle.wat_lex.proofs.NumberParts.{power_none, power_some}
+use Rattle.wat_lex.proofs.values.NumberParts.{power_none, power_some}
 use Rattle.wat_lex.proofs.lexer.number_values.behind_letter.Goals as goal
 
 pub returns-then-is_empty : goal.returns-then-is_empty

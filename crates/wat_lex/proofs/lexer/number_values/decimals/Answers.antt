@@ -1,8 +1,8 @@
 use Rattle.std.proofs.Common.{◌∙◌, subst, refl, false}
 use Rattle.std.specs.Option.{option_map}
 use Rattle.std.specs.Str.{IsAscii}
-use Rattle.wat_lex.proofs.NumberParts.{Plain, ascii_inherited, plain_inherited, point_inherits, power_inherits, each, point_texts, behind_reference}
-use Rattle.wat_lex.specs.NumberValues.{number_text, IsOptionalText}
+use Rattle.wat_lex.proofs.values.NumberParts.{Plain, ascii_inherited, plain_inherited, point_inherits, power_inherits, each, point_texts, behind_reference}
+use Rattle.wat_lex.specs.values.NumberValues.{number_text, IsOptionalText}
 use Rattle.wat_lex.proofs.lexer.number_values.decimals.Goals as goal
 
 pub split_fraction-requires-clause-ascii : goal.split_fraction-requires-clause-ascii

@@ -1,9 +1,9 @@
 use Rattle.std.proofs.Common.{ap, sym, ◌∙◌, ◌≡◌, ◌||◌, Bool, false, subst, ℕ, List}
 use Rattle.std.proofs.Common.{Global}
 use Rattle.std.specs.declared.borrow.CowStr.{CowStr}
-use Rattle.wat_lex.specs.Numbers.{unsigned}
-use Rattle.wat_lex.specs.NumberValues.{number_text, IsText}
-use Rattle.wat_lex.proofs.NumberValues.{plain_text, digits_ascii}
+use Rattle.wat_lex.specs.grammar.Numbers.{unsigned}
+use Rattle.wat_lex.specs.values.NumberValues.{number_text, IsText}
+use Rattle.wat_lex.proofs.values.NumberValues.{plain_text, digits_ascii}
 use Rattle.wat_lex.proofs.lexer.number_values.number_text.Goals as goal
 
 as_written : (hex anew : Bool) (w : List ℕ) (t : CowStr Global) → hex ≡ false → anew ≡ false → IsText false (number_text false w) t → IsText (hex || anew) (number_text hex w) t

@@ -1,8 +1,8 @@
 use Rattle.std.proofs.Common.{ap, ◌∙◌, subst}
 use Rattle.std.specs.Prelude.{IfOk}
-use Rattle.wat_lex.specs.Numbers.{unsigned}
-use Rattle.wat_lex.specs.NumberValues.{IsText}
-use Rattle.wat_lex.proofs.NumberParts.{payload_is}
+use Rattle.wat_lex.specs.grammar.Numbers.{unsigned}
+use Rattle.wat_lex.specs.values.NumberValues.{IsText}
+use Rattle.wat_lex.proofs.values.NumberParts.{payload_is}
 use Rattle.wat_lex.proofs.lexer.number_values.payload.Goals as goal
 
 pub returns-clause-value : goal.returns-clause-value

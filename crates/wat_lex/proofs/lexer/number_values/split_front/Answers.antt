@@ -1,7 +1,7 @@
 use Rattle.std.proofs.Common.{◌≡◌, ap, sym, ◌∙◌, subst, []}
-use Rattle.wat_lex.specs.Numbers.{unsigned, Whole, Tail}
-use Rattle.wat_lex.specs.NumberValues.{behind_prefix}
-use Rattle.wat_lex.proofs.NumberParts.{long, split, no_split, seam_front, seam_back, seam_fits}
+use Rattle.wat_lex.specs.grammar.Numbers.{unsigned, Whole, Tail}
+use Rattle.wat_lex.specs.values.NumberValues.{behind_prefix}
+use Rattle.wat_lex.proofs.values.NumberParts.{long, split, no_split, seam_front, seam_back, seam_fits}
 use Rattle.wat_lex.proofs.lexer.number_values.split_front.Goals as goal
 
 pub behind_prefix-requires : goal.behind_prefix-requires

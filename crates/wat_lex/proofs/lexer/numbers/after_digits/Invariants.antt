@@ -1,5 +1,5 @@
 use Rattle.std.proofs.Common.{◌≤◌, ◌-◌, length, drop}
-use Rattle.wat_lex.proofs.Digits.{Row}
+use Rattle.wat_lex.proofs.grammar.Digits.{Row}
 use Rattle.wat_lex.proofs.lexer.numbers.after_digits.Given as goal
 
 abbrev pub invariant-loop-i : goal.invariant-loop-i

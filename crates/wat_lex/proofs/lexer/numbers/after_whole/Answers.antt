@@ -1,6 +1,6 @@
 use Rattle.std.proofs.Common.{ap, sym, subst, ◌∙◌, ◌≡◌, ◌++◌, ◌∷◌, true}
-use Rattle.wat_lex.specs.NumberReads.{OnlyWhole, NoWhole}
-use Rattle.wat_lex.proofs.NumberKinds.{whole_hex, whole_no_hex, whole_decimal, whole_no_decimal}
+use Rattle.wat_lex.specs.inside.NumberReads.{OnlyWhole, NoWhole}
+use Rattle.wat_lex.proofs.grammar.NumberKinds.{whole_hex, whole_no_hex, whole_decimal, whole_no_decimal}
 use Rattle.wat_lex.proofs.lexer.numbers.after_whole.Goals as goal
 
 pub returns-in-Some : goal.returns-in-Some

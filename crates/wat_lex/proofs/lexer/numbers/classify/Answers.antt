@@ -1,9 +1,9 @@
 use Rattle.std.proofs.Common.{ap, sym, ◌∙◌, ◌++◌}
 use Rattle.std.specs.Prelude.{codes}
 use Rattle.std.proofs.lemmas.Bool.{both_ways}
-use Rattle.wat_lex.specs.Numbers.{unsigned, payload}
-use Rattle.wat_lex.proofs.NumberKinds.{no_number, none_payload, no_payload}
-use Rattle.wat_lex.proofs.NumberSteps.{not_front}
+use Rattle.wat_lex.specs.grammar.Numbers.{unsigned, payload}
+use Rattle.wat_lex.proofs.grammar.NumberKinds.{no_number, none_payload, no_payload}
+use Rattle.wat_lex.proofs.inside.NumberSteps.{not_front}
 use Rattle.wat_lex.proofs.lexer.numbers.classify.Goals as goal
 
 pub digits_kind-requires-clause-payload : goal.digits_kind-requires-clause-payload

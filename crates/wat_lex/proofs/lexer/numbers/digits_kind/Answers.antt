@@ -1,5 +1,5 @@
 use Rattle.std.proofs.Common.{subst}
-use Rattle.wat_lex.specs.Numbers.{Whole, decimals}
+use Rattle.wat_lex.specs.grammar.Numbers.{Whole, decimals}
 use Rattle.wat_lex.proofs.lexer.numbers.digits_kind.Goals as goal
 
 pub returns-clause-some : goal.returns-clause-some

@@ -1,4 +1,4 @@
-use Rattle.wat_lex.proofs.NumberSteps.{digits_whole}
+use Rattle.wat_lex.proofs.inside.NumberSteps.{digits_whole}
 use Rattle.wat_lex.proofs.lexer.numbers.is_digits.Goals as goal
 
 pub returns-in-Some : goal.returns-in-Some

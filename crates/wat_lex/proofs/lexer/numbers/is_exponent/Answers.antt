@@ -1,7 +1,7 @@
 use Rattle.std.proofs.Common.{ap, sym, ◌∙◌, length, arith}
 use Rattle.std.proofs.lemmas.List.{take_rest}
-use Rattle.wat_lex.specs.Numbers.{unsigned}
-use Rattle.wat_lex.proofs.NumberSteps.{exponent_is}
+use Rattle.wat_lex.specs.grammar.Numbers.{unsigned}
+use Rattle.wat_lex.proofs.inside.NumberSteps.{exponent_is}
 use Rattle.wat_lex.proofs.lexer.numbers.is_exponent.Goals as goal
 
 pub returns-then-is_exponent_letter : goal.returns-then-is_exponent_letter

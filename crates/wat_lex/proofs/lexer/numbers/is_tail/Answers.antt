@@ -2,7 +2,7 @@ use Rattle.std.proofs.Common.{refl, take, drop, length, ap, arith, ◌-◌, ◌�
 use borrow.Author.Tests.{ltb-true}
 use Rattle.std.proofs.lemmas.Bool.{both_ways}
 use Rattle.std.proofs.lemmas.List.{take_rest}
-use Rattle.wat_lex.proofs.NumberSteps.{not_empty, is_nil, tail_no_dot, tail_bare, tail_bare_power, tail_digits, tail_digits_power, tail_no_digits}
+use Rattle.wat_lex.proofs.inside.NumberSteps.{not_empty, is_nil, tail_no_dot, tail_bare, tail_bare_power, tail_digits, tail_digits_power, tail_no_digits}
 use Rattle.wat_lex.proofs.lexer.numbers.is_tail.Goals as goal
 use Rattle.wat_lex.proofs.lexer.numbers.is_tail.Goals.{in_default-via-then-text-lt1, in_default-via-else-text-lt1+in_default-1, then-is_empty-via-then-is_empty, then-is_empty-via-else-is_empty+then-is_exponent, In-46}
 

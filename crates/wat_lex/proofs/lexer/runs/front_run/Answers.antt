@@ -1,6 +1,6 @@
 use Rattle.std.proofs.Common.{ap, subst, ◌≡◌, ℕ, List, take}
-use Rattle.wat_lex.specs.RunReads.{IsKindOfRun}
-use Rattle.wat_lex.proofs.RunKinds.{found_run}
+use Rattle.wat_lex.specs.inside.RunReads.{IsKindOfRun}
+use Rattle.wat_lex.proofs.grammar.RunKinds.{found_run}
 use Rattle.wat_lex.proofs.lexer.runs.front_run.Goals as goal
 
 front_is : (text bs : List ℕ) (n : ℕ) → bs ≡ text → take n bs ≡ take n text

@@ -1,6 +1,6 @@
 use Rattle.std.proofs.Common.{length}
 use Rattle.std.specs.Str.Iter.{chars_rest}
-use Rattle.wat_lex.proofs.HexRows.{Row}
+use Rattle.wat_lex.proofs.inside.HexRows.{Row}
 use Rattle.wat_lex.proofs.lexer.strings.number.Given as goal
 
 abbrev pub invariant-row : goal.invariant-row

@@ -3,9 +3,9 @@ use Rattle.std.specs.Prelude.{None, Some}
 use Rattle.std.specs.Str.{chars}
 use Rattle.std.proofs.lemmas.Bool.{false≢true}
 use Rattle.std.proofs.lemmas.Str.Pattern.{strip_prefix_char}
-use Rattle.wat_lex.specs.Classes.{Each, is_idchar}
-use Rattle.wat_lex.specs.Names.{Named}
-use Rattle.wat_lex.proofs.Names.{name_elements, quoted_named, quoted_free, free_quoted, bare_idchars, bare_named, bare_free}
+use Rattle.wat_lex.specs.grammar.Classes.{Each, is_idchar}
+use Rattle.wat_lex.specs.values.Names.{Named}
+use Rattle.wat_lex.proofs.values.Names.{name_elements, quoted_named, quoted_free, free_quoted, bare_idchars, bare_named, bare_free}
 use Rattle.wat_lex.proofs.lexer.values.name.Goals as goal
 use Rattle.wat_lex.proofs.lexer.values.name.Goals.{In-Some, In_default}
 

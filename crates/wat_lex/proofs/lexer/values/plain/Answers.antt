@@ -2,10 +2,10 @@ use Rattle.std.proofs.Common.{sym, ◌∙◌, subst, [], length, ◌-◌}
 use Rattle.std.specs.Prelude.{None, Some}
 use Rattle.std.specs.Str.{chars}
 use Rattle.memchr.specs.Find.{IsFirstByte, is_byte}
-use Rattle.wat_lex.specs.Setting.{lenient}
-use Rattle.wat_lex.specs.Strings.{Quoted}
-use Rattle.wat_lex.proofs.TokensOf.{front_is}
-use Rattle.wat_lex.proofs.Values.{Closing, closing, no_backslash, has_backslash}
+use Rattle.wat_lex.specs.tokens.Setting.{lenient}
+use Rattle.wat_lex.specs.grammar.Strings.{Quoted}
+use Rattle.wat_lex.proofs.tokens.TokensOf.{front_is}
+use Rattle.wat_lex.proofs.values.Values.{Closing, closing, no_backslash, has_backslash}
 use Rattle.wat_lex.proofs.lexer.values.plain.Goals as goal
 use Rattle.wat_lex.proofs.lexer.values.plain.Goals.{In-None}
 

@@ -1,7 +1,7 @@
 use Rattle.std.proofs.lemmas.Iterator.Consumers.{count_from_yields_List}
 use Rattle.std.proofs.lemmas.Iterator.Splits.{YieldsList-from_lines}
 use Rattle.std.proofs.Common.{arith}
-use Rattle.wat_lex.proofs.Positions.{past_end}
+use Rattle.wat_lex.proofs.errors.Positions.{past_end}
 use Rattle.wat_lex.proofs.token.Span.linecol_in.Goals as goal
 
 pub returns-then-self-text-clause-place : goal.returns-then-self-text-clause-place

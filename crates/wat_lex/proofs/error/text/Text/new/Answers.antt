@@ -2,8 +2,8 @@ use Rattle.std.proofs.Common.{ap, ◌∙◌}
 use Rattle.std.specs.Prelude.{unwrap_or, []}
 use Rattle.std.proofs.lemmas.Iterator.Consumers.{nth_from_yields_List}
 use Rattle.std.proofs.lemmas.Iterator.Splits.{YieldsList-from_lines}
-use Rattle.wat_lex.specs.Rendering.{columns}
-use Rattle.wat_lex.proofs.Rendering.{excerpt_made, now_or}
+use Rattle.wat_lex.specs.errors.Rendering.{columns}
+use Rattle.wat_lex.proofs.errors.Rendering.{excerpt_made, now_or}
 use Rattle.wat_lex.proofs.error.text.Text.new.Goals as goal
 
 pub returns : goal.returns

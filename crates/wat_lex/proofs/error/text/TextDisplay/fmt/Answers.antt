@@ -1,7 +1,7 @@
 use Rattle.std.proofs.Common.{refl, arith}
 use Rattle.std.proofs.lemmas.Grind.{put_three}
-use Rattle.wat_lex.specs.ErrorView.{excerpt_of}
-use Rattle.wat_lex.proofs.Rendering.{styled_line, styled_mark, shown_in_three}
+use Rattle.wat_lex.specs.errors.ErrorView.{excerpt_of}
+use Rattle.wat_lex.proofs.errors.Rendering.{styled_line, styled_mark, shown_in_three}
 use Rattle.wat_lex.proofs.error.text.TextDisplay.fmt.Goals as goal
 
 pub returns-clause-writes : goal.returns-clause-writes

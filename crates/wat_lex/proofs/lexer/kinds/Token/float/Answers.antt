@@ -1,8 +1,8 @@
 use Rattle.std.proofs.Common.{ap, sym, ◌∙◌, subst}
 use Rattle.std.specs.Prelude.{IfOk}
 use Rattle.std.specs.Str.{chars}
-use Rattle.wat_lex.specs.NumberValues.{IsFloatOf}
-use Rattle.wat_lex.proofs.NumberWords.{float_word}
+use Rattle.wat_lex.specs.values.NumberValues.{IsFloatOf}
+use Rattle.wat_lex.proofs.values.NumberWords.{float_word}
 use Rattle.wat_lex.proofs.lexer.kinds.Token.float.Goals as goal
 
 pub from_word-requires : goal.from_word-requires

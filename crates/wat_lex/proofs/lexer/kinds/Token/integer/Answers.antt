@@ -1,9 +1,9 @@
 use Rattle.std.proofs.Common.{ap, sym, ◌∙◌, subst}
 use Rattle.std.specs.Prelude.{IfOk}
 use Rattle.std.specs.Str.{chars}
-use Rattle.wat_lex.specs.NumberValues.{IsIntegerOf, IsNumeralOf}
-use Rattle.wat_lex.proofs.NumberWords.{integer_word}
-use Rattle.wat_lex.proofs.Numerals.{numeral_of, if_ok}
+use Rattle.wat_lex.specs.values.NumberValues.{IsIntegerOf, IsNumeralOf}
+use Rattle.wat_lex.proofs.values.NumberWords.{integer_word}
+use Rattle.wat_lex.proofs.values.Numerals.{numeral_of, if_ok}
 use Rattle.wat_lex.proofs.lexer.kinds.Token.integer.Goals as goal
 
 pub from_word-requires : goal.from_word-requires

@@ -3,11 +3,11 @@ use Rattle.std.specs.Prelude.{IfSome, IfNone, ◌↔◌, ◌==◌}
 use Rattle.std.specs.Cow.{cow_str_bytes, IsBorrowedStr}
 use Rattle.std.specs.Str.{chars, IsUtf8}
 use Rattle.std.proofs.lemmas.Bool.{false≢true, eqb-true}
-use Rattle.wat_lex.specs.Names.{Name, Named, NameFault, HasNoEscape, IsNamed}
-use Rattle.wat_lex.specs.WordValues.{empty_name}
+use Rattle.wat_lex.specs.values.Names.{Name, Named, NameFault, HasNoEscape, IsNamed}
+use Rattle.wat_lex.specs.values.WordValues.{empty_name}
 use Rattle.wat_lex.specs.declared.lexer.faults.LexError.TheVariants.{InvalidUtf8Id}
-use Rattle.wat_lex.proofs.Names.{NameTail, name_tail, name_value as name_read, name_free, free_name, empty_fault, utf8_fault}
-use Rattle.wat_lex.proofs.WordValues.{name_good, name_fault}
+use Rattle.wat_lex.proofs.values.Names.{NameTail, name_tail, name_value as name_read, name_free, free_name, empty_fault, utf8_fault}
+use Rattle.wat_lex.proofs.values.WordValues.{name_good, name_fault}
 use Rattle.wat_lex.proofs.lexer.kinds.Token.name.Goals as goal
 use Rattle.wat_lex.proofs.lexer.kinds.Token.name.Goals.{After-src}
 

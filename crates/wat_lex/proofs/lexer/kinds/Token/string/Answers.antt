@@ -1,10 +1,10 @@
 use Rattle.std.proofs.Common.{sym, subst, []}
 use Rattle.std.specs.Str.{chars}
-use Rattle.wat_lex.specs.Names.{IsQuoted, HasNone}
-use Rattle.wat_lex.specs.Setting.{lenient}
-use Rattle.wat_lex.specs.Strings.{StringWord, Quoted}
-use Rattle.wat_lex.proofs.Names.{StringTail, string_tail, string_value, string_none, string_has}
-use Rattle.wat_lex.proofs.WordValues.{string_value_is}
+use Rattle.wat_lex.specs.values.Names.{IsQuoted, HasNone}
+use Rattle.wat_lex.specs.tokens.Setting.{lenient}
+use Rattle.wat_lex.specs.grammar.Strings.{StringWord, Quoted}
+use Rattle.wat_lex.proofs.values.Names.{StringTail, string_tail, string_value, string_none, string_has}
+use Rattle.wat_lex.proofs.values.WordValues.{string_value_is}
 use Rattle.wat_lex.proofs.lexer.kinds.Token.string.Goals as goal
 use Rattle.wat_lex.proofs.lexer.kinds.Token.string.Goals.{After-src}
 

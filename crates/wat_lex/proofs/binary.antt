@@ -1,0 +1,2 @@
+-- Lemmas on the binary format.
+pub mod Leb128Laws

@@ -1,0 +1,3 @@
+-- Lemmas on positions and on the line that an error shows.
+pub mod Positions
+pub mod Rendering

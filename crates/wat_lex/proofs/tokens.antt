@@ -1,0 +1,14 @@
+-- Lemmas on the tokens of a text: that there is one tiling, its faults, its laws, cuts and moves.
+pub mod Scans
+pub mod Raws
+pub mod TokensOf
+pub mod RawLaws
+pub mod OneNumberFault
+pub mod OneStringFault
+pub mod OneFault
+pub mod OneTilings
+pub mod CutTexts
+pub mod MovedTexts
+pub mod SomeAnswer
+pub mod SomeTilings
+pub mod EverySetting

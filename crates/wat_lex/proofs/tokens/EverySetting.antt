@@ -1,0 +1,61 @@
+-- The laws of the definitions for every text and setting, from what is proved of words, tilings and names.
+use Rattle.std.proofs.Common.{◌≡◌, ℕ, [], ◌∷◌, ◌∙◌, refl, sym, subst, inl, inr}
+use Rattle.std.specs.Prelude.{Some, None, Ok, Err, Option, Result}
+use Rattle.wat_lex.specs.tokens.EverySetting.{SomethingStands, OneThingStands, EachPlaceIsTiled, TilingsAreOne, TokensOfCuts, TokensOfMoves, TokensAreReadable, TokensEndAtBoundaries, NamesAreThere, NamesAreOne, NamesAreValues, StringsAreValues}
+use Rattle.wat_lex.specs.tokens.Faults.{FaultAt}
+use Rattle.wat_lex.specs.tokens.Setting.{Setting}
+use Rattle.wat_lex.specs.tokens.Unique.{SomeTiling, StandsAt}
+use Rattle.wat_lex.specs.declared.lexer.kinds.Token.{Token}
+use Rattle.wat_lex.specs.declared.lexer.kinds.TokenKind.TheVariants.{String, Id, Annotation}
+use Rattle.wat_lex.specs.declared.lexer.faults.LexFault.{LexFault}
+use Rattle.wat_lex.proofs.tokens.CutTexts as cut_texts
+use Rattle.wat_lex.proofs.tokens.RawLaws.{behind}
+use Rattle.wat_lex.proofs.tokens.MovedTexts as moved_texts
+use Rattle.wat_lex.proofs.values.OneReading.{one_name, one_value}
+use Rattle.wat_lex.proofs.tokens.OneTilings.{one_tiling, stands_one}
+use Rattle.wat_lex.proofs.values.SomeReading.{name_of, value_of}
+use Rattle.wat_lex.proofs.tokens.SomeTilings.{some_tiling}
+use Rattle.wat_lex.proofs.tokens.TokensOf.{token_of}
+use Rattle.wat_lex.proofs.values.WordValues.{string_value_is, name_good, name_fault}
+
+first_stands : (s : Setting) (p : ℕ) → SomeTiling s p → (r : Result (Option Token) LexFault) × StandsAt s p r
+first_stands s p ([], None, h) = (Ok None, h.tiling ∙ h.ends)
+first_stands s p ([], Some f, h) = (Err f, subst (λ q. FaultAt s q f) (sym h.tiling) h.ends)
+first_stands s p (t ∷ ts, e, h) = (Ok (Some t), h.tiling.0)
+
+pub something_stands : SomethingStands
+something_stands s p u b = first_stands s p (some_tiling s p u b)
+
+pub one_thing_stands : OneThingStands
+one_thing_stands s p q r h g = stands_one s p q r h g
+
+pub each_place_is_tiled : EachPlaceIsTiled
+each_place_is_tiled s p u b = some_tiling s p u b
+
+pub tilings_are_one : TilingsAreOne
+tilings_are_one s p = one_tiling s p
+
+pub tokens_of_cuts : TokensOfCuts
+tokens_of_cuts s p u b = cut_texts.cuts s p u b
+
+pub tokens_of_moves : TokensOfMoves
+tokens_of_moves s p u b = moved_texts.moves s p u b
+
+pub tokens_are_readable : TokensAreReadable
+tokens_are_readable s p t b h = token_of s p t b h
+
+pub tokens_end_at_boundaries : TokensEndAtBoundaries
+tokens_end_at_boundaries s p t u b h = behind s p t u b h
+
+pub names_are_there : NamesAreThere
+names_are_there empty w (inl h) = name_of empty Id w (inl refl) h
+names_are_there empty w (inr h) = name_of empty Annotation w (inr refl) h
+
+pub names_are_one : NamesAreOne
+names_are_one empty w = one_name empty w
+
+pub names_are_values : NamesAreValues
+names_are_values = record { good = λ empty w name h u n. name_good empty w name h u n; fault = λ empty e w h. name_fault empty e w h }
+
+pub strings_are_values : StringsAreValues
+strings_are_values = record { some = λ w h. value_of String w refl h; one = one_value; value = string_value_is }

@@ -1,0 +1,3 @@
+-- The binary format: integers, lists and texts as bytes.
+pub mod Encoding
+pub mod Leb128

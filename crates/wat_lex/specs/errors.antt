@@ -1,0 +1,6 @@
+-- Errors as their callers see them: messages, positions, and the line that is shown.
+pub mod Messages
+pub mod Positions
+pub mod Rendering
+pub mod Errors
+pub mod ErrorView

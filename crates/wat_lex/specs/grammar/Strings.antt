@@ -1,0 +1,65 @@
+-- WebAssembly specification, text format, values: strings. A string is a quote, elements and a quote; its value is the
+-- joined bytes of its elements. With strict underscores the number of an escape is the standard's; without them doubled
+-- underscores in it are taken too.
+use Rattle.std.specs.Prelude.{◌≡◌, ◌≢◌, ◌<◌, ◌+◌, ◌*◌, ◌^◌, ℕ, Bool, true, not, ◌&&◌, ◌||◌, ◌==◌, nat_lt, List, [], ◌∷◌, ◌++◌, IsTrue, Option, Some, None, if◌then◌else◌, encode_utf8}
+use Rattle.std.specs.Char.{IsScalar, digit_value}
+use Rattle.std.specs.Str.Parse.{digits_value}
+use Rattle.std.specs.List.{filter}
+use Rattle.wat_lex.specs.grammar.Classes.{quote, backslash, underscore, letter_u, open_brace, close_brace, is_hex, is_confusing, Each}
+use Rattle.wat_lex.specs.declared.lexer.settings.Settings.{Settings}
+
+abbrev pub is_control : ℕ → Bool
+is_control c = nat_lt c 0x20 || c == 0x7F
+
+-- a character that stands for itself
+abbrev pub is_raw : Settings → ℕ → Bool
+is_raw flags c = (not (is_control c) && not (c == quote) && not (c == backslash)) && (flags.allow || not (is_confusing c))
+
+-- what a letter stands for after a backslash
+abbrev pub letter_value : ℕ → Option ℕ
+letter_value c =
+    if (c == quote || c == 39) || c == backslash then Some c
+    else if c == 116 then Some 9
+    else if c == 110 then Some 10
+    else if c == 114 then Some 13
+    else None
+
+abbrev pub is_hex_or_underscore : ℕ → Bool
+is_hex_or_underscore c = is_hex c || c == underscore
+
+-- the number that hexadecimal digits write, underscores apart
+abbrev pub hex_value : List ℕ → ℕ
+hex_value ds = digits_value 16 (filter is_hex ds)
+
+-- no underscore follows directly on another
+abbrev pub IsParted : List ℕ → Type 0
+IsParted ds = (front back : List ℕ) → ds ≢ front ++ underscore ∷ underscore ∷ back
+
+-- the last character is an underscore
+abbrev pub EndsInUnderscore : List ℕ → Type 0
+EndsInUnderscore ds = (front : List ℕ) × (ds ≡ front ++ underscore ∷ [])
+
+-- A hexadecimal digit d, and ds, which are digits and underscores; together they write at most 2^32-1. With strict
+-- underscores none of these follows directly on another.
+pub record HexRow (flags : Settings) (d : ℕ) (ds : List ℕ) : Type 0 where
+  pub first : IsTrue (is_hex d)
+  pub others : Each is_hex_or_underscore ds
+  pub small : hex_value (d ∷ ds) < 2 ^ 32
+  pub parted : flags.strict ≡ true → IsParted ds
+
+-- The text is an element of a string that has this value, and then the rest.
+pub data Element : Settings → List ℕ → List ℕ → List ℕ → Type 0 where
+  raw : {flags : Settings} {c : ℕ} {r : List ℕ} → IsTrue (is_raw flags c) → Element flags (c ∷ r) (encode_utf8 c) r
+  letter : {flags : Settings} {c v : ℕ} {r : List ℕ} → letter_value c ≡ Some v → Element flags (backslash ∷ c ∷ r) (v ∷ []) r
+  byte : {flags : Settings} {c d : ℕ} {r : List ℕ} → IsTrue (is_hex c) → IsTrue (is_hex d) → Element flags (backslash ∷ c ∷ d ∷ r) ((16 * digit_value c + digit_value d) ∷ []) r
+  unicode : {flags : Settings} {d : ℕ} {s r : List ℕ} (ds : List ℕ) → s ≡ ds ++ close_brace ∷ r → HexRow flags d ds → (EndsInUnderscore ds → ⊥) → IsScalar (hex_value (d ∷ ds))
+      → Element flags (backslash ∷ letter_u ∷ open_brace ∷ d ∷ s) (encode_utf8 (hex_value (d ∷ ds))) r
+
+-- The text is elements and a quote, with this joined value, and then the rest.
+pub data Quoted : Settings → List ℕ → List ℕ → List ℕ → Type 0 where
+  ends : {flags : Settings} {r : List ℕ} → Quoted flags (quote ∷ r) [] r
+  more : {flags : Settings} {s t u v r : List ℕ} → Element flags s u t → Quoted flags t v r → Quoted flags s (u ++ v) r
+
+-- a string word with this value
+pub data StringWord : Settings → List ℕ → List ℕ → Type 0 where
+  quoted : {flags : Settings} {t v : List ℕ} → Quoted flags t v [] → StringWord flags (quote ∷ t) v

@@ -1,0 +1,4 @@
+-- Identifiers and indices.
+pub mod Identifiers
+pub mod IndexLaws
+pub mod Indices

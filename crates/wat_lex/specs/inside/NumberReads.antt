@@ -1,0 +1,37 @@
+-- What the readers of numbers inside the lexer answer. No part of the standard.
+use Rattle.std.specs.Prelude.{◌≡◌, ◌||◌, ◌==◌, ◌⊎◌, if◌then◌else◌, ℕ, Bool, List, [], ◌∷◌}
+use Rattle.wat_lex.specs.grammar.Classes.{Begins, plus, underscore}
+use Rattle.wat_lex.specs.grammar.Numbers.{Digits, is_digit, Whole, Exponent, Tail}
+
+-- neither a digit nor an underscore comes next
+abbrev pub Stops : Bool → List ℕ → Type 0
+Stops hex r = Begins (λ c. is_digit hex c || c == underscore) r → ⊥
+
+-- the digits that nothing lengthens, and then the rest
+pub record LongestDigits (hex : Bool) (text rest : List ℕ) : Type 0 where
+  pub digits : Digits hex text rest
+  pub stops : Stops hex rest
+
+abbrev pub NoDigits : Bool → List ℕ → Type 0
+NoDigits hex text = (rest : List ℕ) → LongestDigits hex text rest → ⊥
+
+-- what may follow a number's first digits
+abbrev pub Follows : Bool → List ℕ → Type 0
+Follows hex rest = (rest ≡ []) ⊎ Tail hex rest
+
+-- the only first digits of a number that the text can be
+pub record OnlyWhole (hex : Bool) (text rest : List ℕ) : Type 0 where
+  pub whole : Whole hex text rest
+  pub only : (k : Bool) (r : List ℕ) → Whole k text r → Follows k r → (k ≡ hex) × (r ≡ rest)
+
+abbrev pub NoWhole : List ℕ → Type 0
+NoWhole text = (k : Bool) (r : List ℕ) → Whole k text r → Follows k r → ⊥
+
+-- the word without a `+`
+abbrev pub without_plus : List ℕ → List ℕ
+without_plus [] = []
+without_plus (c ∷ t) = if c == plus then t else c ∷ t
+
+-- an exponent or nothing
+abbrev pub EndsFloat : Bool → List ℕ → Type 0
+EndsFloat hex r = (r ≡ []) ⊎ Exponent hex r

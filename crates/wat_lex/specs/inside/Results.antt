@@ -1,0 +1,35 @@
+-- What the parts of the lexer answer for the text from a place on, by bytes. No part of the standard.
+use Rattle.std.specs.Prelude.{◌≡◌, ◌+◌, ℕ, List, [], ◌∷◌, ◌++◌, length, IsTrue, Option, MatchOption, Result, MatchResult}
+use Rattle.std.specs.Str.{chars, NonePass}
+use Rattle.wat_lex.specs.grammar.Classes.{size, is_confusing}
+use Rattle.wat_lex.specs.tokens.Faults.{Fault}
+use Rattle.wat_lex.specs.grammar.Words.{Stands}
+use Rattle.wat_lex.specs.declared.lexer.settings.Settings.{Settings}
+use Rattle.wat_lex.specs.declared.lexer.kinds.Lexeme.{Lexeme}
+use Rattle.wat_lex.specs.declared.lexer.faults.LexFault.{LexFault}
+
+-- a word of this kind and of so many bytes stands at the front
+pub record Found (flags : Settings) (text : List ℕ) (lexeme : Lexeme) : Type 0 where
+  pub word : List ℕ
+  pub rest : List ℕ
+  pub stands : Stands flags (chars text) lexeme.kind word rest
+  pub len : lexeme.len ≡ size word
+
+-- the text begins with no word, and this is the fault, its offset from the front
+pub record Refused (flags : Settings) (text : List ℕ) (f : LexFault) : Type 0 where
+  pub at : List ℕ
+  pub fault : Fault flags (chars text) f.error at
+  pub place : f.offset + size at ≡ length text
+
+-- what stands at the front of the text
+abbrev pub Answers : Settings → List ℕ → Result (Option Lexeme) LexFault → Type 0
+Answers flags text r = MatchResult r (λ found. MatchOption found (text ≡ []) (Found flags text)) (Refused flags text)
+
+-- the first confusing character of the text and its place
+pub record FirstConfusing (text : List ℕ) (i c : ℕ) : Type 0 where
+  pub front : List ℕ
+  pub behind : List ℕ
+  pub cut : chars text ≡ front ++ c ∷ behind
+  pub clear : NonePass is_confusing front
+  pub is : IsTrue (is_confusing c)
+  pub place : i ≡ size front

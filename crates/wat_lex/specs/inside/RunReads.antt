@@ -1,0 +1,34 @@
+-- What the reader of runs inside the lexer answers. No part of the standard.
+use Rattle.std.specs.Prelude.{◌≡◌, ◌+◌, ℕ, List, [], ◌∷◌, encode_utf8_all, length}
+use Rattle.std.specs.Str.{chars}
+use Rattle.wat_lex.specs.grammar.Classes.{size}
+use Rattle.wat_lex.specs.grammar.Runs.{Piece, Idchar, Quoted, Run, RunKind}
+use Rattle.wat_lex.specs.grammar.Words.{EndsRun}
+use Rattle.wat_lex.specs.declared.lexer.settings.Settings.{Settings}
+use Rattle.wat_lex.specs.declared.lexer.runs.Pieces.{Pieces}
+use Rattle.wat_lex.specs.declared.lexer.kinds.TokenKind.{TokenKind}
+
+abbrev pub idchar_count : List Piece → ℕ
+idchar_count [] = 0
+idchar_count (Idchar c ∷ ps) = 1 + idchar_count ps
+idchar_count (Quoted v ∷ ps) = idchar_count ps
+
+abbrev pub string_count : List Piece → ℕ
+string_count [] = 0
+string_count (Idchar c ∷ ps) = string_count ps
+string_count (Quoted v ∷ ps) = 1 + string_count ps
+
+-- the text is a run of so many bytes, idchars and strings, and then a rest that does not lengthen it
+pub record RunFound (flags : Settings) (text : List ℕ) (found : Pieces) : Type 0 where
+  pub pieces : List Piece
+  pub rest : List ℕ
+  pub run : Run flags (chars text) pieces rest
+  pub ends : EndsRun rest
+  pub place : found.len + size rest ≡ length text
+  pub first : found.idchars ≡ idchar_count pieces
+  pub second : found.strings ≡ string_count pieces
+
+-- the kind of any run that these bytes are and that has so many idchars and strings
+abbrev pub IsKindOfRun : List ℕ → ℕ → ℕ → TokenKind → Type 0
+IsKindOfRun bytes idchars strings kind =
+    (flags : Settings) (w : List ℕ) (ps : List Piece) → bytes ≡ encode_utf8_all w → Run flags w ps [] → idchars ≡ idchar_count ps → strings ≡ string_count ps → RunKind ps kind

@@ -1,0 +1,11 @@
+-- The tokens of a text: where they stand, how they tile it, how it goes wrong, and what holds of all of them.
+pub mod Setting
+pub mod StringFaults
+pub mod Faults
+pub mod Tiling
+pub mod Unique
+pub mod Parts
+pub mod Readers
+pub mod Raw
+pub mod Laws
+pub mod EverySetting

@@ -1,0 +1,40 @@
+-- WebAssembly specification, text format, lexical format: what a text can't begin with. The standard has no word for the
+-- text there; the error and the place where it is told are the lexer's own.
+use Rattle.std.specs.Prelude.{◌≡◌, ◌<◌, ◌+◌, ℕ, Bool, false, ◌||◌, ◌==◌, ◌⊎◌, List, ◌∷◌, ◌++◌, IsTrue, length, drop}
+use Rattle.std.specs.Str.{chars, NonePass}
+use Rattle.wat_lex.specs.grammar.Classes.{quote, open_paren, close_paren, semicolon, is_blank, is_mark, is_run_char, is_confusing, size}
+use Rattle.wat_lex.specs.grammar.Comments.{BlockComment as Commented}
+use Rattle.wat_lex.specs.grammar.Runs.{Piece, Run}
+use Rattle.wat_lex.specs.tokens.Setting.{Setting, allowing}
+use Rattle.wat_lex.specs.tokens.StringFaults.{StringFault}
+use Rattle.wat_lex.specs.grammar.Words.{Stands}
+use Rattle.wat_lex.specs.declared.lexer.settings.Settings.{Settings}
+use Rattle.wat_lex.specs.declared.lexer.kinds.TokenKind.{TokenKind}
+use Rattle.wat_lex.specs.declared.lexer.kinds.TokenKind.TheVariants.{LineComment, BlockComment}
+use Rattle.wat_lex.specs.declared.lexer.faults.LexError.{LexError}
+use Rattle.wat_lex.specs.declared.lexer.faults.LexError.TheVariants.{DanglingBlockComment, Unexpected, ConfusingUnicode}
+use Rattle.wat_lex.specs.declared.lexer.faults.LexFault.{LexFault}
+
+abbrev pub begins_word : ℕ → Bool
+begins_word c = (is_blank c || is_run_char c) || (is_mark c || ((c == open_paren || c == close_paren) || c == semicolon))
+
+abbrev pub IsComment : TokenKind → Type 0
+IsComment kind = (kind ≡ LineComment) ⊎ (kind ≡ BlockComment)
+
+-- The text begins with no word: which error, and the text from the place where it is told.
+pub data Fault : Settings → List ℕ → LexError → List ℕ → Type 0 where
+  -- a character with which no word begins
+  unexpected : {flags : Settings} {c : ℕ} {t : List ℕ} → (IsTrue (begins_word c) → ⊥) → Fault flags (c ∷ t) (Unexpected c) (c ∷ t)
+  -- `(;`, and no front of the text is a block comment, whatever characters are in it
+  dangling : {flags : Settings} {t : List ℕ} → ((r : List ℕ) → Commented (open_paren ∷ semicolon ∷ t) r → ⊥) → Fault flags (open_paren ∷ semicolon ∷ t) DanglingBlockComment (open_paren ∷ semicolon ∷ t)
+  -- c is the first confusing character of a comment that would stand here if they were allowed
+  confusing : {flags : Settings} {s t : List ℕ} {c : ℕ} {kind : TokenKind} {w rest : List ℕ} (front : List ℕ) → flags.allow ≡ false → IsComment kind → Stands (allowing flags) s kind w rest
+      → s ≡ front ++ c ∷ t → NonePass is_confusing front → IsTrue (is_confusing c) → length front < length w → Fault flags s (ConfusingUnicode c) (c ∷ t)
+  -- idchars and strings, and then a string that goes wrong
+  in_string : {flags : Settings} {s t at : List ℕ} {ps : List Piece} {e : LexError} → Run flags s ps (quote ∷ t) → StringFault flags t e at → Fault flags s e at
+
+-- at the byte p of the text no word stands, and this is the fault
+pub record FaultAt (s : Setting) (p : ℕ) (f : LexFault) : Type 0 where
+  pub at : List ℕ
+  pub fault : Fault s.flags (chars (drop p s.text)) f.error at
+  pub place : f.offset + size at ≡ length s.text

@@ -1,0 +1,6 @@
+-- What the words of tokens read as.
+pub mod NumberValues
+pub mod Names
+pub mod OneReading
+pub mod Annotations
+pub mod WordValues

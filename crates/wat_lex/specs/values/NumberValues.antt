@@ -1,0 +1,125 @@
+-- WebAssembly specification, text format, values: integers and floating-point. What the words of numbers read as. Digits are
+-- ASCII, so that the bytes of a text of digits are its characters.
+use Rattle.std.specs.Prelude.{◌≡◌, ℕ, Bool, true, false, not, ◌||◌, ◌==◌, if◌then◌else◌, Option, Some, None, List, [], ◌∷◌, ◌++◌, drop, IsTrue}
+use Rattle.std.specs.List.{filter}
+use Rattle.std.specs.Option.{option_map}
+use Rattle.std.specs.Str.Parse.{IsNumeral, without_leading_sign, digits_value}
+use Rattle.std.specs.Cow.{cow_str_bytes, IsBorrowedStr, IsOwnedStr}
+use Rattle.std.specs.declared.borrow.CowStr.{CowStr}
+use Rattle.wat_lex.specs.grammar.Classes.{underscore, minus, dot}
+use Rattle.wat_lex.specs.grammar.Numbers.{unsigned, is_negative, is_exponent_letter, Digits, Whole}
+use Rattle.wat_lex.specs.declared.lexer.kinds.IntegerKind.{IntegerKind}
+use Rattle.wat_lex.specs.declared.lexer.kinds.SignToken.{SignToken}
+use Rattle.wat_lex.specs.declared.lexer.kinds.FloatKind.{FloatKind}
+use Rattle.wat_lex.specs.declared.lexer.kinds.FloatKind.TheVariants as kind
+use Rattle.wat_lex.specs.declared.lexer.number_values.Integer.{Integer}
+use Rattle.wat_lex.specs.declared.lexer.number_values.Float.{Float}
+use Rattle.wat_lex.specs.declared.lexer.number_values.Float.TheVariants as value
+
+-- without underscores
+abbrev pub joined : List ℕ → List ℕ
+joined s = filter (λ c. not (c == underscore)) s
+
+-- what stands behind `0x`, where a number is hexadecimal
+abbrev pub behind_prefix : Bool → List ℕ → List ℕ
+behind_prefix true s = drop 2 s
+behind_prefix false s = s
+
+-- a number's digits without sign, underscores and `0x`
+abbrev pub bare_digits : Bool → List ℕ → List ℕ
+bare_digits hex w = joined (behind_prefix hex (unsigned w))
+
+-- a number's digits without `+`, underscores and `0x`, a `-` kept
+abbrev pub number_text : Bool → List ℕ → List ℕ
+number_text hex w = if is_negative w then minus ∷ bare_digits hex w else bare_digits hex w
+
+abbrev pub base : Bool → ℕ
+base true = 16
+base false = 10
+
+-- the whole number that an integer's word denotes, its sign left out
+abbrev pub integer_value : Bool → List ℕ → ℕ
+integer_value hex w = digits_value (base hex) (bare_digits hex w)
+
+-- the digits of a payload, behind `nan:0x`
+abbrev pub payload_text : List ℕ → List ℕ
+payload_text w = joined (drop 6 (unsigned w))
+
+-- a fraction's digits as they are written, none where there is no digit behind the dot or no dot; and then the rest
+pub data Point : Bool → List ℕ → Option (List ℕ) → List ℕ → Type 0 where
+  no_point : {hex : Bool} {r : List ℕ} → Point hex r None r
+  bare : {hex : Bool} {r : List ℕ} → Point hex (dot ∷ r) None r
+  filled : {hex : Bool} {t d r : List ℕ} → t ≡ d ++ r → Digits hex d [] → Point hex (dot ∷ t) (Some d) r
+
+-- an exponent as it is written behind its letter, or none
+pub data Power : Bool → List ℕ → Option (List ℕ) → Type 0 where
+  no_power : {hex : Bool} → Power hex [] None
+  present : {hex : Bool} {c : ℕ} {t : List ℕ} → IsTrue (is_exponent_letter hex c) → Digits false (unsigned t) [] → Power hex (c ∷ t) (Some t)
+
+-- the word is first digits with their sign, a fraction and an exponent, each as it is written
+pub record FloatParts (hex : Bool) (word front : List ℕ) (fraction exponent : Option (List ℕ)) : Type 0 where
+  pub tail : List ℕ
+  pub rest : List ℕ
+  pub cut : word ≡ front ++ tail
+  pub first : Whole hex (unsigned front) []
+  pub point : Point hex tail fraction rest
+  pub power : Power hex rest exponent
+
+-- this text, written anew, or a part of the text that is read
+abbrev pub IsText : {Z : Type 0} → Bool → List ℕ → CowStr Z → Type 0
+IsText true digits text = (cow_str_bytes text ≡ digits) × IsOwnedStr text
+IsText false digits text = (cow_str_bytes text ≡ digits) × IsBorrowedStr text
+
+abbrev pub IsOptionalText : {Z : Type 0} → Bool → Option (List ℕ) → Option (CowStr Z) → Type 0
+IsOptionalText anew None None = Unit {0}
+IsOptionalText anew (Some digits) (Some text) = IsText anew digits text
+IsOptionalText anew digits text = ⊥
+
+-- whether reading an integer writes its digits anew, which have underscores or stand behind `0x`
+abbrev pub is_integer_rewritten : IntegerKind → Bool
+is_integer_rewritten kind = kind.hex || kind.has_underscores
+
+-- what callers see of an integer: its sign, its digits behind a `-` where it is negative, and their base
+abbrev pub integer_sign : Integer → Option SignToken
+integer_sign integer = integer.sign
+
+abbrev pub integer_digits : Integer → List ℕ
+integer_digits integer = cow_str_bytes integer.digits
+
+abbrev pub integer_base : Integer → ℕ
+integer_base integer = base integer.hex
+
+-- Its digits are borrowed where it has neither underscores nor `0x`, and else written anew.
+pub record IsIntegerOf (kind : IntegerKind) (word : List ℕ) (integer : Integer) : Type 0 where
+  pub sign : integer.sign ≡ kind.sign
+  pub digits : IsText (is_integer_rewritten kind) (number_text kind.hex word) integer.digits
+  pub hex : integer.hex ≡ kind.hex
+
+-- Its digits are a numeral in its base, which denotes what the word does, the sign of both left out.
+pub record IsNumeralOf (kind : IntegerKind) (word : List ℕ) (integer : Integer) : Type 0 where
+  pub numeral : IsNumeral (integer_base integer) (without_leading_sign (integer_digits integer))
+  pub value : digits_value (integer_base integer) (without_leading_sign (integer_digits integer)) ≡ integer_value kind.hex word
+
+-- Where the word has underscores each part is written anew, where it is hexadecimal the first digits are.
+pub record IsDecimalsOf {Z : Type 0} (hex underscores : Bool) (word : List ℕ) (integral : CowStr Z) (fractional exponent : Option (CowStr Z)) : Type 0 where
+  pub front : List ℕ
+  pub fraction : Option (List ℕ)
+  pub power : Option (List ℕ)
+  pub parts : FloatParts hex word front fraction power
+  pub integral_is : IsText (hex || underscores) (number_text hex front) integral
+  pub fractional_is : IsOptionalText underscores (option_map joined fraction) fractional
+  pub exponent_is : IsOptionalText underscores (option_map (number_text false) power) exponent
+
+abbrev pub IsFloatOf : FloatKind → List ℕ → Float → Type 0
+IsFloatOf (kind.Inf n) w (value.Inf m) = m ≡ n
+IsFloatOf (kind.Nan n) w (value.Nan None m) = m ≡ n
+IsFloatOf (kind.NanVal n underscores) w (value.Nan (Some val) m) = IsText underscores (payload_text w) val × (m ≡ n)
+IsFloatOf (kind.Normal underscores hex) w (value.Val h integral fractional exponent) = (h ≡ hex) × IsDecimalsOf hex underscores w integral fractional exponent
+IsFloatOf kind w float = ⊥
+
+-- whether reading a float writes a text anew
+abbrev pub is_float_rewritten : FloatKind → Bool
+is_float_rewritten (kind.Inf n) = false
+is_float_rewritten (kind.Nan n) = false
+is_float_rewritten (kind.NanVal n underscores) = underscores
+is_float_rewritten (kind.Normal underscores hex) = hex || underscores
