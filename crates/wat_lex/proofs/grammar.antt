@@ -1,14 +1,14 @@
 -- Lemmas on the grammar: what a word is, by characters and by bytes, and that it is read in one way.
-pub mod Bridge
+pub mod CommentBytes
 pub mod Comments
-pub mod Cuts
-pub mod Fronts
+pub mod Remainders
+pub mod AsciiPrefixes
 pub mod RunKinds
 pub mod Digits
 pub mod Tails
 pub mod NumberKinds
 pub mod Looser
-pub mod Unique
+pub mod OneString
 pub mod OneKind
 pub mod OneRun
 pub mod OneWord

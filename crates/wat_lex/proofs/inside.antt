@@ -1,9 +1,9 @@
 -- The steps of the functions that scan.
-pub mod Blocks
-pub mod Checks
+pub mod BlockComments
+pub mod CheckedComments
 pub mod Confusing
-pub mod Elements
+pub mod StringSteps
 pub mod HexRows
-pub mod Lines
-pub mod Pieces
+pub mod LineComments
+pub mod RunSteps
 pub mod NumberSteps

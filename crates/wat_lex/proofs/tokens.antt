@@ -1,7 +1,7 @@
 -- Lemmas on the tokens of a text: that there is one tiling, its faults, its laws, cuts and moves.
 pub mod Scans
 pub mod Raws
-pub mod TokensOf
+pub mod ReadableTokens
 pub mod RawLaws
 pub mod OneNumberFault
 pub mod OneStringFault

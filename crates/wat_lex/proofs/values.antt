@@ -3,8 +3,8 @@ pub mod NumberValues
 pub mod NumberParts
 pub mod NumberWords
 pub mod Names
-pub mod Values
+pub mod StringValues
 pub mod Numerals
-pub mod OneReading
-pub mod SomeReading
+pub mod OneValues
+pub mod SomeValues
 pub mod WordValues

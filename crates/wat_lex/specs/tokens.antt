@@ -3,9 +3,9 @@ pub mod Setting
 pub mod StringFaults
 pub mod Faults
 pub mod Tiling
-pub mod Unique
-pub mod Parts
-pub mod Readers
+pub mod UniqueTilings
+pub mod CutsAndMoves
+pub mod ReadableTokens
 pub mod Raw
 pub mod Laws
 pub mod EverySetting

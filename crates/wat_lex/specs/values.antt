@@ -1,6 +1,6 @@
 -- What the words of tokens read as.
 pub mod NumberValues
 pub mod Names
-pub mod OneReading
+pub mod UniqueValues
 pub mod Annotations
 pub mod WordValues

@@ -3,9 +3,9 @@ ghost use Rattle.std.specs.Prelude.{◌≡◌, ◌<◌, ◌^◌, ◌+◌, ℕ, B
 ghost use Rattle.std.specs.Str.{IsCharBoundary, IsUtf8};
 ghost use Rattle.wat_lex.specs.tokens.Faults.{FaultAt};
 ghost use Rattle.wat_lex.specs.tokens.Raw.{ErrorAt};
-ghost use Rattle.wat_lex.specs.tokens.Readers.{IsTokenOf};
+ghost use Rattle.wat_lex.specs.tokens.ReadableTokens.{IsTokenOf};
 ghost use Rattle.wat_lex.specs.tokens.Tiling.{TokenAt};
-ghost use Rattle.wat_lex.specs.tokens.Unique.{StandsAt};
+ghost use Rattle.wat_lex.specs.tokens.UniqueTilings.{AnswerAt};
 
 use crate::error::Error;
 use crate::token::Span;
@@ -107,7 +107,7 @@ impl<'a> Lexer<'a> {
         ensures token { IfOk result (λ found. IfSome found (TokenAt self.now pos)) }
         ensures end { IfOk result (λ found. IfNone found (pos ≡ length self.now.text)) }
         ensures fault { IfErr result (FaultAt self.now pos) }
-        ensures one { (r : Result (Option Token) LexFault) → StandsAt self.now pos r → r ≡ result }
+        ensures one { (r : Result (Option Token) LexFault) → AnswerAt self.now pos r → r ≡ result }
 
         // The token may be read. What follows it is nearer the text's end, and may be scanned in turn.
         ensures reader { IfOk result (λ found. IfSome found (IsTokenOf self.now.text)) }
@@ -177,9 +177,9 @@ impl<'a> Lexer<'a> {
     ghost use Rattle.std.specs.Iterator.{Drains};
     ghost use Rattle.std.specs.Iterator.Runs.{EachRunFrom};
     ghost use Rattle.wat_lex.specs.tokens.Laws.{Laws};
-    ghost use Rattle.wat_lex.specs.tokens.Parts.{Cuts, Moves};
+    ghost use Rattle.wat_lex.specs.tokens.CutsAndMoves.{Cuts, Moves};
     ghost use Rattle.wat_lex.specs.tokens.Raw.{Item, Raw, token_steps};
-    ghost use Rattle.wat_lex.specs.tokens.Unique.{SomeTiling, OneTiling};
+    ghost use Rattle.wat_lex.specs.tokens.UniqueTilings.{SomeTiling, OneTiling};
 
     /// The tokens from a byte of the text on, up to its end or its first fault.
     pub fn iter<'l>(&'l self, alloc: Global, pos: usize) -> Tokens<'l, 'a>

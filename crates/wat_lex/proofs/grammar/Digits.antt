@@ -5,7 +5,7 @@ use Rattle.std.proofs.lemmas.Bool.{both_ways, or_from, ne_eqb}
 use Rattle.std.proofs.lemmas.List.{drop_more, drop_all}
 use Rattle.wat_lex.specs.grammar.Classes.{Begins}
 use Rattle.wat_lex.specs.grammar.Numbers.{Digits, last, next, parted, is_digit}
-use Rattle.wat_lex.specs.inside.NumberReads.{Stops, LongestDigits, NoDigits}
+use Rattle.wat_lex.specs.inside.ScannedNumbers.{Stops, LongestDigits, NoDigits}
 
 -- a digit or an underscore
 abbrev in_row : Bool → ℕ → Bool

@@ -6,7 +6,7 @@ use Rattle.wat_lex.specs.grammar.Classes.{quote, backslash, is_confusing, IsClea
 use Rattle.wat_lex.specs.tokens.Setting.{lenient}
 use Rattle.wat_lex.specs.grammar.Strings.{is_control, is_raw, HexRow, Element, raw, letter, byte, unicode, Quoted, ends, more}
 use Rattle.wat_lex.specs.grammar.Runs.{Piece, Run, none, idchar, string, RunWord}
-use Rattle.wat_lex.specs.grammar.Words.{Word, Stands}
+use Rattle.wat_lex.specs.grammar.Words.{Word, WordStands}
 use Rattle.wat_lex.specs.declared.lexer.settings.Settings.{Settings}
 use Rattle.wat_lex.specs.declared.lexer.kinds.TokenKind.{TokenKind}
 use Rattle.wat_lex.specs.declared.lexer.kinds.TokenKind.TheVariants.{LineComment, BlockComment, Whitespace, LParen, RParen, String, Id, Keyword, Annotation, Reserved, Integer, Float}
@@ -68,7 +68,7 @@ word_looser Annotation w f g l h = run_word_looser Annotation w f g l h
 word_looser (Integer k) w f g l h = run_word_looser (Integer k) w f g l h
 word_looser (Float k) w f g l h = run_word_looser (Float k) w f g l h
 
-pub stands_looser : (f g : Settings) (text : List ℕ) (kind : TokenKind) (w rest : List ℕ) → Looser f g → Stands f text kind w rest → Stands g text kind w rest
+pub stands_looser : (f g : Settings) (text : List ℕ) (kind : TokenKind) (w rest : List ℕ) → Looser f g → WordStands f text kind w rest → WordStands g text kind w rest
 stands_looser f g text kind w rest l h = record { cut = h.cut; word = word_looser kind w f g l h.word; ends = h.ends }
 
 pub lenient_looser : (f : Settings) → Looser f lenient

@@ -2,8 +2,8 @@
 use Rattle.std.proofs.Common.{◌≡◌, ℕ, List, [], ◌∷◌, refl, arith, get_or, drop, ap, ap₂, sym, ◌∙◌, subst, Bool, true, false, inl, inr}
 use Rattle.std.specs.Prelude.{codes, Option, Some, None, MatchOption}
 use Rattle.std.proofs.lemmas.Bool.{both_ways}
-use Rattle.wat_lex.specs.grammar.Numbers.{Digits, is_digit, sign_of, is_negative, has_underscores, Whole, decimal, hexadecimal, Tail, Decimals, decimals, Payload, payload, unsigned, Number}
-use Rattle.wat_lex.specs.inside.NumberReads.{Follows}
+use Rattle.wat_lex.specs.grammar.Numbers.{Digits, is_digit, sign_of, is_negative, has_underscores, IntegralPart, decimal, hexadecimal, Tail, Decimals, decimals, Payload, payload, unsigned, Number}
+use Rattle.wat_lex.specs.inside.ScannedNumbers.{Follows}
 use Rattle.wat_lex.specs.grammar.Runs.{Piece, Idchar, Quoted, idchars, RunKind, WordKind}
 use Rattle.wat_lex.specs.declared.lexer.kinds.SignToken.{SignToken}
 use Rattle.wat_lex.specs.declared.lexer.kinds.IntegerKind.{IntegerKind}
@@ -15,15 +15,15 @@ use Rattle.wat_lex.proofs.grammar.Tails.{tail_none}
 use Rattle.wat_lex.proofs.grammar.NumberKinds.{follows_stops, no_decimal}
 
 -- first digits, up to what may follow them, are read in one way
-pub whole_one : (h k : Bool) (s r q : List ℕ) → Whole h s r → Follows h r → Whole k s q → Follows k q → (h ≡ k) × (r ≡ q)
-whole_one h k s r q (decimal a) f (decimal b) g = (refl, digits_one false s r q a (follows_stops false r f) b (follows_stops false q g))
-whole_one h k s r q (decimal a) f (hexadecimal {t = t} b) g = absurd (no_decimal t r a f)
-whole_one h k s r q (hexadecimal {t = t} a) f (decimal b) g = absurd (no_decimal t q b g)
-whole_one h k s r q (hexadecimal {t = t} a) f (hexadecimal b) g = (refl, digits_one true t r q a (follows_stops true r f) b (follows_stops true q g))
+pub integral_one : (h k : Bool) (s r q : List ℕ) → IntegralPart h s r → Follows h r → IntegralPart k s q → Follows k q → (h ≡ k) × (r ≡ q)
+integral_one h k s r q (decimal a) f (decimal b) g = (refl, digits_one false s r q a (follows_stops false r f) b (follows_stops false q g))
+integral_one h k s r q (decimal a) f (hexadecimal {t = t} b) g = absurd (no_decimal t r a f)
+integral_one h k s r q (hexadecimal {t = t} a) f (decimal b) g = absurd (no_decimal t q b g)
+integral_one h k s r q (hexadecimal {t = t} a) f (hexadecimal b) g = (refl, digits_one true t r q a (follows_stops true r f) b (follows_stops true q g))
 
 -- a number, by its language
 data IsNumber : List ℕ → TokenKind → Type 0 where
-  integer : {w : List ℕ} {k : IntegerKind} → Whole k.hex (unsigned w) [] → k.sign ≡ sign_of w → k.has_underscores ≡ has_underscores w → IsNumber w (Integer k)
+  integer : {w : List ℕ} {k : IntegerKind} → IntegralPart k.hex (unsigned w) [] → k.sign ≡ sign_of w → k.has_underscores ≡ has_underscores w → IsNumber w (Integer k)
   inf : {w : List ℕ} {n : Bool} → unsigned w ≡ codes "inf" → n ≡ is_negative w → IsNumber w (Float (Inf n))
   nan : {w : List ℕ} {n : Bool} → unsigned w ≡ codes "nan" → n ≡ is_negative w → IsNumber w (Float (Nan n))
   nan_payload : {w : List ℕ} {n u : Bool} → Payload (unsigned w) → n ≡ is_negative w → u ≡ has_underscores w → IsNumber w (Float (NanVal n u))
@@ -62,22 +62,22 @@ unfolding first
 digits_digit [] r h = elim h [ ]
 digits_digit (d ∷ t) r h = digits_first false d t r h
 
-whole_digit : (hex : Bool) (s r : List ℕ) → Whole hex s r → is_digit false (first s) ≡ true
+integral_digit : (hex : Bool) (s r : List ℕ) → IntegralPart hex s r → is_digit false (first s) ≡ true
 unfolding first
-whole_digit hex s r (decimal h) = digits_digit s r h
-whole_digit hex s r (hexadecimal h) = refl
+integral_digit hex s r (decimal h) = digits_digit s r h
+integral_digit hex s r (hexadecimal h) = refl
 
-apart : (s : List ℕ) (c : ℕ) → first s ≡ c → is_digit false c ≡ false → (hex : Bool) (r : List ℕ) → Whole hex s r → ⊥
-apart s c e f hex r h = both_ways (is_digit false c) f (subst (λ x. is_digit false x ≡ true) e (whole_digit hex s r h))
+apart : (s : List ℕ) (c : ℕ) → first s ≡ c → is_digit false c ≡ false → (hex : Bool) (r : List ℕ) → IntegralPart hex s r → ⊥
+apart s c e f hex r h = both_ways (is_digit false c) f (subst (λ x. is_digit false x ≡ true) e (integral_digit hex s r h))
 
 no_float : (s : List ℕ) (c : ℕ) → first s ≡ c → is_digit false c ≡ false → (hex : Bool) → Decimals hex s → ⊥
 no_float s c e f hex (decimals {t = t} h k) = apart s c e f hex t h
 
-integer_float : (h k : Bool) (s : List ℕ) → Whole h s [] → Decimals k s → ⊥
-integer_float h k s a (decimals {t = t} b g) = let e = whole_one h k s [] t a (inl refl) b (inr g) in tail_none k (subst (Tail k) (sym e.1) g)
+integer_float : (h k : Bool) (s : List ℕ) → IntegralPart h s [] → Decimals k s → ⊥
+integer_float h k s a (decimals {t = t} b g) = let e = integral_one h k s [] t a (inl refl) b (inr g) in tail_none k (subst (Tail k) (sym e.1) g)
 
 float_float : (h k : Bool) (s : List ℕ) → Decimals h s → Decimals k s → h ≡ k
-float_float h k s (decimals {t = t} a f) (decimals {t = u} b g) = (whole_one h k s t u a (inr f) b (inr g)).0
+float_float h k s (decimals {t = t} a f) (decimals {t = u} b g) = (integral_one h k s t u a (inr f) b (inr g)).0
 
 made : Option SignToken → Bool → Bool → IntegerKind
 made s u h = record { sign = s; has_underscores = u; hex = h }
@@ -95,7 +95,7 @@ unfolding first
 nan_first s e = ap (λ x. get_or x 0 0) e
 
 one : (w : List ℕ) (k l : TokenKind) → IsNumber w k → IsNumber w l → k ≡ l
-one w k l (integer {k = x} h a b) (integer {k = y} g c d) = ap Integer (integer_same x y (a ∙ sym c) (b ∙ sym d) (whole_one x.hex y.hex (unsigned w) [] [] h (inl refl) g (inl refl)).0)
+one w k l (integer {k = x} h a b) (integer {k = y} g c d) = ap Integer (integer_same x y (a ∙ sym c) (b ∙ sym d) (integral_one x.hex y.hex (unsigned w) [] [] h (inl refl) g (inl refl)).0)
 one w k l (integer {k = x} h a b) (inf e f) = absurd (apart (unsigned w) 105 (inf_first (unsigned w) e) refl x.hex [] h)
 one w k l (integer {k = x} h a b) (nan e f) = absurd (apart (unsigned w) 110 (nan_first (unsigned w) e) refl x.hex [] h)
 one w k l (integer {k = x} h a b) (nan_payload e f g) = absurd (apart (unsigned w) 110 (payload_first (unsigned w) e) refl x.hex [] h)

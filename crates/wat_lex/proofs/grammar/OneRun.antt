@@ -8,7 +8,7 @@ use Rattle.wat_lex.specs.tokens.StringFaults.{StringFault}
 use Rattle.wat_lex.specs.grammar.Words.{EndsRun}
 use Rattle.wat_lex.specs.declared.lexer.faults.LexError.{LexError}
 use Rattle.wat_lex.specs.declared.lexer.settings.Settings.{Settings}
-use Rattle.wat_lex.proofs.grammar.Unique.{quoted_unique, quoted_sound}
+use Rattle.wat_lex.proofs.grammar.OneString.{quoted_unique, quoted_sound}
 use Rattle.wat_lex.proofs.tokens.OneStringFault.{string_fault_unique}
 
 pub idchar_runs : (c : ℕ) → IsTrue (is_idchar c) → IsTrue (is_run_char c)

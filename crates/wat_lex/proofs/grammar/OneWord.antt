@@ -6,13 +6,13 @@ use Rattle.std.proofs.lemmas.Bool.{both_ways, or_cases, eqb-true, false≢true}
 use Rattle.wat_lex.specs.grammar.Classes.{Each, Begins, is_blank, is_idchar, is_run_char, is_mark, is_line_end, open_paren, close_paren, semicolon, quote}
 use Rattle.wat_lex.specs.grammar.Comments.{Closes, BlockComment as Commented, opened, LineComment as CommentedLine, begun}
 use Rattle.wat_lex.specs.grammar.Runs.{Piece, Run, none, idchar, string, RunKind, RunWord}
-use Rattle.wat_lex.specs.grammar.Words.{Mark, EndsRun, Word, MayFollow, Stands}
+use Rattle.wat_lex.specs.grammar.Words.{Mark, EndsRun, Word, MayFollow, WordStands}
 use Rattle.wat_lex.specs.declared.lexer.settings.Settings.{Settings}
 use Rattle.wat_lex.specs.declared.lexer.kinds.TokenKind.{TokenKind}
 use Rattle.wat_lex.specs.declared.lexer.kinds.TokenKind.TheVariants.{LineComment, BlockComment, Whitespace, LParen, RParen, String, Id, Keyword, Annotation, Reserved, Integer, Float}
-use Rattle.wat_lex.proofs.inside.Blocks.{closes_cut}
-use Rattle.wat_lex.proofs.grammar.Cuts.{run_taken}
-use Rattle.wat_lex.proofs.grammar.Unique.{closes_unique, span_unique}
+use Rattle.wat_lex.proofs.inside.BlockComments.{closes_cut}
+use Rattle.wat_lex.proofs.grammar.Remainders.{run_taken}
+use Rattle.wat_lex.proofs.grammar.OneString.{closes_unique, span_unique}
 use Rattle.wat_lex.proofs.grammar.OneKind.{run_kind_one}
 use Rattle.wat_lex.proofs.grammar.OneRun.{idchar_runs, run_unique}
 use Rattle.wat_lex.proofs.tokens.OneStringFault.{set_apart}
@@ -243,9 +243,9 @@ word_form flags Annotation w r h e = run_form flags Annotation w r h e
 word_form flags (Integer x) w r h e = run_form flags (Integer x) w r h e
 word_form flags (Float x) w r h e = run_form flags (Float x) w r h e
 
-pub stands_form : (flags : Settings) (text : List ℕ) (k : TokenKind) (w r : List ℕ) → Stands flags text k w r → Form (class_of text) flags k w r
+pub stands_form : (flags : Settings) (text : List ℕ) (k : TokenKind) (w r : List ℕ) → WordStands flags text k w r → Form (class_of text) flags k w r
 unfolding HasForm
 stands_form flags text k w r h = subst (λ y. Form (class_of y) flags k w r) (sym h.cut) (word_form flags k w r h.word h.ends)
 
-pub stands_unique : (flags : Settings) (text : List ℕ) (k l : TokenKind) (w x r s : List ℕ) → Stands flags text k w r → Stands flags text l x s → (k ≡ l) × (w ≡ x)
+pub stands_unique : (flags : Settings) (text : List ℕ) (k l : TokenKind) (w x r s : List ℕ) → WordStands flags text k w r → WordStands flags text l x s → (k ≡ l) × (w ≡ x)
 stands_unique flags text k l w x r s h g = form_unique (class_of text) flags k l w x r s (stands_form flags text k w r h) (stands_form flags text l x s g) (sym h.cut ∙ g.cut)

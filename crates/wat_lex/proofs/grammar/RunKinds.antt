@@ -11,16 +11,16 @@ use Rattle.wat_lex.specs.grammar.Classes.{size, Begins, is_idchar, is_run_char}
 use Rattle.wat_lex.specs.grammar.Numbers.{Number}
 use Rattle.wat_lex.specs.grammar.Runs.{Piece, Idchar, Quoted, Run, none, idchar, string, idchars, RunKind, RunWord, WordKind, named_kind, kind_by_first}
 use Rattle.wat_lex.specs.grammar.Words.{Word, MayFollow, EndsRun}
-use Rattle.wat_lex.specs.inside.Results.{Found}
-use Rattle.wat_lex.specs.inside.RunReads.{RunFound, IsKindOfRun, idchar_count, string_count}
+use Rattle.wat_lex.specs.inside.ScannedLexemes.{LexemeFound}
+use Rattle.wat_lex.specs.inside.ScannedRuns.{RunFound, IsKindOfRun, idchar_count, string_count}
 use Rattle.wat_lex.specs.declared.lexer.runs.Pieces.{Pieces}
 use Rattle.wat_lex.specs.declared.lexer.kinds.TokenKind.{TokenKind}
 use Rattle.wat_lex.specs.declared.lexer.kinds.TokenKind.TheVariants.{LineComment, BlockComment, Whitespace, LParen, RParen, String, Id, Keyword, Annotation, Reserved, Integer, Float}
-use Rattle.wat_lex.proofs.inside.Lines.{run_char_ascii, idchar_ascii}
-use Rattle.wat_lex.proofs.inside.Checks.{halves}
+use Rattle.wat_lex.proofs.inside.LineComments.{run_char_ascii, idchar_ascii}
+use Rattle.wat_lex.proofs.inside.CheckedComments.{halves}
 use Rattle.wat_lex.proofs.inside.Confusing.{size-append}
-use Rattle.wat_lex.proofs.grammar.Fronts.{led}
-use Rattle.wat_lex.proofs.grammar.Cuts.{run_taken}
+use Rattle.wat_lex.proofs.grammar.AsciiPrefixes.{led}
+use Rattle.wat_lex.proofs.grammar.Remainders.{run_taken}
 use Rattle.wat_lex.specs.declared.lexer.settings.Settings.{Settings}
 
 -- a run with no strings is its characters, and its bytes
@@ -191,7 +191,7 @@ pub run_fits : (flags : Settings) (text : List ℕ) (found : Pieces) → RunFoun
 run_fits flags text found f = omega (arith, f.place)
 
 pub found_run : (flags : Settings) (text : List ℕ) (found : Pieces) (kind : TokenKind) → IsUtf8 text → 0 < length text → is_run_char (get_or text 0 0) ≡ true
-    → RunFound flags text found → IsKindOfRun (take found.len text) found.idchars found.strings kind → Found flags text (record { kind = kind; len = found.len })
+    → RunFound flags text found → IsKindOfRun (take found.len text) found.idchars found.strings kind → LexemeFound flags text (record { kind = kind; len = found.len })
 found_run flags text found kind u l b f k =
     let t = run_taken flags (chars text) f.pieces f.rest f.run in
     let w = t.front in

@@ -3,13 +3,13 @@ use Rattle.std.proofs.Common.{◌≡◌, ◌≢◌, ◌⊎◌, ℕ, List, [], �
 use Rattle.std.specs.Prelude.{IsTrue, codes}
 use Rattle.std.proofs.lemmas.Bool.{both_ways, cases_eq, cases_Bool}
 use Rattle.wat_lex.specs.grammar.Numbers.{Digits, last, next, parted, is_digit, is_exponent_letter, bare, filled, Exponent, exponent, Tail, fraction, power, both, decimals, payload, unsigned, sign_of, is_negative, has_underscores, Number}
-use Rattle.wat_lex.specs.inside.NumberReads.{LongestDigits, NoDigits, OnlyWhole, NoWhole}
+use Rattle.wat_lex.specs.inside.ScannedNumbers.{LongestDigits, NoDigits, OnlyIntegralPart, NoIntegralPart}
 use Rattle.wat_lex.specs.declared.lexer.kinds.FloatKind.TheVariants.{Inf, Nan, NanVal, Normal}
 use Rattle.wat_lex.specs.declared.lexer.kinds.TokenKind.{TokenKind}
 use Rattle.wat_lex.specs.declared.lexer.kinds.TokenKind.TheVariants.{Integer, Float}
 use Rattle.wat_lex.proofs.grammar.Digits.{digits_first, digits_none, digits_next, digits_parted, stops_at}
 use Rattle.wat_lex.proofs.grammar.Tails.{stops_nil, digits_end, exponent_some, exponent_none, tail_power, behind_digits, behind_none}
-use Rattle.wat_lex.proofs.grammar.NumberKinds.{no_number, none_payload, none_whole, none_tail, whole_hex, whole_no_hex, whole_decimal, whole_no_decimal}
+use Rattle.wat_lex.proofs.grammar.NumberKinds.{no_number, none_payload, none_integral, none_tail, integral_hex, integral_no_hex, integral_decimal, integral_no_decimal}
 
 -- decided
 Either : Type 0 → Type 0
@@ -94,9 +94,9 @@ some_tail hex (c ∷ d ∷ t) n =
       | inr e ↦ elim (some_exponent hex (c ∷ d ∷ t)) [ inl k ↦ inl (power k) | inr k ↦ inr (λ h. k (tail_power hex c (d ∷ t) e h)) ]
     ]
 
-data SomeWhole (s : List ℕ) : Type 0 where
-  whole : {hex : Bool} {rest : List ℕ} → OnlyWhole hex s rest → SomeWhole s
-  none : NoWhole s → SomeWhole s
+data SomeIntegralPart (s : List ℕ) : Type 0 where
+  integral : {hex : Bool} {rest : List ℕ} → OnlyIntegralPart hex s rest → SomeIntegralPart s
+  none : NoIntegralPart s → SomeIntegralPart s
 
 -- the text begins with this word
 data Begun (word s : List ℕ) : Type 0 where
@@ -127,38 +127,38 @@ same_list (c ∷ s) (d ∷ word) =
       | inr n ↦ inr (λ k. n (let q : c ≡ d = cc in q))
     ]
 
-hex_whole : (t : List ℕ) → SomeDigits true t → SomeWhole (48 ∷ 120 ∷ t)
-hex_whole t (digits {rest = r} l) = whole (whole_hex t r l)
-hex_whole t (none n) = none (whole_no_hex t n)
+hex_integral : (t : List ℕ) → SomeDigits true t → SomeIntegralPart (48 ∷ 120 ∷ t)
+hex_integral t (digits {rest = r} l) = integral (integral_hex t r l)
+hex_integral t (none n) = none (integral_no_hex t n)
 
-decimal_whole : (s : List ℕ) → ((t : List ℕ) → s ≢ 48 ∷ 120 ∷ t) → SomeDigits false s → SomeWhole s
-decimal_whole s o (digits {rest = r} l) = whole (whole_decimal s r o l)
-decimal_whole s o (none n) = none (whole_no_decimal s o n)
+decimal_integral : (s : List ℕ) → ((t : List ℕ) → s ≢ 48 ∷ 120 ∷ t) → SomeDigits false s → SomeIntegralPart s
+decimal_integral s o (digits {rest = r} l) = integral (integral_decimal s r o l)
+decimal_integral s o (none n) = none (integral_no_decimal s o n)
 
-some_whole : (s : List ℕ) → SomeWhole s
-some_whole s = by (begun_by (48 ∷ 120 ∷ []) s)
+some_integral : (s : List ℕ) → SomeIntegralPart s
+some_integral s = by (begun_by (48 ∷ 120 ∷ []) s)
   where
-    by : Begun (48 ∷ 120 ∷ []) s → SomeWhole s
-    by (begun t e) = subst SomeWhole (sym e) (hex_whole t (some_digits true t))
-    by (other n) = decimal_whole s n (some_digits false s)
+    by : Begun (48 ∷ 120 ∷ []) s → SomeIntegralPart s
+    by (begun t e) = subst SomeIntegralPart (sym e) (hex_integral t (some_digits true t))
+    by (other n) = decimal_integral s n (some_digits false s)
 
 -- a word is a number of a kind, or of none
 pub data SomeNumber (w : List ℕ) : Type 0 where
   is : (kind : TokenKind) → Number w kind → SomeNumber w
   none : ((kind : TokenKind) → Number w kind → ⊥) → SomeNumber w
 
-with_tail : (w rest : List ℕ) (hex : Bool) → unsigned w ≢ codes "inf" → unsigned w ≢ codes "nan" → ((t : List ℕ) → unsigned w ≢ codes "nan:0x" ++ t) → OnlyWhole hex (unsigned w) rest → rest ≢ [] → SomeNumber w
+with_tail : (w rest : List ℕ) (hex : Bool) → unsigned w ≢ codes "inf" → unsigned w ≢ codes "nan" → ((t : List ℕ) → unsigned w ≢ codes "nan:0x" ++ t) → OnlyIntegralPart hex (unsigned w) rest → rest ≢ [] → SomeNumber w
 unfolding Either
 with_tail w rest hex i a p o n =
     elim (some_tail hex rest n) [
-      | inl t ↦ is (Float (Normal (has_underscores w) hex)) (decimals o.whole t, refl)
+      | inl t ↦ is (Float (Normal (has_underscores w) hex)) (decimals o.integral t, refl)
       | inr t ↦ none (no_number w (none_tail (unsigned w) rest hex i a p o n t))
     ]
 
-with_whole : (w : List ℕ) → unsigned w ≢ codes "inf" → unsigned w ≢ codes "nan" → ((t : List ℕ) → unsigned w ≢ codes "nan:0x" ++ t) → SomeWhole (unsigned w) → SomeNumber w
-with_whole w i a p (none n) = none (no_number w (none_whole (unsigned w) i a p n))
-with_whole w i a p (whole {hex = hex} {rest = []} o) = is (Integer (record { sign = sign_of w; has_underscores = has_underscores w; hex = hex })) (o.whole, refl, refl)
-with_whole w i a p (whole {hex = hex} {rest = c ∷ r} o) = with_tail w (c ∷ r) hex i a p o (λ e. cc)
+with_integral : (w : List ℕ) → unsigned w ≢ codes "inf" → unsigned w ≢ codes "nan" → ((t : List ℕ) → unsigned w ≢ codes "nan:0x" ++ t) → SomeIntegralPart (unsigned w) → SomeNumber w
+with_integral w i a p (none n) = none (no_number w (none_integral (unsigned w) i a p n))
+with_integral w i a p (integral {hex = hex} {rest = []} o) = is (Integer (record { sign = sign_of w; has_underscores = has_underscores w; hex = hex })) (o.integral, refl, refl)
+with_integral w i a p (integral {hex = hex} {rest = c ∷ r} o) = with_tail w (c ∷ r) hex i a p o (λ e. cc)
 
 with_payload : (w : List ℕ) → unsigned w ≢ codes "inf" → unsigned w ≢ codes "nan" → Begun (codes "nan:0x") (unsigned w) → SomeNumber w
 unfolding Either
@@ -167,7 +167,7 @@ with_payload w i a (begun t e) =
       | inl h ↦ is (Float (NanVal (is_negative w) (has_underscores w))) (payload e h, refl, refl)
       | inr n ↦ none (no_number w (none_payload (unsigned w) t e n))
     ]
-with_payload w i a (other p) = with_whole w i a p (some_whole (unsigned w))
+with_payload w i a (other p) = with_integral w i a p (some_integral (unsigned w))
 
 pub some_number : (w : List ℕ) → SomeNumber w
 unfolding Either

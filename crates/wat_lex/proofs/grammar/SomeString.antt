@@ -10,7 +10,7 @@ use Rattle.wat_lex.specs.grammar.Strings.{Element, raw, letter, byte, unicode, Q
 use Rattle.wat_lex.specs.tokens.StringFaults.{StringFault, later, no_quote, control, confusing, no_escape, bad_escape, no_second, bad_second, no_open, bad_open, no_digit, bad_digit, number, NumberFault, too_big, doubled, lone, no_scalar, no_brace, no_more}
 use Rattle.wat_lex.specs.declared.lexer.faults.LexError.{LexError}
 use Rattle.wat_lex.specs.declared.lexer.settings.Settings.{Settings}
-use Rattle.wat_lex.proofs.inside.Elements.{raw_char}
+use Rattle.wat_lex.proofs.inside.StringSteps.{raw_char}
 use Rattle.wat_lex.proofs.inside.HexRows.{Each_push, parted_none, parted_push, hex_skip, hex_one, hex_small}
 use Rattle.wat_lex.proofs.tokens.OneNumberFault.{row_front}
 use Rattle.wat_lex.proofs.tokens.OneStringFault.{element_shorter}

@@ -3,7 +3,7 @@ use Rattle.std.proofs.Common.{◌≡◌, ◌≢◌, ℕ, List, [], ◌∷◌, re
 use Rattle.std.specs.Prelude.{◌==◌}
 use Rattle.std.proofs.lemmas.Bool.{or_cases, eqb-true}
 use Rattle.wat_lex.specs.grammar.Numbers.{Digits, is_digit, is_exponent_letter, Fraction, bare, filled, Exponent, exponent, Tail, fraction, power, both, unsigned}
-use Rattle.wat_lex.specs.inside.NumberReads.{Stops, LongestDigits, NoDigits}
+use Rattle.wat_lex.specs.inside.ScannedNumbers.{Stops, LongestDigits, NoDigits}
 use Rattle.wat_lex.proofs.grammar.Digits.{digits_one, stops_at}
 
 pub stops_nil : (hex : Bool) → Stops hex []

@@ -9,7 +9,7 @@ use Rattle.std.specs.Char.{len_utf8, char_set_contains}
 use Rattle.std.specs.Str.{chars, NonePass, IsUtf8, IsCharBoundary}
 use lib.Utf8.{encode, encodes}
 use Rattle.wat_lex.specs.grammar.Classes.{is_confusing, size, Each}
-use Rattle.wat_lex.specs.inside.Results.{FirstConfusing}
+use Rattle.wat_lex.specs.inside.ScannedLexemes.{FirstConfusing}
 
 pub size-append : (xs ys : List ℕ) → size (xs ++ ys) ≡ size xs + size ys
 size-append xs ys = ap length (encodes-append xs ys) ∙ length-append (encodes xs) (encodes ys)

@@ -3,7 +3,7 @@ use Rattle.std.proofs.Common.{◌≡◌, ◌≢◌, ◌⊎◌, ◌<◌, ℕ, Lis
 use Rattle.std.specs.Prelude.{◌==◌, ◌↔◌, IsTrue}
 use Rattle.std.proofs.lemmas.Bool.{both_ways, ne_eqb}
 use Rattle.wat_lex.specs.grammar.Numbers.{Digits, is_exponent_letter, Exponent, exponent, Tail, fraction, power, both, bare, filled, unsigned}
-use Rattle.wat_lex.specs.inside.NumberReads.{LongestDigits, NoDigits}
+use Rattle.wat_lex.specs.inside.ScannedNumbers.{LongestDigits, NoDigits}
 use Rattle.wat_lex.proofs.grammar.Tails.{digits_end, exponent_some, tail_power, behind_digits, behind_none}
 
 pub empty_or : (xs : List ℕ) (b : Bool) → b ≡ (length xs == 0) → ((b ≡ true) × (xs ≡ [])) ⊎ ((b ≡ false) × (xs ≢ []))

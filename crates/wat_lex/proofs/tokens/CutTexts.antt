@@ -8,15 +8,15 @@ use lib.Utf8.{encodes}
 use Rattle.wat_lex.specs.grammar.Classes.{Begins, is_blank, is_run_char, semicolon}
 use Rattle.wat_lex.specs.tokens.Setting.{Setting}
 use Rattle.wat_lex.specs.tokens.Tiling.{TokenAt, Tiling, EndsAt}
-use Rattle.wat_lex.specs.tokens.Parts.{sure, front, Cuts}
+use Rattle.wat_lex.specs.tokens.CutsAndMoves.{sure, front, Cuts}
 use Rattle.wat_lex.proofs.tokens.SomeTilings.{some_tiling}
-use Rattle.wat_lex.specs.grammar.Words.{MayFollow, Stands}
+use Rattle.wat_lex.specs.grammar.Words.{MayFollow, WordStands}
 use Rattle.wat_lex.specs.declared.lexer.settings.Settings.{Settings}
 use Rattle.wat_lex.specs.declared.lexer.kinds.Token.{Token}
 use Rattle.wat_lex.specs.declared.lexer.kinds.TokenKind.{TokenKind}
 use Rattle.wat_lex.specs.declared.lexer.kinds.TokenKind.TheVariants.{LineComment, BlockComment, Whitespace, LParen, RParen, String, Id, Keyword, Annotation, Reserved, Integer, Float}
 use Rattle.wat_lex.specs.declared.lexer.faults.LexFault.{LexFault}
-use Rattle.wat_lex.proofs.inside.Checks.{halves}
+use Rattle.wat_lex.proofs.inside.CheckedComments.{halves}
 use Rattle.wat_lex.proofs.tokens.RawLaws.{behind}
 use Rattle.wat_lex.proofs.tokens.OneTilings.{token_one, no_token_left, no_fault_left, ending_no_token}
 
@@ -45,7 +45,7 @@ follows_more (Integer k) w r x n h = λ b. h (begins_front is_run_char r x n b)
 follows_more (Float k) w r x n h = λ b. h (begins_front is_run_char r x n b)
 
 -- a word that does not end the text stands before more text too
-pub stands_more : (flags : Settings) (text x : List ℕ) (k : TokenKind) (w r : List ℕ) → r ≢ [] → Stands flags text k w r → Stands flags (text ++ x) k w (r ++ x)
+pub stands_more : (flags : Settings) (text x : List ℕ) (k : TokenKind) (w r : List ℕ) → r ≢ [] → WordStands flags text k w r → WordStands flags (text ++ x) k w (r ++ x)
 stands_more flags text x k w r n h = record { cut = ap (λ y. y ++ x) h.cut ∙ append_assoc w r x; word = h.word; ends = follows_more k w r x n h.ends }
 
 -- what is left behind a token
@@ -85,7 +85,7 @@ token_more s n q t u b c h some =
       offset = h.offset;
       word = h.word;
       rest = h.rest ++ chars (drop n s.text);
-      stands = subst (λ x. Stands s.flags x t.kind h.word (h.rest ++ chars (drop n s.text))) (sym (front_chars s.text n q u b c))
+      stands = subst (λ x. WordStands s.flags x t.kind h.word (h.rest ++ chars (drop n s.text))) (sym (front_chars s.text n q u b c))
           (stands_more s.flags (chars (drop q (take n s.text))) (chars (drop n s.text)) t.kind h.word h.rest (λ k. some (e ∙ k)) h.stands);
       len = h.len;
     }

@@ -4,21 +4,21 @@ use Rattle.std.specs.Prelude.{Some, None, Ok, Err, Option, Result}
 use Rattle.wat_lex.specs.tokens.EverySetting.{SomethingStands, OneThingStands, EachPlaceIsTiled, TilingsAreOne, TokensOfCuts, TokensOfMoves, TokensAreReadable, TokensEndAtBoundaries, NamesAreThere, NamesAreOne, NamesAreValues, StringsAreValues}
 use Rattle.wat_lex.specs.tokens.Faults.{FaultAt}
 use Rattle.wat_lex.specs.tokens.Setting.{Setting}
-use Rattle.wat_lex.specs.tokens.Unique.{SomeTiling, StandsAt}
+use Rattle.wat_lex.specs.tokens.UniqueTilings.{SomeTiling, AnswerAt}
 use Rattle.wat_lex.specs.declared.lexer.kinds.Token.{Token}
 use Rattle.wat_lex.specs.declared.lexer.kinds.TokenKind.TheVariants.{String, Id, Annotation}
 use Rattle.wat_lex.specs.declared.lexer.faults.LexFault.{LexFault}
 use Rattle.wat_lex.proofs.tokens.CutTexts as cut_texts
 use Rattle.wat_lex.proofs.tokens.RawLaws.{behind}
 use Rattle.wat_lex.proofs.tokens.MovedTexts as moved_texts
-use Rattle.wat_lex.proofs.values.OneReading.{one_name, one_value}
+use Rattle.wat_lex.proofs.values.OneValues.{one_name, one_value}
 use Rattle.wat_lex.proofs.tokens.OneTilings.{one_tiling, stands_one}
-use Rattle.wat_lex.proofs.values.SomeReading.{name_of, value_of}
+use Rattle.wat_lex.proofs.values.SomeValues.{name_of, value_of}
 use Rattle.wat_lex.proofs.tokens.SomeTilings.{some_tiling}
-use Rattle.wat_lex.proofs.tokens.TokensOf.{token_of}
+use Rattle.wat_lex.proofs.tokens.ReadableTokens.{token_of}
 use Rattle.wat_lex.proofs.values.WordValues.{string_value_is, name_good, name_fault}
 
-first_stands : (s : Setting) (p : ℕ) → SomeTiling s p → (r : Result (Option Token) LexFault) × StandsAt s p r
+first_stands : (s : Setting) (p : ℕ) → SomeTiling s p → (r : Result (Option Token) LexFault) × AnswerAt s p r
 first_stands s p ([], None, h) = (Ok None, h.tiling ∙ h.ends)
 first_stands s p ([], Some f, h) = (Err f, subst (λ q. FaultAt s q f) (sym h.tiling) h.ends)
 first_stands s p (t ∷ ts, e, h) = (Ok (Some t), h.tiling.0)

@@ -6,16 +6,16 @@ use Rattle.std.proofs.lemmas.Str.{encodes-chars, IsUtf8-drop}
 use Rattle.std.specs.Str.{chars, IsUtf8, IsCharBoundary}
 use Rattle.wat_lex.specs.grammar.Classes.{size, quote}
 use Rattle.wat_lex.specs.tokens.Faults.{Fault, FaultAt, unexpected, dangling, confusing, in_string}
-use Rattle.wat_lex.specs.tokens.Parts.{moved_tokens, moved_ending, Moves}
+use Rattle.wat_lex.specs.tokens.CutsAndMoves.{moved_tokens, moved_ending, Moves}
 use Rattle.wat_lex.specs.tokens.Setting.{Setting}
 use Rattle.wat_lex.specs.tokens.Tiling.{TokenAt, Tiling, EndsAt}
-use Rattle.wat_lex.specs.grammar.Words.{Stands}
+use Rattle.wat_lex.specs.grammar.Words.{WordStands}
 use Rattle.wat_lex.specs.declared.lexer.settings.Settings.{Settings}
 use Rattle.wat_lex.specs.declared.lexer.kinds.Token.{Token}
 use Rattle.wat_lex.specs.declared.lexer.faults.LexError.{LexError}
 use Rattle.wat_lex.specs.declared.lexer.faults.LexFault.{LexFault}
 use Rattle.wat_lex.proofs.inside.Confusing.{size-append}
-use Rattle.wat_lex.proofs.grammar.Cuts.{run_taken, string_fault_fits}
+use Rattle.wat_lex.proofs.grammar.Remainders.{run_taken, string_fault_fits}
 use Rattle.wat_lex.proofs.tokens.RawLaws.{behind}
 
 -- a fault is told inside the text
@@ -38,7 +38,7 @@ into_token s p q t h = record {
   offset = ap (λ x. p + x) h.offset;
   word = h.word;
   rest = h.rest;
-  stands = subst (λ x. Stands s.flags (chars x) t.kind h.word h.rest) (drop-drop q p s.text) h.stands;
+  stands = subst (λ x. WordStands s.flags (chars x) t.kind h.word h.rest) (drop-drop q p s.text) h.stands;
   len = h.len;
 }
 
@@ -68,7 +68,7 @@ from_token s p q u h = record {
   offset = refl;
   word = h.word;
   rest = h.rest;
-  stands = subst (λ x. Stands s.flags (chars x) u.kind h.word h.rest) (sym (drop-drop q p s.text)) h.stands;
+  stands = subst (λ x. WordStands s.flags (chars x) u.kind h.word h.rest) (sym (drop-drop q p s.text)) h.stands;
   len = h.len;
 }
 

@@ -8,7 +8,7 @@ use Rattle.wat_lex.specs.grammar.Comments.{BlockComment as Commented, opened, Li
 use Rattle.wat_lex.specs.tokens.Faults.{begins_word, IsComment, Fault, unexpected, dangling, confusing, in_string}
 use Rattle.wat_lex.specs.grammar.Runs.{Piece, Run, none, idchar, string}
 use Rattle.wat_lex.specs.tokens.Setting.{allowing}
-use Rattle.wat_lex.specs.grammar.Words.{Word, Stands}
+use Rattle.wat_lex.specs.grammar.Words.{Word, WordStands}
 use Rattle.wat_lex.specs.declared.lexer.settings.Settings.{Settings}
 use Rattle.wat_lex.specs.declared.lexer.kinds.TokenKind.{TokenKind}
 use Rattle.wat_lex.specs.declared.lexer.kinds.TokenKind.TheVariants.{BlockComment}
@@ -40,12 +40,12 @@ line_front w r (begun h) = line
 block_front : (s r : List ℕ) → Commented s r → CommentFront s
 block_front s r (opened h) = block (opened h)
 
-comment_front : (flags : Settings) (s : List ℕ) (k : TokenKind) (w r : List ℕ) → IsComment k → Stands flags s k w r → CommentFront s
+comment_front : (flags : Settings) (s : List ℕ) (k : TokenKind) (w r : List ℕ) → IsComment k → WordStands flags s k w r → CommentFront s
 unfolding Form
 comment_front flags s k w r (inl e) h = let g = subst (λ y. Word y w flags) e h.word in subst CommentFront (sym h.cut) (line_front w r g.0)
 comment_front flags s k w r (inr e) h =
     let g = subst (λ y. Word y w flags) e h.word in
-    let there : Stands flags s BlockComment w r = record { cut = h.cut; word = g; ends = tt } in
+    let there : WordStands flags s BlockComment w r = record { cut = h.cut; word = g; ends = tt } in
     by s w r h.cut g.0 (stands_form flags s BlockComment w r there)
   where
     by : (s w r : List ℕ) → s ≡ w ++ r → Commented w [] → Form (class_of s) flags BlockComment w r → CommentFront s
@@ -137,7 +137,7 @@ other_class c t n = by (is_blank c) (is_run_char c) (is_mark c) (c == open_paren
 allowed_looser : (flags : Settings) → Looser flags (allowing flags)
 allowed_looser flags = record { allow = λ h. refl; strict = λ h. h }
 
-pub no_word_at_fault : (flags : Settings) (s : List ℕ) (k : TokenKind) (w r : List ℕ) (e : LexError) (a : List ℕ) → Stands flags s k w r → Fault flags s e a → ⊥
+pub no_word_at_fault : (flags : Settings) (s : List ℕ) (k : TokenKind) (w r : List ℕ) (e : LexError) (a : List ℕ) → WordStands flags s k w r → Fault flags s e a → ⊥
 unfolding Form
 no_word_at_fault flags s k w r e a h (unexpected {c = c} {t = t} n) = subst (λ y. Form y flags k w r) (other_class c t n) (stands_form flags s k w r h)
 no_word_at_fault flags s k w r e a h (dangling {t = t} n) = let f : Form Block flags k w r = stands_form flags s k w r h in n r (subst (λ y. Commented y r) (sym h.cut) f.1)

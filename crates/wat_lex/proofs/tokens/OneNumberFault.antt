@@ -10,7 +10,7 @@ use Rattle.wat_lex.specs.tokens.StringFaults.{NumberFault, too_big, doubled, lon
 use Rattle.wat_lex.specs.declared.lexer.faults.LexError.{LexError}
 use Rattle.wat_lex.specs.declared.lexer.faults.LexError.TheVariants.{Expected, UnexpectedEof, NumberTooBig, InvalidUnicodeValue, LoneUnderscore}
 use Rattle.wat_lex.specs.declared.lexer.settings.Settings.{Settings}
-use Rattle.wat_lex.proofs.grammar.Unique.{value_prefix, each_front, each_behind, begins_stop}
+use Rattle.wat_lex.proofs.grammar.OneString.{value_prefix, each_front, each_behind, begins_stop}
 
 -- the error of a row of digits at the character behind it
 data Told (d : ℕ) (ds : List ℕ) (x : ℕ) : LexError → Type 0 where

@@ -8,7 +8,7 @@ use Rattle.wat_lex.specs.grammar.Strings.{Element, raw, letter, byte, unicode, i
 use Rattle.wat_lex.specs.tokens.StringFaults.{StringFault, later, no_quote, control, confusing, no_escape, bad_escape, no_second, bad_second, no_open, bad_open, no_digit, bad_digit, number}
 use Rattle.wat_lex.specs.declared.lexer.faults.LexError.{LexError}
 use Rattle.wat_lex.specs.declared.lexer.settings.Settings.{Settings}
-use Rattle.wat_lex.proofs.grammar.Unique.{element_fault}
+use Rattle.wat_lex.proofs.grammar.OneString.{element_fault}
 use Rattle.wat_lex.proofs.tokens.OneNumberFault.{number_fault_unique}
 
 -- what fails at each character of a set fails at one of them

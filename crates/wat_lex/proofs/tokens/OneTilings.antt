@@ -8,7 +8,7 @@ use Rattle.wat_lex.specs.grammar.Classes.{size}
 use Rattle.wat_lex.specs.tokens.Faults.{FaultAt}
 use Rattle.wat_lex.specs.tokens.Setting.{Setting}
 use Rattle.wat_lex.specs.tokens.Tiling.{TokenAt, Tiling, EndsAt}
-use Rattle.wat_lex.specs.tokens.Unique.{StandsAt, OneTiling}
+use Rattle.wat_lex.specs.tokens.UniqueTilings.{AnswerAt, OneTiling}
 use Rattle.wat_lex.specs.declared.lexer.kinds.Token.{Token}
 use Rattle.wat_lex.specs.declared.lexer.faults.LexFault.{LexFault}
 use Rattle.wat_lex.proofs.tokens.Scans.{word_some}
@@ -46,7 +46,7 @@ no_fault_left s p f e h = fault_some s.flags f.error h.at (chars (drop p s.text)
 pub token_no_fault : (s : Setting) (p : ℕ) (t : Token) (f : LexFault) → TokenAt s p t → FaultAt s p f → ⊥
 token_no_fault s p t f h k = no_word_at_fault s.flags (chars (drop p s.text)) t.kind h.word h.rest f.error k.at h.stands k.fault
 
-pub stands_one : (s : Setting) (p : ℕ) (q r : Result (Option Token) LexFault) → StandsAt s p q → StandsAt s p r → q ≡ r
+pub stands_one : (s : Setting) (p : ℕ) (q r : Result (Option Token) LexFault) → AnswerAt s p q → AnswerAt s p r → q ≡ r
 stands_one s p (Ok None) (Ok None) h g = refl
 stands_one s p (Ok None) (Ok (Some u)) h g = absurd (no_token_left s p u (nothing_left s.text p h) g)
 stands_one s p (Ok None) (Err f) h g = absurd (no_fault_left s p f (nothing_left s.text p h) g)

@@ -8,13 +8,13 @@ use Rattle.std.specs.Str.{IsUtf8, IsCharBoundary}
 use Rattle.wat_lex.specs.tokens.Setting.{Setting}
 use Rattle.wat_lex.specs.tokens.Tiling.{TokenAt, Tiling, EndsAt, MaximalTiling}
 use Rattle.wat_lex.specs.tokens.Raw.{Item, Spells, Raw}
-use Rattle.wat_lex.specs.tokens.Readers.{IsTokenOf, token_text}
+use Rattle.wat_lex.specs.tokens.ReadableTokens.{IsTokenOf, token_text}
 use Rattle.wat_lex.specs.tokens.Laws.{AreTokens, EachToken, joined_texts, Laws}
 use Rattle.wat_lex.specs.declared.lexer.kinds.Token.{Token}
 use Rattle.wat_lex.specs.declared.lexer.faults.LexFault.{LexFault}
 use Rattle.wat_lex.proofs.grammar.Looser.{Looser, stands_looser}
 use Rattle.wat_lex.proofs.tokens.Scans.{some_size, word_some}
-use Rattle.wat_lex.proofs.tokens.TokensOf.{token_of, token_ends}
+use Rattle.wat_lex.proofs.tokens.ReadableTokens.{token_of, token_ends}
 
 -- a token of a text ends in it, at a boundary
 token_past : (text : List ℕ) (t : Token) → IsUtf8 text → IsTokenOf text t → IsCharBoundary text (t.offset + t.len)

@@ -6,7 +6,7 @@ use lib.Utf8.{encodes}
 use Rattle.wat_lex.specs.grammar.Classes.{size}
 use Rattle.wat_lex.specs.tokens.Faults.{FaultAt}
 use Rattle.wat_lex.specs.tokens.Tiling.{TokenAt}
-use Rattle.wat_lex.specs.inside.Results.{Found, Refused}
+use Rattle.wat_lex.specs.inside.ScannedLexemes.{LexemeFound, Refused}
 use Rattle.wat_lex.specs.declared.lexer.kinds.TokenKind.{TokenKind}
 use Rattle.std.specs.Str.{IsCharBoundary}
 use Rattle.std.proofs.lemmas.Str.{IsCharBoundary-from_rest, length-encode, len_utf8_bounds}
@@ -20,20 +20,20 @@ use Rattle.wat_lex.specs.declared.lexer.kinds.Lexeme.{Lexeme}
 use Rattle.wat_lex.specs.declared.lexer.faults.LexFault.{LexFault}
 use Rattle.wat_lex.specs.grammar.Words.{Word}
 use Rattle.wat_lex.specs.declared.lexer.kinds.TokenKind.TheVariants.{LineComment, BlockComment, Whitespace, LParen, RParen, String, Id, Keyword, Annotation, Reserved, Integer, Float}
-use Rattle.wat_lex.proofs.inside.Checks.{boundary_at}
+use Rattle.wat_lex.proofs.inside.CheckedComments.{boundary_at}
 use Rattle.wat_lex.proofs.inside.Confusing.{size-append}
 use Rattle.wat_lex.specs.declared.lexer.settings.Settings.{Settings}
 
-pub found_fits : (flags : Settings) (text : List ℕ) (lexeme : Lexeme) → IsUtf8 text → Found flags text lexeme → lexeme.len ≤ length text
+pub found_fits : (flags : Settings) (text : List ℕ) (lexeme : Lexeme) → IsUtf8 text → LexemeFound flags text lexeme → lexeme.len ≤ length text
 found_fits flags text lexeme u h = omega (arith, h.len, size-append h.word h.rest, ap size h.stands.cut, ap length (encodes-chars text u))
 
-pub token_at : (s : Setting) (part : List ℕ) (p : ℕ) (lexeme : Lexeme) → part ≡ drop p s.text → Found s.flags part lexeme → TokenAt s p (record { kind = lexeme.kind; offset = p; len = lexeme.len })
-token_at s part p lexeme e h = let g = subst (λ x. Found s.flags x lexeme) e h in record { offset = refl; word = g.word; rest = g.rest; stands = g.stands; len = g.len }
+pub token_at : (s : Setting) (part : List ℕ) (p : ℕ) (lexeme : Lexeme) → part ≡ drop p s.text → LexemeFound s.flags part lexeme → TokenAt s p (record { kind = lexeme.kind; offset = p; len = lexeme.len })
+token_at s part p lexeme e h = let g = subst (λ x. LexemeFound s.flags x lexeme) e h in record { offset = refl; word = g.word; rest = g.rest; stands = g.stands; len = g.len }
 
 pub fault_at : (s : Setting) (part : List ℕ) (p : ℕ) (f : LexFault) → p ≤ length s.text → part ≡ drop p s.text → Refused s.flags part f → FaultAt s p (record { offset = p + f.offset; error = f.error })
 fault_at s part p f l k h = let g = subst (λ x. Refused s.flags x f) k h in record { at = g.at; fault = g.fault; place = let q = g.place in omega (arith, q, length-drop p s.text) }
 
-pub part_ends : (s : Setting) (part : List ℕ) (p : ℕ) (lexeme : Lexeme) → p ≤ length s.text → part ≡ drop p s.text → IsUtf8 part → Found s.flags part lexeme → IsCharBoundary s.text (p + lexeme.len)
+pub part_ends : (s : Setting) (part : List ℕ) (p : ℕ) (lexeme : Lexeme) → p ≤ length s.text → part ≡ drop p s.text → IsUtf8 part → LexemeFound s.flags part lexeme → IsCharBoundary s.text (p + lexeme.len)
 part_ends s part p lexeme l e u h = IsCharBoundary-from_rest s.text p lexeme.len l (subst (λ x. IsCharBoundary x lexeme.len) e (boundary_at s.flags part lexeme u h))
 
 pub some_size : (w : List ℕ) → w ≢ [] → 0 < size w
@@ -69,5 +69,5 @@ word_some Annotation w flags h = run_word Annotation w flags h
 word_some (Integer k) w flags h = run_word (Integer k) w flags h
 word_some (Float k) w flags h = run_word (Float k) w flags h
 
-pub found_some : (flags : Settings) (text : List ℕ) (lexeme : Lexeme) → Found flags text lexeme → 0 < lexeme.len
+pub found_some : (flags : Settings) (text : List ℕ) (lexeme : Lexeme) → LexemeFound flags text lexeme → 0 < lexeme.len
 found_some flags text lexeme h = let k = some_size h.word (word_some lexeme.kind h.word flags h.stands.word) in omega (arith, h.len)

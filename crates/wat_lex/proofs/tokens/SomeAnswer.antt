@@ -9,22 +9,22 @@ use Rattle.wat_lex.specs.grammar.Comments.{Closes, BlockComment as Commented, op
 use Rattle.wat_lex.specs.tokens.Faults.{begins_word, IsComment, Fault, unexpected, dangling, confusing, in_string}
 use Rattle.wat_lex.specs.grammar.Runs.{Run}
 use Rattle.wat_lex.specs.tokens.Setting.{allowing}
-use Rattle.wat_lex.specs.grammar.Words.{Mark, Stands}
+use Rattle.wat_lex.specs.grammar.Words.{Mark, WordStands}
 use Rattle.wat_lex.specs.declared.lexer.settings.Settings.{Settings}
 use Rattle.wat_lex.specs.declared.lexer.kinds.TokenKind.{TokenKind}
 use Rattle.wat_lex.specs.declared.lexer.kinds.TokenKind.TheVariants.{LineComment, BlockComment, Whitespace, LParen, RParen, Reserved}
 use Rattle.wat_lex.specs.declared.lexer.faults.LexError.{LexError}
-use Rattle.wat_lex.proofs.inside.Blocks.{closes_cut}
-use Rattle.wat_lex.proofs.inside.Checks.{clear_word}
+use Rattle.wat_lex.proofs.inside.BlockComments.{closes_cut}
+use Rattle.wat_lex.proofs.inside.CheckedComments.{clear_word}
 use Rattle.wat_lex.proofs.grammar.Comments.{Reaches, reaches_start, step_plain, step_semicolon, step_paren, step_open, step_close, step_last, none_closes, all_closed}
-use Rattle.wat_lex.proofs.grammar.Cuts.{run_taken}
+use Rattle.wat_lex.proofs.grammar.Remainders.{run_taken}
 use Rattle.wat_lex.proofs.grammar.RunKinds.{kind_of_run, word_of_run, ends_of_run, no_semicolon, some_pieces}
 use Rattle.wat_lex.proofs.grammar.SomeRun.{SomeRun, run, some_run, some_kind}
 use Rattle.wat_lex.proofs.grammar.SomeRun as runs
 
 pub data SomeAnswer (flags : Settings) (text : List ℕ) : Type 0 where
   nothing : text ≡ [] → SomeAnswer flags text
-  word : {k : TokenKind} {w r : List ℕ} → Stands flags text k w r → SomeAnswer flags text
+  word : {k : TokenKind} {w r : List ℕ} → WordStands flags text k w r → SomeAnswer flags text
   fault : {e : LexError} {at : List ℕ} → Fault flags text e at → SomeAnswer flags text
 
 -- the longest front of characters that pass
@@ -56,15 +56,15 @@ confused : (w : List ℕ) → Confused w
 confused [] = clear tt
 confused (c ∷ w) = elim (cases_Bool (is_confusing c)) [ inl h ↦ first [] w c refl tt h | inr h ↦ confused_on c w h (confused w) ]
 
-comment_checked : (flags : Settings) (s : List ℕ) (k : TokenKind) (w r : List ℕ) → flags.allow ≡ false → IsComment k → Stands (allowing flags) s k w r → Confused w → SomeAnswer flags s
+comment_checked : (flags : Settings) (s : List ℕ) (k : TokenKind) (w r : List ℕ) → flags.allow ≡ false → IsComment k → WordStands (allowing flags) s k w r → Confused w → SomeAnswer flags s
 comment_checked flags s k w r a i h (clear n) = word (record { cut = h.cut; word = clear_word flags k w i h.word n; ends = h.ends })
 comment_checked flags s k w r a i h (first front t c e n q) =
     fault (confusing front a i h (h.cut ∙ ap (λ x. x ++ r) e ∙ append_assoc front (c ∷ t) r) n q (omega (arith, ap length e, length-append front (c ∷ t))))
 
-comment_answer : (flags : Settings) (s : List ℕ) (k : TokenKind) (w r : List ℕ) → IsComment k → Stands (allowing flags) s k w r → SomeAnswer flags s
+comment_answer : (flags : Settings) (s : List ℕ) (k : TokenKind) (w r : List ℕ) → IsComment k → WordStands (allowing flags) s k w r → SomeAnswer flags s
 comment_answer flags s k w r i h =
     elim (cases_Bool flags.allow) [
-      | inl a ↦ let there : Stands flags s k w r = subst (λ (b : Bool). Stands (record flags { allow = b }) s k w r) (sym a) h in word there
+      | inl a ↦ let there : WordStands flags s k w r = subst (λ (b : Bool). WordStands (record flags { allow = b }) s k w r) (sym a) h in word there
       | inr a ↦ comment_checked flags s k w r a i h (confused w)
     ]
 
@@ -121,7 +121,7 @@ line_answer flags u =
 blank_answer : (flags : Settings) (c : ℕ) (t : List ℕ) → is_blank c ≡ true → SomeAnswer flags (c ∷ t)
 blank_answer flags c t h =
     let k = span is_blank t in
-    let there : Stands flags (c ∷ t) Whitespace (c ∷ k.front) k.rest = record { cut = ap (λ x. c ∷ x) k.cut; word = (λ e. cc, (h, k.passes)); ends = k.stops } in
+    let there : WordStands flags (c ∷ t) Whitespace (c ∷ k.front) k.rest = record { cut = ap (λ x. c ∷ x) k.cut; word = (λ e. cc, (h, k.passes)); ends = k.stops } in
     word there
 
 run_answer : (flags : Settings) (s : List ℕ) → Begins is_run_char s → SomeRun flags s → SomeAnswer flags s
@@ -131,7 +131,7 @@ run_answer flags s b (run {ps = ps} {r = r} h e) =
     let alone : Run flags w ps [] = subst (λ x. Run flags x ps []) (append-nil w) (t.again []) in
     let k = some_kind ps in
     let is = kind_of_run ps k.kind k.is in
-    let there : Stands flags s k.kind w r = record {
+    let there : WordStands flags s k.kind w r = record {
       cut = t.cut;
       word = word_of_run k.kind w flags is (ps, some_pieces flags s r ps h b e, alone, k.is);
       ends = ends_of_run k.kind w r is (no_semicolon flags w ps alone) e;
@@ -143,19 +143,19 @@ mark_answer : (flags : Settings) (c : ℕ) (t : List ℕ) → is_mark c ≡ true
 mark_answer flags c t h =
     let m : Mark (c ∷ []) = (c, refl, ap (λ b. b || c == semicolon) h) in
     let other : c ∷ [] ≡ semicolon ∷ [] → ⊥ = λ e. let k : c ≡ semicolon = cc in both_ways (is_mark c) (ap is_mark k) h in
-    let there : Stands flags (c ∷ t) Reserved (c ∷ []) t = record { cut = refl; word = inl m; ends = (λ e. absurd (other e), λ n. absurd (n m)) } in
+    let there : WordStands flags (c ∷ t) Reserved (c ∷ []) t = record { cut = refl; word = inl m; ends = (λ e. absurd (other e), λ n. absurd (n m)) } in
     word there
 
 -- whether a semicolon is next
 after_open : (flags : Settings) (t : List ℕ) → SomeAnswer flags (open_paren ∷ t)
-after_open flags [] = let there : Stands flags (open_paren ∷ []) LParen (open_paren ∷ []) [] = record { cut = refl; word = refl; ends = λ b. b } in word there
+after_open flags [] = let there : WordStands flags (open_paren ∷ []) LParen (open_paren ∷ []) [] = record { cut = refl; word = refl; ends = λ b. b } in word there
 after_open flags (d ∷ u) =
     elim (cases_eq d semicolon) [
       | inl e ↦ subst (λ x. SomeAnswer flags (open_paren ∷ x ∷ u)) (sym e) (block_answer flags u (end_by u u 1 (omega arith) (reaches_start u)))
-      | inr e ↦ let there : Stands flags (open_paren ∷ d ∷ u) LParen (open_paren ∷ []) (d ∷ u) = record { cut = refl; word = refl; ends = λ b. e (eqb-true d semicolon b) } in word there
+      | inr e ↦ let there : WordStands flags (open_paren ∷ d ∷ u) LParen (open_paren ∷ []) (d ∷ u) = record { cut = refl; word = refl; ends = λ b. e (eqb-true d semicolon b) } in word there
     ]
 
-semicolon_stands : (flags : Settings) (t : List ℕ) → (Begins (λ c. c == semicolon) t → ⊥) → Stands flags (semicolon ∷ t) Reserved (semicolon ∷ []) t
+semicolon_stands : (flags : Settings) (t : List ℕ) → (Begins (λ c. c == semicolon) t → ⊥) → WordStands flags (semicolon ∷ t) Reserved (semicolon ∷ []) t
 semicolon_stands flags t n = let m : Mark (semicolon ∷ []) = (semicolon, refl, refl) in record { cut = refl; word = inl m; ends = (λ _. n, λ k. absurd (k m)) }
 
 after_semicolon : (flags : Settings) (t : List ℕ) → SomeAnswer flags (semicolon ∷ t)
@@ -167,7 +167,7 @@ after_semicolon flags (d ∷ u) =
     ]
 
 shut_answer : (flags : Settings) (t : List ℕ) → SomeAnswer flags (close_paren ∷ t)
-shut_answer flags t = let there : Stands flags (close_paren ∷ t) RParen (close_paren ∷ []) t = record { cut = refl; word = refl; ends = tt } in word there
+shut_answer flags t = let there : WordStands flags (close_paren ∷ t) RParen (close_paren ∷ []) t = record { cut = refl; word = refl; ends = tt } in word there
 
 no_begin : (c : ℕ) → is_blank c ≡ false → is_run_char c ≡ false → is_mark c ≡ false → c ≢ open_paren → c ≢ close_paren → c ≢ semicolon → begins_word c ≡ false
 no_begin c a b d e f g =

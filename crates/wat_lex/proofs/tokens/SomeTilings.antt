@@ -7,7 +7,7 @@ use Rattle.wat_lex.specs.grammar.Classes.{size}
 use Rattle.wat_lex.specs.tokens.Faults.{FaultAt}
 use Rattle.wat_lex.specs.tokens.Setting.{Setting}
 use Rattle.wat_lex.specs.tokens.Tiling.{TokenAt}
-use Rattle.wat_lex.specs.tokens.Unique.{SomeTiling}
+use Rattle.wat_lex.specs.tokens.UniqueTilings.{SomeTiling}
 use Rattle.wat_lex.specs.declared.lexer.kinds.Token.{Token}
 use Rattle.wat_lex.specs.declared.lexer.faults.LexFault.{LexFault}
 use Rattle.wat_lex.proofs.tokens.RawLaws.{behind, token_some}

@@ -19,8 +19,8 @@ use Rattle.wat_lex.specs.declared.lexer.faults.LexError.{LexError}
 use Rattle.wat_lex.specs.declared.lexer.faults.LexError.TheVariants.{InvalidUtf8Id}
 use Rattle.wat_lex.specs.declared.lexer.kinds.TokenKind.{TokenKind}
 use Rattle.wat_lex.specs.declared.lexer.kinds.TokenKind.TheVariants.{LineComment, BlockComment, Whitespace, LParen, RParen, String, Id, Keyword, Annotation, Reserved, Integer, Float}
-use Rattle.wat_lex.proofs.inside.Lines.{idchar_ascii}
-use Rattle.wat_lex.proofs.values.Values.{seam_one}
+use Rattle.wat_lex.proofs.inside.LineComments.{idchar_ascii}
+use Rattle.wat_lex.proofs.values.StringValues.{seam_one}
 
 abbrev is_string : TokenKind → Bool
 is_string LineComment = false

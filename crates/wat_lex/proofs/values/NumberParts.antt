@@ -7,8 +7,8 @@ use Rattle.std.proofs.lemmas.List.{take_at, drop_at}
 use Rattle.std.proofs.lemmas.List.Folds.{list_any-append}
 use Rattle.std.proofs.lemmas.Str.{IsAscii-take, IsAscii-drop}
 use Rattle.std.specs.Str.{IsAscii}
-use Rattle.wat_lex.specs.grammar.Numbers.{Digits, last, next, parted, is_digit, Whole, decimal, hexadecimal, Exponent, exponent, Tail, Decimals, decimals, Payload, payload, unsigned, is_negative, has_underscores}
-use Rattle.wat_lex.specs.inside.NumberReads.{LongestDigits, NoDigits, EndsFloat}
+use Rattle.wat_lex.specs.grammar.Numbers.{Digits, last, next, parted, is_digit, IntegralPart, decimal, hexadecimal, Exponent, exponent, Tail, Decimals, decimals, Payload, payload, unsigned, is_negative, has_underscores}
+use Rattle.wat_lex.specs.inside.ScannedNumbers.{LongestDigits, NoDigits, EndsFloat}
 use Rattle.wat_lex.specs.values.NumberValues.{joined, behind_prefix, number_text, payload_text, Point, no_point, bare, filled, Power, no_power, present}
 use Rattle.wat_lex.proofs.grammar.Digits.{digits_one, digits_first, digits_none}
 use Rattle.wat_lex.proofs.grammar.Tails.{tail_stops, tail_none, tail_power, exponent_stops, stops_nil, digits_end, Behind, behind, nothing, powered, digits, digits_powered}
@@ -35,9 +35,9 @@ digits_positive hex (c ∷ t) r h = ne_eqb c 45 (no_minus hex c (digits_first he
 pub digits_text : (hex : Bool) (d r : List ℕ) → Digits hex d r → number_text false d ≡ joined d
 digits_text hex d r h = ap (λ b. cond b (45 ∷ joined (unsigned d)) (joined (unsigned d))) (digits_positive hex d r h) ∙ ap joined (digits_unsigned hex d r h)
 
-whole_unsigned : (hex : Bool) (s r : List ℕ) → Whole hex s r → unsigned s ≡ s
-whole_unsigned hex s r (decimal h) = digits_unsigned false s r h
-whole_unsigned hex s r (hexadecimal h) = refl
+integral_unsigned : (hex : Bool) (s r : List ℕ) → IntegralPart hex s r → unsigned s ≡ s
+integral_unsigned hex s r (decimal h) = digits_unsigned false s r h
+integral_unsigned hex s r (hexadecimal h) = refl
 
 -- digits, cut from what follows them
 pub cut_digits : (hex : Bool) (s r : List ℕ) → Digits hex s r → (d : List ℕ) × (s ≡ d ++ r) × Digits hex d []
@@ -45,24 +45,24 @@ cut_digits hex s r (last {d = d} h) = (d ∷ [], refl, last h)
 cut_digits hex s r (next {d = d} {t = t} h k) = let p = cut_digits hex t r k in (d ∷ p.0, ap (λ x. d ∷ x) p.1, next h p.2)
 cut_digits hex s r (parted {d = d} {t = t} h k) = let p = cut_digits hex t r k in (d ∷ 95 ∷ p.0, ap (λ x. d ∷ 95 ∷ x) p.1, parted h p.2)
 
-cut_whole : (hex : Bool) (s r : List ℕ) → Whole hex s r → (d : List ℕ) × (s ≡ d ++ r) × Whole hex d []
-cut_whole hex s r (decimal h) = let p = cut_digits false s r h in (p.0, p.1, decimal p.2)
-cut_whole hex s r (hexadecimal {t = t} h) = let p = cut_digits true t r h in (48 ∷ 120 ∷ p.0, ap (λ x. 48 ∷ 120 ∷ x) p.1, hexadecimal p.2)
+cut_integral : (hex : Bool) (s r : List ℕ) → IntegralPart hex s r → (d : List ℕ) × (s ≡ d ++ r) × IntegralPart hex d []
+cut_integral hex s r (decimal h) = let p = cut_digits false s r h in (p.0, p.1, decimal p.2)
+cut_integral hex s r (hexadecimal {t = t} h) = let p = cut_digits true t r h in (48 ∷ 120 ∷ p.0, ap (λ x. 48 ∷ 120 ∷ x) p.1, hexadecimal p.2)
 
-pub cut_word : (hex : Bool) (w r : List ℕ) → Whole hex (unsigned w) r → (d : List ℕ) × (w ≡ d ++ r) × Whole hex (unsigned d) []
+pub cut_word : (hex : Bool) (w r : List ℕ) → IntegralPart hex (unsigned w) r → (d : List ℕ) × (w ≡ d ++ r) × IntegralPart hex (unsigned d) []
 cut_word hex [] r h = absurd (none hex r h)
   where
-    none : (hex : Bool) (r : List ℕ) → Whole hex [] r → ⊥
+    none : (hex : Bool) (r : List ℕ) → IntegralPart hex [] r → ⊥
     none hex r (decimal h) = digits_none false r h
 cut_word hex (c ∷ t) r h = by (c == 43 || c == 45) refl h
   where
-    by : (b : Bool) → (c == 43 || c == 45) ≡ b → Whole hex (cond b t (c ∷ t)) r → (d : List ℕ) × (c ∷ t ≡ d ++ r) × Whole hex (unsigned d) []
-    by true e h = let p = cut_whole hex t r h in (c ∷ p.0, ap (λ x. c ∷ x) p.1, subst (λ b. Whole hex (cond b p.0 (c ∷ p.0)) []) (sym e) p.2)
-    by false e h = let p = cut_whole hex (c ∷ t) r h in (p.0, p.1, subst (λ x. Whole hex x []) (sym (whole_unsigned hex p.0 [] p.2)) p.2)
+    by : (b : Bool) → (c == 43 || c == 45) ≡ b → IntegralPart hex (cond b t (c ∷ t)) r → (d : List ℕ) × (c ∷ t ≡ d ++ r) × IntegralPart hex (unsigned d) []
+    by true e h = let p = cut_integral hex t r h in (c ∷ p.0, ap (λ x. c ∷ x) p.1, subst (λ b. IntegralPart hex (cond b p.0 (c ∷ p.0)) []) (sym e) p.2)
+    by false e h = let p = cut_integral hex (c ∷ t) r h in (p.0, p.1, subst (λ x. IntegralPart hex x []) (sym (integral_unsigned hex p.0 [] p.2)) p.2)
 
-pub whole_digits : (hex : Bool) (s r : List ℕ) → Whole hex s r → Digits hex (behind_prefix hex s) r
-whole_digits hex s r (decimal h) = h
-whole_digits hex s r (hexadecimal h) = h
+pub integral_digits : (hex : Bool) (s r : List ℕ) → IntegralPart hex s r → Digits hex (behind_prefix hex s) r
+integral_digits hex s r (decimal h) = h
+integral_digits hex s r (hexadecimal h) = h
 
 decimals_long : (s : List ℕ) → Decimals true s → 2 ≤ length s
 decimals_long s (decimals (hexadecimal h) k) = omega arith
@@ -74,7 +74,7 @@ long hex w s e h f = subst (λ x. 2 ≤ length x) (sym e) (decimals_long (unsign
 pub record Split (hex : Bool) (w tail : List ℕ) : Type 0 where
   pub front : List ℕ
   pub cut : w ≡ front ++ tail
-  pub whole : Whole hex (unsigned front) []
+  pub integral : IntegralPart hex (unsigned front) []
   pub is : Tail hex tail
 
 pub split : (hex : Bool) (w b tail : List ℕ) → Decimals hex (unsigned w) → b ≡ behind_prefix hex (unsigned w) → LongestDigits hex b tail → Split hex w tail
@@ -82,13 +82,13 @@ split hex w b tail h e l = by (unsigned w) refl h
   where
     by : (s : List ℕ) → s ≡ unsigned w → Decimals hex s → Split hex w tail
     by s f (decimals {t = t} a k) =
-        let d : Digits hex b t = subst (λ x. Digits hex x t) (ap (behind_prefix hex) f ∙ sym e) (whole_digits hex s t a) in
+        let d : Digits hex b t = subst (λ x. Digits hex x t) (ap (behind_prefix hex) f ∙ sym e) (integral_digits hex s t a) in
         let g : t ≡ tail = digits_one hex b t tail d (tail_stops hex t k) l.digits l.stops in
-        let p = cut_word hex w tail (subst (λ x. Whole hex x tail) f (subst (Whole hex s) g a)) in
-        record { front = p.0; cut = p.1; whole = p.2; is = subst (Tail hex) g k }
+        let p = cut_word hex w tail (subst (λ x. IntegralPart hex x tail) f (subst (IntegralPart hex s) g a)) in
+        record { front = p.0; cut = p.1; integral = p.2; is = subst (Tail hex) g k }
 
 pub no_split : (hex : Bool) (s b : List ℕ) → Decimals hex s → b ≡ behind_prefix hex s → NoDigits hex b → ⊥
-no_split hex s b (decimals {t = t} a k) e n = n t (record { digits = subst (λ x. Digits hex x t) (sym e) (whole_digits hex s t a); stops = tail_stops hex t k })
+no_split hex s b (decimals {t = t} a k) e n = n t (record { digits = subst (λ x. Digits hex x t) (sym e) (integral_digits hex s t a); stops = tail_stops hex t k })
 
 -- the seam, by the length of what follows it
 pub seam : (s f r : List ℕ) → s ≡ f ++ r → length s - length r ≡ length f

@@ -5,8 +5,8 @@ use Rattle.std.proofs.lemmas.Bool.{eqb-true, or_parts}
 use Rattle.std.proofs.lemmas.Str.{IsAscii-drop}
 use Rattle.std.specs.List.{list_any}
 use Rattle.std.specs.Str.{IsAscii}
-use Rattle.wat_lex.specs.grammar.Numbers.{Whole, hexadecimal, unsigned, has_underscores}
-use Rattle.wat_lex.specs.inside.NumberReads.{without_plus}
+use Rattle.wat_lex.specs.grammar.Numbers.{IntegralPart, hexadecimal, unsigned, has_underscores}
+use Rattle.wat_lex.specs.inside.ScannedNumbers.{without_plus}
 use Rattle.wat_lex.specs.values.NumberValues.{joined, behind_prefix, number_text}
 
 unsigned_ascii : (w : List ℕ) → IsAscii w → IsAscii (unsigned w)
@@ -24,10 +24,10 @@ prefix_ascii false s h = h
 pub digits_ascii : (hex : Bool) (w s t : List ℕ) → IsAscii w → s ≡ unsigned w → t ≡ behind_prefix hex s → IsAscii t
 digits_ascii hex w s t h e f = subst IsAscii (sym (f ∙ ap (behind_prefix hex) e)) (prefix_ascii hex (unsigned w) (unsigned_ascii w h))
 
-pub whole_long : (hex : Bool) (s : List ℕ) → Whole hex s [] → hex ≡ true → 2 ≤ length s
-whole_long hex s h e = by s (subst (λ b. Whole b s []) e h)
+pub integral_long : (hex : Bool) (s : List ℕ) → IntegralPart hex s [] → hex ≡ true → 2 ≤ length s
+integral_long hex s h e = by s (subst (λ b. IntegralPart b s []) e h)
   where
-    by : (s : List ℕ) → Whole true s [] → 2 ≤ length s
+    by : (s : List ℕ) → IntegralPart true s [] → 2 ≤ length s
     by s (hexadecimal k) = omega arith
 
 -- with no underscore nothing is left out

@@ -5,7 +5,7 @@ use Rattle.std.proofs.lemmas.Str.{encodes-chars}
 use Rattle.std.specs.Str.{chars, IsUtf8, IsAscii}
 use Rattle.wat_lex.specs.grammar.Numbers.{Number}
 use Rattle.wat_lex.specs.grammar.Runs.{Piece, Idchar, Quoted, Run, none, idchar, string, idchars, RunKind, RunWord, WordKind, named_kind, kind_by_first}
-use Rattle.wat_lex.specs.inside.RunReads.{string_count}
+use Rattle.wat_lex.specs.inside.ScannedRuns.{string_count}
 use Rattle.wat_lex.specs.tokens.Setting.{lenient}
 use Rattle.wat_lex.specs.grammar.Words.{Word}
 use Rattle.wat_lex.specs.declared.lexer.settings.Settings.{Settings}
@@ -13,7 +13,7 @@ use Rattle.wat_lex.specs.declared.lexer.kinds.IntegerKind.{IntegerKind}
 use Rattle.wat_lex.specs.declared.lexer.kinds.FloatKind.{FloatKind}
 use Rattle.wat_lex.specs.declared.lexer.kinds.TokenKind.{TokenKind}
 use Rattle.wat_lex.specs.declared.lexer.kinds.TokenKind.TheVariants.{Id, Keyword, Annotation, Reserved, Integer, Float}
-use Rattle.wat_lex.proofs.inside.Lines.{idchar_ascii}
+use Rattle.wat_lex.proofs.inside.LineComments.{idchar_ascii}
 use Rattle.wat_lex.proofs.grammar.RunKinds.{no_strings, some_string}
 
 abbrev is_number : TokenKind → Bool

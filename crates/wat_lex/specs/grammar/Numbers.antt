@@ -43,9 +43,9 @@ pub data Digits : Bool → List ℕ → List ℕ → Type 0 where
   parted : {hex : Bool} {d : ℕ} {t r : List ℕ} → IsTrue (is_digit hex d) → Digits hex t r → Digits hex (d ∷ underscore ∷ t) r
 
 -- digits, behind `0x` where they are hexadecimal, and then the rest
-pub data Whole : Bool → List ℕ → List ℕ → Type 0 where
-  decimal : {t r : List ℕ} → Digits false t r → Whole false t r
-  hexadecimal : {t r : List ℕ} → Digits true t r → Whole true (48 ∷ 120 ∷ t) r
+pub data IntegralPart : Bool → List ℕ → List ℕ → Type 0 where
+  decimal : {t r : List ℕ} → Digits false t r → IntegralPart false t r
+  hexadecimal : {t r : List ℕ} → Digits true t r → IntegralPart true (48 ∷ 120 ∷ t) r
 
 -- a dot with optional digits, and then the rest
 pub data Fraction : Bool → List ℕ → List ℕ → Type 0 where
@@ -64,7 +64,7 @@ pub data Tail : Bool → List ℕ → Type 0 where
 
 -- first digits and what follows them
 pub data Decimals : Bool → List ℕ → Type 0 where
-  decimals : {hex : Bool} {s t : List ℕ} → Whole hex s t → Tail hex t → Decimals hex s
+  decimals : {hex : Bool} {s t : List ℕ} → IntegralPart hex s t → Tail hex t → Decimals hex s
 
 -- hexadecimal digits behind `nan:0x`
 pub data Payload : List ℕ → Type 0 where
@@ -72,7 +72,7 @@ pub data Payload : List ℕ → Type 0 where
 
 -- the word is a number of this kind
 abbrev pub Number : List ℕ → TokenKind → Type 0
-Number w (Integer k) = Whole k.hex (unsigned w) [] × (k.sign ≡ sign_of w) × (k.has_underscores ≡ has_underscores w)
+Number w (Integer k) = IntegralPart k.hex (unsigned w) [] × (k.sign ≡ sign_of w) × (k.has_underscores ≡ has_underscores w)
 Number w (Float (Inf negative)) = (unsigned w ≡ codes "inf") × (negative ≡ is_negative w)
 Number w (Float (Nan negative)) = (unsigned w ≡ codes "nan") × (negative ≡ is_negative w)
 Number w (Float (NanVal negative underscores)) = Payload (unsigned w) × (negative ≡ is_negative w) × (underscores ≡ has_underscores w)

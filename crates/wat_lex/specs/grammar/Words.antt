@@ -38,7 +38,7 @@ MayFollow Reserved w rest = (w ≡ semicolon ∷ [] → Begins (λ c. c == semic
 MayFollow kind w rest = EndsRun rest
 
 -- a word of this kind stands at the front of the text, and may stand there
-pub record Stands (flags : Settings) (text : List ℕ) (kind : TokenKind) (w rest : List ℕ) : Type 0 where
+pub record WordStands (flags : Settings) (text : List ℕ) (kind : TokenKind) (w rest : List ℕ) : Type 0 where
   pub cut : text ≡ w ++ rest
   pub word : Word kind w flags
   pub ends : MayFollow kind w rest

@@ -3,13 +3,13 @@
 use Rattle.std.specs.Prelude.{◌≡◌, ◌≢◌, ◌+◌, ◌⊎◌, ℕ, List, [], Option, Result, Ok, Err}
 use Rattle.std.specs.Str.{IsUtf8, IsCharBoundary}
 use Rattle.wat_lex.specs.values.Names.{Name, NameFault}
-use Rattle.wat_lex.specs.values.OneReading.{SomeName, OneName, SomeValue, OneValue}
-use Rattle.wat_lex.specs.tokens.Parts.{Cuts, Moves}
-use Rattle.wat_lex.specs.tokens.Readers.{IsTokenOf}
+use Rattle.wat_lex.specs.values.UniqueValues.{SomeName, OneName, SomeValue, OneValue}
+use Rattle.wat_lex.specs.tokens.CutsAndMoves.{Cuts, Moves}
+use Rattle.wat_lex.specs.tokens.ReadableTokens.{IsTokenOf}
 use Rattle.wat_lex.specs.tokens.Setting.{Setting, lenient}
 use Rattle.wat_lex.specs.grammar.Strings.{StringWord}
 use Rattle.wat_lex.specs.tokens.Tiling.{TokenAt}
-use Rattle.wat_lex.specs.tokens.Unique.{StandsAt, SomeTiling, OneTiling}
+use Rattle.wat_lex.specs.tokens.UniqueTilings.{AnswerAt, SomeTiling, OneTiling}
 use Rattle.wat_lex.specs.values.WordValues.{string_value, name_value}
 use Rattle.wat_lex.specs.grammar.Words.{Word}
 use Rattle.wat_lex.specs.declared.lexer.settings.Settings.{Settings}
@@ -24,11 +24,11 @@ IsNameWord w = Word Id w lenient ⊎ Word Annotation w lenient
 
 -- at each boundary something stands: a token, the text's end, or a fault
 abbrev pub SomethingStands : Type 0
-SomethingStands = (s : Setting) (p : ℕ) → IsUtf8 s.text → IsCharBoundary s.text p → (r : Result (Option Token) LexFault) × StandsAt s p r
+SomethingStands = (s : Setting) (p : ℕ) → IsUtf8 s.text → IsCharBoundary s.text p → (r : Result (Option Token) LexFault) × AnswerAt s p r
 
 -- and it is one thing
 abbrev pub OneThingStands : Type 0
-OneThingStands = (s : Setting) (p : ℕ) (q r : Result (Option Token) LexFault) → StandsAt s p q → StandsAt s p r → q ≡ r
+OneThingStands = (s : Setting) (p : ℕ) (q r : Result (Option Token) LexFault) → AnswerAt s p q → AnswerAt s p r → q ≡ r
 
 -- from each boundary on there is a maximal tiling
 abbrev pub EachPlaceIsTiled : Type 0

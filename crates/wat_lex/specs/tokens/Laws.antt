@@ -2,7 +2,7 @@
 -- of the raw tokens from a place, as one list of items.
 use Rattle.std.specs.Prelude.{◌≡◌, ◌≤◌, ◌<◌, ◌+◌, ◌++◌, ℕ, false, length, drop, List, [], ◌∷◌, Ok, Err}
 use Rattle.wat_lex.specs.tokens.Raw.{Item, Raw}
-use Rattle.wat_lex.specs.tokens.Readers.{IsTokenOf, token_text}
+use Rattle.wat_lex.specs.tokens.ReadableTokens.{IsTokenOf, token_text}
 use Rattle.wat_lex.specs.tokens.Setting.{Setting}
 use Rattle.wat_lex.specs.declared.lexer.kinds.Token.{Token}
 

@@ -3,7 +3,7 @@
 use Rattle.std.specs.Prelude.{◌≡◌, ◌+◌, ◌-◌, ◌⊎◌, ℕ, Bool, true, false, length, List, [], ◌∷◌, Option, Some, None, MatchOption, Result, Ok, Err, MatchResult, if◌then◌else◌}
 use Rattle.wat_lex.specs.errors.Errors.{Report, lexical, IsUnlessMemory}
 use Rattle.wat_lex.specs.tokens.Faults.{FaultAt}
-use Rattle.wat_lex.specs.tokens.Readers.{IsTokenOf}
+use Rattle.wat_lex.specs.tokens.ReadableTokens.{IsTokenOf}
 use Rattle.wat_lex.specs.tokens.Setting.{Setting}
 use Rattle.wat_lex.specs.tokens.Tiling.{TokenAt, MaximalTiling}
 use Rattle.wat_lex.specs.declared.lexer.kinds.Token.{Token}

@@ -4,7 +4,7 @@ use Rattle.std.specs.Prelude.{◌≡◌, ◌+◌, ℕ, List, [], ◌∷◌, drop
 use Rattle.std.specs.Str.{chars}
 use Rattle.wat_lex.specs.grammar.Classes.{size}
 use Rattle.wat_lex.specs.tokens.Setting.{Setting}
-use Rattle.wat_lex.specs.grammar.Words.{Stands}
+use Rattle.wat_lex.specs.grammar.Words.{WordStands}
 use Rattle.wat_lex.specs.tokens.Faults.{FaultAt}
 use Rattle.wat_lex.specs.declared.lexer.kinds.Token.{Token}
 use Rattle.wat_lex.specs.declared.lexer.faults.LexFault.{LexFault}
@@ -14,7 +14,7 @@ pub record TokenAt (s : Setting) (p : ℕ) (t : Token) : Type 0 where
   pub offset : t.offset ≡ p
   pub word : List ℕ
   pub rest : List ℕ
-  pub stands : Stands s.flags (chars (drop p s.text)) t.kind word rest
+  pub stands : WordStands s.flags (chars (drop p s.text)) t.kind word rest
   pub len : t.len ≡ size word
 
 -- the tokens lie end to end from one place to another

@@ -7,7 +7,7 @@ use Rattle.std.specs.Str.Parse.{IsNumeral, without_leading_sign, digits_value}
 use Rattle.std.specs.Cow.{cow_str_bytes, IsBorrowedStr, IsOwnedStr}
 use Rattle.std.specs.declared.borrow.CowStr.{CowStr}
 use Rattle.wat_lex.specs.grammar.Classes.{underscore, minus, dot}
-use Rattle.wat_lex.specs.grammar.Numbers.{unsigned, is_negative, is_exponent_letter, Digits, Whole}
+use Rattle.wat_lex.specs.grammar.Numbers.{unsigned, is_negative, is_exponent_letter, Digits, IntegralPart}
 use Rattle.wat_lex.specs.declared.lexer.kinds.IntegerKind.{IntegerKind}
 use Rattle.wat_lex.specs.declared.lexer.kinds.SignToken.{SignToken}
 use Rattle.wat_lex.specs.declared.lexer.kinds.FloatKind.{FloatKind}
@@ -61,7 +61,7 @@ pub record FloatParts (hex : Bool) (word front : List ℕ) (fraction exponent : 
   pub tail : List ℕ
   pub rest : List ℕ
   pub cut : word ≡ front ++ tail
-  pub first : Whole hex (unsigned front) []
+  pub first : IntegralPart hex (unsigned front) []
   pub point : Point hex tail fraction rest
   pub power : Power hex rest exponent
 

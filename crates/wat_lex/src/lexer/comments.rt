@@ -5,7 +5,7 @@ ghost use Rattle.std.specs.Str.{chars, NonePass};
 ghost use Rattle.wat_lex.specs.grammar.Classes.{is_line_end, is_confusing};
 ghost use Rattle.wat_lex.specs.grammar.Comments.{Closes};
 ghost use Rattle.wat_lex.specs.tokens.Faults.{IsComment};
-ghost use Rattle.wat_lex.specs.inside.Results.{Found, Answers, FirstConfusing};
+ghost use Rattle.wat_lex.specs.inside.ScannedLexemes.{LexemeFound, Answers, FirstConfusing};
 ghost use Rattle.wat_lex.specs.tokens.Setting.{allowing};
 
 use crate::lexer::classes::is_confusing;
@@ -70,7 +70,7 @@ fn closing_len(text: &[u8]) -> Option<usize>
 /// A comment that stands at the front, unless it has a confusing character.
 fn checked(text: &str, comment: Lexeme, flags: Settings) -> Result<Option<Lexeme>, LexFault>
     requires comment { IsComment comment.kind }
-    requires found { Found (allowing flags) text.now comment }
+    requires found { LexemeFound (allowing flags) text.now comment }
     ensures { Answers flags text.now result }
 {
     if flags.allow {

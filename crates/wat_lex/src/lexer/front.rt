@@ -1,7 +1,7 @@
 //! What stands at the front of a text.
 ghost use Rattle.std.specs.Prelude.{◌≡◌, ◌<◌, Bool, false, length, slice_index};
 ghost use Rattle.wat_lex.specs.tokens.Faults.{begins_word};
-ghost use Rattle.wat_lex.specs.inside.Results.{Refused, Answers};
+ghost use Rattle.wat_lex.specs.inside.ScannedLexemes.{Refused, Answers};
 ghost use Rattle.wat_lex.specs.declared.lexer.settings.Settings.{Settings};
 
 use crate::lexer::classes::{blank_len, is_blank, is_mark, is_run_char};

@@ -3,15 +3,15 @@ ghost use Rattle.std.specs.Prelude.{◌≡◌, ◌≤◌, ◌++◌, ◌||◌, Bo
 ghost use Rattle.std.specs.Option.{option_map};
 ghost use Rattle.std.specs.Cow.{cow_str_bytes};
 ghost use Rattle.std.specs.Str.{IsAscii};
-ghost use Rattle.wat_lex.specs.grammar.Numbers.{unsigned, has_underscores, Number, Whole, Tail};
-ghost use Rattle.wat_lex.specs.grammar.Numbers.{Decimals, Payload};
+ghost use Rattle.wat_lex.specs.grammar.Numbers.{unsigned, has_underscores, Number, IntegralPart};
+ghost use Rattle.wat_lex.specs.grammar.Numbers.{Tail, Decimals, Payload};
 ghost use Rattle.wat_lex.specs.values.NumberValues.{joined, behind_prefix, number_text};
 ghost use Rattle.wat_lex.specs.values.NumberValues.{payload_text, is_integer_rewritten};
 ghost use Rattle.wat_lex.specs.values.NumberValues.{is_float_rewritten, integer_sign};
 ghost use Rattle.wat_lex.specs.values.NumberValues.{integer_digits, integer_base, Point, Power};
 ghost use Rattle.wat_lex.specs.values.NumberValues.{IsText, IsOptionalText, IsIntegerOf};
 ghost use Rattle.wat_lex.specs.values.NumberValues.{IsDecimalsOf, IsFloatOf};
-ghost use Rattle.wat_lex.specs.inside.NumberReads.{without_plus, EndsFloat};
+ghost use Rattle.wat_lex.specs.inside.ScannedNumbers.{without_plus, EndsFloat};
 ghost use Rattle.wat_lex.specs.declared.lexer.kinds.TokenKind.TheVariants as token_kind;
 ghost use Rattle.wat_lex.specs.declared.lexer.kinds.FloatKind.TheVariants.{Normal};
 
@@ -201,7 +201,7 @@ fn split_front(word: &str, hex: bool) -> (&str, &str)
     requires ascii { IsAscii word.now }
     requires decimals { Decimals hex (unsigned word.now) }
     ensures cut { word.now ≡ result.0.now ++ result.1.now }
-    ensures front { Whole hex (unsigned result.0.now) [] }
+    ensures front { IntegralPart hex (unsigned result.0.now) [] }
     ensures tail { Tail hex result.1.now }
 {
     let number = unsigned(word.as_bytes());

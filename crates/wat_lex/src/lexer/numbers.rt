@@ -4,7 +4,8 @@ ghost use Rattle.wat_lex.specs.declared.lexer.kinds.TokenKind.{TokenKind};
 ghost use Rattle.wat_lex.specs.grammar.Numbers.{is_digit, is_exponent_letter, sign_of, unsigned};
 ghost use Rattle.wat_lex.specs.grammar.Numbers.{is_negative, has_underscores, Digits, Exponent};
 ghost use Rattle.wat_lex.specs.grammar.Numbers.{Tail, Payload, Number};
-ghost use Rattle.wat_lex.specs.inside.NumberReads.{LongestDigits, NoDigits, OnlyWhole, NoWhole};
+ghost use Rattle.wat_lex.specs.inside.ScannedNumbers.{LongestDigits, NoDigits, OnlyIntegralPart};
+ghost use Rattle.wat_lex.specs.inside.ScannedNumbers.{NoIntegralPart};
 
 use crate::lexer::kinds::{FloatKind, IntegerKind, SignToken, TokenKind};
 
@@ -121,8 +122,8 @@ fn is_tail(text: &[u8], hex: bool) -> bool
 }
 
 /// Whether a number's first digits are hexadecimal, and what follows them.
-fn after_whole(text: &[u8]) -> Option<(bool, &[u8])>
-    ensures { MatchOption result (NoWhole text.now) (λ f. OnlyWhole f.0 text.now f.1.now) }
+fn after_integral(text: &[u8]) -> Option<(bool, &[u8])>
+    ensures { MatchOption result (NoIntegralPart text.now) (λ f. OnlyIntegralPart f.0 text.now f.1.now) }
 {
     if let Some(digits) = after(text, b"0x".as_slice()) {
         return Some((true, after_digits(digits, true)?));
@@ -138,7 +139,7 @@ fn digits_kind(word: &[u8]) -> Option<TokenKind>
     ensures some { IfSome result (λ kind. Number word.now kind) }
     ensures none { IfNone result ((kind : TokenKind) → Number word.now kind → ⊥) }
 {
-    let (hex, rest) = after_whole(unsigned(word))?;
+    let (hex, rest) = after_integral(unsigned(word))?;
     let has_underscores = has_underscores(word);
     if rest.is_empty() {
         return Some(TokenKind::Integer(IntegerKind {

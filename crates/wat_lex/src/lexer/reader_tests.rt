@@ -1,5 +1,5 @@
 //! Rows of tokens with what their readers answer, from outside.
-ghost use Rattle.wat_lex.specs.tokens.Readers.{IsTokenOf};
+ghost use Rattle.wat_lex.specs.tokens.ReadableTokens.{IsTokenOf};
 
 use super::{Float, Lexer, SignToken, Token, TokenKind};
 use std::alloc::Global;

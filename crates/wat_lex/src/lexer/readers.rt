@@ -6,9 +6,9 @@ ghost use Rattle.wat_lex.specs.grammar.Classes.{backslash};
 ghost use Rattle.wat_lex.specs.values.Names.{Name, NameFault, NameError, HasNone, HasNoEscape};
 ghost use Rattle.wat_lex.specs.values.NumberValues.{is_integer_rewritten, is_float_rewritten};
 ghost use Rattle.wat_lex.specs.values.NumberValues.{IsFloatOf, IsIntegerOf, IsNumeralOf};
-ghost use Rattle.wat_lex.specs.values.OneReading.{SomeValue, OneValue, SomeName, OneName, SomeCut};
-ghost use Rattle.wat_lex.specs.values.OneReading.{OneCut};
-ghost use Rattle.wat_lex.specs.tokens.Readers.{IsTokenOf, token_text, word_of};
+ghost use Rattle.wat_lex.specs.values.UniqueValues.{SomeValue, OneValue, SomeName, OneName};
+ghost use Rattle.wat_lex.specs.values.UniqueValues.{SomeCut, OneCut};
+ghost use Rattle.wat_lex.specs.tokens.ReadableTokens.{IsTokenOf, token_text, word_of};
 ghost use Rattle.wat_lex.specs.tokens.Setting.{lenient};
 ghost use Rattle.wat_lex.specs.grammar.Strings.{StringWord};
 ghost use Rattle.wat_lex.specs.values.WordValues.{string_value, name_value, name_answer};
@@ -65,7 +65,7 @@ impl Token {
     }
 
     /// The value of a string. It is borrowed where no escape stands in the string, and then no memory is taken.
-    #[tactic(auto, using(crate::proofs::values::OneReading::one_value, crate::proofs::values::SomeReading::some_value))]
+    #[tactic(auto, using(crate::proofs::values::OneValues::one_value, crate::proofs::values::SomeValues::some_value))]
     pub fn string<'a>(&self, alloc: Global, s: &'a str) -> Result<CowSlice<'a, u8>, AllocError>
         requires token { IsTokenOf s.now self.now }
         requires kind { self.now.kind ≡ String }
@@ -86,7 +86,7 @@ impl Token {
     }
 
     /// The name of an identifier. It is borrowed where no escape stands in it, and then no memory is taken.
-    #[tactic(auto, using(crate::proofs::values::OneReading::one_name, crate::proofs::values::SomeReading::some_name))]
+    #[tactic(auto, using(crate::proofs::values::OneValues::one_name, crate::proofs::values::SomeValues::some_name))]
     pub fn id<'a>(&self, alloc: Global, s: &'a str) -> Result<CowStr<'a>, Error>
         requires token { IsTokenOf s.now self.now }
         requires kind { self.now.kind ≡ Id }
@@ -105,7 +105,7 @@ impl Token {
     }
 
     /// The name of an annotation. It is borrowed where no escape stands in it, and then no memory is taken.
-    #[tactic(auto, using(crate::proofs::values::OneReading::one_name, crate::proofs::values::SomeReading::some_name))]
+    #[tactic(auto, using(crate::proofs::values::OneValues::one_name, crate::proofs::values::SomeValues::some_name))]
     pub fn annotation<'a>(&self, alloc: Global, s: &'a str) -> Result<CowStr<'a>, Error>
         requires token { IsTokenOf s.now self.now }
         requires kind { self.now.kind ≡ Annotation }
@@ -127,7 +127,7 @@ impl Token {
     /// The name of an identifier or an annotation, or what is wrong with it, at the token: `EmptyId` or `EmptyAnnotation` where it
     /// is empty, `InvalidUtf8Id` where it is not UTF-8. It is borrowed where no escape stands in it, and memory is taken only
     /// where one does.
-    #[tactic(auto, using(crate::proofs::values::OneReading::one_name, crate::proofs::values::SomeReading::some_name))]
+    #[tactic(auto, using(crate::proofs::values::OneValues::one_name, crate::proofs::values::SomeValues::some_name))]
     pub fn name<'a>(
         &self,
         alloc: Global,
@@ -175,7 +175,7 @@ impl Token {
     }
 
     /// What a floating-point token reads as. Memory is taken where it has underscores, or `0x` before its digits.
-    #[tactic(auto, using(crate::proofs::values::OneReading::one_cut, crate::proofs::values::SomeReading::some_cut))]
+    #[tactic(auto, using(crate::proofs::values::OneValues::one_cut, crate::proofs::values::SomeValues::some_cut))]
     pub fn float<'a>(
         &self,
         alloc: Global,

@@ -1,7 +1,7 @@
 //! Runs of idchars and strings.
 ghost use Rattle.std.specs.Prelude.{◌≡◌, ◌<◌, ◌+◌, ◌^◌, true, length, slice_index, IfOk, IfErr};
-ghost use Rattle.wat_lex.specs.inside.Results.{Answers, Refused};
-ghost use Rattle.wat_lex.specs.inside.RunReads.{RunFound, IsKindOfRun};
+ghost use Rattle.wat_lex.specs.inside.ScannedLexemes.{Answers, Refused};
+ghost use Rattle.wat_lex.specs.inside.ScannedRuns.{RunFound, IsKindOfRun};
 ghost use Rattle.wat_lex.specs.grammar.Runs.{WordKind, kind_by_first, named_kind};
 ghost use Rattle.wat_lex.specs.grammar.Classes.{is_run_char};
 

@@ -6,8 +6,8 @@ ghost use Rattle.std.specs.Char.{digit_value};
 ghost use Rattle.wat_lex.specs.declared.lexer.faults.LexError.TheVariants.{NumberTooBig};
 ghost use Rattle.wat_lex.specs.grammar.Classes.{is_hex};
 ghost use Rattle.wat_lex.specs.grammar.Strings.{letter_value, is_control};
-ghost use Rattle.wat_lex.specs.inside.Reads.{Escaped, escape_bytes, Breaks, Closed, Wrong};
-ghost use Rattle.wat_lex.specs.inside.Reads.{IsRowValue, Ends, StringTaken, StringRefused};
+ghost use Rattle.wat_lex.specs.inside.ScannedStrings.{Escaped, escape_bytes, Breaks, Closed, Wrong};
+ghost use Rattle.wat_lex.specs.inside.ScannedStrings.{IsRowValue, Ends, StringTaken, StringRefused};
 
 use crate::lexer::classes::{is_confusing, is_hex};
 use crate::lexer::faults::{LexError, LexFault};

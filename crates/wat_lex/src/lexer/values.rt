@@ -4,7 +4,7 @@ ghost use Rattle.std.specs.Cow.{cow_str_bytes, IsBorrowedStr};
 ghost use Rattle.std.specs.Str.{chars, IsUtf8};
 ghost use Rattle.wat_lex.specs.grammar.Classes.{backslash};
 ghost use Rattle.wat_lex.specs.values.Names.{Named, HasNone, HasNoEscape, IsQuoted, IsNamed};
-ghost use Rattle.wat_lex.specs.inside.Reads.{escape_bytes};
+ghost use Rattle.wat_lex.specs.inside.ScannedStrings.{escape_bytes};
 ghost use Rattle.wat_lex.specs.tokens.Setting.{lenient};
 ghost use Rattle.wat_lex.specs.grammar.Strings.{Quoted};
 

@@ -2,16 +2,16 @@ use Rattle.std.specs.Prelude.{Some, None, Ok, Err}
 use Rattle.std.proofs.Common.{◌≤◌, ◌+◌, length, arith, ap, subst, sym}
 use Rattle.std.specs.Str.{IsCharBoundary}
 use Rattle.wat_lex.specs.tokens.Setting.{Setting}
-use Rattle.wat_lex.specs.inside.Results.{Found}
-use Rattle.wat_lex.specs.tokens.Readers.{IsTokenOf}
-use Rattle.wat_lex.proofs.tokens.TokensOf.{token_of}
-use Rattle.wat_lex.specs.tokens.Unique.{StandsAt}
+use Rattle.wat_lex.specs.inside.ScannedLexemes.{LexemeFound}
+use Rattle.wat_lex.specs.tokens.ReadableTokens.{IsTokenOf}
+use Rattle.wat_lex.proofs.tokens.ReadableTokens.{token_of}
+use Rattle.wat_lex.specs.tokens.UniqueTilings.{AnswerAt}
 use Rattle.wat_lex.proofs.tokens.OneTilings.{stands_one}
 use Rattle.wat_lex.proofs.tokens.Scans.{token_at, fault_at, found_fits, found_some, part_ends}
 use Rattle.wat_lex.proofs.lexer.Lexer.scan.Goals as goal
 use Rattle.wat_lex.proofs.lexer.Lexer.scan.Goals.{In-Ok-Some}
 
-found : (c : In-Ok-Some) → Found c.self.inside.settings c.range_from.result.now c.in-Ok-Some.lexeme
+found : (c : In-Ok-Some) → LexemeFound c.self.inside.settings c.range_from.result.now c.in-Ok-Some.lexeme
 found c = rw c.in-Ok-Some.field-0-is at c.in-Ok-Some.ensures
 
 fits : (c : In-Ok-Some) → c.in-Ok-Some.lexeme.len ≤ length c.range_from.result.now
@@ -45,7 +45,7 @@ returns-in-Ok-Some-clause-one c =
     let inside : Setting = record { text = c.self.inside.input.now; flags = c.self.inside.settings } in
     let at = token_at inside c.range_from.result.now c.args.pos c.in-Ok-Some.lexeme c.range_from.ensures.value (found (goal.at.returns-in-Ok-Some-clause-one c).In-Ok-Some) in
     λ r h. stands_one c.args.self.now c.args.pos r (Ok (Some (record { kind = c.in-Ok-Some.lexeme.kind; offset = c.args.pos; len = c.in-Ok-Some.lexeme.len }))) h
-    (subst (λ (s : Setting). StandsAt s c.args.pos (Ok (Some (record { kind = c.in-Ok-Some.lexeme.kind; offset = c.args.pos; len = c.in-Ok-Some.lexeme.len })))) c.self.view_is at)
+    (subst (λ (s : Setting). AnswerAt s c.args.pos (Ok (Some (record { kind = c.in-Ok-Some.lexeme.kind; offset = c.args.pos; len = c.in-Ok-Some.lexeme.len })))) c.self.view_is at)
 
 pub returns-in-Ok-None-clause-one : goal.returns-in-Ok-None-clause-one
 returns-in-Ok-None-clause-one c =
@@ -59,4 +59,4 @@ returns-in-Err-clause-one c =
     let same = ap (λ (s : Setting). length s.text) c.self.view_is in
     let at = fault_at inside c.range_from.result.now c.args.pos c.in-Err.fault (omega (arith, same, c.requires.0)) c.range_from.ensures.value c.in-Err.ensures in
     λ r h. stands_one c.args.self.now c.args.pos r (Err (record { offset = c.args.pos + c.in-Err.fault.offset; error = c.in-Err.fault.error })) h
-    (subst (λ (s : Setting). StandsAt s c.args.pos (Err (record { offset = c.args.pos + c.in-Err.fault.offset; error = c.in-Err.fault.error }))) c.self.view_is at)
+    (subst (λ (s : Setting). AnswerAt s c.args.pos (Err (record { offset = c.args.pos + c.in-Err.fault.offset; error = c.in-Err.fault.error }))) c.self.view_is at)

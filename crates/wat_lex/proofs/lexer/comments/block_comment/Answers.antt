@@ -1,7 +1,7 @@
 use Rattle.std.proofs.Common.{subst, sym, ◌≡◌, ◌≤◌, ◌-◌, ℕ, List, length, take, drop, ap, ◌∙◌}
 use Rattle.std.proofs.lemmas.List.{take_rest}
 use Rattle.wat_lex.specs.grammar.Comments.{Closes}
-use Rattle.wat_lex.proofs.inside.Blocks.{block_found, block_dangles}
+use Rattle.wat_lex.proofs.inside.BlockComments.{block_found, block_dangles}
 use Rattle.wat_lex.proofs.lexer.comments.block_comment.Goals as goal
 
 tail_is : (text bs : List ℕ) → bs ≡ text → take (length bs - 2) (drop 2 bs) ≡ drop 2 text

@@ -1,9 +1,9 @@
 use Rattle.std.proofs.Common.{subst}
 use Rattle.std.specs.Str.{chars, NonePass}
 use Rattle.wat_lex.specs.grammar.Classes.{is_confusing}
-use Rattle.wat_lex.specs.inside.Results.{FirstConfusing}
-use Rattle.wat_lex.proofs.tokens.TokensOf.{front_is}
-use Rattle.wat_lex.proofs.inside.Checks.{boundary_at, found_allowed, found_clear, found_confusing}
+use Rattle.wat_lex.specs.inside.ScannedLexemes.{FirstConfusing}
+use Rattle.wat_lex.proofs.tokens.ReadableTokens.{front_is}
+use Rattle.wat_lex.proofs.inside.CheckedComments.{boundary_at, found_allowed, found_clear, found_confusing}
 use Rattle.wat_lex.proofs.lexer.comments.checked.Goals as goal
 
 pub range-requires-clause-end_boundary : goal.range-requires-clause-end_boundary

@@ -3,7 +3,7 @@ use Rattle.std.proofs.lemmas.List.Sums.{prefix_len-le-length}
 use Rattle.std.proofs.lemmas.List.{take_rest}
 use Rattle.std.specs.List.{prefix_len}
 use Rattle.wat_lex.specs.grammar.Classes.{is_line_end}
-use Rattle.wat_lex.proofs.inside.Lines.{line_found}
+use Rattle.wat_lex.proofs.inside.LineComments.{line_found}
 use Rattle.wat_lex.proofs.lexer.comments.line_comment.Goals as goal
 
 tail_is : (text bs : List ℕ) → bs ≡ text → take (length bs - 2) (drop 2 bs) ≡ drop 2 text

@@ -1,6 +1,6 @@
 use Rattle.std.proofs.Common.{◌∙◌}
 use Rattle.memchr.specs.Find.{is_byte2}
-use Rattle.wat_lex.proofs.inside.Lines.{first_place, line_ends_same}
+use Rattle.wat_lex.proofs.inside.LineComments.{first_place, line_ends_same}
 use Rattle.wat_lex.proofs.lexer.comments.line_len.Goals as goal
 
 pub returns : goal.returns

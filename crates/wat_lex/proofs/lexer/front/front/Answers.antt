@@ -3,11 +3,11 @@ use Rattle.std.proofs.lemmas.Bool.{eqb-false}
 use Rattle.std.specs.Prelude.{◌==◌, Option, Some, Result, Ok}
 use Rattle.std.specs.List.{prefix_len}
 use Rattle.wat_lex.specs.grammar.Classes.{is_blank, is_mark}
-use Rattle.wat_lex.specs.inside.Results.{Found, Answers}
+use Rattle.wat_lex.specs.inside.ScannedLexemes.{LexemeFound, Answers}
 use Rattle.wat_lex.specs.declared.lexer.settings.Settings.{Settings}
 use Rattle.wat_lex.specs.declared.lexer.kinds.Lexeme.{Lexeme}
 use Rattle.wat_lex.specs.declared.lexer.faults.LexFault.{LexFault}
-use Rattle.wat_lex.proofs.inside.Lines.{found_open, found_close, found_semicolon, found_mark, found_blank}
+use Rattle.wat_lex.proofs.inside.LineComments.{found_open, found_close, found_semicolon, found_mark, found_blank}
 use Rattle.wat_lex.proofs.lexer.front.front.Goals as goal
 
 filled : (text bs : List ℕ) (b : Bool) → bs ≡ text → b ≡ (length bs == 0) → b ≡ false → 0 < length text
@@ -16,7 +16,7 @@ filled text bs b e f g = let k : length bs ≡ 0 → ⊥ = eqb-false (length bs)
 reads : (text bs : List ℕ) (i x y : ℕ) → bs ≡ text → x ≡ get_or bs i 0 → x ≡ y → get_or text i 0 ≡ y
 reads text bs i x y e f g = ap (λ t. get_or t i 0) (sym e) ∙ sym f ∙ g
 
-answered : (flags : Settings) (text : List ℕ) (lexeme : Lexeme) (r : Result (Option Lexeme) LexFault) → r ≡ Ok (Some lexeme) → Found flags text lexeme → Answers flags text r
+answered : (flags : Settings) (text : List ℕ) (lexeme : Lexeme) (r : Result (Option Lexeme) LexFault) → r ≡ Ok (Some lexeme) → LexemeFound flags text lexeme → Answers flags text r
 answered flags text lexeme r e h = subst (Answers flags text) (sym e) h
 
 pub returns-then-first-eq40 : goal.returns-then-first-eq40

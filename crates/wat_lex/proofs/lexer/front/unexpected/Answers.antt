@@ -1,6 +1,6 @@
 use Rattle.std.proofs.Common.{sym, ◌∙◌}
 use Rattle.std.specs.Str.Iter.{chars_rest}
-use Rattle.wat_lex.proofs.inside.Lines.{found_unexpected}
+use Rattle.wat_lex.proofs.inside.LineComments.{found_unexpected}
 use Rattle.wat_lex.proofs.lexer.front.unexpected.Goals as goal
 
 pub returns : goal.returns

@@ -1,7 +1,7 @@
 use Rattle.std.proofs.Common.{◌<◌, ap, sym, ◌∙◌, subst, arith, length, get_or, inr}
 use Rattle.std.specs.Str.{IsAscii}
 use Rattle.std.proofs.lemmas.Str.{IsAscii-drop, IsCharBoundary-from_ascii}
-use Rattle.wat_lex.specs.inside.NumberReads.{LongestDigits, NoDigits, EndsFloat}
+use Rattle.wat_lex.specs.inside.ScannedNumbers.{LongestDigits, NoDigits, EndsFloat}
 use Rattle.wat_lex.specs.values.NumberValues.{no_point}
 use Rattle.wat_lex.proofs.values.NumberParts.{cut_digits, seam_back, seam_fits, tail_some, no_dot, dotted, ends_some, ends_none, point_some, point_bare}
 use Rattle.wat_lex.proofs.lexer.number_values.split_fraction.Goals as goal

@@ -1,5 +1,5 @@
 use Rattle.std.proofs.Common.{◌≡◌, ap, sym, ◌∙◌, subst, []}
-use Rattle.wat_lex.specs.grammar.Numbers.{unsigned, Whole, Tail}
+use Rattle.wat_lex.specs.grammar.Numbers.{unsigned, IntegralPart, Tail}
 use Rattle.wat_lex.specs.values.NumberValues.{behind_prefix}
 use Rattle.wat_lex.proofs.values.NumberParts.{long, split, no_split, seam_front, seam_back, seam_fits}
 use Rattle.wat_lex.proofs.lexer.number_values.split_front.Goals as goal
@@ -24,7 +24,7 @@ pub returns-clause-front : goal.returns-clause-front
 returns-clause-front c =
     let e : c.unsigned-number.result.now ≡ unsigned c.args.word.now = c.unsigned-number.ensures ∙ ap unsigned c.as_bytes.ensures.value in
     let s = split c.args.hex c.args.word.now c.behind_prefix.result.now c.in-Some.tail.now c.requires.decimals (c.behind_prefix.ensures ∙ ap (behind_prefix c.args.hex) e) c.in-Some.ensures in
-    subst (λ x. Whole c.args.hex (unsigned x) []) (sym (c.split_at.ensures.front ∙ seam_front c.args.word.now s.front c.in-Some.tail.now s.cut)) s.whole
+    subst (λ x. IntegralPart c.args.hex (unsigned x) []) (sym (c.split_at.ensures.front ∙ seam_front c.args.word.now s.front c.in-Some.tail.now s.cut)) s.integral
 
 pub returns-clause-tail : goal.returns-clause-tail
 returns-clause-tail c =

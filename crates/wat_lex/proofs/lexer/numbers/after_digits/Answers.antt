@@ -1,6 +1,6 @@
 use Rattle.std.proofs.Common.{subst, sym, ◌∙◌, ◌+◌, arith}
 use Rattle.std.proofs.lemmas.List.{take_rest}
-use Rattle.wat_lex.specs.inside.NumberReads.{LongestDigits}
+use Rattle.wat_lex.specs.inside.ScannedNumbers.{LongestDigits}
 use Rattle.wat_lex.proofs.grammar.Digits.{past_underscore, past_digit, row_ends, row_end, row_wrong, stops_end, stops_place}
 use Rattle.wat_lex.proofs.lexer.numbers.after_digits.Goals as goal
 use Rattle.wat_lex.proofs.lexer.numbers.after_digits.Goals.{then-loop-i-test+else-is_digit, else-loop-i-test}

@@ -1,7 +1,7 @@
 use Rattle.std.proofs.Common.{subst}
 use Rattle.std.specs.Prelude.{Some, Ok}
 use Rattle.wat_lex.specs.tokens.Raw.{token_steps}
-use Rattle.wat_lex.specs.tokens.Readers.{IsTokenOf}
+use Rattle.wat_lex.specs.tokens.ReadableTokens.{IsTokenOf}
 use Rattle.wat_lex.proofs.lexer.reader_tests.read_all.Goals as goal
 
 pub is_read-requires : goal.is_read-requires

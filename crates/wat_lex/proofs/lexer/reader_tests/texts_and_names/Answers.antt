@@ -1,7 +1,7 @@
 use Rattle.std.proofs.Common.{subst}
 use Rattle.std.specs.Prelude.{Some}
 use Rattle.wat_lex.specs.tokens.Raw.{token_steps}
-use Rattle.wat_lex.specs.tokens.Readers.{IsTokenOf}
+use Rattle.wat_lex.specs.tokens.ReadableTokens.{IsTokenOf}
 use Rattle.wat_lex.proofs.lexer.reader_tests.texts_and_names.Goals as goal
 
 pub src-requires : goal.src-requires

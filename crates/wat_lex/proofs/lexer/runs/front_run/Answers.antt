@@ -1,5 +1,5 @@
 use Rattle.std.proofs.Common.{ap, subst, ◌≡◌, ℕ, List, take}
-use Rattle.wat_lex.specs.inside.RunReads.{IsKindOfRun}
+use Rattle.wat_lex.specs.inside.ScannedRuns.{IsKindOfRun}
 use Rattle.wat_lex.proofs.grammar.RunKinds.{found_run}
 use Rattle.wat_lex.proofs.lexer.runs.front_run.Goals as goal
 

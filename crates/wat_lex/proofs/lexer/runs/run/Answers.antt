@@ -3,8 +3,8 @@ use Rattle.std.proofs.lemmas.List.{take_rest}
 use Rattle.std.proofs.lemmas.Str.{IsCharBoundary-from_drop}
 use Rattle.std.specs.List.{prefix_len}
 use Rattle.wat_lex.specs.grammar.Classes.{is_idchar}
-use Rattle.wat_lex.specs.inside.Reads.{StringTaken, StringRefused}
-use Rattle.wat_lex.proofs.inside.Pieces.{Joined, joined_start, joined_string, joined_end, joined_wrong, behind_quote}
+use Rattle.wat_lex.specs.inside.ScannedStrings.{StringTaken, StringRefused}
+use Rattle.wat_lex.proofs.inside.RunSteps.{Joined, joined_start, joined_string, joined_end, joined_wrong, behind_quote}
 use Rattle.wat_lex.proofs.lexer.runs.run.Goals as goal
 use Rattle.wat_lex.proofs.lexer.runs.run.Goals.{Then-bytes-len-eq34, After-idchar_len-more}
 

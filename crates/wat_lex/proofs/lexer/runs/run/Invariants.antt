@@ -1,5 +1,5 @@
 use Rattle.std.proofs.Common.{◌-◌, length}
-use Rattle.wat_lex.proofs.inside.Pieces.{Joined}
+use Rattle.wat_lex.proofs.inside.RunSteps.{Joined}
 use Rattle.wat_lex.proofs.lexer.runs.run.Given as goal
 
 abbrev pub invariant-loop-len : goal.invariant-loop-len

@@ -1,6 +1,6 @@
 use Rattle.std.proofs.Common.{ap, sym, subst, ◌∙◌, ◌<◌, ◌⊎◌, arith, inl, inr}
 use Rattle.wat_lex.specs.grammar.Runs.{WordKind, named_kind, RunKind}
-use Rattle.wat_lex.specs.inside.RunReads.{idchar_count, string_count}
+use Rattle.wat_lex.specs.inside.ScannedRuns.{idchar_count, string_count}
 use Rattle.wat_lex.proofs.grammar.RunKinds.{no_strings, kind_of_word, kind_of_many, kind_of_string, kind_of_two}
 use Rattle.wat_lex.proofs.lexer.runs.run_kind.Goals as goal
 use Rattle.wat_lex.proofs.lexer.runs.run_kind.Goals.{then-strings-gt1-via-then-strings-gt1, then-strings-gt1-via-else-strings-gt1+then-idchars-gt1}

@@ -1,7 +1,7 @@
 use Rattle.std.proofs.Common.{ap, subst, ◌≡◌, [], ◌∷◌, length}
 use Rattle.std.specs.Str.Iter.{chars_rest}
-use Rattle.wat_lex.specs.inside.Reads.{escape_bytes}
-use Rattle.wat_lex.proofs.inside.Elements.{Took, took, refused, open_missing, open_wrong, escaped_on, breaks_on, if_ok, if_err}
+use Rattle.wat_lex.specs.inside.ScannedStrings.{escape_bytes}
+use Rattle.wat_lex.proofs.inside.StringSteps.{Took, took, refused, open_missing, open_wrong, escaped_on, breaks_on, if_ok, if_err}
 use Rattle.wat_lex.proofs.lexer.strings.braced.Goals as goal
 use Rattle.wat_lex.proofs.lexer.strings.braced.Goals.{In-Some}
 

@@ -1,7 +1,7 @@
 use Rattle.std.proofs.Common.{sym, ap, ◌∙◌, [], ◌∷◌, length}
 use Rattle.std.specs.Str.Iter.{chars_rest}
-use Rattle.wat_lex.specs.inside.Reads.{escape_bytes}
-use Rattle.wat_lex.proofs.inside.Elements.{Took, took, refused, digits_missing, digits_wrong, escaped_on, breaks_on, if_ok, if_err}
+use Rattle.wat_lex.specs.inside.ScannedStrings.{escape_bytes}
+use Rattle.wat_lex.proofs.inside.StringSteps.{Took, took, refused, digits_missing, digits_wrong, escaped_on, breaks_on, if_ok, if_err}
 use Rattle.wat_lex.proofs.lexer.strings.digits.Goals as goal
 use Rattle.wat_lex.proofs.lexer.strings.digits.Goals.{In-Some}
 

@@ -3,7 +3,7 @@ use Rattle.std.specs.Str.Iter.{chars_rest}
 use Rattle.std.proofs.lemmas.Bool.{both_ways, ne_eqb}
 use Rattle.std.proofs.lemmas.Result.{err_from_is_err_and}
 use Rattle.wat_lex.specs.grammar.Classes.{is_hex}
-use Rattle.wat_lex.proofs.inside.Elements.{Took, took, refused}
+use Rattle.wat_lex.proofs.inside.StringSteps.{Took, took, refused}
 use Rattle.wat_lex.proofs.inside.HexRows.{Reading, row_begins, row_underscore, row_doubled, row_digit, row_too_big, row_ends, row_good, row_no_more, row_stops, stops_end, stops_at}
 use Rattle.wat_lex.proofs.lexer.strings.number.Goals as goal
 use Rattle.wat_lex.proofs.lexer.strings.number.Goals.{In-Some, After-ended, then-is_hex+in_ok-n, else-is_hex+else-c-ne95, else-c-eq95-via-then-c-eq95+then-underscore+else-flags, else-c-eq95-via-then-c-eq95+else-underscore, else-c-eq95-via-else-c-eq95}

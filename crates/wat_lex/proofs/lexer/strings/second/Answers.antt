@@ -1,8 +1,8 @@
 use Rattle.std.proofs.Common.{sym, ap, ◌∙◌, subst, ◌+◌, ◌*◌, [], ◌∷◌, length}
 use Rattle.std.specs.Str.Iter.{chars_rest}
 use Rattle.std.specs.Char.{digit_value}
-use Rattle.wat_lex.specs.inside.Reads.{Escaped}
-use Rattle.wat_lex.proofs.inside.Elements.{Took, took, refused, second_read, second_missing, second_wrong}
+use Rattle.wat_lex.specs.inside.ScannedStrings.{Escaped}
+use Rattle.wat_lex.proofs.inside.StringSteps.{Took, took, refused, second_read, second_missing, second_wrong}
 use Rattle.wat_lex.proofs.lexer.strings.second.Goals as goal
 use Rattle.wat_lex.proofs.lexer.strings.second.Goals.{In-Some}
 

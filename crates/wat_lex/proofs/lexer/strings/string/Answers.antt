@@ -2,7 +2,7 @@ use Rattle.std.proofs.Common.{sym, ap, ◌∙◌, subst, ◌≡◌, ◌<◌, ◌
 use Rattle.std.specs.Str.Iter.{chars_rest}
 use Rattle.std.proofs.lemmas.Str.{length-encode, len_utf8_bounds}
 use lib.Utf8.{encode}
-use Rattle.wat_lex.proofs.inside.Elements.{Took, took, refused, string_unclosed, string_closed, string_control, string_confusing, string_escape, continue_raw, continue_escape}
+use Rattle.wat_lex.proofs.inside.StringSteps.{Took, took, refused, string_unclosed, string_closed, string_control, string_confusing, string_escape, continue_raw, continue_escape}
 use Rattle.std.proofs.lemmas.Bool.{both_ways}
 use Rattle.std.proofs.lemmas.Result.{err_from_is_err_and}
 use Rattle.wat_lex.proofs.lexer.strings.string.Goals as goal

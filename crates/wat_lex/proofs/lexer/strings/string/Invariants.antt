@@ -1,6 +1,6 @@
 use Rattle.std.proofs.Common.{length}
 use Rattle.std.specs.Str.Iter.{chars_rest}
-use Rattle.wat_lex.proofs.inside.Elements.{Continues}
+use Rattle.wat_lex.proofs.inside.StringSteps.{Continues}
 use Rattle.wat_lex.proofs.lexer.strings.string.Given as goal
 
 abbrev pub invariant-elements : goal.invariant-elements

@@ -1,7 +1,7 @@
 use Rattle.std.proofs.Common.{subst, sym, ◌-◌, length}
 use Rattle.std.specs.Str.Iter.{chars_rest}
-use Rattle.wat_lex.specs.inside.Reads.{Closed, Wrong, StringTaken}
-use Rattle.wat_lex.proofs.grammar.Cuts.{string_taken, string_broken, string_refused}
+use Rattle.wat_lex.specs.inside.ScannedStrings.{Closed, Wrong, StringTaken}
+use Rattle.wat_lex.proofs.grammar.Remainders.{string_taken, string_broken, string_refused}
 use Rattle.wat_lex.proofs.lexer.strings.string_len.Goals as goal
 
 pub overflow_sub-result-in-Err : goal.overflow_sub-result-in-Err

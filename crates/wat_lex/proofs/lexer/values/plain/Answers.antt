@@ -4,8 +4,8 @@ use Rattle.std.specs.Str.{chars}
 use Rattle.memchr.specs.Find.{IsFirstByte, is_byte}
 use Rattle.wat_lex.specs.tokens.Setting.{lenient}
 use Rattle.wat_lex.specs.grammar.Strings.{Quoted}
-use Rattle.wat_lex.proofs.tokens.TokensOf.{front_is}
-use Rattle.wat_lex.proofs.values.Values.{Closing, closing, no_backslash, has_backslash}
+use Rattle.wat_lex.proofs.tokens.ReadableTokens.{front_is}
+use Rattle.wat_lex.proofs.values.StringValues.{Closing, closing, no_backslash, has_backslash}
 use Rattle.wat_lex.proofs.lexer.values.plain.Goals as goal
 use Rattle.wat_lex.proofs.lexer.values.plain.Goals.{In-None}
 

@@ -3,10 +3,10 @@ use Rattle.std.specs.Prelude.{None, Some}
 use Rattle.std.specs.Str.{chars}
 use Rattle.std.specs.Str.Iter.{chars_rest}
 use Rattle.memchr.specs.Find.{IsFirstByte, is_byte}
-use Rattle.wat_lex.specs.inside.Reads.{Escaped, Breaks, escape_bytes}
+use Rattle.wat_lex.specs.inside.ScannedStrings.{Escaped, Breaks, escape_bytes}
 use Rattle.wat_lex.specs.tokens.Setting.{lenient}
 use Rattle.wat_lex.specs.grammar.Strings.{Quoted}
-use Rattle.wat_lex.proofs.values.Values.{AtBackslash, at_backslash, Closing, closing, no_backslash, Reading, reading_escape, reading_sound, reading_ends}
+use Rattle.wat_lex.proofs.values.StringValues.{AtBackslash, at_backslash, Closing, closing, no_backslash, Reading, reading_escape, reading_sound, reading_ends}
 use Rattle.wat_lex.proofs.lexer.values.unescaped.Goals as goal
 use Rattle.wat_lex.proofs.lexer.values.unescaped.Goals.{In-Some, In_default}
 

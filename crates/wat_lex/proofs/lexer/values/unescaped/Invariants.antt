@@ -1,7 +1,7 @@
 use Rattle.std.proofs.Common.{length}
 use denote.Text.{Utf8}
 use denote.Shadow.{shadow}
-use Rattle.wat_lex.proofs.values.Values.{Reading}
+use Rattle.wat_lex.proofs.values.StringValues.{Reading}
 use Rattle.wat_lex.proofs.lexer.values.unescaped.Given as goal
 
 abbrev pub invariant-escapes : goal.invariant-escapes

@@ -2,7 +2,7 @@ use Rattle.std.proofs.Common.{sym, subst, take, ap, ◌∙◌}
 use Rattle.std.specs.Str.{chars, IsCharBoundary}
 use Rattle.wat_lex.specs.tokens.Setting.{lenient}
 use Rattle.wat_lex.specs.grammar.Words.{Word}
-use Rattle.wat_lex.proofs.tokens.TokensOf.{token_ends, token_word, front_is}
+use Rattle.wat_lex.proofs.tokens.ReadableTokens.{token_ends, token_word, front_is}
 use Rattle.wat_lex.proofs.lexer.kinds.Token.src.Goals as goal
 
 pub range-requires-clause-end_boundary : goal.range-requires-clause-end_boundary

@@ -6,17 +6,17 @@ use Rattle.std.proofs.lemmas.Bool.{false≢true}
 use Rattle.std.proofs.lemmas.List.{append_cancel_right}
 use Rattle.std.proofs.lemmas.Str.{IsUtf8-nil}
 use Rattle.wat_lex.specs.values.Names.{Name, Named, bare, quoted as named_string, NameFault, no_name, not_utf8}
-use Rattle.wat_lex.specs.grammar.Numbers.{Digits, last, next, parted, Whole, decimal, hexadecimal, Fraction, bare as dot_alone, filled as dot_filled, Exponent, exponent, fraction, power, both, unsigned}
-use Rattle.wat_lex.specs.inside.NumberReads.{Stops, Follows}
+use Rattle.wat_lex.specs.grammar.Numbers.{Digits, last, next, parted, IntegralPart, decimal, hexadecimal, Fraction, bare as dot_alone, filled as dot_filled, Exponent, exponent, fraction, power, both, unsigned}
+use Rattle.wat_lex.specs.inside.ScannedNumbers.{Stops, Follows}
 use Rattle.wat_lex.specs.values.NumberValues.{Point, no_point, bare as point_bare, filled, Power, no_power, present, FloatParts}
-use Rattle.wat_lex.specs.values.OneReading.{OneValue, OneName, OneCut}
+use Rattle.wat_lex.specs.values.UniqueValues.{OneValue, OneName, OneCut}
 use Rattle.wat_lex.specs.tokens.Setting.{lenient}
 use Rattle.wat_lex.specs.grammar.Strings.{quoted}
 use Rattle.wat_lex.specs.declared.lexer.faults.LexError.{LexError}
 use Rattle.wat_lex.proofs.grammar.Digits.{digits_one, digits_first, digits_none}
-use Rattle.wat_lex.proofs.grammar.OneKind.{whole_one}
+use Rattle.wat_lex.proofs.grammar.OneKind.{integral_one}
 use Rattle.wat_lex.proofs.grammar.Tails.{stops_nil, exponent_stops}
-use Rattle.wat_lex.proofs.grammar.Unique.{quoted_unique}
+use Rattle.wat_lex.proofs.grammar.OneString.{quoted_unique}
 
 -- ---- strings
 
@@ -56,15 +56,15 @@ digits_on hex s q r (last h) = last h
 digits_on hex s q r (next {t = t} h k) = next h (digits_on hex t q r k)
 digits_on hex s q r (parted {t = t} h k) = parted h (digits_on hex t q r k)
 
-whole_on : (hex : Bool) (s q r : List ℕ) → Whole hex s q → Whole hex (s ++ r) (q ++ r)
-whole_on hex s q r (decimal h) = decimal (digits_on false s q r h)
-whole_on hex s q r (hexadecimal {t = t} h) = hexadecimal (digits_on true t q r h)
+integral_on : (hex : Bool) (s q r : List ℕ) → IntegralPart hex s q → IntegralPart hex (s ++ r) (q ++ r)
+integral_on hex s q r (decimal h) = decimal (digits_on false s q r h)
+integral_on hex s q r (hexadecimal {t = t} h) = hexadecimal (digits_on true t q r h)
 
-whole_none : (hex : Bool) (r : List ℕ) → Whole hex [] r → ⊥
-whole_none hex r (decimal h) = digits_none false r h
+integral_none : (hex : Bool) (r : List ℕ) → IntegralPart hex [] r → ⊥
+integral_none hex r (decimal h) = digits_none false r h
 
-unsigned_on : (hex : Bool) (s q r : List ℕ) → Whole hex (unsigned s) q → unsigned (s ++ r) ≡ unsigned s ++ r
-unsigned_on hex [] q r h = absurd (whole_none hex q h)
+unsigned_on : (hex : Bool) (s q r : List ℕ) → IntegralPart hex (unsigned s) q → unsigned (s ++ r) ≡ unsigned s ++ r
+unsigned_on hex [] q r h = absurd (integral_none hex q h)
 unsigned_on hex (c ∷ t) q r h = by (c == 43 || c == 45)
   where
     by : (b : Bool) → cond b (t ++ r) (c ∷ t ++ r) ≡ cond b t (c ∷ t) ++ r
@@ -127,9 +127,9 @@ parts_one hex s r q f g x y (filled {t = t} {d = d} e h) p (filled {d = b} u i) 
     record { fraction = ap Some digits; exponent = power_one hex r x y p (subst (λ z. Power hex z y) (sym same) k) }
 
 -- the first digits in the whole word
-whole_at : (hex : Bool) (w front tail : List ℕ) → w ≡ front ++ tail → Whole hex (unsigned front) [] → Whole hex (unsigned w) tail
-whole_at hex w front tail e h =
-    subst (λ s. Whole hex s tail) (sym (ap unsigned e ∙ unsigned_on hex front [] tail h)) (whole_on hex (unsigned front) [] tail h)
+integral_at : (hex : Bool) (w front tail : List ℕ) → w ≡ front ++ tail → IntegralPart hex (unsigned front) [] → IntegralPart hex (unsigned w) tail
+integral_at hex w front tail e h =
+    subst (λ s. IntegralPart hex s tail) (sym (ap unsigned e ∙ unsigned_on hex front [] tail h)) (integral_on hex (unsigned front) [] tail h)
 
 -- where the first digits end, and the base
 record SameTail (h k : Bool) (s t : List ℕ) : Type 0 where
@@ -140,7 +140,7 @@ same_tail : (w : List ℕ) (h k : Bool) (a b : List ℕ) (f g x y : Option (List
 same_tail w h k a b f g x y p q =
     let s = parts_follow h p.tail p.rest f x p.point p.power in
     let t = parts_follow k q.tail q.rest g y q.point q.power in
-    let same = whole_one h k (unsigned w) p.tail q.tail (whole_at h w a p.tail p.cut p.first) s (whole_at k w b q.tail q.cut q.first) t in
+    let same = integral_one h k (unsigned w) p.tail q.tail (integral_at h w a p.tail p.cut p.first) s (integral_at k w b q.tail q.cut q.first) t in
     record { base = same.0; tail = same.1 }
 
 same_parts : (w : List ℕ) (hex : Bool) (a b : List ℕ) (f g x y : Option (List ℕ)) → FloatParts hex w a f x → FloatParts hex w b g y → (a ≡ b) × (f ≡ g) × (x ≡ y)

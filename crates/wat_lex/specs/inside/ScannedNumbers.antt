@@ -1,7 +1,7 @@
 -- What the readers of numbers inside the lexer answer. No part of the standard.
 use Rattle.std.specs.Prelude.{◌≡◌, ◌||◌, ◌==◌, ◌⊎◌, if◌then◌else◌, ℕ, Bool, List, [], ◌∷◌}
 use Rattle.wat_lex.specs.grammar.Classes.{Begins, plus, underscore}
-use Rattle.wat_lex.specs.grammar.Numbers.{Digits, is_digit, Whole, Exponent, Tail}
+use Rattle.wat_lex.specs.grammar.Numbers.{Digits, is_digit, IntegralPart, Exponent, Tail}
 
 -- neither a digit nor an underscore comes next
 abbrev pub Stops : Bool → List ℕ → Type 0
@@ -20,12 +20,12 @@ abbrev pub Follows : Bool → List ℕ → Type 0
 Follows hex rest = (rest ≡ []) ⊎ Tail hex rest
 
 -- the only first digits of a number that the text can be
-pub record OnlyWhole (hex : Bool) (text rest : List ℕ) : Type 0 where
-  pub whole : Whole hex text rest
-  pub only : (k : Bool) (r : List ℕ) → Whole k text r → Follows k r → (k ≡ hex) × (r ≡ rest)
+pub record OnlyIntegralPart (hex : Bool) (text rest : List ℕ) : Type 0 where
+  pub integral : IntegralPart hex text rest
+  pub only : (k : Bool) (r : List ℕ) → IntegralPart k text r → Follows k r → (k ≡ hex) × (r ≡ rest)
 
-abbrev pub NoWhole : List ℕ → Type 0
-NoWhole text = (k : Bool) (r : List ℕ) → Whole k text r → Follows k r → ⊥
+abbrev pub NoIntegralPart : List ℕ → Type 0
+NoIntegralPart text = (k : Bool) (r : List ℕ) → IntegralPart k text r → Follows k r → ⊥
 
 -- the word without a `+`
 abbrev pub without_plus : List ℕ → List ℕ

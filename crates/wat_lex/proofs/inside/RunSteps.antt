@@ -10,13 +10,13 @@ use Rattle.std.specs.Str.{chars, IsUtf8}
 use Rattle.wat_lex.specs.grammar.Classes.{Each, Begins, is_idchar, is_run_char}
 use Rattle.wat_lex.specs.grammar.Runs.{Piece, Idchar, Quoted, Run, none, idchar, string}
 use Rattle.wat_lex.specs.tokens.Faults.{in_string}
-use Rattle.wat_lex.specs.inside.Reads.{StringTaken, StringRefused}
-use Rattle.wat_lex.specs.inside.Results.{Refused}
-use Rattle.wat_lex.specs.inside.RunReads.{RunFound, idchar_count, string_count}
+use Rattle.wat_lex.specs.inside.ScannedStrings.{StringTaken, StringRefused}
+use Rattle.wat_lex.specs.inside.ScannedLexemes.{Refused}
+use Rattle.wat_lex.specs.inside.ScannedRuns.{RunFound, idchar_count, string_count}
 use Rattle.wat_lex.specs.declared.lexer.settings.Settings.{Settings}
 use Rattle.wat_lex.specs.declared.lexer.faults.LexFault.{LexFault}
-use Rattle.wat_lex.proofs.grammar.Fronts.{Led, led, not_begun, ascii_front}
-use Rattle.wat_lex.proofs.inside.Lines.{idchar_ascii}
+use Rattle.wat_lex.proofs.grammar.AsciiPrefixes.{Led, led, not_begun, ascii_front}
+use Rattle.wat_lex.proofs.inside.LineComments.{idchar_ascii}
 
 -- the pieces of so many bytes, and what any run of the rest makes of them
 pub record Joined (flags : Settings) (text : List ℕ) (len ids strs : ℕ) : Type 0 where

@@ -5,12 +5,12 @@ use Rattle.std.proofs.lemmas.List.{take_at}
 use Rattle.std.proofs.lemmas.Str.{chars-encodes, IsUtf8-drop, IsCharBoundary-at_seam}
 use Rattle.std.specs.Str.{chars, IsUtf8, IsCharBoundary}
 use lib.Utf8.{encodes}
-use Rattle.wat_lex.specs.tokens.Readers.{IsTokenOf, token_text}
+use Rattle.wat_lex.specs.tokens.ReadableTokens.{IsTokenOf, token_text}
 use Rattle.wat_lex.specs.tokens.Setting.{Setting, lenient}
 use Rattle.wat_lex.specs.tokens.Tiling.{TokenAt}
 use Rattle.wat_lex.specs.grammar.Words.{Word}
 use Rattle.wat_lex.specs.declared.lexer.kinds.Token.{Token}
-use Rattle.wat_lex.proofs.inside.Checks.{Halves, halves}
+use Rattle.wat_lex.proofs.inside.CheckedComments.{Halves, halves}
 use Rattle.wat_lex.proofs.grammar.Looser.{word_looser, lenient_looser}
 
 -- a token that a lexer finds at a boundary is a token of the text

@@ -7,8 +7,8 @@ use Rattle.wat_lex.specs.declared.lexer.kinds.Token.{Token}
 use Rattle.wat_lex.specs.declared.lexer.faults.LexFault.{LexFault}
 
 -- what stands at the byte p: a token, or the text's end, or a fault
-abbrev pub StandsAt : Setting → ℕ → Result (Option Token) LexFault → Type 0
-StandsAt s p r = MatchResult r (λ found. MatchOption found (p ≡ length s.text) (TokenAt s p)) (FaultAt s p)
+abbrev pub AnswerAt : Setting → ℕ → Result (Option Token) LexFault → Type 0
+AnswerAt s p r = MatchResult r (λ found. MatchOption found (p ≡ length s.text) (TokenAt s p)) (FaultAt s p)
 
 -- there is a maximal tiling from the place
 abbrev pub SomeTiling : Setting → ℕ → Type 0

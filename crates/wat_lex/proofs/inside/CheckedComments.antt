@@ -10,7 +10,7 @@ use Rattle.wat_lex.specs.tokens.Faults.{IsComment, confusing}
 use Rattle.wat_lex.specs.grammar.Words.{Word}
 use Rattle.wat_lex.specs.tokens.Setting.{allowing}
 use Rattle.wat_lex.specs.declared.lexer.kinds.Lexeme.{Lexeme}
-use Rattle.wat_lex.specs.inside.Results.{Found, Refused, FirstConfusing}
+use Rattle.wat_lex.specs.inside.ScannedLexemes.{LexemeFound, Refused, FirstConfusing}
 use Rattle.wat_lex.specs.declared.lexer.kinds.TokenKind.{TokenKind}
 use Rattle.wat_lex.specs.declared.lexer.faults.LexError.TheVariants.{ConfusingUnicode}
 use Rattle.wat_lex.proofs.inside.Confusing.{size-append}
@@ -34,12 +34,12 @@ halves text w rest u e =
     let p = scalars_parts w rest (subst (λ x. scalars x ≡ true) e (scalars-chars text u)) in
     record { bytes = sym (encodes-chars text u) ∙ ap encodes e ∙ encodes-append w rest; left = p.0; right = p.1 }
 
-pub boundary_at : (flags : Settings) (text : List ℕ) (lexeme : Lexeme) → IsUtf8 text → Found flags text lexeme → IsCharBoundary text lexeme.len
+pub boundary_at : (flags : Settings) (text : List ℕ) (lexeme : Lexeme) → IsUtf8 text → LexemeFound flags text lexeme → IsCharBoundary text lexeme.len
 boundary_at flags text lexeme u h =
     let p = halves text h.word h.rest u h.stands.cut in
     subst (IsCharBoundary text) (sym h.len) (IsCharBoundary-at_seam text (encodes h.word) (encodes h.rest) p.bytes (h.rest, (p.right, refl)))
 
-pub word_at : (flags : Settings) (text : List ℕ) (lexeme : Lexeme) → IsUtf8 text → (h : Found flags text lexeme) → chars (take lexeme.len text) ≡ h.word
+pub word_at : (flags : Settings) (text : List ℕ) (lexeme : Lexeme) → IsUtf8 text → (h : LexemeFound flags text lexeme) → chars (take lexeme.len text) ≡ h.word
 word_at flags text lexeme u h =
     let p = halves text h.word h.rest u h.stands.cut in
     ap (λ x. chars (take lexeme.len x)) p.bytes ∙ ap chars (take_at (encodes h.word) (encodes h.rest) lexeme.len (sym h.len)) ∙ chars-encodes h.word p.left
@@ -52,7 +52,7 @@ pub clear_word : (flags : Settings) (kind : TokenKind) (w : List ℕ) → IsComm
 clear_word flags kind w (inl e) h n = subst (λ k. Word k w flags) (sym e) (let g = subst (λ k. Word k w (allowing flags)) e h in (g.0, is_clear flags.allow w n))
 clear_word flags kind w (inr e) h n = subst (λ k. Word k w flags) (sym e) (let g = subst (λ k. Word k w (allowing flags)) e h in (g.0, is_clear flags.allow w n))
 
-pub found_clear : (flags : Settings) (text : List ℕ) (lexeme : Lexeme) → IsUtf8 text → IsComment lexeme.kind → Found (allowing flags) text lexeme → NonePass is_confusing (chars (take lexeme.len text)) → Found flags text lexeme
+pub found_clear : (flags : Settings) (text : List ℕ) (lexeme : Lexeme) → IsUtf8 text → IsComment lexeme.kind → LexemeFound (allowing flags) text lexeme → NonePass is_confusing (chars (take lexeme.len text)) → LexemeFound flags text lexeme
 found_clear flags text lexeme u k h c = record {
   word = h.word;
   rest = h.rest;
@@ -61,10 +61,10 @@ found_clear flags text lexeme u k h c = record {
 }
 
 -- where confusing characters are allowed, that they are is nothing new
-pub found_allowed : (flags : Settings) (text : List ℕ) (lexeme : Lexeme) → flags.allow ≡ true → Found (allowing flags) text lexeme → Found flags text lexeme
-found_allowed flags text lexeme a h = subst (λ (b : Bool). Found (record flags { allow = b }) text lexeme) (sym a) h
+pub found_allowed : (flags : Settings) (text : List ℕ) (lexeme : Lexeme) → flags.allow ≡ true → LexemeFound (allowing flags) text lexeme → LexemeFound flags text lexeme
+found_allowed flags text lexeme a h = subst (λ (b : Bool). LexemeFound (record flags { allow = b }) text lexeme) (sym a) h
 
-pub found_confusing : (flags : Settings) (text : List ℕ) (lexeme : Lexeme) (i c : ℕ) → flags.allow ≡ false → IsUtf8 text → IsComment lexeme.kind → Found (allowing flags) text lexeme → FirstConfusing (take lexeme.len text) i c → Refused flags text (record { offset = i; error = ConfusingUnicode c })
+pub found_confusing : (flags : Settings) (text : List ℕ) (lexeme : Lexeme) (i c : ℕ) → flags.allow ≡ false → IsUtf8 text → IsComment lexeme.kind → LexemeFound (allowing flags) text lexeme → FirstConfusing (take lexeme.len text) i c → Refused flags text (record { offset = i; error = ConfusingUnicode c })
 found_confusing flags text lexeme i c a u k h f =
     let cut : h.word ≡ f.front ++ c ∷ f.behind = sym (word_at (allowing flags) text lexeme u h) ∙ f.cut in
     let whole : chars text ≡ f.front ++ c ∷ (f.behind ++ h.rest) = h.stands.cut ∙ ap (λ x. x ++ h.rest) cut ∙ append_assoc f.front (c ∷ f.behind) h.rest in

@@ -7,14 +7,14 @@ use lib.Utf8.{encode, encodes}
 use Rattle.wat_lex.specs.grammar.Classes.{size}
 use Rattle.wat_lex.specs.grammar.Comments.{Closes, close, plain, lone_semicolon, lone_paren, nested, BlockComment, opened}
 use Rattle.wat_lex.specs.tokens.Faults.{Fault, dangling}
-use Rattle.wat_lex.specs.inside.Results.{Found, Refused}
+use Rattle.wat_lex.specs.inside.ScannedLexemes.{LexemeFound, Refused}
 use Rattle.wat_lex.specs.tokens.Setting.{allowing}
 use Rattle.wat_lex.specs.declared.lexer.kinds.TokenKind.TheVariants.{BlockComment as block_kind}
 use Rattle.wat_lex.specs.declared.lexer.faults.LexError.TheVariants.{DanglingBlockComment}
 use Rattle.wat_lex.proofs.grammar.Comments.{at_nil}
-use Rattle.wat_lex.proofs.grammar.Bridge.{to_bytes, from_bytes}
+use Rattle.wat_lex.proofs.grammar.CommentBytes.{to_bytes, from_bytes}
 use Rattle.wat_lex.proofs.inside.Confusing.{size-append}
-use Rattle.wat_lex.proofs.grammar.Fronts.{led}
+use Rattle.wat_lex.proofs.grammar.AsciiPrefixes.{led}
 use Rattle.wat_lex.specs.declared.lexer.settings.Settings.{Settings}
 
 -- what closes is a front of the text, and closes whatever follows
@@ -63,7 +63,7 @@ opens (c ∷ d ∷ t) u a b =
     let m = led (d ∷ t) 59 l.utf8 (omega arith) b (omega arith) in
     record { chars = l.chars ∙ ap (λ x. 40 ∷ x) m.chars; utf8 = m.utf8; bytes = l.bytes ∙ ap (λ x. 40 ∷ x) m.bytes }
 
-pub block_found : (flags : Settings) (text : List ℕ) (n : ℕ) → IsUtf8 text → get_or text 0 0 ≡ 40 → get_or text 1 0 ≡ 59 → n ≤ length (drop 2 text) → Closes (drop 2 text) (drop n (drop 2 text)) → Found (allowing flags) text (record { kind = block_kind; len = n + 2 })
+pub block_found : (flags : Settings) (text : List ℕ) (n : ℕ) → IsUtf8 text → get_or text 0 0 ≡ 40 → get_or text 1 0 ≡ 59 → n ≤ length (drop 2 text) → Closes (drop 2 text) (drop n (drop 2 text)) → LexemeFound (allowing flags) text (record { kind = block_kind; len = n + 2 })
 block_found flags text n u a b l h =
     let o = opens text u a b in
     let cs = chars (drop 2 text) in

@@ -10,14 +10,14 @@ use lib.Utf8.{encode, encodes}
 use Rattle.memchr.specs.Find.{IsFirstByte, is_byte}
 use Rattle.wat_lex.specs.grammar.Classes.{size, Each, Begins}
 use Rattle.wat_lex.specs.values.Names.{HasNone, IsQuoted}
-use Rattle.wat_lex.specs.inside.Reads.{Escaped, Breaks}
+use Rattle.wat_lex.specs.inside.ScannedStrings.{Escaped, Breaks}
 use Rattle.wat_lex.specs.tokens.Setting.{lenient}
 use Rattle.wat_lex.specs.grammar.Strings.{Element, raw, letter, byte, unicode, Quoted, ends, more}
 use Rattle.wat_lex.specs.declared.lexer.strings.Broken.{Broken}
-use Rattle.wat_lex.proofs.inside.Checks.{halves}
+use Rattle.wat_lex.proofs.inside.CheckedComments.{halves}
 use Rattle.wat_lex.proofs.inside.Confusing.{size-append}
-use Rattle.wat_lex.proofs.inside.Lines.{Until, until, first_place}
-use Rattle.wat_lex.proofs.grammar.Unique.{element_unique, quoted_sound}
+use Rattle.wat_lex.proofs.inside.LineComments.{Until, until, first_place}
+use Rattle.wat_lex.proofs.grammar.OneString.{element_unique, quoted_sound}
 
 -- a text that is cut behind n bytes
 pub record Seam (text w rest : List ℕ) (n : ℕ) : Type 0 where

@@ -16,13 +16,13 @@ use Rattle.wat_lex.specs.grammar.Comments.{begun}
 use Rattle.wat_lex.specs.grammar.Words.{Word, MayFollow, Mark}
 use Rattle.wat_lex.specs.tokens.Faults.{Fault, unexpected, begins_word}
 use Rattle.wat_lex.specs.tokens.Setting.{allowing}
-use Rattle.wat_lex.specs.inside.Results.{Found, Refused}
+use Rattle.wat_lex.specs.inside.ScannedLexemes.{LexemeFound, Refused}
 use Rattle.wat_lex.specs.declared.lexer.kinds.TokenKind.{TokenKind}
 use Rattle.wat_lex.specs.declared.lexer.kinds.TokenKind.TheVariants.{LineComment as line_kind, LParen, RParen, Reserved, Whitespace}
 use Rattle.wat_lex.specs.declared.lexer.faults.LexError.TheVariants.{Unexpected}
-use Rattle.wat_lex.proofs.grammar.Bridge.{ascii_in}
+use Rattle.wat_lex.proofs.grammar.CommentBytes.{ascii_in}
 use Rattle.wat_lex.proofs.inside.Confusing.{size_one}
-use Rattle.wat_lex.proofs.grammar.Fronts.{led, not_begun, ascii_front}
+use Rattle.wat_lex.proofs.grammar.AsciiPrefixes.{led, not_begun, ascii_front}
 use Rattle.wat_lex.specs.declared.lexer.settings.Settings.{Settings}
 
 prefix_past : (q : ℕ → Bool) (bs t : List ℕ) → ((k : ℕ) → k < length bs → q (get_or bs k 0) ≡ true) → prefix_len q (bs ++ t) ≡ length bs + prefix_len q t
@@ -97,7 +97,7 @@ unfolding encode
 size_two f = omega arith
 
 -- a text that begins with `;;`
-pub line_found : (flags : Settings) (text : List ℕ) (n : ℕ) → IsUtf8 text → get_or text 0 0 ≡ 59 → get_or text 1 0 ≡ 59 → n ≡ prefix_len (λ c. not (is_line_end c)) (drop 2 text) → Found (allowing flags) text (record { kind = line_kind; len = n + 2 })
+pub line_found : (flags : Settings) (text : List ℕ) (n : ℕ) → IsUtf8 text → get_or text 0 0 ≡ 59 → get_or text 1 0 ≡ 59 → n ≡ prefix_len (λ c. not (is_line_end c)) (drop 2 text) → LexemeFound (allowing flags) text (record { kind = line_kind; len = n + 2 })
 line_found flags [] n u a b e = cc
 line_found flags (c ∷ []) n u a b e = cc
 line_found flags (c ∷ d ∷ t) n u a b e =
@@ -112,7 +112,7 @@ line_found flags (c ∷ d ∷ t) n u a b e =
     }
 
 -- a word of one ASCII character
-pub found_one : (flags : Settings) (text : List ℕ) (kind : TokenKind) (c : ℕ) → IsUtf8 text → 0 < length text → get_or text 0 0 ≡ c → c < 128 → Word kind (c ∷ []) flags → MayFollow kind (c ∷ []) (chars (drop 1 text)) → Found flags text (record { kind = kind; len = 1 })
+pub found_one : (flags : Settings) (text : List ℕ) (kind : TokenKind) (c : ℕ) → IsUtf8 text → 0 < length text → get_or text 0 0 ≡ c → c < 128 → Word kind (c ∷ []) flags → MayFollow kind (c ∷ []) (chars (drop 1 text)) → LexemeFound flags text (record { kind = kind; len = 1 })
 found_one flags text kind c u l e s w f =
     let k = led text c u l e s in
     record { word = c ∷ []; rest = chars (drop 1 text); stands = record { cut = k.chars; word = w; ends = f }; len = sym (size_one c ∙ len_utf8_ascii c s) }
@@ -122,18 +122,18 @@ no_semicolon text c u l e s n =
     not_begun (λ d. d == 59) (drop 1 text) (led text c u l e s).utf8 (λ d t. let k = eqb-true d 59 t in omega arith)
     (λ _. ne_eqb (get_or (drop 1 text) 0 0) 59 (λ k. n (sym (get_or-drop 1 text 0 0) ∙ k)))
 
-pub found_open : (flags : Settings) (text : List ℕ) → IsUtf8 text → 0 < length text → get_or text 0 0 ≡ 40 → (get_or text 1 0 ≡ 59 → ⊥) → Found flags text (record { kind = LParen; len = 1 })
+pub found_open : (flags : Settings) (text : List ℕ) → IsUtf8 text → 0 < length text → get_or text 0 0 ≡ 40 → (get_or text 1 0 ≡ 59 → ⊥) → LexemeFound flags text (record { kind = LParen; len = 1 })
 found_open flags text u l e n = found_one flags text LParen 40 u l e (omega arith) refl (no_semicolon text 40 u l e (omega arith) n)
 
-pub found_close : (flags : Settings) (text : List ℕ) → IsUtf8 text → 0 < length text → get_or text 0 0 ≡ 41 → Found flags text (record { kind = RParen; len = 1 })
+pub found_close : (flags : Settings) (text : List ℕ) → IsUtf8 text → 0 < length text → get_or text 0 0 ≡ 41 → LexemeFound flags text (record { kind = RParen; len = 1 })
 found_close flags text u l e = found_one flags text RParen 41 u l e (omega arith) refl tt
 
-pub found_semicolon : (flags : Settings) (text : List ℕ) → IsUtf8 text → 0 < length text → get_or text 0 0 ≡ 59 → (get_or text 1 0 ≡ 59 → ⊥) → Found flags text (record { kind = Reserved; len = 1 })
+pub found_semicolon : (flags : Settings) (text : List ℕ) → IsUtf8 text → 0 < length text → get_or text 0 0 ≡ 59 → (get_or text 1 0 ≡ 59 → ⊥) → LexemeFound flags text (record { kind = Reserved; len = 1 })
 found_semicolon flags text u l e n =
     let m : Mark (59 ∷ []) = (59, refl, refl) in
     found_one flags text Reserved 59 u l e (omega arith) (inl m) (λ _. no_semicolon text 59 u l e (omega arith) n, λ k. absurd (k m))
 
-pub found_mark : (flags : Settings) (text : List ℕ) → IsUtf8 text → 0 < length text → is_mark (get_or text 0 0) ≡ true → Found flags text (record { kind = Reserved; len = 1 })
+pub found_mark : (flags : Settings) (text : List ℕ) → IsUtf8 text → 0 < length text → is_mark (get_or text 0 0) ≡ true → LexemeFound flags text (record { kind = Reserved; len = 1 })
 found_mark flags text u l t =
     let c = get_or text 0 0 in
     let m : Mark (c ∷ []) = (c, refl, ap (λ b. b || c == 59) t) in
@@ -147,7 +147,7 @@ blank_first (b ∷ bs) l t e =
     let f : take (suc (prefix_len is_blank bs)) (b ∷ bs) ≡ [] = subst (λ x. take x (b ∷ bs) ≡ []) k e in
     cc
 
-pub found_blank : (flags : Settings) (text : List ℕ) (n : ℕ) → IsUtf8 text → 0 < length text → is_blank (get_or text 0 0) ≡ true → n ≡ prefix_len is_blank text → Found flags text (record { kind = Whitespace; len = n })
+pub found_blank : (flags : Settings) (text : List ℕ) (n : ℕ) → IsUtf8 text → 0 < length text → is_blank (get_or text 0 0) ≡ true → n ≡ prefix_len is_blank text → LexemeFound flags text (record { kind = Whitespace; len = n })
 found_blank flags text n u l t e =
     let k = ascii_front is_blank blank_ascii text u in
     record {

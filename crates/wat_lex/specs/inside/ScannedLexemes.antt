@@ -3,16 +3,16 @@ use Rattle.std.specs.Prelude.{◌≡◌, ◌+◌, ℕ, List, [], ◌∷◌, ◌+
 use Rattle.std.specs.Str.{chars, NonePass}
 use Rattle.wat_lex.specs.grammar.Classes.{size, is_confusing}
 use Rattle.wat_lex.specs.tokens.Faults.{Fault}
-use Rattle.wat_lex.specs.grammar.Words.{Stands}
+use Rattle.wat_lex.specs.grammar.Words.{WordStands}
 use Rattle.wat_lex.specs.declared.lexer.settings.Settings.{Settings}
 use Rattle.wat_lex.specs.declared.lexer.kinds.Lexeme.{Lexeme}
 use Rattle.wat_lex.specs.declared.lexer.faults.LexFault.{LexFault}
 
 -- a word of this kind and of so many bytes stands at the front
-pub record Found (flags : Settings) (text : List ℕ) (lexeme : Lexeme) : Type 0 where
+pub record LexemeFound (flags : Settings) (text : List ℕ) (lexeme : Lexeme) : Type 0 where
   pub word : List ℕ
   pub rest : List ℕ
-  pub stands : Stands flags (chars text) lexeme.kind word rest
+  pub stands : WordStands flags (chars text) lexeme.kind word rest
   pub len : lexeme.len ≡ size word
 
 -- the text begins with no word, and this is the fault, its offset from the front
@@ -23,7 +23,7 @@ pub record Refused (flags : Settings) (text : List ℕ) (f : LexFault) : Type 0 
 
 -- what stands at the front of the text
 abbrev pub Answers : Settings → List ℕ → Result (Option Lexeme) LexFault → Type 0
-Answers flags text r = MatchResult r (λ found. MatchOption found (text ≡ []) (Found flags text)) (Refused flags text)
+Answers flags text r = MatchResult r (λ found. MatchOption found (text ≡ []) (LexemeFound flags text)) (Refused flags text)
 
 -- the first confusing character of the text and its place
 pub record FirstConfusing (text : List ℕ) (i c : ℕ) : Type 0 where

@@ -7,8 +7,8 @@ use Rattle.std.proofs.lemmas.Str.{IsUtf8-from_is_utf8, is_utf8-from_IsUtf8}
 use Rattle.wat_lex.specs.values.Names.{Name, no_name, not_utf8}
 use Rattle.wat_lex.specs.grammar.Numbers.{Fraction, bare, filled, Exponent, exponent, Tail, fraction, power, both, Decimals, decimals, unsigned, Number}
 use Rattle.wat_lex.specs.values.NumberValues.{Point, no_point, bare as point_bare, filled as point_filled, Power, no_power, present}
-use Rattle.wat_lex.specs.values.OneReading.{SomeValue, SomeName, good, fault, SomeParts, SomeCut}
-use Rattle.wat_lex.specs.tokens.Readers.{IsTokenOf, token_text}
+use Rattle.wat_lex.specs.values.UniqueValues.{SomeValue, SomeName, good, fault, SomeParts, SomeCut}
+use Rattle.wat_lex.specs.tokens.ReadableTokens.{IsTokenOf, token_text}
 use Rattle.wat_lex.specs.tokens.Setting.{lenient}
 use Rattle.wat_lex.specs.grammar.Strings.{StringWord, quoted}
 use Rattle.wat_lex.specs.grammar.Words.{Word}
@@ -21,7 +21,7 @@ use Rattle.wat_lex.specs.declared.lexer.kinds.TokenKind.TheVariants.{String, Id,
 use Rattle.wat_lex.proofs.values.Names.{string_word, name_word}
 use Rattle.wat_lex.proofs.values.NumberParts.{cut_digits, cut_word}
 use Rattle.wat_lex.proofs.values.NumberWords.{float_word}
-use Rattle.wat_lex.proofs.tokens.TokensOf.{token_word}
+use Rattle.wat_lex.proofs.tokens.ReadableTokens.{token_word}
 
 -- ---- strings
 

@@ -1,4 +1,4 @@
--- Each text is read in one way.
+-- A block comment ends at one place, and a string is read in one way.
 use Rattle.std.proofs.Common.{◌≡◌, ◌⊎◌, ◌≤◌, ◌+◌, ◌*◌, ◌&&◌, ℕ, List, [], ◌∷◌, ◌++◌, refl, arith, ap, sym, ◌∙◌, subst, Bool, true, false, not, ◌||◌, inl, inr, cond, append_assoc}
 use Rattle.std.specs.Prelude.{Some, Option, encode_utf8, ◌==◌}
 use Rattle.std.proofs.lemmas.Bool.{both_ways, or_cases, and_parts, eqb-true, false≢true}
