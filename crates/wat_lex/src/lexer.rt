@@ -12,32 +12,19 @@ use crate::token::Span;
 use std::alloc::Global;
 use std::marker::Model;
 
-mod classes;
-mod comments;
 mod faults;
-mod front;
 mod kinds;
-#[cfg(test)]
-mod name_tests;
-mod number_values;
-mod numbers;
-#[cfg(test)]
-mod reader_tests;
-mod readers;
-mod runs;
+mod read;
+mod scan;
 mod settings;
-mod strings;
 #[cfg(test)]
 mod tests;
-#[cfg(test)]
-mod unique_tests;
-mod values;
 
-pub(crate) use classes::is_confusing;
 pub use faults::{LexError, LexFault};
-use front::front;
 pub use kinds::{FloatKind, IntegerKind, SignToken, Token, TokenKind};
-pub use number_values::{Float, Integer};
+pub use read::numbers::{Float, Integer};
+pub(crate) use scan::classes::is_confusing;
+use scan::front;
 pub use settings::Settings;
 
 /// A lexer over a text: it cuts the text into tokens, white space and comments, and accounts for every byte of it.

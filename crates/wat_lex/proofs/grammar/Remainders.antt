@@ -12,7 +12,7 @@ use Rattle.std.proofs.lemmas.Str.{encodes-chars, encodes-append}
 use Rattle.std.specs.Str.{chars, IsUtf8}
 use lib.Utf8.{encodes}
 use Rattle.wat_lex.specs.inside.ScannedStrings.{Closed, Wrong, StringTaken, StringRefused}
-use Rattle.wat_lex.specs.declared.lexer.strings.Broken.{Broken}
+use Rattle.wat_lex.specs.declared.lexer.scan.strings.Broken.{Broken}
 use Rattle.wat_lex.proofs.inside.Confusing.{size-append}
 use Rattle.wat_lex.specs.declared.lexer.settings.Settings.{Settings}
 

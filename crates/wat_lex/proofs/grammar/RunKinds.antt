@@ -13,7 +13,7 @@ use Rattle.wat_lex.specs.grammar.Runs.{Piece, Idchar, Quoted, Run, none, idchar,
 use Rattle.wat_lex.specs.grammar.Words.{Word, MayFollow, EndsRun}
 use Rattle.wat_lex.specs.inside.ScannedLexemes.{LexemeFound}
 use Rattle.wat_lex.specs.inside.ScannedRuns.{RunFound, IsKindOfRun, idchar_count, string_count}
-use Rattle.wat_lex.specs.declared.lexer.runs.Pieces.{Pieces}
+use Rattle.wat_lex.specs.declared.lexer.scan.runs.Pieces.{Pieces}
 use Rattle.wat_lex.specs.declared.lexer.kinds.TokenKind.{TokenKind}
 use Rattle.wat_lex.specs.declared.lexer.kinds.TokenKind.TheVariants.{LineComment, BlockComment, Whitespace, LParen, RParen, String, Id, Keyword, Annotation, Reserved, Integer, Float}
 use Rattle.wat_lex.proofs.inside.LineComments.{run_char_ascii, idchar_ascii}

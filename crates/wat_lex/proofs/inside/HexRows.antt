@@ -13,9 +13,9 @@ use Rattle.wat_lex.specs.grammar.Classes.{size, is_hex, Each, Begins}
 use Rattle.wat_lex.specs.grammar.Strings.{Element, unicode, is_hex_or_underscore, hex_value, IsParted, EndsInUnderscore, HexRow}
 use Rattle.wat_lex.specs.tokens.StringFaults.{NumberFault, too_big, doubled, lone, no_scalar, no_brace, no_more, number}
 use Rattle.wat_lex.specs.inside.ScannedStrings.{Escaped, escape_bytes, Breaks, IsRowValue, Ends}
-use Rattle.wat_lex.specs.declared.lexer.strings.Broken.{Broken}
-use Rattle.wat_lex.specs.declared.lexer.strings.EscapeValue.{EscapeValue}
-use Rattle.wat_lex.specs.declared.lexer.strings.EscapeValue.TheVariants.{Scalar}
+use Rattle.wat_lex.specs.declared.lexer.scan.strings.Broken.{Broken}
+use Rattle.wat_lex.specs.declared.lexer.scan.strings.EscapeValue.{EscapeValue}
+use Rattle.wat_lex.specs.declared.lexer.scan.strings.EscapeValue.TheVariants.{Scalar}
 use Rattle.wat_lex.specs.declared.lexer.faults.LexError.{LexError}
 use Rattle.wat_lex.specs.declared.lexer.faults.LexError.TheVariants.{Expected, UnexpectedEof, NumberTooBig, InvalidUnicodeValue, LoneUnderscore}
 use Rattle.wat_lex.specs.declared.lexer.settings.Settings.{Settings}

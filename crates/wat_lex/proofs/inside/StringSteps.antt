@@ -11,7 +11,7 @@ use Rattle.wat_lex.specs.grammar.Classes.{size, is_hex, is_confusing}
 use Rattle.wat_lex.specs.grammar.Strings.{Element, raw, letter, byte, unicode, Quoted, ends, more, letter_value, is_raw, is_control}
 use Rattle.wat_lex.specs.tokens.StringFaults.{StringFault, later, no_quote, control, confusing, no_escape, bad_escape, no_second, bad_second, no_open, bad_open, no_digit, bad_digit}
 use Rattle.wat_lex.specs.inside.ScannedStrings.{Escaped, Breaks, Closed, Wrong}
-use Rattle.wat_lex.specs.declared.lexer.strings.Broken.{Broken}
+use Rattle.wat_lex.specs.declared.lexer.scan.strings.Broken.{Broken}
 use Rattle.wat_lex.specs.declared.lexer.faults.LexError.{LexError}
 use Rattle.wat_lex.specs.declared.lexer.faults.LexError.TheVariants.{InvalidStringElement, InvalidStringEscape, InvalidHexDigit, Expected, UnexpectedEof, ConfusingUnicode}
 use Rattle.wat_lex.specs.declared.lexer.settings.Settings.{Settings}

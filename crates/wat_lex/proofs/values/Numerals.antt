@@ -10,7 +10,7 @@ use Rattle.std.proofs.lemmas.Bool.Decides.{nat_tests}
 use Rattle.wat_lex.specs.grammar.Numbers.{Digits, last, next, parted, is_digit, IntegralPart, unsigned, is_negative}
 use Rattle.wat_lex.specs.values.NumberValues.{joined, behind_prefix, bare_digits, number_text, base, IsText, IsIntegerOf, IsNumeralOf}
 use Rattle.wat_lex.specs.declared.lexer.kinds.IntegerKind.{IntegerKind}
-use Rattle.wat_lex.specs.declared.lexer.number_values.Integer.{Integer}
+use Rattle.wat_lex.specs.declared.lexer.read.numbers.Integer.{Integer}
 use Rattle.wat_lex.proofs.grammar.Digits.{digits_first, underscore_no_digit}
 use Rattle.wat_lex.proofs.values.NumberParts.{no_plus, no_minus, integral_digits}
 

@@ -13,7 +13,7 @@ use Rattle.wat_lex.specs.values.Names.{HasNone, IsQuoted}
 use Rattle.wat_lex.specs.inside.ScannedStrings.{Escaped, Breaks}
 use Rattle.wat_lex.specs.tokens.Setting.{lenient}
 use Rattle.wat_lex.specs.grammar.Strings.{Element, raw, letter, byte, unicode, Quoted, ends, more}
-use Rattle.wat_lex.specs.declared.lexer.strings.Broken.{Broken}
+use Rattle.wat_lex.specs.declared.lexer.scan.strings.Broken.{Broken}
 use Rattle.wat_lex.proofs.inside.CheckedComments.{halves}
 use Rattle.wat_lex.proofs.inside.Confusing.{size-append}
 use Rattle.wat_lex.proofs.inside.LineComments.{Until, until, first_place}

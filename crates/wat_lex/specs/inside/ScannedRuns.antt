@@ -5,7 +5,7 @@ use Rattle.wat_lex.specs.grammar.Classes.{size}
 use Rattle.wat_lex.specs.grammar.Runs.{Piece, Idchar, Quoted, Run, RunKind}
 use Rattle.wat_lex.specs.grammar.Words.{EndsRun}
 use Rattle.wat_lex.specs.declared.lexer.settings.Settings.{Settings}
-use Rattle.wat_lex.specs.declared.lexer.runs.Pieces.{Pieces}
+use Rattle.wat_lex.specs.declared.lexer.scan.runs.Pieces.{Pieces}
 use Rattle.wat_lex.specs.declared.lexer.kinds.TokenKind.{TokenKind}
 
 abbrev pub idchar_count : List Piece → ℕ

@@ -6,9 +6,9 @@ use Rattle.wat_lex.specs.grammar.Classes.{size, close_brace}
 use Rattle.wat_lex.specs.grammar.Strings.{Element, Quoted}
 use Rattle.wat_lex.specs.tokens.StringFaults.{StringFault}
 use Rattle.wat_lex.specs.declared.lexer.settings.Settings.{Settings}
-use Rattle.wat_lex.specs.declared.lexer.strings.Broken.{Broken}
-use Rattle.wat_lex.specs.declared.lexer.strings.EscapeValue.{EscapeValue}
-use Rattle.wat_lex.specs.declared.lexer.strings.EscapeValue.TheVariants.{Byte, Scalar}
+use Rattle.wat_lex.specs.declared.lexer.scan.strings.Broken.{Broken}
+use Rattle.wat_lex.specs.declared.lexer.scan.strings.EscapeValue.{EscapeValue}
+use Rattle.wat_lex.specs.declared.lexer.scan.strings.EscapeValue.TheVariants.{Byte, Scalar}
 use Rattle.wat_lex.specs.declared.lexer.faults.LexError.TheVariants.{LoneUnderscore, InvalidUnicodeValue, Expected}
 use Rattle.wat_lex.specs.declared.lexer.faults.LexFault.{LexFault}
 

@@ -12,9 +12,9 @@ use Rattle.wat_lex.specs.declared.lexer.kinds.IntegerKind.{IntegerKind}
 use Rattle.wat_lex.specs.declared.lexer.kinds.SignToken.{SignToken}
 use Rattle.wat_lex.specs.declared.lexer.kinds.FloatKind.{FloatKind}
 use Rattle.wat_lex.specs.declared.lexer.kinds.FloatKind.TheVariants as kind
-use Rattle.wat_lex.specs.declared.lexer.number_values.Integer.{Integer}
-use Rattle.wat_lex.specs.declared.lexer.number_values.Float.{Float}
-use Rattle.wat_lex.specs.declared.lexer.number_values.Float.TheVariants as value
+use Rattle.wat_lex.specs.declared.lexer.read.numbers.Integer.{Integer}
+use Rattle.wat_lex.specs.declared.lexer.read.numbers.Float.{Float}
+use Rattle.wat_lex.specs.declared.lexer.read.numbers.Float.TheVariants as value
 
 -- without underscores
 abbrev pub joined : List ℕ → List ℕ

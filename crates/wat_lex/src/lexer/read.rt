@@ -1,0 +1,220 @@
+//! What the tokens of a text read as.
+ghost use Rattle.std.specs.Prelude.{◌≡◌, ◌≢◌, ◌⊎◌, ◌↔◌, [], Ok, false, IfOk, IfErr, IsOk};
+ghost use Rattle.std.specs.Cow.{cow_str_bytes, cow_slice_items, IsBorrowedSlice, IsBorrowedStr};
+ghost use Rattle.std.specs.Str.{chars, IsUtf8};
+ghost use Rattle.wat_lex.specs.grammar.Classes.{backslash};
+ghost use Rattle.wat_lex.specs.values.Names.{Name, NameFault, NameError, HasNone, HasNoEscape};
+ghost use Rattle.wat_lex.specs.values.NumberValues.{is_integer_rewritten, is_float_rewritten};
+ghost use Rattle.wat_lex.specs.values.NumberValues.{IsFloatOf, IsIntegerOf, IsNumeralOf};
+ghost use Rattle.wat_lex.specs.values.UniqueValues.{SomeValue, OneValue, SomeName, OneName};
+ghost use Rattle.wat_lex.specs.values.UniqueValues.{SomeCut, OneCut};
+ghost use Rattle.wat_lex.specs.tokens.ReadableTokens.{IsTokenOf, token_text, word_of};
+ghost use Rattle.wat_lex.specs.tokens.Setting.{lenient};
+ghost use Rattle.wat_lex.specs.grammar.Strings.{StringWord};
+ghost use Rattle.wat_lex.specs.values.WordValues.{string_value, name_value, name_answer};
+ghost use Rattle.wat_lex.specs.values.WordValues.{empty_name};
+ghost use Rattle.wat_lex.specs.grammar.Words.{Word};
+ghost use Rattle.wat_lex.specs.declared.lexer.faults.LexError.TheVariants.{EmptyId, EmptyAnnotation};
+ghost use Rattle.wat_lex.specs.declared.lexer.kinds.TokenKind.TheVariants.{String, Id, Keyword, Annotation, Reserved};
+ghost use Rattle.wat_lex.specs.declared.lexer.kinds.TokenKind.TheVariants as token_kind;
+
+use crate::error::Error;
+use crate::lexer::read::strings::{name, plain, unescaped};
+use crate::lexer::{Float, FloatKind, Integer, IntegerKind, LexError, Token, TokenKind};
+use crate::token::Span;
+use std::alloc::{AllocError, Global};
+use std::borrow::{CowSlice, CowStr};
+
+pub(super) mod numbers;
+mod strings;
+
+/// What is wrong with an empty name, by the kind of its token.
+fn empty_name(kind: TokenKind) -> LexError
+    ensures { result ≡ empty_name kind }
+{
+    match kind {
+        TokenKind::Annotation => LexError::EmptyAnnotation,
+        _ => LexError::EmptyId,
+    }
+}
+
+impl Token {
+    /// The token's text, which is a word of its kind.
+    pub fn src<'a>(&self, s: &'a str) -> &'a str
+        requires { IsTokenOf s.now self.now }
+        ensures text { result.now ≡ token_text s.now self.now }
+        ensures word { Word self.now.kind (chars result.now) lenient }
+    {
+        let rest = &s[self.offset..];
+        &rest[..self.len as usize]
+    }
+
+    /// The text of a keyword.
+    pub fn keyword<'a>(&self, s: &'a str) -> &'a str
+        requires token { IsTokenOf s.now self.now }
+        requires kind { self.now.kind ≡ Keyword }
+        ensures { result.now ≡ token_text s.now self.now }
+    {
+        self.src(s)
+    }
+
+    /// The text of a reserved token.
+    pub fn reserved<'a>(&self, s: &'a str) -> &'a str
+        requires token { IsTokenOf s.now self.now }
+        requires kind { self.now.kind ≡ Reserved }
+        ensures { result.now ≡ token_text s.now self.now }
+    {
+        self.src(s)
+    }
+
+    /// The value of a string. It is borrowed where no escape stands in the string, and then no memory is taken.
+    #[tactic(auto, using(crate::proofs::values::OneValues::one_value, crate::proofs::values::SomeValues::some_value))]
+    pub fn string<'a>(&self, alloc: Global, s: &'a str) -> Result<CowSlice<'a, u8>, AllocError>
+        requires token { IsTokenOf s.now self.now }
+        requires kind { self.now.kind ≡ String }
+        ensures elements { IfOk result (λ v. StringWord lenient (word_of s.now self.now) (cow_slice_items v)) }
+        ensures value { IfOk result (λ v. cow_slice_items v ≡ string_value (word_of s.now self.now)) }
+        ensures some { SomeValue (word_of s.now self.now) }
+        ensures one { OneValue (word_of s.now self.now) }
+        ensures borrowed { IfOk result (λ v.
+            IsBorrowedSlice v ↔ HasNone backslash (word_of s.now self.now)) }
+        ensures free { HasNone backslash (word_of s.now self.now) → IsOk result }
+    {
+        let elements = &self.src(s)[1..];
+        if let Some(value) = plain(elements) {
+            return Ok(CowSlice::Borrowed(value.as_bytes()));
+        }
+        let value = unescaped(alloc, elements)?;
+        Ok(CowSlice::Owned(value))
+    }
+
+    /// The name of an identifier. It is borrowed where no escape stands in it, and then no memory is taken.
+    #[tactic(auto, using(crate::proofs::values::OneValues::one_name, crate::proofs::values::SomeValues::some_name))]
+    pub fn id<'a>(&self, alloc: Global, s: &'a str) -> Result<CowStr<'a>, Error>
+        requires token { IsTokenOf s.now self.now }
+        requires kind { self.now.kind ≡ Id }
+        ensures name { IfOk result (λ name. Name (word_of s.now self.now) (cow_str_bytes name)) }
+        ensures utf8 { IfOk result (λ name. IsUtf8 (cow_str_bytes name)) }
+        ensures some { IfOk result (λ name. cow_str_bytes name ≢ []) }
+        ensures value { IfOk result (λ name.
+            name_value EmptyId (word_of s.now self.now) ≡ Ok (cow_str_bytes name)) }
+        ensures error { IfErr result (NameError s.now EmptyId self.now.offset (word_of s.now self.now)) }
+        ensures either { SomeName EmptyId (word_of s.now self.now) }
+        ensures one { OneName EmptyId (word_of s.now self.now) }
+        ensures borrowed { IfOk result (λ name.
+            IsBorrowedStr name ↔ HasNoEscape (word_of s.now self.now)) }
+    {
+        self.name_or_error(alloc, s)
+    }
+
+    /// The name of an annotation. It is borrowed where no escape stands in it, and then no memory is taken.
+    #[tactic(auto, using(crate::proofs::values::OneValues::one_name, crate::proofs::values::SomeValues::some_name))]
+    pub fn annotation<'a>(&self, alloc: Global, s: &'a str) -> Result<CowStr<'a>, Error>
+        requires token { IsTokenOf s.now self.now }
+        requires kind { self.now.kind ≡ Annotation }
+        ensures name { IfOk result (λ name. Name (word_of s.now self.now) (cow_str_bytes name)) }
+        ensures utf8 { IfOk result (λ name. IsUtf8 (cow_str_bytes name)) }
+        ensures some { IfOk result (λ name. cow_str_bytes name ≢ []) }
+        ensures value { IfOk result (λ name.
+            name_value EmptyAnnotation (word_of s.now self.now) ≡ Ok (cow_str_bytes name)) }
+        ensures error { IfErr result (
+            NameError s.now EmptyAnnotation self.now.offset (word_of s.now self.now)) }
+        ensures either { SomeName EmptyAnnotation (word_of s.now self.now) }
+        ensures one { OneName EmptyAnnotation (word_of s.now self.now) }
+        ensures borrowed { IfOk result (λ name.
+            IsBorrowedStr name ↔ HasNoEscape (word_of s.now self.now)) }
+    {
+        self.name_or_error(alloc, s)
+    }
+
+    /// The name of an identifier or an annotation, or what is wrong with it, at the token: `EmptyId` or `EmptyAnnotation` where it
+    /// is empty, `InvalidUtf8Id` where it is not UTF-8. It is borrowed where no escape stands in it, and memory is taken only
+    /// where one does.
+    #[tactic(auto, using(crate::proofs::values::OneValues::one_name, crate::proofs::values::SomeValues::some_name))]
+    pub fn name<'a>(
+        &self,
+        alloc: Global,
+        s: &'a str,
+    ) -> Result<Result<CowStr<'a>, LexError>, AllocError>
+        requires token { IsTokenOf s.now self.now }
+        requires kind { (self.now.kind ≡ Id) ⊎ (self.now.kind ≡ Annotation) }
+        ensures name { IfOk result (λ found. IfOk found (λ name.
+            Name (word_of s.now self.now) (cow_str_bytes name))) }
+        ensures utf8 { IfOk result (λ found. IfOk found (λ name. IsUtf8 (cow_str_bytes name))) }
+        ensures some { IfOk result (λ found. IfOk found (λ name. cow_str_bytes name ≢ [])) }
+        ensures fault { IfOk result (λ found. IfErr found (
+            NameFault (empty_name self.now.kind) (word_of s.now self.now))) }
+        ensures value { IfOk result (λ found.
+            name_answer found ≡ name_value (empty_name self.now.kind) (word_of s.now self.now)) }
+        ensures either { SomeName (empty_name self.now.kind) (word_of s.now self.now) }
+        ensures one { OneName (empty_name self.now.kind) (word_of s.now self.now) }
+        ensures borrowed { IfOk result (λ found. IfOk found (λ name.
+            IsBorrowedStr name ↔ HasNoEscape (word_of s.now self.now))) }
+        ensures free { HasNoEscape (word_of s.now self.now) → IsOk result }
+    {
+        let Some(name) = name(alloc, &self.src(s)[1..])? else {
+            return Ok(Err(LexError::InvalidUtf8Id));
+        };
+        if name.as_str().is_empty() {
+            return Ok(Err(empty_name(self.kind)));
+        }
+        Ok(Ok(name))
+    }
+
+    /// What an integer token reads as. Memory is taken where its digits have underscores or `0x`.
+    pub fn integer<'a>(
+        &self,
+        alloc: Global,
+        s: &'a str,
+        kind: IntegerKind,
+    ) -> Result<Integer<'a>, AllocError>
+        requires token { IsTokenOf s.now self.now }
+        requires kind { self.now.kind ≡ token_kind.Integer kind }
+        ensures value { IfOk result (IsIntegerOf kind (word_of s.now self.now)) }
+        ensures numeral { IfOk result (IsNumeralOf kind (word_of s.now self.now)) }
+        ensures free { is_integer_rewritten kind ≡ false → IsOk result }
+    {
+        Integer::from_word(alloc, self.src(s), kind)
+    }
+
+    /// What a floating-point token reads as. Memory is taken where it has underscores, or `0x` before its digits.
+    #[tactic(auto, using(crate::proofs::values::OneValues::one_cut, crate::proofs::values::SomeValues::some_cut))]
+    pub fn float<'a>(
+        &self,
+        alloc: Global,
+        s: &'a str,
+        kind: FloatKind,
+    ) -> Result<Float<'a>, AllocError>
+        requires token { IsTokenOf s.now self.now }
+        requires kind { self.now.kind ≡ token_kind.Float kind }
+        ensures value { IfOk result (IsFloatOf kind (word_of s.now self.now)) }
+        ensures some { SomeCut kind (word_of s.now self.now) }
+        ensures one { OneCut (word_of s.now self.now) }
+        ensures free { is_float_rewritten kind ≡ false → IsOk result }
+    {
+        Float::from_word(alloc, self.src(s), kind)
+    }
+
+    /// The name, or the error of what is wrong with it.
+    fn name_or_error<'a>(&self, alloc: Global, s: &'a str) -> Result<CowStr<'a>, Error>
+        requires token { IsTokenOf s.now self.now }
+        requires kind { (self.now.kind ≡ Id) ⊎ (self.now.kind ≡ Annotation) }
+        ensures name { IfOk result (λ name. Name (word_of s.now self.now) (cow_str_bytes name)) }
+        ensures utf8 { IfOk result (λ name. IsUtf8 (cow_str_bytes name)) }
+        ensures some { IfOk result (λ name. cow_str_bytes name ≢ []) }
+        ensures value { IfOk result (λ name. name_value (empty_name self.now.kind) (word_of s.now self.now)
+            ≡ Ok (cow_str_bytes name)) }
+        ensures error { IfErr result (
+            NameError s.now (empty_name self.now.kind) self.now.offset (word_of s.now self.now)) }
+        ensures borrowed { IfOk result (λ name.
+            IsBorrowedStr name ↔ HasNoEscape (word_of s.now self.now)) }
+    {
+        match self.name(alloc, s)? {
+            Ok(name) => Ok(name),
+            Err(error) => {
+                let span = Span::from_offset(self.offset);
+                Err(Error::lex(alloc, span, s, error))
+            }
+        }
+    }
+}

@@ -1,0 +1,290 @@
+//! What the words of numbers read as.
+ghost use Rattle.std.specs.Prelude.{◌≡◌, ◌≤◌, ◌++◌, ◌||◌, Bool, true, false, List, [], length, IfOk, OnOk, IsOk, IfSome, string_bytes};
+ghost use Rattle.std.specs.Option.{option_map};
+ghost use Rattle.std.specs.Cow.{cow_str_bytes};
+ghost use Rattle.std.specs.Str.{IsAscii};
+ghost use Rattle.wat_lex.specs.grammar.Numbers.{unsigned, has_underscores, Number, IntegralPart};
+ghost use Rattle.wat_lex.specs.grammar.Numbers.{Tail, Decimals, Payload};
+ghost use Rattle.wat_lex.specs.values.NumberValues.{joined, behind_prefix, number_text};
+ghost use Rattle.wat_lex.specs.values.NumberValues.{payload_text, is_integer_rewritten};
+ghost use Rattle.wat_lex.specs.values.NumberValues.{is_float_rewritten, integer_sign};
+ghost use Rattle.wat_lex.specs.values.NumberValues.{integer_digits, integer_base, Point, Power};
+ghost use Rattle.wat_lex.specs.values.NumberValues.{IsText, IsOptionalText, IsIntegerOf};
+ghost use Rattle.wat_lex.specs.values.NumberValues.{IsDecimalsOf, IsFloatOf};
+ghost use Rattle.wat_lex.specs.inside.ScannedNumbers.{without_plus, EndsFloat};
+ghost use Rattle.wat_lex.specs.declared.lexer.kinds.TokenKind.TheVariants as token_kind;
+ghost use Rattle.wat_lex.specs.declared.lexer.kinds.FloatKind.TheVariants.{Normal};
+
+use crate::lexer::kinds::{FloatKind, IntegerKind, SignToken};
+use crate::lexer::scan::numbers::{after_digits, is_negative, unsigned};
+use std::alloc::{AllocError, Global};
+use std::borrow::CowStr;
+
+/// An integer of a text, with its sign, its digits and their base.
+#[derive(Debug, Drop, PartialEq)]
+pub struct Integer<'a> {
+    sign: Option<SignToken>,
+    digits: CowStr<'a>,
+    hex: bool,
+}
+
+impl<'a> Integer<'a> {
+    /// The sign that stands before the digits.
+    pub fn sign(&self) -> Option<SignToken>
+        ensures { result ≡ integer_sign self.now }
+    {
+        self.sign
+    }
+
+    /// The digits, behind a `-` where the integer is negative, and their base.
+    pub fn val(&self) -> (&str, u32)
+        ensures digits { result.0.now ≡ integer_digits self.now }
+        ensures base { result.1 ≡ integer_base self.now }
+    {
+        let base = if self.hex { 16 } else { 10 };
+        (self.digits.as_str(), base)
+    }
+
+    pub(crate) fn from_word(
+        alloc: Global,
+        word: &'a str,
+        kind: IntegerKind,
+    ) -> Result<Integer<'a>, AllocError>
+        requires ascii { IsAscii word.now }
+        requires number { Number word.now (token_kind.Integer kind) }
+        ensures value { IfOk result (IsIntegerOf kind word.now) }
+        ensures free { is_integer_rewritten kind ≡ false → IsOk result }
+    {
+        let digits = number_text(alloc, word, kind.hex, kind.has_underscores)?;
+        Ok(Integer {
+            sign: kind.sign,
+            digits,
+            hex: kind.hex,
+        })
+    }
+}
+
+/// A floating-point number of a text, cut into its parts.
+#[derive(Debug, Drop, PartialEq, Eq)]
+pub enum Float<'a> {
+    /// `nan`, with the digits of its payload.
+    Nan {
+        /// The payload's hexadecimal digits behind `nan:0x`, without underscores.
+        val: Option<CowStr<'a>>,
+        /// Whether it begins with `-`.
+        negative: bool,
+    },
+    /// `inf`
+    Inf {
+        /// Whether it begins with `-`.
+        negative: bool,
+    },
+    /// Digits before the dot, behind it, and of the exponent, each without `+` and underscores.
+    Val {
+        /// Whether the digits are hexadecimal. Those of the exponent never are.
+        hex: bool,
+        /// The digits before the dot, without `0x`; a `-` is kept.
+        integral: CowStr<'a>,
+        /// The digits behind the dot, None where there are none.
+        fractional: Option<CowStr<'a>>,
+        /// The digits of the exponent, None where there is none; a `-` is kept.
+        exponent: Option<CowStr<'a>>,
+    },
+}
+
+impl<'a> Float<'a> {
+    pub(crate) fn from_word(
+        alloc: Global,
+        word: &'a str,
+        kind: FloatKind,
+    ) -> Result<Float<'a>, AllocError>
+        requires ascii { IsAscii word.now }
+        requires number { Number word.now (token_kind.Float kind) }
+        ensures value { IfOk result (IsFloatOf kind word.now) }
+        ensures free { is_float_rewritten kind ≡ false → IsOk result }
+    {
+        match kind {
+            FloatKind::Inf { negative } => Ok(Float::Inf { negative }),
+            FloatKind::Nan { negative } => Ok(Float::Nan {
+                val: None,
+                negative,
+            }),
+            FloatKind::NanVal {
+                negative,
+                has_underscores,
+            } => {
+                let val = payload(alloc, word, has_underscores)?;
+                Ok(Float::Nan {
+                    val: Some(val),
+                    negative,
+                })
+            }
+            FloatKind::Normal {
+                has_underscores,
+                hex,
+            } => decimals(alloc, word, hex, has_underscores),
+        }
+    }
+}
+
+fn without_plus(word: &str) -> &str
+    ensures { result.now ≡ without_plus word.now }
+{
+    let bytes = word.as_bytes();
+    if bytes.is_empty() || bytes[0] != b'+' {
+        return word;
+    }
+    &word[1..]
+}
+
+/// What stands behind `0x`, where a number is hexadecimal.
+fn behind_prefix(number: &[u8], hex: bool) -> &[u8]
+    requires long { hex ≡ true → 2 ≤ length number.now }
+    ensures { result.now ≡ behind_prefix hex number.now }
+{
+    if hex { &number[2..] } else { number }
+}
+
+/// Writes the digits behind a text, without underscores.
+fn push_joined(text: &mut String, digits: &[u8]) -> Result<(), AllocError>
+    requires ascii { IsAscii digits.now }
+    ensures { OnOk result (string_bytes text.new ≡ string_bytes text.old ++ joined digits.now) }
+{
+    for b in digits {
+        if *b != b'_' {
+            text.push(*b as char)?;
+        }
+    }
+    Ok(())
+}
+
+/// A number's digits without `+`, underscores and `0x`, a `-` kept.
+fn number_text<'a>(
+    alloc: Global,
+    word: &'a str,
+    hex: bool,
+    underscores: bool,
+) -> Result<CowStr<'a>, AllocError>
+    requires ascii { IsAscii word.now }
+    requires long { hex ≡ true → 2 ≤ length (unsigned word.now) }
+    requires plain { underscores ≡ false → has_underscores word.now ≡ false }
+    ensures value { IfOk result (IsText (hex || underscores) (number_text hex word.now)) }
+    ensures free { (hex || underscores) ≡ false → IsOk result }
+{
+    if !hex && !underscores {
+        return Ok(CowStr::Borrowed(without_plus(word)));
+    }
+    let bytes = word.as_bytes();
+    let mut text = String::new(alloc);
+    if is_negative(bytes) {
+        text.push('-')?;
+    }
+    push_joined(&mut text, behind_prefix(unsigned(bytes), hex))?;
+    Ok(CowStr::Owned(text))
+}
+
+/// The digits behind `nan:0x`, without underscores.
+fn payload<'a>(alloc: Global, word: &'a str, underscores: bool) -> Result<CowStr<'a>, AllocError>
+    requires ascii { IsAscii word.now }
+    requires payload { Payload (unsigned word.now) }
+    requires plain { underscores ≡ false → has_underscores word.now ≡ false }
+    ensures value { IfOk result (IsText underscores (payload_text word.now)) }
+    ensures free { underscores ≡ false → IsOk result }
+{
+    let number = unsigned(word.as_bytes());
+    let start = word.len() - number.len() + "nan:0x".len();
+    number_text(alloc, &word[start..], false, underscores)
+}
+
+/// Cuts a float's word behind its first digits.
+fn split_front(word: &str, hex: bool) -> (&str, &str)
+    requires ascii { IsAscii word.now }
+    requires decimals { Decimals hex (unsigned word.now) }
+    ensures cut { word.now ≡ result.0.now ++ result.1.now }
+    ensures front { IntegralPart hex (unsigned result.0.now) [] }
+    ensures tail { Tail hex result.1.now }
+{
+    let number = unsigned(word.as_bytes());
+    match after_digits(behind_prefix(number, hex), hex) {
+        Some(tail) => word.split_at(word.len() - tail.len()),
+        None => unreachable!(),
+    }
+}
+
+/// The digits behind a dot, and what follows them.
+fn split_fraction(tail: &str, hex: bool) -> (Option<&str>, &str)
+    requires ascii { IsAscii tail.now }
+    requires tail { Tail hex tail.now }
+    ensures point { Point hex tail.now (option_map (λ r. r.now) result.0) result.1.now }
+    ensures rest { EndsFloat hex result.1.now }
+{
+    if tail.as_bytes()[0] != b'.' {
+        return (None, tail);
+    }
+    let behind = &tail[1..];
+    match after_digits(behind.as_bytes(), hex) {
+        Some(rest) => {
+            let (digits, rest) = behind.split_at(behind.len() - rest.len());
+            (Some(digits), rest)
+        }
+        None => (None, behind),
+    }
+}
+
+/// What stands behind an exponent's letter.
+fn behind_letter(rest: &str) -> Option<&str>
+    requires ascii { IsAscii rest.now }
+    ensures { (hex : Bool) → EndsFloat hex rest.now → Power hex rest.now (option_map (λ r. r.now) result) }
+{
+    if rest.is_empty() {
+        None
+    } else {
+        Some(&rest[1..])
+    }
+}
+
+/// A decimal part of a number, where there is one.
+fn optional_text<'a>(
+    alloc: Global,
+    part: Option<&'a str>,
+    underscores: bool,
+) -> Result<Option<CowStr<'a>>, AllocError>
+    requires ascii { IfSome part (λ p. IsAscii p.now) }
+    requires plain { underscores ≡ false → IfSome part (λ p. has_underscores p.now ≡ false) }
+    ensures value { IfOk result (IsOptionalText underscores (option_map (λ p. number_text false p.now) part.entry)) }
+    ensures free { underscores ≡ false → IsOk result }
+{
+    match part {
+        Some(part) => {
+            let text = number_text(alloc, part, false, underscores)?;
+            Ok(Some(text))
+        }
+        None => Ok(None),
+    }
+}
+
+/// The parts of a float's word.
+fn decimals<'a>(
+    alloc: Global,
+    word: &'a str,
+    hex: bool,
+    underscores: bool,
+) -> Result<Float<'a>, AllocError>
+    requires ascii { IsAscii word.now }
+    requires decimals { Decimals hex (unsigned word.now) }
+    requires plain { underscores ≡ false → has_underscores word.now ≡ false }
+    ensures value { IfOk result (IsFloatOf (Normal underscores hex) word.now) }
+    ensures free { (hex || underscores) ≡ false → IsOk result }
+{
+    let (front, tail) = split_front(word, hex);
+    let (fraction, rest) = split_fraction(tail, hex);
+    let integral = number_text(alloc, front, hex, underscores)?;
+    let fractional = optional_text(alloc, fraction, underscores)?;
+    let exponent = optional_text(alloc, behind_letter(rest), underscores)?;
+    Ok(Float::Val {
+        hex,
+        integral,
+        fractional,
+        exponent,
+    })
+}

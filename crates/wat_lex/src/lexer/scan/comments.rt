@@ -1,0 +1,119 @@
+//! Comments.
+ghost use Rattle.std.specs.Prelude.{◌≡◌, ◌≤◌, ◌+◌, ℕ, List, not, length, drop, slice_index, IfSome, IfNone, MatchOption};
+ghost use Rattle.std.specs.List.{prefix_len};
+ghost use Rattle.std.specs.Str.{chars, NonePass};
+ghost use Rattle.wat_lex.specs.grammar.Classes.{is_line_end, is_confusing};
+ghost use Rattle.wat_lex.specs.grammar.Comments.{Closes};
+ghost use Rattle.wat_lex.specs.tokens.Faults.{IsComment};
+ghost use Rattle.wat_lex.specs.inside.ScannedLexemes.{LexemeFound, Answers, FirstConfusing};
+ghost use Rattle.wat_lex.specs.tokens.Setting.{allowing};
+
+use crate::lexer::faults::{LexError, LexFault};
+use crate::lexer::kinds::{Lexeme, TokenKind};
+use crate::lexer::scan::classes::is_confusing;
+use crate::lexer::settings::Settings;
+use memchr::{memchr, memchr2};
+
+/// How many bytes stand before the end of the line.
+fn line_len(text: &[u8]) -> usize
+    ensures { result ≡ prefix_len (λ c. not (is_line_end c)) text.now }
+{
+    memchr2(b'\n', b'\r', text).unwrap_or(text.len())
+}
+
+/// The first confusing character, and where it stands. Each of them has 0xE2 as its first byte, and no character has
+/// that byte at another place.
+fn first_confusing(text: &str) -> Option<(usize, char)>
+    ensures { MatchOption result (NonePass is_confusing (chars text.now)) (λ f. FirstConfusing text.now f.0 f.1) }
+{
+    let mut at = 0;
+    'places: while let Some(skipped) = memchr(0xe2, text[at..].as_bytes()) {
+        at += skipped;
+        match text[at..].chars().next() {
+            None => return None,
+            Some(c) => {
+                if is_confusing(c) {
+                    return Some((at, c));
+                }
+                at += c.len_utf8();
+            }
+        }
+    }
+    None
+}
+
+/// How many bytes the items of a block comment and its `;)` take, behind its `(;`.
+fn closing_len(text: &[u8]) -> Option<usize>
+    ensures range { IfSome result (λ n. n ≤ length text.now) }
+    ensures found { IfSome result (λ n. Closes text.now (drop n text.now)) }
+    ensures none { IfNone result ((r : List ℕ) → Closes text.now r → ⊥) }
+{
+    let mut level = 1usize;
+    let mut i = 0usize;
+    while i < text.len() {
+        if text[i] == b'(' && i + 1 < text.len() && text[i + 1] == b';' {
+            level += 1;
+            i += 2;
+        } else if text[i] == b';' && i + 1 < text.len() && text[i + 1] == b')' {
+            level -= 1;
+            i += 2;
+            if level == 0 {
+                return Some(i);
+            }
+        } else {
+            i += 1;
+        }
+    }
+    None
+}
+
+/// A comment that stands at the front, unless it has a confusing character.
+fn checked(text: &str, comment: Lexeme, flags: Settings) -> Result<Option<Lexeme>, LexFault>
+    requires comment { IsComment comment.kind }
+    requires found { LexemeFound (allowing flags) text.now comment }
+    ensures { Answers flags text.now result }
+{
+    if flags.allow {
+        return Ok(Some(comment));
+    }
+    match first_confusing(&text[..comment.len]) {
+        None => Ok(Some(comment)),
+        Some((offset, c)) => Err(LexFault {
+            offset,
+            error: LexError::ConfusingUnicode(c),
+        }),
+    }
+}
+
+/// What stands at the front of a text that begins with `(;`.
+pub fn block_comment(text: &str, flags: Settings) -> Result<Option<Lexeme>, LexFault>
+    requires opened { (slice_index text.now 0 ≡ 40) × (slice_index text.now 1 ≡ 59) }
+    ensures { Answers flags text.now result }
+{
+    match closing_len(&text.as_bytes()[2..]) {
+        Some(len) => {
+            let comment = Lexeme {
+                kind: TokenKind::BlockComment,
+                len: len + 2,
+            };
+            checked(text, comment, flags)
+        }
+        None => Err(LexFault {
+            offset: 0,
+            error: LexError::DanglingBlockComment,
+        }),
+    }
+}
+
+/// What stands at the front of a text that begins with `;;`.
+pub fn line_comment(text: &str, flags: Settings) -> Result<Option<Lexeme>, LexFault>
+    requires begun { (slice_index text.now 0 ≡ 59) × (slice_index text.now 1 ≡ 59) }
+    ensures { Answers flags text.now result }
+{
+    let len = line_len(&text.as_bytes()[2..]);
+    let comment = Lexeme {
+        kind: TokenKind::LineComment,
+        len: len + 2,
+    };
+    checked(text, comment, flags)
+}

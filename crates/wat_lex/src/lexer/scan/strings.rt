@@ -1,0 +1,253 @@
+//! Strings.
+ghost use Rattle.std.specs.Prelude.{◌≡◌, ◌≤◌, ◌<◌, ◌+◌, ◌*◌, ◌^◌, ◌∷◌, [], true, IfErr, OnOk, IfOk};
+ghost use Rattle.std.specs.Str.{IsUtf8};
+ghost use Rattle.std.specs.Str.Iter.{chars_rest};
+ghost use Rattle.std.specs.Char.{digit_value};
+ghost use Rattle.wat_lex.specs.declared.lexer.faults.LexError.TheVariants.{NumberTooBig};
+ghost use Rattle.wat_lex.specs.grammar.Classes.{is_hex};
+ghost use Rattle.wat_lex.specs.grammar.Strings.{letter_value, is_control};
+ghost use Rattle.wat_lex.specs.inside.ScannedStrings.{Escaped, escape_bytes, Breaks, Closed, Wrong};
+ghost use Rattle.wat_lex.specs.inside.ScannedStrings.{IsRowValue, Ends, StringTaken, StringRefused};
+
+use crate::lexer::faults::{LexError, LexFault};
+use crate::lexer::scan::classes::{is_confusing, is_hex};
+use crate::lexer::settings::Settings;
+use std::str::Chars;
+
+/// What is wrong with a string, and how many bytes are left from the place where it is told.
+#[derive(Clone, Copy)]
+pub struct Broken {
+    pub left: usize,
+    pub error: LexError,
+}
+
+/// What an escape stands for.
+#[derive(Clone, Copy)]
+pub enum EscapeValue {
+    Byte(u8),
+    Scalar(char),
+}
+
+fn is_control(c: char) -> bool
+    ensures { result ≡ is_control c }
+{
+    (c as u32) < 0x20 || c as u32 == 0x7f
+}
+
+/// What a letter stands for behind a backslash.
+fn letter(c: char) -> Option<u8>
+    ensures { result ≡ letter_value c }
+{
+    match c {
+        '"' => Some(b'"'),
+        '\'' => Some(b'\''),
+        '\\' => Some(b'\\'),
+        't' => Some(b'\t'),
+        'n' => Some(b'\n'),
+        'r' => Some(b'\r'),
+        _ => None,
+    }
+}
+
+fn hex_digit(c: char) -> u32
+    requires { is_hex c ≡ true }
+    ensures value { result ≡ digit_value c }
+    ensures small { result < 16 }
+{
+    match c {
+        'a'..='f' => c as u32 - 87,
+        'A'..='F' => c as u32 - 55,
+        _ => c as u32 - 48,
+    }
+}
+
+/// A refusal.
+fn refuse<T>(left: usize, error: LexError) -> Result<T, Broken>
+    ensures { result ≡ Err (record { left = left; error = error }) }
+{
+    Err(Broken { left, error })
+}
+
+/// The second hexadecimal digit of an escape.
+fn second(it: &mut Chars<'_>, first: char, flags: Settings) -> Result<EscapeValue, Broken>
+    requires utf8 { IsUtf8 (chars_rest it.old) }
+    requires hex { is_hex first ≡ true }
+    ensures ok { IfOk result (λ e. Escaped flags (92 ∷ first ∷ []) (chars_rest it.old) (chars_rest it.new) (escape_bytes e)) }
+    ensures err { IfErr result (Breaks flags (92 ∷ first ∷ []) (chars_rest it.old)) }
+{
+    let left = it.as_str().len();
+    let Some(c) = it.next() else {
+        return refuse(0, LexError::UnexpectedEof);
+    };
+    if !is_hex(c) {
+        return refuse(left, LexError::InvalidHexDigit(c));
+    }
+    let value = 16 * hex_digit(first) + hex_digit(c);
+    Ok(EscapeValue::Byte(value as u8))
+}
+
+/// The character of a number, from its digits and underscores by themselves, unless they end in an underscore.
+fn row_value(n: u32, underscore: bool, last: usize) -> Result<char, Broken>
+    ensures { IsRowValue n underscore last result }
+{
+    if underscore {
+        return refuse(last, LexError::LoneUnderscore);
+    }
+    match char::from_u32(n) {
+        Some(c) => Ok(c),
+        None => refuse(last, LexError::InvalidUnicodeValue(n)),
+    }
+}
+
+/// The escape of a number's character, unless another character than a brace follows the digits.
+fn ended(c: char, left: usize, value: char) -> Result<EscapeValue, Broken>
+    ensures { Ends c left value result }
+{
+    if c != '}' {
+        let error = LexError::Expected {
+            wanted: '}',
+            found: c,
+        };
+        return refuse(left, error);
+    }
+    Ok(EscapeValue::Scalar(value))
+}
+
+/// A number with one hexadecimal digit more, unless it takes more than 32 bits.
+fn with_digit(n: u32, digit: char, left: usize) -> Result<u32, Broken>
+    requires { is_hex digit ≡ true }
+    ensures ok { IfOk result (λ m. m ≡ n * 16 + digit_value digit) }
+    ensures err { IfErr result (λ broken. (2 ^ 32 ≤ n * 16 + digit_value digit) × (broken ≡ record { left = left; error = NumberTooBig })) }
+{
+    let wide = n as u64 * 16 + hex_digit(digit) as u64;
+    if wide >= 0x1_0000_0000 {
+        return refuse(left, LexError::NumberTooBig);
+    }
+    Ok(wide as u32)
+}
+
+/// What follows the first digit of a number behind `\u{`.
+fn number(it: &mut Chars<'_>, first: char, flags: Settings) -> Result<EscapeValue, Broken>
+    requires utf8 { IsUtf8 (chars_rest it.old) }
+    requires hex { is_hex first ≡ true }
+    ensures ok { IfOk result (λ e. Escaped flags (92 ∷ 117 ∷ 123 ∷ first ∷ []) (chars_rest it.old) (chars_rest it.new) (escape_bytes e)) }
+    ensures err { IfErr result (Breaks flags (92 ∷ 117 ∷ 123 ∷ first ∷ []) (chars_rest it.old)) }
+{
+    let mut n = hex_digit(first);
+    let mut underscore = false;
+    let mut last = 0usize;
+    'row: loop {
+        let left = it.as_str().len();
+        let Some(c) = it.next() else {
+            row_value(n, underscore, last)?;
+            return refuse(0, LexError::UnexpectedEof);
+        };
+        if c == '_' && underscore && flags.strict {
+            return refuse(left, LexError::LoneUnderscore);
+        }
+        if is_hex(c) {
+            n = with_digit(n, c, left)?;
+        } else if c != '_' {
+            return ended(c, left, row_value(n, underscore, last)?);
+        }
+        underscore = c == '_';
+        last = left;
+    }
+}
+
+/// What follows `\u{`.
+fn digits(it: &mut Chars<'_>, flags: Settings) -> Result<EscapeValue, Broken>
+    requires utf8 { IsUtf8 (chars_rest it.old) }
+    ensures ok { IfOk result (λ e. Escaped flags (92 ∷ 117 ∷ 123 ∷ []) (chars_rest it.old) (chars_rest it.new) (escape_bytes e)) }
+    ensures err { IfErr result (Breaks flags (92 ∷ 117 ∷ 123 ∷ []) (chars_rest it.old)) }
+{
+    let left = it.as_str().len();
+    let Some(c) = it.next() else {
+        return refuse(0, LexError::UnexpectedEof);
+    };
+    if !is_hex(c) {
+        return refuse(left, LexError::InvalidHexDigit(c));
+    }
+    number(it, c, flags)
+}
+
+/// What follows `\u`.
+fn braced(it: &mut Chars<'_>, flags: Settings) -> Result<EscapeValue, Broken>
+    requires utf8 { IsUtf8 (chars_rest it.old) }
+    ensures ok { IfOk result (λ e. Escaped flags (92 ∷ 117 ∷ []) (chars_rest it.old) (chars_rest it.new) (escape_bytes e)) }
+    ensures err { IfErr result (Breaks flags (92 ∷ 117 ∷ []) (chars_rest it.old)) }
+{
+    let left = it.as_str().len();
+    let Some(c) = it.next() else {
+        return refuse(0, LexError::UnexpectedEof);
+    };
+    if c != '{' {
+        let error = LexError::Expected {
+            wanted: '{',
+            found: c,
+        };
+        return refuse(left, error);
+    }
+    digits(it, flags)
+}
+
+/// What follows a backslash.
+pub fn escape(it: &mut Chars<'_>, flags: Settings) -> Result<EscapeValue, Broken>
+    requires utf8 { IsUtf8 (chars_rest it.old) }
+    ensures ok { IfOk result (λ e. Escaped flags (92 ∷ []) (chars_rest it.old) (chars_rest it.new) (escape_bytes e)) }
+    ensures err { IfErr result (Breaks flags (92 ∷ []) (chars_rest it.old)) }
+{
+    let left = it.as_str().len();
+    let Some(c) = it.next() else {
+        return refuse(0, LexError::UnexpectedEof);
+    };
+    if let Some(byte) = letter(c) {
+        return Ok(EscapeValue::Byte(byte));
+    }
+    if is_hex(c) {
+        return second(it, c, flags);
+    }
+    if c != 'u' {
+        return refuse(left, LexError::InvalidStringEscape(c));
+    }
+    braced(it, flags)
+}
+
+/// What follows the opening quote of a string.
+fn string(it: &mut Chars<'_>, flags: Settings) -> Result<(), Broken>
+    requires utf8 { IsUtf8 (chars_rest it.old) }
+    ensures ok { OnOk result (Closed flags (chars_rest it.old) (chars_rest it.new)) }
+    ensures err { IfErr result (Wrong flags (chars_rest it.old)) }
+{
+    'elements: loop {
+        let left = it.as_str().len();
+        let Some(c) = it.next() else {
+            return refuse(0, LexError::UnexpectedEof);
+        };
+        if c == '"' {
+            return Ok(());
+        }
+        if c == '\\' {
+            escape(it, flags)?;
+        } else if is_control(c) {
+            return refuse(left, LexError::InvalidStringElement(c));
+        } else if !flags.allow && is_confusing(c) {
+            return refuse(left, LexError::ConfusingUnicode(c));
+        }
+    }
+}
+
+/// How many bytes the elements of a string and its closing quote take, behind its opening quote.
+pub fn string_len(text: &str, flags: Settings) -> Result<usize, LexFault>
+    ensures ok { IfOk result (StringTaken flags text.now) }
+    ensures err { IfErr result (StringRefused flags text.now) }
+{
+    let mut it = text.chars();
+    match string(&mut it, flags) {
+        Ok(()) => Ok(text.len() - it.as_str().len()),
+        Err(fault) => Err(LexFault {
+            offset: text.len() - fault.left,
+            error: fault.error,
+        }),
+    }
+}
