@@ -57,7 +57,7 @@ pub trait Encode {
 
     /// Appends the bytes of the value. A refusal leaves the buffer as it was.
     ///
-    /// A value that has no bytes is told as that, whatever memory there is.
+    /// A value that has no bytes is reported as that, whatever memory there is.
     fn encode(&self, e: &mut Vec<u8>) -> Result<(), EncodeError>
         ensures ok { OnOk result (e.new.items ≡ e.old.items ++ encoding self.now) }
         ensures fitting { OnOk result (fits self.now) }
@@ -86,7 +86,7 @@ fn taken_back(
 fn push_unsigned(mut rest: u64, e: &mut Vec<u8>) -> Result<(), EncodeError>
     ensures ok { OnOk result (e.new.items ≡ e.old.items ++ unsigned_leb128 rest) }
     ensures memory { OnErr result (result ≡ Err EncodeError.Memory) }
-    ensures front { take (vec_len e.old) e.new.items ≡ e.old.items }
+    ensures prefix { take (vec_len e.old) e.new.items ≡ e.old.items }
 {
     while rest >= 0x80 {
         e.push((rest & 0x7f) as u8 | 0x80)?;
@@ -100,7 +100,7 @@ fn push_unsigned(mut rest: u64, e: &mut Vec<u8>) -> Result<(), EncodeError>
 fn push_signed(mut rest: i64, e: &mut Vec<u8>) -> Result<(), EncodeError>
     ensures ok { OnOk result (e.new.items ≡ e.old.items ++ signed_leb128 rest) }
     ensures memory { OnErr result (result ≡ Err EncodeError.Memory) }
-    ensures front { take (vec_len e.old) e.new.items ≡ e.old.items }
+    ensures prefix { take (vec_len e.old) e.new.items ≡ e.old.items }
 {
     while rest < -0x40 || rest >= 0x40 {
         e.push(low_bits(rest) | 0x80)?;
@@ -327,8 +327,8 @@ pub fn slice_fits<T: Encode>(items: &[T]) -> bool
 
 /// Appends a list: how many items it has, as a `u32`, and then each of them.
 ///
-/// A refusal leaves the buffer as it was. A list that has no bytes is told as that, whatever memory
-/// there is.
+/// A refusal leaves the buffer as it was. A list that has no bytes is reported as that, whatever
+/// memory there is.
 pub fn encode_slice<T: Encode>(items: &[T], e: &mut Vec<u8>) -> Result<(), EncodeError>
     ensures ok { OnOk result (e.new.items ≡ e.old.items ++ list_encoding T.encoding items.now) }
     ensures fitting { OnOk result (ListFits T.fits items.now) }
@@ -337,7 +337,7 @@ pub fn encode_slice<T: Encode>(items: &[T], e: &mut Vec<u8>) -> Result<(), Encod
     ensures memory { IsErrOf result EncodeError.Memory → ListFits T.fits items.now }
     ensures err { OnErr result (e.new.items ≡ e.old.items) }
 
-    // The bytes in front decode to the length, no shorter ones do, and no others as long.
+    // The leading bytes decode to the length, no shorter ones do, and no others as long.
     ensures law { IsUnsignedEncoded (length items.now) }
 {
     if !slice_fits(items) {
@@ -352,7 +352,7 @@ pub fn encode_slice<T: Encode>(items: &[T], e: &mut Vec<u8>) -> Result<(), Encod
 fn push_items<T: Encode>(items: &[T], e: &mut Vec<u8>) -> Result<(), EncodeError>
     ensures ok { OnOk result (e.new.items ≡ e.old.items ++ list_encoding T.encoding items.now) }
     ensures too_long { IsErrOf result EncodeError.TooLong → ¬ ListFits T.fits items.now }
-    ensures front { take (vec_len e.old) e.new.items ≡ e.old.items }
+    ensures prefix { take (vec_len e.old) e.new.items ≡ e.old.items }
 {
     encode_length(items.len(), e)?;
     for item in items {
@@ -370,8 +370,8 @@ pub fn str_fits(text: &str) -> bool
 
 /// Appends a text: how many bytes it has, as a `u32`, and then these.
 ///
-/// A refusal leaves the buffer as it was. A text that has no bytes is told as that, whatever memory
-/// there is.
+/// A refusal leaves the buffer as it was. A text that has no bytes is reported as that, whatever
+/// memory there is.
 pub fn encode_str(text: &str, e: &mut Vec<u8>) -> Result<(), EncodeError>
     ensures ok { OnOk result (e.new.items ≡ e.old.items ++ text_encoding text.now) }
     ensures fitting { OnOk result (TextFits text.now) }
@@ -379,7 +379,7 @@ pub fn encode_str(text: &str, e: &mut Vec<u8>) -> Result<(), EncodeError>
     ensures memory { IsErrOf result EncodeError.Memory → TextFits text.now }
     ensures err { OnErr result (e.new.items ≡ e.old.items) }
 
-    // The bytes in front decode to the length, no shorter ones do, and no others as long.
+    // The leading bytes decode to the length, no shorter ones do, and no others as long.
     ensures law { IsUnsignedEncoded (length text.now) }
 {
     let start = e.len();
@@ -393,7 +393,7 @@ fn push_text(text: &str, e: &mut Vec<u8>) -> Result<(), EncodeError>
     ensures fitting { OnOk result (TextFits text.now) }
     ensures too_long { IsErrOf result EncodeError.TooLong ↔ TextTooLong text.now }
     ensures memory { IsErrOf result EncodeError.Memory → TextFits text.now }
-    ensures front { take (vec_len e.old) e.new.items ≡ e.old.items }
+    ensures prefix { take (vec_len e.old) e.new.items ≡ e.old.items }
 {
     encode_length(text.len(), e)?;
     e.extend_from_slice(text.as_bytes())?;
@@ -419,7 +419,7 @@ impl<T: Encode> Encode for Vec<T> {
         ensures memory { IsErrOf result EncodeError.Memory → ListFits T.fits self.now.items }
         ensures err { OnErr result (e.new.items ≡ e.old.items) }
 
-        // The bytes in front decode to the length, no shorter ones do, and no others as long.
+        // The leading bytes decode to the length, no shorter ones do, and no others as long.
         ensures law { IsUnsignedEncoded (vec_len self.now) }
     {
         encode_slice(self.as_slice(), e)
@@ -444,7 +444,7 @@ impl Encode for String {
         ensures memory { IsErrOf result EncodeError.Memory → StringFits self.now }
         ensures err { OnErr result (e.new.items ≡ e.old.items) }
 
-        // The bytes in front decode to the length, no shorter ones do, and no others as long.
+        // The leading bytes decode to the length, no shorter ones do, and no others as long.
         ensures law { IsUnsignedEncoded (length (string_bytes self.now)) }
     {
         encode_str(self.as_str(), e)
@@ -676,10 +676,10 @@ mod tests {
         Ok(())
     }
 
-    // The branches of want of memory are taken where the run refuses a request, as does
+    // The out-of-memory branches are taken where the run refuses a request, as does
     // `--fail-alloc 2`.
     #[test]
-    fn want_of_memory_leaves_the_buffer(rt: HostRuntime) -> Result<(), Fail> {
+    fn out_of_memory_leaves_the_buffer(rt: HostRuntime) -> Result<(), Fail> {
         let alloc = rt.alloc();
         let numbers = [300u32; 60];
         let mut e = vec![in alloc; 0xff]?;

@@ -20,9 +20,10 @@ mod text;
 
 use text::Text;
 
-/// What went wrong, and where: a fault of the text, a message, or want of memory.
+/// What went wrong, and where: a fault of the text, a message, or an out-of-memory error.
 ///
-/// Once it has been given the text, it prints the line that it is about, with a mark under the column.
+/// Once it has been given the text, it prints the line that it is about, with a marker under the
+/// column.
 #[derive(Debug, Drop)]
 pub struct Error {
     text: Option<Text>,
@@ -60,7 +61,7 @@ impl Error {
         }
     }
 
-    /// The error of a fault of the text `content`, or want of memory.
+    /// The error of a fault of the text `content`, or an out-of-memory error.
     pub fn lex(alloc: Global, span: Span, content: &str, error: LexError) -> Error
         ensures report { IsUnlessMemory result (lexical content.now (record { offset = span; error = error })) }
         ensures rendered { IfSome result (λ r. printed (Some r) ≡ rendered content.now (message error) span) }
@@ -68,7 +69,7 @@ impl Error {
         Error::in_text(alloc, span, content, Kind::Lex(error))
     }
 
-    /// An error of one's own at a position of the text `content`, or want of memory.
+    /// An error of one's own at a position of the text `content`, or an out-of-memory error.
     pub fn parse(alloc: Global, span: Span, content: &str, message: String) -> Error
         ensures report { IsUnlessMemory result (report_in content.now span (Custom (string_bytes message))) }
         ensures rendered { IfSome result (λ r. printed (Some r) ≡ rendered content.now (string_bytes message) span) }
@@ -76,7 +77,7 @@ impl Error {
         Error::in_text(alloc, span, content, Kind::Message(message))
     }
 
-    /// The error of a kind with its text, or want of memory.
+    /// The error of a kind with its text, or an out-of-memory error.
     fn in_text(alloc: Global, span: Span, content: &str, kind: Kind) -> Error
         ensures { (result ≡ None) ⊎ (result ≡ with_text content.now (report_of span None kind)) }
     {
@@ -91,8 +92,8 @@ impl Error {
         }
     }
 
-    /// Gives the error the text that it is about, unless it has one, or is want of memory. Where that finds no memory the
-    /// error is as it was.
+    /// Gives the error the text that it is about, unless it has one, or is out of memory. Where
+    /// that finds no memory the error is as it was.
     pub fn set_text(&mut self, alloc: Global, contents: &str) -> Result<(), AllocError>
         ensures set { OnOk result (self.new ≡ with_text contents.now self.old) }
         ensures kept { OnErr result (self.new ≡ self.old) }
@@ -123,7 +124,7 @@ impl Error {
         matches!(&self.kind, Kind::Memory)
     }
 
-    /// Where the error is; the text's start for want of memory.
+    /// Where the error is; the text's start for an out-of-memory error.
     pub fn span(&self) -> Span
         ensures { result ≡ offset_of self.now }
     {

@@ -150,10 +150,10 @@ mod tests {
         Ok(())
     }
 
-    // The branches of want of memory are taken where the run refuses a request, as does
+    // The out-of-memory branches are taken where the run refuses a request, as does
     // `--fail-alloc 2`.
     #[test]
-    fn want_of_memory_leaves_slot_and_counter(rt: HostRuntime) -> Result<(), Fail> {
+    fn out_of_memory_leaves_slot_and_counter(rt: HostRuntime) -> Result<(), Fail> {
         let alloc = rt.alloc();
         let span = Span::from_offset(0);
         let name = CowStr::Owned(String::from_str(alloc, "x")?);

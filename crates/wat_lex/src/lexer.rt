@@ -24,10 +24,11 @@ pub use faults::{LexError, LexFault};
 pub use kinds::{FloatKind, IntegerKind, SignToken, Token, TokenKind};
 pub use read::numbers::{Float, Integer};
 pub(crate) use scan::classes::is_confusing;
-use scan::front;
+use scan::first_lexeme;
 pub use settings::Settings;
 
-/// A lexer over a text: it cuts the text into tokens, white space and comments, and accounts for every byte of it.
+/// A lexer over a text: it cuts the text into tokens, whitespace and comments, and accounts for
+/// every byte of it.
 #[derive(Clone, Drop)]
 pub struct Lexer<'a> {
     input: &'a str,
@@ -102,7 +103,7 @@ impl<'a> Lexer<'a> {
         ensures boundary { IfOk result (λ found. IfSome found (λ t. IsCharBoundary self.now.text (pos + t.len))) }
         ensures short { IfOk result (λ found. IfSome found (λ t. t.offset + t.len < 2 ^ 32)) }
     {
-        match front(&self.input[pos..], self.settings) {
+        match first_lexeme(&self.input[pos..], self.settings) {
             Ok(Some(lexeme)) => Ok(Some(Token {
                 kind: lexeme.kind,
                 offset: pos,

@@ -13,7 +13,7 @@ abbrev pub put_first : ℕ → List (List ℕ) → List (List ℕ)
 put_first c [] = (c ∷ []) ∷ []
 put_first c (word ∷ words) = (c ∷ word) ∷ words
 
--- the words of a line, which one blank each parts
+-- the words of a line, which one space each parts
 abbrev pub words_of : List ℕ → List (List ℕ)
 words_of [] = [] ∷ []
 words_of (c ∷ cs) = if c == 32 then [] ∷ words_of cs else put_first c (words_of cs)

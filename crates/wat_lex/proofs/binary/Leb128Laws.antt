@@ -433,9 +433,9 @@ with_bit_7 g below = or_comm g 128 ∙ or_shifted 1 7 g below ∙ add_comm 128 g
 pub moved : (items all next whole : List ℕ) (b : ℕ) → items ++ all ≡ whole → all ≡ b ∷ next → (items ++ b ∷ []) ++ next ≡ whole
 moved items all next whole b start first = rw append_assoc (ap (λ w. items ++ w) (sym first) ∙ start)
 
--- what a buffer held at first is still its front
-pub front-push : (n : ℕ) (items old : List ℕ) (b : ℕ) → n ≤ length old → take n items ≡ old → take n (items ++ b ∷ []) ≡ old
-front-push n items old b within front =
-    let taken = ap length front in
+-- what a buffer held at first is still its prefix
+pub prefix-push : (n : ℕ) (items old : List ℕ) (b : ℕ) → n ≤ length old → take n items ≡ old → take n (items ++ b ∷ []) ≡ old
+prefix-push n items old b within prefix =
+    let taken = ap length prefix in
     let enough : n ≤ length items = omega (arith, taken, length-take n items) in
-    take-append-le n items (b ∷ []) enough ∙ front
+    take-append-le n items (b ∷ []) enough ∙ prefix

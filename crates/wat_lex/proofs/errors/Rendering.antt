@@ -14,11 +14,11 @@ use Rattle.wat_lex.specs.grammar.Classes.{is_confusing}
 use Rattle.wat_lex.specs.errors.Positions.{line_and_column}
 use Rattle.wat_lex.specs.errors.Rendering.{Excerpt, excerpt, shown, shown_line, columns, shown_place, right_in}
 
-pub shown_one : (front : List ℕ) (c : ℕ) (more s t : List ℕ) → s ≡ encode_utf8_all (flat_map shown front) → t ≡ s ++ encode_utf8_all more → more ≡ shown c → t ≡ encode_utf8_all (flat_map shown (front ++ c ∷ []))
-shown_one front c more s t h e k =
+pub shown_one : (prefix : List ℕ) (c : ℕ) (more s t : List ℕ) → s ≡ encode_utf8_all (flat_map shown prefix) → t ≡ s ++ encode_utf8_all more → more ≡ shown c → t ≡ encode_utf8_all (flat_map shown (prefix ++ c ∷ []))
+shown_one prefix c more s t h e k =
     let last : flat_map shown (c ∷ []) ≡ shown c = append-nil (shown c) in
-    e ∙ ap (λ x. x ++ encode_utf8_all more) h ∙ sym (encodes-append (flat_map shown front) more)
-    ∙ ap (λ x. encode_utf8_all (flat_map shown front ++ x)) (k ∙ sym last) ∙ ap encode_utf8_all (sym (flat_map-append shown front (c ∷ [])))
+    e ∙ ap (λ x. x ++ encode_utf8_all more) h ∙ sym (encodes-append (flat_map shown prefix) more)
+    ∙ ap (λ x. encode_utf8_all (flat_map shown prefix ++ x)) (k ∙ sym last) ∙ ap encode_utf8_all (sym (flat_map-append shown prefix (c ∷ [])))
 
 pub shown_tab : (c : ℕ) → c ≡ 9 → codes "    " ≡ shown c
 shown_tab c h = sym (ap shown h)
@@ -51,18 +51,18 @@ styled_line s n e =
     ap (λ x. styled_decimal x n) e ∙ padded_line n ∙ ap (λ x. x ++ (decimal n ++ repeat (missing - missing) (encode_utf8 32))) (spaces missing ∙ ap (λ x. replicate x 32) k)
     ∙ ap (λ x. replicate (4 - len) 32 ++ (decimal n ++ repeat x (encode_utf8 32))) z ∙ ap (λ x. replicate (4 - len) 32 ++ x) (append-nil (decimal n))
 
-mark : (column : ℕ) → styled_text (format_spec 32 3 0 column (2 ^ 64 - 1)) (codes "^") ≡ right_in column (codes "^")
+marker : (column : ℕ) → styled_text (format_spec 32 3 0 column (2 ^ 64 - 1)) (codes "^") ≡ right_in column (codes "^")
 unfolding padded char_count take_chars
-mark zero = refl
-mark (suc n) =
+marker zero = refl
+marker (suc n) =
     let missing = suc n - 1 in
     let z : missing - missing ≡ 0 = omega arith in
     let by : styled_text (format_spec 32 3 0 (suc n) (2 ^ 64 - 1)) (codes "^") ≡ repeat missing (encode_utf8 32) ++ (94 ∷ repeat (missing - missing) (encode_utf8 32)) =
     ap (λ b. if b && (2 ^ 64 - 1 == 2 ^ 64 - 1) then codes "^" else (repeat missing (encode_utf8 32) ++ (94 ∷ repeat (missing - missing) (encode_utf8 32)))) (ne_eqb (suc n) 0 (λ q. absurd (omega (arith, q)))) in
     by ∙ ap (λ x. x ++ (94 ∷ repeat (missing - missing) (encode_utf8 32))) (spaces missing) ∙ ap (λ x. replicate missing 32 ++ (94 ∷ repeat x (encode_utf8 32))) z
 
-pub styled_mark : (s : _) (column : ℕ) → s ≡ format_spec 32 3 0 column (2 ^ 64 - 1) → styled_text s (codes "^") ≡ right_in column (codes "^")
-styled_mark s column e = ap (λ x. styled_text x (codes "^")) e ∙ mark column
+pub styled_marker : (s : _) (column : ℕ) → s ≡ format_spec 32 3 0 column (2 ^ 64 - 1) → styled_text s (codes "^") ≡ right_in column (codes "^")
+styled_marker s column e = ap (λ x. styled_text x (codes "^")) e ∙ marker column
 
 shown_near : (e : Excerpt) → e.column ≤ 500 → shown_place e ≡ codes "\n     --> " ++ (codes "<anon>:" ++ decimal e.line ++ codes ":" ++ decimal e.column) ++ codes "\n      |" ++ codes "\n " ++ right_in 4 (decimal e.line) ++ codes " | " ++ e.snippet ++ codes "\n      | " ++ right_in e.column (codes "^")
 shown_near e l =
@@ -73,13 +73,13 @@ shown_near e l =
 joined : (h d x c r q l p s o m : List ℕ) → (h ++ (d ++ (x ++ (c ++ r)))) ++ ((q ++ (l ++ (p ++ s))) ++ (o ++ m)) ≡ h ++ d ++ x ++ c ++ r ++ q ++ l ++ p ++ s ++ o ++ m
 joined h d x c r q l p s o m = simp append_assoc
 
--- three writes are the place and the line with its mark
-pub shown_in_three : (e : Excerpt) (line mark snippet : List ℕ) → e.column ≤ 500 → line ≡ right_in 4 (decimal e.line) → snippet ≡ e.snippet → mark ≡ right_in e.column (codes "^")
-    → (codes "\n     --> <anon>:" ++ (decimal e.line ++ (codes ":" ++ (decimal e.column ++ codes "\n      |")))) ++ ((codes "\n " ++ (line ++ (codes " | " ++ snippet))) ++ (codes "\n      | " ++ mark)) ≡ shown_place e
-shown_in_three e line mark snippet l a b k =
-    joined (codes "\n     --> <anon>:") (decimal e.line) (codes ":") (decimal e.column) (codes "\n      |") (codes "\n ") line (codes " | ") snippet (codes "\n      | ") mark
-    ∙ ap (λ x. codes "\n     --> <anon>:" ++ decimal e.line ++ codes ":" ++ decimal e.column ++ codes "\n      |" ++ codes "\n " ++ x ++ codes " | " ++ snippet ++ codes "\n      | " ++ mark) a
-    ∙ ap (λ x. codes "\n     --> <anon>:" ++ decimal e.line ++ codes ":" ++ decimal e.column ++ codes "\n      |" ++ codes "\n " ++ right_in 4 (decimal e.line) ++ codes " | " ++ x ++ codes "\n      | " ++ mark) b
+-- three writes are the place and the line with its marker
+pub shown_in_three : (e : Excerpt) (line marker snippet : List ℕ) → e.column ≤ 500 → line ≡ right_in 4 (decimal e.line) → snippet ≡ e.snippet → marker ≡ right_in e.column (codes "^")
+    → (codes "\n     --> <anon>:" ++ (decimal e.line ++ (codes ":" ++ (decimal e.column ++ codes "\n      |")))) ++ ((codes "\n " ++ (line ++ (codes " | " ++ snippet))) ++ (codes "\n      | " ++ marker)) ≡ shown_place e
+shown_in_three e line marker snippet l a b k =
+    joined (codes "\n     --> <anon>:") (decimal e.line) (codes ":") (decimal e.column) (codes "\n      |") (codes "\n ") line (codes " | ") snippet (codes "\n      | ") marker
+    ∙ ap (λ x. codes "\n     --> <anon>:" ++ decimal e.line ++ codes ":" ++ decimal e.column ++ codes "\n      |" ++ codes "\n " ++ x ++ codes " | " ++ snippet ++ codes "\n      | " ++ marker) a
+    ∙ ap (λ x. codes "\n     --> <anon>:" ++ decimal e.line ++ codes ":" ++ decimal e.column ++ codes "\n      |" ++ codes "\n " ++ right_in 4 (decimal e.line) ++ codes " | " ++ x ++ codes "\n      | " ++ marker) b
     ∙ ap (λ x. codes "\n     --> <anon>:" ++ decimal e.line ++ codes ":" ++ decimal e.column ++ codes "\n      |" ++ codes "\n " ++ right_in 4 (decimal e.line) ++ codes " | " ++ e.snippet ++ codes "\n      | " ++ x) k
     ∙ sym (shown_near e l)
 

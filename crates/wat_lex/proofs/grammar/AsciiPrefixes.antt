@@ -1,4 +1,4 @@
--- The front of a text: bytes and characters.
+-- The start of a text: bytes and characters.
 use Rattle.std.proofs.Common.{◌≡◌, ◌<◌, ◌+◌, ℕ, suc, List, [], ◌∷◌, ◌++◌, length, take, drop, get_or, refl, arith, ap, sym, ◌∙◌, subst, length-append, Bool, true, false, cond, one-add, inl, inr}
 use Rattle.std.proofs.lemmas.List.{drop_more}
 use Rattle.std.proofs.lemmas.Bool.{cases_Bool, both_ways}
@@ -34,31 +34,31 @@ not_begun p text u ascii fails h = by u.0 u.1.0 (sym u.1.1)
         let l : 0 < length text = omega (arith, ap length e, length-append (encode c) (encodes cs), length-encode c, len_utf8_ascii c (ascii c t)) in
         both_ways (p c) (sym (ap p b) ∙ fails l) t
 
--- the longest front whose bytes pass a test of ASCII characters
-pub record AsciiFront (p : ℕ → Bool) (text : List ℕ) (n : ℕ) : Type 0 where
+-- the longest prefix whose bytes pass a test of ASCII characters
+pub record AsciiPrefix (p : ℕ → Bool) (text : List ℕ) (n : ℕ) : Type 0 where
   pub cut : chars text ≡ take n text ++ chars (drop n text)
   pub passes : Each p (take n text)
   pub size_is : size (take n text) ≡ n
   pub utf8 : IsUtf8 (drop n text)
   pub stops : Begins p (chars (drop n text)) → ⊥
 
-pub ascii_front : (p : ℕ → Bool) → ((c : ℕ) → p c ≡ true → c < 128) → (text : List ℕ) → IsUtf8 text → AsciiFront p text (prefix_len p text)
-ascii_front p ascii [] u = record { cut = refl; passes = tt; size_is = refl; utf8 = u; stops = λ h. subst (Begins p) chars-nil h }
-ascii_front p ascii (b ∷ bs) u =
+pub ascii_prefix : (p : ℕ → Bool) → ((c : ℕ) → p c ≡ true → c < 128) → (text : List ℕ) → IsUtf8 text → AsciiPrefix p text (prefix_len p text)
+ascii_prefix p ascii [] u = record { cut = refl; passes = tt; size_is = refl; utf8 = u; stops = λ h. subst (Begins p) chars-nil h }
+ascii_prefix p ascii (b ∷ bs) u =
     elim (cases_Bool (p b)) [
       | inl t ↦
           let l = led (b ∷ bs) b u (omega arith) refl (ascii b t) in
-          let r = ascii_front p ascii bs l.utf8 in
+          let r = ascii_prefix p ascii bs l.utf8 in
           let n = prefix_len p bs in
-          let made : AsciiFront p (b ∷ bs) (suc n) = record {
+          let made : AsciiPrefix p (b ∷ bs) (suc n) = record {
             cut = l.chars ∙ ap (λ x. b ∷ x) r.cut;
             passes = (t, r.passes);
             size_is = size-append (b ∷ []) (take n bs) ∙ ap (λ x. x + size (take n bs)) (size_one b ∙ len_utf8_ascii b (ascii b t)) ∙ ap (λ x. 1 + x) r.size_is ∙ one-add n;
             utf8 = r.utf8;
             stops = r.stops;
           } in
-          subst (AsciiFront p (b ∷ bs)) (sym (ap (λ x. cond x (1 + n) 0) t ∙ one-add n)) made
+          subst (AsciiPrefix p (b ∷ bs)) (sym (ap (λ x. cond x (1 + n) 0) t ∙ one-add n)) made
       | inr f ↦
-          let made : AsciiFront p (b ∷ bs) 0 = record { cut = refl; passes = tt; size_is = refl; utf8 = u; stops = not_begun p (b ∷ bs) u ascii (λ l. f) } in
-          subst (AsciiFront p (b ∷ bs)) (sym (ap (λ x. cond x (1 + prefix_len p bs) 0) f)) made
+          let made : AsciiPrefix p (b ∷ bs) 0 = record { cut = refl; passes = tt; size_is = refl; utf8 = u; stops = not_begun p (b ∷ bs) u ascii (λ l. f) } in
+          subst (AsciiPrefix p (b ∷ bs)) (sym (ap (λ x. cond x (1 + prefix_len p bs) 0) f)) made
     ]

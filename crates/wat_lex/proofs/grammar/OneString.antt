@@ -140,9 +140,9 @@ pub each_behind : (p : ℕ → Bool) (xs : List ℕ) (x : ℕ) (ys : List ℕ) �
 each_behind p [] x ys h = h.1
 each_behind p (z ∷ xs) x ys h = each_behind p xs x ys h.1
 
-pub each_front : (xs ys : List ℕ) → Each is_hex_or_underscore (xs ++ ys) → Each is_hex_or_underscore xs
-each_front [] ys h = tt
-each_front (x ∷ xs) ys h = (h.0, each_front xs ys h.1)
+pub each_prefix : (xs ys : List ℕ) → Each is_hex_or_underscore (xs ++ ys) → Each is_hex_or_underscore xs
+each_prefix [] ys h = tt
+each_prefix (x ∷ xs) ys h = (h.0, each_prefix xs ys h.1)
 
 each_behind_first : (ds r : List ℕ) → Each is_hex_or_underscore (ds ++ 125 ∷ r) → is_hex_or_underscore 125 ≡ true
 each_behind_first [] r h = h.0
@@ -163,7 +163,7 @@ number_clash flags d ds s r at e q h n k (lone {t = t} es eq row stop) =
     let m = begins_stop p.more (125 ∷ r) t (each_behind is_hex_or_underscore es 95 p.more (subst (Each is_hex_or_underscore) p.is h.others)) p.behind stop in
     n (es, p.is ∙ ap (λ a. es ++ 95 ∷ a) m)
 number_clash flags d ds s r at e q h n k (no_scalar {e = x} {t = t} es eq row hx stop bad) =
-    let p = row_prefix ds es x t r h.others (each_front es (x ∷ []) row.others) (ap (λ b. b || x == 95) hx) (sym q ∙ eq) in
+    let p = row_prefix ds es x t r h.others (each_prefix es (x ∷ []) row.others) (ap (λ b. b || x == 95) hx) (sym q ∙ eq) in
     let m = begins_stop p.more (125 ∷ r) t (each_behind is_hex_or_underscore es x p.more (subst (Each is_hex_or_underscore) p.is h.others)) p.behind stop in
     bad (subst (λ a. IsScalar (hex_value (d ∷ a))) (p.is ∙ ap (λ a. es ++ x ∷ a) m) k)
 number_clash flags d ds s r at e q h n k (no_brace {c = c} {t = t} es eq row m sc out ne) =

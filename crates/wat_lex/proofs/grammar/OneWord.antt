@@ -1,12 +1,12 @@
--- At the front of a text stands one word.
+-- At the start of a text stands one word.
 use Rattle.std.proofs.Common.{◌≡◌, ◌≢◌, ◌⊎◌, ℕ, List, [], ◌∷◌, ◌++◌, refl, ap, sym, ◌∙◌, subst, Bool, true, false, cond, not, ◌||◌, inl, inr}
 use Rattle.std.specs.Prelude.{◌==◌, codes}
 use Rattle.std.proofs.lemmas.List.{append-nil, append_cancel_right}
 use Rattle.std.proofs.lemmas.Bool.{both_ways, or_cases, eqb-true, false≢true}
-use Rattle.wat_lex.specs.grammar.Classes.{Each, Begins, is_blank, is_idchar, is_run_char, is_mark, is_line_end, open_paren, close_paren, semicolon, quote}
+use Rattle.wat_lex.specs.grammar.Classes.{Each, Begins, is_whitespace, is_idchar, is_run_char, is_punctuation, is_line_end, open_paren, close_paren, semicolon, quote}
 use Rattle.wat_lex.specs.grammar.Comments.{Closes, BlockComment as Commented, opened, LineComment as CommentedLine, begun}
 use Rattle.wat_lex.specs.grammar.Runs.{Piece, Run, none, idchar, string, RunKind, RunWord}
-use Rattle.wat_lex.specs.grammar.Words.{Mark, EndsRun, Word, MayFollow, WordStands}
+use Rattle.wat_lex.specs.grammar.Words.{Punctuation, EndsRun, Word, MayFollow, WordStands}
 use Rattle.wat_lex.specs.declared.lexer.settings.Settings.{Settings}
 use Rattle.wat_lex.specs.declared.lexer.kinds.TokenKind.{TokenKind}
 use Rattle.wat_lex.specs.declared.lexer.kinds.TokenKind.TheVariants.{LineComment, BlockComment, Whitespace, LParen, RParen, String, Id, Keyword, Annotation, Reserved, Integer, Float}
@@ -17,12 +17,12 @@ use Rattle.wat_lex.proofs.grammar.OneKind.{run_kind_one}
 use Rattle.wat_lex.proofs.grammar.OneRun.{idchar_runs, run_unique}
 use Rattle.wat_lex.proofs.tokens.OneStringFault.{set_apart}
 
--- what can stand at the front, by its first two characters
+-- what can stand at the start, by its first two characters
 pub data Class : Type 0 where
   Nothing : Class
-  Blanks : Class
+  Spaces : Class
   Joined : Class
-  Marked : Class
+  Punctuated : Class
   Block : Class
   Opens : Class
   Shuts : Class
@@ -35,37 +35,37 @@ before_semicolon [] x y = y
 before_semicolon (d ∷ t) x y = cond (d == semicolon) x y
 
 abbrev pub pick : Bool → Bool → Bool → Bool → Bool → Bool → List ℕ → Class
-pick blank run mark opens shuts single t = cond blank Blanks (cond run Joined (cond mark Marked (cond opens (before_semicolon t Block Opens) (cond shuts Shuts (cond single (before_semicolon t Line Single) Other)))))
+pick whitespace run punctuation opens shuts single t = cond whitespace Spaces (cond run Joined (cond punctuation Punctuated (cond opens (before_semicolon t Block Opens) (cond shuts Shuts (cond single (before_semicolon t Line Single) Other)))))
 
 abbrev pub class_of : List ℕ → Class
 class_of [] = Nothing
-class_of (c ∷ t) = pick (is_blank c) (is_run_char c) (is_mark c) (c == open_paren) (c == close_paren) (c == semicolon) t
+class_of (c ∷ t) = pick (is_whitespace c) (is_run_char c) (is_punctuation c) (c == open_paren) (c == close_paren) (c == semicolon) t
 
 fails : (b : Bool) → (b ≡ true → ⊥) → b ≡ false
 fails true h = absurd (h refl)
 fails false h = refl
 
-blank_no_run : (c : ℕ) → is_blank c ≡ true → is_run_char c ≡ true → ⊥
-blank_no_run c = set_apart is_run_char (32 ∷ 10 ∷ 13 ∷ 9 ∷ []) c (refl, (refl, (refl, (refl, tt))))
+whitespace_no_run : (c : ℕ) → is_whitespace c ≡ true → is_run_char c ≡ true → ⊥
+whitespace_no_run c = set_apart is_run_char (32 ∷ 10 ∷ 13 ∷ 9 ∷ []) c (refl, (refl, (refl, (refl, tt))))
 
-mark_no_blank : (c : ℕ) → is_mark c ≡ true → is_blank c ≡ true → ⊥
-mark_no_blank c = set_apart is_blank (codes ",[]{}") c (refl, (refl, (refl, (refl, (refl, tt)))))
+punctuation_no_whitespace : (c : ℕ) → is_punctuation c ≡ true → is_whitespace c ≡ true → ⊥
+punctuation_no_whitespace c = set_apart is_whitespace (codes ",[]{}") c (refl, (refl, (refl, (refl, (refl, tt)))))
 
-mark_no_run : (c : ℕ) → is_mark c ≡ true → is_run_char c ≡ true → ⊥
-mark_no_run c = set_apart is_run_char (codes ",[]{}") c (refl, (refl, (refl, (refl, (refl, tt)))))
+punctuation_no_run : (c : ℕ) → is_punctuation c ≡ true → is_run_char c ≡ true → ⊥
+punctuation_no_run c = set_apart is_run_char (codes ",[]{}") c (refl, (refl, (refl, (refl, (refl, tt)))))
 
-class_blank : (c : ℕ) (t : List ℕ) → is_blank c ≡ true → class_of (c ∷ t) ≡ Blanks
-class_blank c t h = ap (λ b. pick b (is_run_char c) (is_mark c) (c == open_paren) (c == close_paren) (c == semicolon) t) h
+class_whitespace : (c : ℕ) (t : List ℕ) → is_whitespace c ≡ true → class_of (c ∷ t) ≡ Spaces
+class_whitespace c t h = ap (λ b. pick b (is_run_char c) (is_punctuation c) (c == open_paren) (c == close_paren) (c == semicolon) t) h
 
 class_run : (c : ℕ) (t : List ℕ) → is_run_char c ≡ true → class_of (c ∷ t) ≡ Joined
 class_run c t h =
-    ap (λ b. pick b (is_run_char c) (is_mark c) (c == open_paren) (c == close_paren) (c == semicolon) t) (fails (is_blank c) (λ k. blank_no_run c k h))
-    ∙ ap (λ b. pick false b (is_mark c) (c == open_paren) (c == close_paren) (c == semicolon) t) h
+    ap (λ b. pick b (is_run_char c) (is_punctuation c) (c == open_paren) (c == close_paren) (c == semicolon) t) (fails (is_whitespace c) (λ k. whitespace_no_run c k h))
+    ∙ ap (λ b. pick false b (is_punctuation c) (c == open_paren) (c == close_paren) (c == semicolon) t) h
 
-class_mark : (c : ℕ) (t : List ℕ) → is_mark c ≡ true → class_of (c ∷ t) ≡ Marked
-class_mark c t h =
-    ap (λ b. pick b (is_run_char c) (is_mark c) (c == open_paren) (c == close_paren) (c == semicolon) t) (fails (is_blank c) (mark_no_blank c h))
-    ∙ ap (λ b. pick false b (is_mark c) (c == open_paren) (c == close_paren) (c == semicolon) t) (fails (is_run_char c) (mark_no_run c h))
+class_punctuation : (c : ℕ) (t : List ℕ) → is_punctuation c ≡ true → class_of (c ∷ t) ≡ Punctuated
+class_punctuation c t h =
+    ap (λ b. pick b (is_run_char c) (is_punctuation c) (c == open_paren) (c == close_paren) (c == semicolon) t) (fails (is_whitespace c) (punctuation_no_whitespace c h))
+    ∙ ap (λ b. pick false b (is_punctuation c) (c == open_paren) (c == close_paren) (c == semicolon) t) (fails (is_run_char c) (punctuation_no_run c h))
     ∙ ap (λ b. pick false false b (c == open_paren) (c == close_paren) (c == semicolon) t) h
 
 -- no semicolon follows
@@ -79,9 +79,9 @@ One kind k w = (k ≡ kind) × (c : ℕ) × (w ≡ c ∷ [])
 
 pub record IsLine (k : TokenKind) (w r : List ℕ) : Type 0 where
   kind : k ≡ LineComment
-  front : List ℕ
-  cut : w ≡ semicolon ∷ semicolon ∷ front
-  inside : Each (λ c. not (is_line_end c)) front
+  prefix : List ℕ
+  cut : w ≡ semicolon ∷ semicolon ∷ prefix
+  inside : Each (λ c. not (is_line_end c)) prefix
   stops : Begins (λ c. not (is_line_end c)) r → ⊥
 
 pub record IsRun (flags : Settings) (k : TokenKind) (w r : List ℕ) : Type 0 where
@@ -93,9 +93,9 @@ pub record IsRun (flags : Settings) (k : TokenKind) (w r : List ℕ) : Type 0 wh
 -- the word w of the kind k before r, by its class
 unfoldable pub Form : Class → Settings → TokenKind → List ℕ → List ℕ → Type 0
 Form Nothing flags k w r = ⊥
-Form Blanks flags k w r = (k ≡ Whitespace) × Each is_blank w × (Begins is_blank r → ⊥)
+Form Spaces flags k w r = (k ≡ Whitespace) × Each is_whitespace w × (Begins is_whitespace r → ⊥)
 Form Joined flags k w r = IsRun flags k w r
-Form Marked flags k w r = One Reserved k w
+Form Punctuated flags k w r = One Reserved k w
 Form Block flags k w r = (k ≡ BlockComment) × Commented (w ++ r) r
 Form Opens flags k w r = One LParen k w
 Form Shuts flags k w r = One RParen k w
@@ -118,9 +118,9 @@ line_unique : (k l : TokenKind) (w x r s : List ℕ) → IsLine k w r → IsLine
 line_unique k l w x r s h g e =
     let a = h.cut in
     let b = g.cut in
-    let c : semicolon ∷ semicolon ∷ (h.front ++ r) ≡ semicolon ∷ semicolon ∷ (g.front ++ s) = ap (λ y. y ++ r) (sym a) ∙ e ∙ ap (λ y. y ++ s) b in
-    let d : h.front ++ r ≡ g.front ++ s = cc in
-    let u = span_unique (λ c. not (is_line_end c)) h.front g.front r s h.inside g.inside h.stops g.stops d in
+    let c : semicolon ∷ semicolon ∷ (h.prefix ++ r) ≡ semicolon ∷ semicolon ∷ (g.prefix ++ s) = ap (λ y. y ++ r) (sym a) ∙ e ∙ ap (λ y. y ++ s) b in
+    let d : h.prefix ++ r ≡ g.prefix ++ s = cc in
+    let u = span_unique (λ c. not (is_line_end c)) h.prefix g.prefix r s h.inside g.inside h.stops g.stops d in
     (h.kind ∙ sym g.kind, a ∙ ap (λ y. semicolon ∷ semicolon ∷ y) u.0 ∙ sym b)
 
 comment_unique : (s r q : List ℕ) → Commented s r → Commented s q → r ≡ q
@@ -137,9 +137,9 @@ run_form_unique flags k l w x r s h g e =
 form_unique : (c : Class) (flags : Settings) (k l : TokenKind) (w x r s : List ℕ) → Form c flags k w r → Form c flags l x s → w ++ r ≡ x ++ s → (k ≡ l) × (w ≡ x)
 unfolding Form
 form_unique Nothing flags k l w x r s h g e = absurd h
-form_unique Blanks flags k l w x r s h g e = (h.0 ∙ sym g.0, (span_unique is_blank w x r s h.1 g.1 h.2 g.2 e).0)
+form_unique Spaces flags k l w x r s h g e = (h.0 ∙ sym g.0, (span_unique is_whitespace w x r s h.1 g.1 h.2 g.2 e).0)
 form_unique Joined flags k l w x r s h g e = run_form_unique flags k l w x r s h g e
-form_unique Marked flags k l w x r s h g e = one_unique Reserved k l w x r s h g e
+form_unique Punctuated flags k l w x r s h g e = one_unique Reserved k l w x r s h g e
 form_unique Block flags k l w x r s h g e = (h.0 ∙ sym g.0, same_rest w x r s e (comment_unique (w ++ r) r s h.1 (subst (λ y. Commented y s) (sym e) g.1)))
 form_unique Opens flags k l w x r s h g e = one_unique LParen k l w x r s h g e
 form_unique Shuts flags k l w x r s h g e = one_unique RParen k l w x r s h g e
@@ -147,7 +147,7 @@ form_unique Line flags k l w x r s h g e = line_unique k l w x r s h g e
 form_unique Single flags k l w x r s h g e = one_unique Reserved k l w x r s h g e
 form_unique Other flags k l w x r s h g e = absurd h
 
--- a word that may stand in front of the rest has the form of its class
+-- a word that may stand before the rest has the form of its class
 HasForm : Settings → TokenKind → List ℕ → List ℕ → Type 0
 HasForm flags k w r = Form (class_of (w ++ r)) flags k w r
 
@@ -155,14 +155,14 @@ in_class : (c : Class) (flags : Settings) (k : TokenKind) (w r : List ℕ) → c
 unfolding HasForm
 in_class c flags k w r e h = subst (λ y. Form y flags k w r) (sym e) h
 
-blanks_form : (flags : Settings) (w r : List ℕ) → w ≢ [] → Each is_blank w → (Begins is_blank r → ⊥) → HasForm flags Whitespace w r
+whitespace_form : (flags : Settings) (w r : List ℕ) → w ≢ [] → Each is_whitespace w → (Begins is_whitespace r → ⊥) → HasForm flags Whitespace w r
 unfolding Form
-blanks_form flags [] r n h e = absurd (n refl)
-blanks_form flags (c ∷ w) r n h e = in_class Blanks flags Whitespace (c ∷ w) r (class_blank c (w ++ r) h.0) (refl, h, e)
+whitespace_form flags [] r n h e = absurd (n refl)
+whitespace_form flags (c ∷ w) r n h e = in_class Spaces flags Whitespace (c ∷ w) r (class_whitespace c (w ++ r) h.0) (refl, h, e)
 
 line_form : (flags : Settings) (w r : List ℕ) → CommentedLine w → MayFollow LineComment w r → HasForm flags LineComment w r
 unfolding Form
-line_form flags w r (begun {t = t} h) e = in_class Line flags LineComment (semicolon ∷ semicolon ∷ t) r refl (record { kind = refl; front = t; cut = refl; inside = h; stops = stops r e })
+line_form flags w r (begun {t = t} h) e = in_class Line flags LineComment (semicolon ∷ semicolon ∷ t) r refl (record { kind = refl; prefix = t; cut = refl; inside = h; stops = stops r e })
   where
     stops : (r : List ℕ) → (r ≡ []) ⊎ Begins is_line_end r → Begins (λ c. not (is_line_end c)) r → ⊥
     stops [] e b = b
@@ -173,7 +173,7 @@ block_form : (flags : Settings) (w r : List ℕ) → Commented w [] → HasForm 
 unfolding Form
 block_form flags w r (opened {t = t} h) =
     let k = closes_cut t [] h in
-    let e : k.front ≡ t = sym (append-nil k.front) ∙ sym k.cut in
+    let e : k.prefix ≡ t = sym (append-nil k.prefix) ∙ sym k.cut in
     in_class Block flags BlockComment (open_paren ∷ semicolon ∷ t) r refl (refl, opened (subst (λ y. Closes (y ++ r) r) e (k.closes r)))
 
 open_form : (flags : Settings) (w r : List ℕ) → w ≡ open_paren ∷ [] → (Begins (λ c. c == semicolon) r → ⊥) → HasForm flags LParen w r
@@ -184,12 +184,12 @@ shut_form : (flags : Settings) (w r : List ℕ) → w ≡ close_paren ∷ [] →
 unfolding Form One
 shut_form flags w r e = in_class Shuts flags RParen w r (ap (λ y. class_of (y ++ r)) e) (refl, close_paren, e)
 
-mark_form : (flags : Settings) (w r : List ℕ) → Mark w → MayFollow Reserved w r → HasForm flags Reserved w r
+punctuation_form : (flags : Settings) (w r : List ℕ) → Punctuation w → MayFollow Reserved w r → HasForm flags Reserved w r
 unfolding Form One
-mark_form flags w r m f =
+punctuation_form flags w r m f =
     let c = m.0 in
-    elim (or_cases (is_mark c) (c == semicolon) m.2) [
-      | inl t ↦ in_class Marked flags Reserved w r (ap (λ y. class_of (y ++ r)) m.1 ∙ class_mark c r t) (refl, c, m.1)
+    elim (or_cases (is_punctuation c) (c == semicolon) m.2) [
+      | inl t ↦ in_class Punctuated flags Reserved w r (ap (λ y. class_of (y ++ r)) m.1 ∙ class_punctuation c r t) (refl, c, m.1)
       | inr t ↦
           let e : w ≡ semicolon ∷ [] = m.1 ∙ ap (λ y. y ∷ []) (eqb-true c semicolon t) in
           in_class Single flags Reserved w r (ap (λ y. class_of (y ++ r)) e ∙ class_second r Line Single (f.0 e)) (refl, semicolon, e)
@@ -209,33 +209,33 @@ run_form : (flags : Settings) (k : TokenKind) (w r : List ℕ) → RunWord k w f
 unfolding Form
 run_form flags k w r h e =
     let t = run_taken flags w h.0 [] h.2 in
-    let f : t.front ≡ w = sym (append-nil t.front) ∙ sym t.cut in
+    let f : t.prefix ≡ w = sym (append-nil t.prefix) ∙ sym t.cut in
     let run : Run flags (w ++ r) h.0 r = subst (λ y. Run flags (y ++ r) h.0 r) f (t.again r) in
     in_class Joined flags k w r (run_class flags (w ++ r) r h.0 h.1 run) (record { pieces = h.0; run = run; kind = h.3; ends = e })
 
--- a run is no mark
-run_no_mark : (flags : Settings) (w : List ℕ) (ps : List Piece) → ps ≢ [] → Run flags w ps [] → Mark w → ⊥
-run_no_mark flags w ps n none m = n refl
-run_no_mark flags w ps n (idchar {c = c} h k) m =
+-- a run is no punctuation
+run_no_punctuation : (flags : Settings) (w : List ℕ) (ps : List Piece) → ps ≢ [] → Run flags w ps [] → Punctuation w → ⊥
+run_no_punctuation flags w ps n none m = n refl
+run_no_punctuation flags w ps n (idchar {c = c} h k) m =
     let e = m.1 in
     let d : c ≡ m.0 = cc in
-    elim (or_cases (is_mark m.0) (m.0 == semicolon) m.2) [
-      | inl t ↦ mark_no_run c (ap is_mark d ∙ t) (idchar_runs c h)
+    elim (or_cases (is_punctuation m.0) (m.0 == semicolon) m.2) [
+      | inl t ↦ punctuation_no_run c (ap is_punctuation d ∙ t) (idchar_runs c h)
       | inr t ↦ both_ways (is_idchar c) (ap is_idchar (d ∙ eqb-true m.0 semicolon t)) h
     ]
-run_no_mark flags w ps n (string h k) m =
+run_no_punctuation flags w ps n (string h k) m =
     let e = m.1 in
     let d : m.0 ≡ quote = cc in
-    false≢true (sym (ap (λ c. is_mark c || c == semicolon) d) ∙ m.2)
+    false≢true (sym (ap (λ c. is_punctuation c || c == semicolon) d) ∙ m.2)
 
 word_form : (flags : Settings) (k : TokenKind) (w r : List ℕ) → Word k w flags → MayFollow k w r → HasForm flags k w r
-word_form flags Whitespace w r h e = blanks_form flags w r h.0 h.1 e
+word_form flags Whitespace w r h e = whitespace_form flags w r h.0 h.1 e
 word_form flags LineComment w r h e = line_form flags w r h.0 e
 word_form flags BlockComment w r h e = block_form flags w r h.0
 word_form flags LParen w r h e = open_form flags w r h e
 word_form flags RParen w r h e = shut_form flags w r h
-word_form flags Reserved w r (inl m) e = mark_form flags w r m e
-word_form flags Reserved w r (inr h) e = run_form flags Reserved w r h (e.1 (run_no_mark flags w h.0 h.1 h.2))
+word_form flags Reserved w r (inl m) e = punctuation_form flags w r m e
+word_form flags Reserved w r (inr h) e = run_form flags Reserved w r h (e.1 (run_no_punctuation flags w h.0 h.1 h.2))
 word_form flags String w r h e = run_form flags String w r h e
 word_form flags Id w r h e = run_form flags Id w r h e
 word_form flags Keyword w r h e = run_form flags Keyword w r h e

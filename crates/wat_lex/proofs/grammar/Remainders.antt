@@ -18,43 +18,43 @@ use Rattle.wat_lex.specs.declared.lexer.settings.Settings.{Settings}
 
 -- what a reading took, which it takes before any rest
 pub record Taken (reads : List ℕ → List ℕ → Type 0) (s r : List ℕ) : Type 0 where
-  pub front : List ℕ
-  pub cut : s ≡ front ++ r
-  pub again : (q : List ℕ) → reads (front ++ q) q
+  pub prefix : List ℕ
+  pub cut : s ≡ prefix ++ r
+  pub again : (q : List ℕ) → reads (prefix ++ q) q
 
 pub element_taken : (flags : Settings) (s v r : List ℕ) → Element flags s v r → Taken (λ x y. Element flags x v y) s r
-element_taken flags s v r (raw {c = c} h) = record { front = c ∷ []; cut = refl; again = λ q. raw h }
-element_taken flags s v r (letter {c = c} h) = record { front = 92 ∷ c ∷ []; cut = refl; again = λ q. letter h }
-element_taken flags s v r (byte {c = c} {d = d} h k) = record { front = 92 ∷ c ∷ d ∷ []; cut = refl; again = λ q. byte h k }
+element_taken flags s v r (raw {c = c} h) = record { prefix = c ∷ []; cut = refl; again = λ q. raw h }
+element_taken flags s v r (letter {c = c} h) = record { prefix = 92 ∷ c ∷ []; cut = refl; again = λ q. letter h }
+element_taken flags s v r (byte {c = c} {d = d} h k) = record { prefix = 92 ∷ c ∷ d ∷ []; cut = refl; again = λ q. byte h k }
 element_taken flags s v r (unicode {d = d} ds e h n k) = record {
-  front = 92 ∷ 117 ∷ 123 ∷ d ∷ (ds ++ 125 ∷ []);
+  prefix = 92 ∷ 117 ∷ 123 ∷ d ∷ (ds ++ 125 ∷ []);
   cut = ap (λ x. 92 ∷ 117 ∷ 123 ∷ d ∷ x) (e ∙ sym (append_assoc ds (125 ∷ []) r));
   again = λ q. unicode ds (append_assoc ds (125 ∷ []) q) h n k;
 }
 
 pub quoted_taken : (flags : Settings) (s v r : List ℕ) → Quoted flags s v r → Taken (λ x y. Quoted flags x v y) s r
-quoted_taken flags s v r ends = record { front = 34 ∷ []; cut = refl; again = λ q. ends }
+quoted_taken flags s v r ends = record { prefix = 34 ∷ []; cut = refl; again = λ q. ends }
 quoted_taken flags s v r (more {t = t} {u = u} {v = w} h g) =
     let a = element_taken flags s u t h in
     let b = quoted_taken flags t w r g in
     record {
-      front = a.front ++ b.front;
-      cut = a.cut ∙ ap (λ x. a.front ++ x) b.cut ∙ sym (append_assoc a.front b.front r);
-      again = λ q. subst (λ x. Quoted flags x (u ++ w) q) (sym (append_assoc a.front b.front q)) (more (a.again (b.front ++ q)) (b.again q));
+      prefix = a.prefix ++ b.prefix;
+      cut = a.cut ∙ ap (λ x. a.prefix ++ x) b.cut ∙ sym (append_assoc a.prefix b.prefix r);
+      again = λ q. subst (λ x. Quoted flags x (u ++ w) q) (sym (append_assoc a.prefix b.prefix q)) (more (a.again (b.prefix ++ q)) (b.again q));
     }
 
 pub run_taken : (flags : Settings) (s : List ℕ) (ps : List Piece) (r : List ℕ) → Run flags s ps r → Taken (λ x y. Run flags x ps y) s r
-run_taken flags s ps r none = record { front = []; cut = refl; again = λ q. none }
+run_taken flags s ps r none = record { prefix = []; cut = refl; again = λ q. none }
 run_taken flags s ps r (idchar {c = c} {t = t} {ps = qs} h g) =
     let a = run_taken flags t qs r g in
-    record { front = c ∷ a.front; cut = ap (λ x. c ∷ x) a.cut; again = λ q. idchar h (a.again q) }
+    record { prefix = c ∷ a.prefix; cut = ap (λ x. c ∷ x) a.cut; again = λ q. idchar h (a.again q) }
 run_taken flags s ps r (string {t = t} {v = v} {m = m} {ps = qs} h g) =
     let a = quoted_taken flags t v m h in
     let b = run_taken flags m qs r g in
     record {
-      front = 34 ∷ (a.front ++ b.front);
-      cut = ap (λ x. 34 ∷ x) (a.cut ∙ ap (λ x. a.front ++ x) b.cut ∙ sym (append_assoc a.front b.front r));
-      again = λ q. subst (λ x. Run flags (34 ∷ x) ps q) (sym (append_assoc a.front b.front q)) (string (a.again (b.front ++ q)) (b.again q));
+      prefix = 34 ∷ (a.prefix ++ b.prefix);
+      cut = ap (λ x. 34 ∷ x) (a.cut ∙ ap (λ x. a.prefix ++ x) b.cut ∙ sym (append_assoc a.prefix b.prefix r));
+      again = λ q. subst (λ x. Run flags (34 ∷ x) ps q) (sym (append_assoc a.prefix b.prefix q)) (string (a.again (b.prefix ++ q)) (b.again q));
     }
 
 -- r is what is left of s
@@ -70,7 +70,7 @@ number_ends flags d s e at (no_scalar ds k h i n m) = (ds, k)
 number_ends flags d s e at (no_brace ds k h n i m l) = (ds, k)
 number_ends flags d s e at (no_more h n i) = (s, sym (append-nil s))
 
--- with more in front
+-- with more before it
 ends_more : (w s r : List ℕ) → Ends s r → Ends (w ++ s) r
 unfolding Ends
 ends_more w s r h = (w ++ h.0, ap (λ x. w ++ x) h.1 ∙ sym (append_assoc w h.0 r))
@@ -80,7 +80,7 @@ unfolding Ends
 string_ends flags s e at (later {t = t} {u = u} h g) =
     let a = element_taken flags s u t h in
     let b = string_ends flags t e at g in
-    (a.front ++ b.0, a.cut ∙ ap (λ x. a.front ++ x) b.1 ∙ sym (append_assoc a.front b.0 at))
+    (a.prefix ++ b.0, a.cut ∙ ap (λ x. a.prefix ++ x) b.1 ∙ sym (append_assoc a.prefix b.0 at))
 string_ends flags s e at no_quote = ([], refl)
 string_ends flags s e at (control h) = ([], refl)
 string_ends flags s e at (confusing a h) = ([], refl)
@@ -98,17 +98,17 @@ pub string_fault_fits : (flags : Settings) (s : List ℕ) (e : LexError) (at : L
 unfolding Ends
 string_fault_fits flags s e at h = let b = string_ends flags s e at h in omega (arith, ap size b.1, size-append b.0 at)
 
--- the bytes that are left of a text behind a front of its characters
-left_of : (text rest front : List ℕ) → IsUtf8 text → IsUtf8 rest → chars text ≡ front ++ chars rest → (length rest ≤ length text) × (drop (length text - length rest) text ≡ rest)
-left_of text rest front u v e =
-    let bytes : text ≡ encodes front ++ rest = sym (encodes-chars text u) ∙ ap encodes e ∙ encodes-append front (chars rest) ∙ ap (λ x. encodes front ++ x) (encodes-chars rest v) in
-    let sum : length text ≡ length (encodes front) + length rest = ap length bytes ∙ length-append (encodes front) rest in
-    (omega (arith, sum), ap (λ x. drop (length text - length rest) x) bytes ∙ drop_at (encodes front) rest (length text - length rest) (omega (arith, sum)))
+-- the bytes that are left of a text behind a prefix of its characters
+left_of : (text rest prefix : List ℕ) → IsUtf8 text → IsUtf8 rest → chars text ≡ prefix ++ chars rest → (length rest ≤ length text) × (drop (length text - length rest) text ≡ rest)
+left_of text rest prefix u v e =
+    let bytes : text ≡ encodes prefix ++ rest = sym (encodes-chars text u) ∙ ap encodes e ∙ encodes-append prefix (chars rest) ∙ ap (λ x. encodes prefix ++ x) (encodes-chars rest v) in
+    let sum : length text ≡ length (encodes prefix) + length rest = ap length bytes ∙ length-append (encodes prefix) rest in
+    (omega (arith, sum), ap (λ x. drop (length text - length rest) x) bytes ∙ drop_at (encodes prefix) rest (length text - length rest) (omega (arith, sum)))
 
 pub string_taken : (flags : Settings) (text rest : List ℕ) → IsUtf8 text → Closed flags text rest → StringTaken flags text (length text - length rest)
 string_taken flags text rest u h =
     let t = quoted_taken flags (chars text) h.value (chars rest) h.quoted in
-    let l = left_of text rest t.front u h.utf8 t.cut in
+    let l = left_of text rest t.prefix u h.utf8 t.cut in
     record {
       value = h.value;
       quoted = subst (λ x. Quoted flags (chars text) h.value (chars x)) (sym l.1) h.quoted;

@@ -194,7 +194,7 @@ pub found_run : (flags : Settings) (text : List ℕ) (found : Pieces) (kind : To
     → RunFound flags text found → IsKindOfRun (take found.len text) found.idchars found.strings kind → LexemeFound flags text (record { kind = kind; len = found.len })
 found_run flags text found kind u l b f k =
     let t = run_taken flags (chars text) f.pieces f.rest f.run in
-    let w = t.front in
+    let w = t.prefix in
     let r : Run flags w f.pieces [] = subst (λ x. Run flags x f.pieces []) (append-nil w) (t.again []) in
     let m : found.len ≡ size w = omega (arith, ap length (encodes-chars text u), ap size t.cut, size-append w f.rest, f.place) in
     let p = halves text w f.rest u t.cut in

@@ -12,7 +12,7 @@ use Rattle.wat_lex.specs.declared.lexer.faults.LexError.{LexError}
 use Rattle.wat_lex.specs.declared.lexer.settings.Settings.{Settings}
 use Rattle.wat_lex.proofs.inside.StringSteps.{raw_char}
 use Rattle.wat_lex.proofs.inside.HexRows.{Each_push, parted_none, parted_push, hex_skip, hex_one, hex_small}
-use Rattle.wat_lex.proofs.tokens.OneNumberFault.{row_front}
+use Rattle.wat_lex.proofs.tokens.OneNumberFault.{row_prefix}
 use Rattle.wat_lex.proofs.tokens.OneStringFault.{element_shorter}
 
 data SomeElement (flags : Settings) (s : List ℕ) : Type 0 where
@@ -22,8 +22,8 @@ data SomeElement (flags : Settings) (s : List ℕ) : Type 0 where
 -- what a row of digits and underscores ends in
 data LastOf (ds : List ℕ) : Type 0 where
   nothing : ds ≡ [] → LastOf ds
-  digit : (front : List ℕ) (e : ℕ) → IsTrue (is_hex e) → ds ≡ front ++ e ∷ [] → LastOf ds
-  under : (front : List ℕ) → ds ≡ front ++ underscore ∷ [] → LastOf ds
+  digit : (prefix : List ℕ) (e : ℕ) → IsTrue (is_hex e) → ds ≡ prefix ++ e ∷ [] → LastOf ds
+  under : (prefix : List ℕ) → ds ≡ prefix ++ underscore ∷ [] → LastOf ds
 
 last_more : (d : ℕ) (ds : List ℕ) → IsTrue (is_hex_or_underscore d) → LastOf ds → LastOf (d ∷ ds)
 last_more d ds h (nothing e) =
@@ -31,22 +31,22 @@ last_more d ds h (nothing e) =
       | inl t ↦ digit [] d t (ap (λ x. d ∷ x) e)
       | inr t ↦ let k = eqb-true d underscore t in let q : d ∷ ds ≡ [] ++ underscore ∷ [] = cc in under [] q
     ]
-last_more d ds h (digit front e t k) = digit (d ∷ front) e t (ap (λ x. d ∷ x) k)
-last_more d ds h (under front k) = under (d ∷ front) (ap (λ x. d ∷ x) k)
+last_more d ds h (digit prefix e t k) = digit (d ∷ prefix) e t (ap (λ x. d ∷ x) k)
+last_more d ds h (under prefix k) = under (d ∷ prefix) (ap (λ x. d ∷ x) k)
 
 last_of_row : (ds : List ℕ) → Each is_hex_or_underscore ds → LastOf ds
 last_of_row [] h = nothing refl
 last_of_row (d ∷ ds) h = last_more d ds h.0 (last_of_row ds h.1)
 
-not_under : (ds front : List ℕ) (e : ℕ) → IsTrue (is_hex e) → ds ≡ front ++ e ∷ [] → EndsInUnderscore ds → ⊥
-not_under ds front e t k h = both_ways (is_hex e) (ap is_hex (same_from_push front h.0 e underscore (sym k ∙ h.1)).1) t
+not_under : (ds prefix : List ℕ) (e : ℕ) → IsTrue (is_hex e) → ds ≡ prefix ++ e ∷ [] → EndsInUnderscore ds → ⊥
+not_under ds prefix e t k h = both_ways (is_hex e) (ap is_hex (same_from_push prefix h.0 e underscore (sym k ∙ h.1)).1) t
 
 none_under : (ds : List ℕ) → ds ≡ [] → EndsInUnderscore ds → ⊥
 none_under ds e h = by h.0 (sym e ∙ h.1)
   where
-    by : (front : List ℕ) → [] ≡ front ++ underscore ∷ [] → ⊥
+    by : (prefix : List ℕ) → [] ≡ prefix ++ underscore ∷ [] → ⊥
     by [] k = cc
-    by (c ∷ front) k = cc
+    by (c ∷ prefix) k = cc
 
 module _ (flags : Settings) (d : ℕ) (s : List ℕ) where
   Answer : Type 0
@@ -83,12 +83,12 @@ module _ (flags : Settings) (d : ℕ) (s : List ℕ) where
       let b = hex_small d row.first in
       let c : hex_value (d ∷ ds) < 55296 = omega arith in
       by_value ds rest e row (none_under ds z) stop (λ k. absurd (both_ways (scalar (hex_value (d ∷ ds))) k (low_scalar (hex_value (d ∷ ds)) c)))
-  row_stops ds rest e row stop (digit front x h k) =
-      by_value ds rest e row (not_under ds front x h k) stop
-      (λ bad. fault _ (x ∷ rest) row.first (no_scalar front (e ∙ ap (λ y. y ++ rest) k ∙ append_assoc front (x ∷ []) rest) (subst (HexRow flags d) k row) h stop
-      (λ g. both_ways (scalar (hex_value (d ∷ front ++ x ∷ []))) (subst (λ y. scalar (hex_value (d ∷ y)) ≡ false) k bad) g)))
-  row_stops ds rest e row stop (under front k) =
-      fault _ (underscore ∷ rest) row.first (lone front (e ∙ ap (λ y. y ++ rest) k ∙ append_assoc front (underscore ∷ []) rest) (row_front flags d front (underscore ∷ []) (subst (HexRow flags d) k row)) stop)
+  row_stops ds rest e row stop (digit prefix x h k) =
+      by_value ds rest e row (not_under ds prefix x h k) stop
+      (λ bad. fault _ (x ∷ rest) row.first (no_scalar prefix (e ∙ ap (λ y. y ++ rest) k ∙ append_assoc prefix (x ∷ []) rest) (subst (HexRow flags d) k row) h stop
+      (λ g. both_ways (scalar (hex_value (d ∷ prefix ++ x ∷ []))) (subst (λ y. scalar (hex_value (d ∷ y)) ≡ false) k bad) g)))
+  row_stops ds rest e row stop (under prefix k) =
+      fault _ (underscore ∷ rest) row.first (lone prefix (e ∙ ap (λ y. y ++ rest) k ∙ append_assoc prefix (underscore ∷ []) rest) (row_prefix flags d prefix (underscore ∷ []) (subst (HexRow flags d) k row)) stop)
 
   digit_row : (ds : List ℕ) (c : ℕ) → HexRow flags d ds → IsTrue (is_hex c) → hex_value (d ∷ ds ++ c ∷ []) < 2 ^ 32 → HexRow flags d (ds ++ c ∷ [])
   digit_row ds c row h small = record {
@@ -112,8 +112,8 @@ module _ (flags : Settings) (d : ℕ) (s : List ℕ) where
   -- an underscore may follow, or is one too many
   may_follow : (ds : List ℕ) → HexRow flags d ds → LastOf ds → ((flags.strict ≡ true) × EndsInUnderscore ds) ⊎ (flags.strict ≡ true → EndsInUnderscore ds → ⊥)
   may_follow ds row (nothing z) = inr (λ q. none_under ds z)
-  may_follow ds row (digit front x h k) = inr (λ q. not_under ds front x h k)
-  may_follow ds row (under front k) = elim (cases_Bool flags.strict) [ inl q ↦ inl (q, (front, k)) | inr q ↦ inr (λ p _. both_ways flags.strict q p) ]
+  may_follow ds row (digit prefix x h k) = inr (λ q. not_under ds prefix x h k)
+  may_follow ds row (under prefix k) = elim (cases_Bool flags.strict) [ inl q ↦ inl (q, (prefix, k)) | inr q ↦ inr (λ p _. both_ways flags.strict q p) ]
 
   scan_row : (rest ds : List ℕ) → s ≡ ds ++ rest → HexRow flags d ds → Answer
   scan_row [] ds e row = row_stops ds [] e row (λ b. b) (last_of_row ds row.others)

@@ -1,4 +1,4 @@
--- Block comments at the front of a text.
+-- Block comments at the start of a text.
 use Rattle.std.proofs.Common.{◌≡◌, ◌≢◌, ◌≤◌, ◌+◌, ℕ, List, [], ◌∷◌, ◌++◌, length, drop, get_or, refl, arith, ap, sym, ◌∙◌, subst, append_assoc, length-drop}
 use Rattle.std.proofs.lemmas.List.{append-nil}
 use Rattle.std.proofs.lemmas.Str.{encodes-chars}
@@ -17,32 +17,32 @@ use Rattle.wat_lex.proofs.inside.Confusing.{size-append}
 use Rattle.wat_lex.proofs.grammar.AsciiPrefixes.{led}
 use Rattle.wat_lex.specs.declared.lexer.settings.Settings.{Settings}
 
--- what closes is a front of the text, and closes whatever follows
+-- what closes is a prefix of the text, and closes whatever follows
 pub record Cut (t r : List ℕ) : Type 0 where
-  pub front : List ℕ
-  pub cut : t ≡ front ++ r
-  pub closes : (x : List ℕ) → Closes (front ++ x) x
+  pub prefix : List ℕ
+  pub cut : t ≡ prefix ++ r
+  pub closes : (x : List ℕ) → Closes (prefix ++ x) x
 
 semicolon_cut : (d : ℕ) (t r f : List ℕ) → d ≢ 41 → d ∷ t ≡ f ++ r → ((x : List ℕ) → Closes (f ++ x) x) → Cut (59 ∷ d ∷ t) r
 semicolon_cut d t r [] a e h = at_nil [] (h [])
-semicolon_cut d t r (b ∷ f) a e h = let same : d ≡ b = cc in record { front = 59 ∷ b ∷ f; cut = ap (λ x. 59 ∷ x) e; closes = λ x. lone_semicolon (λ k. a (same ∙ k)) (h x) }
+semicolon_cut d t r (b ∷ f) a e h = let same : d ≡ b = cc in record { prefix = 59 ∷ b ∷ f; cut = ap (λ x. 59 ∷ x) e; closes = λ x. lone_semicolon (λ k. a (same ∙ k)) (h x) }
 
 paren_cut : (d : ℕ) (t r f : List ℕ) → d ≢ 59 → d ∷ t ≡ f ++ r → ((x : List ℕ) → Closes (f ++ x) x) → Cut (40 ∷ d ∷ t) r
 paren_cut d t r [] a e h = at_nil [] (h [])
-paren_cut d t r (b ∷ f) a e h = let same : d ≡ b = cc in record { front = 40 ∷ b ∷ f; cut = ap (λ x. 40 ∷ x) e; closes = λ x. lone_paren (λ k. a (same ∙ k)) (h x) }
+paren_cut d t r (b ∷ f) a e h = let same : d ≡ b = cc in record { prefix = 40 ∷ b ∷ f; cut = ap (λ x. 40 ∷ x) e; closes = λ x. lone_paren (λ k. a (same ∙ k)) (h x) }
 
 pub closes_cut : (t r : List ℕ) → Closes t r → Cut t r
-closes_cut t r close = record { front = 59 ∷ 41 ∷ []; cut = refl; closes = λ x. close }
-closes_cut t r (plain {c = c} {t = s} a b h) = let k = closes_cut s r h in record { front = c ∷ k.front; cut = ap (λ x. c ∷ x) k.cut; closes = λ x. plain a b (k.closes x) }
-closes_cut t r (lone_semicolon {d = d} {t = s} a h) = let k = closes_cut (d ∷ s) r h in semicolon_cut d s r k.front a k.cut k.closes
-closes_cut t r (lone_paren {d = d} {t = s} a h) = let k = closes_cut (d ∷ s) r h in paren_cut d s r k.front a k.cut k.closes
+closes_cut t r close = record { prefix = 59 ∷ 41 ∷ []; cut = refl; closes = λ x. close }
+closes_cut t r (plain {c = c} {t = s} a b h) = let k = closes_cut s r h in record { prefix = c ∷ k.prefix; cut = ap (λ x. c ∷ x) k.cut; closes = λ x. plain a b (k.closes x) }
+closes_cut t r (lone_semicolon {d = d} {t = s} a h) = let k = closes_cut (d ∷ s) r h in semicolon_cut d s r k.prefix a k.cut k.closes
+closes_cut t r (lone_paren {d = d} {t = s} a h) = let k = closes_cut (d ∷ s) r h in paren_cut d s r k.prefix a k.cut k.closes
 closes_cut t r (nested {t = s} {m = m} g h) =
     let k = closes_cut s m g in
     let l = closes_cut m r h in
     record {
-      front = 40 ∷ 59 ∷ (k.front ++ l.front);
-      cut = ap (λ x. 40 ∷ 59 ∷ x) (k.cut ∙ ap (λ x. k.front ++ x) l.cut ∙ sym (append_assoc k.front l.front r));
-      closes = λ x. subst (λ y. Closes (40 ∷ 59 ∷ y) x) (sym (append_assoc k.front l.front x)) (nested (k.closes (l.front ++ x)) (l.closes x));
+      prefix = 40 ∷ 59 ∷ (k.prefix ++ l.prefix);
+      cut = ap (λ x. 40 ∷ 59 ∷ x) (k.cut ∙ ap (λ x. k.prefix ++ x) l.cut ∙ sym (append_assoc k.prefix l.prefix r));
+      closes = λ x. subst (λ y. Closes (40 ∷ 59 ∷ y) x) (sym (append_assoc k.prefix l.prefix x)) (nested (k.closes (l.prefix ++ x)) (l.closes x));
     }
 
 size_open : (f : List ℕ) → size (40 ∷ 59 ∷ f) ≡ 2 + size f
@@ -71,17 +71,17 @@ block_found flags text n u a b l h =
     let rest = from_bytes (length cs) cs (drop n (drop 2 text)) (omega arith) (subst (λ x. Closes x (drop n (drop 2 text))) (sym spelt) h) in
     let k = closes_cut cs rest.chars rest.closes in
     record {
-      word = 40 ∷ 59 ∷ k.front;
+      word = 40 ∷ 59 ∷ k.prefix;
       rest = rest.chars;
       stands = record {
         cut = o.chars ∙ ap (λ x. 40 ∷ 59 ∷ x) k.cut;
-        word = (opened (subst (λ x. Closes x []) (append-nil k.front) (k.closes [])), tt);
+        word = (opened (subst (λ x. Closes x []) (append-nil k.prefix) (k.closes [])), tt);
         ends = tt;
       };
       len =
-          let e : length (drop 2 text) ≡ size k.front + size rest.chars = ap length (sym spelt) ∙ ap size k.cut ∙ size-append k.front rest.chars in
+          let e : length (drop 2 text) ≡ size k.prefix + size rest.chars = ap length (sym spelt) ∙ ap size k.cut ∙ size-append k.prefix rest.chars in
           let f : length (drop n (drop 2 text)) ≡ size rest.chars = ap length rest.is in
-          let g : size (40 ∷ 59 ∷ k.front) ≡ 2 + size k.front = size_open k.front in
+          let g : size (40 ∷ 59 ∷ k.prefix) ≡ 2 + size k.prefix = size_open k.prefix in
           omega (arith, length-drop n (drop 2 text));
     }
 

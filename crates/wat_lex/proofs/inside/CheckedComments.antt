@@ -66,10 +66,10 @@ found_allowed flags text lexeme a h = subst (λ (b : Bool). LexemeFound (record 
 
 pub found_confusing : (flags : Settings) (text : List ℕ) (lexeme : Lexeme) (i c : ℕ) → flags.allow ≡ false → IsUtf8 text → IsComment lexeme.kind → LexemeFound (allowing flags) text lexeme → FirstConfusing (take lexeme.len text) i c → Refused flags text (record { offset = i; error = ConfusingUnicode c })
 found_confusing flags text lexeme i c a u k h f =
-    let cut : h.word ≡ f.front ++ c ∷ f.behind = sym (word_at (allowing flags) text lexeme u h) ∙ f.cut in
-    let whole : chars text ≡ f.front ++ c ∷ (f.behind ++ h.rest) = h.stands.cut ∙ ap (λ x. x ++ h.rest) cut ∙ append_assoc f.front (c ∷ f.behind) h.rest in
+    let cut : h.word ≡ f.prefix ++ c ∷ f.behind = sym (word_at (allowing flags) text lexeme u h) ∙ f.cut in
+    let whole : chars text ≡ f.prefix ++ c ∷ (f.behind ++ h.rest) = h.stands.cut ∙ ap (λ x. x ++ h.rest) cut ∙ append_assoc f.prefix (c ∷ f.behind) h.rest in
     record {
       at = c ∷ (f.behind ++ h.rest);
-      fault = confusing {w = h.word} {rest = h.rest} f.front a k h.stands whole f.clear f.is (omega (arith, ap length cut, length-append f.front (c ∷ f.behind)));
-      place = ap (λ x. x + size (c ∷ (f.behind ++ h.rest))) f.place ∙ sym (size-append f.front (c ∷ (f.behind ++ h.rest))) ∙ sym (ap size whole) ∙ ap length (encodes-chars text u);
+      fault = confusing {w = h.word} {rest = h.rest} f.prefix a k h.stands whole f.clear f.is (omega (arith, ap length cut, length-append f.prefix (c ∷ f.behind)));
+      place = ap (λ x. x + size (c ∷ (f.behind ++ h.rest))) f.place ∙ sym (size-append f.prefix (c ∷ (f.behind ++ h.rest))) ∙ sym (ap size whole) ∙ ap length (encodes-chars text u);
     }

@@ -23,10 +23,10 @@ NonePass_push p (x ∷ xs) c h e = (h.0, NonePass_push p xs c h.1 e)
 
 -- the characters before the place are not confusing, and take so many bytes
 pub record Searched (text : List ℕ) (at : ℕ) : Type 0 where
-  pub front : List ℕ
-  pub cut : chars text ≡ front ++ chars (drop at text)
-  pub clear : NonePass is_confusing front
-  pub place : at ≡ size front
+  pub prefix : List ℕ
+  pub cut : chars text ≡ prefix ++ chars (drop at text)
+  pub clear : NonePass is_confusing prefix
+  pub place : at ≡ size prefix
   pub range : at ≤ length text
   pub utf8 : IsUtf8 (drop at text)
 
@@ -68,7 +68,7 @@ NonePass-append p [] ys h g = g
 NonePass-append p (x ∷ xs) ys h g = (h.0, NonePass-append p xs ys h.1 g)
 
 pub searched_none : (text : List ℕ) → IsUtf8 text → Searched text 0
-searched_none text u = record { front = []; cut = refl; clear = tt; place = refl; range = omega arith; utf8 = u }
+searched_none text u = record { prefix = []; cut = refl; clear = tt; place = refl; range = omega arith; utf8 = u }
 
 -- bytes that begin no confusing character are passed over
 pub searched_skip : (text : List ℕ) (at n : ℕ) → Searched text at → IsCharBoundary (drop at text) n → Leadless (take n (drop at text)) → Searched text (at + n)
@@ -79,10 +79,10 @@ searched_skip text at n h b l =
     let split : chars r ≡ chars (take n r) ++ chars (drop n r) = ap chars (sym (take-append-drop n r)) ∙ chars-append (take n r) (drop n r) u in
     let taken : size (chars (take n r)) ≡ n = ap length (encodes-chars (take n r) u) ∙ length-take-le n r b.0 in
     record {
-      front = h.front ++ chars (take n r);
-      cut = h.cut ∙ ap (λ x. h.front ++ x) split ∙ sym (append_assoc h.front (chars (take n r)) (chars (drop n r))) ∙ ap (λ x. (h.front ++ chars (take n r)) ++ chars x) past;
-      clear = NonePass-append is_confusing h.front (chars (take n r)) h.clear (clear_text (take n r) u l);
-      place = sym (size-append h.front (chars (take n r)) ∙ ap (λ x. size h.front + x) taken ∙ ap (λ x. x + n) (sym h.place));
+      prefix = h.prefix ++ chars (take n r);
+      cut = h.cut ∙ ap (λ x. h.prefix ++ x) split ∙ sym (append_assoc h.prefix (chars (take n r)) (chars (drop n r))) ∙ ap (λ x. (h.prefix ++ chars (take n r)) ++ chars x) past;
+      clear = NonePass-append is_confusing h.prefix (chars (take n r)) h.clear (clear_text (take n r) u l);
+      place = sym (size-append h.prefix (chars (take n r)) ∙ ap (λ x. size h.prefix + x) taken ∙ ap (λ x. x + n) (sym h.place));
       range = let a = b.0 in let e = h.range in omega (arith, a, e, length-drop at text);
       utf8 = subst IsUtf8 past (IsUtf8-drop r n h.utf8 b);
     }
@@ -92,26 +92,26 @@ pub searched_more : (text next : List ℕ) (at c : ℕ) → Searched text at →
 searched_more text next at c h e f =
     let past : drop (at + len_utf8 c) text ≡ next = drop_past_char text next at c e in
     record {
-      front = h.front ++ c ∷ [];
-      cut = h.cut ∙ ap (λ x. h.front ++ x) (chars_past_char (drop at text) next c h.utf8 e) ∙ sym (append_assoc h.front (c ∷ []) (chars next)) ∙ ap (λ x. (h.front ++ c ∷ []) ++ chars x) (sym past);
-      clear = NonePass-append is_confusing h.front (c ∷ []) h.clear (f, tt);
-      place = ap (λ x. x + len_utf8 c) h.place ∙ ap (λ x. size h.front + x) (sym (size_one c)) ∙ sym (size-append h.front (c ∷ []));
+      prefix = h.prefix ++ c ∷ [];
+      cut = h.cut ∙ ap (λ x. h.prefix ++ x) (chars_past_char (drop at text) next c h.utf8 e) ∙ sym (append_assoc h.prefix (c ∷ []) (chars next)) ∙ ap (λ x. (h.prefix ++ c ∷ []) ++ chars x) (sym past);
+      clear = NonePass-append is_confusing h.prefix (c ∷ []) h.clear (f, tt);
+      place = ap (λ x. x + len_utf8 c) h.place ∙ ap (λ x. size h.prefix + x) (sym (size_one c)) ∙ sym (size-append h.prefix (c ∷ []));
       range = let k = h.range in omega (arith, k, ap length e, length-append (encode c) next, length-encode c, length-drop at text);
       utf8 = subst IsUtf8 (sym past) (IsUtf8-past_char (drop at text) next c h.utf8 e);
     }
 
 pub searched_found : (text next : List ℕ) (at c : ℕ) → Searched text at → drop at text ≡ encode c ++ next → is_confusing c ≡ true → FirstConfusing text at c
 searched_found text next at c h e f = record {
-  front = h.front;
+  prefix = h.prefix;
   behind = chars next;
-  cut = h.cut ∙ ap (λ x. h.front ++ x) (chars_past_char (drop at text) next c h.utf8 e);
+  cut = h.cut ∙ ap (λ x. h.prefix ++ x) (chars_past_char (drop at text) next c h.utf8 e);
   clear = h.clear;
   is = f;
   place = h.place;
 }
 
 pub searched_all : (text : List ℕ) (at : ℕ) → Searched text at → Leadless (drop at text) → NonePass is_confusing (chars text)
-searched_all text at h l = subst (NonePass is_confusing) (sym h.cut) (NonePass-append is_confusing h.front (chars (drop at text)) h.clear (clear_text (drop at text) h.utf8 l))
+searched_all text at h l = subst (NonePass is_confusing) (sym h.cut) (NonePass-append is_confusing h.prefix (chars (drop at text)) h.clear (clear_text (drop at text) h.utf8 l))
 
 -- up to the first byte that may begin one
 pub searched_to : (text hay : List ℕ) (at n : ℕ) → Searched text at → hay ≡ drop at text → IsFirstByte (is_byte 0xE2) hay (Some n) → Searched text (at + n)

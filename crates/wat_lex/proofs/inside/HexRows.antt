@@ -24,8 +24,8 @@ use Rattle.wat_lex.proofs.inside.StringSteps.{Took, at_end}
 -- what the row of digits and underscores ends with, and what is left from there on
 pub data RowEnd : List ℕ → List ℕ → Bool → ℕ → Type 0 where
   alone : {rest : List ℕ} {last : ℕ} → RowEnd [] rest false last
-  digit : {ds rest : List ℕ} {last : ℕ} (e : ℕ) (front : List ℕ) → IsTrue (is_hex e) → ds ≡ front ++ e ∷ [] → last ≡ size (e ∷ rest) → RowEnd ds rest false last
-  under : {ds rest : List ℕ} {last : ℕ} (front : List ℕ) → ds ≡ front ++ 95 ∷ [] → last ≡ size (95 ∷ rest) → RowEnd ds rest true last
+  digit : {ds rest : List ℕ} {last : ℕ} (e : ℕ) (prefix : List ℕ) → IsTrue (is_hex e) → ds ≡ prefix ++ e ∷ [] → last ≡ size (e ∷ rest) → RowEnd ds rest false last
+  under : {ds rest : List ℕ} {last : ℕ} (prefix : List ℕ) → ds ≡ prefix ++ 95 ∷ [] → last ≡ size (95 ∷ rest) → RowEnd ds rest true last
 
 pub record Row (flags : Settings) (first : ℕ) (start rest : List ℕ) (n : ℕ) (underscore : Bool) (last : ℕ) : Type 0 where
   pub ds : List ℕ
@@ -74,29 +74,29 @@ Each_push p (x ∷ xs) c h e = (h.0, Each_push p xs c h.1 e)
 
 -- a list that is not empty has a last item
 record Last (xs : List ℕ) : Type 0 where
-  front : List ℕ
+  prefix : List ℕ
   last : ℕ
-  is : xs ≡ front ++ last ∷ []
+  is : xs ≡ prefix ++ last ∷ []
 
 last_of : (x : ℕ) (xs : List ℕ) → Last (x ∷ xs)
-last_of x [] = record { front = []; last = x; is = refl }
-last_of x (y ∷ ys) = let l = last_of y ys in record { front = x ∷ l.front; last = l.last; is = ap (λ z. x ∷ z) l.is }
+last_of x [] = record { prefix = []; last = x; is = refl }
+last_of x (y ∷ ys) = let l = last_of y ys in record { prefix = x ∷ l.prefix; last = l.last; is = ap (λ z. x ∷ z) l.is }
 
 pub parted_none : IsParted []
 parted_none [] back e = cc
-parted_none (x ∷ front) back e = cc
+parted_none (x ∷ prefix) back e = cc
 
 pub parted_push : (ds : List ℕ) (c : ℕ) → IsParted ds → (c ≡ 95 → EndsInUnderscore ds → ⊥) → IsParted (ds ++ c ∷ [])
-parted_push ds c p n front [] e =
-    let k = same_from_push ds (front ++ 95 ∷ []) c 95 (e ∙ sym (append_assoc front (95 ∷ []) (95 ∷ []))) in
-    n k.1 (front, k.0)
-parted_push ds c p n front (b ∷ back) e =
+parted_push ds c p n prefix [] e =
+    let k = same_from_push ds (prefix ++ 95 ∷ []) c 95 (e ∙ sym (append_assoc prefix (95 ∷ []) (95 ∷ []))) in
+    n k.1 (prefix, k.0)
+parted_push ds c p n prefix (b ∷ back) e =
     let l = last_of b back in
-    let k = same_from_push ds (front ++ 95 ∷ 95 ∷ l.front) c l.last (e ∙ ap (λ x. front ++ 95 ∷ 95 ∷ x) l.is ∙ sym (append_assoc front (95 ∷ 95 ∷ l.front) (l.last ∷ []))) in
-    p front l.front k.0
+    let k = same_from_push ds (prefix ++ 95 ∷ 95 ∷ l.prefix) c l.last (e ∙ ap (λ x. prefix ++ 95 ∷ 95 ∷ x) l.is ∙ sym (append_assoc prefix (95 ∷ 95 ∷ l.prefix) (l.last ∷ []))) in
+    p prefix l.prefix k.0
 
-parted_front : (ds es : List ℕ) → IsParted (ds ++ es) → IsParted ds
-parted_front ds es p front back e = p front (back ++ es) (ap (λ x. x ++ es) e ∙ append_assoc front (95 ∷ 95 ∷ back) es)
+parted_prefix : (ds es : List ℕ) → IsParted (ds ++ es) → IsParted ds
+parted_prefix ds es p prefix back e = p prefix (back ++ es) (ap (λ x. x ++ es) e ∙ append_assoc prefix (95 ∷ 95 ∷ back) es)
 
 pub row_begins : (flags : Settings) (first : ℕ) (start : List ℕ) (n last : ℕ) → IsUtf8 start → is_hex first ≡ true → n ≡ digit_value first → Row flags first start start n false last
 row_begins flags first start n last u h e = record {
@@ -115,15 +115,15 @@ row_begins flags first start n last u h e = record {
 not_under : (ds rest : List ℕ) (last : ℕ) → RowEnd ds rest false last → EndsInUnderscore ds → ⊥
 not_under ds rest last r h = by ds rest last r h.0 h.1
   where
-    by : (ds rest : List ℕ) (last : ℕ) → RowEnd ds rest false last → (front : List ℕ) → ds ≢ front ++ 95 ∷ []
+    by : (ds rest : List ℕ) (last : ℕ) → RowEnd ds rest false last → (prefix : List ℕ) → ds ≢ prefix ++ 95 ∷ []
     by ds rest last alone [] e = cc
     by ds rest last alone (x ∷ xs) e = cc
-    by ds rest last (digit d before h f l) front e =
-        let k = same_from_push before front d 95 (sym f ∙ e) in
+    by ds rest last (digit d before h f l) prefix e =
+        let k = same_from_push before prefix d 95 (sym f ∙ e) in
         both_ways (is_hex d) (ap is_hex k.1) h
 
 is_under : (ds rest : List ℕ) (last : ℕ) → RowEnd ds rest true last → EndsInUnderscore ds
-is_under ds rest last (under front e l) = (front, e)
+is_under ds rest last (under prefix e l) = (prefix, e)
 
 pub row_underscore : (flags : Settings) (first : ℕ) (start rest next : List ℕ) (n last left : ℕ) (b : Bool) → Row flags first start rest n b last → (flags.strict ≡ true → b ≡ false) → Took rest 95 next → left ≡ length rest → Row flags first start next n true left
 row_underscore flags first start rest next n last left b r s t l =
@@ -164,9 +164,9 @@ row_digit flags first start rest next n last left m c b r t l h e s =
 number_breaks : (flags : Settings) (first : ℕ) (start : List ℕ) (left : ℕ) (e : LexError) (at : List ℕ) → is_hex first ≡ true → left ≡ size at → NumberFault flags first (chars start) e at → Breaks flags (92 ∷ 117 ∷ 123 ∷ first ∷ []) start (record { left = left; error = e })
 number_breaks flags first start left e at h l f = record { at = at; fault = number h f; place = l }
 
-Each_front : (p : ℕ → Bool) (xs ys : List ℕ) → Each p (xs ++ ys) → Each p xs
-Each_front p [] ys h = tt
-Each_front p (x ∷ xs) ys h = (h.0, Each_front p xs ys h.1)
+Each_prefix : (p : ℕ → Bool) (xs ys : List ℕ) → Each p (xs ++ ys) → Each p xs
+Each_prefix p [] ys h = tt
+Each_prefix p (x ∷ xs) ys h = (h.0, Each_prefix p xs ys h.1)
 
 pub row_doubled : (flags : Settings) (first : ℕ) (start rest next : List ℕ) (n last left : ℕ) (b : Bool) → Row flags first start rest n b last → flags.strict ≡ true → b ≡ true → Took rest 95 next → left ≡ length rest → Breaks flags (92 ∷ 117 ∷ 123 ∷ first ∷ []) start (record { left = left; error = LoneUnderscore })
 row_doubled flags first start rest next n last left b r s e t l =
@@ -175,15 +175,15 @@ row_doubled flags first start rest next n last left b r s e t l =
     (doubled r.ds (r.cut ∙ ap (λ x. r.ds ++ x) t.spelled) r.row s (is_under r.ds (chars rest) last (subst (λ x. RowEnd r.ds (chars rest) x last) e r.ends)))
 
 lone_by : (flags : Settings) (first : ℕ) (start ds rest : List ℕ) (last : ℕ) → HexRow flags first ds → chars start ≡ ds ++ rest → RowEnd ds rest true last → (Begins is_hex_or_underscore rest → ⊥) → Breaks flags (92 ∷ 117 ∷ 123 ∷ first ∷ []) start (record { left = last; error = LoneUnderscore })
-lone_by flags first start ds rest last row cut (under front e l) stop =
-    let r : HexRow flags first (front ++ 95 ∷ []) = subst (HexRow flags first) e row in
-    let v : hex_value (first ∷ front ++ 95 ∷ []) ≡ hex_value (first ∷ front) = hex_skip (first ∷ front) 95 refl in
+lone_by flags first start ds rest last row cut (under prefix e l) stop =
+    let r : HexRow flags first (prefix ++ 95 ∷ []) = subst (HexRow flags first) e row in
+    let v : hex_value (first ∷ prefix ++ 95 ∷ []) ≡ hex_value (first ∷ prefix) = hex_skip (first ∷ prefix) 95 refl in
     number_breaks flags first start last LoneUnderscore (95 ∷ rest) r.first l
-    (lone front (cut ∙ ap (λ x. x ++ rest) e ∙ append_assoc front (95 ∷ []) rest) (record {
+    (lone prefix (cut ∙ ap (λ x. x ++ rest) e ∙ append_assoc prefix (95 ∷ []) rest) (record {
       first = r.first;
-      others = Each_front is_hex_or_underscore front (95 ∷ []) r.others;
+      others = Each_prefix is_hex_or_underscore prefix (95 ∷ []) r.others;
       small = subst (λ x. x < 2 ^ 32) v r.small;
-      parted = λ q. parted_front front (95 ∷ []) (r.parted q);
+      parted = λ q. parted_prefix prefix (95 ∷ []) (r.parted q);
     }) stop)
 
 pub row_lone : (flags : Settings) (first : ℕ) (start rest : List ℕ) (n last : ℕ) → Row flags first start rest n true last → (Begins is_hex_or_underscore (chars rest) → ⊥) → Breaks flags (92 ∷ 117 ∷ 123 ∷ first ∷ []) start (record { left = last; error = LoneUnderscore })
@@ -195,12 +195,12 @@ no_scalar_by flags first start ds rest last row cut alone stop s =
     let b = hex_small first row.first in
     let c : hex_value (first ∷ []) < 55296 = omega arith in
     absurd (both_ways (scalar (hex_value (first ∷ []))) s (low_scalar (hex_value (first ∷ [])) c))
-no_scalar_by flags first start ds rest last row cut (digit e front h f l) stop s =
-    let r : HexRow flags first (front ++ e ∷ []) = subst (HexRow flags first) f row in
-    let t : scalar (hex_value (first ∷ front ++ e ∷ [])) ≡ false = subst (λ x. scalar (hex_value (first ∷ x)) ≡ false) f s in
+no_scalar_by flags first start ds rest last row cut (digit e prefix h f l) stop s =
+    let r : HexRow flags first (prefix ++ e ∷ []) = subst (HexRow flags first) f row in
+    let t : scalar (hex_value (first ∷ prefix ++ e ∷ [])) ≡ false = subst (λ x. scalar (hex_value (first ∷ x)) ≡ false) f s in
     subst (λ x. Breaks flags (92 ∷ 117 ∷ 123 ∷ first ∷ []) start (record { left = last; error = InvalidUnicodeValue (hex_value (first ∷ x)) })) (sym f)
-    (number_breaks flags first start last (InvalidUnicodeValue (hex_value (first ∷ front ++ e ∷ []))) (e ∷ rest) r.first l
-    (no_scalar front (cut ∙ ap (λ x. x ++ rest) f ∙ append_assoc front (e ∷ []) rest) r h stop (λ k. both_ways (scalar (hex_value (first ∷ front ++ e ∷ []))) t k)))
+    (number_breaks flags first start last (InvalidUnicodeValue (hex_value (first ∷ prefix ++ e ∷ []))) (e ∷ rest) r.first l
+    (no_scalar prefix (cut ∙ ap (λ x. x ++ rest) f ∙ append_assoc prefix (e ∷ []) rest) r h stop (λ k. both_ways (scalar (hex_value (first ∷ prefix ++ e ∷ []))) t k)))
 
 pub row_no_scalar : (flags : Settings) (first : ℕ) (start rest : List ℕ) (n last : ℕ) → Row flags first start rest n false last → (Begins is_hex_or_underscore (chars rest) → ⊥) → scalar n ≡ false → Breaks flags (92 ∷ 117 ∷ 123 ∷ first ∷ []) start (record { left = last; error = InvalidUnicodeValue n })
 row_no_scalar flags first start rest n last r stop s =
@@ -261,7 +261,7 @@ row_good flags first start rest n last value false r f = record { row = r; is = 
 
 -- what a reader of an escape answers
 abbrev pub Reading : Settings → List ℕ → List ℕ → List ℕ → Result EscapeValue Broken → Type 0
-Reading flags front old new result = IfOk result (λ e. Escaped flags front old new (escape_bytes e)) × IfErr result (Breaks flags front old)
+Reading flags prefix old new result = IfOk result (λ e. Escaped flags prefix old new (escape_bytes e)) × IfErr result (Breaks flags prefix old)
 
 -- a character that is neither digit nor underscore ends the row
 pub row_stops : (flags : Settings) (first : ℕ) (start rest next : List ℕ) (n last left c : ℕ) (b : Bool) (value : ℕ) (result : Result EscapeValue Broken)
@@ -270,13 +270,13 @@ pub row_stops : (flags : Settings) (first : ℕ) (start rest next : List ℕ) (n
 row_stops flags first start rest next n last left c b value result r t l h a f e =
     subst (Reading flags (92 ∷ 117 ∷ 123 ∷ first ∷ []) start next) (sym e) (by (cases_eq c 125) (row_good flags first start rest n last value b r f))
   where
-    front : List ℕ
-    front = 92 ∷ 117 ∷ 123 ∷ first ∷ []
+    prefix : List ℕ
+    prefix = 92 ∷ 117 ∷ 123 ∷ first ∷ []
 
-    by : (c ≡ 125) ⊎ (c ≢ 125) → Good flags first start rest n last value → Reading flags front start next (cond (c == 125) (Ok (Scalar value)) (Err (record { left = left; error = Expected 125 c })))
+    by : (c ≡ 125) ⊎ (c ≢ 125) → Good flags first start rest n last value → Reading flags prefix start next (cond (c == 125) (Ok (Scalar value)) (Err (record { left = left; error = Expected 125 c })))
     by (inl k) g =
-        subst (λ x. Reading flags front start next (cond x (Ok (Scalar value)) (Err (record { left = left; error = Expected 125 c })))) (sym (eq-eqb c 125 k))
-        (subst (λ x. Escaped flags front start next (encode_utf8 x)) (sym g.value_is) (row_read flags first start rest next n last g.row (subst (λ x. Took rest x next) k t) g.is), tt)
+        subst (λ x. Reading flags prefix start next (cond x (Ok (Scalar value)) (Err (record { left = left; error = Expected 125 c })))) (sym (eq-eqb c 125 k))
+        (subst (λ x. Escaped flags prefix start next (encode_utf8 x)) (sym g.value_is) (row_read flags first start rest next n last g.row (subst (λ x. Took rest x next) k t) g.is), tt)
     by (inr k) g =
-        subst (λ x. Reading flags front start next (cond x (Ok (Scalar value)) (Err (record { left = left; error = Expected 125 c })))) (sym (ne_eqb c 125 k))
+        subst (λ x. Reading flags prefix start next (cond x (Ok (Scalar value)) (Err (record { left = left; error = Expected 125 c })))) (sym (ne_eqb c 125 k))
         (tt, row_no_brace flags first start rest next n last left c g.row t l g.is h a k)

@@ -1,4 +1,4 @@
--- Line comments, single characters and blanks at the front of a text.
+-- Line comments, single characters and whitespace at the start of a text.
 use Rattle.std.proofs.Common.{◌≡◌, ◌<◌, ◌+◌, ◌⊎◌, ℕ, suc, List, [], ◌∷◌, ◌++◌, length, take, drop, get_or, refl, arith, ap, sym, ◌∙◌, subst, length-append, Bool, true, false, cond, not, ◌||◌, inl, inr, one-add}
 use Rattle.std.specs.Prelude.{◌==◌, nat_lt, codes, Option, Some, None, unwrap_or}
 use Rattle.memchr.specs.Find.{IsFirstByte, is_byte2}
@@ -11,9 +11,9 @@ use Rattle.std.specs.Char.{char_set_contains, is_ascii_alphanumeric}
 use Rattle.std.specs.List.{prefix_len, list_all}
 use Rattle.std.specs.Str.{chars, IsUtf8}
 use lib.Utf8.{encode, encodes}
-use Rattle.wat_lex.specs.grammar.Classes.{size, Each, Begins, is_line_end, is_blank, is_mark, is_idchar, is_run_char}
+use Rattle.wat_lex.specs.grammar.Classes.{size, Each, Begins, is_line_end, is_whitespace, is_punctuation, is_idchar, is_run_char}
 use Rattle.wat_lex.specs.grammar.Comments.{begun}
-use Rattle.wat_lex.specs.grammar.Words.{Word, MayFollow, Mark}
+use Rattle.wat_lex.specs.grammar.Words.{Word, MayFollow, Punctuation}
 use Rattle.wat_lex.specs.tokens.Faults.{Fault, unexpected, begins_word}
 use Rattle.wat_lex.specs.tokens.Setting.{allowing}
 use Rattle.wat_lex.specs.inside.ScannedLexemes.{LexemeFound, Refused}
@@ -22,7 +22,7 @@ use Rattle.wat_lex.specs.declared.lexer.kinds.TokenKind.TheVariants.{LineComment
 use Rattle.wat_lex.specs.declared.lexer.faults.LexError.TheVariants.{Unexpected}
 use Rattle.wat_lex.proofs.grammar.CommentBytes.{ascii_in}
 use Rattle.wat_lex.proofs.inside.Confusing.{size_one}
-use Rattle.wat_lex.proofs.grammar.AsciiPrefixes.{led, not_begun, ascii_front}
+use Rattle.wat_lex.proofs.grammar.AsciiPrefixes.{led, not_begun, ascii_prefix}
 use Rattle.wat_lex.specs.declared.lexer.settings.Settings.{Settings}
 
 prefix_past : (q : ℕ → Bool) (bs t : List ℕ) → ((k : ℕ) → k < length bs → q (get_or bs k 0) ≡ true) → prefix_len q (bs ++ t) ≡ length bs + prefix_len q t
@@ -33,19 +33,19 @@ prefix_past q (b ∷ bs) t h =
 
 -- the characters before the first that passes p, which is ASCII
 pub record Until (p : ℕ → Bool) (cs : List ℕ) : Type 0 where
-  pub front : List ℕ
+  pub prefix : List ℕ
   pub rest : List ℕ
-  pub cut : cs ≡ front ++ rest
-  pub passes : Each (λ c. not (p c)) front
+  pub cut : cs ≡ prefix ++ rest
+  pub passes : Each (λ c. not (p c)) prefix
   pub stops : (rest ≡ []) ⊎ Begins p rest
-  pub len : prefix_len (λ c. not (p c)) (encodes cs) ≡ size front
+  pub len : prefix_len (λ c. not (p c)) (encodes cs) ≡ size prefix
 
 pub until : (p : ℕ → Bool) → ((c : ℕ) → p c ≡ true → c < 128) → (cs : List ℕ) → Until p cs
-until p ascii [] = record { front = []; rest = []; cut = refl; passes = tt; stops = inl refl; len = refl }
+until p ascii [] = record { prefix = []; rest = []; cut = refl; passes = tt; stops = inl refl; len = refl }
 until p ascii (c ∷ cs) =
     elim (cases_Bool (p c)) [
       | inl t ↦ record {
-        front = [];
+        prefix = [];
         rest = c ∷ cs;
         cut = refl;
         passes = tt;
@@ -55,7 +55,7 @@ until p ascii (c ∷ cs) =
       | inr f ↦
           let u = until p ascii cs in
           record {
-            front = c ∷ u.front;
+            prefix = c ∷ u.prefix;
             rest = u.rest;
             cut = ap (λ x. c ∷ x) u.cut;
             passes = (ap not f, u.passes);
@@ -63,7 +63,7 @@ until p ascii (c ∷ cs) =
             len =
                 prefix_past (λ c. not (p c)) (encode c) (encodes cs) (λ k l. ap not (inner c f k l))
                 ∙ ap (λ x. length (encode c) + x) u.len
-                ∙ sym (length-append (encode c) (encodes u.front));
+                ∙ sym (length-append (encode c) (encodes u.prefix));
           }
     ]
   where
@@ -86,11 +86,11 @@ set_ascii (d ∷ s) c h e =
 pub line_end_ascii : (c : ℕ) → is_line_end c ≡ true → c < 128
 line_end_ascii c = set_ascii (10 ∷ 13 ∷ []) c (refl, (refl, tt))
 
-pub blank_ascii : (c : ℕ) → is_blank c ≡ true → c < 128
-blank_ascii c = set_ascii (32 ∷ 10 ∷ 13 ∷ 9 ∷ []) c (refl, (refl, (refl, (refl, tt))))
+pub whitespace_ascii : (c : ℕ) → is_whitespace c ≡ true → c < 128
+whitespace_ascii c = set_ascii (32 ∷ 10 ∷ 13 ∷ 9 ∷ []) c (refl, (refl, (refl, (refl, tt))))
 
-pub mark_ascii : (c : ℕ) → is_mark c ≡ true → c < 128
-mark_ascii c = set_ascii (codes ",[]{}") c (refl, (refl, (refl, (refl, (refl, tt)))))
+pub punctuation_ascii : (c : ℕ) → is_punctuation c ≡ true → c < 128
+punctuation_ascii c = set_ascii (codes ",[]{}") c (refl, (refl, (refl, (refl, (refl, tt)))))
 
 size_two : (f : List ℕ) → size (59 ∷ 59 ∷ f) ≡ 2 + size f
 unfolding encode
@@ -105,10 +105,10 @@ line_found flags (c ∷ d ∷ t) n u a b e =
     let m = led (d ∷ t) 59 l.utf8 (omega arith) b (omega arith) in
     let k = until is_line_end line_end_ascii (chars t) in
     record {
-      word = 59 ∷ 59 ∷ k.front;
+      word = 59 ∷ 59 ∷ k.prefix;
       rest = k.rest;
       stands = record { cut = l.chars ∙ ap (λ x. 59 ∷ x) (m.chars ∙ ap (λ x. 59 ∷ x) k.cut); word = (begun k.passes, tt); ends = k.stops };
-      len = let s : prefix_len (λ c. not (is_line_end c)) t ≡ size k.front = ap (prefix_len (λ c. not (is_line_end c))) (sym (encodes-chars t m.utf8)) ∙ k.len in omega (arith, size_two k.front, s);
+      len = let s : prefix_len (λ c. not (is_line_end c)) t ≡ size k.prefix = ap (prefix_len (λ c. not (is_line_end c))) (sym (encodes-chars t m.utf8)) ∙ k.len in omega (arith, size_two k.prefix, s);
     }
 
 -- a word of one ASCII character
@@ -130,30 +130,30 @@ found_close flags text u l e = found_one flags text RParen 41 u l e (omega arith
 
 pub found_semicolon : (flags : Settings) (text : List ℕ) → IsUtf8 text → 0 < length text → get_or text 0 0 ≡ 59 → (get_or text 1 0 ≡ 59 → ⊥) → LexemeFound flags text (record { kind = Reserved; len = 1 })
 found_semicolon flags text u l e n =
-    let m : Mark (59 ∷ []) = (59, refl, refl) in
+    let m : Punctuation (59 ∷ []) = (59, refl, refl) in
     found_one flags text Reserved 59 u l e (omega arith) (inl m) (λ _. no_semicolon text 59 u l e (omega arith) n, λ k. absurd (k m))
 
-pub found_mark : (flags : Settings) (text : List ℕ) → IsUtf8 text → 0 < length text → is_mark (get_or text 0 0) ≡ true → LexemeFound flags text (record { kind = Reserved; len = 1 })
-found_mark flags text u l t =
+pub found_punctuation : (flags : Settings) (text : List ℕ) → IsUtf8 text → 0 < length text → is_punctuation (get_or text 0 0) ≡ true → LexemeFound flags text (record { kind = Reserved; len = 1 })
+found_punctuation flags text u l t =
     let c = get_or text 0 0 in
-    let m : Mark (c ∷ []) = (c, refl, ap (λ b. b || c == 59) t) in
-    let other : c ∷ [] ≡ 59 ∷ [] → ⊥ = λ e. let k : c ≡ 59 = cc in both_ways (is_mark c) (ap is_mark k) t in
-    found_one flags text Reserved c u l refl (mark_ascii c t) (inl m) (λ e. absurd (other e), λ k. absurd (k m))
+    let m : Punctuation (c ∷ []) = (c, refl, ap (λ b. b || c == 59) t) in
+    let other : c ∷ [] ≡ 59 ∷ [] → ⊥ = λ e. let k : c ≡ 59 = cc in both_ways (is_punctuation c) (ap is_punctuation k) t in
+    found_one flags text Reserved c u l refl (punctuation_ascii c t) (inl m) (λ e. absurd (other e), λ k. absurd (k m))
 
-blank_first : (text : List ℕ) → 0 < length text → is_blank (get_or text 0 0) ≡ true → take (prefix_len is_blank text) text ≡ [] → ⊥
-blank_first [] l t e = omega arith
-blank_first (b ∷ bs) l t e =
-    let k : prefix_len is_blank (b ∷ bs) ≡ suc (prefix_len is_blank bs) = ap (λ x. cond x (1 + prefix_len is_blank bs) 0) t ∙ one-add (prefix_len is_blank bs) in
-    let f : take (suc (prefix_len is_blank bs)) (b ∷ bs) ≡ [] = subst (λ x. take x (b ∷ bs) ≡ []) k e in
+whitespace_first : (text : List ℕ) → 0 < length text → is_whitespace (get_or text 0 0) ≡ true → take (prefix_len is_whitespace text) text ≡ [] → ⊥
+whitespace_first [] l t e = omega arith
+whitespace_first (b ∷ bs) l t e =
+    let k : prefix_len is_whitespace (b ∷ bs) ≡ suc (prefix_len is_whitespace bs) = ap (λ x. cond x (1 + prefix_len is_whitespace bs) 0) t ∙ one-add (prefix_len is_whitespace bs) in
+    let f : take (suc (prefix_len is_whitespace bs)) (b ∷ bs) ≡ [] = subst (λ x. take x (b ∷ bs) ≡ []) k e in
     cc
 
-pub found_blank : (flags : Settings) (text : List ℕ) (n : ℕ) → IsUtf8 text → 0 < length text → is_blank (get_or text 0 0) ≡ true → n ≡ prefix_len is_blank text → LexemeFound flags text (record { kind = Whitespace; len = n })
-found_blank flags text n u l t e =
-    let k = ascii_front is_blank blank_ascii text u in
+pub found_whitespace : (flags : Settings) (text : List ℕ) (n : ℕ) → IsUtf8 text → 0 < length text → is_whitespace (get_or text 0 0) ≡ true → n ≡ prefix_len is_whitespace text → LexemeFound flags text (record { kind = Whitespace; len = n })
+found_whitespace flags text n u l t e =
+    let k = ascii_prefix is_whitespace whitespace_ascii text u in
     record {
-      word = take (prefix_len is_blank text) text;
-      rest = chars (drop (prefix_len is_blank text) text);
-      stands = record { cut = k.cut; word = (blank_first text l t, k.passes); ends = k.stops };
+      word = take (prefix_len is_whitespace text) text;
+      rest = chars (drop (prefix_len is_whitespace text) text);
+      stands = record { cut = k.cut; word = (whitespace_first text l t, k.passes); ends = k.stops };
       len = e ∙ sym k.size_is;
     }
 
@@ -176,10 +176,10 @@ run_char_ascii c h = elim (or_cases (is_idchar c) (c == 34) h) [ inl t ↦ idcha
 
 word_ascii : (c : ℕ) → begins_word c ≡ true → c < 128
 word_ascii c h =
-    elim (or_cases (is_blank c || is_run_char c) (is_mark c || ((c == 40 || c == 41) || c == 59)) h) [
-      | inl t ↦ elim (or_cases (is_blank c) (is_run_char c) t) [ inl k ↦ blank_ascii c k | inr k ↦ run_char_ascii c k ]
-      | inr t ↦ elim (or_cases (is_mark c) ((c == 40 || c == 41) || c == 59) t) [
-        | inl k ↦ mark_ascii c k
+    elim (or_cases (is_whitespace c || is_run_char c) (is_punctuation c || ((c == 40 || c == 41) || c == 59)) h) [
+      | inl t ↦ elim (or_cases (is_whitespace c) (is_run_char c) t) [ inl k ↦ whitespace_ascii c k | inr k ↦ run_char_ascii c k ]
+      | inr t ↦ elim (or_cases (is_punctuation c) ((c == 40 || c == 41) || c == 59) t) [
+        | inl k ↦ punctuation_ascii c k
         | inr k ↦ elim (or_cases (c == 40 || c == 41) (c == 59) k) [
           | inl g ↦ elim (or_cases (c == 40) (c == 41) g) [ inl j ↦ let i = eqb-true c 40 j in omega arith | inr j ↦ let i = eqb-true c 41 j in omega arith ]
           | inr g ↦ let i = eqb-true c 59 g in omega arith

@@ -62,6 +62,6 @@ module _ (hex : Bool) (text behind : List ℕ) (n : text ≢ []) (d : get_or tex
   pub tail_no_digits : behind ≢ [] → (Exponent hex behind → ⊥) → NoDigits hex behind → (Tail hex text → ⊥)
   tail_no_digits m x l h = behind_none hex behind m x l (subst (Tail hex) dotted h)
 
--- no front
-pub not_front : (s t word given : List ℕ) → t ≡ s → given ≡ word → ((rest : List ℕ) → t ≢ given ++ rest) → (rest : List ℕ) → s ≢ word ++ rest
-not_front s t word given q g n rest e = n rest (q ∙ e ∙ ap (λ x. x ++ rest) (sym g))
+-- no prefix
+pub not_prefix : (s t word given : List ℕ) → t ≡ s → given ≡ word → ((rest : List ℕ) → t ≢ given ++ rest) → (rest : List ℕ) → s ≢ word ++ rest
+not_prefix s t word given q g n rest e = n rest (q ∙ e ∙ ap (λ x. x ++ rest) (sym g))

@@ -15,7 +15,7 @@ use Rattle.wat_lex.specs.inside.ScannedLexemes.{Refused}
 use Rattle.wat_lex.specs.inside.ScannedRuns.{RunFound, idchar_count, string_count}
 use Rattle.wat_lex.specs.declared.lexer.settings.Settings.{Settings}
 use Rattle.wat_lex.specs.declared.lexer.faults.LexFault.{LexFault}
-use Rattle.wat_lex.proofs.grammar.AsciiPrefixes.{Led, led, not_begun, ascii_front}
+use Rattle.wat_lex.proofs.grammar.AsciiPrefixes.{Led, led, not_begun, ascii_prefix}
 use Rattle.wat_lex.proofs.inside.LineComments.{idchar_ascii}
 
 -- the pieces of so many bytes, and what any run of the rest makes of them
@@ -54,7 +54,7 @@ idchars_run flags (c ∷ w) t r qs e h = idchar e.0 (idchars_run flags w t r qs 
 pub joined_start : (flags : Settings) (text : List ℕ) (n : ℕ) → IsUtf8 text → n ≡ prefix_len is_idchar text → Joined flags text n n 0
 joined_start flags text n u e =
     let m = prefix_len is_idchar text in
-    let f = ascii_front is_idchar idchar_ascii text u in
+    let f = ascii_prefix is_idchar idchar_ascii text u in
     let l = prefix_len-le-length is_idchar text in
     let k = length-take-le m text l in
     let made : Joined flags text m m 0 = record {

@@ -34,38 +34,38 @@ took old new c u e = record {
 pub at_end : (old : List ℕ) → length old ≡ 0 → chars old ≡ []
 at_end old e = ap chars (nil_from_length old e) ∙ chars-nil
 
--- one character less in front
-pub escaped_on : (flags : Settings) (front old mid new value : List ℕ) (c : ℕ) → Took old c mid → Escaped flags (front ++ c ∷ []) mid new value → Escaped flags front old new value
-escaped_on flags front old mid new value c t h = record {
-  element = subst (λ x. Element flags x value (chars new)) (append_assoc front (c ∷ []) (chars mid) ∙ ap (λ x. front ++ x) (sym t.spelled)) h.element;
+-- one character less before it
+pub escaped_on : (flags : Settings) (prefix old mid new value : List ℕ) (c : ℕ) → Took old c mid → Escaped flags (prefix ++ c ∷ []) mid new value → Escaped flags prefix old new value
+escaped_on flags prefix old mid new value c t h = record {
+  element = subst (λ x. Element flags x value (chars new)) (append_assoc prefix (c ∷ []) (chars mid) ∙ ap (λ x. prefix ++ x) (sym t.spelled)) h.element;
   utf8 = h.utf8;
   shorter = let a = t.shorter in let b = h.shorter in omega arith;
 }
 
-pub breaks_on : (flags : Settings) (front old mid : List ℕ) (c : ℕ) (broken : Broken) → Took old c mid → Breaks flags (front ++ c ∷ []) mid broken → Breaks flags front old broken
-breaks_on flags front old mid c broken t h = record {
+pub breaks_on : (flags : Settings) (prefix old mid : List ℕ) (c : ℕ) (broken : Broken) → Took old c mid → Breaks flags (prefix ++ c ∷ []) mid broken → Breaks flags prefix old broken
+breaks_on flags prefix old mid c broken t h = record {
   at = h.at;
-  fault = subst (λ x. StringFault flags x broken.error h.at) (append_assoc front (c ∷ []) (chars mid) ∙ ap (λ x. front ++ x) (sym t.spelled)) h.fault;
+  fault = subst (λ x. StringFault flags x broken.error h.at) (append_assoc prefix (c ∷ []) (chars mid) ∙ ap (λ x. prefix ++ x) (sym t.spelled)) h.fault;
   place = h.place;
 }
 
-pub made_escape : (flags : Settings) (front old new : List ℕ) (d : ℕ) (v : List ℕ) → Took old d new → Element flags (front ++ d ∷ chars new) v (chars new) → Escaped flags front old new v
-made_escape flags front old new d v t h = record {
-  element = subst (λ x. Element flags (front ++ x) v (chars new)) (sym t.spelled) h;
+pub made_escape : (flags : Settings) (prefix old new : List ℕ) (d : ℕ) (v : List ℕ) → Took old d new → Element flags (prefix ++ d ∷ chars new) v (chars new) → Escaped flags prefix old new v
+made_escape flags prefix old new d v t h = record {
+  element = subst (λ x. Element flags (prefix ++ x) v (chars new)) (sym t.spelled) h;
   utf8 = t.utf8;
   shorter = t.shorter;
 }
 
 -- the fault stands at the character that was taken, or at the end
-pub breaks_here : (flags : Settings) (front old new : List ℕ) (d left : ℕ) (e : LexError) → Took old d new → left ≡ length old → StringFault flags (front ++ d ∷ chars new) e (d ∷ chars new) → Breaks flags front old (record { left = left; error = e })
-breaks_here flags front old new d left e t l h = record {
+pub breaks_here : (flags : Settings) (prefix old new : List ℕ) (d left : ℕ) (e : LexError) → Took old d new → left ≡ length old → StringFault flags (prefix ++ d ∷ chars new) e (d ∷ chars new) → Breaks flags prefix old (record { left = left; error = e })
+breaks_here flags prefix old new d left e t l h = record {
   at = chars old;
-  fault = subst (λ x. StringFault flags (front ++ x) e x) (sym t.spelled) h;
+  fault = subst (λ x. StringFault flags (prefix ++ x) e x) (sym t.spelled) h;
   place = l ∙ t.size_is;
 }
 
-pub breaks_end : (flags : Settings) (front old : List ℕ) (e : LexError) → length old ≡ 0 → StringFault flags (front ++ []) e [] → Breaks flags front old (record { left = 0; error = e })
-breaks_end flags front old e l h = record { at = []; fault = subst (λ x. StringFault flags (front ++ x) e []) (sym (at_end old l)) h; place = refl }
+pub breaks_end : (flags : Settings) (prefix old : List ℕ) (e : LexError) → length old ≡ 0 → StringFault flags (prefix ++ []) e [] → Breaks flags prefix old (record { left = 0; error = e })
+breaks_end flags prefix old e l h = record { at = []; fault = subst (λ x. StringFault flags (prefix ++ x) e []) (sym (at_end old l)) h; place = refl }
 
 pub fails : (b : Bool) → b ≡ false → IsTrue b → ⊥
 fails b e t = both_ways b e t
@@ -100,22 +100,22 @@ pub record Continues (flags : Settings) (start rest : List ℕ) : Type 0 where
   pub fault : (e : LexError) (at : List ℕ) → StringFault flags (chars rest) e at → StringFault flags (chars start) e at
   pub utf8 : IsUtf8 rest
   pub shorter : length rest ≤ length start
-  pub suffix : (front : List ℕ) × (chars start ≡ front ++ chars rest)
+  pub suffix : (prefix : List ℕ) × (chars start ≡ prefix ++ chars rest)
 
 pub begin : (flags : Settings) (start : List ℕ) → IsUtf8 start → Continues flags start start
 begin flags start u = record { quoted = λ v r h. (v, h); fault = λ e at h. h; utf8 = u; shorter = omega arith; suffix = ([], refl) }
 
 -- one element more
-pub continue_over : (flags : Settings) (start rest next u : List ℕ) → Continues flags start rest → Element flags (chars rest) u (chars next) → IsUtf8 next → length next ≤ length rest → (front : List ℕ) → chars rest ≡ front ++ chars next → Continues flags start next
-continue_over flags start rest next u h e k l front f = record {
+pub continue_over : (flags : Settings) (start rest next u : List ℕ) → Continues flags start rest → Element flags (chars rest) u (chars next) → IsUtf8 next → length next ≤ length rest → (prefix : List ℕ) → chars rest ≡ prefix ++ chars next → Continues flags start next
+continue_over flags start rest next u h e k l prefix f = record {
   quoted = λ v r q. h.quoted (u ++ v) r (more e q);
   fault = λ d at q. h.fault d at (later e q);
   utf8 = k;
   shorter = let a = h.shorter in omega arith;
-  suffix = (h.suffix.0 ++ front, h.suffix.1 ∙ ap (λ x. h.suffix.0 ++ x) f ∙ sym (append_assoc h.suffix.0 front (chars next)));
+  suffix = (h.suffix.0 ++ prefix, h.suffix.1 ∙ ap (λ x. h.suffix.0 ++ x) f ∙ sym (append_assoc h.suffix.0 prefix (chars next)));
 }
 
-element_suffix : (flags : Settings) (s u t : List ℕ) → Element flags s u t → (front : List ℕ) × (s ≡ front ++ t)
+element_suffix : (flags : Settings) (s u t : List ℕ) → Element flags s u t → (prefix : List ℕ) × (s ≡ prefix ++ t)
 element_suffix flags s u t (raw {c = c} h) = (c ∷ [], refl)
 element_suffix flags s u t (letter {c = c} h) = (92 ∷ c ∷ [], refl)
 element_suffix flags s u t (byte {c = c} {d = d} a b) = (92 ∷ c ∷ d ∷ [], refl)

@@ -18,15 +18,15 @@ use Rattle.wat_lex.proofs.inside.Confusing.{size-append}
 use Rattle.wat_lex.proofs.grammar.Remainders.{run_taken, string_fault_fits}
 use Rattle.wat_lex.proofs.tokens.RawLaws.{behind}
 
--- a fault is told inside the text
+-- a fault is reported inside the text
 pub fault_fits : (flags : Settings) (s : List ℕ) (e : LexError) (at : List ℕ) → Fault flags s e at → size at ≤ size s
 fault_fits flags s e at (unexpected n) = omega arith
 fault_fits flags s e at (dangling n) = omega arith
-fault_fits flags s e at (confusing front off kind_is there cut clear is lt) = omega (arith, ap size cut, size-append front at)
+fault_fits flags s e at (confusing prefix off kind_is there cut clear is lt) = omega (arith, ap size cut, size-append prefix at)
 fault_fits flags s e at (in_string {t = t} {ps = ps} run g) =
     let k = run_taken flags s ps (quote ∷ t) run in
     let f = string_fault_fits flags t e at g in
-    omega (arith, ap size k.cut, size-append k.front (quote ∷ t), size-append (quote ∷ []) t)
+    omega (arith, ap size k.cut, size-append k.prefix (quote ∷ t), size-append (quote ∷ []) t)
 
 -- the text from the byte p on
 text_from : Setting → ℕ → Setting
@@ -99,7 +99,7 @@ tiling_ends : (s : Setting) (p to : ℕ) (ts : List Token) → IsUtf8 s.text →
 tiling_ends s p to [] u b h = subst (IsCharBoundary s.text) h b
 tiling_ends s p to (t ∷ ts) u b h = tiling_ends s (t.offset + t.len) to ts u (behind s p t u b h.0) h.1
 
--- a fault is told at its place or behind it
+-- a fault is reported at its place or behind it
 fault_behind : (s : Setting) (q : ℕ) (f : LexFault) → IsUtf8 s.text → IsCharBoundary s.text q → FaultAt s q f → q ≤ f.offset
 fault_behind s q f u b h =
     let rest = drop q s.text in

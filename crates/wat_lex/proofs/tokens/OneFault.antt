@@ -3,7 +3,7 @@ use Rattle.std.proofs.Common.{◌≡◌, ◌<◌, ℕ, List, [], ◌∷◌, ◌+
 use Rattle.std.specs.Prelude.{◌==◌, IsTrue}
 use Rattle.std.proofs.lemmas.Bool.{both_ways, false≢true}
 use Rattle.std.specs.Str.{NonePass}
-use Rattle.wat_lex.specs.grammar.Classes.{Begins, is_run_char, is_blank, is_mark, is_confusing, IsClear, open_paren, close_paren, semicolon, quote}
+use Rattle.wat_lex.specs.grammar.Classes.{Begins, is_run_char, is_whitespace, is_punctuation, is_confusing, IsClear, open_paren, close_paren, semicolon, quote}
 use Rattle.wat_lex.specs.grammar.Comments.{BlockComment as Commented, opened, LineComment as CommentedLine, begun}
 use Rattle.wat_lex.specs.tokens.Faults.{begins_word, IsComment, Fault, unexpected, dangling, confusing, in_string}
 use Rattle.wat_lex.specs.grammar.Runs.{Piece, Run, none, idchar, string}
@@ -16,44 +16,44 @@ use Rattle.wat_lex.specs.declared.lexer.faults.LexError.{LexError}
 use Rattle.wat_lex.specs.declared.lexer.faults.LexError.TheVariants.{ConfusingUnicode}
 use Rattle.wat_lex.proofs.grammar.Looser.{Looser, stands_looser}
 use Rattle.wat_lex.proofs.grammar.OneRun.{idchar_runs, run_sound, run_fault_unique}
-use Rattle.wat_lex.proofs.grammar.OneWord.{Class, class_of, Blanks, Marked, Shuts, Other, Joined, Block, Form, begun_class, stands_form, stands_unique}
+use Rattle.wat_lex.proofs.grammar.OneWord.{Class, class_of, Spaces, Punctuated, Shuts, Other, Joined, Block, Form, begun_class, stands_form, stands_unique}
 
 -- the first character that passes
 record FirstOf (c d : ℕ) (t u : List ℕ) : Type 0 where
   char : c ≡ d
   rest : t ≡ u
 
-first_unique : (front back t u : List ℕ) (c d : ℕ) → NonePass is_confusing front → NonePass is_confusing back → IsTrue (is_confusing c) → IsTrue (is_confusing d) → front ++ c ∷ t ≡ back ++ d ∷ u → FirstOf c d t u
+first_unique : (prefix back t u : List ℕ) (c d : ℕ) → NonePass is_confusing prefix → NonePass is_confusing back → IsTrue (is_confusing c) → IsTrue (is_confusing d) → prefix ++ c ∷ t ≡ back ++ d ∷ u → FirstOf c d t u
 first_unique [] [] t u c d n m a b e = record { char = let k : c ≡ d = cc in k; rest = let k : t ≡ u = cc in k }
 first_unique [] (y ∷ ys) t u c d n m a b e = let k : c ≡ y = cc in absurd (both_ways (is_confusing y) m.0 (sym (ap is_confusing k) ∙ a))
 first_unique (x ∷ xs) [] t u c d n m a b e = let k : x ≡ d = cc in absurd (both_ways (is_confusing x) n.0 (ap is_confusing k ∙ b))
 first_unique (x ∷ xs) (y ∷ ys) t u c d n m a b e = first_unique xs ys t u c d n.1 m.1 a b (let k : xs ++ c ∷ t ≡ ys ++ d ∷ u = cc in k)
 
--- a comment that stands at the front: the text begins with `(;` or `;;`
-data CommentFront : List ℕ → Type 0 where
-  block : {t r : List ℕ} → Commented (open_paren ∷ semicolon ∷ t) r → CommentFront (open_paren ∷ semicolon ∷ t)
-  line : {t : List ℕ} → CommentFront (semicolon ∷ semicolon ∷ t)
+-- a comment that stands at the start: the text begins with `(;` or `;;`
+data CommentStart : List ℕ → Type 0 where
+  block : {t r : List ℕ} → Commented (open_paren ∷ semicolon ∷ t) r → CommentStart (open_paren ∷ semicolon ∷ t)
+  line : {t : List ℕ} → CommentStart (semicolon ∷ semicolon ∷ t)
 
-line_front : (w r : List ℕ) → CommentedLine w → CommentFront (w ++ r)
-line_front w r (begun h) = line
+line_start : (w r : List ℕ) → CommentedLine w → CommentStart (w ++ r)
+line_start w r (begun h) = line
 
-block_front : (s r : List ℕ) → Commented s r → CommentFront s
-block_front s r (opened h) = block (opened h)
+block_start : (s r : List ℕ) → Commented s r → CommentStart s
+block_start s r (opened h) = block (opened h)
 
-comment_front : (flags : Settings) (s : List ℕ) (k : TokenKind) (w r : List ℕ) → IsComment k → WordStands flags s k w r → CommentFront s
+comment_start : (flags : Settings) (s : List ℕ) (k : TokenKind) (w r : List ℕ) → IsComment k → WordStands flags s k w r → CommentStart s
 unfolding Form
-comment_front flags s k w r (inl e) h = let g = subst (λ y. Word y w flags) e h.word in subst CommentFront (sym h.cut) (line_front w r g.0)
-comment_front flags s k w r (inr e) h =
+comment_start flags s k w r (inl e) h = let g = subst (λ y. Word y w flags) e h.word in subst CommentStart (sym h.cut) (line_start w r g.0)
+comment_start flags s k w r (inr e) h =
     let g = subst (λ y. Word y w flags) e h.word in
     let there : WordStands flags s BlockComment w r = record { cut = h.cut; word = g; ends = tt } in
     by s w r h.cut g.0 (stands_form flags s BlockComment w r there)
   where
-    by : (s w r : List ℕ) → s ≡ w ++ r → Commented w [] → Form (class_of s) flags BlockComment w r → CommentFront s
+    by : (s w r : List ℕ) → s ≡ w ++ r → Commented w [] → Form (class_of s) flags BlockComment w r → CommentStart s
     by s w r e (opened {t = t} h) f =
         let g : Form (class_of (open_paren ∷ semicolon ∷ t ++ r)) flags BlockComment (open_paren ∷ semicolon ∷ t) r = subst (λ y. Form (class_of y) flags BlockComment (open_paren ∷ semicolon ∷ t) r) e f in
-        subst CommentFront (sym e) (block_front (open_paren ∷ semicolon ∷ t ++ r) r g.1)
+        subst CommentStart (sym e) (block_start (open_paren ∷ semicolon ∷ t ++ r) r g.1)
 
-comment_begins : (s : List ℕ) → CommentFront s → Begins begins_word s
+comment_begins : (s : List ℕ) → CommentStart s → Begins begins_word s
 comment_begins s (block h) = refl
 comment_begins s line = refl
 
@@ -62,22 +62,22 @@ run_begins flags s r ps t e none = subst (Begins is_run_char) (sym e) refl
 run_begins flags s r ps t e (idchar {c = c} h k) = idchar_runs c h
 run_begins flags s r ps t e (string h k) = refl
 
-comment_no_run_char : (s : List ℕ) → CommentFront s → Begins is_run_char s → ⊥
+comment_no_run_char : (s : List ℕ) → CommentStart s → Begins is_run_char s → ⊥
 comment_no_run_char s (block h) b = false≢true b
 comment_no_run_char s line b = false≢true b
 
-comment_no_run : (flags : Settings) (s : List ℕ) (ps : List Piece) (t : List ℕ) → CommentFront s → Run flags s ps (quote ∷ t) → ⊥
+comment_no_run : (flags : Settings) (s : List ℕ) (ps : List Piece) (t : List ℕ) → CommentStart s → Run flags s ps (quote ∷ t) → ⊥
 comment_no_run flags s ps t c h = comment_no_run_char s c (run_begins flags s (quote ∷ t) ps t refl h)
 
 run_begins_word : (s : List ℕ) → Begins is_run_char s → Begins begins_word s
 run_begins_word [] h = h
-run_begins_word (c ∷ s) h = by (is_blank c) (is_run_char c) (is_mark c || ((c == open_paren || c == close_paren) || c == semicolon)) h
+run_begins_word (c ∷ s) h = by (is_whitespace c) (is_run_char c) (is_punctuation c || ((c == open_paren || c == close_paren) || c == semicolon)) h
   where
     by : (a b x : Bool) → b ≡ true → ((a || b) || x) ≡ true
     by true b x e = refl
     by false b x e = ap (λ y. y || x) e
 
-dangling_no_comment : (t : List ℕ) → ((r : List ℕ) → Commented (open_paren ∷ semicolon ∷ t) r → ⊥) → CommentFront (open_paren ∷ semicolon ∷ t) → ⊥
+dangling_no_comment : (t : List ℕ) → ((r : List ℕ) → Commented (open_paren ∷ semicolon ∷ t) r → ⊥) → CommentStart (open_paren ∷ semicolon ∷ t) → ⊥
 dangling_no_comment t n (block {r = r} h) = n r h
 
 confusing_same : (c d : ℕ) (t u : List ℕ) → FirstOf c d t u → (ConfusingUnicode c ≡ ConfusingUnicode d) × (c ∷ t ≡ d ∷ u)
@@ -86,33 +86,33 @@ confusing_same c d t u f = let a = f.char in let b = f.rest in let e : c ∷ t �
 pub fault_unique : (flags : Settings) (s : List ℕ) (e f : LexError) (a b : List ℕ) → Fault flags s e a → Fault flags s f b → (e ≡ f) × (a ≡ b)
 fault_unique flags s e f a b (unexpected n) (unexpected m) = (refl, refl)
 fault_unique flags s e f a b (unexpected n) (dangling m) = absurd (n refl)
-fault_unique flags s e f a b (unexpected n) (confusing {kind = k} {w = w} {rest = r} back off k_is there cut clear is lt) = absurd (n (comment_begins s (comment_front (allowing flags) s k w r k_is there)))
+fault_unique flags s e f a b (unexpected n) (confusing {kind = k} {w = w} {rest = r} back off k_is there cut clear is lt) = absurd (n (comment_begins s (comment_start (allowing flags) s k w r k_is there)))
 fault_unique flags s e f a b (unexpected n) (in_string {t = t} {ps = ps} run g) = absurd (n (run_begins_word s (run_begins flags s (quote ∷ t) ps t refl run)))
 fault_unique flags s e f a b (dangling n) (unexpected m) = absurd (m refl)
 fault_unique flags s e f a b (dangling n) (dangling m) = (refl, refl)
-fault_unique flags s e f a b (dangling {t = t} n) (confusing {kind = k} {w = w} {rest = r} back off k_is there cut clear is lt) = absurd (dangling_no_comment t n (comment_front (allowing flags) s k w r k_is there))
+fault_unique flags s e f a b (dangling {t = t} n) (confusing {kind = k} {w = w} {rest = r} back off k_is there cut clear is lt) = absurd (dangling_no_comment t n (comment_start (allowing flags) s k w r k_is there))
 fault_unique flags s e f a b (dangling n) (in_string (idchar i k) g) = absurd (false≢true i)
-fault_unique flags s e f a b (confusing {kind = k} {w = w} {rest = r} front off k_is there cut clear is lt) (unexpected m) = absurd (m (comment_begins s (comment_front (allowing flags) s k w r k_is there)))
-fault_unique flags s e f a b (confusing {kind = k} {w = w} {rest = r} front off k_is there cut clear is lt) (dangling {t = t} n) = absurd (dangling_no_comment t n (comment_front (allowing flags) s k w r k_is there))
-fault_unique flags s e f a b (confusing {t = t} {c = c} front off k_is there cut clear is lt) (confusing {t = u} {c = d} back off' l_is there' cut' clear' is' lt') =
-    confusing_same c d t u (first_unique front back t u c d clear clear' is is' (sym cut ∙ cut'))
-fault_unique flags s e f a b (confusing {kind = k} {w = w} {rest = r} front off k_is there cut clear is lt) (in_string {t = t} {ps = ps} run g) = absurd (comment_no_run flags s ps t (comment_front (allowing flags) s k w r k_is there) run)
+fault_unique flags s e f a b (confusing {kind = k} {w = w} {rest = r} prefix off k_is there cut clear is lt) (unexpected m) = absurd (m (comment_begins s (comment_start (allowing flags) s k w r k_is there)))
+fault_unique flags s e f a b (confusing {kind = k} {w = w} {rest = r} prefix off k_is there cut clear is lt) (dangling {t = t} n) = absurd (dangling_no_comment t n (comment_start (allowing flags) s k w r k_is there))
+fault_unique flags s e f a b (confusing {t = t} {c = c} prefix off k_is there cut clear is lt) (confusing {t = u} {c = d} back off' l_is there' cut' clear' is' lt') =
+    confusing_same c d t u (first_unique prefix back t u c d clear clear' is is' (sym cut ∙ cut'))
+fault_unique flags s e f a b (confusing {kind = k} {w = w} {rest = r} prefix off k_is there cut clear is lt) (in_string {t = t} {ps = ps} run g) = absurd (comment_no_run flags s ps t (comment_start (allowing flags) s k w r k_is there) run)
 fault_unique flags s e f a b (in_string {t = t} {ps = ps} run g) (unexpected m) = absurd (m (run_begins_word s (run_begins flags s (quote ∷ t) ps t refl run)))
 fault_unique flags s e f a b (in_string (idchar i k) g) (dangling m) = absurd (false≢true i)
-fault_unique flags s e f a b (in_string {t = t} {ps = ps} run g) (confusing {kind = k} {w = w} {rest = r} back off k_is there cut clear is lt) = absurd (comment_no_run flags s ps t (comment_front (allowing flags) s k w r k_is there) run)
+fault_unique flags s e f a b (in_string {t = t} {ps = ps} run g) (confusing {kind = k} {w = w} {rest = r} back off k_is there cut clear is lt) = absurd (comment_no_run flags s ps t (comment_start (allowing flags) s k w r k_is there) run)
 fault_unique flags s e f a b (in_string {t = t} {ps = ps} run g) (in_string {t = u} {ps = qs} run' g') = run_fault_unique flags s t u a b ps qs e f run g run' g'
 
 -- at no character stands both
 pub fault_some : (flags : Settings) (e : LexError) (a : List ℕ) (s : List ℕ) → s ≡ [] → Fault flags s e a → ⊥
 fault_some flags e a s n (unexpected m) = cc
 fault_some flags e a s n (dangling m) = cc
-fault_some flags e a s n (confusing {kind = k} {w = w} {rest = r} front off k_is there cut clear is lt) = subst (Begins begins_word) n (comment_begins s (comment_front (allowing flags) s k w r k_is there))
+fault_some flags e a s n (confusing {kind = k} {w = w} {rest = r} prefix off k_is there cut clear is lt) = subst (Begins begins_word) n (comment_begins s (comment_start (allowing flags) s k w r k_is there))
 fault_some flags e a s n (in_string {t = t} {ps = ps} run g) = subst (Begins is_run_char) n (run_begins flags s (quote ∷ t) ps t refl run)
 
-not_in_clear : (w rest front t : List ℕ) (c : ℕ) → NonePass is_confusing w → w ++ rest ≡ front ++ c ∷ t → IsTrue (is_confusing c) → length front < length w → ⊥
-not_in_clear [] rest front t c n e is lt = omega arith
+not_in_clear : (w rest prefix t : List ℕ) (c : ℕ) → NonePass is_confusing w → w ++ rest ≡ prefix ++ c ∷ t → IsTrue (is_confusing c) → length prefix < length w → ⊥
+not_in_clear [] rest prefix t c n e is lt = omega arith
 not_in_clear (x ∷ w) rest [] t c n e is lt = let k : x ≡ c = cc in both_ways (is_confusing x) n.0 (ap is_confusing k ∙ is)
-not_in_clear (x ∷ w) rest (y ∷ front) t c n e is lt = not_in_clear w rest front t c n.1 (let k : w ++ rest ≡ front ++ c ∷ t = cc in k) is (omega arith)
+not_in_clear (x ∷ w) rest (y ∷ prefix) t c n e is lt = not_in_clear w rest prefix t c n.1 (let k : w ++ rest ≡ prefix ++ c ∷ t = cc in k) is (omega arith)
 
 is_clear : (allow : Bool) (w : List ℕ) → allow ≡ false → IsClear allow w → NonePass is_confusing w
 is_clear true w e h = absurd (let k : true ≡ false = e in cc)
@@ -123,9 +123,9 @@ comment_clear flags k w a (inl e) h = let g = subst (λ y. Word y w flags) e h i
 comment_clear flags k w a (inr e) h = let g = subst (λ y. Word y w flags) e h in is_clear flags.allow w a g.1
 
 other_class : (c : ℕ) (t : List ℕ) → (IsTrue (begins_word c) → ⊥) → class_of (c ∷ t) ≡ Other
-other_class c t n = by (is_blank c) (is_run_char c) (is_mark c) (c == open_paren) (c == close_paren) (c == semicolon) _ _ n
+other_class c t n = by (is_whitespace c) (is_run_char c) (is_punctuation c) (c == open_paren) (c == close_paren) (c == semicolon) _ _ n
   where
-    by : (a b d e f g : Bool) (x y : Class) → (((a || b) || (d || ((e || f) || g))) ≡ true → ⊥) → cond a Blanks (cond b Joined (cond d Marked (cond e x (cond f Shuts (cond g y Other))))) ≡ Other
+    by : (a b d e f g : Bool) (x y : Class) → (((a || b) || (d || ((e || f) || g))) ≡ true → ⊥) → cond a Spaces (cond b Joined (cond d Punctuated (cond e x (cond f Shuts (cond g y Other))))) ≡ Other
     by true b d e f g x y n = absurd (n refl)
     by false true d e f g x y n = absurd (n refl)
     by false false true e f g x y n = absurd (n refl)
@@ -141,10 +141,10 @@ pub no_word_at_fault : (flags : Settings) (s : List ℕ) (k : TokenKind) (w r : 
 unfolding Form
 no_word_at_fault flags s k w r e a h (unexpected {c = c} {t = t} n) = subst (λ y. Form y flags k w r) (other_class c t n) (stands_form flags s k w r h)
 no_word_at_fault flags s k w r e a h (dangling {t = t} n) = let f : Form Block flags k w r = stands_form flags s k w r h in n r (subst (λ y. Commented y r) (sym h.cut) f.1)
-no_word_at_fault flags s k w r e a h (confusing {t = t} {c = c} {kind = l} {w = x} {rest = q} front off l_is there cut clear is lt) =
+no_word_at_fault flags s k w r e a h (confusing {t = t} {c = c} {kind = l} {w = x} {rest = q} prefix off l_is there cut clear is lt) =
     let u = stands_unique (allowing flags) s k l w x r q (stands_looser flags (allowing flags) s k w r (allowed_looser flags) h) there in
     let n = comment_clear flags k w off (subst IsComment (sym u.0) l_is) h.word in
-    not_in_clear w r front t c n (sym h.cut ∙ cut) is (subst (λ y. length front < length y) (sym u.1) lt)
+    not_in_clear w r prefix t c n (sym h.cut ∙ cut) is (subst (λ y. length prefix < length y) (sym u.1) lt)
 no_word_at_fault flags s k w r e a h (in_string {t = t} {ps = ps} run g) =
     let f : Form Joined flags k w r = subst (λ y. Form y flags k w r) (begun_class s (run_begins flags s (quote ∷ t) ps t refl run)) (stands_form flags s k w r h) in
     run_sound flags s r t a f.pieces ps e (subst (λ y. Run flags y f.pieces r) (sym h.cut) f.run) f.ends run g

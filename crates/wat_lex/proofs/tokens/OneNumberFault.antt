@@ -10,14 +10,14 @@ use Rattle.wat_lex.specs.tokens.StringFaults.{NumberFault, too_big, doubled, lon
 use Rattle.wat_lex.specs.declared.lexer.faults.LexError.{LexError}
 use Rattle.wat_lex.specs.declared.lexer.faults.LexError.TheVariants.{Expected, UnexpectedEof, NumberTooBig, InvalidUnicodeValue, LoneUnderscore}
 use Rattle.wat_lex.specs.declared.lexer.settings.Settings.{Settings}
-use Rattle.wat_lex.proofs.grammar.OneString.{value_prefix, each_front, each_behind, begins_stop}
+use Rattle.wat_lex.proofs.grammar.OneString.{value_prefix, each_prefix, each_behind, begins_stop}
 
 -- the error of a row of digits at the character behind it
-data Told (d : ℕ) (ds : List ℕ) (x : ℕ) : LexError → Type 0 where
-  big : IsTrue (is_hex x) → 2 ^ 32 ≤ hex_value (d ∷ ds ++ x ∷ []) → Told d ds x NumberTooBig
-  bad : IsTrue (is_hex x) → hex_value (d ∷ ds ++ x ∷ []) < 2 ^ 32 → Told d ds x (InvalidUnicodeValue (hex_value (d ∷ ds ++ x ∷ [])))
-  bar : x ≡ underscore → Told d ds x LoneUnderscore
-  other : (IsTrue (is_hex_or_underscore x) → ⊥) → Told d ds x (Expected close_brace x)
+data Reported (d : ℕ) (ds : List ℕ) (x : ℕ) : LexError → Type 0 where
+  big : IsTrue (is_hex x) → 2 ^ 32 ≤ hex_value (d ∷ ds ++ x ∷ []) → Reported d ds x NumberTooBig
+  bad : IsTrue (is_hex x) → hex_value (d ∷ ds ++ x ∷ []) < 2 ^ 32 → Reported d ds x (InvalidUnicodeValue (hex_value (d ∷ ds ++ x ∷ [])))
+  bar : x ≡ underscore → Reported d ds x LoneUnderscore
+  other : (IsTrue (is_hex_or_underscore x) → ⊥) → Reported d ds x (Expected close_brace x)
 
 hex_row : (x : ℕ) → IsTrue (is_hex x) → IsTrue (is_hex_or_underscore x)
 hex_row x h = ap (λ b. b || x == underscore) h
@@ -28,23 +28,23 @@ bar_row x e = ap is_hex_or_underscore e
 bar_no_hex : (x : ℕ) → x ≡ underscore → IsTrue (is_hex x) → ⊥
 bar_no_hex x e h = both_ways (is_hex x) (ap is_hex e) h
 
-told_one : (d : ℕ) (ds : List ℕ) (x : ℕ) (e f : LexError) → Told d ds x e → Told d ds x f → e ≡ f
-told_one d ds x e f (big a b) (big c g) = refl
-told_one d ds x e f (big a b) (bad c g) = absurd (omega arith)
-told_one d ds x e f (big a b) (bar c) = absurd (bar_no_hex x c a)
-told_one d ds x e f (big a b) (other c) = absurd (c (hex_row x a))
-told_one d ds x e f (bad a b) (big c g) = absurd (omega arith)
-told_one d ds x e f (bad a b) (bad c g) = refl
-told_one d ds x e f (bad a b) (bar c) = absurd (bar_no_hex x c a)
-told_one d ds x e f (bad a b) (other c) = absurd (c (hex_row x a))
-told_one d ds x e f (bar a) (big c g) = absurd (bar_no_hex x a c)
-told_one d ds x e f (bar a) (bad c g) = absurd (bar_no_hex x a c)
-told_one d ds x e f (bar a) (bar c) = refl
-told_one d ds x e f (bar a) (other c) = absurd (c (bar_row x a))
-told_one d ds x e f (other a) (big c g) = absurd (a (hex_row x c))
-told_one d ds x e f (other a) (bad c g) = absurd (a (hex_row x c))
-told_one d ds x e f (other a) (bar c) = absurd (a (bar_row x c))
-told_one d ds x e f (other a) (other c) = refl
+reported_one : (d : ℕ) (ds : List ℕ) (x : ℕ) (e f : LexError) → Reported d ds x e → Reported d ds x f → e ≡ f
+reported_one d ds x e f (big a b) (big c g) = refl
+reported_one d ds x e f (big a b) (bad c g) = absurd (omega arith)
+reported_one d ds x e f (big a b) (bar c) = absurd (bar_no_hex x c a)
+reported_one d ds x e f (big a b) (other c) = absurd (c (hex_row x a))
+reported_one d ds x e f (bad a b) (big c g) = absurd (omega arith)
+reported_one d ds x e f (bad a b) (bad c g) = refl
+reported_one d ds x e f (bad a b) (bar c) = absurd (bar_no_hex x c a)
+reported_one d ds x e f (bad a b) (other c) = absurd (c (hex_row x a))
+reported_one d ds x e f (bar a) (big c g) = absurd (bar_no_hex x a c)
+reported_one d ds x e f (bar a) (bad c g) = absurd (bar_no_hex x a c)
+reported_one d ds x e f (bar a) (bar c) = refl
+reported_one d ds x e f (bar a) (other c) = absurd (c (bar_row x a))
+reported_one d ds x e f (other a) (big c g) = absurd (a (hex_row x c))
+reported_one d ds x e f (other a) (bad c g) = absurd (a (hex_row x c))
+reported_one d ds x e f (other a) (bar c) = absurd (a (bar_row x c))
+reported_one d ds x e f (other a) (other c) = refl
 
 -- behind the row u goes on with it, or the row is well written
 Goes : ℕ → List ℕ → List ℕ → Type 0
@@ -56,7 +56,7 @@ record Stopped (flags : Settings) (d : ℕ) (s : List ℕ) (e : LexError) (at : 
   x : ℕ
   t : List ℕ
   cut : s ≡ ds ++ x ∷ t
-  told : Told d ds x e
+  reported : Reported d ds x e
   place : at ≡ x ∷ t
   row : HexRow flags d ds
   goes : Goes d ds (x ∷ t)
@@ -64,15 +64,15 @@ record Stopped (flags : Settings) (d : ℕ) (s : List ℕ) (e : LexError) (at : 
 
 -- the fault stands at the end
 record Ended (flags : Settings) (d : ℕ) (s : List ℕ) (e : LexError) (at : List ℕ) : Type 0 where
-  told : e ≡ UnexpectedEof
+  reported : e ≡ UnexpectedEof
   place : at ≡ []
   row : HexRow flags d s
   goes : Goes d s []
 
-pub row_front : (flags : Settings) (d : ℕ) (ds more : List ℕ) → HexRow flags d (ds ++ more) → HexRow flags d ds
-row_front flags d ds more h = record {
+pub row_prefix : (flags : Settings) (d : ℕ) (ds more : List ℕ) → HexRow flags d (ds ++ more) → HexRow flags d ds
+row_prefix flags d ds more h = record {
   first = h.first;
-  others = each_front ds more h.others;
+  others = each_prefix ds more h.others;
   small = let v = value_prefix (d ∷ ds) more in let w = h.small in omega arith;
   parted = λ s f b e. h.parted s f (b ++ more) (ap (λ x. x ++ more) e ∙ append_assoc f (underscore ∷ underscore ∷ b) more);
 }
@@ -102,7 +102,7 @@ stopped flags d s e at (too_big {e = x} {t = t} ds k h i big_value) = inl (recor
   x = x;
   t = t;
   cut = k;
-  told = big i big_value;
+  reported = big i big_value;
   place = refl;
   row = h;
   goes = inl (hex_row x i);
@@ -116,7 +116,7 @@ stopped flags d s e at (doubled {t = t} ds k h strict a) = inl (record {
   x = underscore;
   t = t;
   cut = k;
-  told = bar refl;
+  reported = bar refl;
   place = refl;
   row = h;
   goes = inl refl;
@@ -127,7 +127,7 @@ stopped flags d s e at (lone {t = t} ds k h n) = inl (record {
   x = underscore;
   t = t;
   cut = k;
-  told = bar refl;
+  reported = bar refl;
   place = refl;
   row = h;
   goes = inl refl;
@@ -138,9 +138,9 @@ stopped flags d s e at (no_scalar {e = x} {t = t} ds k h i n m) = inl (record {
   x = x;
   t = t;
   cut = k;
-  told = bad i h.small;
+  reported = bad i h.small;
   place = refl;
-  row = row_front flags d ds (x ∷ []) h;
+  row = row_prefix flags d ds (x ∷ []) h;
   goes = inl (hex_row x i);
   ends = λ more u q row g. past_last d ds more t u x row.others q n (λ _ f. m f) g;
 })
@@ -149,7 +149,7 @@ stopped flags d s e at (no_brace {c = x} {t = t} ds k h n i m l) = inl (record {
   x = x;
   t = t;
   cut = k;
-  told = other m;
+  reported = other m;
   place = refl;
   row = h;
   goes = inr (n, i);
@@ -159,7 +159,7 @@ stopped flags d s e at (no_brace {c = x} {t = t} ds k h n i m l) = inl (record {
     each_at : (xs : List ℕ) (x : ℕ) (ys : List ℕ) → Each is_hex_or_underscore (xs ++ x ∷ ys) → IsTrue (is_hex_or_underscore x)
     each_at [] x ys h = h.0
     each_at (z ∷ xs) x ys h = each_at xs x ys h.1
-stopped flags d s e at (no_more h n i) = inr (record { told = refl; place = refl; row = h; goes = inr (n, i) })
+stopped flags d s e at (no_more h n i) = inr (record { reported = refl; place = refl; row = h; goes = inr (n, i) })
 
 -- es is ds and then more
 Longer : List ℕ → ℕ → List ℕ → List ℕ → List ℕ → Type 0
@@ -200,7 +200,7 @@ same_stop flags d s e f a b h g m =
     let p = h.place in
     let q = g.place in
     let place : a ≡ b = cc in
-    (told_one d h.ds h.x e f h.told (subst (λ y. Told d y h.x f) (sym r) (subst (λ y. Told d g.ds y f) (sym c) g.told)), place)
+    (reported_one d h.ds h.x e f h.reported (subst (λ y. Reported d y h.x f) (sym r) (subst (λ y. Reported d g.ds y f) (sym c) g.reported)), place)
 
 pub number_fault_unique : (flags : Settings) (d : ℕ) (s : List ℕ) (e f : LexError) (a b : List ℕ) → NumberFault flags d s e a → NumberFault flags d s f b → (e ≡ f) × (a ≡ b)
 number_fault_unique flags d s e f a b h g =
@@ -215,6 +215,6 @@ number_fault_unique flags d s e f a b h g =
       ]
       | inr h' ↦ elim (stopped flags d s f b g) [
         | inl g' ↦ absurd (not_ended flags d s f e b a g' h')
-        | inr g' ↦ (h'.told ∙ sym g'.told, h'.place ∙ sym g'.place)
+        | inr g' ↦ (h'.reported ∙ sym g'.reported, h'.place ∙ sym g'.place)
       ]
     ]

@@ -34,11 +34,11 @@ pub nothing_left : (text : List ℕ) (p : ℕ) → p ≡ length text → chars (
 nothing_left text p e = ap chars (drop_all p text (omega arith)) ∙ chars-nil
 
 pub no_token_left : (s : Setting) (p : ℕ) (t : Token) → chars (drop p s.text) ≡ [] → TokenAt s p t → ⊥
-no_token_left s p t e h = word_some t.kind h.word s.flags h.stands.word (front h.word h.rest (sym e ∙ h.stands.cut))
+no_token_left s p t e h = word_some t.kind h.word s.flags h.stands.word (prefix h.word h.rest (sym e ∙ h.stands.cut))
   where
-    front : (w r : List ℕ) → [] ≡ w ++ r → w ≡ []
-    front [] r e = refl
-    front (c ∷ w) r e = cc
+    prefix : (w r : List ℕ) → [] ≡ w ++ r → w ≡ []
+    prefix [] r e = refl
+    prefix (c ∷ w) r e = cc
 
 pub no_fault_left : (s : Setting) (p : ℕ) (f : LexFault) → chars (drop p s.text) ≡ [] → FaultAt s p f → ⊥
 no_fault_left s p f e h = fault_some s.flags f.error h.at (chars (drop p s.text)) e h.fault

@@ -39,7 +39,7 @@ tiled_by s (Err f ∷ items) p q r l d h e =
       tokens = [];
       ending = Some here.fault;
       tiling = record { to = p.at; tiling = refl; ends = here.stands };
-      spelled = (f, ap (λ x. Err f ∷ x) (ended items h.0 q step.1.1.1 h.2), here.told);
+      spelled = (f, ap (λ x. Err f ∷ x) (ended items h.0 q step.1.1.1 h.2), here.reported);
     }
 
 pub tiled : (p : Progress) (items : List Item) → p.done ≡ false → Drains token_steps p items → Raw p.setting p.at items

@@ -42,5 +42,5 @@ pub token_word : (text : List ℕ) (t : Token) → IsUtf8 text → IsTokenOf tex
 token_word text t u h = subst (λ w. Word t.kind w lenient) (sym (token_chars text t u h)) h.is
 
 -- what is cut from the start
-pub front_is : (text : List ℕ) (n : ℕ) (r : List ℕ) → r ≡ slice_range text 0 n → r ≡ take n text
-front_is text n r e = let k : n - 0 ≡ n = omega arith in e ∙ ap (λ x. take x text) k
+pub prefix_is : (text : List ℕ) (n : ℕ) (r : List ℕ) → r ≡ slice_range text 0 n → r ≡ take n text
+prefix_is text n r e = let k : n - 0 ≡ n = omega arith in e ∙ ap (λ x. take x text) k

@@ -1,15 +1,15 @@
--- At the front of each text stands a word or a fault, unless it is empty.
+-- At the start of each text stands a word or a fault, unless it is empty.
 use Rattle.std.proofs.Common.{◌≡◌, ◌≢◌, ◌⊎◌, ◌<◌, ◌+◌, ◌-◌, ℕ, List, [], ◌∷◌, ◌++◌, length, refl, arith, ap, sym, ◌∙◌, subst, Bool, true, false, not, ◌||◌, inl, inr, append_assoc, length-append}
 use Rattle.std.specs.Prelude.{IsTrue, ◌==◌}
 use Rattle.std.specs.Str.{NonePass}
 use Rattle.std.proofs.lemmas.List.{append-nil}
 use Rattle.std.proofs.lemmas.Bool.{both_ways, cases_eq, cases_Bool, eqb-true, ne_eqb}
-use Rattle.wat_lex.specs.grammar.Classes.{Each, Begins, is_blank, is_line_end, is_mark, is_run_char, is_confusing, open_paren, close_paren, semicolon}
+use Rattle.wat_lex.specs.grammar.Classes.{Each, Begins, is_whitespace, is_line_end, is_punctuation, is_run_char, is_confusing, open_paren, close_paren, semicolon}
 use Rattle.wat_lex.specs.grammar.Comments.{Closes, BlockComment as Commented, opened, begun}
 use Rattle.wat_lex.specs.tokens.Faults.{begins_word, IsComment, Fault, unexpected, dangling, confusing, in_string}
 use Rattle.wat_lex.specs.grammar.Runs.{Run}
 use Rattle.wat_lex.specs.tokens.Setting.{allowing}
-use Rattle.wat_lex.specs.grammar.Words.{Mark, WordStands}
+use Rattle.wat_lex.specs.grammar.Words.{Punctuation, WordStands}
 use Rattle.wat_lex.specs.declared.lexer.settings.Settings.{Settings}
 use Rattle.wat_lex.specs.declared.lexer.kinds.TokenKind.{TokenKind}
 use Rattle.wat_lex.specs.declared.lexer.kinds.TokenKind.TheVariants.{LineComment, BlockComment, Whitespace, LParen, RParen, Reserved}
@@ -27,30 +27,30 @@ pub data SomeAnswer (flags : Settings) (text : List ℕ) : Type 0 where
   word : {k : TokenKind} {w r : List ℕ} → WordStands flags text k w r → SomeAnswer flags text
   fault : {e : LexError} {at : List ℕ} → Fault flags text e at → SomeAnswer flags text
 
--- the longest front of characters that pass
+-- the longest prefix of characters that pass
 record Span (p : ℕ → Bool) (text : List ℕ) : Type 0 where
-  front : List ℕ
+  prefix : List ℕ
   rest : List ℕ
-  cut : text ≡ front ++ rest
-  passes : Each p front
+  cut : text ≡ prefix ++ rest
+  passes : Each p prefix
   stops : Begins p rest → ⊥
 
 span : (p : ℕ → Bool) (text : List ℕ) → Span p text
-span p [] = record { front = []; rest = []; cut = refl; passes = tt; stops = λ b. b }
+span p [] = record { prefix = []; rest = []; cut = refl; passes = tt; stops = λ b. b }
 span p (c ∷ t) =
     elim (cases_Bool (p c)) [
-      | inl h ↦ let k = span p t in record { front = c ∷ k.front; rest = k.rest; cut = ap (λ x. c ∷ x) k.cut; passes = (h, k.passes); stops = k.stops }
-      | inr h ↦ record { front = []; rest = c ∷ t; cut = refl; passes = tt; stops = λ b. both_ways (p c) h b }
+      | inl h ↦ let k = span p t in record { prefix = c ∷ k.prefix; rest = k.rest; cut = ap (λ x. c ∷ x) k.cut; passes = (h, k.passes); stops = k.stops }
+      | inr h ↦ record { prefix = []; rest = c ∷ t; cut = refl; passes = tt; stops = λ b. both_ways (p c) h b }
     ]
 
 -- a comment's first confusing character
 data Confused (w : List ℕ) : Type 0 where
   clear : NonePass is_confusing w → Confused w
-  first : (front t : List ℕ) (c : ℕ) → w ≡ front ++ c ∷ t → NonePass is_confusing front → IsTrue (is_confusing c) → Confused w
+  first : (prefix t : List ℕ) (c : ℕ) → w ≡ prefix ++ c ∷ t → NonePass is_confusing prefix → IsTrue (is_confusing c) → Confused w
 
 confused_on : (c : ℕ) (w : List ℕ) → is_confusing c ≡ false → Confused w → Confused (c ∷ w)
 confused_on c w h (clear n) = clear (h, n)
-confused_on c w h (first front t d e n k) = first (c ∷ front) t d (ap (λ x. c ∷ x) e) (h, n) k
+confused_on c w h (first prefix t d e n k) = first (c ∷ prefix) t d (ap (λ x. c ∷ x) e) (h, n) k
 
 confused : (w : List ℕ) → Confused w
 confused [] = clear tt
@@ -58,8 +58,8 @@ confused (c ∷ w) = elim (cases_Bool (is_confusing c)) [ inl h ↦ first [] w c
 
 comment_checked : (flags : Settings) (s : List ℕ) (k : TokenKind) (w r : List ℕ) → flags.allow ≡ false → IsComment k → WordStands (allowing flags) s k w r → Confused w → SomeAnswer flags s
 comment_checked flags s k w r a i h (clear n) = word (record { cut = h.cut; word = clear_word flags k w i h.word n; ends = h.ends })
-comment_checked flags s k w r a i h (first front t c e n q) =
-    fault (confusing front a i h (h.cut ∙ ap (λ x. x ++ r) e ∙ append_assoc front (c ∷ t) r) n q (omega (arith, ap length e, length-append front (c ∷ t))))
+comment_checked flags s k w r a i h (first prefix t c e n q) =
+    fault (confusing prefix a i h (h.cut ∙ ap (λ x. x ++ r) e ∙ append_assoc prefix (c ∷ t) r) n q (omega (arith, ap length e, length-append prefix (c ∷ t))))
 
 comment_answer : (flags : Settings) (s : List ℕ) (k : TokenKind) (w r : List ℕ) → IsComment k → WordStands (allowing flags) s k w r → SomeAnswer flags s
 comment_answer flags s k w r i h =
@@ -100,8 +100,8 @@ end_by s (c ∷ d ∷ t) n p h =
 block_answer : (flags : Settings) (u : List ℕ) → SomeEnd u → SomeAnswer flags (open_paren ∷ semicolon ∷ u)
 block_answer flags u (closes r h) =
     let k = closes_cut u r h in
-    let is : Commented (open_paren ∷ semicolon ∷ k.front) [] = opened (subst (λ x. Closes x []) (append-nil k.front) (k.closes [])) in
-    comment_answer flags (open_paren ∷ semicolon ∷ u) BlockComment (open_paren ∷ semicolon ∷ k.front) r (inr refl)
+    let is : Commented (open_paren ∷ semicolon ∷ k.prefix) [] = opened (subst (λ x. Closes x []) (append-nil k.prefix) (k.closes [])) in
+    comment_answer flags (open_paren ∷ semicolon ∷ u) BlockComment (open_paren ∷ semicolon ∷ k.prefix) r (inr refl)
     (record { cut = ap (λ x. open_paren ∷ semicolon ∷ x) k.cut; word = (is, tt); ends = tt })
 block_answer flags u (never n) = fault (dangling (λ r h. by r h))
   where
@@ -111,23 +111,23 @@ block_answer flags u (never n) = fault (dangling (λ r h. by r h))
 line_answer : (flags : Settings) (u : List ℕ) → SomeAnswer flags (semicolon ∷ semicolon ∷ u)
 line_answer flags u =
     let k = span (λ c. not (is_line_end c)) u in
-    comment_answer flags (semicolon ∷ semicolon ∷ u) LineComment (semicolon ∷ semicolon ∷ k.front) k.rest (inl refl)
+    comment_answer flags (semicolon ∷ semicolon ∷ u) LineComment (semicolon ∷ semicolon ∷ k.prefix) k.rest (inl refl)
     (record { cut = ap (λ x. semicolon ∷ semicolon ∷ x) k.cut; word = (begun k.passes, tt); ends = ends k.rest k.stops })
   where
     ends : (r : List ℕ) → (Begins (λ c. not (is_line_end c)) r → ⊥) → (r ≡ []) ⊎ Begins is_line_end r
     ends [] n = inl refl
     ends (c ∷ r) n = inr (elim (cases_Bool (is_line_end c)) [ inl h ↦ h | inr h ↦ absurd (n (ap not h)) ])
 
-blank_answer : (flags : Settings) (c : ℕ) (t : List ℕ) → is_blank c ≡ true → SomeAnswer flags (c ∷ t)
-blank_answer flags c t h =
-    let k = span is_blank t in
-    let there : WordStands flags (c ∷ t) Whitespace (c ∷ k.front) k.rest = record { cut = ap (λ x. c ∷ x) k.cut; word = (λ e. cc, (h, k.passes)); ends = k.stops } in
+whitespace_answer : (flags : Settings) (c : ℕ) (t : List ℕ) → is_whitespace c ≡ true → SomeAnswer flags (c ∷ t)
+whitespace_answer flags c t h =
+    let k = span is_whitespace t in
+    let there : WordStands flags (c ∷ t) Whitespace (c ∷ k.prefix) k.rest = record { cut = ap (λ x. c ∷ x) k.cut; word = (λ e. cc, (h, k.passes)); ends = k.stops } in
     word there
 
 run_answer : (flags : Settings) (s : List ℕ) → Begins is_run_char s → SomeRun flags s → SomeAnswer flags s
 run_answer flags s b (run {ps = ps} {r = r} h e) =
     let t = run_taken flags s ps r h in
-    let w = t.front in
+    let w = t.prefix in
     let alone : Run flags w ps [] = subst (λ x. Run flags x ps []) (append-nil w) (t.again []) in
     let k = some_kind ps in
     let is = kind_of_run ps k.kind k.is in
@@ -139,10 +139,10 @@ run_answer flags s b (run {ps = ps} {r = r} h e) =
     word there
 run_answer flags s b (runs.wrong h f) = fault (in_string h f)
 
-mark_answer : (flags : Settings) (c : ℕ) (t : List ℕ) → is_mark c ≡ true → SomeAnswer flags (c ∷ t)
-mark_answer flags c t h =
-    let m : Mark (c ∷ []) = (c, refl, ap (λ b. b || c == semicolon) h) in
-    let other : c ∷ [] ≡ semicolon ∷ [] → ⊥ = λ e. let k : c ≡ semicolon = cc in both_ways (is_mark c) (ap is_mark k) h in
+punctuation_answer : (flags : Settings) (c : ℕ) (t : List ℕ) → is_punctuation c ≡ true → SomeAnswer flags (c ∷ t)
+punctuation_answer flags c t h =
+    let m : Punctuation (c ∷ []) = (c, refl, ap (λ b. b || c == semicolon) h) in
+    let other : c ∷ [] ≡ semicolon ∷ [] → ⊥ = λ e. let k : c ≡ semicolon = cc in both_ways (is_punctuation c) (ap is_punctuation k) h in
     let there : WordStands flags (c ∷ t) Reserved (c ∷ []) t = record { cut = refl; word = inl m; ends = (λ e. absurd (other e), λ n. absurd (n m)) } in
     word there
 
@@ -156,7 +156,7 @@ after_open flags (d ∷ u) =
     ]
 
 semicolon_stands : (flags : Settings) (t : List ℕ) → (Begins (λ c. c == semicolon) t → ⊥) → WordStands flags (semicolon ∷ t) Reserved (semicolon ∷ []) t
-semicolon_stands flags t n = let m : Mark (semicolon ∷ []) = (semicolon, refl, refl) in record { cut = refl; word = inl m; ends = (λ _. n, λ k. absurd (k m)) }
+semicolon_stands flags t n = let m : Punctuation (semicolon ∷ []) = (semicolon, refl, refl) in record { cut = refl; word = inl m; ends = (λ _. n, λ k. absurd (k m)) }
 
 after_semicolon : (flags : Settings) (t : List ℕ) → SomeAnswer flags (semicolon ∷ t)
 after_semicolon flags [] = word (semicolon_stands flags [] (λ b. b))
@@ -169,17 +169,17 @@ after_semicolon flags (d ∷ u) =
 shut_answer : (flags : Settings) (t : List ℕ) → SomeAnswer flags (close_paren ∷ t)
 shut_answer flags t = let there : WordStands flags (close_paren ∷ t) RParen (close_paren ∷ []) t = record { cut = refl; word = refl; ends = tt } in word there
 
-no_begin : (c : ℕ) → is_blank c ≡ false → is_run_char c ≡ false → is_mark c ≡ false → c ≢ open_paren → c ≢ close_paren → c ≢ semicolon → begins_word c ≡ false
+no_begin : (c : ℕ) → is_whitespace c ≡ false → is_run_char c ≡ false → is_punctuation c ≡ false → c ≢ open_paren → c ≢ close_paren → c ≢ semicolon → begins_word c ≡ false
 no_begin c a b d e f g =
-    ap (λ x. (x || is_run_char c) || (is_mark c || ((c == open_paren || c == close_paren) || c == semicolon))) a
-    ∙ ap (λ x. (false || x) || (is_mark c || ((c == open_paren || c == close_paren) || c == semicolon))) b
+    ap (λ x. (x || is_run_char c) || (is_punctuation c || ((c == open_paren || c == close_paren) || c == semicolon))) a
+    ∙ ap (λ x. (false || x) || (is_punctuation c || ((c == open_paren || c == close_paren) || c == semicolon))) b
     ∙ ap (λ x. x || ((c == open_paren || c == close_paren) || c == semicolon)) d
     ∙ ap (λ x. (x || c == close_paren) || c == semicolon) (ne_eqb c open_paren e)
     ∙ ap (λ x. x || c == semicolon) (ne_eqb c close_paren f)
     ∙ ne_eqb c semicolon g
 
-by_mark : (flags : Settings) (c : ℕ) (t : List ℕ) → is_blank c ≡ false → is_run_char c ≡ false → is_mark c ≡ false → SomeAnswer flags (c ∷ t)
-by_mark flags c t a b d =
+by_punctuation : (flags : Settings) (c : ℕ) (t : List ℕ) → is_whitespace c ≡ false → is_run_char c ≡ false → is_punctuation c ≡ false → SomeAnswer flags (c ∷ t)
+by_punctuation flags c t a b d =
     elim (cases_eq c open_paren) [
       | inl e ↦ subst (λ x. SomeAnswer flags (x ∷ t)) (sym e) (after_open flags t)
       | inr e ↦ elim (cases_eq c close_paren) [
@@ -194,10 +194,10 @@ by_mark flags c t a b d =
 pub some_answer : (flags : Settings) (text : List ℕ) → SomeAnswer flags text
 some_answer flags [] = nothing refl
 some_answer flags (c ∷ t) =
-    elim (cases_Bool (is_blank c)) [
-      | inl a ↦ blank_answer flags c t a
+    elim (cases_Bool (is_whitespace c)) [
+      | inl a ↦ whitespace_answer flags c t a
       | inr a ↦ elim (cases_Bool (is_run_char c)) [
         | inl b ↦ run_answer flags (c ∷ t) b (some_run flags (c ∷ t))
-        | inr b ↦ elim (cases_Bool (is_mark c)) [ inl d ↦ mark_answer flags c t d | inr d ↦ by_mark flags c t a b d ]
+        | inr b ↦ elim (cases_Bool (is_punctuation c)) [ inl d ↦ punctuation_answer flags c t d | inr d ↦ by_punctuation flags c t a b d ]
       ]
     ]

@@ -265,7 +265,7 @@ no_quotes (c ∷ cs) h = (ne_eqb c 34 (λ e. both_ways (is_idchar c) (ap is_idch
 pub bare_free : (cs : List ℕ) → Each is_idchar cs → HasNoEscape cs
 bare_free cs h = inl (no_quotes cs h)
 
--- the error of a name: want of memory, or what is wrong with it
+-- the error of a name: an out-of-memory error, or what is wrong with it
 pub memory_error : {T : Type 0} (r : Result T (Option Report)) (text : List ℕ) (empty : LexError) (offset : ℕ) (w : List ℕ) → IsErrAnd r (λ e. e ≡ None) → (HasNoEscape w → ⊥) → IfErr r (NameError text empty offset w)
 memory_error (Ok x) text empty offset w h n = tt
 memory_error (Err e) text empty offset w h n = subst (NameError text empty offset w) (sym h) (λ free. absurd (n free))

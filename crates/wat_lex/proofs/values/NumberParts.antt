@@ -72,9 +72,9 @@ long hex w s e h f = subst (λ x. 2 ≤ length x) (sym e) (decimals_long (unsign
 
 -- a float's word behind its first digits
 pub record Split (hex : Bool) (w tail : List ℕ) : Type 0 where
-  pub front : List ℕ
-  pub cut : w ≡ front ++ tail
-  pub integral : IntegralPart hex (unsigned front) []
+  pub leading : List ℕ
+  pub cut : w ≡ leading ++ tail
+  pub integral : IntegralPart hex (unsigned leading) []
   pub is : Tail hex tail
 
 pub split : (hex : Bool) (w b tail : List ℕ) → Decimals hex (unsigned w) → b ≡ behind_prefix hex (unsigned w) → LongestDigits hex b tail → Split hex w tail
@@ -85,7 +85,7 @@ split hex w b tail h e l = by (unsigned w) refl h
         let d : Digits hex b t = subst (λ x. Digits hex x t) (ap (behind_prefix hex) f ∙ sym e) (integral_digits hex s t a) in
         let g : t ≡ tail = digits_one hex b t tail d (tail_stops hex t k) l.digits l.stops in
         let p = cut_word hex w tail (subst (λ x. IntegralPart hex x tail) f (subst (IntegralPart hex s) g a)) in
-        record { front = p.0; cut = p.1; integral = p.2; is = subst (Tail hex) g k }
+        record { leading = p.0; cut = p.1; integral = p.2; is = subst (Tail hex) g k }
 
 pub no_split : (hex : Bool) (s b : List ℕ) → Decimals hex s → b ≡ behind_prefix hex s → NoDigits hex b → ⊥
 no_split hex s b (decimals {t = t} a k) e n = n t (record { digits = subst (λ x. Digits hex x t) (sym e) (integral_digits hex s t a); stops = tail_stops hex t k })
@@ -94,8 +94,8 @@ no_split hex s b (decimals {t = t} a k) e n = n t (record { digits = subst (λ x
 pub seam : (s f r : List ℕ) → s ≡ f ++ r → length s - length r ≡ length f
 seam s f r e = omega (arith, ap length e, length-append f r)
 
-pub seam_front : (s f r : List ℕ) → s ≡ f ++ r → take (length s - length r) s ≡ f
-seam_front s f r e = ap (take (length s - length r)) e ∙ take_at f r (length s - length r) (sym (seam s f r e))
+pub seam_prefix : (s f r : List ℕ) → s ≡ f ++ r → take (length s - length r) s ≡ f
+seam_prefix s f r e = ap (take (length s - length r)) e ∙ take_at f r (length s - length r) (sym (seam s f r e))
 
 pub seam_back : (s f r : List ℕ) → s ≡ f ++ r → drop (length s - length r) s ≡ r
 seam_back s f r e = ap (drop (length s - length r)) e ∙ drop_at f r (length s - length r) (sym (seam s f r e))
@@ -138,7 +138,7 @@ ends_none hex t (digits_powered {r = r} d k) n = absurd (n r (record { digits = 
 pub point_some : (hex : Bool) (s t rest : List ℕ) → s ≡ 46 ∷ t → LongestDigits hex t rest → (d r : List ℕ) → d ≡ take (length t - length rest) t → r ≡ drop (length t - length rest) t → Point hex s (Some d) r
 point_some hex s t rest e l d r f g =
     let p = cut_digits hex t rest l.digits in
-    let x : d ≡ p.0 = f ∙ seam_front t p.0 rest p.1 in
+    let x : d ≡ p.0 = f ∙ seam_prefix t p.0 rest p.1 in
     let y : r ≡ rest = g ∙ seam_back t p.0 rest p.1 in
     subst (λ u. Point hex u (Some d) r) (sym e) (filled (p.1 ∙ ap (λ u. u ++ rest) (sym x) ∙ ap (λ u. d ++ u) (sym y)) (subst (λ u. Digits hex u []) (sym x) p.2))
 

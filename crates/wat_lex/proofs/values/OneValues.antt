@@ -127,9 +127,9 @@ parts_one hex s r q f g x y (filled {t = t} {d = d} e h) p (filled {d = b} u i) 
     record { fraction = ap Some digits; exponent = power_one hex r x y p (subst (λ z. Power hex z y) (sym same) k) }
 
 -- the first digits in the whole word
-integral_at : (hex : Bool) (w front tail : List ℕ) → w ≡ front ++ tail → IntegralPart hex (unsigned front) [] → IntegralPart hex (unsigned w) tail
-integral_at hex w front tail e h =
-    subst (λ s. IntegralPart hex s tail) (sym (ap unsigned e ∙ unsigned_on hex front [] tail h)) (integral_on hex (unsigned front) [] tail h)
+integral_at : (hex : Bool) (w leading tail : List ℕ) → w ≡ leading ++ tail → IntegralPart hex (unsigned leading) [] → IntegralPart hex (unsigned w) tail
+integral_at hex w leading tail e h =
+    subst (λ s. IntegralPart hex s tail) (sym (ap unsigned e ∙ unsigned_on hex leading [] tail h)) (integral_on hex (unsigned leading) [] tail h)
 
 -- where the first digits end, and the base
 record SameTail (h k : Bool) (s t : List ℕ) : Type 0 where
@@ -146,9 +146,9 @@ same_tail w h k a b f g x y p q =
 same_parts : (w : List ℕ) (hex : Bool) (a b : List ℕ) (f g x y : Option (List ℕ)) → FloatParts hex w a f x → FloatParts hex w b g y → (a ≡ b) × (f ≡ g) × (x ≡ y)
 same_parts w hex a b f g x y p q =
     let tails = (same_tail w hex hex a b f g x y p q).tail in
-    let fronts : a ≡ b = append_cancel_right a b p.tail (sym p.cut ∙ q.cut ∙ ap (λ z. b ++ z) (sym tails)) in
+    let leading : a ≡ b = append_cancel_right a b p.tail (sym p.cut ∙ q.cut ∙ ap (λ z. b ++ z) (sym tails)) in
     let parts = parts_one hex p.tail p.rest q.rest f g x y p.point p.power (subst (λ z. Point hex z g q.rest) (sym tails) q.point) q.power in
-    (fronts, parts.fraction, parts.exponent)
+    (leading, parts.fraction, parts.exponent)
 
 pub one_cut : (w : List ℕ) → OneCut w
 one_cut w = record { base = λ h k a b f g x y p q. (same_tail w h k a b f g x y p q).base; parts = same_parts w }

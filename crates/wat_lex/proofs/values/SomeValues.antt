@@ -82,7 +82,7 @@ parts_of hex w (decimals {t = t} h k) =
     let p = cut_word hex w t h in
     let b = behind hex t k in
     record {
-      front = p.0;
+      leading = p.0;
       fraction = b.fraction;
       exponent = b.exponent;
       parts = record { tail = t; rest = b.rest; cut = p.1; first = p.2; point = b.point; power = b.power };

@@ -21,7 +21,7 @@ use Rattle.wat_lex.proofs.grammar.OneString.{element_unique, quoted_sound}
 
 -- a text that is cut behind n bytes
 pub record Seam (text w rest : List ℕ) (n : ℕ) : Type 0 where
-  pub front : take n text ≡ encodes w
+  pub prefix : take n text ≡ encodes w
   pub behind : chars (drop n text) ≡ rest
   pub utf8 : IsUtf8 (drop n text)
   pub boundary : IsCharBoundary text n
@@ -34,7 +34,7 @@ seam text w rest n u e m =
     let d : drop n text ≡ encodes rest = ap (λ x. drop n x) h.bytes ∙ drop_at (encodes w) (encodes rest) n (sym m) in
     let l : length text ≡ length (encodes w) + length (encodes rest) = ap length h.bytes ∙ length-append (encodes w) (encodes rest) in
     record {
-      front = ap (λ x. take n x) h.bytes ∙ take_at (encodes w) (encodes rest) n (sym m);
+      prefix = ap (λ x. take n x) h.bytes ∙ take_at (encodes w) (encodes rest) n (sym m);
       behind = ap chars d ∙ chars-encodes rest h.right;
       utf8 = subst IsUtf8 (sym d) (rest, (h.right, refl));
       boundary = subst (IsCharBoundary text) (sym m) (IsCharBoundary-at_seam text (encodes w) (encodes rest) h.bytes (rest, (h.right, refl)));
@@ -42,7 +42,7 @@ seam text w rest n u e m =
       bytes = omega (arith, l, m, ap length d);
     }
 
--- one ASCII character in front
+-- one ASCII character at the start
 pub seam_one : (text rest : List ℕ) (c : ℕ) → IsUtf8 text → c < 128 → chars text ≡ c ∷ rest → Seam text (c ∷ []) rest 1
 seam_one text rest c u l e = seam text (c ∷ []) rest 1 u e (sym (ap (λ x. length (x ++ [])) (encode_ascii c l)))
 
@@ -57,31 +57,31 @@ none_of (c ∷ cs) h = (by (c == 92) h.0, none_of cs h.1)
 backslash_ascii : (c : ℕ) → is_byte 92 c ≡ true → c < 128
 backslash_ascii c h = let e = eqb-true c 92 h in omega (arith, e)
 
-until_backslash : (text : List ℕ) → IsUtf8 text → (r : Option ℕ) → IsFirstByte (is_byte 92) text r → (t : Until (is_byte 92) (chars text)) × (unwrap_or r (length text) ≡ size t.front)
+until_backslash : (text : List ℕ) → IsUtf8 text → (r : Option ℕ) → IsFirstByte (is_byte 92) text r → (t : Until (is_byte 92) (chars text)) × (unwrap_or r (length text) ≡ size t.prefix)
 until_backslash text u r h =
     let t = until (is_byte 92) backslash_ascii (chars text) in
     (t, first_place (is_byte 92) text r h ∙ ap (prefix_len (λ c. not (is_byte 92 c))) (sym (encodes-chars text u)) ∙ t.len)
 
 -- a backslash stands behind n bytes, and none before
 pub record AtBackslash (text : List ℕ) (n : ℕ) : Type 0 where
-  pub front : List ℕ
-  pub clear : HasNone 92 front
-  pub bytes : take n text ≡ encodes front
-  pub cut : chars text ≡ front ++ 92 ∷ chars (drop (n + 1) text)
+  pub prefix : List ℕ
+  pub clear : HasNone 92 prefix
+  pub bytes : take n text ≡ encodes prefix
+  pub cut : chars text ≡ prefix ++ 92 ∷ chars (drop (n + 1) text)
   pub utf8 : IsUtf8 (drop (n + 1) text)
   pub boundary : IsCharBoundary text (n + 1)
   pub range : n + 1 ≤ length text
   pub shorter : length (drop (n + 1) text) < length text
 
-at_backslash_by : (text front rest : List ℕ) (n : ℕ) → IsUtf8 text → HasNone 92 front → chars text ≡ front ++ 92 ∷ rest → n ≡ size front → AtBackslash text n
-at_backslash_by text front rest n u h e l =
-    let a = seam text front (92 ∷ rest) n u e l in
-    let b = seam text (front ++ 92 ∷ []) rest (n + 1) u (e ∙ sym (append_assoc front (92 ∷ []) rest)) (sym (size-append front (92 ∷ []) ∙ ap (λ x. size front + length (x ++ [])) (encode_ascii 92 (omega arith)) ∙ ap (λ x. x + 1) (sym l))) in
+at_backslash_by : (text prefix rest : List ℕ) (n : ℕ) → IsUtf8 text → HasNone 92 prefix → chars text ≡ prefix ++ 92 ∷ rest → n ≡ size prefix → AtBackslash text n
+at_backslash_by text prefix rest n u h e l =
+    let a = seam text prefix (92 ∷ rest) n u e l in
+    let b = seam text (prefix ++ 92 ∷ []) rest (n + 1) u (e ∙ sym (append_assoc prefix (92 ∷ []) rest)) (sym (size-append prefix (92 ∷ []) ∙ ap (λ x. size prefix + length (x ++ [])) (encode_ascii 92 (omega arith)) ∙ ap (λ x. x + 1) (sym l))) in
     record {
-      front = front;
+      prefix = prefix;
       clear = h;
-      bytes = a.front;
-      cut = e ∙ ap (λ x. front ++ 92 ∷ x) (sym b.behind);
+      bytes = a.prefix;
+      cut = e ∙ ap (λ x. prefix ++ 92 ∷ x) (sym b.behind);
       utf8 = b.utf8;
       boundary = b.boundary;
       range = b.range;
@@ -92,36 +92,36 @@ pub at_backslash : (text : List ℕ) (n : ℕ) → IsUtf8 text → IsFirstByte (
 at_backslash text n u h =
     let t = until_backslash text u (Some n) h in
     let b = h.0 in
-    by t.0.front t.0.rest (none_of t.0.front t.0.passes) t.0.cut t.0.stops t.1 b.high
+    by t.0.prefix t.0.rest (none_of t.0.prefix t.0.passes) t.0.cut t.0.stops t.1 b.high
   where
-    by : (front rest : List ℕ) → HasNone 92 front → chars text ≡ front ++ rest → (rest ≡ []) ⊎ Begins (is_byte 92) rest → n ≡ size front → n < length text → AtBackslash text n
-    by front rest p e (inl s) l g =
-        let k : length text ≡ size front = sym (ap length (encodes-chars text u)) ∙ ap size (e ∙ ap (λ x. front ++ x) s ∙ append-nil front) in
+    by : (prefix rest : List ℕ) → HasNone 92 prefix → chars text ≡ prefix ++ rest → (rest ≡ []) ⊎ Begins (is_byte 92) rest → n ≡ size prefix → n < length text → AtBackslash text n
+    by prefix rest p e (inl s) l g =
+        let k : length text ≡ size prefix = sym (ap length (encodes-chars text u)) ∙ ap size (e ∙ ap (λ x. prefix ++ x) s ∙ append-nil prefix) in
         absurd (omega (arith, k, l))
-    by front [] p e (inr s) l g = absurd s
-    by front (c ∷ rest) p e (inr s) l g = at_backslash_by text front rest n u p (subst (λ x. chars text ≡ front ++ x ∷ rest) (eqb-true c 92 s) e) l
+    by prefix [] p e (inr s) l g = absurd s
+    by prefix (c ∷ rest) p e (inr s) l g = at_backslash_by text prefix rest n u p (subst (λ x. chars text ≡ prefix ++ x ∷ rest) (eqb-true c 92 s) e) l
 
 pub no_backslash : (text : List ℕ) → IsUtf8 text → IsFirstByte (is_byte 92) text None → HasNone 92 (chars text)
 no_backslash text u h =
     let t = until_backslash text u None h in
-    by t.0.front t.0.rest (none_of t.0.front t.0.passes) t.0.cut t.0.stops t.1
+    by t.0.prefix t.0.rest (none_of t.0.prefix t.0.passes) t.0.cut t.0.stops t.1
   where
-    by : (front rest : List ℕ) → HasNone 92 front → chars text ≡ front ++ rest → (rest ≡ []) ⊎ Begins (is_byte 92) rest → length text ≡ size front → HasNone 92 (chars text)
-    by front rest p e (inl s) l = subst (HasNone 92) (sym (e ∙ ap (λ x. front ++ x) s ∙ append-nil front)) p
-    by front [] p e (inr s) l = absurd s
-    by front (c ∷ rest) p e (inr s) l =
+    by : (prefix rest : List ℕ) → HasNone 92 prefix → chars text ≡ prefix ++ rest → (rest ≡ []) ⊎ Begins (is_byte 92) rest → length text ≡ size prefix → HasNone 92 (chars text)
+    by prefix rest p e (inl s) l = subst (HasNone 92) (sym (e ∙ ap (λ x. prefix ++ x) s ∙ append-nil prefix)) p
+    by prefix [] p e (inr s) l = absurd s
+    by prefix (c ∷ rest) p e (inr s) l =
         let d = eqb-true c 92 s in
-        let k : length text ≡ size front + size (c ∷ rest) = sym (ap length (encodes-chars text u)) ∙ ap size e ∙ size-append front (c ∷ rest) in
+        let k : length text ≡ size prefix + size (c ∷ rest) = sym (ap length (encodes-chars text u)) ∙ ap size e ∙ size-append prefix (c ∷ rest) in
         let m : size (c ∷ rest) ≡ 1 + size rest = ap (λ x. size (x ∷ rest)) d ∙ ap (λ x. length (x ++ encodes rest)) (encode_ascii 92 (omega arith)) ∙ length-append (92 ∷ []) (encodes rest) in
         absurd (omega (arith, k, l, m))
 
 -- a text with a backslash has one
-none_at : (front rest : List ℕ) → HasNone 92 (front ++ 92 ∷ rest) → ⊥
+none_at : (prefix rest : List ℕ) → HasNone 92 (prefix ++ 92 ∷ rest) → ⊥
 none_at [] rest h = false≢true (sym h.0)
-none_at (c ∷ front) rest h = none_at front rest h.1
+none_at (c ∷ prefix) rest h = none_at prefix rest h.1
 
 pub has_backslash : (text : List ℕ) (n : ℕ) → IsUtf8 text → IsFirstByte (is_byte 92) text (Some n) → HasNone 92 (chars text) → ⊥
-has_backslash text n u h k = let b = at_backslash text n u h in none_at b.front (chars (drop (n + 1) text)) (subst (HasNone 92) b.cut k)
+has_backslash text n u h k = let b = at_backslash text n u h in none_at b.prefix (chars (drop (n + 1) text)) (subst (HasNone 92) b.cut k)
 
 -- elements with no backslash stand for themselves, up to the quote
 pub record Plain (s v : List ℕ) : Type 0 where
@@ -140,13 +140,13 @@ plain_whole s v (more (byte a b) q) h = absurd (false≢true (sym h.0))
 plain_whole s v (more (unicode ds e a n k) q) h = absurd (false≢true (sym h.0))
 
 -- what stands behind characters that are no backslash
-record PlainFront (cs t v : List ℕ) : Type 0 where
+record PlainPrefix (cs t v : List ℕ) : Type 0 where
   rest : List ℕ
   value : v ≡ encodes cs ++ rest
   quoted : Quoted lenient t rest []
 
-front_more : (c d : ℕ) (cs t v : List ℕ) → d ≡ c → PlainFront cs t v → PlainFront (c ∷ cs) t (encode d ++ v)
-front_more c d cs t v e p = record {
+prefix_more : (c d : ℕ) (cs t v : List ℕ) → d ≡ c → PlainPrefix cs t v → PlainPrefix (c ∷ cs) t (encode d ++ v)
+prefix_more c d cs t v e p = record {
   rest = p.rest;
   value = ap (λ x. encode x ++ v) e ∙ ap (λ x. encode c ++ x) p.value ∙ sym (append_assoc (encode c) (encodes cs) p.rest);
   quoted = p.quoted;
@@ -162,15 +162,15 @@ no_end (c ∷ cs) x t e = cc
 escape_first : (c : ℕ) (cs xs ys : List ℕ) → HasNone 92 (c ∷ cs) → 92 ∷ xs ≡ c ∷ ys → ⊥
 escape_first c cs xs ys h e = both_ways (c == 92) h.0 (eq-eqb c 92 (sym (same_head 92 c xs ys e).0))
 
-plain_front : (cs : List ℕ) (x : ℕ) (t s v : List ℕ) → HasNone 92 cs → Quoted lenient s v [] → s ≡ cs ++ x ∷ t → PlainFront cs (x ∷ t) v
-plain_front [] x t s v h q e = record { rest = v; value = refl; quoted = subst (λ y. Quoted lenient y v []) e q }
-plain_front (c ∷ cs) x t s v h ends e = absurd (no_end cs x t (same_head 34 c [] (cs ++ x ∷ t) e).1)
-plain_front (c ∷ cs) x t s v h (more {t = r} {v = w} (raw {c = d} a) q) e =
+plain_prefix : (cs : List ℕ) (x : ℕ) (t s v : List ℕ) → HasNone 92 cs → Quoted lenient s v [] → s ≡ cs ++ x ∷ t → PlainPrefix cs (x ∷ t) v
+plain_prefix [] x t s v h q e = record { rest = v; value = refl; quoted = subst (λ y. Quoted lenient y v []) e q }
+plain_prefix (c ∷ cs) x t s v h ends e = absurd (no_end cs x t (same_head 34 c [] (cs ++ x ∷ t) e).1)
+plain_prefix (c ∷ cs) x t s v h (more {t = r} {v = w} (raw {c = d} a) q) e =
     let k = same_head d c r (cs ++ x ∷ t) e in
-    front_more c d cs (x ∷ t) w k.0 (plain_front cs x t r w h.1 q k.1)
-plain_front (c ∷ cs) x t s v h (more (letter {c = d} {r = r} a) q) e = absurd (escape_first c cs (d ∷ r) (cs ++ x ∷ t) h e)
-plain_front (c ∷ cs) x t s v h (more (byte {c = d} {d = f} {r = r} a b) q) e = absurd (escape_first c cs (d ∷ f ∷ r) (cs ++ x ∷ t) h e)
-plain_front (c ∷ cs) x t s v h (more (unicode {d = d} {s = y} ds f a n k) q) e = absurd (escape_first c cs (117 ∷ 123 ∷ d ∷ y) (cs ++ x ∷ t) h e)
+    prefix_more c d cs (x ∷ t) w k.0 (plain_prefix cs x t r w h.1 q k.1)
+plain_prefix (c ∷ cs) x t s v h (more (letter {c = d} {r = r} a) q) e = absurd (escape_first c cs (d ∷ r) (cs ++ x ∷ t) h e)
+plain_prefix (c ∷ cs) x t s v h (more (byte {c = d} {d = f} {r = r} a b) q) e = absurd (escape_first c cs (d ∷ f ∷ r) (cs ++ x ∷ t) h e)
+plain_prefix (c ∷ cs) x t s v h (more (unicode {d = d} {s = y} ds f a n k) q) e = absurd (escape_first c cs (117 ∷ 123 ∷ d ∷ y) (cs ++ x ∷ t) h e)
 
 -- part of a string's value is read: what is read, and the value of the rest
 pub record Reading (start rest done : List ℕ) : Type 0 where
@@ -198,10 +198,10 @@ pub reading_escape : (start rest done next u : List ℕ) (n : ℕ) → Reading s
 reading_escape start rest done next u n h b e =
     let a = at_backslash rest n h.utf8 b in
     let mid = chars (drop (n + 1) rest) in
-    let p = plain_front a.front 92 mid (chars rest) h.value a.clear h.left a.cut in
+    let p = plain_prefix a.prefix 92 mid (chars rest) h.value a.clear h.left a.cut in
     let f = first_element (92 ∷ mid) u (chars next) p.rest 92 mid (λ x. false≢true (ap (λ y. y == 34) x)) p.quoted refl e.element in
     let v : done ++ h.value ≡ ((done ++ take n rest) ++ u) ++ f.rest =
-    ap (λ x. done ++ x) (p.value ∙ ap (λ x. encodes a.front ++ x) f.value ∙ ap (λ x. x ++ (u ++ f.rest)) (sym a.bytes))
+    ap (λ x. done ++ x) (p.value ∙ ap (λ x. encodes a.prefix ++ x) f.value ∙ ap (λ x. x ++ (u ++ f.rest)) (sym a.bytes))
     ∙ sym (append_assoc done (take n rest) (u ++ f.rest)) ∙ sym (append_assoc (done ++ take n rest) u f.rest) in
     record { value = f.rest; left = f.quoted; whole = subst (λ x. Quoted lenient (chars start) x []) v h.whole; utf8 = e.utf8 }
 
@@ -209,7 +209,7 @@ pub reading_sound : (start rest done : List ℕ) (n : ℕ) (broken : Broken) →
 reading_sound start rest done n broken h b e =
     let a = at_backslash rest n h.utf8 b in
     let mid = chars (drop (n + 1) rest) in
-    let p = plain_front a.front 92 mid (chars rest) h.value a.clear h.left a.cut in
+    let p = plain_prefix a.prefix 92 mid (chars rest) h.value a.clear h.left a.cut in
     quoted_sound lenient (92 ∷ mid) p.rest [] e.at broken.error p.quoted e.fault
 
 -- the last byte is the closing quote
@@ -223,7 +223,7 @@ closing text v u h q =
     let p = plain_whole (chars text) v q h in
     let l : length text ≡ size p.inner + 1 = sym (ap length (encodes-chars text u)) ∙ ap size p.cut ∙ size-append p.inner (34 ∷ []) ∙ ap (λ x. size p.inner + length (x ++ [])) (encode_ascii 34 (omega arith)) in
     let s = seam text p.inner (34 ∷ []) (length text - 1) u p.cut (omega (arith, l)) in
-    record { range = omega (arith, l); value = s.front ∙ sym p.value; boundary = s.boundary }
+    record { range = omega (arith, l); value = s.prefix ∙ sym p.value; boundary = s.boundary }
 
 pub reading_ends : (start rest done : List ℕ) → Reading start rest done → IsFirstByte (is_byte 92) rest None → Quoted lenient (chars start) (done ++ take (length rest - 1) rest) []
 reading_ends start rest done h b =

@@ -1,4 +1,4 @@
--- An error, as its callers see it: what it reports, or want of memory. No part of the standard.
+-- An error, as its callers see it: what it reports, or an out-of-memory error. No part of the standard.
 use Rattle.std.specs.Prelude.{◌≡◌, ℕ, List, Option, Some, None, IsSome, codes, ◌++◌}
 use Rattle.std.specs.Fmt.{decimal}
 use Rattle.wat_lex.specs.errors.Messages.{message}
@@ -25,12 +25,12 @@ report_in text offset cause = record { offset = offset; cause = cause; excerpt =
 abbrev pub lexical : List ℕ → LexFault → Report
 lexical text f = report_in text f.offset (Lexical f.error)
 
--- something of a text is kept, or the error is want of memory, which keeps none
+-- something of a text is kept, or the error is out of memory, which keeps none
 abbrev pub HasText : Option Report → Type 0
 HasText None = Unit {0}
 HasText (Some r) = IsSome r.excerpt
 
--- the error with what is kept of this text, if nothing is yet; want of memory stays what it is
+-- the error with what is kept of this text, if nothing is yet; an out-of-memory error stays what it is
 abbrev pub with_text : List ℕ → Option Report → Option Report
 with_text text None = None
 with_text text (Some r) = by r.excerpt
@@ -39,7 +39,7 @@ with_text text (Some r) = by r.excerpt
     by None = Some (report_in text r.offset r.cause)
     by (Some e) = Some r
 
--- the error is this report, or want of memory
+-- the error is this report, or an out-of-memory error
 abbrev pub IsUnlessMemory : Option Report → Report → Type 0
 IsUnlessMemory None r = Unit {0}
 IsUnlessMemory (Some e) r = e ≡ r
@@ -71,7 +71,7 @@ lex_error_of (Some r) = by r.cause
     by (Lexical e) = Some e
     by (Custom m) = None
 
--- the byte that an error is about, and 0 for want of memory
+-- the byte that an error is about, and 0 for an out-of-memory error
 abbrev pub offset_of : Option Report → ℕ
 offset_of None = 0
 offset_of (Some r) = r.offset

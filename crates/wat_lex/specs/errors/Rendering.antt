@@ -38,7 +38,7 @@ excerpt text offset =
 abbrev pub right_in : ℕ → List ℕ → List ℕ
 right_in places text = replicate (places - length text) 32 ++ text
 
--- the place of an error, and below it the line with a mark under the column; the place alone, from column 501 on
+-- the place of an error, and below it the line with a marker under the column; the place alone, from column 501 on
 abbrev pub shown_place : Excerpt → List ℕ
 shown_place e =
     let place = codes "<anon>:" ++ decimal e.line ++ codes ":" ++ decimal e.column in
@@ -48,6 +48,6 @@ shown_place e =
     ++ codes "\n " ++ right_in 4 (decimal e.line) ++ codes " | " ++ e.snippet
     ++ codes "\n      | " ++ right_in e.column (codes "^")
 
--- the message of an error about a byte of a text, its place, and the line with a mark
+-- the message of an error about a byte of a text, its place, and the line with a marker
 abbrev pub rendered : List ℕ → List ℕ → ℕ → List ℕ
 rendered text message offset = message ++ shown_place (excerpt text offset)

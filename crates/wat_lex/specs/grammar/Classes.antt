@@ -53,8 +53,8 @@ abbrev pub close_brace : ℕ
 close_brace = 125
 
 -- space, LF, CR and TAB
-abbrev pub is_blank : ℕ → Bool
-is_blank c = char_set_contains (32 ∷ line_feed ∷ carriage_return ∷ 9 ∷ []) c
+abbrev pub is_whitespace : ℕ → Bool
+is_whitespace c = char_set_contains (32 ∷ line_feed ∷ carriage_return ∷ 9 ∷ []) c
 
 abbrev pub is_line_end : ℕ → Bool
 is_line_end c = char_set_contains (line_feed ∷ carriage_return ∷ []) c
@@ -66,8 +66,8 @@ abbrev pub is_hex : ℕ → Bool
 is_hex c = is_ascii_hexdigit c
 
 -- the characters that are a reserved token of their own, apart from `;`
-abbrev pub is_mark : ℕ → Bool
-is_mark c = char_set_contains (codes ",[]{}") c
+abbrev pub is_punctuation : ℕ → Bool
+is_punctuation c = char_set_contains (codes ",[]{}") c
 
 -- what a run is made of: an idchar, or the quote that begins a string
 abbrev pub is_run_char : ℕ → Bool

@@ -33,11 +33,11 @@ hex_value ds = digits_value 16 (filter is_hex ds)
 
 -- no underscore follows directly on another
 abbrev pub IsParted : List ℕ → Type 0
-IsParted ds = (front back : List ℕ) → ds ≢ front ++ underscore ∷ underscore ∷ back
+IsParted ds = (prefix back : List ℕ) → ds ≢ prefix ++ underscore ∷ underscore ∷ back
 
 -- the last character is an underscore
 abbrev pub EndsInUnderscore : List ℕ → Type 0
-EndsInUnderscore ds = (front : List ℕ) × (ds ≡ front ++ underscore ∷ [])
+EndsInUnderscore ds = (prefix : List ℕ) × (ds ≡ prefix ++ underscore ∷ [])
 
 -- A hexadecimal digit d, and ds, which are digits and underscores; together they write at most 2^32-1. With strict
 -- underscores none of these follows directly on another.

@@ -2,7 +2,7 @@
 -- each kind of token, and what may follow a word of it. Other than in the standard, each of `,` `;` `[` `]` `{` `}` is a
 -- reserved token of its own, which joins no run.
 use Rattle.std.specs.Prelude.{◌≡◌, ◌≢◌, ℕ, ◌||◌, ◌==◌, ◌⊎◌, List, [], ◌∷◌, ◌++◌, IsTrue}
-use Rattle.wat_lex.specs.grammar.Classes.{open_paren, close_paren, semicolon, is_blank, is_line_end, is_mark, is_run_char, Each, Begins, IsClear}
+use Rattle.wat_lex.specs.grammar.Classes.{open_paren, close_paren, semicolon, is_whitespace, is_line_end, is_punctuation, is_run_char, Each, Begins, IsClear}
 use Rattle.wat_lex.specs.grammar.Comments.{BlockComment as Commented, LineComment as CommentedLine}
 use Rattle.wat_lex.specs.grammar.Runs.{RunWord}
 use Rattle.wat_lex.specs.declared.lexer.settings.Settings.{Settings}
@@ -10,17 +10,17 @@ use Rattle.wat_lex.specs.declared.lexer.kinds.TokenKind.{TokenKind}
 use Rattle.wat_lex.specs.declared.lexer.kinds.TokenKind.TheVariants.{LineComment, BlockComment, Whitespace, LParen, RParen, Reserved}
 
 -- a reserved character that is a word
-abbrev pub Mark : List ℕ → Type 0
-Mark w = (c : ℕ) × (w ≡ c ∷ []) × IsTrue (is_mark c || c == semicolon)
+abbrev pub Punctuation : List ℕ → Type 0
+Punctuation w = (c : ℕ) × (w ≡ c ∷ []) × IsTrue (is_punctuation c || c == semicolon)
 
 -- w is in the language of the kind
 abbrev pub Word : TokenKind → List ℕ → Settings → Type 0
-Word Whitespace w flags = (w ≢ []) × Each is_blank w
+Word Whitespace w flags = (w ≢ []) × Each is_whitespace w
 Word LineComment w flags = CommentedLine w × IsClear flags.allow w
 Word BlockComment w flags = Commented w [] × IsClear flags.allow w
 Word LParen w flags = w ≡ open_paren ∷ []
 Word RParen w flags = w ≡ close_paren ∷ []
-Word Reserved w flags = Mark w ⊎ RunWord Reserved w flags
+Word Reserved w flags = Punctuation w ⊎ RunWord Reserved w flags
 Word kind w flags = RunWord kind w flags
 
 -- neither an idchar nor a string follows
@@ -29,15 +29,15 @@ EndsRun rest = Begins is_run_char rest → ⊥
 
 -- the rest may follow the word w of this kind
 abbrev pub MayFollow : TokenKind → List ℕ → List ℕ → Type 0
-MayFollow Whitespace w rest = Begins is_blank rest → ⊥
+MayFollow Whitespace w rest = Begins is_whitespace rest → ⊥
 MayFollow LineComment w rest = (rest ≡ []) ⊎ Begins is_line_end rest
 MayFollow BlockComment w rest = Unit {0}
 MayFollow LParen w rest = Begins (λ c. c == semicolon) rest → ⊥
 MayFollow RParen w rest = Unit {0}
-MayFollow Reserved w rest = (w ≡ semicolon ∷ [] → Begins (λ c. c == semicolon) rest → ⊥) × ((Mark w → ⊥) → EndsRun rest)
+MayFollow Reserved w rest = (w ≡ semicolon ∷ [] → Begins (λ c. c == semicolon) rest → ⊥) × ((Punctuation w → ⊥) → EndsRun rest)
 MayFollow kind w rest = EndsRun rest
 
--- a word of this kind stands at the front of the text, and may stand there
+-- a word of this kind stands at the start of the text, and may stand there
 pub record WordStands (flags : Settings) (text : List ℕ) (kind : TokenKind) (w rest : List ℕ) : Type 0 where
   pub cut : text ≡ w ++ rest
   pub word : Word kind w flags

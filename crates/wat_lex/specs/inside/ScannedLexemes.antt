@@ -8,28 +8,28 @@ use Rattle.wat_lex.specs.declared.lexer.settings.Settings.{Settings}
 use Rattle.wat_lex.specs.declared.lexer.kinds.Lexeme.{Lexeme}
 use Rattle.wat_lex.specs.declared.lexer.faults.LexFault.{LexFault}
 
--- a word of this kind and of so many bytes stands at the front
+-- a word of this kind and of so many bytes stands at the start
 pub record LexemeFound (flags : Settings) (text : List ℕ) (lexeme : Lexeme) : Type 0 where
   pub word : List ℕ
   pub rest : List ℕ
   pub stands : WordStands flags (chars text) lexeme.kind word rest
   pub len : lexeme.len ≡ size word
 
--- the text begins with no word, and this is the fault, its offset from the front
+-- the text begins with no word, and this is the fault, its offset from the start
 pub record Refused (flags : Settings) (text : List ℕ) (f : LexFault) : Type 0 where
   pub at : List ℕ
   pub fault : Fault flags (chars text) f.error at
   pub place : f.offset + size at ≡ length text
 
--- what stands at the front of the text
+-- what stands at the start of the text
 abbrev pub Answers : Settings → List ℕ → Result (Option Lexeme) LexFault → Type 0
 Answers flags text r = MatchResult r (λ found. MatchOption found (text ≡ []) (LexemeFound flags text)) (Refused flags text)
 
 -- the first confusing character of the text and its place
 pub record FirstConfusing (text : List ℕ) (i c : ℕ) : Type 0 where
-  pub front : List ℕ
+  pub prefix : List ℕ
   pub behind : List ℕ
-  pub cut : chars text ≡ front ++ c ∷ behind
-  pub clear : NonePass is_confusing front
+  pub cut : chars text ≡ prefix ++ c ∷ behind
+  pub clear : NonePass is_confusing prefix
   pub is : IsTrue (is_confusing c)
-  pub place : i ≡ size front
+  pub place : i ≡ size prefix

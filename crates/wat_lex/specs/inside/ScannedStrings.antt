@@ -18,15 +18,15 @@ escape_bytes (Byte b) = b ∷ []
 escape_bytes (Scalar c) = encode_utf8 c
 
 -- behind the given characters, the old rest begins with what is left of an element of this value
-pub record Escaped (flags : Settings) (front old new value : List ℕ) : Type 0 where
-  pub element : Element flags (front ++ chars old) value (chars new)
+pub record Escaped (flags : Settings) (prefix old new value : List ℕ) : Type 0 where
+  pub element : Element flags (prefix ++ chars old) value (chars new)
   pub utf8 : IsUtf8 new
   pub shorter : length new ≤ length old
 
 -- behind the given characters, the old rest goes wrong where so many bytes are left
-pub record Breaks (flags : Settings) (front old : List ℕ) (broken : Broken) : Type 0 where
+pub record Breaks (flags : Settings) (prefix old : List ℕ) (broken : Broken) : Type 0 where
   pub at : List ℕ
-  pub fault : StringFault flags (front ++ chars old) broken.error at
+  pub fault : StringFault flags (prefix ++ chars old) broken.error at
   pub place : broken.left ≡ size at
 
 -- the rest after a string
@@ -59,7 +59,7 @@ pub record StringTaken (flags : Settings) (text : List ℕ) (n : ℕ) : Type 0 w
   pub utf8 : IsUtf8 (drop n text)
   pub range : n ≤ length text
 
--- the string goes wrong, its offset from the text's front
+-- the string goes wrong, its offset from the text's start
 pub record StringRefused (flags : Settings) (text : List ℕ) (f : LexFault) : Type 0 where
   pub at : List ℕ
   pub fault : StringFault flags (chars text) f.error at

@@ -18,13 +18,13 @@ sure (t ∷ []) None = []
 sure (t ∷ u ∷ us) None = t ∷ sure (u ∷ us) None
 
 -- the first n bytes of the text, with its flags
-abbrev pub front : Setting → ℕ → Setting
-front s n = record s { text = take n s.text }
+abbrev pub prefix : Setting → ℕ → Setting
+prefix s n = record s { text = take n s.text }
 
--- The front has raw tokens from the byte p on, and those of them that stay begin the raw tokens of the whole.
+-- The prefix has raw tokens from the byte p on, and those of them that stay begin the raw tokens of the whole.
 pub record CutAt (s : Setting) (p n : ℕ) : Type 0 where
-  pub some : SomeTiling (front s n) p
-  pub begins : (ts us : List Token) (e f : Option LexFault) → MaximalTiling (front s n) p ts e → MaximalTiling s p us f → (rest : List Token) × (us ≡ sure ts e ++ rest)
+  pub some : SomeTiling (prefix s n) p
+  pub begins : (ts us : List Token) (e f : Option LexFault) → MaximalTiling (prefix s n) p ts e → MaximalTiling s p us f → (rest : List Token) × (us ≡ sure ts e ++ rest)
 
 -- So it is wherever the text is cut between two characters, at the byte p or behind it.
 abbrev pub Cuts : Setting → ℕ → Type 0

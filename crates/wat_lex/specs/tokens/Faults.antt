@@ -1,8 +1,8 @@
 -- WebAssembly specification, text format, lexical format: what a text can't begin with. The standard has no word for the
--- text there; the error and the place where it is told are the lexer's own.
+-- text there; the error and the place where it is reported are the lexer's own.
 use Rattle.std.specs.Prelude.{◌≡◌, ◌<◌, ◌+◌, ℕ, Bool, false, ◌||◌, ◌==◌, ◌⊎◌, List, ◌∷◌, ◌++◌, IsTrue, length, drop}
 use Rattle.std.specs.Str.{chars, NonePass}
-use Rattle.wat_lex.specs.grammar.Classes.{quote, open_paren, close_paren, semicolon, is_blank, is_mark, is_run_char, is_confusing, size}
+use Rattle.wat_lex.specs.grammar.Classes.{quote, open_paren, close_paren, semicolon, is_whitespace, is_punctuation, is_run_char, is_confusing, size}
 use Rattle.wat_lex.specs.grammar.Comments.{BlockComment as Commented}
 use Rattle.wat_lex.specs.grammar.Runs.{Piece, Run}
 use Rattle.wat_lex.specs.tokens.Setting.{Setting, allowing}
@@ -16,20 +16,20 @@ use Rattle.wat_lex.specs.declared.lexer.faults.LexError.TheVariants.{DanglingBlo
 use Rattle.wat_lex.specs.declared.lexer.faults.LexFault.{LexFault}
 
 abbrev pub begins_word : ℕ → Bool
-begins_word c = (is_blank c || is_run_char c) || (is_mark c || ((c == open_paren || c == close_paren) || c == semicolon))
+begins_word c = (is_whitespace c || is_run_char c) || (is_punctuation c || ((c == open_paren || c == close_paren) || c == semicolon))
 
 abbrev pub IsComment : TokenKind → Type 0
 IsComment kind = (kind ≡ LineComment) ⊎ (kind ≡ BlockComment)
 
--- The text begins with no word: which error, and the text from the place where it is told.
+-- The text begins with no word: which error, and the text from the place where it is reported.
 pub data Fault : Settings → List ℕ → LexError → List ℕ → Type 0 where
   -- a character with which no word begins
   unexpected : {flags : Settings} {c : ℕ} {t : List ℕ} → (IsTrue (begins_word c) → ⊥) → Fault flags (c ∷ t) (Unexpected c) (c ∷ t)
-  -- `(;`, and no front of the text is a block comment, whatever characters are in it
+  -- `(;`, and no prefix of the text is a block comment, whatever characters are in it
   dangling : {flags : Settings} {t : List ℕ} → ((r : List ℕ) → Commented (open_paren ∷ semicolon ∷ t) r → ⊥) → Fault flags (open_paren ∷ semicolon ∷ t) DanglingBlockComment (open_paren ∷ semicolon ∷ t)
   -- c is the first confusing character of a comment that would stand here if they were allowed
-  confusing : {flags : Settings} {s t : List ℕ} {c : ℕ} {kind : TokenKind} {w rest : List ℕ} (front : List ℕ) → flags.allow ≡ false → IsComment kind → WordStands (allowing flags) s kind w rest
-      → s ≡ front ++ c ∷ t → NonePass is_confusing front → IsTrue (is_confusing c) → length front < length w → Fault flags s (ConfusingUnicode c) (c ∷ t)
+  confusing : {flags : Settings} {s t : List ℕ} {c : ℕ} {kind : TokenKind} {w rest : List ℕ} (prefix : List ℕ) → flags.allow ≡ false → IsComment kind → WordStands (allowing flags) s kind w rest
+      → s ≡ prefix ++ c ∷ t → NonePass is_confusing prefix → IsTrue (is_confusing c) → length prefix < length w → Fault flags s (ConfusingUnicode c) (c ∷ t)
   -- idchars and strings, and then a string that goes wrong
   in_string : {flags : Settings} {s t at : List ℕ} {ps : List Piece} {e : LexError} → Run flags s ps (quote ∷ t) → StringFault flags t e at → Fault flags s e at
 

@@ -9,7 +9,7 @@ use Rattle.wat_lex.specs.tokens.Tiling.{TokenAt, MaximalTiling}
 use Rattle.wat_lex.specs.declared.lexer.kinds.Token.{Token}
 use Rattle.wat_lex.specs.declared.lexer.faults.LexFault.{LexFault}
 
--- a token, or an error: a report, or want of memory
+-- a token, or an error: a report, or an out-of-memory error
 abbrev pub Item : Type 0
 Item = Result Token (Option Report)
 
@@ -26,11 +26,11 @@ pub record Raw (s : Setting) (from : ℕ) (items : List Item) : Type 0 where
   pub tiling : MaximalTiling s from tokens ending
   pub spelled : Spells s.text tokens ending items
 
--- at the place no word stands, and this is the error of the fault there, or want of memory
+-- at the place no word stands, and this is the error of the fault there, or an out-of-memory error
 pub record ErrorAt (s : Setting) (p : ℕ) (e : Option Report) : Type 0 where
   pub fault : LexFault
   pub stands : FaultAt s p fault
-  pub told : IsUnlessMemory e (lexical s.text fault)
+  pub reported : IsUnlessMemory e (lexical s.text fault)
 
 -- an iterator over the tokens: the text and the flags, the place, and whether it has ended
 pub record Progress : Type 0 where

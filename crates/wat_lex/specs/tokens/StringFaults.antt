@@ -1,5 +1,5 @@
 -- WebAssembly specification, text format, values: strings. How a text that begins as a string goes wrong: good elements
--- in front, and then one of the cases below. Each names the error and the text from the place where it is told.
+-- first, and then one of the cases below. Each names the error and the text from the place where it is reported.
 use Rattle.std.specs.Prelude.{◌≡◌, ◌≢◌, ◌≤◌, ◌^◌, ℕ, true, false, List, [], ◌∷◌, ◌++◌, IsTrue, None}
 use Rattle.std.specs.Char.{IsScalar}
 use Rattle.wat_lex.specs.grammar.Classes.{backslash, underscore, letter_u, open_brace, close_brace, is_hex, is_confusing, Begins}

@@ -9,8 +9,8 @@ use Rattle.wat_lex.specs.declared.lexer.kinds.Token.{Token}
 use Rattle.wat_lex.specs.declared.lexer.kinds.TokenKind.TheVariants.{Annotation}
 
 -- the byte there is `@`
-abbrev pub IsMarked : List ℕ → ℕ → Type 0
-IsMarked text p = Begins (λ b. b == at_sign) (drop p text)
+abbrev pub HasAtSign : List ℕ → ℕ → Type 0
+HasAtSign text p = Begins (λ b. b == at_sign) (drop p text)
 
 -- another token stands there
 abbrev pub IsOther : Setting → ℕ → Type 0
@@ -18,6 +18,6 @@ IsOther s p = (t : Token) × TokenAt s p t × (t.kind ≢ Annotation)
 
 -- Behind a byte `@`: the token, None for a token of another kind, or the error of the fault. Without that byte, None.
 abbrev pub AnnotationAt : Setting → ℕ → Result (Option Token) (Option Report) → Type 0
-AnnotationAt s p (Ok (Some t)) = IsMarked s.text p × TokenAt s p t × (t.kind ≡ Annotation)
-AnnotationAt s p (Ok None) = (IsMarked s.text p → ⊥) ⊎ (IsMarked s.text p × IsOther s p)
-AnnotationAt s p (Err e) = IsMarked s.text p × ErrorAt s p e
+AnnotationAt s p (Ok (Some t)) = HasAtSign s.text p × TokenAt s p t × (t.kind ≡ Annotation)
+AnnotationAt s p (Ok None) = (HasAtSign s.text p → ⊥) ⊎ (HasAtSign s.text p × IsOther s p)
+AnnotationAt s p (Err e) = HasAtSign s.text p × ErrorAt s p e

@@ -1,6 +1,6 @@
 -- WebAssembly specification, text format, values: identifiers; lexical format: annotations. Behind `$` or `@` stands a name:
 -- idchars, which are their own bytes, or a string. The standard's names are UTF-8 and not empty; the words of other bytes are
--- words here too, and what is wrong with their names is told apart.
+-- words here too, and what is wrong with their names is reported apart.
 use Rattle.std.specs.Prelude.{◌≡◌, ◌⊎◌, ◌==◌, ℕ, List, [], ◌∷◌, Option, Some, None, encode_utf8_all}
 use Rattle.std.specs.Str.{NonePass, IsUtf8}
 use Rattle.wat_lex.specs.grammar.Classes.{quote, backslash, is_idchar, Each}
@@ -33,8 +33,8 @@ pub data NameFault : LexError → List ℕ → LexError → Type 0 where
   no_name : {empty : LexError} {w : List ℕ} → Name w [] → NameFault empty w empty
   not_utf8 : {empty : LexError} {w bytes : List ℕ} → Name w bytes → (IsUtf8 bytes → ⊥) → NameFault empty w InvalidUtf8Id
 
--- The error is told at the word of the text, and is what is wrong with its name; or it is want of memory, which only the
--- value of an escape and the error of a name take.
+-- The error is reported at the word of the text, and is what is wrong with its name; or it is out of memory, since the value
+-- of an escape and the error of a name take some.
 abbrev pub NameError : List ℕ → LexError → ℕ → List ℕ → Option Report → Type 0
 NameError text empty offset w None = HasNoEscape w → (e : LexError) × NameFault empty w e
 NameError text empty offset w (Some report) = (e : LexError) × NameFault empty w e × (report ≡ lexical text (record { offset = offset; error = e }))

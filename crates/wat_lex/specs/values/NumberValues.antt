@@ -57,11 +57,11 @@ pub data Power : Bool → List ℕ → Option (List ℕ) → Type 0 where
   present : {hex : Bool} {c : ℕ} {t : List ℕ} → IsTrue (is_exponent_letter hex c) → Digits false (unsigned t) [] → Power hex (c ∷ t) (Some t)
 
 -- the word is first digits with their sign, a fraction and an exponent, each as it is written
-pub record FloatParts (hex : Bool) (word front : List ℕ) (fraction exponent : Option (List ℕ)) : Type 0 where
+pub record FloatParts (hex : Bool) (word leading : List ℕ) (fraction exponent : Option (List ℕ)) : Type 0 where
   pub tail : List ℕ
   pub rest : List ℕ
-  pub cut : word ≡ front ++ tail
-  pub first : IntegralPart hex (unsigned front) []
+  pub cut : word ≡ leading ++ tail
+  pub first : IntegralPart hex (unsigned leading) []
   pub point : Point hex tail fraction rest
   pub power : Power hex rest exponent
 
@@ -102,11 +102,11 @@ pub record IsNumeralOf (kind : IntegerKind) (word : List ℕ) (integer : Integer
 
 -- Where the word has underscores each part is written anew, where it is hexadecimal the first digits are.
 pub record IsDecimalsOf {Z : Type 0} (hex underscores : Bool) (word : List ℕ) (integral : CowStr Z) (fractional exponent : Option (CowStr Z)) : Type 0 where
-  pub front : List ℕ
+  pub leading : List ℕ
   pub fraction : Option (List ℕ)
   pub power : Option (List ℕ)
-  pub parts : FloatParts hex word front fraction power
-  pub integral_is : IsText (hex || underscores) (number_text hex front) integral
+  pub parts : FloatParts hex word leading fraction power
+  pub integral_is : IsText (hex || underscores) (number_text hex leading) integral
   pub fractional_is : IsOptionalText underscores (option_map joined fraction) fractional
   pub exponent_is : IsOptionalText underscores (option_map (number_text false) power) exponent
 

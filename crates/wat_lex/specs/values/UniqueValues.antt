@@ -19,7 +19,8 @@ pub record SomeValue (w : List ℕ) : Type 0 where
 abbrev pub OneValue : List ℕ → Type 0
 OneValue w = (u v : List ℕ) → StringWord lenient w u → StringWord lenient w v → u ≡ v
 
--- the word has a name that is UTF-8 and not empty, or a fault of its name; `empty` is the error that is told for an empty one
+-- the word has a name that is UTF-8 and not empty, or a fault of its name; `empty` is the error that is reported for an empty
+-- one
 pub data SomeName : LexError → List ℕ → Type 0 where
   good : {empty : LexError} {w name : List ℕ} → Name w name → IsUtf8 name → name ≢ [] → SomeName empty w
   fault : {empty e : LexError} {w : List ℕ} → NameFault empty w e → SomeName empty w
@@ -32,10 +33,10 @@ pub record OneName (empty : LexError) (w : List ℕ) : Type 0 where
 
 -- the word is first digits, a fraction and an exponent
 pub record SomeParts (hex : Bool) (w : List ℕ) : Type 0 where
-  pub front : List ℕ
+  pub leading : List ℕ
   pub fraction : Option (List ℕ)
   pub exponent : Option (List ℕ)
-  pub parts : FloatParts hex w front fraction exponent
+  pub parts : FloatParts hex w leading fraction exponent
 
 -- a float that is neither `inf` nor `nan` has such parts
 abbrev pub SomeCut : FloatKind → List ℕ → Type 0

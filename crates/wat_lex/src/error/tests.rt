@@ -4,7 +4,7 @@ use crate::lexer::Lexer;
 use std::process::Abort;
 use std::test::Fail;
 
-/// The error, unless it is want of memory.
+/// The error, unless it is out of memory.
 fn known(error: Error) -> Result<Error, Fail> {
     if error.is_out_of_memory() {
         Err("out of memory")?;
@@ -85,7 +85,7 @@ fn each_fault_has_its_message(rt: HostRuntime) -> Result<(), Fail> {
 }
 
 #[test]
-fn messages_and_want_of_memory(rt: HostRuntime) -> Result<(), Fail> {
+fn messages_and_out_of_memory(rt: HostRuntime) -> Result<(), Fail> {
     let message = String::from_str(rt.alloc(), "no such thing")?;
     let error = Error::new(Span::from_offset(7), message);
     assert!(rt; error.lex_error().is_none());
@@ -307,7 +307,8 @@ fn a_text_is_set_once(rt: HostRuntime) -> Result<(), Fail> {
     answers(&rt, rt.alloc(), &error, "out of memory", "out of memory")
 }
 
-// The branch of want of memory is taken where the run refuses the first request, as `--fail-alloc 1` does.
+// The out-of-memory branch is taken where the run refuses the first request, as `--fail-alloc 1`
+// does.
 #[test]
 fn an_error_that_finds_no_memory_says_so(rt: HostRuntime) -> Result<(), Fail> {
     let error = Error::lex(
@@ -326,7 +327,7 @@ fn an_error_that_finds_no_memory_says_so(rt: HostRuntime) -> Result<(), Fail> {
     answers(&rt, rt.alloc(), &error, message, printed)
 }
 
-// The branch of want of memory is taken where the run refuses the second request.
+// The out-of-memory branch is taken where the run refuses the second request.
 #[test]
 fn a_refused_text_leaves_the_error(rt: HostRuntime) -> Result<(), Fail> {
     let message = String::from_str(rt.alloc(), "m")?;

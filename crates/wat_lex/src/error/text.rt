@@ -76,9 +76,9 @@ impl fmt::Display for Text {
             return write!(f, " at <anon>:{line}:{column}");
         }
         let snippet = self.snippet.as_str();
-        let mark = "^";
+        let marker = "^";
         write!(f, "\n     --> <anon>:{line}:{column}\n      |")?;
         write!(f, "\n {line:4} | {snippet}")?;
-        write!(f, "\n      | {mark:>column$}")
+        write!(f, "\n      | {marker:>column$}")
     }
 }

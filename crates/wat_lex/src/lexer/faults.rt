@@ -42,7 +42,7 @@ pub enum LexError {
     EmptyAnnotation,
 }
 
-/// What is wrong with a text, and where it is told.
+/// What is wrong with a text, and where it is reported.
 #[derive(Clone, Copy, Debug, PartialEq, Eq)]
 pub struct LexFault {
     /// In bytes from the text's start.

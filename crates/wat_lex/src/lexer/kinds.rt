@@ -11,7 +11,7 @@ pub struct Token {
     pub len: u32,
 }
 
-/// The kinds of tokens, white space and comments among them.
+/// The kinds of tokens, whitespace and comments among them.
 #[derive(Clone, Copy, Debug, PartialEq)]
 pub enum TokenKind {
     /// `;;` up to the end of the line, which does not belong to it.
@@ -86,7 +86,7 @@ pub enum SignToken {
     Minus,
 }
 
-/// What stands at the front of a text: a token's kind and its length in bytes.
+/// What stands at the start of a text: a token's kind and its length in bytes.
 #[derive(Clone, Copy)]
 pub struct Lexeme {
     pub kind: TokenKind,

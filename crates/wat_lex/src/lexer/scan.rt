@@ -1,4 +1,4 @@
-//! Scanning: what stands at the front of a text, by its first bytes.
+//! Scanning: what stands at the start of a text, by its first bytes.
 ghost use Rattle.std.specs.Prelude.{◌≡◌, ◌<◌, Bool, false, length, slice_index};
 ghost use Rattle.wat_lex.specs.tokens.Faults.{begins_word};
 ghost use Rattle.wat_lex.specs.inside.ScannedLexemes.{Refused, Answers};
@@ -6,9 +6,9 @@ ghost use Rattle.wat_lex.specs.declared.lexer.settings.Settings.{Settings};
 
 use crate::lexer::faults::{LexError, LexFault};
 use crate::lexer::kinds::{Lexeme, TokenKind};
-use crate::lexer::scan::classes::{blank_len, is_blank, is_mark, is_run_char};
+use crate::lexer::scan::classes::{is_punctuation, is_run_char, is_whitespace, whitespace_len};
 use crate::lexer::scan::comments::{block_comment, line_comment};
-use crate::lexer::scan::runs::front_run;
+use crate::lexer::scan::runs::first_run;
 use crate::lexer::settings::Settings;
 
 pub(super) mod classes;
@@ -46,8 +46,9 @@ fn lexeme(kind: TokenKind, len: usize) -> Result<Option<Lexeme>, LexFault>
     Ok(Some(Lexeme { kind, len }))
 }
 
-/// The token at the front, None where the text is empty, or the fault there. Its offset counts from the front.
-pub fn front(text: &str, flags: Settings) -> Result<Option<Lexeme>, LexFault>
+/// The token at the start, None where the text is empty, or the fault there. Its offset counts from
+/// the start.
+pub fn first_lexeme(text: &str, flags: Settings) -> Result<Option<Lexeme>, LexFault>
     ensures { Answers flags text.now result }
 {
     let bytes = text.as_bytes();
@@ -57,10 +58,10 @@ pub fn front(text: &str, flags: Settings) -> Result<Option<Lexeme>, LexFault>
     let first = byte_at(bytes, 0);
     let second = byte_at(bytes, 1);
     if is_run_char(first) {
-        return front_run(text, flags);
+        return first_run(text, flags);
     }
-    if is_blank(first) {
-        return lexeme(TokenKind::Whitespace, blank_len(bytes));
+    if is_whitespace(first) {
+        return lexeme(TokenKind::Whitespace, whitespace_len(bytes));
     }
     if first == b'(' {
         if second == b';' {
@@ -77,7 +78,7 @@ pub fn front(text: &str, flags: Settings) -> Result<Option<Lexeme>, LexFault>
         }
         return lexeme(TokenKind::Reserved, 1);
     }
-    if is_mark(first) {
+    if is_punctuation(first) {
         return lexeme(TokenKind::Reserved, 1);
     }
     Err(unexpected(text))

@@ -1,7 +1,7 @@
 use Rattle.std.proofs.Common.{◌≡◌, ap, arith, bit_or, take, vec_len, sym, ◌∙◌, ◌++◌, ◌+◌, ◌∷◌, [], to_z, of_z, w64}
 use Rattle.std.proofs.lemmas.Int.{to_z-of_z}
 use Rattle.wat_lex.specs.binary.Leb128.{high_bits_of, low_bits_of, signed_leb128}
-use Rattle.wat_lex.proofs.binary.Leb128Laws.{Large, front-push, large_above, large_below, moved, signed_leb128-small, signed_leb128-step, small_between, with_bit_7, low_bits_of-below}
+use Rattle.wat_lex.proofs.binary.Leb128Laws.{Large, prefix-push, large_above, large_below, moved, signed_leb128-small, signed_leb128-step, small_between, with_bit_7, low_bits_of-below}
 use Rattle.wat_lex.proofs.encode.push_signed.Goals as goal
 use Rattle.wat_lex.proofs.encode.push_signed.Goals.{then-rest-ltminus64, else-rest-ltminus64+then-rest-ge64}
 
@@ -24,9 +24,9 @@ loop-rest-preserved c =
           ap (λ z. c.push.new.self.items ++ signed_leb128 z) next
           ∙ ap (λ xs. xs ++ signed_leb128 (high_bits_of rest)) item
           ∙ moved _ (signed_leb128 rest) _ _ _ c.loop-rest.invariant.whole (signed_leb128-step rest large);
-      front =
+      prefix =
           ap (λ xs. take (vec_len c.args.e.now) xs) item
-          ∙ front-push _ _ _ _ (omega (arith, c.args.e.now.ok.0)) c.loop-rest.invariant.front;
+          ∙ prefix-push _ _ _ _ (omega (arith, c.args.e.now.ok.0)) c.loop-rest.invariant.prefix;
     }
 
 pub returns-clause-ok : goal.returns-clause-ok

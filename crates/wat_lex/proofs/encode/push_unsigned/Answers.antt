@@ -1,7 +1,7 @@
 use Rattle.std.proofs.Common.{◌≡◌, ap, arith, bit_and, bit_or, take, vec_len, sym, ◌∙◌, ◌++◌, ◌+◌, ◌/◌, ◌%◌, ◌∷◌, []}
 use Rattle.std.proofs.lemmas.Nat.{and_mask}
 use Rattle.wat_lex.specs.binary.Leb128.{unsigned_leb128}
-use Rattle.wat_lex.proofs.binary.Leb128Laws.{front-push, moved, unsigned_leb128-small, unsigned_leb128-step, with_bit_7}
+use Rattle.wat_lex.proofs.binary.Leb128Laws.{prefix-push, moved, unsigned_leb128-small, unsigned_leb128-step, with_bit_7}
 use Rattle.wat_lex.proofs.encode.push_unsigned.Goals as goal
 
 pub loop-rest-preserved : goal.loop-rest-preserved
@@ -13,7 +13,7 @@ loop-rest-preserved c =
     let item : c.push.new.self.items ≡ c.loop-rest.e.items ++ (rest % 128 + 128) ∷ [] = items ∙ ap (λ b. c.loop-rest.e.items ++ b ∷ []) byte in
     record {
       whole = ap (λ xs. xs ++ unsigned_leb128 (rest / 128)) item ∙ moved _ (unsigned_leb128 rest) _ _ _ c.loop-rest.invariant.whole (unsigned_leb128-step rest c.loop-rest-test.true);
-      front = ap (λ xs. take (vec_len c.args.e.now) xs) item ∙ front-push _ _ _ _ (omega (arith, c.args.e.now.ok.0)) c.loop-rest.invariant.front;
+      prefix = ap (λ xs. take (vec_len c.args.e.now) xs) item ∙ prefix-push _ _ _ _ (omega (arith, c.args.e.now.ok.0)) c.loop-rest.invariant.prefix;
     }
 
 pub returns-clause-ok : goal.returns-clause-ok

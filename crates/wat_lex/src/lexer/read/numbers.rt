@@ -197,11 +197,11 @@ fn payload<'a>(alloc: Global, word: &'a str, underscores: bool) -> Result<CowStr
 }
 
 /// Cuts a float's word behind its first digits.
-fn split_front(word: &str, hex: bool) -> (&str, &str)
+fn split_integral(word: &str, hex: bool) -> (&str, &str)
     requires ascii { IsAscii word.now }
     requires decimals { Decimals hex (unsigned word.now) }
     ensures cut { word.now ≡ result.0.now ++ result.1.now }
-    ensures front { IntegralPart hex (unsigned result.0.now) [] }
+    ensures integral { IntegralPart hex (unsigned result.0.now) [] }
     ensures tail { Tail hex result.1.now }
 {
     let number = unsigned(word.as_bytes());
@@ -276,9 +276,9 @@ fn decimals<'a>(
     ensures value { IfOk result (IsFloatOf (Normal underscores hex) word.now) }
     ensures free { (hex || underscores) ≡ false → IsOk result }
 {
-    let (front, tail) = split_front(word, hex);
+    let (leading, tail) = split_integral(word, hex);
     let (fraction, rest) = split_fraction(tail, hex);
-    let integral = number_text(alloc, front, hex, underscores)?;
+    let integral = number_text(alloc, leading, hex, underscores)?;
     let fractional = optional_text(alloc, fraction, underscores)?;
     let exponent = optional_text(alloc, behind_letter(rest), underscores)?;
     Ok(Float::Val {

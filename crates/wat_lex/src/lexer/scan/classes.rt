@@ -1,11 +1,11 @@
 //! Classes of bytes and characters.
 ghost use Rattle.std.specs.Prelude.{◌≡◌};
 ghost use Rattle.std.specs.List.{prefix_len};
-ghost use Rattle.wat_lex.specs.grammar.Classes.{is_blank, is_idchar, is_hex, is_mark, is_run_char};
-ghost use Rattle.wat_lex.specs.grammar.Classes.{is_confusing};
+ghost use Rattle.wat_lex.specs.grammar.Classes.{is_whitespace, is_idchar, is_hex, is_punctuation};
+ghost use Rattle.wat_lex.specs.grammar.Classes.{is_run_char, is_confusing};
 
-pub fn is_blank(b: u8) -> bool
-    ensures { result ≡ is_blank b }
+pub fn is_whitespace(b: u8) -> bool
+    ensures { result ≡ is_whitespace b }
 {
     matches!(b, b' ' | b'\n' | b'\r' | b'\t')
 }
@@ -50,8 +50,8 @@ pub fn is_run_char(b: u8) -> bool
     is_idchar(b) || b == b'"'
 }
 
-pub fn is_mark(b: u8) -> bool
-    ensures { result ≡ is_mark b }
+pub fn is_punctuation(b: u8) -> bool
+    ensures { result ≡ is_punctuation b }
 {
     matches!(b, b',' | b'[' | b']' | b'{' | b'}')
 }
@@ -79,18 +79,18 @@ pub fn is_confusing(c: char) -> bool
     )
 }
 
-/// How many blanks stand at the front.
-pub fn blank_len(text: &[u8]) -> usize
-    ensures { result ≡ prefix_len is_blank text.now }
+/// How many bytes of whitespace stand at the start.
+pub fn whitespace_len(text: &[u8]) -> usize
+    ensures { result ≡ prefix_len is_whitespace text.now }
 {
     let mut i = 0;
-    while i < text.len() && is_blank(text[i]) {
+    while i < text.len() && is_whitespace(text[i]) {
         i += 1;
     }
     i
 }
 
-/// How many idchars stand at the front.
+/// How many idchars stand at the start.
 pub fn idchar_len(text: &[u8]) -> usize
     ensures { result ≡ prefix_len is_idchar text.now }
 {

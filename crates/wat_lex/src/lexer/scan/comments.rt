@@ -67,7 +67,7 @@ fn closing_len(text: &[u8]) -> Option<usize>
     None
 }
 
-/// A comment that stands at the front, unless it has a confusing character.
+/// A comment that stands at the start, unless it has a confusing character.
 fn checked(text: &str, comment: Lexeme, flags: Settings) -> Result<Option<Lexeme>, LexFault>
     requires comment { IsComment comment.kind }
     requires found { LexemeFound (allowing flags) text.now comment }
@@ -85,7 +85,7 @@ fn checked(text: &str, comment: Lexeme, flags: Settings) -> Result<Option<Lexeme
     }
 }
 
-/// What stands at the front of a text that begins with `(;`.
+/// What stands at the start of a text that begins with `(;`.
 pub fn block_comment(text: &str, flags: Settings) -> Result<Option<Lexeme>, LexFault>
     requires opened { (slice_index text.now 0 ≡ 40) × (slice_index text.now 1 ≡ 59) }
     ensures { Answers flags text.now result }
@@ -105,7 +105,7 @@ pub fn block_comment(text: &str, flags: Settings) -> Result<Option<Lexeme>, LexF
     }
 }
 
-/// What stands at the front of a text that begins with `;;`.
+/// What stands at the start of a text that begins with `;;`.
 pub fn line_comment(text: &str, flags: Settings) -> Result<Option<Lexeme>, LexFault>
     requires begun { (slice_index text.now 0 ≡ 59) × (slice_index text.now 1 ≡ 59) }
     ensures { Answers flags text.now result }

@@ -61,14 +61,15 @@ fn has_underscores(word: &[u8]) -> bool
     word.contains(&b'_')
 }
 
-/// What follows a front of the text.
-fn after<'a>(text: &'a [u8], front: &[u8]) -> Option<&'a [u8]>
-    ensures { MatchOption result ((rest : List ℕ) → text.now ≢ front.now ++ rest) (λ rest. text.now ≡ front.now ++ rest.now) }
+/// What follows a prefix of the text.
+fn after<'a>(text: &'a [u8], prefix: &[u8]) -> Option<&'a [u8]>
+    ensures { MatchOption result ((rest : List ℕ) → text.now ≢ prefix.now ++ rest) (λ rest. text.now ≡ prefix.now ++ rest.now) }
 {
-    text.strip_prefix(front)
+    text.strip_prefix(prefix)
 }
 
-/// What follows the digits at the front, and None where there are none or an underscore stands alone.
+/// What follows the digits at the start, and None where there are none or an underscore stands
+/// alone.
 pub fn after_digits(text: &[u8], hex: bool) -> Option<&[u8]>
     ensures { MatchOption result (NoDigits hex text.now) (λ rest. LongestDigits hex text.now rest.now) }
 {

@@ -20,7 +20,7 @@ pub struct Pieces {
     pub strings: usize,
 }
 
-/// The fault, told so many bytes further on.
+/// The fault, reported so many bytes further on.
 fn further(fault: LexFault, by: usize) -> LexFault
     requires { by + fault.offset < 2 ^ 64 }
     ensures { result ≡ record { offset = by + fault.offset; error = fault.error } }
@@ -31,7 +31,7 @@ fn further(fault: LexFault, by: usize) -> LexFault
     }
 }
 
-/// The longest run at the front.
+/// The longest run at the start.
 fn run(text: &str, flags: Settings) -> Result<Pieces, LexFault>
     ensures ok { IfOk result (RunFound flags text.now) }
     ensures err { IfErr result (Refused flags text.now) }
@@ -104,8 +104,8 @@ fn run_kind(word: &[u8], idchars: usize, strings: usize) -> TokenKind
     named_kind(word)
 }
 
-/// What stands at the front of a text that begins with an idchar or a quote.
-pub fn front_run(text: &str, flags: Settings) -> Result<Option<Lexeme>, LexFault>
+/// What stands at the start of a text that begins with an idchar or a quote.
+pub fn first_run(text: &str, flags: Settings) -> Result<Option<Lexeme>, LexFault>
     requires some { 0 < length text.now }
     requires first { is_run_char (slice_index text.now 0) ≡ true }
     ensures { Answers flags text.now result }

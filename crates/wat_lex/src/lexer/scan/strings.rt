@@ -14,7 +14,7 @@ use crate::lexer::scan::classes::{is_confusing, is_hex};
 use crate::lexer::settings::Settings;
 use std::str::Chars;
 
-/// What is wrong with a string, and how many bytes are left from the place where it is told.
+/// What is wrong with a string, and how many bytes are left from the place where it is reported.
 #[derive(Clone, Copy)]
 pub struct Broken {
     pub left: usize,

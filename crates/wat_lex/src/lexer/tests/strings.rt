@@ -6,7 +6,7 @@ use std::borrow::CowStr;
 use std::process::Abort;
 use std::test::Fail;
 
-/// The value of the string at the text's front.
+/// The value of the string at the text's start.
 fn value(rt: &impl Abort, alloc: Global, text: &str) -> Result<Vec<u8>, Fail> {
     assert!(rt; text.len() < 1_000_000);
     let mut lexer = Lexer::new(text);
@@ -162,7 +162,7 @@ fn each_byte_has_an_escape(rt: HostRuntime) -> Result<(), Fail> {
 }
 
 /// What the error of the name at a byte of the text prints.
-fn told(rt: &impl Abort, alloc: Global, text: &str, at: usize) -> Result<String, Fail> {
+fn reported(rt: &impl Abort, alloc: Global, text: &str, at: usize) -> Result<String, Fail> {
     match read(rt, alloc, text, at) {
         Ok(_) => panic!(rt; "no error: {text}"),
         Err(error) => {
@@ -194,7 +194,7 @@ fn faults_of_names_print_their_line(rt: HostRuntime) -> Result<(), Fail> {
         ),
     ];
     for (text, at, want) in rows.as_slice() {
-        let got = told(&rt, rt.alloc(), text, *at)?;
+        let got = reported(&rt, rt.alloc(), text, *at)?;
         assert_eq!(rt; got.as_str(), *want, "{text}");
     }
     Ok(())

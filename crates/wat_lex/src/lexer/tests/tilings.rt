@@ -1,4 +1,5 @@
-//! Rows of what a text can be read as in one way only: its fronts, places inside its tokens, deep nesting and long lines.
+//! Rows of what a text can be read as in one way only: its prefixes, places inside its tokens, deep
+//! nesting and long lines.
 use crate::lexer::{LexError, LexFault, Lexer, Token, TokenKind};
 use std::process::Abort;
 use std::test::Fail;
@@ -24,7 +25,7 @@ fn token_at(rt: &impl Abort, text: &str, pos: usize) -> Option<(TokenKind, usize
     }
 }
 
-/// The place and the error of the fault that is told at a place.
+/// The place and the error of the fault that is reported at a place.
 fn fault_at(rt: &impl Abort, text: &str, pos: usize) -> Option<(usize, LexError)> {
     match at(rt, text, pos) {
         Err(fault) => Some((fault.offset, fault.error)),
@@ -33,7 +34,7 @@ fn fault_at(rt: &impl Abort, text: &str, pos: usize) -> Option<(usize, LexError)
 }
 
 #[test]
-fn fronts_of_a_string(rt: HostRuntime) {
+fn prefixes_of_a_string(rt: HostRuntime) {
     let text = "\"\\u{1_0}\"";
     let rows = [
         (1, 1, LexError::UnexpectedEof),

@@ -56,7 +56,7 @@ fn show(alloc: Global, shown: &mut String, item: Result<Token, Error>) -> Result
     Ok(())
 }
 
-/// All items of a text but white space.
+/// All items of a text but whitespace.
 fn items(rt: &impl Abort, alloc: Global, text: &str, settings: Settings) -> Result<String, Fail> {
     assert!(rt; text.len() < 1_000_000);
     let mut lexer = Lexer::new(text);
@@ -65,11 +65,11 @@ fn items(rt: &impl Abort, alloc: Global, text: &str, settings: Settings) -> Resu
         .strict_underscores(settings.strict);
     let mut shown = String::new(alloc);
     for item in lexer.iter(alloc, 0) {
-        let blank = match &item {
+        let whitespace = match &item {
             Ok(token) => token.kind == TokenKind::Whitespace,
             Err(_) => false,
         };
-        if !blank {
+        if !whitespace {
             show(alloc, &mut shown, item)?;
         }
     }
@@ -236,8 +236,11 @@ fn parse_moves_to_the_end_of_a_token(rt: HostRuntime) -> Result<(), Fail> {
     let word = lexer.parse(rt.alloc(), &mut pos)?;
     assert_eq!(rt; word.map(|token| token.kind), Some(TokenKind::Keyword));
     assert_eq!(rt; pos, 1);
-    let blank = lexer.parse(rt.alloc(), &mut pos)?;
-    assert_eq!(rt; blank.map(|token| token.kind), Some(TokenKind::Whitespace));
+    let whitespace = lexer.parse(rt.alloc(), &mut pos)?;
+    assert_eq!(rt;
+        whitespace.map(|token| token.kind),
+        Some(TokenKind::Whitespace)
+    );
     assert_eq!(rt; pos, 2);
     let Err(error) = lexer.parse(rt.alloc(), &mut pos) else {
         panic!(rt; "no fault");

@@ -1,7 +1,7 @@
 use Rattle.std.proofs.Common.{refl, arith}
 use Rattle.std.proofs.lemmas.Grind.{put_three}
 use Rattle.wat_lex.specs.errors.ErrorView.{excerpt_of}
-use Rattle.wat_lex.proofs.errors.Rendering.{styled_line, styled_mark, shown_in_three}
+use Rattle.wat_lex.proofs.errors.Rendering.{styled_line, styled_marker, shown_in_three}
 use Rattle.wat_lex.proofs.error.text.TextDisplay.fmt.Goals as goal
 
 pub returns-clause-writes : goal.returns-clause-writes
@@ -11,4 +11,4 @@ returns-clause-writes g c plain ok =
     let three = c.write-4.ensures.writes two.plain ok in
     let t = excerpt_of c.args.self.now in
     put_three _ _ _ _ _ _ _ _ _ one two three
-    (shown_in_three t _ _ c.as_str-snippet.result.now (omega (arith, c.if-column-gt-LAST_MARKED.false)) (styled_line c.laid_out.result t.line c.laid_out.ensures) c.as_str-snippet.ensures.value (styled_mark c.laid_out-2.result t.column c.laid_out-2.ensures))
+    (shown_in_three t _ _ c.as_str-snippet.result.now (omega (arith, c.if-column-gt-LAST_MARKED.false)) (styled_line c.laid_out.result t.line c.laid_out.ensures) c.as_str-snippet.ensures.value (styled_marker c.laid_out-2.result t.column c.laid_out-2.ensures))

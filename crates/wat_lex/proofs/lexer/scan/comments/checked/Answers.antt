@@ -2,7 +2,7 @@ use Rattle.std.proofs.Common.{subst}
 use Rattle.std.specs.Str.{chars, NonePass}
 use Rattle.wat_lex.specs.grammar.Classes.{is_confusing}
 use Rattle.wat_lex.specs.inside.ScannedLexemes.{FirstConfusing}
-use Rattle.wat_lex.proofs.tokens.ReadableTokens.{front_is}
+use Rattle.wat_lex.proofs.tokens.ReadableTokens.{prefix_is}
 use Rattle.wat_lex.proofs.inside.CheckedComments.{boundary_at, found_allowed, found_clear, found_confusing}
 use Rattle.wat_lex.proofs.lexer.scan.comments.checked.Goals as goal
 
@@ -13,7 +13,7 @@ pub returns-then-flags : goal.returns-then-flags
 returns-then-flags c = found_allowed _ _ _ c.if-flags.true c.requires.found
 
 pub returns-in-None : goal.returns-in-None
-returns-in-None c = found_clear _ _ _ c.utf8.text c.requires.comment c.requires.found (subst (λ x. NonePass is_confusing (chars x)) (front_is c.args.text.now c.args.comment.len c.range.result.now c.range.ensures.value) c.in-None.ensures)
+returns-in-None c = found_clear _ _ _ c.utf8.text c.requires.comment c.requires.found (subst (λ x. NonePass is_confusing (chars x)) (prefix_is c.args.text.now c.args.comment.len c.range.result.now c.range.ensures.value) c.in-None.ensures)
 
 pub returns-in-Some : goal.returns-in-Some
-returns-in-Some c = found_confusing _ _ _ _ _ c.if-flags.false c.utf8.text c.requires.comment c.requires.found (subst (λ x. FirstConfusing x c.in-Some.offset c.in-Some.c) (front_is c.args.text.now c.args.comment.len c.range.result.now c.range.ensures.value) c.in-Some.ensures)
+returns-in-Some c = found_confusing _ _ _ _ _ c.if-flags.false c.utf8.text c.requires.comment c.requires.found (subst (λ x. FirstConfusing x c.in-Some.offset c.in-Some.c) (prefix_is c.args.text.now c.args.comment.len c.range.result.now c.range.ensures.value) c.in-Some.ensures)
