@@ -1,8 +1,6 @@
 //! Lists the raw tokens of a WebAssembly text that comes on standard input.
 #![tactic(auto)]
 
-#[cfg(test)]
-mod cut_tests;
 pub mod ends;
 pub mod list;
 pub mod options;

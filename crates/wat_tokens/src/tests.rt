@@ -1,6 +1,8 @@
 //! Texts with their lists, from outside, and readers, writers, sources and sinks that fail.
 ghost use Rattle.std.specs.Prelude.{◌≡◌, Bool, List, ℕ, Option, Some};
 
+mod cuts;
+
 use crate::Settings;
 use crate::ends::{Failed, Plain, Sink, Source};
 use crate::options::settings_of;
