@@ -40,7 +40,7 @@ expect() {
     compare errors "$name"
 }
 
-# the report of a fault: its message, column, line and mark
+# the report of a fault: its message, column, line and marker
 fault() {
     printf '%s\\n     --> <anon>:1:%s\\n      |\\n    1 | %s\\n      | %s^\\n' "$@"
 }

@@ -1,8 +1,10 @@
 -- What a run of the program ends in: its exit status, and its report on standard error. No part of the standard.
-use Rattle.std.specs.Prelude.{ℕ, List, [], ◌++◌, codes, Option, Some, None, Result, Ok, Err}
+use Rattle.std.specs.Prelude.{◌≡◌, ◌⊎◌, ◌↔◌, ℕ, Bool, true, List, [], ◌++◌, codes, Option, Some, None, IfSome, Result, Ok, Err, IfOk, IfErr, OnOk, IsErrOf}
 use Rattle.std.specs.Io.KnownBytes.{Keeps}
+use Rattle.std.specs.Str.{IsUtf8}
 use Rattle.wat_lex.specs.errors.Errors.{Report, printed}
 use Rattle.wat_lex.specs.declared.lexer.settings.Settings.{Settings}
+use Rattle.wat_tokens.specs.Inputs.{HasEnded, ReadsPast, ReadsShort}
 use Rattle.wat_tokens.specs.Lists.{AppendsLines, AppendsSomeLines}
 use Rattle.wat_tokens.specs.declared.outcome.Outcome.{Outcome}
 use Rattle.wat_tokens.specs.declared.outcome.Outcome.TheVariants.{Listed, Faulty, Refused, Usage}
@@ -15,7 +17,7 @@ outcome_of (Ok None) = Listed
 outcome_of (Ok (Some error)) = Faulty error
 outcome_of (Err error) = Refused error
 
--- 0 for all lines, 1 for the lines before a fault, 2 for none
+-- 0 for all lines, 1 for the lines before a fault, 2 otherwise
 abbrev pub status : Outcome → ℕ
 status Listed = 0
 status (Faulty error) = 1
@@ -49,3 +51,23 @@ Responds settings bytes (Refused TooLong) old new = Keeps old new
 Responds settings bytes (Refused NotUtf8) old new = Keeps old new
 Responds settings bytes (Refused Memory) old new = Keeps old new
 Responds settings bytes Usage old new = ⊥
+
+-- What is known of a run over a source and a sink that ended in this outcome. A source tells what it has left, whether a read has
+-- failed, and whether the last one gave the end; a sink what it holds, and whether a write has failed.
+pub record Ran {S T : Type 0} (left : S → Option (List ℕ)) (read_failed has_ended : S → Bool) (held : T → Option (List ℕ)) (write_failed : T → Bool) (settings : Settings) (input input' : S) (output output' : T) (outcome : Outcome) : Type 0 where
+  pub run : Result (Option (Option Report)) RunError
+  pub outcome_is : outcome ≡ outcome_of run
+  -- the lines were written, or a prefix of them where the write failed, and else nothing
+  pub listed : IfOk run (λ error. IfSome (left input) (λ bytes. AppendsLines settings bytes error (held output) (held output')))
+  pub cut : IsErrOf run Write → IfSome (left input) (λ bytes. AppendsSomeLines settings bytes (held output) (held output'))
+  pub unwritten : IfErr run (λ e. (e ≡ Write) ⊎ (output' ≡ output))
+  -- the source was read to its end where this is told of all its bytes
+  pub ended : OnOk run (HasEnded (left input') (has_ended input'))
+  pub not_utf8_ended : IsErrOf run NotUtf8 → HasEnded (left input') (has_ended input')
+  pub write_ended : IsErrOf run Write → HasEnded (left input') (has_ended input')
+  -- when each refusal but that of memory comes
+  pub read : IsErrOf run Read ↔ (read_failed input' ≡ true)
+  pub write : IsErrOf run Write ↔ (write_failed output' ≡ true)
+  pub short : IsErrOf run TooLong ⊎ ReadsShort (left input) (left input')
+  pub too_long : IfSome (left input) (λ _. IsErrOf run TooLong ↔ ReadsPast (left input) (left input'))
+  pub not_utf8 : IfSome (left input) (λ bytes. IsErrOf run NotUtf8 ↔ ((has_ended input' ≡ true) × (¬ IsUtf8 bytes)))

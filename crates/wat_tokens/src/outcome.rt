@@ -1,7 +1,7 @@
 //! What a run of the program ends in.
 ghost use Rattle.std.specs.Prelude.{◌≡◌, false, IfSome, OnOk};
 ghost use Rattle.std.specs.Io.KnownBytes.{Appends};
-ghost use Rattle.wat_tokens.specs.Outcomes.{outcome_of, refusal, report, status, Responds};
+ghost use Rattle.wat_tokens.specs.Outcomes.{outcome_of, refusal, report, status, Ran, Responds};
 ghost use Rattle.wat_lex.specs.declared.lexer.settings.Settings.{Settings};
 ghost use Rattle.wat_tokens.specs.Options.{Selects};
 
@@ -22,7 +22,7 @@ pub enum Outcome {
     Listed,
     /// The lines before a fault are written.
     Faulty(Error),
-    /// Nothing is listed.
+    /// The run was refused. Only a failed write has written something, a prefix of the lines.
     Refused(RunError),
     /// The words on the command line are none that the program takes.
     Usage,
@@ -53,8 +53,11 @@ pub fn respond<R: Source, W: Sink>(
     ensures selected { (settings : Settings) → Selects words.now settings →
         IfSome (R.left input.old) (λ bytes.
         Responds settings bytes result (W.held output.old) (W.held output.new)) }
+    ensures ran { (settings : Settings) → Selects words.now settings →
+        Ran R.left R.has_failed R.has_ended W.held W.has_failed settings
+        input.old input.new output.old output.new result }
     ensures usage { ((settings : Settings) → ¬ Selects words.now settings) →
-        result ≡ Outcome.Usage }
+        (result ≡ Outcome.Usage) × (input.new ≡ input.old) × (output.new ≡ output.old) }
 {
     let Some(settings) = settings_of(words) else {
         return Outcome::Usage;

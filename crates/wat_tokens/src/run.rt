@@ -144,6 +144,8 @@ pub fn run_list<R: Source, W: Sink>(
 
     // When each refusal but that of memory comes.
     ensures read { IsErrOf result RunError.Read ↔ (R.has_failed input.new ≡ true) }
+    ensures short { (IsErrOf result RunError.TooLong) ⊎
+        ReadsShort (R.left input.old) (R.left input.new) }
     ensures too_long { IfSome (R.left input.old) (λ _.
         IsErrOf result RunError.TooLong ↔ ReadsPast (R.left input.old) (R.left input.new)) }
     ensures not_utf8 { IfSome (R.left input.old) (λ bytes.

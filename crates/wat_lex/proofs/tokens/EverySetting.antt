@@ -1,7 +1,7 @@
 -- The laws of the definitions for every text and setting, from what is proved of words, tilings and names.
 use Rattle.std.proofs.Common.{◌≡◌, ℕ, [], ◌∷◌, ◌∙◌, refl, sym, subst, inl, inr}
 use Rattle.std.specs.Prelude.{Some, None, Ok, Err, Option, Result}
-use Rattle.wat_lex.specs.tokens.EverySetting.{SomethingStands, OneThingStands, EachPlaceIsTiled, TilingsAreOne, TokensOfCuts, TokensOfMoves, TokensAreReadable, TokensEndAtBoundaries, NamesAreThere, NamesAreOne, NamesAreValues, StringsAreValues}
+use Rattle.wat_lex.specs.tokens.EverySetting.{SomethingStands, OneThingStands, EachPlaceIsTiled, TilingsAreOne, TokensOfCuts, TokensOfMoves, TokensAreReadable, TokensEndAtBoundaries, WordsOfTokens, NamesAreThere, NamesAreOne, NamesAreValues, StringsAreValues}
 use Rattle.wat_lex.specs.tokens.Faults.{FaultAt}
 use Rattle.wat_lex.specs.tokens.Setting.{Setting}
 use Rattle.wat_lex.specs.tokens.UniqueTilings.{SomeTiling, AnswerAt}
@@ -15,7 +15,7 @@ use Rattle.wat_lex.proofs.values.OneValues.{one_name, one_value}
 use Rattle.wat_lex.proofs.tokens.OneTilings.{one_tiling, stands_one}
 use Rattle.wat_lex.proofs.values.SomeValues.{name_of, value_of}
 use Rattle.wat_lex.proofs.tokens.SomeTilings.{some_tiling}
-use Rattle.wat_lex.proofs.tokens.ReadableTokens.{token_of}
+use Rattle.wat_lex.proofs.tokens.ReadableTokens.{token_of, token_chars}
 use Rattle.wat_lex.proofs.values.WordValues.{string_value_is, name_good, name_fault}
 
 first_stands : (s : Setting) (p : ℕ) → SomeTiling s p → (r : Result (Option Token) LexFault) × AnswerAt s p r
@@ -46,6 +46,9 @@ tokens_are_readable s p t b h = token_of s p t b h
 
 pub tokens_end_at_boundaries : TokensEndAtBoundaries
 tokens_end_at_boundaries s p t u b h = behind s p t u b h
+
+pub words_of_tokens : WordsOfTokens
+words_of_tokens text t u h = token_chars text t u h
 
 pub names_are_there : NamesAreThere
 names_are_there empty w (inl h) = name_of empty Id w (inl refl) h

@@ -8,7 +8,7 @@ use Rattle.wat_lex.specs.binary.Leb128.{unsigned_leb128}
 abbrev pub list_encoding : {T : Type 0} → (T → List ℕ) → List T → List ℕ
 list_encoding item items = unsigned_leb128 (length items) ++ flat_map item items
 
--- each length in a list fits, its own and those of its items
+-- a list's own length fits, and so does each item, with each length and each `usize` in it
 abbrev pub ListFits : {T : Type 0} → (T → Type 0) → List T → Type 0
 ListFits item items = (length items < 2 ^ 32) × All item items
 

@@ -25,7 +25,7 @@ report_in text offset cause = record { offset = offset; cause = cause; excerpt =
 abbrev pub lexical : List ℕ → LexFault → Report
 lexical text f = report_in text f.offset (Lexical f.error)
 
--- something of a text is kept, or the error is out of memory, which keeps none
+-- something of a text is kept, or the error is the out-of-memory one, which keeps none
 abbrev pub HasText : Option Report → Type 0
 HasText None = Unit {0}
 HasText (Some r) = IsSome r.excerpt

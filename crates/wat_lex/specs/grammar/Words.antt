@@ -9,7 +9,7 @@ use Rattle.wat_lex.specs.declared.lexer.settings.Settings.{Settings}
 use Rattle.wat_lex.specs.declared.lexer.kinds.TokenKind.{TokenKind}
 use Rattle.wat_lex.specs.declared.lexer.kinds.TokenKind.TheVariants.{LineComment, BlockComment, Whitespace, LParen, RParen, Reserved}
 
--- a reserved character that is a word
+-- a reserved character that is a word: one of `is_punctuation`, or `;`
 abbrev pub Punctuation : List ℕ → Type 0
 Punctuation w = (c : ℕ) × (w ≡ c ∷ []) × IsTrue (is_punctuation c || c == semicolon)
 

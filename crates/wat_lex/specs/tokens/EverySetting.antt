@@ -5,7 +5,7 @@ use Rattle.std.specs.Str.{IsUtf8, IsCharBoundary}
 use Rattle.wat_lex.specs.values.Names.{Name, NameFault}
 use Rattle.wat_lex.specs.values.UniqueValues.{SomeName, OneName, SomeValue, OneValue}
 use Rattle.wat_lex.specs.tokens.CutsAndMoves.{Cuts, Moves}
-use Rattle.wat_lex.specs.tokens.ReadableTokens.{IsTokenOf}
+use Rattle.wat_lex.specs.tokens.ReadableTokens.{IsTokenOf, word_of}
 use Rattle.wat_lex.specs.tokens.Setting.{Setting, lenient}
 use Rattle.wat_lex.specs.grammar.Strings.{StringWord}
 use Rattle.wat_lex.specs.tokens.Tiling.{TokenAt}
@@ -44,12 +44,17 @@ TokensOfCuts = (s : Setting) (p : ℕ) → IsUtf8 s.text → IsCharBoundary s.te
 abbrev pub TokensOfMoves : Type 0
 TokensOfMoves = (s : Setting) (p : ℕ) → IsUtf8 s.text → IsCharBoundary s.text p → Moves s p
 
--- a token of a tiling may be read, and a token may stand behind it
+-- a token of a tiling may be read
 abbrev pub TokensAreReadable : Type 0
 TokensAreReadable = (s : Setting) (p : ℕ) (t : Token) → IsCharBoundary s.text p → TokenAt s p t → IsTokenOf s.text t
 
+-- and it ends at a character boundary
 abbrev pub TokensEndAtBoundaries : Type 0
 TokensEndAtBoundaries = (s : Setting) (p : ℕ) (t : Token) → IsUtf8 s.text → IsCharBoundary s.text p → TokenAt s p t → IsCharBoundary s.text (t.offset + t.len)
+
+-- the word that a token's readers see is the one by which it may be read
+abbrev pub WordsOfTokens : Type 0
+WordsOfTokens = (text : List ℕ) (t : Token) → IsUtf8 text → (readable : IsTokenOf text t) → word_of text t ≡ readable.word
 
 -- each name word has a name or a fault of its name
 abbrev pub NamesAreThere : Type 0

@@ -20,6 +20,6 @@ pub record IsTokenOf (text : List ℕ) (t : Token) : Type 0 where
 abbrev pub token_text : List ℕ → Token → List ℕ
 token_text text t = take t.len (drop t.offset text)
 
--- the word of the token
+-- the word of a token of a text, of which `IsTokenOf` holds
 abbrev pub word_of : List ℕ → Token → List ℕ
 word_of text t = chars (token_text text t)

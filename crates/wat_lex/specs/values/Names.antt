@@ -33,8 +33,8 @@ pub data NameFault : LexError → List ℕ → LexError → Type 0 where
   no_name : {empty : LexError} {w : List ℕ} → Name w [] → NameFault empty w empty
   not_utf8 : {empty : LexError} {w bytes : List ℕ} → Name w bytes → (IsUtf8 bytes → ⊥) → NameFault empty w InvalidUtf8Id
 
--- The error is reported at the word of the text, and is what is wrong with its name; or it is out of memory, since the value
--- of an escape and the error of a name take some.
+-- The error is reported at the word of the text, and is what is wrong with its name; or it is the out-of-memory error, only where
+-- an escape stands in the word or its name is wrong.
 abbrev pub NameError : List ℕ → LexError → ℕ → List ℕ → Option Report → Type 0
 NameError text empty offset w None = HasNoEscape w → (e : LexError) × NameFault empty w e
 NameError text empty offset w (Some report) = (e : LexError) × NameFault empty w e × (report ≡ lexical text (record { offset = offset; error = e }))

@@ -13,7 +13,7 @@ use Rattle.wat_lex.specs.declared.lexer.kinds.TokenKind.{TokenKind}
 use Rattle.wat_lex.specs.declared.lexer.kinds.TokenKind.TheVariants.{Annotation}
 
 -- where in a string's word a character stands: between elements, behind a backslash, behind it and one hexadecimal digit,
--- behind `\u`, or behind `\u{` and these digits
+-- behind `\u`, or behind `\u{` and these digits and underscores, none at first
 pub data Within : Type 0 where
   Between : Within
   Escaped : Within
@@ -21,7 +21,7 @@ pub data Within : Type 0 where
   Braced : Within
   Row : List ℕ → Within
 
--- the joined bytes of a string's elements, up to its closing quote
+-- the joined bytes of a string's elements from such a place on, up to its closing quote
 unfoldable pub elements_value : Within → List ℕ → List ℕ
 elements_value m [] = []
 elements_value Between (c ∷ t) = if c == quote then [] else if c == backslash then elements_value Escaped t else encode_utf8 c ++ elements_value Between t

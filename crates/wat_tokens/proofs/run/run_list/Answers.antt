@@ -18,3 +18,6 @@ pub returns-then-is_err-clause-cut : goal.returns-then-is_err-clause-cut
 returns-then-is_err-clause-cut g c =
     let listed = rw c.deref.ensures.value at c.in_ok-lines.ensures.listed in
     λ _. lines_cut _ _ _ _ _ _ _ _ c.in_ok-bytes.ensures.whole listed (search rules)
+
+pub returns-then-is_err-clause-short : goal.returns-then-is_err-clause-short
+returns-then-is_err-clause-short g c = inr (whole_is_short c.in_ok-bytes.ensures.whole)
