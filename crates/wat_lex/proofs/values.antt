@@ -7,4 +7,5 @@ pub mod StringValues
 pub mod Numerals
 pub mod OneValues
 pub mod SomeValues
+pub mod TokenValues
 pub mod WordValues

@@ -1,5 +1,6 @@
 //! Errors.
-ghost use Rattle.std.specs.Prelude.{◌≡◌, ◌↔◌, ◌⊎◌, Some, None, IsTrue, IsNone, IsOk, IfOk, OnOk, OnErr, IfSome, string_bytes};
+ghost use Rattle.std.specs.Prelude.{◌≡◌, ◌↔◌, ◌⊎◌, Some, None, IsTrue, IsNone, IsOk, IfOk, OnOk};
+ghost use Rattle.std.specs.Prelude.{OnErr, IfSome, string_bytes};
 ghost use Rattle.std.specs.Option.{option_copied};
 ghost use Rattle.wat_lex.specs.errors.ErrorView.{report_of};
 ghost use Rattle.wat_lex.specs.errors.Errors.{IsUnlessMemory, report_in, lexical, Custom, HasText};
@@ -50,9 +51,14 @@ impl Model for Error {
 }
 
 impl Error {
-    /// An error of one's own at a position. It has no text; [`set_text`](Error::set_text) gives it one.
+    /// An error of one's own at a position. It has no text;
+    /// [`set_text`](Error::set_text) gives it one.
     pub fn new(span: Span, message: String) -> Error
-        ensures { result ≡ Some (record { offset = span; cause = Custom (string_bytes message); excerpt = None }) }
+        ensures { result ≡ Some (record {
+          offset = span;
+          cause = Custom (string_bytes message);
+          excerpt = None;
+        }) }
     {
         Error {
             text: None,
@@ -63,16 +69,20 @@ impl Error {
 
     /// The error of a fault of the text `content`, or an out-of-memory error.
     pub fn lex(alloc: Global, span: Span, content: &str, error: LexError) -> Error
-        ensures report { IsUnlessMemory result (lexical content.now (record { offset = span; error = error })) }
-        ensures rendered { IfSome result (λ r. printed (Some r) ≡ rendered content.now (message error) span) }
+        ensures report { IsUnlessMemory result (
+            lexical content.now (record { offset = span; error = error })) }
+        ensures rendered { IfSome result (λ r.
+            printed (Some r) ≡ rendered content.now (message error) span) }
     {
         Error::in_text(alloc, span, content, Kind::Lex(error))
     }
 
     /// An error of one's own at a position of the text `content`, or an out-of-memory error.
     pub fn parse(alloc: Global, span: Span, content: &str, message: String) -> Error
-        ensures report { IsUnlessMemory result (report_in content.now span (Custom (string_bytes message))) }
-        ensures rendered { IfSome result (λ r. printed (Some r) ≡ rendered content.now (string_bytes message) span) }
+        ensures report { IsUnlessMemory result (
+            report_in content.now span (Custom (string_bytes message))) }
+        ensures rendered { IfSome result (λ r.
+            printed (Some r) ≡ rendered content.now (string_bytes message) span) }
     {
         Error::in_text(alloc, span, content, Kind::Message(message))
     }

@@ -1,5 +1,5 @@
-//! Laws of the lexical format, for every text of UTF-8 and all settings. Each function does nothing: its contract is the law,
-//! for the proofs of crates above.
+//! Laws of the lexical format, for every text of UTF-8 and all settings. Each function does
+//! nothing: its contract is the law, for the proofs of crates above.
 ghost use Rattle.wat_lex.specs.tokens.EverySetting.{SomethingStands, OneThingStands};
 ghost use Rattle.wat_lex.specs.tokens.EverySetting.{EachPlaceIsTiled, TilingsAreOne, TokensOfCuts};
 ghost use Rattle.wat_lex.specs.tokens.EverySetting.{TokensOfMoves, TokensAreReadable};
@@ -34,7 +34,8 @@ pub fn tokens()
     ensures boundary { TokensEndAtBoundaries }
 {}
 
-/// The word of an identifier or an annotation has one name, or one fault of it, and `name_value` is which.
+/// The word of an identifier or an annotation has one name, or one fault of it,
+/// and `name_value` is which.
 pub fn names()
     ensures some { NamesAreThere }
     ensures one { NamesAreOne }

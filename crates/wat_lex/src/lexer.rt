@@ -1,5 +1,6 @@
 //! The lexer of the WebAssembly text format.
-ghost use Rattle.std.specs.Prelude.{◌≡◌, ◌<◌, ◌^◌, ◌+◌, ℕ, Bool, true, false, List, length, Option, Result, IfOk, IfErr, IfSome, IfNone, OnErr};
+ghost use Rattle.std.specs.Prelude.{◌≡◌, ◌<◌, ◌^◌, ◌+◌, true, false, List, length, Option};
+ghost use Rattle.std.specs.Prelude.{Result, IfOk, IfErr, IfSome, IfNone, OnErr};
 ghost use Rattle.std.specs.Str.{IsCharBoundary, IsUtf8};
 ghost use Rattle.wat_lex.specs.tokens.Faults.{FaultAt};
 ghost use Rattle.wat_lex.specs.tokens.Raw.{ErrorAt};
@@ -50,7 +51,10 @@ impl<'a> Lexer<'a> {
     /// A lexer over a text of at most `u32::MAX` bytes, with both settings off.
     pub fn new(input: &'a str) -> Lexer<'a>
         requires { length input.now < 2 ^ 32 }
-        ensures setting { result ≡ record { text = input.now; flags = record { allow = false; strict = false } } }
+        ensures setting { result ≡ record {
+          text = input.now;
+          flags = record { allow = false; strict = false };
+        } }
         ensures start { IsCharBoundary input.now 0 }
     {
         Lexer {
@@ -71,10 +75,13 @@ impl<'a> Lexer<'a> {
         self.input
     }
 
-    /// Sets whether the nine characters that can make a text look other than it is may stand in comments and strings.
+    /// Sets whether the nine characters that can make a text look other than it is
+    /// may stand in comments and strings.
     pub fn allow_confusing_unicode(&mut self, allow: bool) -> &mut Self
         ensures same { result.ghost_name ≡ self.entry.ghost_name }
-        ensures setting { result.now ≡ record self.old { flags = record self.old.flags { allow = allow } } }
+        ensures setting { result.now ≡ record self.old {
+          flags = record self.old.flags { allow = allow };
+        } }
     {
         self.settings.allow = allow;
         self
@@ -83,7 +90,9 @@ impl<'a> Lexer<'a> {
     /// Sets whether an underscore directly after another is a fault inside `\u{..}`.
     pub fn strict_underscores(&mut self, strict: bool) -> &mut Self
         ensures same { result.ghost_name ≡ self.entry.ghost_name }
-        ensures setting { result.now ≡ record self.old { flags = record self.old.flags { strict = strict } } }
+        ensures setting { result.now ≡ record self.old {
+          flags = record self.old.flags { strict = strict };
+        } }
     {
         self.settings.strict = strict;
         self
@@ -97,10 +106,12 @@ impl<'a> Lexer<'a> {
         ensures fault { IfErr result (FaultAt self.now pos) }
         ensures one { (r : Result (Option Token) LexFault) → AnswerAt self.now pos r → r ≡ result }
 
-        // The token may be read. What follows it is nearer the text's end, and may be scanned in turn.
+        // The token may be read. What follows it is nearer the text's end,
+        // and may be scanned in turn.
         ensures reader { IfOk result (λ found. IfSome found (IsTokenOf self.now.text)) }
         ensures some { IfOk result (λ found. IfSome found (λ t. 0 < t.len)) }
-        ensures boundary { IfOk result (λ found. IfSome found (λ t. IsCharBoundary self.now.text (pos + t.len))) }
+        ensures boundary { IfOk result (λ found. IfSome found (λ t.
+            IsCharBoundary self.now.text (pos + t.len))) }
         ensures short { IfOk result (λ found. IfSome found (λ t. t.offset + t.len < 2 ^ 32)) }
     {
         match first_lexeme(&self.input[pos..], self.settings) {
@@ -117,11 +128,14 @@ impl<'a> Lexer<'a> {
         }
     }
 
-    /// The token at `pos`, which moves to the token's end, or None at the text's end, or the error of the fault there.
+    /// The token at `pos`, which moves to the token's end, or None at the text's end,
+    /// or the error of the fault there.
     pub fn parse(&self, alloc: Global, pos: &mut usize) -> Result<Option<Token>, Error>
         requires { IsCharBoundary self.now.text pos.old }
-        ensures token { IfOk result (λ found. IfSome found (λ t. TokenAt self.now pos.old t × (pos.new ≡ t.offset + t.len))) }
-        ensures end { IfOk result (λ found. IfNone found ((pos.old ≡ length self.now.text) × (pos.new ≡ pos.old))) }
+        ensures token { IfOk result (λ found. IfSome found (λ t.
+            TokenAt self.now pos.old t × (pos.new ≡ t.offset + t.len))) }
+        ensures end { IfOk result (λ found. IfNone found (
+            (pos.old ≡ length self.now.text) × (pos.new ≡ pos.old))) }
         ensures fault { IfErr result (ErrorAt self.now pos.old) }
         ensures reader { IfOk result (λ found. IfSome found (IsTokenOf self.now.text)) }
         ensures progress { IfOk result (λ found. IfSome found (λ t. pos.old < pos.new)) }
@@ -140,8 +154,8 @@ impl<'a> Lexer<'a> {
 
     ghost use Rattle.wat_lex.specs.values.Annotations.{AnnotationAt};
 
-    /// The annotation's token at any position, or the error of the fault there, where the byte there is `@`; None where it is
-    /// not, and where a token of another kind stands there.
+    /// The annotation's token at any position, or the error of the fault there, where the byte
+    /// there is `@`; None where it is not, and where a token of another kind stands there.
     pub fn annotation(&self, alloc: Global, pos: usize) -> Result<Option<Token>, Error>
         ensures found { AnnotationAt self.now pos result }
         ensures reader { IfOk result (λ found. IfSome found (IsTokenOf self.now.text)) }
@@ -173,9 +187,12 @@ impl<'a> Lexer<'a> {
     pub fn iter<'l>(&'l self, alloc: Global, pos: usize) -> Tokens<'l, 'a>
         requires { IsCharBoundary self.now.text pos }
         ensures start { result ≡ record { setting = self.now; at = pos; done = false } }
-        ensures raw { (items : List Item) → Drains token_steps result items → Raw self.now pos items }
-        ensures laws { (items : List Item) → Drains token_steps result items → Laws self.now pos items }
-        ensures runs { EachRunFrom token_steps result (λ p. p.whole ≡ true → Raw self.now pos p.items) }
+        ensures raw { (items : List Item) →
+            Drains token_steps result items → Raw self.now pos items }
+        ensures laws { (items : List Item) →
+            Drains token_steps result items → Laws self.now pos items }
+        ensures runs { EachRunFrom token_steps result (λ p.
+            p.whole ≡ true → Raw self.now pos p.items) }
         ensures some { SomeTiling self.now pos }
         ensures one { OneTiling self.now pos }
         ensures cuts { Cuts self.now pos }

@@ -1,5 +1,5 @@
 //! From a source of bytes to the lines on a sink.
-ghost use Rattle.std.specs.Prelude.{◌≡◌, ◌⊎◌, ◌↔◌, Bool, true, false, ◌<◌, ◌^◌, length};
+ghost use Rattle.std.specs.Prelude.{◌≡◌, ◌⊎◌, ◌↔◌, true, false, ◌<◌, ◌^◌, length};
 ghost use Rattle.std.specs.Prelude.{Some, is_ok, IfOk, OnOk, IfErr, IfSome, IsErrOf};
 ghost use Rattle.std.specs.Option.{option_map};
 ghost use Rattle.std.specs.Str.{IsUtf8};

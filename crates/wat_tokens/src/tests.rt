@@ -1,5 +1,5 @@
 //! Texts with their lists, from outside, and readers, writers, sources and sinks that fail.
-ghost use Rattle.std.specs.Prelude.{◌≡◌, Bool, List, ℕ, Option, Some};
+ghost use Rattle.std.specs.Prelude.{Option, Some};
 
 mod cuts;
 

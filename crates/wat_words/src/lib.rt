@@ -1,4 +1,5 @@
-//! The words that keyword and annotation types are made of: the trait [`Word`], and the standard words.
+//! The words that keyword and annotation types are made of: the trait [`Word`],
+//! and the standard words.
 #![tactic(auto)]
 
 ghost use Rattle.std.specs.Prelude.{◌≡◌, ℕ, Bool, true, false, List};
@@ -6,7 +7,8 @@ ghost use Rattle.wat_words.specs.Words.{annotation_word, quoted, standard_word};
 
 mod table;
 
-/// A word that a token must spell, as a type: a keyword, a reserved symbol or the name of an annotation.
+/// A word that a token must spell, as a type:
+/// a keyword, a reserved symbol or the name of an annotation.
 pub trait Word {
     ghost AT: { Bool };
 
@@ -25,8 +27,8 @@ pub trait Word {
         ensures { result.now ≡ quoted AT text };
 }
 
-/// The standard word at the place `I` of the table, counted from 0. Past the last one, at 232, the word is empty,
-/// and no token spells it.
+/// The standard word at the place `I` of the table, counted from 0. Past the last one, at 232, the
+/// word is empty, and no token spells it.
 #[derive(Clone, Copy, Debug)]
 pub struct Std<const I: usize>;
 
@@ -46,8 +48,8 @@ impl<const I: usize> Word for Std<I> {
     }
 }
 
-/// The standard annotation name at the place `I` of the table, counted from 0. Past the last one, at 4, the word is
-/// empty, and no annotation has it.
+/// The standard annotation name at the place `I` of the table, counted from 0. Past the last one,
+/// at 4, the word is empty, and no annotation has it.
 #[derive(Clone, Copy, Debug)]
 pub struct StdAnnotation<const I: usize>;
 
@@ -73,10 +75,12 @@ mod tests {
     use std::process::Abort;
     use std::test::Fail;
 
-    /// The standard words in the order of their places, ten a line.
+    /// The standard words in the order of their places, ten in a row, which goes on
+    /// indented where it is long.
     const STANDARD: &str = "
         after alias any anyref arg array arrayref assert_exception assert_exhaustion assert_invalid
-        assert_invalid_custom assert_malformed assert_malformed_custom assert_return assert_trap assert_unlinkable assert_suspension before binary block
+        assert_invalid_custom assert_malformed assert_malformed_custom assert_return assert_trap
+            assert_unlinkable assert_suspension before binary block
         borrow catch catch_ref catch_all catch_all_ref code cont contref component data
         declare delegate descriptor describes do dtor elem end entry exact
         tag exn exnref export extern externref eq eqref f32 f32x4
@@ -90,14 +94,22 @@ mod tests {
         shared start sub switch final table then try v128 value
         s8 s16 s32 s64 u8 u16 u32 u64 char case
         record string bool float32 float64 variant flags option tuple list
-        map error canon lift lower enum string-encoding=utf8 string-encoding=utf16 string-encoding=latin1+utf16 struct
+        map error canon lift lower enum string-encoding=utf8 string-encoding=utf16
+            string-encoding=latin1+utf16 struct
         structref realloc post-return with core core-type gc true false language
-        sdk processed-by mem-info needed export-info import-info runtime-path target-arch thread thread.spawn-ref
-        thread.spawn-indirect thread.available_parallelism backpressure.inc backpressure.dec task.return task.cancel subtask.drop subtask.cancel stream.new stream.read
-        stream.write stream.forward stream.cancel-read stream.cancel-write stream.drop-readable stream.drop-writable future.new future.read future.write future.forward
-        future.cancel-read future.cancel-write future.drop-readable future.drop-writable error-context.new error-context.debug-message error-context.drop wait definition async
-        callback stream future error-context waitable-set.new waitable-set.wait waitable-set.poll waitable-set.drop waitable.join context.get
-        context.set thread.index thread.new-indirect thread.resume-later thread.suspend thread.yield thread.suspend-then-resume thread.yield-then-resume thread.suspend-then-promote thread.yield-then-promote
+        sdk processed-by mem-info needed export-info import-info runtime-path target-arch thread
+            thread.spawn-ref
+        thread.spawn-indirect thread.available_parallelism backpressure.inc backpressure.dec
+            task.return task.cancel subtask.drop subtask.cancel stream.new stream.read
+        stream.write stream.forward stream.cancel-read stream.cancel-write stream.drop-readable
+            stream.drop-writable future.new future.read future.write future.forward
+        future.cancel-read future.cancel-write future.drop-readable future.drop-writable
+            error-context.new error-context.debug-message error-context.drop wait definition async
+        callback stream future error-context waitable-set.new waitable-set.wait waitable-set.poll
+            waitable-set.drop waitable.join context.get
+        context.set thread.index thread.new-indirect thread.resume-later thread.suspend thread.yield
+            thread.suspend-then-resume thread.yield-then-resume thread.suspend-then-promote
+            thread.yield-then-promote
         cancellable version-suffix external-id
     ";
 

@@ -4,39 +4,60 @@ ghost use Rattle.std.specs.Prelude.{◌≡◌, false, true, map, slice_index_or}
 ghost use Rattle.wat_words.specs.Words.{annotation_word, quoted, standard_word};
 
 /// The standard words in the order of their places, each as `words` or `displays` has it.
+/// Ten stand in a row, which goes on indented where it is long.
 macro_rules! standard {
     ($entries:ident) => {
         $entries! {
             ""
-            "after" "alias" "any" "anyref" "arg" "array" "arrayref" "assert_exception" "assert_exhaustion" "assert_invalid"
-            "assert_invalid_custom" "assert_malformed" "assert_malformed_custom" "assert_return" "assert_trap" "assert_unlinkable" "assert_suspension" "before" "binary" "block"
-            "borrow" "catch" "catch_ref" "catch_all" "catch_all_ref" "code" "cont" "contref" "component" "data"
+            "after" "alias" "any" "anyref" "arg" "array" "arrayref" "assert_exception"
+                "assert_exhaustion" "assert_invalid"
+            "assert_invalid_custom" "assert_malformed" "assert_malformed_custom" "assert_return"
+                "assert_trap" "assert_unlinkable" "assert_suspension" "before" "binary" "block"
+            "borrow" "catch" "catch_ref" "catch_all" "catch_all_ref" "code" "cont" "contref"
+                "component" "data"
             "declare" "delegate" "descriptor" "describes" "do" "dtor" "elem" "end" "entry" "exact"
             "tag" "exn" "exnref" "export" "extern" "externref" "eq" "eqref" "f32" "f32x4"
             "f64" "f64x2" "field" "first" "func" "funcref" "get" "global" "i16" "i16x8"
             "i31" "i31ref" "i32" "i32x4" "i64" "i64x2" "i8" "i8x16" "import" "implements"
-            "instance" "instantiate" "interface" "invoke" "item" "last" "local" "memory" "module" "modulecode"
-            "nan:arithmetic" "nan:canonical" "nocont" "nofunc" "noextern" "noexn" "none" "null" "nullcontref" "nullfuncref"
-            "nullexternref" "nullexnref" "nullref" "offset" "on" "outer" "own" "pagesize" "param" "parent"
+            "instance" "instantiate" "interface" "invoke" "item" "last" "local" "memory" "module"
+                "modulecode"
+            "nan:arithmetic" "nan:canonical" "nocont" "nofunc" "noextern" "noexn" "none" "null"
+                "nullcontref" "nullfuncref"
+            "nullexternref" "nullexnref" "nullref" "offset" "on" "outer" "own" "pagesize" "param"
+                "parent"
             "passive" "quote" "else" "if" "loop" "mut" "type" "ref" "ref.func" "ref.null"
-            "register" "rec" "acqrel" "rep" "resource" "resource.new" "resource.drop" "resource.rep" "result" "seqcst"
+            "register" "rec" "acqrel" "rep" "resource" "resource.new" "resource.drop" "resource.rep"
+                "result" "seqcst"
             "shared" "start" "sub" "switch" "final" "table" "then" "try" "v128" "value"
             "s8" "s16" "s32" "s64" "u8" "u16" "u32" "u64" "char" "case"
             "record" "string" "bool" "float32" "float64" "variant" "flags" "option" "tuple" "list"
-            "map" "error" "canon" "lift" "lower" "enum" "string-encoding=utf8" "string-encoding=utf16" "string-encoding=latin1+utf16" "struct"
-            "structref" "realloc" "post-return" "with" "core" "core-type" "gc" "true" "false" "language"
-            "sdk" "processed-by" "mem-info" "needed" "export-info" "import-info" "runtime-path" "target-arch" "thread" "thread.spawn-ref"
-            "thread.spawn-indirect" "thread.available_parallelism" "backpressure.inc" "backpressure.dec" "task.return" "task.cancel" "subtask.drop" "subtask.cancel" "stream.new" "stream.read"
-            "stream.write" "stream.forward" "stream.cancel-read" "stream.cancel-write" "stream.drop-readable" "stream.drop-writable" "future.new" "future.read" "future.write" "future.forward"
-            "future.cancel-read" "future.cancel-write" "future.drop-readable" "future.drop-writable" "error-context.new" "error-context.debug-message" "error-context.drop" "wait" "definition" "async"
-            "callback" "stream" "future" "error-context" "waitable-set.new" "waitable-set.wait" "waitable-set.poll" "waitable-set.drop" "waitable.join" "context.get"
-            "context.set" "thread.index" "thread.new-indirect" "thread.resume-later" "thread.suspend" "thread.yield" "thread.suspend-then-resume" "thread.yield-then-resume" "thread.suspend-then-promote" "thread.yield-then-promote"
+            "map" "error" "canon" "lift" "lower" "enum" "string-encoding=utf8"
+                "string-encoding=utf16" "string-encoding=latin1+utf16" "struct"
+            "structref" "realloc" "post-return" "with" "core" "core-type" "gc" "true" "false"
+                "language"
+            "sdk" "processed-by" "mem-info" "needed" "export-info" "import-info" "runtime-path"
+                "target-arch" "thread" "thread.spawn-ref"
+            "thread.spawn-indirect" "thread.available_parallelism" "backpressure.inc"
+                "backpressure.dec" "task.return" "task.cancel" "subtask.drop" "subtask.cancel"
+                "stream.new" "stream.read"
+            "stream.write" "stream.forward" "stream.cancel-read" "stream.cancel-write"
+                "stream.drop-readable" "stream.drop-writable" "future.new" "future.read"
+                "future.write" "future.forward"
+            "future.cancel-read" "future.cancel-write" "future.drop-readable" "future.drop-writable"
+                "error-context.new" "error-context.debug-message" "error-context.drop" "wait"
+                "definition" "async"
+            "callback" "stream" "future" "error-context" "waitable-set.new" "waitable-set.wait"
+                "waitable-set.poll" "waitable-set.drop" "waitable.join" "context.get"
+            "context.set" "thread.index" "thread.new-indirect" "thread.resume-later"
+                "thread.suspend" "thread.yield" "thread.suspend-then-resume"
+                "thread.yield-then-resume" "thread.suspend-then-promote" "thread.yield-then-promote"
             "cancellable" "version-suffix" "external-id"
         }
     };
 }
 
-/// The standard annotation names in the order of their places, each as `words` or `displays` has it.
+/// The standard annotation names in the order of their places,
+/// each as `words` or `displays` has it.
 macro_rules! annotations {
     ($entries:ident) => {
         $entries! {

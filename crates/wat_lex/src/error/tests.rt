@@ -104,7 +104,8 @@ fn messages_and_out_of_memory(rt: HostRuntime) -> Result<(), Fail> {
     answers(&rt, rt.alloc(), &error, "out of memory", "out of memory")
 }
 
-// Nothing is padded or cut: a width or a precision of the hole is that of no part of what is printed.
+// Nothing is padded or cut:
+// a width or a precision of the hole is that of no part of what is printed.
 #[test]
 fn holes_with_a_width_print_the_same(rt: HostRuntime) -> Result<(), Fail> {
     let alloc = rt.alloc();
@@ -166,15 +167,18 @@ fn faults_of_texts_print_their_line(rt: HostRuntime) -> Result<(), Fail> {
         ),
         (
             "\"é\" \"\\q\"",
-            "invalid string escape 'q'\n     --> <anon>:1:7\n      |\n    1 | \"é\" \"\\q\"\n      |       ^",
+            "invalid string escape 'q'\n     --> <anon>:1:7\n      \
+             |\n    1 | \"é\" \"\\q\"\n      |       ^",
         ),
         (
             "\"漢\" \"\\q\"",
-            "invalid string escape 'q'\n     --> <anon>:1:8\n      |\n    1 | \"漢\" \"\\q\"\n      |        ^",
+            "invalid string escape 'q'\n     --> <anon>:1:8\n      \
+             |\n    1 | \"漢\" \"\\q\"\n      |        ^",
         ),
         (
             "\"e\u{301}\" \"\\q\"",
-            "invalid string escape 'q'\n     --> <anon>:1:7\n      |\n    1 | \"e\u{301}\" \"\\q\"\n      |       ^",
+            "invalid string escape 'q'\n     --> <anon>:1:7\n      \
+             |\n    1 | \"e\u{301}\" \"\\q\"\n      |       ^",
         ),
         (
             "a\r\n(;",
@@ -194,11 +198,13 @@ fn faults_of_texts_print_their_line(rt: HostRuntime) -> Result<(), Fail> {
         ),
         (
             "a \"b\n",
-            "invalid character in string '\\n'\n     --> <anon>:1:5\n      |\n    1 | a \"b\n      |     ^",
+            "invalid character in string '\\n'\n     --> <anon>:1:5\n      \
+             |\n    1 | a \"b\n      |     ^",
         ),
         (
             ";;\u{202e}x",
-            "likely-confusing unicode character found '\\u{202e}'\n     --> <anon>:1:3\n      |\n    1 | ;;x\n      |   ^",
+            "likely-confusing unicode character found '\\u{202e}'\n     --> <anon>:1:3\n      \
+             |\n    1 | ;;x\n      |   ^",
         ),
     ];
     for (text, want) in rows.as_slice() {
@@ -206,8 +212,8 @@ fn faults_of_texts_print_their_line(rt: HostRuntime) -> Result<(), Fail> {
         assert_eq!(rt; got.as_str(), *want, "{text}");
     }
     let got = fault_of(&rt, rt.alloc(), "\"\u{202e}\u{202e}\\q\"", true)?;
-    let want =
-        "invalid string escape 'q'\n     --> <anon>:1:9\n      |\n    1 | \"\\q\"\n      |         ^";
+    let want = "invalid string escape 'q'\n     --> <anon>:1:9\n      \
+         |\n    1 | \"\\q\"\n      |         ^";
     assert_eq!(rt; got.as_str(), want);
     Ok(())
 }
@@ -221,7 +227,8 @@ fn far_columns_and_lines(rt: HostRuntime) -> Result<(), Fail> {
     let near = format!(in rt.alloc(); "{text}(;")?;
     let got = fault_of(&rt, rt.alloc(), near.as_str(), false)?;
     let want = format!(in rt.alloc();
-        "unterminated block comment\n     --> <anon>:1:500\n      |\n    1 | {text}(;\n      | {text}^"
+        "unterminated block comment\n     --> <anon>:1:500\n      \
+         |\n    1 | {text}(;\n      | {text}^"
     )?;
     assert_eq!(rt; got.as_str(), want.as_str());
     let far = format!(in rt.alloc(); "{text} (;")?;

@@ -35,7 +35,8 @@ fn shown(alloc: Global, line: &str) -> Result<String, AllocError>
     Ok(snippet)
 }
 
-/// The columns that the first bytes of a line take, or their number where they are not there or end inside a character.
+/// The columns that the first bytes of a line take,
+/// or their number where they are not there or end inside a character.
 fn columns(line: &str, bytes: usize) -> usize
     ensures columns { result ≡ columns line.now bytes }
     ensures bound { (result ≤ bytes) ⊎ (result ≤ 2 * length line.now) }

@@ -30,7 +30,8 @@ pub enum LexError {
     NumberTooBig,
     /// A number that is no Unicode scalar value.
     InvalidUnicodeValue(u32),
-    /// An underscore with no digit behind it or, where underscores are strict, one directly after another.
+    /// An underscore with no digit behind it or, where underscores are strict,
+    /// one directly after another.
     LoneUnderscore,
     /// One of the nine characters that can make a text look other than it is.
     ConfusingUnicode(char),

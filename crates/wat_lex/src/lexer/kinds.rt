@@ -26,11 +26,13 @@ pub enum TokenKind {
     RParen,
     /// A string in quotes.
     String,
-    /// `$` and a name, as idchars or as a string; also `$` alone, whose name is a fault when it is read.
+    /// `$` and a name, as idchars or as a string; also `$` alone,
+    /// whose name is a fault when it is read.
     Id,
     /// A word that begins with `a` to `z` and is no number.
     Keyword,
-    /// `@` and a name, as idchars or as a string; also `@` alone, whose name is a fault when it is read.
+    /// `@` and a name, as idchars or as a string; also `@` alone,
+    /// whose name is a fault when it is read.
     Annotation,
     /// What the format reserves: any other run, and each of `,` `;` `[` `]` `{` `}`.
     Reserved,

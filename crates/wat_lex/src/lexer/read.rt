@@ -14,8 +14,10 @@ ghost use Rattle.wat_lex.specs.grammar.Strings.{StringWord};
 ghost use Rattle.wat_lex.specs.values.WordValues.{string_value, name_value, name_answer};
 ghost use Rattle.wat_lex.specs.values.WordValues.{empty_name};
 ghost use Rattle.wat_lex.specs.grammar.Words.{Word};
-ghost use Rattle.wat_lex.specs.declared.lexer.faults.LexError.TheVariants.{EmptyId, EmptyAnnotation};
-ghost use Rattle.wat_lex.specs.declared.lexer.kinds.TokenKind.TheVariants.{String, Id, Keyword, Annotation, Reserved};
+ghost use Rattle.wat_lex.specs.declared.lexer.faults.LexError.TheVariants.{EmptyId};
+ghost use Rattle.wat_lex.specs.declared.lexer.faults.LexError.TheVariants.{EmptyAnnotation};
+ghost use Rattle.wat_lex.specs.declared.lexer.kinds.TokenKind.TheVariants.{String, Id, Keyword};
+ghost use Rattle.wat_lex.specs.declared.lexer.kinds.TokenKind.TheVariants.{Annotation, Reserved};
 ghost use Rattle.wat_lex.specs.declared.lexer.kinds.TokenKind.TheVariants as token_kind;
 
 use crate::error::Error;
@@ -67,13 +69,16 @@ impl Token {
         self.src(s)
     }
 
-    /// The value of a string. It is borrowed where no escape stands in the string, and then no memory is taken.
-    #[tactic(auto, using(crate::proofs::values::OneValues::one_value, crate::proofs::values::SomeValues::some_value))]
+    /// The value of a string. It is borrowed where no escape stands in the string,
+    /// and then no memory is taken.
+    #[tactic(auto, using(crate::proofs::values::TokenValues::string_values))]
     pub fn string<'a>(&self, alloc: Global, s: &'a str) -> Result<CowSlice<'a, u8>, AllocError>
         requires token { IsTokenOf s.now self.now }
         requires kind { self.now.kind ≡ String }
-        ensures elements { IfOk result (λ v. StringWord lenient (word_of s.now self.now) (cow_slice_items v)) }
-        ensures value { IfOk result (λ v. cow_slice_items v ≡ string_value (word_of s.now self.now)) }
+        ensures elements { IfOk result (λ v.
+            StringWord lenient (word_of s.now self.now) (cow_slice_items v)) }
+        ensures value { IfOk result (λ v.
+            cow_slice_items v ≡ string_value (word_of s.now self.now)) }
         ensures some { SomeValue (word_of s.now self.now) }
         ensures one { OneValue (word_of s.now self.now) }
         ensures borrowed { IfOk result (λ v.
@@ -88,8 +93,9 @@ impl Token {
         Ok(CowSlice::Owned(value))
     }
 
-    /// The name of an identifier. It is borrowed where no escape stands in it, and then no memory is taken.
-    #[tactic(auto, using(crate::proofs::values::OneValues::one_name, crate::proofs::values::SomeValues::some_name))]
+    /// The name of an identifier. It is borrowed where no escape stands in it,
+    /// and then no memory is taken.
+    #[tactic(auto, using(crate::proofs::values::TokenValues::name_values))]
     pub fn id<'a>(&self, alloc: Global, s: &'a str) -> Result<CowStr<'a>, Error>
         requires token { IsTokenOf s.now self.now }
         requires kind { self.now.kind ≡ Id }
@@ -98,7 +104,8 @@ impl Token {
         ensures some { IfOk result (λ name. cow_str_bytes name ≢ []) }
         ensures value { IfOk result (λ name.
             name_value EmptyId (word_of s.now self.now) ≡ Ok (cow_str_bytes name)) }
-        ensures error { IfErr result (NameError s.now EmptyId self.now.offset (word_of s.now self.now)) }
+        ensures error { IfErr result (
+            NameError s.now EmptyId self.now.offset (word_of s.now self.now)) }
         ensures either { SomeName EmptyId (word_of s.now self.now) }
         ensures one { OneName EmptyId (word_of s.now self.now) }
         ensures borrowed { IfOk result (λ name.
@@ -107,8 +114,9 @@ impl Token {
         self.name_or_error(alloc, s)
     }
 
-    /// The name of an annotation. It is borrowed where no escape stands in it, and then no memory is taken.
-    #[tactic(auto, using(crate::proofs::values::OneValues::one_name, crate::proofs::values::SomeValues::some_name))]
+    /// The name of an annotation. It is borrowed where no escape stands in it,
+    /// and then no memory is taken.
+    #[tactic(auto, using(crate::proofs::values::TokenValues::name_values))]
     pub fn annotation<'a>(&self, alloc: Global, s: &'a str) -> Result<CowStr<'a>, Error>
         requires token { IsTokenOf s.now self.now }
         requires kind { self.now.kind ≡ Annotation }
@@ -127,10 +135,10 @@ impl Token {
         self.name_or_error(alloc, s)
     }
 
-    /// The name of an identifier or an annotation, or what is wrong with it, at the token: `EmptyId` or `EmptyAnnotation` where it
-    /// is empty, `InvalidUtf8Id` where it is not UTF-8. It is borrowed where no escape stands in it, and memory is taken only
-    /// where one does.
-    #[tactic(auto, using(crate::proofs::values::OneValues::one_name, crate::proofs::values::SomeValues::some_name))]
+    /// The name of an identifier or an annotation, or what is wrong with it, at the token:
+    /// `EmptyId` or `EmptyAnnotation` where it is empty, `InvalidUtf8Id` where it is not UTF-8. It
+    /// is borrowed where no escape stands in it, and memory is taken only where one does.
+    #[tactic(auto, using(crate::proofs::values::TokenValues::name_values))]
     pub fn name<'a>(
         &self,
         alloc: Global,
@@ -177,8 +185,9 @@ impl Token {
         Integer::from_word(alloc, self.src(s), kind)
     }
 
-    /// What a floating-point token reads as. Memory is taken where it has underscores, or `0x` before its digits.
-    #[tactic(auto, using(crate::proofs::values::OneValues::one_cut, crate::proofs::values::SomeValues::some_cut))]
+    /// What a floating-point token reads as. Memory is taken where it has underscores,
+    /// or `0x` before its digits.
+    #[tactic(auto, using(crate::proofs::values::TokenValues::float_values))]
     pub fn float<'a>(
         &self,
         alloc: Global,
@@ -202,7 +211,8 @@ impl Token {
         ensures name { IfOk result (λ name. Name (word_of s.now self.now) (cow_str_bytes name)) }
         ensures utf8 { IfOk result (λ name. IsUtf8 (cow_str_bytes name)) }
         ensures some { IfOk result (λ name. cow_str_bytes name ≢ []) }
-        ensures value { IfOk result (λ name. name_value (empty_name self.now.kind) (word_of s.now self.now)
+        ensures value { IfOk result (λ name.
+            name_value (empty_name self.now.kind) (word_of s.now self.now)
             ≡ Ok (cow_str_bytes name)) }
         ensures error { IfErr result (
             NameError s.now (empty_name self.now.kind) self.now.offset (word_of s.now self.now)) }

@@ -1,5 +1,5 @@
 //! Scanning: what stands at the start of a text, by its first bytes.
-ghost use Rattle.std.specs.Prelude.{◌≡◌, ◌<◌, Bool, false, length, slice_index};
+ghost use Rattle.std.specs.Prelude.{◌≡◌, ◌<◌, false, length, slice_index};
 ghost use Rattle.wat_lex.specs.tokens.Faults.{begins_word};
 ghost use Rattle.wat_lex.specs.inside.ScannedLexemes.{Refused, Answers};
 ghost use Rattle.wat_lex.specs.declared.lexer.settings.Settings.{Settings};

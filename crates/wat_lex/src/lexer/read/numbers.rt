@@ -1,7 +1,7 @@
 //! What the words of numbers read as.
-ghost use Rattle.std.specs.Prelude.{◌≡◌, ◌≤◌, ◌++◌, ◌||◌, Bool, true, false, List, [], length, IfOk, OnOk, IsOk, IfSome, string_bytes};
+ghost use Rattle.std.specs.Prelude.{◌≡◌, ◌≤◌, ◌++◌, ◌||◌, Bool, true, false, [], length};
+ghost use Rattle.std.specs.Prelude.{IfOk, OnOk, IsOk, IfSome, string_bytes};
 ghost use Rattle.std.specs.Option.{option_map};
-ghost use Rattle.std.specs.Cow.{cow_str_bytes};
 ghost use Rattle.std.specs.Str.{IsAscii};
 ghost use Rattle.wat_lex.specs.grammar.Numbers.{unsigned, has_underscores, Number, IntegralPart};
 ghost use Rattle.wat_lex.specs.grammar.Numbers.{Tail, Decimals, Payload};
@@ -10,7 +10,7 @@ ghost use Rattle.wat_lex.specs.values.NumberValues.{payload_text, is_integer_rew
 ghost use Rattle.wat_lex.specs.values.NumberValues.{is_float_rewritten, integer_sign};
 ghost use Rattle.wat_lex.specs.values.NumberValues.{integer_digits, integer_base, Point, Power};
 ghost use Rattle.wat_lex.specs.values.NumberValues.{IsText, IsOptionalText, IsIntegerOf};
-ghost use Rattle.wat_lex.specs.values.NumberValues.{IsDecimalsOf, IsFloatOf};
+ghost use Rattle.wat_lex.specs.values.NumberValues.{IsFloatOf};
 ghost use Rattle.wat_lex.specs.inside.ScannedNumbers.{without_plus, EndsFloat};
 ghost use Rattle.wat_lex.specs.declared.lexer.kinds.TokenKind.TheVariants as token_kind;
 ghost use Rattle.wat_lex.specs.declared.lexer.kinds.FloatKind.TheVariants.{Normal};
@@ -234,7 +234,8 @@ fn split_fraction(tail: &str, hex: bool) -> (Option<&str>, &str)
 /// What stands behind an exponent's letter.
 fn behind_letter(rest: &str) -> Option<&str>
     requires ascii { IsAscii rest.now }
-    ensures { (hex : Bool) → EndsFloat hex rest.now → Power hex rest.now (option_map (λ r. r.now) result) }
+    ensures { (hex : Bool) → EndsFloat hex rest.now →
+        Power hex rest.now (option_map (λ r. r.now) result) }
 {
     if rest.is_empty() {
         None
@@ -251,7 +252,8 @@ fn optional_text<'a>(
 ) -> Result<Option<CowStr<'a>>, AllocError>
     requires ascii { IfSome part (λ p. IsAscii p.now) }
     requires plain { underscores ≡ false → IfSome part (λ p. has_underscores p.now ≡ false) }
-    ensures value { IfOk result (IsOptionalText underscores (option_map (λ p. number_text false p.now) part.entry)) }
+    ensures value { IfOk result (IsOptionalText underscores (
+        option_map (λ p. number_text false p.now) part.entry)) }
     ensures free { underscores ≡ false → IsOk result }
 {
     match part {

@@ -70,9 +70,12 @@ pub fn unescaped(alloc: Global, elements: &str) -> Result<Vec<u8>, AllocError>
 /// The name that a text is, None where its bytes are not UTF-8.
 pub fn name<'a>(alloc: Global, text: &'a str) -> Result<Option<CowStr<'a>>, AllocError>
     requires { IsNamed (chars text.now) }
-    ensures some { IfOk result (λ found. IfSome found (λ name. Named (chars text.now) (cow_str_bytes name))) }
-    ensures none { IfOk result (λ found. IfNone found ((bytes : List ℕ) × Named (chars text.now) bytes × (IsUtf8 bytes → ⊥))) }
-    ensures borrowed { IfOk result (λ found. IfSome found (λ name. IsBorrowedStr name ↔ HasNoEscape (chars text.now))) }
+    ensures some { IfOk result (λ found. IfSome found (λ name.
+        Named (chars text.now) (cow_str_bytes name))) }
+    ensures none { IfOk result (λ found. IfNone found (
+        (bytes : List ℕ) × Named (chars text.now) bytes × (IsUtf8 bytes → ⊥))) }
+    ensures borrowed { IfOk result (λ found. IfSome found (λ name.
+        IsBorrowedStr name ↔ HasNoEscape (chars text.now))) }
     ensures free { HasNoEscape (chars text.now) → IsOk result }
 {
     let Some(elements) = text.strip_prefix('"') else {

@@ -1,5 +1,6 @@
 //! Comments.
-ghost use Rattle.std.specs.Prelude.{◌≡◌, ◌≤◌, ◌+◌, ℕ, List, not, length, drop, slice_index, IfSome, IfNone, MatchOption};
+ghost use Rattle.std.specs.Prelude.{◌≡◌, ◌≤◌, ◌+◌, ℕ, List, not, length, drop, slice_index, IfSome};
+ghost use Rattle.std.specs.Prelude.{IfNone, MatchOption};
 ghost use Rattle.std.specs.List.{prefix_len};
 ghost use Rattle.std.specs.Str.{chars, NonePass};
 ghost use Rattle.wat_lex.specs.grammar.Classes.{is_line_end, is_confusing};
@@ -21,10 +22,11 @@ fn line_len(text: &[u8]) -> usize
     memchr2(b'\n', b'\r', text).unwrap_or(text.len())
 }
 
-/// The first confusing character, and where it stands. Each of them has 0xE2 as its first byte, and no character has
-/// that byte at another place.
+/// The first confusing character, and where it stands. Each of them has 0xE2 as its first byte, and
+/// no character has that byte at another place.
 fn first_confusing(text: &str) -> Option<(usize, char)>
-    ensures { MatchOption result (NonePass is_confusing (chars text.now)) (λ f. FirstConfusing text.now f.0 f.1) }
+    ensures { MatchOption result (NonePass is_confusing (chars text.now))
+        (λ f. FirstConfusing text.now f.0 f.1) }
 {
     let mut at = 0;
     'places: while let Some(skipped) = memchr(0xe2, text[at..].as_bytes()) {

@@ -1,5 +1,6 @@
 //! The words of numbers.
-ghost use Rattle.std.specs.Prelude.{◌≡◌, ◌≢◌, ◌↔◌, ◌++◌, ℕ, List, [], MatchOption, IfSome, IfNone, IsTrue, codes};
+ghost use Rattle.std.specs.Prelude.{◌≡◌, ◌≢◌, ◌↔◌, ◌++◌, ℕ, List, [], MatchOption, IfSome, IfNone};
+ghost use Rattle.std.specs.Prelude.{IsTrue, codes};
 ghost use Rattle.wat_lex.specs.declared.lexer.kinds.TokenKind.{TokenKind};
 ghost use Rattle.wat_lex.specs.grammar.Numbers.{is_digit, is_exponent_letter, sign_of, unsigned};
 ghost use Rattle.wat_lex.specs.grammar.Numbers.{is_negative, has_underscores, Digits, Exponent};
@@ -63,7 +64,8 @@ fn has_underscores(word: &[u8]) -> bool
 
 /// What follows a prefix of the text.
 fn after<'a>(text: &'a [u8], prefix: &[u8]) -> Option<&'a [u8]>
-    ensures { MatchOption result ((rest : List ℕ) → text.now ≢ prefix.now ++ rest) (λ rest. text.now ≡ prefix.now ++ rest.now) }
+    ensures { MatchOption result ((rest : List ℕ) → text.now ≢ prefix.now ++ rest)
+        (λ rest. text.now ≡ prefix.now ++ rest.now) }
 {
     text.strip_prefix(prefix)
 }
@@ -71,7 +73,8 @@ fn after<'a>(text: &'a [u8], prefix: &[u8]) -> Option<&'a [u8]>
 /// What follows the digits at the start, and None where there are none or an underscore stands
 /// alone.
 pub fn after_digits(text: &[u8], hex: bool) -> Option<&[u8]>
-    ensures { MatchOption result (NoDigits hex text.now) (λ rest. LongestDigits hex text.now rest.now) }
+    ensures { MatchOption result (NoDigits hex text.now)
+        (λ rest. LongestDigits hex text.now rest.now) }
 {
     let mut i = 0;
     while i < text.len() && is_digit(text[i], hex) {
@@ -124,7 +127,8 @@ fn is_tail(text: &[u8], hex: bool) -> bool
 
 /// Whether a number's first digits are hexadecimal, and what follows them.
 fn after_integral(text: &[u8]) -> Option<(bool, &[u8])>
-    ensures { MatchOption result (NoIntegralPart text.now) (λ f. OnlyIntegralPart f.0 text.now f.1.now) }
+    ensures { MatchOption result (NoIntegralPart text.now)
+        (λ f. OnlyIntegralPart f.0 text.now f.1.now) }
 {
     if let Some(digits) = after(text, b"0x".as_slice()) {
         return Some((true, after_digits(digits, true)?));

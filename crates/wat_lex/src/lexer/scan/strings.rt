@@ -72,7 +72,9 @@ fn refuse<T>(left: usize, error: LexError) -> Result<T, Broken>
 fn second(it: &mut Chars<'_>, first: char, flags: Settings) -> Result<EscapeValue, Broken>
     requires utf8 { IsUtf8 (chars_rest it.old) }
     requires hex { is_hex first ≡ true }
-    ensures ok { IfOk result (λ e. Escaped flags (92 ∷ first ∷ []) (chars_rest it.old) (chars_rest it.new) (escape_bytes e)) }
+    ensures ok { IfOk result (λ e.
+        Escaped flags (92 ∷ first ∷ [])
+        (chars_rest it.old) (chars_rest it.new) (escape_bytes e)) }
     ensures err { IfErr result (Breaks flags (92 ∷ first ∷ []) (chars_rest it.old)) }
 {
     let left = it.as_str().len();
@@ -86,7 +88,8 @@ fn second(it: &mut Chars<'_>, first: char, flags: Settings) -> Result<EscapeValu
     Ok(EscapeValue::Byte(value as u8))
 }
 
-/// The character of a number, from its digits and underscores by themselves, unless they end in an underscore.
+/// The character of a number, from its digits and underscores by themselves,
+/// unless they end in an underscore.
 fn row_value(n: u32, underscore: bool, last: usize) -> Result<char, Broken>
     ensures { IsRowValue n underscore last result }
 {
@@ -117,7 +120,9 @@ fn ended(c: char, left: usize, value: char) -> Result<EscapeValue, Broken>
 fn with_digit(n: u32, digit: char, left: usize) -> Result<u32, Broken>
     requires { is_hex digit ≡ true }
     ensures ok { IfOk result (λ m. m ≡ n * 16 + digit_value digit) }
-    ensures err { IfErr result (λ broken. (2 ^ 32 ≤ n * 16 + digit_value digit) × (broken ≡ record { left = left; error = NumberTooBig })) }
+    ensures err { IfErr result (λ broken.
+        (2 ^ 32 ≤ n * 16 + digit_value digit)
+        × (broken ≡ record { left = left; error = NumberTooBig })) }
 {
     let wide = n as u64 * 16 + hex_digit(digit) as u64;
     if wide >= 0x1_0000_0000 {
@@ -130,7 +135,9 @@ fn with_digit(n: u32, digit: char, left: usize) -> Result<u32, Broken>
 fn number(it: &mut Chars<'_>, first: char, flags: Settings) -> Result<EscapeValue, Broken>
     requires utf8 { IsUtf8 (chars_rest it.old) }
     requires hex { is_hex first ≡ true }
-    ensures ok { IfOk result (λ e. Escaped flags (92 ∷ 117 ∷ 123 ∷ first ∷ []) (chars_rest it.old) (chars_rest it.new) (escape_bytes e)) }
+    ensures ok { IfOk result (λ e.
+        Escaped flags (92 ∷ 117 ∷ 123 ∷ first ∷ [])
+        (chars_rest it.old) (chars_rest it.new) (escape_bytes e)) }
     ensures err { IfErr result (Breaks flags (92 ∷ 117 ∷ 123 ∷ first ∷ []) (chars_rest it.old)) }
 {
     let mut n = hex_digit(first);
@@ -158,7 +165,9 @@ fn number(it: &mut Chars<'_>, first: char, flags: Settings) -> Result<EscapeValu
 /// What follows `\u{`.
 fn digits(it: &mut Chars<'_>, flags: Settings) -> Result<EscapeValue, Broken>
     requires utf8 { IsUtf8 (chars_rest it.old) }
-    ensures ok { IfOk result (λ e. Escaped flags (92 ∷ 117 ∷ 123 ∷ []) (chars_rest it.old) (chars_rest it.new) (escape_bytes e)) }
+    ensures ok { IfOk result (λ e.
+        Escaped flags (92 ∷ 117 ∷ 123 ∷ [])
+        (chars_rest it.old) (chars_rest it.new) (escape_bytes e)) }
     ensures err { IfErr result (Breaks flags (92 ∷ 117 ∷ 123 ∷ []) (chars_rest it.old)) }
 {
     let left = it.as_str().len();
@@ -174,7 +183,9 @@ fn digits(it: &mut Chars<'_>, flags: Settings) -> Result<EscapeValue, Broken>
 /// What follows `\u`.
 fn braced(it: &mut Chars<'_>, flags: Settings) -> Result<EscapeValue, Broken>
     requires utf8 { IsUtf8 (chars_rest it.old) }
-    ensures ok { IfOk result (λ e. Escaped flags (92 ∷ 117 ∷ []) (chars_rest it.old) (chars_rest it.new) (escape_bytes e)) }
+    ensures ok { IfOk result (λ e.
+        Escaped flags (92 ∷ 117 ∷ [])
+        (chars_rest it.old) (chars_rest it.new) (escape_bytes e)) }
     ensures err { IfErr result (Breaks flags (92 ∷ 117 ∷ []) (chars_rest it.old)) }
 {
     let left = it.as_str().len();
@@ -194,7 +205,9 @@ fn braced(it: &mut Chars<'_>, flags: Settings) -> Result<EscapeValue, Broken>
 /// What follows a backslash.
 pub fn escape(it: &mut Chars<'_>, flags: Settings) -> Result<EscapeValue, Broken>
     requires utf8 { IsUtf8 (chars_rest it.old) }
-    ensures ok { IfOk result (λ e. Escaped flags (92 ∷ []) (chars_rest it.old) (chars_rest it.new) (escape_bytes e)) }
+    ensures ok { IfOk result (λ e.
+        Escaped flags (92 ∷ [])
+        (chars_rest it.old) (chars_rest it.new) (escape_bytes e)) }
     ensures err { IfErr result (Breaks flags (92 ∷ []) (chars_rest it.old)) }
 {
     let left = it.as_str().len();

@@ -199,8 +199,8 @@ fn read_all(rt: &impl Abort, alloc: Global, text: &str) {
     }
 }
 
-// With the fifth request refused, as `--fail-alloc 5` does, the fifth of this test's own has to be the one: then none was made
-// before, not even one whose refusal is ignored.
+// With the fifth request refused, as `--fail-alloc 5` does, the fifth of this test's own has to be
+// the one: then none was made before, not even one whose refusal is ignored.
 #[test]
 fn plain_words_make_no_request(rt: HostRuntime) {
     read_all(

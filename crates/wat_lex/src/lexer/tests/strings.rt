@@ -190,7 +190,8 @@ fn faults_of_names_print_their_line(rt: HostRuntime) -> Result<(), Fail> {
         (
             "\t$\"\\ff\" x",
             1,
-            "malformed UTF-8 encoding of string-based id\n     --> <anon>:1:2\n      |\n    1 |     $\"\\ff\" x\n      |  ^",
+            "malformed UTF-8 encoding of string-based id\n     --> <anon>:1:2\n      \
+             |\n    1 |     $\"\\ff\" x\n      |  ^",
         ),
     ];
     for (text, at, want) in rows.as_slice() {

@@ -95,7 +95,8 @@ fn words_and_faults(rt: HostRuntime) -> Result<(), Fail> {
         ("", ""),
         (
             "(module (func $foo))",
-            "LParen 0..1, Keyword 1..7, LParen 8..9, Keyword 9..13, Id 14..18, RParen 18..19, RParen 19..20, ",
+            "LParen 0..1, Keyword 1..7, LParen 8..9, \
+             Keyword 9..13, Id 14..18, RParen 18..19, RParen 19..20, ",
         ),
         (
             ",[;x",
@@ -109,7 +110,8 @@ fn words_and_faults(rt: HostRuntime) -> Result<(), Fail> {
         ),
         (
             "1_ 1__0 1._5 1e 0x 0x1e5 1. inf nan:0x",
-            "Reserved 0..2, Reserved 3..7, Reserved 8..12, Reserved 13..15, Reserved 16..18, Integer 19..24, Float 25..27, Float 28..31, Keyword 32..38, ",
+            "Reserved 0..2, Reserved 3..7, Reserved 8..12, Reserved 13..15, \
+             Reserved 16..18, Integer 19..24, Float 25..27, Float 28..31, Keyword 32..38, ",
         ),
         (
             "\"x\"$ @a\"b\" $\"x\" $ @",
@@ -117,7 +119,8 @@ fn words_and_faults(rt: HostRuntime) -> Result<(), Fail> {
         ),
         (
             "+nan:0x1 nan:0x7f_ffff 0X1 0x1.8p3 1e+ -",
-            "Float 0..8, Float 9..22, Reserved 23..26, Float 27..34, Reserved 35..38, Reserved 39..40, ",
+            "Float 0..8, Float 9..22, Reserved 23..26, \
+             Float 27..34, Reserved 35..38, Reserved 39..40, ",
         ),
         (
             "-1_2.1_1E+0_1 -0x10 +0x1_2.3_4P-5_6",
