@@ -3,7 +3,7 @@
 ghost use Rattle.wat_lex.specs.tokens.EverySetting.{SomethingStands, OneThingStands};
 ghost use Rattle.wat_lex.specs.tokens.EverySetting.{EachPlaceIsTiled, TilingsAreOne, TokensOfCuts};
 ghost use Rattle.wat_lex.specs.tokens.EverySetting.{TokensOfMoves, TokensAreReadable};
-ghost use Rattle.wat_lex.specs.tokens.EverySetting.{TokensEndAtBoundaries, NamesAreThere};
+ghost use Rattle.wat_lex.specs.tokens.EverySetting.{TokensEndAtBoundaries, WordsOfTokens, NamesAreThere};
 ghost use Rattle.wat_lex.specs.tokens.EverySetting.{NamesAreOne, NamesAreValues, StringsAreValues};
 
 /// At each character boundary exactly one thing stands: a token, the text's end, or a fault.
@@ -18,7 +18,8 @@ pub fn one_tiling()
     ensures one { TilingsAreOne }
 {}
 
-/// The raw tokens of a prefix of a text begin those of the text.
+/// The raw tokens of a prefix of a text begin those of the text, but for the last where the prefix
+/// ends without a fault.
 pub fn cuts()
     ensures { TokensOfCuts }
 {}
@@ -28,10 +29,12 @@ pub fn moves()
     ensures { TokensOfMoves }
 {}
 
-/// A token of a tiling may be handed to the readers, and another may stand behind it.
+/// A token of a tiling may be handed to the readers, who see its word, and ends at a character
+/// boundary.
 pub fn tokens()
     ensures readable { TokensAreReadable }
     ensures boundary { TokensEndAtBoundaries }
+    ensures word { WordsOfTokens }
 {}
 
 /// The word of an identifier or an annotation has one name, or one fault of it,

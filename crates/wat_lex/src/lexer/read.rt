@@ -186,7 +186,7 @@ impl Token {
     }
 
     /// What a floating-point token reads as. Memory is taken where it has underscores,
-    /// or `0x` before its digits.
+    /// and for hexadecimal digits that are no payload.
     #[tactic(auto, using(crate::proofs::values::TokenValues::float_values))]
     pub fn float<'a>(
         &self,

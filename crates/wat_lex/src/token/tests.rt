@@ -1,0 +1,131 @@
+//! Tests of positions, identifiers and indices.
+use super::*;
+use std::hash::DefaultHasher;
+use std::process::Abort;
+use std::test::Fail;
+
+// What crates above know of the order of places.
+fn is_before(a: Span, b: Span) -> bool
+    ensures { IsTrue result ↔ (a < b) }
+{
+    a < b
+}
+
+fn hash_of<T: Hash>(value: &T) -> u64 {
+    let mut hasher = DefaultHasher::new();
+    value.hash(&mut hasher);
+    hasher.finish()
+}
+
+fn are_alike<T: Hash>(a: &T, b: &T) -> bool {
+    a == b && hash_of(a) == hash_of(b)
+}
+
+#[test]
+fn lines_and_columns(rt: HostRuntime) -> Result<(), Fail> {
+    let rows = [
+        ("a\n", 2, 1, 0),
+        ("a", 5, 1, 0),
+        ("a", 1, 0, 1),
+        ("", 0, 0, 0),
+        ("", 1, 0, 0),
+        ("a\r\n(;", 2, 0, 2),
+        ("a\r\n(;", 3, 1, 0),
+        ("\n\n", 1, 1, 0),
+        ("\n\n", 2, 2, 0),
+        ("\n\n", 3, 2, 0),
+        ("a\nb\n", 9, 2, 0),
+        ("a\nb", 9, 2, 0),
+        ("\"é\"\u{2028}b", 7, 0, 7),
+    ];
+    for (text, offset, line, column) in rows {
+        let got = Span::from_offset(offset).linecol_in(text);
+        assert_eq!(rt; got, (line, column), "{text}");
+    }
+    Ok(())
+}
+
+#[test]
+fn spans_are_their_offsets(rt: HostRuntime) {
+    for (a, b) in [(0, 0), (0, 1), (1, 0), (7, usize::MAX)] {
+        let (first, second) = (Span::from_offset(a), Span::from_offset(b));
+        assert_eq!(rt; first.offset(), a);
+        assert_eq!(rt; is_before(first, second), a < b, "{a} {b}");
+        assert_eq!(rt; first.cmp(&second), a.cmp(&b), "{a} {b}");
+        assert_eq!(rt; are_alike(&first, &second), a == b, "{a} {b}");
+    }
+}
+
+#[test]
+fn identifiers_are_equal_whatever_their_spans(rt: HostRuntime) -> Result<(), Fail> {
+    let alloc = rt.alloc();
+    let (near, far) = (Span::from_offset(0), Span::from_offset(9));
+    let x = Id::new("x", near);
+    assert!(rt; are_alike(&x, &Id::new("x", far)));
+    let owned = CowStr::Owned(String::from_str(alloc, "x")?);
+    assert!(rt; are_alike(&x, &Id::from_cow(owned, far)));
+    assert!(rt; x != Id::new("y", near));
+    assert!(rt; Id::new("gensym", near) != Id::gensym(near, 1));
+    assert!(rt; Id::gensym(near, 1) != Id::gensym(near, 2));
+    assert!(rt; are_alike(&Id::gensym(near, 1), &Id::gensym(far, 1)));
+    Ok(())
+}
+
+#[test]
+fn indices_are_equal_whatever_their_spans(rt: HostRuntime) {
+    let (near, far) = (Span::from_offset(0), Span::from_offset(9));
+    let x = Index::Id(Id::new("x", near));
+    assert!(rt; are_alike(&Index::Num(12, near), &Index::Num(12, far)));
+    assert!(rt; are_alike(&x, &Index::from(Id::new("x", far))));
+    assert!(rt; Index::Num(12, near) != Index::Num(13, near));
+    assert!(rt; x != Index::Id(Id::new("y", near)));
+    assert!(rt; x != Index::Num(0, near));
+}
+
+fn is_at(rt: &impl Abort, id: &Id<'_>, name: &str, offset: usize) {
+    assert_eq!(rt; id.name(), name);
+    assert_eq!(rt; id.span().offset(), offset, "{name}");
+}
+
+#[test]
+fn copies_keep_name_and_span(rt: HostRuntime) -> Result<(), Fail> {
+    let alloc = rt.alloc();
+    for name in ["a", "", "\u{6f22}"] {
+        let borrowed = Id::new(name, Span::from_offset(0));
+        is_at(&rt, &borrowed.clone(alloc)?, name, 0);
+        let owned = CowStr::Owned(String::from_str(alloc, name)?);
+        let owned = Id::from_cow(owned, Span::from_offset(4));
+        is_at(&rt, &owned.clone(alloc)?, name, 4);
+    }
+    Ok(())
+}
+
+#[test]
+fn copies_of_indices_keep_number_and_span(rt: HostRuntime) -> Result<(), Fail> {
+    let alloc = rt.alloc();
+    let copy = Index::Id(Id::new("a", Span::from_offset(0))).clone(alloc)?;
+    assert_eq!(rt; copy.span().offset(), 0);
+    assert!(rt; copy == Index::Id(Id::new("a", Span::from_offset(0))));
+    let copy = Index::Num(12, Span::from_offset(3)).clone(alloc)?;
+    assert_eq!(rt; copy.span().offset(), 3);
+    assert!(rt; copy == Index::Num(12, Span::from_offset(3)));
+    Ok(())
+}
+
+#[test]
+fn debug_shows_a_name_or_a_generation(rt: HostRuntime) -> Result<(), Fail> {
+    let alloc = rt.alloc();
+    let span = Span::from_offset(2);
+    let ids = [
+        Id::new("x", span),
+        Id::new("a\"b", span),
+        Id::gensym(span, 1),
+    ];
+    for (id, text) in ids
+        .iter()
+        .zip(["\"x\"", "\"a\\\"b\"", "Id { generation: 1 }"])
+    {
+        assert_eq!(rt; format!(in alloc; "{id:?}")?.as_str(), text);
+    }
+    Ok(())
+}
