@@ -1,5 +1,5 @@
 -- The laws of the definitions for every text and setting, from what is proved of words, tilings and names.
-use Rattle.std.proofs.Common.{◌≡◌, ℕ, [], ◌∷◌, ◌∙◌, refl, sym, subst, inl, inr}
+use Rattle.std.proofs.Common.{ℕ, [], ◌∷◌, ◌∙◌, refl, sym, subst, inl, inr}
 use Rattle.std.specs.Prelude.{Some, None, Ok, Err, Option, Result}
 use Rattle.wat_lex.specs.tokens.EverySetting.{SomethingStands, OneThingStands, EachPlaceIsTiled, TilingsAreOne, TokensOfCuts, TokensOfMoves, TokensAreReadable, TokensEndAtBoundaries, WordsOfTokens, NamesAreThere, NamesAreOne, NamesAreValues, StringsAreValues}
 use Rattle.wat_lex.specs.tokens.Faults.{FaultAt}

@@ -1,4 +1,4 @@
-use Rattle.std.proofs.Common.{◌≡◌, ◌≢◌, ◌≤◌, ℕ, List, [], Bool, true, false, length, drop, refl, arith, ap, sym, ◌∙◌, subst}
+use Rattle.std.proofs.Common.{◌≡◌, ◌≢◌, ◌≤◌, ℕ, List, [], Bool, true, false, length, refl, arith, ap, sym, ◌∙◌, subst}
 use Rattle.std.specs.Prelude.{IfSome, IfNone, ◌↔◌, ◌==◌}
 use Rattle.std.specs.Cow.{cow_str_bytes, IsBorrowedStr}
 use Rattle.std.specs.Str.{chars, IsUtf8}
