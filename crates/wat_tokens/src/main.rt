@@ -26,7 +26,7 @@ fn words(rt: &HostRuntime) -> io::Result<Vec<String>> {
 }
 
 /// Lists standard input on standard output, as the words ask.
-fn outcome_of(rt: &HostRuntime) -> Outcome {
+fn answer(rt: &HostRuntime) -> Outcome {
     let words = match words(rt) {
         Ok(words) => words,
         Err(error) if error.kind() == io::ErrorKind::OutOfMemory => {
@@ -40,7 +40,7 @@ fn outcome_of(rt: &HostRuntime) -> Outcome {
 }
 
 fn main(rt: HostRuntime) -> ExitCode {
-    let outcome = outcome_of(&rt);
+    let outcome = answer(&rt);
     let _ = outcome.report(&mut rt.stderr());
     ExitCode::from(outcome.status())
 }

@@ -98,13 +98,13 @@ fn error_of(alloc: Global, text: &str, fault: Option<LexFault>) -> Result<Option
 
 /// The lines of the raw tokens of the bytes up to the first fault, and the error of that fault.
 #[derive(Drop)]
-struct Reply {
+struct Output {
     lines: Vec<u8>,
     error: Option<Error>,
 }
 
 /// Lists bytes that may be no text.
-fn list_bytes(alloc: Global, bytes: &[u8], settings: Settings) -> Result<Reply, RunError>
+fn list_bytes(alloc: Global, bytes: &[u8], settings: Settings) -> Result<Output, RunError>
     requires { length bytes.now < 2 ^ 32 }
     ensures listed { IfOk result (λ reply.
         Lists settings bytes.now reply.lines.items reply.error) }
@@ -116,7 +116,7 @@ fn list_bytes(alloc: Global, bytes: &[u8], settings: Settings) -> Result<Reply, 
     };
     let listing = list(alloc, text, settings)?;
     let error = error_of(alloc, text, listing.fault)?;
-    Ok(Reply {
+    Ok(Output {
         lines: listing.lines,
         error,
     })
@@ -158,7 +158,7 @@ pub fn run_list<R: Source, W: Sink>(
     ensures unwritten { IfErr result (λ e. (e ≡ RunError.Write) ⊎ (output.new ≡ output.old)) }
 {
     let bytes = read_whole(alloc, input)?;
-    let Reply { lines, error } = list_bytes(alloc, &bytes, settings)?;
+    let Output { lines, error } = list_bytes(alloc, &bytes, settings)?;
     if output.write_all(&lines).is_err() {
         return Err(RunError::Write);
     }
