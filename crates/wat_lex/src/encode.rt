@@ -330,8 +330,8 @@ pub fn slice_fits<T: Encode>(items: &[T]) -> bool
 
 /// Appends a list: how many items it has, as a `u32`, and then each of them.
 ///
-/// A refusal leaves the buffer as it was. A list that has no bytes is refused as `TooLong`, whatever
-/// memory there is.
+/// A refusal leaves the buffer as it was. A list that has no bytes is refused as `TooLong`,
+/// whatever memory there is.
 pub fn encode_slice<T: Encode>(items: &[T], e: &mut Vec<u8>) -> Result<(), EncodeError>
     ensures ok { OnOk result (e.new.items ≡ e.old.items ++ list_encoding T.encoding items.now) }
     ensures fitting { OnOk result (ListFits T.fits items.now) }
@@ -373,8 +373,8 @@ pub fn str_fits(text: &str) -> bool
 
 /// Appends a text: how many bytes it has, as a `u32`, and then these.
 ///
-/// A refusal leaves the buffer as it was. A text that has no bytes is refused as `TooLong`, whatever
-/// memory there is.
+/// A refusal leaves the buffer as it was. A text that has no bytes is refused as `TooLong`,
+/// whatever memory there is.
 pub fn encode_str(text: &str, e: &mut Vec<u8>) -> Result<(), EncodeError>
     ensures ok { OnOk result (e.new.items ≡ e.old.items ++ text_encoding text.now) }
     ensures fitting { OnOk result (TextFits text.now) }

@@ -102,8 +102,8 @@ impl Error {
         }
     }
 
-    /// Gives the error the text that it is about, unless it has one or is the out-of-memory error. Where
-    /// that finds no memory the error is as it was.
+    /// Gives the error the text that it is about, unless it has one or is the out-of-memory error.
+    /// Where that finds no memory the error is as it was.
     pub fn set_text(&mut self, alloc: Global, contents: &str) -> Result<(), AllocError>
         ensures set { OnOk result (self.new ≡ with_text contents.now self.old) }
         ensures kept { OnErr result (self.new ≡ self.old) }

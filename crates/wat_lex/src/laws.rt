@@ -3,7 +3,8 @@
 ghost use Rattle.wat_lex.specs.tokens.EverySetting.{SomethingStands, OneThingStands};
 ghost use Rattle.wat_lex.specs.tokens.EverySetting.{EachPlaceIsTiled, TilingsAreOne, TokensOfCuts};
 ghost use Rattle.wat_lex.specs.tokens.EverySetting.{TokensOfMoves, TokensAreReadable};
-ghost use Rattle.wat_lex.specs.tokens.EverySetting.{TokensEndAtBoundaries, WordsOfTokens, NamesAreThere};
+ghost use Rattle.wat_lex.specs.tokens.EverySetting.{TokensEndAtBoundaries, WordsOfTokens};
+ghost use Rattle.wat_lex.specs.tokens.EverySetting.{NamesAreThere};
 ghost use Rattle.wat_lex.specs.tokens.EverySetting.{NamesAreOne, NamesAreValues, StringsAreValues};
 
 /// At each character boundary exactly one thing stands: a token, the text's end, or a fault.
