@@ -1,4 +1,6 @@
 //! Tests of positions, identifiers and indices.
+ghost use Rattle.std.specs.Prelude.{IsTrue, ◌↔◌, ◌<◌};
+
 use super::*;
 use std::hash::DefaultHasher;
 use std::process::Abort;
