@@ -1,6 +1,6 @@
 //! What readers of the text format share: places, identifiers and indices.
 
-ghost use Rattle.std.specs.Prelude.{◌≡◌, ◌<◌, ◌≤◌, ◌↔◌, false, not, length, IsTrue, IfOk, IsOk};
+ghost use Rattle.std.specs.Prelude.{◌≡◌, ◌≤◌, ◌↔◌, false, not, length, IsTrue, IfOk, IsOk};
 ghost use Rattle.std.specs.List.{count_by, suffix_len};
 ghost use Rattle.wat_lex.specs.identifiers.Identifiers.{IsSameIdentifier, generated, identifier};
 ghost use Rattle.wat_lex.specs.identifiers.Identifiers.{is_same_identifier};
