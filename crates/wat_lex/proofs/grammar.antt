@@ -7,6 +7,7 @@ pub mod RunKinds
 pub mod Digits
 pub mod Tails
 pub mod NumberKinds
+pub mod NumberBegins
 pub mod Looser
 pub mod OneString
 pub mod OneKind

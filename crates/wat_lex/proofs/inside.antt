@@ -6,4 +6,6 @@ pub mod StringSteps
 pub mod HexRows
 pub mod LineComments
 pub mod RunSteps
+pub mod Starts
+pub mod Outlines
 pub mod NumberSteps

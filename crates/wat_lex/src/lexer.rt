@@ -23,9 +23,10 @@ mod tests;
 
 pub use faults::{LexError, LexFault};
 pub use kinds::{FloatKind, IntegerKind, SignToken, Token, TokenKind};
+use kinds::{Outline, Shape};
 pub use read::numbers::{Float, Integer};
 pub(crate) use scan::classes::is_confusing;
-use scan::first_lexeme;
+use scan::{first_fault, first_outline, kind_of};
 pub use settings::Settings;
 
 /// A lexer over a text: it cuts the text into tokens, whitespace and comments, and accounts for
@@ -114,17 +115,11 @@ impl<'a> Lexer<'a> {
             IsCharBoundary self.now.text (pos + t.len))) }
         ensures short { IfOk result (λ found. IfSome found (λ t. t.offset + t.len < 2 ^ 32)) }
     {
-        match first_lexeme(&self.input[pos..], self.settings) {
-            Ok(Some(lexeme)) => Ok(Some(Token {
-                kind: lexeme.kind,
-                offset: pos,
-                len: lexeme.len as u32,
-            })),
-            Ok(None) => Ok(None),
-            Err(fault) => Err(LexFault {
-                offset: pos + fault.offset,
-                error: fault.error,
-            }),
+        let outline = self.outline(pos);
+        match outline.shape {
+            Shape::End => Ok(None),
+            Shape::Fault => Err(self.fault(pos)),
+            _ => Ok(Some(self.token(pos, outline))),
         }
     }
 
@@ -142,13 +137,65 @@ impl<'a> Lexer<'a> {
         ensures kept { OnErr result (pos.new ≡ pos.old) }
         ensures boundary { IsCharBoundary self.now.text pos.new }
     {
-        match self.scan(*pos) {
-            Ok(Some(token)) => {
-                *pos += token.len as usize;
+        let start = *pos;
+        let outline = self.outline(start);
+        match outline.shape {
+            Shape::End => Ok(None),
+            Shape::Fault => Err(self.error_at(alloc, start)),
+            _ => {
+                let token = self.token(start, outline);
+                *pos = start + token.len as usize;
                 Ok(Some(token))
             }
-            Ok(None) => Ok(None),
-            Err(fault) => Err(self.error(alloc, fault)),
+        }
+    }
+
+    ghost use Rattle.std.specs.Prelude.{◌≢◌, drop};
+    ghost use Rattle.wat_lex.specs.inside.Outlines.{IsRefused, Outlined};
+    ghost use Rattle.wat_lex.specs.declared.lexer.kinds.Shape.TheVariants as shape;
+
+    /// What stands at a byte of the text.
+    #[inline(always)]
+    fn outline(&self, pos: usize) -> Outline
+        requires { IsCharBoundary self.now.text pos }
+        ensures { Outlined self.now.flags (drop pos self.now.text) result }
+    {
+        first_outline(&self.input[pos..], self.settings)
+    }
+
+    /// The token of the outline of what stands at a byte of the text.
+    #[inline(always)]
+    fn token(&self, pos: usize, outline: Outline) -> Token
+        requires start { IsCharBoundary self.now.text pos }
+        requires outline { Outlined self.now.flags (drop pos self.now.text) outline }
+        requires no_end { outline.shape ≢ shape.End }
+        requires no_fault { outline.shape ≢ shape.Fault }
+        ensures token { TokenAt self.now pos result }
+        ensures len { result.len ≡ outline.len }
+        ensures reader { IsTokenOf self.now.text result }
+        ensures some { 0 < result.len }
+        ensures boundary { IsCharBoundary self.now.text (pos + result.len) }
+        ensures short { result.offset + result.len < 2 ^ 32 }
+    {
+        Token {
+            kind: kind_of(&self.input.as_bytes()[pos..], outline),
+            offset: pos,
+            len: outline.len as u32,
+        }
+    }
+
+    /// The fault at a byte of the text.
+    #[cold]
+    #[inline(never)]
+    fn fault(&self, pos: usize) -> LexFault
+        requires start { IsCharBoundary self.now.text pos }
+        requires refused { IsRefused self.now.flags (drop pos self.now.text) }
+        ensures { FaultAt self.now pos result }
+    {
+        let fault = first_fault(&self.input[pos..], self.settings);
+        LexFault {
+            offset: pos + fault.offset,
+            error: fault.error,
         }
     }
 
@@ -167,11 +214,15 @@ impl<'a> Lexer<'a> {
         Ok(token.filter(|token| token.kind == TokenKind::Annotation))
     }
 
-    ghost use Rattle.wat_lex.specs.errors.Errors.{lexical, IsUnlessMemory};
-
-    fn error(&self, alloc: Global, fault: LexFault) -> Error
-        ensures { IsUnlessMemory result (lexical self.now.text fault) }
+    /// The error of the fault at a byte of the text.
+    #[cold]
+    #[inline(never)]
+    fn error_at(&self, alloc: Global, pos: usize) -> Error
+        requires start { IsCharBoundary self.now.text pos }
+        requires refused { IsRefused self.now.flags (drop pos self.now.text) }
+        ensures { ErrorAt self.now pos result }
     {
+        let fault = self.fault(pos);
         let span = Span::from_offset(fault.offset);
         Error::lex(alloc, span, self.input(), fault.error)
     }
@@ -243,15 +294,21 @@ impl<'l, 'a> Iterator for Tokens<'l, 'a> {
         if self.done {
             return None;
         }
-        match self.lexer.parse(self.alloc, &mut self.pos) {
-            Ok(Some(token)) => Some(Ok(token)),
-            Ok(None) => {
+        let start = self.pos;
+        let outline = self.lexer.outline(start);
+        match outline.shape {
+            Shape::End => {
                 self.done = true;
                 None
             }
-            Err(error) => {
+            Shape::Fault => {
                 self.done = true;
-                Some(Err(error))
+                Some(Err(self.lexer.error_at(self.alloc, start)))
+            }
+            _ => {
+                let token = self.lexer.token(start, outline);
+                self.pos = start + token.len as usize;
+                Some(Ok(token))
             }
         }
     }

@@ -190,6 +190,24 @@ some_pieces flags s r ps (string h k) b e = λ x. cc
 pub run_fits : (flags : Settings) (text : List ℕ) (found : Pieces) → RunFound flags text found → found.len ≤ length text
 run_fits flags text found f = omega (arith, f.place)
 
+-- a run is a word of any kind that its pieces have
+pub run_lexeme : (flags : Settings) (text : List ℕ) (found : Pieces) (kind : TokenKind) → IsUtf8 text → 0 < length text → is_run_char (get_or text 0 0) ≡ true
+    → (f : RunFound flags text found) → RunKind f.pieces kind → LexemeFound flags text (record { kind = kind; len = found.len })
+run_lexeme flags text found kind u l b f kind_is =
+    let t = run_taken flags (chars text) f.pieces f.rest f.run in
+    let w = t.prefix in
+    let r : Run flags w f.pieces [] = subst (λ x. Run flags x f.pieces []) (append-nil w) (t.again []) in
+    let is = kind_of_run f.pieces kind kind_is in
+    let c = get_or text 0 0 in
+    let begins : Begins is_run_char (chars text) = subst (Begins is_run_char) (sym (led text c u l refl (run_char_ascii c b)).chars) b in
+    let some : f.pieces ≢ [] = some_pieces flags (chars text) f.rest f.pieces f.run begins f.ends in
+    record {
+      word = w;
+      rest = f.rest;
+      stands = record { cut = t.cut; word = word_of_run kind w flags is (f.pieces, some, r, kind_is); ends = ends_of_run kind w f.rest is (no_semicolon flags w f.pieces r) f.ends };
+      len = omega (arith, ap length (encodes-chars text u), ap size t.cut, size-append w f.rest, f.place);
+    }
+
 pub found_run : (flags : Settings) (text : List ℕ) (found : Pieces) (kind : TokenKind) → IsUtf8 text → 0 < length text → is_run_char (get_or text 0 0) ≡ true
     → RunFound flags text found → IsKindOfRun (take found.len text) found.idchars found.strings kind → LexemeFound flags text (record { kind = kind; len = found.len })
 found_run flags text found kind u l b f k =
@@ -199,14 +217,4 @@ found_run flags text found kind u l b f k =
     let m : found.len ≡ size w = omega (arith, ap length (encodes-chars text u), ap size t.cut, size-append w f.rest, f.place) in
     let p = halves text w f.rest u t.cut in
     let bytes : take found.len text ≡ encodes w = ap (take found.len) p.bytes ∙ take_at (encodes w) (encodes f.rest) found.len (sym m) in
-    let kind_is : RunKind f.pieces kind = k flags w f.pieces bytes r f.first f.second in
-    let is = kind_of_run f.pieces kind kind_is in
-    let c = get_or text 0 0 in
-    let begins : Begins is_run_char (chars text) = subst (Begins is_run_char) (sym (led text c u l refl (run_char_ascii c b)).chars) b in
-    let some : f.pieces ≢ [] = some_pieces flags (chars text) f.rest f.pieces f.run begins f.ends in
-    record {
-      word = w;
-      rest = f.rest;
-      stands = record { cut = t.cut; word = word_of_run kind w flags is (f.pieces, some, r, kind_is); ends = ends_of_run kind w f.rest is (no_semicolon flags w f.pieces r) f.ends };
-      len = m;
-    }
+    run_lexeme flags text found kind u l b f (k flags w f.pieces bytes r f.first f.second)

@@ -174,7 +174,7 @@ idchar_ascii c h =
 pub run_char_ascii : (c : ℕ) → is_run_char c ≡ true → c < 128
 run_char_ascii c h = elim (or_cases (is_idchar c) (c == 34) h) [ inl t ↦ idchar_ascii c t | inr t ↦ let k = eqb-true c 34 t in omega arith ]
 
-word_ascii : (c : ℕ) → begins_word c ≡ true → c < 128
+pub word_ascii : (c : ℕ) → begins_word c ≡ true → c < 128
 word_ascii c h =
     elim (or_cases (is_whitespace c || is_run_char c) (is_punctuation c || ((c == 40 || c == 41) || c == 59)) h) [
       | inl t ↦ elim (or_cases (is_whitespace c) (is_run_char c) t) [ inl k ↦ whitespace_ascii c k | inr k ↦ run_char_ascii c k ]

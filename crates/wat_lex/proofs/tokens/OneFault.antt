@@ -30,7 +30,7 @@ first_unique (x ∷ xs) [] t u c d n m a b e = let k : x ≡ d = cc in absurd (b
 first_unique (x ∷ xs) (y ∷ ys) t u c d n m a b e = first_unique xs ys t u c d n.1 m.1 a b (let k : xs ++ c ∷ t ≡ ys ++ d ∷ u = cc in k)
 
 -- a comment that stands at the start: the text begins with `(;` or `;;`
-data CommentStart : List ℕ → Type 0 where
+pub data CommentStart : List ℕ → Type 0 where
   block : {t r : List ℕ} → Commented (open_paren ∷ semicolon ∷ t) r → CommentStart (open_paren ∷ semicolon ∷ t)
   line : {t : List ℕ} → CommentStart (semicolon ∷ semicolon ∷ t)
 
@@ -40,7 +40,7 @@ line_start w r (begun h) = line
 block_start : (s r : List ℕ) → Commented s r → CommentStart s
 block_start s r (opened h) = block (opened h)
 
-comment_start : (flags : Settings) (s : List ℕ) (k : TokenKind) (w r : List ℕ) → IsComment k → WordStands flags s k w r → CommentStart s
+pub comment_start : (flags : Settings) (s : List ℕ) (k : TokenKind) (w r : List ℕ) → IsComment k → WordStands flags s k w r → CommentStart s
 unfolding Form
 comment_start flags s k w r (inl e) h = let g = subst (λ y. Word y w flags) e h.word in subst CommentStart (sym h.cut) (line_start w r g.0)
 comment_start flags s k w r (inr e) h =
@@ -57,7 +57,7 @@ comment_begins : (s : List ℕ) → CommentStart s → Begins begins_word s
 comment_begins s (block h) = refl
 comment_begins s line = refl
 
-run_begins : (flags : Settings) (s r : List ℕ) (ps : List Piece) (t : List ℕ) → r ≡ quote ∷ t → Run flags s ps r → Begins is_run_char s
+pub run_begins : (flags : Settings) (s r : List ℕ) (ps : List Piece) (t : List ℕ) → r ≡ quote ∷ t → Run flags s ps r → Begins is_run_char s
 run_begins flags s r ps t e none = subst (Begins is_run_char) (sym e) refl
 run_begins flags s r ps t e (idchar {c = c} h k) = idchar_runs c h
 run_begins flags s r ps t e (string h k) = refl

@@ -94,3 +94,32 @@ pub struct Lexeme {
     pub kind: TokenKind,
     pub len: usize,
 }
+
+/// What stands at the start of a text, told without the facts of a number.
+#[derive(Clone, Copy, PartialEq, Eq)]
+pub enum Shape {
+    LineComment,
+    BlockComment,
+    Whitespace,
+    LParen,
+    RParen,
+    String,
+    Id,
+    Keyword,
+    Annotation,
+    Reserved,
+    /// A word of idchars that may be a number.
+    Word,
+    /// The text's end.
+    End,
+    /// No token.
+    Fault,
+}
+
+/// The shape of what stands at the start of a text, and its length in bytes, 0 at the end and at a
+/// fault.
+#[derive(Clone, Copy)]
+pub struct Outline {
+    pub shape: Shape,
+    pub len: usize,
+}

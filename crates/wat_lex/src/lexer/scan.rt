@@ -1,27 +1,126 @@
 //! Scanning: what stands at the start of a text, by its first bytes.
-ghost use Rattle.std.specs.Prelude.{◌≡◌, ◌<◌, false, length, slice_index};
+ghost use Rattle.std.specs.Prelude.{◌≡◌, ◌≢◌, ◌<◌, ◌≤◌, true, false, length, slice_index, take};
 ghost use Rattle.wat_lex.specs.tokens.Faults.{begins_word};
-ghost use Rattle.wat_lex.specs.inside.ScannedLexemes.{Refused, Answers};
+ghost use Rattle.wat_lex.specs.inside.ScannedLexemes.{Refused};
+ghost use Rattle.wat_lex.specs.inside.Outlines.{Begun, HasKind, IsRefused, Outlined};
+ghost use Rattle.wat_lex.specs.declared.lexer.kinds.Shape.TheVariants as shape;
+ghost use Rattle.wat_lex.specs.declared.lexer.scan.starts.Start.TheVariants.{Idchar};
 ghost use Rattle.wat_lex.specs.declared.lexer.settings.Settings.{Settings};
 
 use crate::lexer::faults::{LexError, LexFault};
-use crate::lexer::kinds::{Lexeme, TokenKind};
-use crate::lexer::scan::classes::{is_punctuation, is_run_char, is_whitespace, whitespace_len};
-use crate::lexer::scan::comments::{block_comment, line_comment};
-use crate::lexer::scan::runs::first_run;
+use crate::lexer::kinds::{Outline, Shape, TokenKind};
+use crate::lexer::scan::classes::{idchar_len, is_run_char, whitespace_len};
+use crate::lexer::scan::comments::{block_comment, block_outline, line_comment, line_outline};
+use crate::lexer::scan::runs::{run, run_outline, word_kind};
+use crate::lexer::scan::starts::{Start, start_of};
 use crate::lexer::settings::Settings;
 
 pub(super) mod classes;
 mod comments;
 pub(super) mod numbers;
 mod runs;
+mod starts;
 pub(super) mod strings;
 
 /// The byte at a place, and 0 past the end.
+#[inline(always)]
 fn byte_at(text: &[u8], i: usize) -> u8
     ensures { result ≡ slice_index text.now i }
 {
     if i < text.len() { text[i] } else { 0 }
+}
+
+#[inline(always)]
+fn outline(shape: Shape, len: usize) -> Outline
+    ensures { result ≡ record { shape = shape; len = len } }
+{
+    Outline { shape, len }
+}
+
+/// The outline of a text that begins with `(`.
+#[inline(always)]
+fn opened(text: &str, flags: Settings) -> Outline
+    requires some { 0 < length text.now }
+    requires first { slice_index text.now 0 ≡ 40 }
+    ensures { Outlined flags text.now result }
+{
+    if byte_at(text.as_bytes(), 1) == b';' {
+        return block_outline(text, flags);
+    }
+    outline(Shape::LParen, 1)
+}
+
+/// The outline of a text that begins with `;`.
+#[inline(always)]
+fn semicolon(text: &str, flags: Settings) -> Outline
+    requires some { 0 < length text.now }
+    requires first { slice_index text.now 0 ≡ 59 }
+    ensures { Outlined flags text.now result }
+{
+    if byte_at(text.as_bytes(), 1) == b';' {
+        return line_outline(text, flags);
+    }
+    outline(Shape::Reserved, 1)
+}
+
+/// The outline of a text that begins with an idchar; a word that begins so has this shape.
+#[inline(always)]
+fn idchars(text: &str, shape: Shape, flags: Settings) -> Outline
+    requires some { 0 < length text.now }
+    requires first { Begun (slice_index text.now 0) (Idchar shape) }
+    ensures { Outlined flags text.now result }
+{
+    let bytes = text.as_bytes();
+    let len = idchar_len(bytes);
+    if byte_at(bytes, len) == b'"' {
+        return run_outline(text, len, flags);
+    }
+    outline(shape, len)
+}
+
+/// The outline of what stands at the start.
+#[inline(always)]
+pub fn first_outline(text: &str, flags: Settings) -> Outline
+    ensures { Outlined flags text.now result }
+{
+    let bytes = text.as_bytes();
+    if bytes.is_empty() {
+        return outline(Shape::End, 0);
+    }
+    match start_of(byte_at(bytes, 0)) {
+        Start::Whitespace => outline(Shape::Whitespace, whitespace_len(bytes)),
+        Start::OpenParen => opened(text, flags),
+        Start::CloseParen => outline(Shape::RParen, 1),
+        Start::Semicolon => semicolon(text, flags),
+        Start::Punctuation => outline(Shape::Reserved, 1),
+        Start::Quote => run_outline(text, 0, flags),
+        Start::Idchar(shape) => idchars(text, shape, flags),
+        Start::Other => outline(Shape::Fault, 0),
+    }
+}
+
+/// The kind that an outline of the text's start stands for.
+#[inline(always)]
+pub fn kind_of(text: &[u8], outline: Outline) -> TokenKind
+    requires fits { outline.len ≤ length text.now }
+    requires no_end { outline.shape ≢ shape.End }
+    requires no_fault { outline.shape ≢ shape.Fault }
+    ensures { HasKind outline.shape (take outline.len text.now) result }
+{
+    match outline.shape {
+        Shape::LineComment => TokenKind::LineComment,
+        Shape::BlockComment => TokenKind::BlockComment,
+        Shape::Whitespace => TokenKind::Whitespace,
+        Shape::LParen => TokenKind::LParen,
+        Shape::RParen => TokenKind::RParen,
+        Shape::String => TokenKind::String,
+        Shape::Id => TokenKind::Id,
+        Shape::Keyword => TokenKind::Keyword,
+        Shape::Annotation => TokenKind::Annotation,
+        Shape::Reserved => TokenKind::Reserved,
+        Shape::Word => word_kind(&text[..outline.len]),
+        Shape::End | Shape::Fault => unreachable!(),
+    }
 }
 
 /// The fault of a text whose first character begins no word.
@@ -39,47 +138,34 @@ fn unexpected(text: &str) -> LexFault
     }
 }
 
-/// A token of one kind and length.
-fn lexeme(kind: TokenKind, len: usize) -> Result<Option<Lexeme>, LexFault>
-    ensures { result ≡ Ok (Some (record { kind = kind; len = len })) }
-{
-    Ok(Some(Lexeme { kind, len }))
-}
-
-/// The token at the start, None where the text is empty, or the fault there. Its offset counts from
-/// the start.
-pub fn first_lexeme(text: &str, flags: Settings) -> Result<Option<Lexeme>, LexFault>
-    ensures { Answers flags text.now result }
+/// The fault of a text that begins with no token. What goes wrong is looked for once more, so that
+/// no token pays for it.
+#[cold]
+#[inline(never)]
+pub fn first_fault(text: &str, flags: Settings) -> LexFault
+    requires { IsRefused flags text.now }
+    ensures { Refused flags text.now result }
 {
     let bytes = text.as_bytes();
-    if bytes.is_empty() {
-        return Ok(None);
-    }
     let first = byte_at(bytes, 0);
-    let second = byte_at(bytes, 1);
     if is_run_char(first) {
-        return first_run(text, flags);
+        return match run(text, idchar_len(bytes), flags) {
+            Err(fault) => fault,
+            Ok(_) => unreachable!(),
+        };
     }
-    if is_whitespace(first) {
-        return lexeme(TokenKind::Whitespace, whitespace_len(bytes));
+    let second = byte_at(bytes, 1);
+    if first == b'(' && second == b';' {
+        return match block_comment(text, flags) {
+            Err(fault) => fault,
+            Ok(_) => unreachable!(),
+        };
     }
-    if first == b'(' {
-        if second == b';' {
-            return block_comment(text, flags);
-        }
-        return lexeme(TokenKind::LParen, 1);
+    if first == b';' && second == b';' {
+        return match line_comment(text, flags) {
+            Err(fault) => fault,
+            Ok(_) => unreachable!(),
+        };
     }
-    if first == b')' {
-        return lexeme(TokenKind::RParen, 1);
-    }
-    if first == b';' {
-        if second == b';' {
-            return line_comment(text, flags);
-        }
-        return lexeme(TokenKind::Reserved, 1);
-    }
-    if is_punctuation(first) {
-        return lexeme(TokenKind::Reserved, 1);
-    }
-    Err(unexpected(text))
+    unexpected(text)
 }

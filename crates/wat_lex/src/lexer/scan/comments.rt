@@ -1,16 +1,19 @@
 //! Comments.
 ghost use Rattle.std.specs.Prelude.{◌≡◌, ◌≤◌, ◌+◌, ℕ, List, not, length, drop, slice_index, IfSome};
-ghost use Rattle.std.specs.Prelude.{IfNone, MatchOption};
+ghost use Rattle.std.specs.Prelude.{IfNone, MatchOption, IfOk, IfErr};
 ghost use Rattle.std.specs.List.{prefix_len};
 ghost use Rattle.std.specs.Str.{chars, NonePass};
 ghost use Rattle.wat_lex.specs.grammar.Classes.{is_line_end, is_confusing};
 ghost use Rattle.wat_lex.specs.grammar.Comments.{Closes};
 ghost use Rattle.wat_lex.specs.tokens.Faults.{IsComment};
-ghost use Rattle.wat_lex.specs.inside.ScannedLexemes.{LexemeFound, Answers, FirstConfusing};
+ghost use Rattle.wat_lex.specs.inside.ScannedLexemes.{LexemeFound, Refused, FirstConfusing};
+ghost use Rattle.wat_lex.specs.declared.lexer.kinds.TokenKind.TheVariants.{LineComment};
+ghost use Rattle.wat_lex.specs.declared.lexer.kinds.TokenKind.TheVariants.{BlockComment};
+ghost use Rattle.wat_lex.specs.inside.Outlines.{Outlined};
 ghost use Rattle.wat_lex.specs.tokens.Setting.{allowing};
 
 use crate::lexer::faults::{LexError, LexFault};
-use crate::lexer::kinds::{Lexeme, TokenKind};
+use crate::lexer::kinds::{Lexeme, Outline, Shape, TokenKind};
 use crate::lexer::scan::classes::is_confusing;
 use crate::lexer::settings::Settings;
 use memchr::{memchr, memchr2};
@@ -69,17 +72,19 @@ fn closing_len(text: &[u8]) -> Option<usize>
     None
 }
 
-/// A comment that stands at the start, unless it has a confusing character.
-fn checked(text: &str, comment: Lexeme, flags: Settings) -> Result<Option<Lexeme>, LexFault>
+/// The length of a comment that stands at the start, unless it has a confusing character.
+fn checked(text: &str, comment: Lexeme, flags: Settings) -> Result<usize, LexFault>
     requires comment { IsComment comment.kind }
     requires found { LexemeFound (allowing flags) text.now comment }
-    ensures { Answers flags text.now result }
+    ensures ok { IfOk result (λ len.
+        LexemeFound flags text.now (record { kind = comment.kind; len = len })) }
+    ensures err { IfErr result (Refused flags text.now) }
 {
     if flags.allow {
-        return Ok(Some(comment));
+        return Ok(comment.len);
     }
     match first_confusing(&text[..comment.len]) {
-        None => Ok(Some(comment)),
+        None => Ok(comment.len),
         Some((offset, c)) => Err(LexFault {
             offset,
             error: LexError::ConfusingUnicode(c),
@@ -87,10 +92,12 @@ fn checked(text: &str, comment: Lexeme, flags: Settings) -> Result<Option<Lexeme
     }
 }
 
-/// What stands at the start of a text that begins with `(;`.
-pub fn block_comment(text: &str, flags: Settings) -> Result<Option<Lexeme>, LexFault>
+/// The length of the block comment at the start of a text that begins with `(;`.
+pub fn block_comment(text: &str, flags: Settings) -> Result<usize, LexFault>
     requires opened { (slice_index text.now 0 ≡ 40) × (slice_index text.now 1 ≡ 59) }
-    ensures { Answers flags text.now result }
+    ensures ok { IfOk result (λ len.
+        LexemeFound flags text.now (record { kind = BlockComment; len = len })) }
+    ensures err { IfErr result (Refused flags text.now) }
 {
     match closing_len(&text.as_bytes()[2..]) {
         Some(len) => {
@@ -107,10 +114,12 @@ pub fn block_comment(text: &str, flags: Settings) -> Result<Option<Lexeme>, LexF
     }
 }
 
-/// What stands at the start of a text that begins with `;;`.
-pub fn line_comment(text: &str, flags: Settings) -> Result<Option<Lexeme>, LexFault>
+/// The length of the line comment at the start of a text that begins with `;;`.
+pub fn line_comment(text: &str, flags: Settings) -> Result<usize, LexFault>
     requires begun { (slice_index text.now 0 ≡ 59) × (slice_index text.now 1 ≡ 59) }
-    ensures { Answers flags text.now result }
+    ensures ok { IfOk result (λ len.
+        LexemeFound flags text.now (record { kind = LineComment; len = len })) }
+    ensures err { IfErr result (Refused flags text.now) }
 {
     let len = line_len(&text.as_bytes()[2..]);
     let comment = Lexeme {
@@ -118,4 +127,40 @@ pub fn line_comment(text: &str, flags: Settings) -> Result<Option<Lexeme>, LexFa
         len: len + 2,
     };
     checked(text, comment, flags)
+}
+
+/// The outline of a text that begins with `(;`.
+#[inline(never)]
+pub fn block_outline(text: &str, flags: Settings) -> Outline
+    requires opened { (slice_index text.now 0 ≡ 40) × (slice_index text.now 1 ≡ 59) }
+    ensures { Outlined flags text.now result }
+{
+    match block_comment(text, flags) {
+        Ok(len) => Outline {
+            shape: Shape::BlockComment,
+            len,
+        },
+        Err(_) => Outline {
+            shape: Shape::Fault,
+            len: 0,
+        },
+    }
+}
+
+/// The outline of a text that begins with `;;`.
+#[inline(never)]
+pub fn line_outline(text: &str, flags: Settings) -> Outline
+    requires begun { (slice_index text.now 0 ≡ 59) × (slice_index text.now 1 ≡ 59) }
+    ensures { Outlined flags text.now result }
+{
+    match line_comment(text, flags) {
+        Ok(len) => Outline {
+            shape: Shape::LineComment,
+            len,
+        },
+        Err(_) => Outline {
+            shape: Shape::Fault,
+            len: 0,
+        },
+    }
 }

@@ -1,12 +1,14 @@
 //! Runs of idchars and strings.
 ghost use Rattle.std.specs.Prelude.{◌≡◌, ◌<◌, ◌+◌, ◌^◌, true, length, slice_index, IfOk, IfErr};
-ghost use Rattle.wat_lex.specs.inside.ScannedLexemes.{Answers, Refused};
-ghost use Rattle.wat_lex.specs.inside.ScannedRuns.{RunFound, IsKindOfRun};
+ghost use Rattle.std.specs.List.{prefix_len};
+ghost use Rattle.wat_lex.specs.inside.ScannedLexemes.{Refused};
+ghost use Rattle.wat_lex.specs.inside.Outlines.{Outlined, IsShapeOfRun};
+ghost use Rattle.wat_lex.specs.inside.ScannedRuns.{RunFound};
 ghost use Rattle.wat_lex.specs.grammar.Runs.{WordKind, kind_by_first, named_kind};
-ghost use Rattle.wat_lex.specs.grammar.Classes.{is_run_char};
+ghost use Rattle.wat_lex.specs.grammar.Classes.{is_idchar, is_run_char};
 
 use crate::lexer::faults::LexFault;
-use crate::lexer::kinds::{Lexeme, TokenKind};
+use crate::lexer::kinds::{Outline, Shape, TokenKind};
 use crate::lexer::scan::classes::idchar_len;
 use crate::lexer::scan::numbers::classify;
 use crate::lexer::scan::strings::string_len;
@@ -31,14 +33,15 @@ fn further(fault: LexFault, by: usize) -> LexFault
     }
 }
 
-/// The longest run at the start.
-fn run(text: &str, flags: Settings) -> Result<Pieces, LexFault>
+/// The longest run at the start, whose first idchars are so many.
+pub fn run(text: &str, first: usize, flags: Settings) -> Result<Pieces, LexFault>
+    requires { first ≡ prefix_len is_idchar text.now }
     ensures ok { IfOk result (RunFound flags text.now) }
     ensures err { IfErr result (Refused flags text.now) }
 {
     let bytes = text.as_bytes();
-    let mut idchars = idchar_len(bytes);
-    let mut len = idchars;
+    let mut idchars = first;
+    let mut len = first;
     let mut strings = 0usize;
     while len < bytes.len() && bytes[len] == b'"' {
         let taken = match string_len(&text[len + 1..], flags) {
@@ -56,6 +59,49 @@ fn run(text: &str, flags: Settings) -> Result<Pieces, LexFault>
         idchars,
         strings,
     })
+}
+
+/// The shape of a run of so many idchars and strings.
+fn run_shape(word: &[u8], idchars: usize, strings: usize) -> Shape
+    ensures { IsShapeOfRun word.now idchars strings result }
+{
+    if strings == 0 {
+        return Shape::Word;
+    }
+    if strings > 1 || idchars > 1 {
+        return Shape::Reserved;
+    }
+    if idchars == 0 {
+        return Shape::String;
+    }
+    match word {
+        [b'$', ..] => Shape::Id,
+        [b'@', ..] => Shape::Annotation,
+        _ => Shape::Reserved,
+    }
+}
+
+/// The outline of a run with a string behind its first idchars, which are so many.
+#[inline(never)]
+pub fn run_outline(text: &str, first: usize, flags: Settings) -> Outline
+    requires some { 0 < length text.now }
+    requires run { is_run_char (slice_index text.now 0) ≡ true }
+    requires first { first ≡ prefix_len is_idchar text.now }
+    ensures { Outlined flags text.now result }
+{
+    match run(text, first, flags) {
+        Ok(found) => {
+            let word = &text.as_bytes()[..found.len];
+            Outline {
+                shape: run_shape(word, found.idchars, found.strings),
+                len: found.len,
+            }
+        }
+        Err(_) => Outline {
+            shape: Shape::Fault,
+            len: 0,
+        },
+    }
 }
 
 /// What a first `$` or `@` names.
@@ -79,41 +125,11 @@ fn kind_by_first(word: &[u8]) -> TokenKind
 }
 
 /// The kind of a word of idchars.
-fn word_kind(word: &[u8]) -> TokenKind
+pub fn word_kind(word: &[u8]) -> TokenKind
     ensures { WordKind word.now result }
 {
     match classify(word) {
         Some(kind) => kind,
         None => kind_by_first(word),
     }
-}
-
-/// The kind of a run of so many idchars and strings.
-fn run_kind(word: &[u8], idchars: usize, strings: usize) -> TokenKind
-    ensures { IsKindOfRun word.now idchars strings result }
-{
-    if strings == 0 {
-        return word_kind(word);
-    }
-    if strings > 1 || idchars > 1 {
-        return TokenKind::Reserved;
-    }
-    if idchars == 0 {
-        return TokenKind::String;
-    }
-    named_kind(word)
-}
-
-/// What stands at the start of a text that begins with an idchar or a quote.
-pub fn first_run(text: &str, flags: Settings) -> Result<Option<Lexeme>, LexFault>
-    requires some { 0 < length text.now }
-    requires first { is_run_char (slice_index text.now 0) ≡ true }
-    ensures { Answers flags text.now result }
-{
-    let found = run(text, flags)?;
-    let word = &text.as_bytes()[..found.len];
-    Ok(Some(Lexeme {
-        kind: run_kind(word, found.idchars, found.strings),
-        len: found.len,
-    }))
 }

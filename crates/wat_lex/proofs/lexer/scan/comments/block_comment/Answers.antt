@@ -14,8 +14,8 @@ checked-requires-clause-found c =
     block_found c.args.flags c.args.text.now n c.utf8.text c.requires.opened.0 c.requires.opened.1
     (subst (λ x. n ≤ length x) e c.in-Some.ensures.range) (subst (λ x. Closes x (drop n x)) e c.in-Some.ensures.found)
 
-pub returns-in-None : goal.returns-in-None
-returns-in-None c =
+pub returns-in-None-clause-err : goal.returns-in-None-clause-err
+returns-in-None-clause-err c =
     let e = tail_is c.args.text.now c.as_bytes.result.now c.as_bytes.ensures.value in
     block_dangles c.args.flags c.args.text.now c.utf8.text c.requires.opened.0 c.requires.opened.1
     (λ r h. c.in-None.ensures.none r (subst (λ x. Closes x r) (sym e) h))

@@ -9,11 +9,11 @@ use Rattle.wat_lex.proofs.lexer.scan.comments.checked.Goals as goal
 pub range-requires-clause-end_boundary : goal.range-requires-clause-end_boundary
 range-requires-clause-end_boundary c = boundary_at _ _ _ c.utf8.text c.requires.found
 
-pub returns-then-flags : goal.returns-then-flags
-returns-then-flags c = found_allowed _ _ _ c.if-flags.true c.requires.found
+pub returns-then-flags-clause-ok : goal.returns-then-flags-clause-ok
+returns-then-flags-clause-ok c = found_allowed _ _ c.args.comment c.if-flags.true c.requires.found
 
-pub returns-in-None : goal.returns-in-None
-returns-in-None c = found_clear _ _ _ c.utf8.text c.requires.comment c.requires.found (subst (λ x. NonePass is_confusing (chars x)) (prefix_is c.args.text.now c.args.comment.len c.range.result.now c.range.ensures.value) c.in-None.ensures)
+pub returns-in-None-clause-ok : goal.returns-in-None-clause-ok
+returns-in-None-clause-ok c = found_clear _ _ c.args.comment c.utf8.text c.requires.comment c.requires.found (subst (λ x. NonePass is_confusing (chars x)) (prefix_is c.args.text.now c.args.comment.len c.range.result.now c.range.ensures.value) c.in-None.ensures)
 
-pub returns-in-Some : goal.returns-in-Some
-returns-in-Some c = found_confusing _ _ _ _ _ c.if-flags.false c.utf8.text c.requires.comment c.requires.found (subst (λ x. FirstConfusing x c.in-Some.offset c.in-Some.c) (prefix_is c.args.text.now c.args.comment.len c.range.result.now c.range.ensures.value) c.in-Some.ensures)
+pub returns-in-Some-clause-err : goal.returns-in-Some-clause-err
+returns-in-Some-clause-err c = found_confusing _ _ c.args.comment _ _ c.if-flags.false c.utf8.text c.requires.comment c.requires.found (subst (λ x. FirstConfusing x c.in-Some.offset c.in-Some.c) (prefix_is c.args.text.now c.args.comment.len c.range.result.now c.range.ensures.value) c.in-Some.ensures)

@@ -1,0 +1,42 @@
+use Rattle.std.proofs.Common.{sym, ◌≡◌, ◌<◌, ℕ, List, length, get_or, ap, ◌∙◌, subst, arith, Bool, true, false}
+use Rattle.std.specs.Prelude.{◌==◌}
+use Rattle.std.proofs.lemmas.Bool.{eqb-false}
+use Rattle.std.specs.List.{prefix_len}
+use Rattle.wat_lex.specs.grammar.Classes.{is_whitespace, is_punctuation}
+use Rattle.wat_lex.specs.tokens.Faults.{begins_word}
+use Rattle.wat_lex.proofs.inside.Outlines.{outlined_whitespace, outlined_close, outlined_punctuation, outlined_other}
+use Rattle.wat_lex.proofs.lexer.scan.first_outline.Goals as goal
+
+filled : (text bs : List ℕ) (b : Bool) → bs ≡ text → b ≡ (length bs == 0) → b ≡ false → 0 < length text
+filled text bs b e f g = let k : length bs ≡ 0 → ⊥ = eqb-false (length bs) 0 (sym f ∙ g) in omega (arith, ap length e)
+
+reads : (text bs : List ℕ) (x : ℕ) → bs ≡ text → x ≡ get_or bs 0 0 → x ≡ get_or text 0 0
+reads text bs x e f = f ∙ ap (λ t. get_or t 0 0) e
+
+pub returns-in-Whitespace : goal.returns-in-Whitespace
+returns-in-Whitespace c =
+    let e = c.as_bytes-bytes.ensures.value in
+    let bs = c.as_bytes-bytes.result.now in
+    rw c.outline-in-Whitespace.ensures (outlined_whitespace c.args.flags c.args.text.now c.whitespace_len.result c.utf8.text (filled c.args.text.now bs c.is_empty.result e c.is_empty.ensures c.if-is_empty.false)
+    (subst (λ x. is_whitespace x ≡ true) (reads c.args.text.now bs c.byte_at.result e c.byte_at.ensures) c.in-Whitespace.ensures) (c.whitespace_len.ensures ∙ ap (prefix_len is_whitespace) e))
+
+pub returns-in-CloseParen : goal.returns-in-CloseParen
+returns-in-CloseParen c =
+    let e = c.as_bytes-bytes.ensures.value in
+    let bs = c.as_bytes-bytes.result.now in
+    rw c.outline-in-CloseParen.ensures (outlined_close c.args.flags c.args.text.now c.utf8.text (filled c.args.text.now bs c.is_empty.result e c.is_empty.ensures c.if-is_empty.false)
+    (subst (λ x. x ≡ 41) (reads c.args.text.now bs c.byte_at.result e c.byte_at.ensures) c.in-CloseParen.ensures))
+
+pub returns-in-Punctuation : goal.returns-in-Punctuation
+returns-in-Punctuation c =
+    let e = c.as_bytes-bytes.ensures.value in
+    let bs = c.as_bytes-bytes.result.now in
+    rw c.outline-in-Punctuation.ensures (outlined_punctuation c.args.flags c.args.text.now c.utf8.text (filled c.args.text.now bs c.is_empty.result e c.is_empty.ensures c.if-is_empty.false)
+    (subst (λ x. is_punctuation x ≡ true) (reads c.args.text.now bs c.byte_at.result e c.byte_at.ensures) c.in-Punctuation.ensures))
+
+pub returns-in-Other : goal.returns-in-Other
+returns-in-Other c =
+    let e = c.as_bytes-bytes.ensures.value in
+    let bs = c.as_bytes-bytes.result.now in
+    rw c.outline-in-Other.ensures (outlined_other c.args.flags c.args.text.now c.utf8.text (filled c.args.text.now bs c.is_empty.result e c.is_empty.ensures c.if-is_empty.false)
+    (subst (λ x. begins_word x ≡ false) (reads c.args.text.now bs c.byte_at.result e c.byte_at.ensures) c.in-Other.ensures))
