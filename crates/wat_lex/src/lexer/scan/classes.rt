@@ -4,50 +4,48 @@ ghost use Rattle.std.specs.List.{prefix_len};
 ghost use Rattle.wat_lex.specs.grammar.Classes.{is_whitespace, is_idchar, is_hex, is_punctuation};
 ghost use Rattle.wat_lex.specs.grammar.Classes.{is_run_char, is_confusing};
 
+const RUN_CHAR: u8 = 1;
+
+const IDCHAR: u8 = 2;
+
+const HEX_DIGIT: u8 = 4;
+
+const WHITESPACE: u8 = 8;
+
+/// The classes of each byte, a bit each, in rows of 32 bytes.
+const CLASSES: [u8; 256] = [
+    0, 0, 0, 0, 0, 0, 0, 0, 0, 8, 8, 0, 0, 8, 0, 0, 0, 0, 0, 0, 0, 0, 0, 0, 0, 0, 0, 0, 0, 0, 0, 0,
+    8, 3, 1, 3, 3, 3, 3, 3, 0, 0, 3, 3, 0, 3, 3, 3, 7, 7, 7, 7, 7, 7, 7, 7, 7, 7, 3, 0, 3, 3, 3, 3,
+    3, 7, 7, 7, 7, 7, 7, 3, 3, 3, 3, 3, 3, 3, 3, 3, 3, 3, 3, 3, 3, 3, 3, 3, 3, 3, 3, 0, 3, 0, 3, 3,
+    3, 7, 7, 7, 7, 7, 7, 3, 3, 3, 3, 3, 3, 3, 3, 3, 3, 3, 3, 3, 3, 3, 3, 3, 3, 3, 3, 0, 3, 0, 3, 0,
+    0, 0, 0, 0, 0, 0, 0, 0, 0, 0, 0, 0, 0, 0, 0, 0, 0, 0, 0, 0, 0, 0, 0, 0, 0, 0, 0, 0, 0, 0, 0, 0,
+    0, 0, 0, 0, 0, 0, 0, 0, 0, 0, 0, 0, 0, 0, 0, 0, 0, 0, 0, 0, 0, 0, 0, 0, 0, 0, 0, 0, 0, 0, 0, 0,
+    0, 0, 0, 0, 0, 0, 0, 0, 0, 0, 0, 0, 0, 0, 0, 0, 0, 0, 0, 0, 0, 0, 0, 0, 0, 0, 0, 0, 0, 0, 0, 0,
+    0, 0, 0, 0, 0, 0, 0, 0, 0, 0, 0, 0, 0, 0, 0, 0, 0, 0, 0, 0, 0, 0, 0, 0, 0, 0, 0, 0, 0, 0, 0, 0,
+];
+
 pub fn is_whitespace(b: u8) -> bool
     ensures { result ≡ is_whitespace b }
 {
-    matches!(b, b' ' | b'\n' | b'\r' | b'\t')
+    CLASSES[b as usize] & WHITESPACE != 0
 }
 
 pub fn is_idchar(b: u8) -> bool
     ensures { result ≡ is_idchar b }
 {
-    matches!(
-        b,
-        b'0'..=b'9'
-            | b'A'..=b'Z'
-            | b'a'..=b'z'
-            | b'!'
-            | b'#'
-            | b'$'
-            | b'%'
-            | b'&'
-            | b'\''
-            | b'*'
-            | b'+'
-            | b'-'
-            | b'.'
-            | b'/'
-            | b':'
-            | b'<'
-            | b'='
-            | b'>'
-            | b'?'
-            | b'@'
-            | b'\\'
-            | b'^'
-            | b'_'
-            | b'`'
-            | b'|'
-            | b'~'
-    )
+    CLASSES[b as usize] & IDCHAR != 0
 }
 
 pub fn is_run_char(b: u8) -> bool
     ensures { result ≡ is_run_char b }
 {
-    is_idchar(b) || b == b'"'
+    CLASSES[b as usize] & RUN_CHAR != 0
+}
+
+pub fn is_hex_digit(b: u8) -> bool
+    ensures { result ≡ is_hex b }
+{
+    CLASSES[b as usize] & HEX_DIGIT != 0
 }
 
 pub fn is_punctuation(b: u8) -> bool
