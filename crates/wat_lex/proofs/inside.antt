@@ -7,3 +7,4 @@ pub mod HexRows
 pub mod LineComments
 pub mod RunSteps
 pub mod NumberSteps
+pub mod Blocks

@@ -3,3 +3,4 @@ pub mod ScannedNumbers
 pub mod ScannedStrings
 pub mod ScannedLexemes
 pub mod ScannedRuns
+pub mod Blocks

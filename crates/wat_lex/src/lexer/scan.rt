@@ -11,6 +11,7 @@ use crate::lexer::scan::comments::{block_comment, line_comment};
 use crate::lexer::scan::runs::first_run;
 use crate::lexer::settings::Settings;
 
+mod blocks;
 pub(super) mod classes;
 mod comments;
 pub(super) mod numbers;

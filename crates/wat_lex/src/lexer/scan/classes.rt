@@ -4,6 +4,8 @@ ghost use Rattle.std.specs.List.{prefix_len};
 ghost use Rattle.wat_lex.specs.grammar.Classes.{is_whitespace, is_idchar, is_hex, is_punctuation};
 ghost use Rattle.wat_lex.specs.grammar.Classes.{is_run_char, is_confusing};
 
+use crate::lexer::scan::blocks::{block_at, other_than_idchars, other_than_whitespace};
+
 const RUN_CHAR: u8 = 1;
 
 const IDCHAR: u8 = 2;
@@ -77,12 +79,46 @@ pub fn is_confusing(c: char) -> bool
     )
 }
 
-/// How many bytes of whitespace stand at the start.
-pub fn whitespace_len(text: &[u8]) -> usize
+fn whitespace_len_by_byte(text: &[u8]) -> usize
     ensures { result ≡ prefix_len is_whitespace text.now }
 {
     let mut i = 0;
     while i < text.len() && is_whitespace(text[i]) {
+        i += 1;
+    }
+    i
+}
+
+fn whitespace_len_by_block(text: &[u8]) -> usize
+    ensures { result ≡ prefix_len is_whitespace text.now }
+{
+    let mut i = 0;
+    while text.len() - i >= 16 {
+        let others = other_than_whitespace(block_at(text, i));
+        if others != 0 {
+            return i + others.trailing_zeros() as usize;
+        }
+        i += 16;
+    }
+    i + whitespace_len_by_byte(&text[i..])
+}
+
+/// How many bytes of whitespace stand at the start. Mostly it is one blank.
+pub fn whitespace_len(text: &[u8]) -> usize
+    ensures { result ≡ prefix_len is_whitespace text.now }
+{
+    match text {
+        [first, ..] if !is_whitespace(*first) => 0,
+        [_, second, ..] if !is_whitespace(*second) => 1,
+        _ => whitespace_len_by_block(text),
+    }
+}
+
+fn idchar_len_by_byte(text: &[u8]) -> usize
+    ensures { result ≡ prefix_len is_idchar text.now }
+{
+    let mut i = 0;
+    while i < text.len() && is_idchar(text[i]) {
         i += 1;
     }
     i
@@ -93,8 +129,12 @@ pub fn idchar_len(text: &[u8]) -> usize
     ensures { result ≡ prefix_len is_idchar text.now }
 {
     let mut i = 0;
-    while i < text.len() && is_idchar(text[i]) {
-        i += 1;
+    while text.len() - i >= 16 {
+        let others = other_than_idchars(block_at(text, i));
+        if others != 0 {
+            return i + others.trailing_zeros() as usize;
+        }
+        i += 16;
     }
-    i
+    i + idchar_len_by_byte(&text[i..])
 }
