@@ -6,12 +6,13 @@ ghost use Rattle.wat_lex.specs.inside.Blocks.{failures};
 
 use std::simd::prelude::*;
 
-/// By a byte's low four bits, and by its high four: an idchar is a byte with a bit in both.
+/// By a byte's low four bits. An idchar has a bit in common with `IDCHARS_BY_HIGH`.
 const IDCHARS_BY_LOW: [u8; 16] = [30, 31, 30, 31, 31, 31, 31, 31, 30, 30, 31, 5, 30, 7, 31, 15];
 
+/// By a byte's high four bits.
 const IDCHARS_BY_HIGH: [u8; 16] = [0, 0, 1, 2, 4, 8, 4, 16, 0, 0, 0, 0, 0, 0, 0, 0];
 
-/// By a byte's low four bits, the whitespace with these.
+/// By a byte's low four bits: the one byte of whitespace that ends so, or a byte that does not.
 const WHITESPACE_BY_LOW: [u8; 16] = [32, 0, 0, 0, 0, 0, 0, 0, 0, 9, 10, 0, 0, 13, 0, 0];
 
 /// The 16 bytes at a place.

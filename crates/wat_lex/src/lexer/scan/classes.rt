@@ -104,6 +104,7 @@ fn whitespace_len_by_block(text: &[u8]) -> usize
 }
 
 /// How many bytes of whitespace stand at the start. Mostly it is one blank.
+#[inline]
 pub fn whitespace_len(text: &[u8]) -> usize
     ensures { result ≡ prefix_len is_whitespace text.now }
 {
@@ -125,6 +126,7 @@ fn idchar_len_by_byte(text: &[u8]) -> usize
 }
 
 /// How many idchars stand at the start.
+#[inline]
 pub fn idchar_len(text: &[u8]) -> usize
     ensures { result ≡ prefix_len is_idchar text.now }
 {
