@@ -9,3 +9,4 @@ pub mod RunSteps
 pub mod Starts
 pub mod Outlines
 pub mod NumberSteps
+pub mod Blocks

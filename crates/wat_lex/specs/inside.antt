@@ -4,3 +4,4 @@ pub mod ScannedStrings
 pub mod Outlines
 pub mod ScannedLexemes
 pub mod ScannedRuns
+pub mod Blocks

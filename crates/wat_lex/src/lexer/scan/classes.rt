@@ -4,50 +4,50 @@ ghost use Rattle.std.specs.List.{prefix_len};
 ghost use Rattle.wat_lex.specs.grammar.Classes.{is_whitespace, is_idchar, is_hex, is_punctuation};
 ghost use Rattle.wat_lex.specs.grammar.Classes.{is_run_char, is_confusing};
 
+use crate::lexer::scan::blocks::{block_at, other_than_idchars, other_than_whitespace};
+
+const RUN_CHAR: u8 = 1;
+
+const IDCHAR: u8 = 2;
+
+const HEX_DIGIT: u8 = 4;
+
+const WHITESPACE: u8 = 8;
+
+/// The classes of each byte, a bit each, in rows of 32 bytes.
+const CLASSES: [u8; 256] = [
+    0, 0, 0, 0, 0, 0, 0, 0, 0, 8, 8, 0, 0, 8, 0, 0, 0, 0, 0, 0, 0, 0, 0, 0, 0, 0, 0, 0, 0, 0, 0, 0,
+    8, 3, 1, 3, 3, 3, 3, 3, 0, 0, 3, 3, 0, 3, 3, 3, 7, 7, 7, 7, 7, 7, 7, 7, 7, 7, 3, 0, 3, 3, 3, 3,
+    3, 7, 7, 7, 7, 7, 7, 3, 3, 3, 3, 3, 3, 3, 3, 3, 3, 3, 3, 3, 3, 3, 3, 3, 3, 3, 3, 0, 3, 0, 3, 3,
+    3, 7, 7, 7, 7, 7, 7, 3, 3, 3, 3, 3, 3, 3, 3, 3, 3, 3, 3, 3, 3, 3, 3, 3, 3, 3, 3, 0, 3, 0, 3, 0,
+    0, 0, 0, 0, 0, 0, 0, 0, 0, 0, 0, 0, 0, 0, 0, 0, 0, 0, 0, 0, 0, 0, 0, 0, 0, 0, 0, 0, 0, 0, 0, 0,
+    0, 0, 0, 0, 0, 0, 0, 0, 0, 0, 0, 0, 0, 0, 0, 0, 0, 0, 0, 0, 0, 0, 0, 0, 0, 0, 0, 0, 0, 0, 0, 0,
+    0, 0, 0, 0, 0, 0, 0, 0, 0, 0, 0, 0, 0, 0, 0, 0, 0, 0, 0, 0, 0, 0, 0, 0, 0, 0, 0, 0, 0, 0, 0, 0,
+    0, 0, 0, 0, 0, 0, 0, 0, 0, 0, 0, 0, 0, 0, 0, 0, 0, 0, 0, 0, 0, 0, 0, 0, 0, 0, 0, 0, 0, 0, 0, 0,
+];
+
 pub fn is_whitespace(b: u8) -> bool
     ensures { result ≡ is_whitespace b }
 {
-    matches!(b, b' ' | b'\n' | b'\r' | b'\t')
+    CLASSES[b as usize] & WHITESPACE != 0
 }
 
 pub fn is_idchar(b: u8) -> bool
     ensures { result ≡ is_idchar b }
 {
-    matches!(
-        b,
-        b'0'..=b'9'
-            | b'A'..=b'Z'
-            | b'a'..=b'z'
-            | b'!'
-            | b'#'
-            | b'$'
-            | b'%'
-            | b'&'
-            | b'\''
-            | b'*'
-            | b'+'
-            | b'-'
-            | b'.'
-            | b'/'
-            | b':'
-            | b'<'
-            | b'='
-            | b'>'
-            | b'?'
-            | b'@'
-            | b'\\'
-            | b'^'
-            | b'_'
-            | b'`'
-            | b'|'
-            | b'~'
-    )
+    CLASSES[b as usize] & IDCHAR != 0
 }
 
 pub fn is_run_char(b: u8) -> bool
     ensures { result ≡ is_run_char b }
 {
-    is_idchar(b) || b == b'"'
+    CLASSES[b as usize] & RUN_CHAR != 0
+}
+
+pub fn is_hex_digit(b: u8) -> bool
+    ensures { result ≡ is_hex b }
+{
+    CLASSES[b as usize] & HEX_DIGIT != 0
 }
 
 pub fn is_punctuation(b: u8) -> bool
@@ -79,8 +79,7 @@ pub fn is_confusing(c: char) -> bool
     )
 }
 
-/// How many bytes of whitespace stand at the start.
-pub fn whitespace_len(text: &[u8]) -> usize
+fn whitespace_len_by_byte(text: &[u8]) -> usize
     ensures { result ≡ prefix_len is_whitespace text.now }
 {
     let mut i = 0;
@@ -90,8 +89,33 @@ pub fn whitespace_len(text: &[u8]) -> usize
     i
 }
 
-/// How many idchars stand at the start.
-pub fn idchar_len(text: &[u8]) -> usize
+fn whitespace_len_by_block(text: &[u8]) -> usize
+    ensures { result ≡ prefix_len is_whitespace text.now }
+{
+    let mut i = 0;
+    while text.len() - i >= 16 {
+        let others = other_than_whitespace(block_at(text, i));
+        if others != 0 {
+            return i + others.trailing_zeros() as usize;
+        }
+        i += 16;
+    }
+    i + whitespace_len_by_byte(&text[i..])
+}
+
+/// How many bytes of whitespace stand at the start. Mostly it is one blank.
+#[inline]
+pub fn whitespace_len(text: &[u8]) -> usize
+    ensures { result ≡ prefix_len is_whitespace text.now }
+{
+    match text {
+        [first, ..] if !is_whitespace(*first) => 0,
+        [_, second, ..] if !is_whitespace(*second) => 1,
+        _ => whitespace_len_by_block(text),
+    }
+}
+
+fn idchar_len_by_byte(text: &[u8]) -> usize
     ensures { result ≡ prefix_len is_idchar text.now }
 {
     let mut i = 0;
@@ -99,4 +123,20 @@ pub fn idchar_len(text: &[u8]) -> usize
         i += 1;
     }
     i
+}
+
+/// How many idchars stand at the start.
+#[inline]
+pub fn idchar_len(text: &[u8]) -> usize
+    ensures { result ≡ prefix_len is_idchar text.now }
+{
+    let mut i = 0;
+    while text.len() - i >= 16 {
+        let others = other_than_idchars(block_at(text, i));
+        if others != 0 {
+            return i + others.trailing_zeros() as usize;
+        }
+        i += 16;
+    }
+    i + idchar_len_by_byte(&text[i..])
 }

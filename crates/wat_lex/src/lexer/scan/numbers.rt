@@ -9,12 +9,13 @@ ghost use Rattle.wat_lex.specs.inside.ScannedNumbers.{LongestDigits, NoDigits, O
 ghost use Rattle.wat_lex.specs.inside.ScannedNumbers.{NoIntegralPart};
 
 use crate::lexer::kinds::{FloatKind, IntegerKind, SignToken, TokenKind};
+use crate::lexer::scan::classes::is_hex_digit;
 
 fn is_digit(b: u8, hex: bool) -> bool
     ensures { result ≡ is_digit hex b }
 {
     if hex {
-        b.is_ascii_hexdigit()
+        is_hex_digit(b)
     } else {
         b.is_ascii_digit()
     }

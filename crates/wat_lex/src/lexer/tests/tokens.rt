@@ -283,6 +283,21 @@ fn first_tokens(rt: HostRuntime) -> Result<(), Fail> {
         ("xyz ", "Keyword", "xyz"),
         ("x_z ", "Keyword", "x_z"),
         ("^_x ", "Reserved", "^_x"),
+        (
+            "abcdefghijklmnopqrstuvwxyz)                ",
+            "Keyword",
+            "abcdefghijklmnopqrstuvwxyz",
+        ),
+        (
+            "/0123456789:!#$%&'*+-.<=>?@ABCZ\\^_`az|~;      ;         ",
+            "Reserved",
+            "/0123456789:!#$%&'*+-.<=>?@ABCZ\\^_`az|~",
+        ),
+        (
+            "                \t\r\n  ;;            ",
+            "Whitespace",
+            "                \t\r\n  ",
+        ),
     ];
     for (text, kind, want) in rows {
         assert!(rt; text.len() < 1_000_000);

@@ -1,12 +1,12 @@
 use Rattle.std.proofs.Common.{◌≡◌, ◌≤◌, ◌+◌, ◌-◌, length, drop}
 use Rattle.std.specs.List.{prefix_len}
-use Rattle.wat_lex.specs.grammar.Classes.{is_whitespace}
-use Rattle.wat_lex.proofs.lexer.scan.classes.whitespace_len.Given as goal
+use Rattle.wat_lex.specs.grammar.Classes.{is_idchar}
+use Rattle.wat_lex.proofs.lexer.scan.classes.idchar_len_by_byte.Given as goal
 
 abbrev pub invariant-loop-i : goal.invariant-loop-i
 invariant-loop-i l = record {
   range : l.i ≤ length l.text;
-  so_far : prefix_len is_whitespace l.text ≡ l.i + prefix_len is_whitespace (drop l.i l.text);
+  so_far : prefix_len is_idchar l.text ≡ l.i + prefix_len is_idchar (drop l.i l.text);
 }
 
 abbrev pub decreases-loop-i : goal.decreases-loop-i

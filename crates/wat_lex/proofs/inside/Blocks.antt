@@ -1,0 +1,107 @@
+-- Tests of blocks of bytes by vectors: what a lane holds, and what the mask of a test says of a text. They are for any test.
+use Rattle.std.proofs.Common.{◌≡◌, ◌≢◌, ℕ, ◌+◌, ◌*◌, ◌/◌, ◌%◌, ◌^◌, ◌<◌, ◌≤◌, Bool, true, false, not, cond, eqb, List, [], ◌∷◌, suc, map, length, drop, get_or, replicate, bit_and, Fits, w8, refl, sym, ap, ap₂, ◌∙◌, arith}
+use Rattle.std.specs.List.{prefix_len}
+use Rattle.std.specs.Simd.Lanes.{chunk, mask_l, top, zip2, Each1}
+use Rattle.std.specs.Int.Count.{count_trailing_zeros}
+use Rattle.std.proofs.lemmas.Nat.{and_le_r}
+use Rattle.std.proofs.lemmas.Bool.{agree_below, agree_below_at, lt-leb, eq-eqb, ne_eqb}
+use Rattle.std.proofs.lemmas.List.{length-map}
+use Rattle.std.proofs.lemmas.List.Folds.{prefix_len-append}
+use Rattle.std.proofs.lemmas.List.Sums.{prefix_len-le-length}
+use Rattle.std.proofs.lemmas.Simd.{Each1-all, Each1-weaker, Each1-zip2, Each2-splat, below_from_Fits, length-zip2, map-map, mask_l-mod, chunk-drop, length-chunk, leading_from_mask_l, trailing_mask_l, swz_l, SwzOk, SwzOk-from_below}
+use Rattle.std.proofs.Math.Bool.{not-not}
+use Rattle.wat_lex.specs.inside.Blocks.{failures}
+
+-- ---- lanes
+
+abbrev pub IsBlock : List ℕ → Type 0
+IsBlock v = (length v ≡ 16) × Each1 (Fits w8) v
+
+-- places in a table of 16
+pub record Places (js : List ℕ) : Type 0 where
+  pub long : length js ≡ 16
+  pub small : Each1 (λ j. j < 16) js
+
+pub low_places : (v : List ℕ) → IsBlock v → Places (zip2 bit_and v (replicate 16 15))
+low_places v h = record {
+  long = length-zip2 bit_and v (replicate 16 15) h.0 ∙ h.0;
+  small = Each1-zip2 bit_and (λ j. j < 16) v (replicate 16 15)
+      (Each2-splat (λ a b. bit_and a b < 16) v 16 15 (Each1-all (λ a. bit_and a 15 < 16) (λ a. omega (arith, and_le_r a 15)) v));
+}
+
+abbrev down : ℕ → ℕ → ℕ
+down a b = a / 2 ^ b
+
+pub high_places : (v : List ℕ) → IsBlock v → Places (zip2 down v (replicate 16 4))
+high_places v h = record {
+  long = length-zip2 down v (replicate 16 4) h.0 ∙ h.0;
+  small = Each1-zip2 down (λ j. j < 16) v (replicate 16 4)
+      (Each2-splat (λ a b. down a b < 16) v 16 4 (Each1-weaker (λ a. a < 256) (λ a. a / 16 < 16) (λ a k. omega arith) v (below_from_Fits w8 v h.1)));
+}
+
+pub places_allowed : {js : List ℕ} → Places js → SwzOk w8 16 16 0 js
+places_allowed {js} h = SwzOk-from_below w8 16 1 16 0 js refl (omega (arith, h.long)) h.small
+
+looked_up_from : (table : List ℕ) (i : ℕ) (js : List ℕ) → i + length js ≤ 16 → Each1 (λ j. j < 16) js → swz_l w8 16 table i js ≡ map (λ j. get_or table j 0) js
+looked_up_from table i [] room small = refl
+looked_up_from table i (j ∷ js) room small =
+    let first : 16 * (i / 16) + j ≡ j = omega arith in
+    ap₂ (λ b k. cond b 0 (get_or table k 0) ∷ swz_l w8 16 table (suc i) js) (lt-leb 128 j (omega (arith, small.0))) first
+    ∙ ap (λ rest. get_or table j 0 ∷ rest) (looked_up_from table (suc i) js (omega arith) small.1)
+
+-- what a table holds at places that were computed from the bytes v, each by f
+pub looked_up : (table : List ℕ) (f : ℕ → ℕ) (v js : List ℕ) → Places js → js ≡ map f v → swz_l w8 16 table 0 js ≡ map (λ x. get_or table (f x) 0) v
+looked_up table f v js h e =
+    looked_up_from table 0 js (omega (arith, h.long)) h.small ∙ ap (map (λ j. get_or table j 0)) e ∙ map-map (λ j. get_or table j 0) f v
+
+-- bytes as they are
+pub itself : (v : List ℕ) → v ≡ map (λ x. x) v
+itself [] = refl
+itself (x ∷ xs) = ap (λ rest. x ∷ rest) (itself xs)
+
+-- ---- masks
+
+same_on_bytes : (f g : ℕ → Bool) → agree_below f g 256 ≡ true → (v : List ℕ) → Each1 (Fits w8) v → map f v ≡ map g v
+same_on_bytes f g all [] h = refl
+same_on_bytes f g all (x ∷ xs) h = ap₂ (λ b bs. b ∷ bs) (agree_below_at f g 256 x all h.0.fits) (same_on_bytes f g all xs h.1)
+
+-- The lanes z were computed from the bytes v, each by f, and the top bit of f x is set just where x fails the test: that is
+-- evaluated at each of the 256 bytes.
+pub failures_from_lanes : (p : ℕ → Bool) (f : ℕ → ℕ) (v z : List ℕ) → IsBlock v → z ≡ map f v → agree_below (λ x. top 7 (f x)) (λ x. not (p x)) 256 ≡ true → mask_l (map (top 7) z) % 2 ^ 64 ≡ failures p v
+failures_from_lanes p f v z h e all =
+    let tests : map (top 7) z ≡ map (λ x. not (p x)) v = ap (map (top 7)) e ∙ map-map (top 7) f v ∙ same_on_bytes (λ x. top 7 (f x)) (λ x. not (p x)) all v h.1 in
+    ap (λ ms. mask_l ms % 2 ^ 64) tests ∙ mask_l-mod (map (λ x. not (p x)) v) 64 (omega (arith, length-map v (λ x. not (p x)), h.0))
+
+-- ---- texts
+
+none_fail_step : (b : Bool) (n l m : ℕ) → n ≤ l → cond b (1 + n) 0 ≡ 1 + l → (n ≡ l → m ≡ 0) → cond (not b) 1 0 + 2 * m ≡ 0
+none_fail_step true n l m le e rest = let none = rest (omega arith) in omega arith
+none_fail_step false n l m le e rest = absurd (omega arith)
+
+none_fail : (p : ℕ → Bool) (xs : List ℕ) → prefix_len p xs ≡ length xs → failures p xs ≡ 0
+none_fail p [] e = refl
+none_fail p (x ∷ xs) e = none_fail_step (p x) (prefix_len p xs) (length xs) (failures p xs) (prefix_len-le-length p xs) (omega arith) (none_fail p xs)
+
+doubly : (p : ℕ → Bool) (xs : List ℕ) → prefix_len (λ x. not (not (p x))) xs ≡ prefix_len p xs
+doubly p xs = ap (λ t. prefix_len t xs) (λ i x. not-not (p x) i)
+
+split : (p : ℕ → Bool) (text : List ℕ) (i n : ℕ)
+    → prefix_len p (drop i text) ≡ cond (eqb (prefix_len p (chunk i n text)) (length (chunk i n text))) (length (chunk i n text) + prefix_len p (drop (i + n) text)) (prefix_len p (chunk i n text))
+split p text i n = ap (prefix_len p) (chunk-drop i n text) ∙ prefix_len-append p (chunk i n text) (drop (i + n) text)
+
+-- where no byte of a block fails, what passes goes on behind the block
+pub goes_on : (p : ℕ → Bool) (text : List ℕ) (i n m : ℕ) → m ≡ failures p (chunk i n text) → i + n ≤ length text → m ≡ 0 → prefix_len p (drop i text) ≡ n + prefix_len p (drop (i + n) text)
+goes_on p text i n m e room none =
+    let v = chunk i n text in
+    let all : prefix_len p v ≡ length v = sym (doubly p v) ∙ leading_from_mask_l (λ x. not (p x)) v (sym e ∙ none) in
+    split p text i n ∙ ap (λ b. cond b (length v + prefix_len p (drop (i + n) text)) (prefix_len p v)) (eq-eqb _ _ all)
+    ∙ ap (λ k. k + prefix_len p (drop (i + n) text)) (length-chunk i n text room)
+
+-- where some byte of a block fails, what passes ends at the lowest bit
+pub ends_at : (p : ℕ → Bool) (text : List ℕ) (i n m : ℕ) → m ≡ failures p (chunk i n text) → i + n ≤ length text → n ≤ 64 → m ≢ 0 → prefix_len p (drop i text) ≡ count_trailing_zeros 64 m
+ends_at p text i n m e room few some =
+    let v = chunk i n text in
+    let stops : prefix_len p v ≢ length v = λ all. some (e ∙ none_fail p v all) in
+    split p text i n ∙ ap (λ b. cond b (length v + prefix_len p (drop (i + n) text)) (prefix_len p v)) (ne_eqb _ _ stops)
+    ∙ sym (doubly p v) ∙ sym (trailing_mask_l (λ x. not (p x)) 64 v (omega (arith, length-chunk i n text room)) (omega arith))
+    ∙ ap (count_trailing_zeros 64) (sym e)

@@ -1,0 +1,7 @@
+-- The tests of blocks of bytes in the lexer. No part of the standard.
+use Rattle.std.specs.Prelude.{ℕ, Bool, not, List, map}
+use Rattle.std.specs.Simd.Lanes.{mask_l}
+
+-- a bit for each byte of a block that fails a test, the lowest for the first
+abbrev pub failures : (ℕ → Bool) → List ℕ → ℕ
+failures p block = mask_l (map (λ b. not (p b)) block)

@@ -1,0 +1,44 @@
+//! Tests of 16 bytes at once.
+ghost use Rattle.std.specs.Prelude.{◌≡◌, ◌≤◌, ◌+◌, length};
+ghost use Rattle.std.specs.Simd.Lanes.{chunk};
+ghost use Rattle.wat_lex.specs.grammar.Classes.{is_idchar, is_whitespace};
+ghost use Rattle.wat_lex.specs.inside.Blocks.{failures};
+
+use std::simd::prelude::*;
+
+/// By a byte's low four bits. An idchar has a bit in common with `IDCHARS_BY_HIGH`.
+const IDCHARS_BY_LOW: [u8; 16] = [30, 31, 30, 31, 31, 31, 31, 31, 30, 30, 31, 5, 30, 7, 31, 15];
+
+/// By a byte's high four bits.
+const IDCHARS_BY_HIGH: [u8; 16] = [0, 0, 1, 2, 4, 8, 4, 16, 0, 0, 0, 0, 0, 0, 0, 0];
+
+/// By a byte's low four bits: the one byte of whitespace that ends so, or a byte that does not.
+const WHITESPACE_BY_LOW: [u8; 16] = [32, 0, 0, 0, 0, 0, 0, 0, 0, 9, 10, 0, 0, 13, 0, 0];
+
+/// The 16 bytes at a place.
+#[inline(always)]
+pub fn block_at(text: &[u8], i: usize) -> u8x16
+    requires { i + 16 ≤ length text.now }
+    ensures { result ≡ chunk i 16 text.now }
+{
+    u8x16::from_slice(&text[i..])
+}
+
+/// A bit for each byte that is no idchar, the lowest for the first.
+#[inline(always)]
+pub fn other_than_idchars(block: u8x16) -> u64
+    ensures { result ≡ failures is_idchar block }
+{
+    let low = u8x16::from_array(IDCHARS_BY_LOW).swizzle_dyn(block & u8x16::splat(15));
+    let high = u8x16::from_array(IDCHARS_BY_HIGH).swizzle_dyn(block >> u8x16::splat(4));
+    (low & high).simd_eq(u8x16::splat(0)).to_bitmask()
+}
+
+/// A bit for each byte that is no whitespace, the lowest for the first.
+#[inline(always)]
+pub fn other_than_whitespace(block: u8x16) -> u64
+    ensures { result ≡ failures is_whitespace block }
+{
+    let wanted = u8x16::from_array(WHITESPACE_BY_LOW).swizzle_dyn(block & u8x16::splat(15));
+    wanted.simd_ne(block).to_bitmask()
+}
