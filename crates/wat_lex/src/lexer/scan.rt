@@ -1,9 +1,9 @@
 //! Scanning: what stands at the start of a text, by its first bytes.
-ghost use Rattle.std.specs.Prelude.{◌≡◌, ◌≢◌, ◌<◌, ◌≤◌, true, false, length, slice_index, take};
+ghost use Rattle.std.specs.Prelude.{◌≡◌, ◌≢◌, ◌<◌, ◌≤◌, ℕ, List, false, length, slice_index, take};
 ghost use Rattle.wat_lex.specs.tokens.Faults.{begins_word};
 ghost use Rattle.wat_lex.specs.inside.ScannedLexemes.{Refused};
 ghost use Rattle.wat_lex.specs.inside.Outlines.{Begun, HasKind, IsRefused, Outlined};
-ghost use Rattle.wat_lex.specs.declared.lexer.kinds.Shape.TheVariants as shape;
+ghost use Rattle.wat_lex.specs.declared.lexer.kinds.Shape.TheVariants.{Word, End, Fault};
 ghost use Rattle.wat_lex.specs.declared.lexer.scan.starts.Start.TheVariants.{Idchar};
 ghost use Rattle.wat_lex.specs.declared.lexer.settings.Settings.{Settings};
 
@@ -100,15 +100,15 @@ pub fn first_outline(text: &str, flags: Settings) -> Outline
     }
 }
 
-/// The kind that an outline of the text's start stands for.
+/// The kind of a token of this shape that is no word.
 #[inline(always)]
-pub fn kind_of(text: &[u8], outline: Outline) -> TokenKind
-    requires fits { outline.len ≤ length text.now }
-    requires no_end { outline.shape ≢ shape.End }
-    requires no_fault { outline.shape ≢ shape.Fault }
-    ensures { HasKind outline.shape (take outline.len text.now) result }
+fn plain_kind(shape: Shape) -> TokenKind
+    requires no_word { shape ≢ Word }
+    requires no_end { shape ≢ End }
+    requires no_fault { shape ≢ Fault }
+    ensures { (bytes : List ℕ) → HasKind shape bytes result }
 {
-    match outline.shape {
+    match shape {
         Shape::LineComment => TokenKind::LineComment,
         Shape::BlockComment => TokenKind::BlockComment,
         Shape::Whitespace => TokenKind::Whitespace,
@@ -119,8 +119,21 @@ pub fn kind_of(text: &[u8], outline: Outline) -> TokenKind
         Shape::Keyword => TokenKind::Keyword,
         Shape::Annotation => TokenKind::Annotation,
         Shape::Reserved => TokenKind::Reserved,
+        Shape::Word | Shape::End | Shape::Fault => unreachable!(),
+    }
+}
+
+/// The kind that an outline of the text's start stands for.
+#[inline(always)]
+pub fn kind_of(text: &[u8], outline: Outline) -> TokenKind
+    requires fits { outline.len ≤ length text.now }
+    requires no_end { outline.shape ≢ End }
+    requires no_fault { outline.shape ≢ Fault }
+    ensures { HasKind outline.shape (take outline.len text.now) result }
+{
+    match outline.shape {
         Shape::Word => word_kind(&text[..outline.len]),
-        Shape::End | Shape::Fault => unreachable!(),
+        shape => plain_kind(shape),
     }
 }
 
