@@ -1,6 +1,8 @@
 //! The words of numbers.
 ghost use Rattle.std.specs.Prelude.{◌≡◌, ◌≢◌, ◌↔◌, ◌++◌, ℕ, List, [], MatchOption, IfSome, IfNone};
 ghost use Rattle.std.specs.Prelude.{IsTrue, codes};
+ghost use Rattle.std.specs.Char.{is_ascii_digit};
+ghost use Rattle.std.specs.List.{prefix_len};
 ghost use Rattle.wat_lex.specs.declared.lexer.kinds.TokenKind.{TokenKind};
 ghost use Rattle.wat_lex.specs.grammar.Numbers.{is_digit, is_exponent_letter, sign_of, unsigned};
 ghost use Rattle.wat_lex.specs.grammar.Numbers.{is_negative, has_underscores, Digits, Exponent};
@@ -160,6 +162,32 @@ fn digits_kind(word: &[u8]) -> Option<TokenKind>
     Some(TokenKind::Float(FloatKind::Normal {
         has_underscores,
         hex,
+    }))
+}
+
+/// How many decimal digits stand at the start.
+fn decimal_len(text: &[u8]) -> usize
+    ensures { result ≡ prefix_len is_ascii_digit text.now }
+{
+    let mut i = 0;
+    while i < text.len() && text[i].is_ascii_digit() {
+        i += 1;
+    }
+    i
+}
+
+/// The kind of a word of decimal digits alone, with a sign or none; by far the most numbers are so.
+pub fn plain_integer(word: &[u8]) -> Option<TokenKind>
+    ensures { IfSome result (λ kind. Number word.now kind) }
+{
+    let number = unsigned(word);
+    if number.is_empty() || decimal_len(number) != number.len() {
+        return None;
+    }
+    Some(TokenKind::Integer(IntegerKind {
+        sign: sign_of(word),
+        has_underscores: false,
+        hex: false,
     }))
 }
 

@@ -10,7 +10,7 @@ ghost use Rattle.wat_lex.specs.grammar.Classes.{is_idchar, is_run_char};
 use crate::lexer::faults::LexFault;
 use crate::lexer::kinds::{Outline, Shape, TokenKind};
 use crate::lexer::scan::classes::idchar_len;
-use crate::lexer::scan::numbers::classify;
+use crate::lexer::scan::numbers::{classify, plain_integer};
 use crate::lexer::scan::strings::string_len;
 use crate::lexer::settings::Settings;
 
@@ -128,6 +128,9 @@ fn kind_by_first(word: &[u8]) -> TokenKind
 pub fn word_kind(word: &[u8]) -> TokenKind
     ensures { WordKind word.now result }
 {
+    if let Some(kind) = plain_integer(word) {
+        return kind;
+    }
     match classify(word) {
         Some(kind) => kind,
         None => kind_by_first(word),
