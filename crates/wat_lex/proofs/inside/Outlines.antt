@@ -1,5 +1,5 @@
 -- Outlines of what stands at the start of a text.
-use Rattle.std.proofs.Common.{◌≡◌, ◌≢◌, ◌<◌, ◌+◌, ℕ, zero, suc, List, [], ◌∷◌, length, take, get_or, refl, arith, ap, sym, ◌∙◌, subst, Bool, true, false, cond, inl, inr}
+use Rattle.std.proofs.Common.{◌≡◌, ◌≢◌, ◌<◌, ◌+◌, ℕ, zero, suc, List, [], ◌∷◌, length, take, drop, get_or, refl, arith, ap, sym, ◌∙◌, subst, Bool, true, false, cond, inl, inr}
 use Rattle.std.specs.Prelude.{IsTrue}
 use Rattle.std.proofs.lemmas.Bool.{cases_Bool}
 use Rattle.std.proofs.lemmas.Str.{encodes-chars, chars-nil}
@@ -58,11 +58,12 @@ outlined_semicolon flags text u l e n = outlined_word flags text shape.Reserved 
 pub outlined_punctuation : (flags : Settings) (text : List ℕ) → IsUtf8 text → 0 < length text → is_punctuation (get_or text 0 0) ≡ true → Outlined flags text (record { shape = shape.Reserved; len = 1 })
 outlined_punctuation flags text u l e = outlined_word flags text shape.Reserved kind.Reserved 1 u (λ a. cc) (λ a. cc) (λ j h. h) (found_punctuation flags text u l e)
 
-pub outlined_whitespace : (flags : Settings) (text : List ℕ) (n : ℕ) → IsUtf8 text → 0 < length text → is_whitespace (get_or text 0 0) ≡ true → n ≡ prefix_len is_whitespace text → Outlined flags text (record { shape = shape.Whitespace; len = n })
-outlined_whitespace flags text n u l t e = outlined_word flags text shape.Whitespace kind.Whitespace n u (λ a. cc) (λ a. cc) (λ j h. h) (found_whitespace flags text n u l t e)
+first_passes : (p : ℕ → Bool) (text : List ℕ) → 0 < length text → p (get_or text 0 0) ≡ true → prefix_len p text ≡ 1 + prefix_len p (drop 1 text)
+first_passes p [] l e = absurd (omega arith)
+first_passes p (b ∷ bs) l e = ap (λ x. cond x (1 + prefix_len p bs) 0) e
 
-pub outlined_comment : (flags : Settings) (text : List ℕ) (n : ℕ) (s : Shape) (k : TokenKind) → IsUtf8 text → s ≢ shape.End → s ≢ shape.Fault → ((j : TokenKind) → HasKind s (take n text) j → j ≡ k) → LexemeFound flags text (record { kind = k; len = n }) → Outlined flags text (record { shape = s; len = n })
-outlined_comment flags text n s k u e f only h = outlined_word flags text s k n u e f only h
+pub outlined_whitespace : (flags : Settings) (text : List ℕ) (n : ℕ) → IsUtf8 text → 0 < length text → is_whitespace (get_or text 0 0) ≡ true → n ≡ 1 + prefix_len is_whitespace (drop 1 text) → Outlined flags text (record { shape = shape.Whitespace; len = n })
+outlined_whitespace flags text n u l t e = outlined_word flags text shape.Whitespace kind.Whitespace n u (λ a. cc) (λ a. cc) (λ j h. h) (found_whitespace flags text n u l t (e ∙ sym (first_passes is_whitespace text l t)))
 
 pub outlined_other : (flags : Settings) (text : List ℕ) → IsUtf8 text → 0 < length text → begins_word (get_or text 0 0) ≡ false → Outlined flags text (record { shape = shape.Fault; len = 0 })
 outlined_other flags text u l n = by u.0 (sym u.1.1)
@@ -77,8 +78,7 @@ first_of (b ∷ bs) zero p l = absurd (omega arith)
 first_of (b ∷ bs) (suc n) p l = (take n bs, refl)
 
 some_prefix : (p : ℕ → Bool) (text : List ℕ) → 0 < length text → p (get_or text 0 0) ≡ true → 0 < prefix_len p text
-some_prefix p [] l e = absurd (omega arith)
-some_prefix p (b ∷ bs) l e = omega (arith, ap (λ x. cond x (1 + prefix_len p bs) 0) e)
+some_prefix p text l e = omega (arith, first_passes p text l e)
 
 -- a word of idchars that no string follows
 pub outlined_idchars : (flags : Settings) (text : List ℕ) (s : Shape) (n : ℕ) → IsUtf8 text → 0 < length text → BeginsWord (get_or text 0 0) s → n ≡ prefix_len is_idchar text → get_or text n 0 ≢ 34 → Outlined flags text (record { shape = s; len = n })

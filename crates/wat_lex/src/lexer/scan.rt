@@ -89,7 +89,7 @@ pub fn first_outline(text: &str, flags: Settings) -> Outline
         return outline(Shape::End, 0);
     }
     match start_of(byte_at(bytes, 0)) {
-        Start::Whitespace => outline(Shape::Whitespace, whitespace_len(bytes)),
+        Start::Whitespace => outline(Shape::Whitespace, 1 + whitespace_len(&bytes[1..])),
         Start::OpenParen => opened(text, flags),
         Start::CloseParen => outline(Shape::RParen, 1),
         Start::Semicolon => semicolon(text, flags),

@@ -103,14 +103,13 @@ fn whitespace_len_by_block(text: &[u8]) -> usize
     i + whitespace_len_by_byte(&text[i..])
 }
 
-/// How many bytes of whitespace stand at the start. Mostly it is one blank.
+/// How many bytes of whitespace stand at the start, behind a first one. Mostly there are none.
 #[inline]
 pub fn whitespace_len(text: &[u8]) -> usize
     ensures { result ≡ prefix_len is_whitespace text.now }
 {
     match text {
-        [first, ..] if !is_whitespace(*first) => 0,
-        [_, second, ..] if !is_whitespace(*second) => 1,
+        [next, ..] if !is_whitespace(*next) => 0,
         _ => whitespace_len_by_block(text),
     }
 }

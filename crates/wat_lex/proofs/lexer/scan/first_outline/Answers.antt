@@ -1,6 +1,8 @@
-use Rattle.std.proofs.Common.{sym, ◌≡◌, ◌<◌, ℕ, List, length, get_or, ap, ◌∙◌, subst, arith, Bool, true, false}
+use Rattle.std.proofs.Common.{sym, ◌≡◌, ◌<◌, ◌+◌, ◌-◌, ℕ, List, length, take, drop, length-drop, get_or, ap, ◌∙◌, subst, arith, Bool, true, false}
 use Rattle.std.specs.Prelude.{◌==◌}
 use Rattle.std.proofs.lemmas.Bool.{eqb-false}
+use Rattle.std.proofs.lemmas.List.{take_rest}
+use Rattle.std.proofs.lemmas.List.Sums.{prefix_len-le-length}
 use Rattle.std.specs.List.{prefix_len}
 use Rattle.wat_lex.specs.grammar.Classes.{is_whitespace, is_punctuation}
 use Rattle.wat_lex.specs.tokens.Faults.{begins_word}
@@ -13,12 +15,22 @@ filled text bs b e f g = let k : length bs ≡ 0 → ⊥ = eqb-false (length bs)
 reads : (text bs : List ℕ) (x : ℕ) → bs ≡ text → x ≡ get_or bs 0 0 → x ≡ get_or text 0 0
 reads text bs x e f = f ∙ ap (λ t. get_or t 0 0) e
 
+tail_is : (text bs : List ℕ) → bs ≡ text → take (length bs - 1) (drop 1 bs) ≡ drop 1 text
+tail_is text bs e = take_rest bs 1 ∙ ap (drop 1) e
+
+pub overflow_add-whitespace_len : goal.overflow_add-whitespace_len
+overflow_add-whitespace_len c =
+    let e = c.as_bytes-bytes.ensures.value in
+    let bs = c.as_bytes-bytes.result.now in
+    let n = c.whitespace_len.ensures ∙ ap (prefix_len is_whitespace) (tail_is c.args.text.now bs e) in
+    omega (arith, n, prefix_len-le-length is_whitespace (drop 1 c.args.text.now), length-drop 1 c.args.text.now, c.as_bytes-bytes.type_inv.0, ap length e)
+
 pub returns-in-Whitespace : goal.returns-in-Whitespace
 returns-in-Whitespace c =
     let e = c.as_bytes-bytes.ensures.value in
     let bs = c.as_bytes-bytes.result.now in
-    rw c.outline-in-Whitespace.ensures (outlined_whitespace c.args.flags c.args.text.now c.whitespace_len.result c.utf8.text (filled c.args.text.now bs c.is_empty.result e c.is_empty.ensures c.if-is_empty.false)
-    (subst (λ x. is_whitespace x ≡ true) (reads c.args.text.now bs c.byte_at.result e c.byte_at.ensures) c.in-Whitespace.ensures) (c.whitespace_len.ensures ∙ ap (prefix_len is_whitespace) e))
+    rw c.outline-in-Whitespace.ensures (outlined_whitespace c.args.flags c.args.text.now (1 + c.whitespace_len.result) c.utf8.text (filled c.args.text.now bs c.is_empty.result e c.is_empty.ensures c.if-is_empty.false)
+    (subst (λ x. is_whitespace x ≡ true) (reads c.args.text.now bs c.byte_at.result e c.byte_at.ensures) c.in-Whitespace.ensures) (ap (λ x. 1 + x) (c.whitespace_len.ensures ∙ ap (prefix_len is_whitespace) (tail_is c.args.text.now bs e))))
 
 pub returns-in-CloseParen : goal.returns-in-CloseParen
 returns-in-CloseParen c =
