@@ -1,3 +1,4 @@
+mod Decimals
 mod InputLaws
 mod KnownBytes
 mod Listings

@@ -1,8 +1,8 @@
 //! The list of a text's raw tokens.
-ghost use Rattle.std.specs.Prelude.{◌≡◌, ◌++◌, ◌+◌, ◌<◌, ◌^◌, length, IfOk, OnOk};
+ghost use Rattle.std.specs.Prelude.{◌≡◌, ◌++◌, ◌+◌, ◌<◌, ◌≤◌, ◌^◌, codes, length, IfOk, OnOk};
 ghost use Rattle.wat_tokens.specs.Lists.{kind_name, line, ListText};
 
-use itoa::Buffer;
+use crate::line::Line;
 use std::alloc::{AllocError, Global};
 use wat_lex::lexer::{LexFault, Lexer, Settings, Token, TokenKind};
 
@@ -15,22 +15,24 @@ pub struct Listing {
     pub fault: Option<LexFault>,
 }
 
-fn kind_name(kind: TokenKind) -> &'static [u8]
-    ensures { result.now ≡ kind_name kind }
+/// How the line of a token of this kind ends.
+fn line_end(kind: TokenKind) -> &'static [u8]
+    ensures text { result.now ≡ codes " " ++ kind_name kind ++ codes "\n" }
+    ensures short { length result.now ≤ 14 }
 {
     match kind {
-        TokenKind::LineComment => b"LineComment",
-        TokenKind::BlockComment => b"BlockComment",
-        TokenKind::Whitespace => b"Whitespace",
-        TokenKind::LParen => b"LParen",
-        TokenKind::RParen => b"RParen",
-        TokenKind::String => b"String",
-        TokenKind::Id => b"Id",
-        TokenKind::Keyword => b"Keyword",
-        TokenKind::Annotation => b"Annotation",
-        TokenKind::Reserved => b"Reserved",
-        TokenKind::Integer(_) => b"Integer",
-        TokenKind::Float(_) => b"Float",
+        TokenKind::LineComment => b" LineComment\n",
+        TokenKind::BlockComment => b" BlockComment\n",
+        TokenKind::Whitespace => b" Whitespace\n",
+        TokenKind::LParen => b" LParen\n",
+        TokenKind::RParen => b" RParen\n",
+        TokenKind::String => b" String\n",
+        TokenKind::Id => b" Id\n",
+        TokenKind::Keyword => b" Keyword\n",
+        TokenKind::Annotation => b" Annotation\n",
+        TokenKind::Reserved => b" Reserved\n",
+        TokenKind::Integer(_) => b" Integer\n",
+        TokenKind::Float(_) => b" Float\n",
     }
 }
 
@@ -39,13 +41,12 @@ fn push_line(lines: &mut Vec<u8>, token: &Token) -> Result<(), AllocError>
     requires { token.now.offset + token.now.len < 2 ^ 32 }
     ensures { OnOk result (lines.new.items ≡ lines.old.items ++ line token.now) }
 {
-    let mut buffer = Buffer::new();
-    lines.extend_from_slice(buffer.format(token.offset).as_bytes())?;
-    lines.extend_from_slice(b"..")?;
-    lines.extend_from_slice(buffer.format(token.offset + token.len as usize).as_bytes())?;
-    lines.extend_from_slice(b" ")?;
-    lines.extend_from_slice(kind_name(token.kind))?;
-    lines.extend_from_slice(b"\n")
+    let mut line = Line::new();
+    line.put(line_end(token.kind));
+    line.put_number((token.offset + token.len as usize) as u32);
+    line.put(b"..");
+    line.put_number(token.offset as u32);
+    lines.extend_from_slice(line.as_bytes())
 }
 
 /// The lexer over a text with these settings.

@@ -2,6 +2,7 @@
 #![tactic(auto)]
 
 pub mod ends;
+mod line;
 pub mod list;
 pub mod options;
 pub mod outcome;

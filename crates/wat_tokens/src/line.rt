@@ -1,0 +1,92 @@
+//! A line of the list, written from its last byte to its first.
+ghost use Rattle.std.specs.Prelude.{◌≡◌, ◌++◌, ◌∷◌, ◌+◌, ◌/◌, ◌%◌, ◌<◌, ◌≤◌, ℕ, List, []};
+ghost use Rattle.std.specs.Prelude.{drop, length};
+ghost use Rattle.std.specs.Fmt.{decimal};
+
+use std::marker::Model;
+
+/// The longest line: two numbers of ten digits, two dots, and ` BlockComment` with a line feed.
+const LONGEST: usize = 36;
+
+/// The numbers below 100, in two digits each.
+static PAIRS: [[u8; 2]; 100] = [
+    *b"00", *b"01", *b"02", *b"03", *b"04", *b"05", *b"06", *b"07", *b"08", *b"09", *b"10", *b"11",
+    *b"12", *b"13", *b"14", *b"15", *b"16", *b"17", *b"18", *b"19", *b"20", *b"21", *b"22", *b"23",
+    *b"24", *b"25", *b"26", *b"27", *b"28", *b"29", *b"30", *b"31", *b"32", *b"33", *b"34", *b"35",
+    *b"36", *b"37", *b"38", *b"39", *b"40", *b"41", *b"42", *b"43", *b"44", *b"45", *b"46", *b"47",
+    *b"48", *b"49", *b"50", *b"51", *b"52", *b"53", *b"54", *b"55", *b"56", *b"57", *b"58", *b"59",
+    *b"60", *b"61", *b"62", *b"63", *b"64", *b"65", *b"66", *b"67", *b"68", *b"69", *b"70", *b"71",
+    *b"72", *b"73", *b"74", *b"75", *b"76", *b"77", *b"78", *b"79", *b"80", *b"81", *b"82", *b"83",
+    *b"84", *b"85", *b"86", *b"87", *b"88", *b"89", *b"90", *b"91", *b"92", *b"93", *b"94", *b"95",
+    *b"96", *b"97", *b"98", *b"99",
+];
+
+fn two_digits(number: u32) -> [u8; 2]
+    requires { number < 100 }
+    ensures { result ≡ (48 + number / 10) ∷ (48 + number % 10) ∷ [] }
+{
+    PAIRS[number as usize]
+}
+
+/// The bytes of a line so far, which others are put in front of.
+#[derive(Drop)]
+pub struct Line {
+    bytes: [u8; LONGEST],
+    start: usize,
+}
+
+impl Model for Line {
+    ghost Value = { List ℕ };
+
+    ghost view = { λ l. drop l.start l.bytes };
+
+    ghost invariant = { λ l. l.start ≤ 36 };
+}
+
+impl Line {
+    /// A line with no bytes.
+    pub fn new() -> Line
+        ensures { result ≡ [] }
+    {
+        Line {
+            bytes: [0; LONGEST],
+            start: LONGEST,
+        }
+    }
+
+    /// What was put so far.
+    pub fn as_bytes(&self) -> &[u8]
+        ensures { result.now ≡ self.now }
+    {
+        &self.bytes[self.start..]
+    }
+
+    /// Puts bytes in front.
+    pub fn put(&mut self, bytes: &[u8])
+        requires { length self.old + length bytes.now ≤ 36 }
+        ensures bytes { self.new ≡ bytes.now ++ self.old }
+        ensures len { length self.new ≡ length bytes.now + length self.old }
+    {
+        let start = self.start - bytes.len();
+        self.bytes[start..self.start].copy_from_slice(bytes);
+        self.start = start;
+    }
+
+    /// Puts a number in front, two digits at a time.
+    pub fn put_number(&mut self, number: u32)
+        requires { length self.old + 10 ≤ 36 }
+        ensures digits { self.new ≡ decimal number ++ self.old }
+        ensures len { length self.new ≤ 10 + length self.old }
+    {
+        let mut rest = number;
+        while rest >= 100 {
+            self.put(&two_digits(rest % 100));
+            rest /= 100;
+        }
+        if rest >= 10 {
+            self.put(&two_digits(rest));
+        } else {
+            self.put(&[b'0' + rest as u8]);
+        }
+    }
+}
