@@ -15,6 +15,7 @@ mod blocks;
 pub(super) mod classes;
 mod comments;
 pub(super) mod numbers;
+mod plain;
 mod runs;
 pub(super) mod strings;
 
