@@ -3,6 +3,7 @@ pub mod BlockComments
 pub mod CheckedComments
 pub mod Confusing
 pub mod StringSteps
+pub mod StringElements
 pub mod HexRows
 pub mod LineComments
 pub mod RunSteps

@@ -6,13 +6,6 @@ use Rattle.wat_lex.specs.grammar.Strings.{Element, raw, letter, byte, unicode, Q
 use Rattle.wat_lex.specs.tokens.StringFaults.{StringFault, later, no_quote, control, confusing, no_escape, bad_escape, no_second, bad_second, no_open, bad_open, no_digit, bad_digit, number, NumberFault, too_big, doubled, lone, no_scalar, no_brace, no_more}
 use Rattle.wat_lex.specs.grammar.Runs.{Piece, Run, none, idchar, string}
 use Rattle.wat_lex.specs.declared.lexer.faults.LexError.{LexError}
-use Rattle.std.proofs.Common.{◌+◌, ◌-◌, length, drop, length-append}
-use Rattle.std.proofs.lemmas.List.{drop_at}
-use Rattle.std.proofs.lemmas.Str.{encodes-chars, encodes-append}
-use Rattle.std.specs.Str.{chars, IsUtf8}
-use lib.Utf8.{encodes}
-use Rattle.wat_lex.specs.inside.ScannedStrings.{Closed, Wrong, StringTaken, StringRefused}
-use Rattle.wat_lex.specs.declared.lexer.scan.strings.Broken.{Broken}
 use Rattle.wat_lex.proofs.inside.Confusing.{size-append}
 use Rattle.wat_lex.specs.declared.lexer.settings.Settings.{Settings}
 
@@ -97,27 +90,3 @@ string_ends flags s e at (number {d = d} {s = t} h k) = ends_more (92 ∷ 117 �
 pub string_fault_fits : (flags : Settings) (s : List ℕ) (e : LexError) (at : List ℕ) → StringFault flags s e at → size at ≤ size s
 unfolding Ends
 string_fault_fits flags s e at h = let b = string_ends flags s e at h in omega (arith, ap size b.1, size-append b.0 at)
-
--- the bytes that are left of a text behind a prefix of its characters
-left_of : (text rest prefix : List ℕ) → IsUtf8 text → IsUtf8 rest → chars text ≡ prefix ++ chars rest → (length rest ≤ length text) × (drop (length text - length rest) text ≡ rest)
-left_of text rest prefix u v e =
-    let bytes : text ≡ encodes prefix ++ rest = sym (encodes-chars text u) ∙ ap encodes e ∙ encodes-append prefix (chars rest) ∙ ap (λ x. encodes prefix ++ x) (encodes-chars rest v) in
-    let sum : length text ≡ length (encodes prefix) + length rest = ap length bytes ∙ length-append (encodes prefix) rest in
-    (omega (arith, sum), ap (λ x. drop (length text - length rest) x) bytes ∙ drop_at (encodes prefix) rest (length text - length rest) (omega (arith, sum)))
-
-pub string_taken : (flags : Settings) (text rest : List ℕ) → IsUtf8 text → Closed flags text rest → StringTaken flags text (length text - length rest)
-string_taken flags text rest u h =
-    let t = quoted_taken flags (chars text) h.value (chars rest) h.quoted in
-    let l = left_of text rest t.prefix u h.utf8 t.cut in
-    record {
-      value = h.value;
-      quoted = subst (λ x. Quoted flags (chars text) h.value (chars x)) (sym l.1) h.quoted;
-      utf8 = subst IsUtf8 (sym l.1) h.utf8;
-      range = omega arith;
-    }
-
-pub string_broken : (flags : Settings) (text : List ℕ) (b : Broken) → IsUtf8 text → Wrong flags text b → b.left ≤ length text
-string_broken flags text b u h = omega (arith, string_fault_fits flags (chars text) b.error h.at h.fault, h.place, ap length (encodes-chars text u))
-
-pub string_refused : (flags : Settings) (text : List ℕ) (b : Broken) → IsUtf8 text → Wrong flags text b → StringRefused flags text (record { offset = length text - b.left; error = b.error })
-string_refused flags text b u h = record { at = h.at; fault = h.fault; place = let k = string_broken flags text b u h in let p = h.place in omega arith }

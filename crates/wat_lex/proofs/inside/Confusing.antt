@@ -39,11 +39,11 @@ set_lead (d ∷ s) c h e =
       | inr t ↦ set_lead s c h.1 t
     ]
 
-lead : (c : ℕ) → is_confusing c ≡ true → get_or (encode c) 0 0 ≡ 0xE2
+pub lead : (c : ℕ) → is_confusing c ≡ true → get_or (encode c) 0 0 ≡ 0xE2
 unfolding encode
 lead c = set_lead (0x202A ∷ 0x202B ∷ 0x202D ∷ 0x202E ∷ 0x2066 ∷ 0x2067 ∷ 0x2068 ∷ 0x2069 ∷ 0x206C ∷ []) c (refl, (refl, (refl, (refl, (refl, (refl, (refl, (refl, (refl, tt)))))))))
 
-encode_some : (c : ℕ) → 0 < length (encode c)
+pub encode_some : (c : ℕ) → 0 < length (encode c)
 encode_some c = omega (arith, length-encode c, (len_utf8_bounds c).0)
 
 -- a text without that byte has no confusing character

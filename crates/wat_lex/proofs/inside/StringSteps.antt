@@ -1,6 +1,6 @@
 -- Steps of the readers of strings.
-use Rattle.std.proofs.Common.{◌≡◌, ◌≢◌, ◌≤◌, ◌<◌, ◌+◌, ◌*◌, ℕ, List, [], ◌∷◌, ◌++◌, length, refl, arith, ap, sym, ◌∙◌, subst, Bool, true, false, not, ◌&&◌, ◌||◌, length-append, append_assoc}
-use Rattle.std.specs.Prelude.{Some, None, Result, Ok, Err, IfOk, IfErr, IsTrue, encode_utf8, ◌==◌}
+use Rattle.std.proofs.Common.{◌≡◌, ◌≢◌, ◌≤◌, ◌+◌, ◌*◌, ℕ, List, [], ◌∷◌, ◌++◌, length, refl, arith, ap, sym, ◌∙◌, subst, Bool, true, false, not, ◌&&◌, ◌||◌, length-append, append_assoc}
+use Rattle.std.specs.Prelude.{Some, None, Result, Ok, Err, IfOk, IfErr, IsTrue, ◌==◌}
 use Rattle.std.proofs.lemmas.Bool.{both_ways, ne_eqb}
 use Rattle.std.proofs.lemmas.List.{nil_from_length}
 use Rattle.std.proofs.lemmas.Str.{chars_past_char, chars-nil, encodes-chars, IsUtf8-past_char}
@@ -8,12 +8,12 @@ use Rattle.std.specs.Str.{chars, IsUtf8}
 use Rattle.std.specs.Char.{digit_value}
 use lib.Utf8.{encode}
 use Rattle.wat_lex.specs.grammar.Classes.{size, is_hex, is_confusing}
-use Rattle.wat_lex.specs.grammar.Strings.{Element, raw, letter, byte, unicode, Quoted, ends, more, letter_value, is_raw, is_control}
-use Rattle.wat_lex.specs.tokens.StringFaults.{StringFault, later, no_quote, control, confusing, no_escape, bad_escape, no_second, bad_second, no_open, bad_open, no_digit, bad_digit}
-use Rattle.wat_lex.specs.inside.ScannedStrings.{Escaped, Breaks, Closed, Wrong}
+use Rattle.wat_lex.specs.grammar.Strings.{Element, letter, byte, letter_value, is_raw, is_control}
+use Rattle.wat_lex.specs.tokens.StringFaults.{StringFault, no_escape, bad_escape, no_second, bad_second, no_open, bad_open, no_digit, bad_digit}
+use Rattle.wat_lex.specs.inside.ScannedStrings.{Escaped, Breaks}
 use Rattle.wat_lex.specs.declared.lexer.scan.strings.Broken.{Broken}
 use Rattle.wat_lex.specs.declared.lexer.faults.LexError.{LexError}
-use Rattle.wat_lex.specs.declared.lexer.faults.LexError.TheVariants.{InvalidStringElement, InvalidStringEscape, InvalidHexDigit, Expected, UnexpectedEof, ConfusingUnicode}
+use Rattle.wat_lex.specs.declared.lexer.faults.LexError.TheVariants.{InvalidStringEscape, InvalidHexDigit, Expected, UnexpectedEof}
 use Rattle.wat_lex.specs.declared.lexer.settings.Settings.{Settings}
 
 -- a character was taken
@@ -94,33 +94,6 @@ open_missing flags old l = breaks_end flags (92 ∷ 117 ∷ []) old UnexpectedEo
 pub open_wrong : (flags : Settings) (old new : List ℕ) (c left : ℕ) → Took old c new → left ≡ length old → c ≢ 123 → Breaks flags (92 ∷ 117 ∷ []) old (record { left = left; error = Expected 123 c })
 open_wrong flags old new c left t l n = breaks_here flags (92 ∷ 117 ∷ []) old new c left (Expected 123 c) t l (bad_open n)
 
--- what ends the rest of a string ends the string
-pub record Continues (flags : Settings) (start rest : List ℕ) : Type 0 where
-  pub quoted : (v r : List ℕ) → Quoted flags (chars rest) v r → (u : List ℕ) × Quoted flags (chars start) u r
-  pub fault : (e : LexError) (at : List ℕ) → StringFault flags (chars rest) e at → StringFault flags (chars start) e at
-  pub utf8 : IsUtf8 rest
-  pub shorter : length rest ≤ length start
-  pub suffix : (prefix : List ℕ) × (chars start ≡ prefix ++ chars rest)
-
-pub begin : (flags : Settings) (start : List ℕ) → IsUtf8 start → Continues flags start start
-begin flags start u = record { quoted = λ v r h. (v, h); fault = λ e at h. h; utf8 = u; shorter = omega arith; suffix = ([], refl) }
-
--- one element more
-pub continue_over : (flags : Settings) (start rest next u : List ℕ) → Continues flags start rest → Element flags (chars rest) u (chars next) → IsUtf8 next → length next ≤ length rest → (prefix : List ℕ) → chars rest ≡ prefix ++ chars next → Continues flags start next
-continue_over flags start rest next u h e k l prefix f = record {
-  quoted = λ v r q. h.quoted (u ++ v) r (more e q);
-  fault = λ d at q. h.fault d at (later e q);
-  utf8 = k;
-  shorter = let a = h.shorter in omega arith;
-  suffix = (h.suffix.0 ++ prefix, h.suffix.1 ∙ ap (λ x. h.suffix.0 ++ x) f ∙ sym (append_assoc h.suffix.0 prefix (chars next)));
-}
-
-element_suffix : (flags : Settings) (s u t : List ℕ) → Element flags s u t → (prefix : List ℕ) × (s ≡ prefix ++ t)
-element_suffix flags s u t (raw {c = c} h) = (c ∷ [], refl)
-element_suffix flags s u t (letter {c = c} h) = (92 ∷ c ∷ [], refl)
-element_suffix flags s u t (byte {c = c} {d = d} a b) = (92 ∷ c ∷ d ∷ [], refl)
-element_suffix flags s u t (unicode {d = d} {r = r} ds e a b h) = (92 ∷ 117 ∷ 123 ∷ d ∷ (ds ++ 125 ∷ []), ap (λ x. 92 ∷ 117 ∷ 123 ∷ d ∷ x) (e ∙ sym (append_assoc ds (125 ∷ []) r)))
-
 allowed : (allow : Bool) (c : ℕ) → (allow ≡ false → is_confusing c ≡ false) → (allow || not (is_confusing c)) ≡ true
 allowed true c f = refl
 allowed false c f = ap not (f refl)
@@ -131,36 +104,6 @@ raw_char flags c a b e f =
     ∙ ap (λ x. (true && not x && not (c == 92)) && (flags.allow || not (is_confusing c))) (ne_eqb c 34 a)
     ∙ ap (λ x. (true && true && not x) && (flags.allow || not (is_confusing c))) (ne_eqb c 92 b)
     ∙ allowed flags.allow c f
-
-pub continue_raw : (flags : Settings) (start rest next : List ℕ) (c : ℕ) → Continues flags start rest → Took rest c next → c ≢ 34 → c ≢ 92 → is_control c ≡ false → (flags.allow ≡ false → is_confusing c ≡ false) → Continues flags start next
-continue_raw flags start rest next c h t a b e f =
-    continue_over flags start rest next (encode_utf8 c) h (subst (λ x. Element flags x (encode_utf8 c) (chars next)) (sym t.spelled) (raw (raw_char flags c a b e f))) t.utf8 t.shorter (c ∷ []) t.spelled
-
-pub continue_escape : (flags : Settings) (start rest mid next value : List ℕ) → Continues flags start rest → Took rest 92 mid → Escaped flags (92 ∷ []) mid next value → Continues flags start next
-continue_escape flags start rest mid next value h t e =
-    let k : Element flags (chars rest) value (chars next) = subst (λ x. Element flags x value (chars next)) (sym t.spelled) e.element in
-    let w = element_suffix flags (chars rest) value (chars next) k in
-    continue_over flags start rest next value h k e.utf8 (let a = e.shorter in let b = t.shorter in omega arith) w.0 w.1
-
-pub string_closed : (flags : Settings) (start rest next : List ℕ) → Continues flags start rest → Took rest 34 next → length next < length rest → Closed flags start next
-string_closed flags start rest next h t l =
-    let g = h.quoted [] (chars next) (subst (λ x. Quoted flags x [] (chars next)) (sym t.spelled) ends) in
-    record { value = g.0; quoted = g.1; utf8 = t.utf8; shorter = let a = h.shorter in omega arith }
-
-pub string_unclosed : (flags : Settings) (start rest : List ℕ) → Continues flags start rest → length rest ≡ 0 → Wrong flags start (record { left = 0; error = UnexpectedEof })
-string_unclosed flags start rest h l = record { at = []; fault = h.fault UnexpectedEof [] (subst (λ x. StringFault flags x UnexpectedEof []) (sym (at_end rest l)) no_quote); place = refl }
-
-wrong_here : (flags : Settings) (start rest next : List ℕ) (c left : ℕ) (e : LexError) → Continues flags start rest → Took rest c next → left ≡ length rest → StringFault flags (c ∷ chars next) e (c ∷ chars next) → Wrong flags start (record { left = left; error = e })
-wrong_here flags start rest next c left e h t l f = record { at = chars rest; fault = h.fault e (chars rest) (subst (λ x. StringFault flags x e x) (sym t.spelled) f); place = l ∙ t.size_is }
-
-pub string_control : (flags : Settings) (start rest next : List ℕ) (c left : ℕ) → Continues flags start rest → Took rest c next → left ≡ length rest → is_control c ≡ true → Wrong flags start (record { left = left; error = InvalidStringElement c })
-string_control flags start rest next c left h t l e = wrong_here flags start rest next c left (InvalidStringElement c) h t l (control e)
-
-pub string_confusing : (flags : Settings) (start rest next : List ℕ) (c left : ℕ) → Continues flags start rest → Took rest c next → left ≡ length rest → flags.allow ≡ false → is_confusing c ≡ true → Wrong flags start (record { left = left; error = ConfusingUnicode c })
-string_confusing flags start rest next c left h t l a e = wrong_here flags start rest next c left (ConfusingUnicode c) h t l (confusing a e)
-
-pub string_escape : (flags : Settings) (start rest mid : List ℕ) (broken : Broken) → Continues flags start rest → Took rest 92 mid → Breaks flags (92 ∷ []) mid broken → Wrong flags start broken
-string_escape flags start rest mid broken h t b = record { at = b.at; fault = h.fault broken.error b.at (subst (λ x. StringFault flags x broken.error b.at) (sym t.spelled) b.fault); place = b.place }
 
 pub digits_missing : (flags : Settings) (old : List ℕ) → length old ≡ 0 → Breaks flags (92 ∷ 117 ∷ 123 ∷ []) old (record { left = 0; error = UnexpectedEof })
 digits_missing flags old l = breaks_end flags (92 ∷ 117 ∷ 123 ∷ []) old UnexpectedEof l no_digit

@@ -1,9 +1,9 @@
--- What the readers of strings inside the lexer do to an iterator's rest, by bytes. No part of the standard.
-use Rattle.std.specs.Prelude.{◌≡◌, ◌≤◌, ◌<◌, ◌+◌, ◌==◌, ℕ, Bool, true, false, if◌then◌else◌, List, [], ◌∷◌, ◌++◌, length, drop, Result, Ok, Err, encode_utf8}
+-- What the readers of strings inside the lexer do to a text, or to an iterator's rest, by bytes. No part of the standard.
+use Rattle.std.specs.Prelude.{◌≡◌, ◌≤◌, ◌<◌, ◌+◌, ◌==◌, ◌&&◌, ℕ, Bool, not, true, false, if◌then◌else◌, List, [], ◌∷◌, ◌++◌, length, drop, slice_index, Result, Ok, Err, encode_utf8}
 use Rattle.std.specs.Str.{chars, IsUtf8}
 use lib.Utf8.{scalar}
-use Rattle.wat_lex.specs.grammar.Classes.{size, close_brace}
-use Rattle.wat_lex.specs.grammar.Strings.{Element, Quoted}
+use Rattle.wat_lex.specs.grammar.Classes.{size, quote, backslash, close_brace, is_hex}
+use Rattle.wat_lex.specs.grammar.Strings.{Element, Quoted, is_control}
 use Rattle.wat_lex.specs.tokens.StringFaults.{StringFault}
 use Rattle.wat_lex.specs.declared.lexer.settings.Settings.{Settings}
 use Rattle.wat_lex.specs.declared.lexer.scan.strings.Broken.{Broken}
@@ -11,6 +11,11 @@ use Rattle.wat_lex.specs.declared.lexer.scan.strings.EscapeValue.{EscapeValue}
 use Rattle.wat_lex.specs.declared.lexer.scan.strings.EscapeValue.TheVariants.{Byte, Scalar}
 use Rattle.wat_lex.specs.declared.lexer.faults.LexError.TheVariants.{LoneUnderscore, InvalidUnicodeValue, Expected}
 use Rattle.wat_lex.specs.declared.lexer.faults.LexFault.{LexFault}
+
+-- A byte that ends no string, begins no escape and no confusing character, and is no control character. It is a character
+-- that stands for itself, or a part of one.
+abbrev pub is_plain : ℕ → Bool
+is_plain b = (not (is_control b) && not (b == quote)) && (not (b == backslash) && not (b == 0xE2))
 
 -- what an escape stands for: a byte, or a character's bytes
 abbrev pub escape_bytes : EscapeValue → List ℕ
@@ -29,18 +34,12 @@ pub record Breaks (flags : Settings) (prefix old : List ℕ) (broken : Broken) :
   pub fault : StringFault flags (prefix ++ chars old) broken.error at
   pub place : broken.left ≡ size at
 
--- the rest after a string
-pub record Closed (flags : Settings) (old new : List ℕ) : Type 0 where
-  pub value : List ℕ
-  pub quoted : Quoted flags (chars old) value (chars new)
-  pub utf8 : IsUtf8 new
-  pub shorter : length new < length old
-
--- the rest of a string goes wrong where so many bytes are left
-pub record Wrong (flags : Settings) (old : List ℕ) (broken : Broken) : Type 0 where
-  pub at : List ℕ
-  pub fault : StringFault flags (chars old) broken.error at
-  pub place : broken.left ≡ size at
+-- a text that begins with an escape of two hexadecimal digits
+pub record BeginsByteEscape (text : List ℕ) : Type 0 where
+  pub long : 3 ≤ length text
+  pub mark : slice_index text 0 ≡ backslash
+  pub first : is_hex (slice_index text 1) ≡ true
+  pub second : is_hex (slice_index text 2) ≡ true
 
 -- a number that ends in an underscore is refused, else one that is no scalar value; any other is a character
 abbrev pub IsRowValue : ℕ → Bool → ℕ → Result ℕ Broken → Type 0
@@ -51,6 +50,14 @@ IsRowValue n false last (Err broken) = (scalar n ≡ false) × (broken ≡ recor
 -- the character before a brace, else the fault of any other character
 abbrev pub Ends : ℕ → ℕ → ℕ → Result EscapeValue Broken → Type 0
 Ends c left value result = result ≡ (if c == close_brace then Ok (Scalar value) else Err (record { left = left; error = Expected close_brace c }))
+
+-- so many bytes are an element of a string
+pub record ElementTaken (flags : Settings) (text : List ℕ) (n : ℕ) : Type 0 where
+  pub value : List ℕ
+  pub element : Element flags (chars text) value (chars (drop n text))
+  pub utf8 : IsUtf8 (drop n text)
+  pub some : 0 < n
+  pub range : n ≤ length text
 
 -- so many bytes are the elements of a string and its closing quote
 pub record StringTaken (flags : Settings) (text : List ℕ) (n : ℕ) : Type 0 where

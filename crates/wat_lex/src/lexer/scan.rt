@@ -19,6 +19,7 @@ mod blocks;
 pub(super) mod classes;
 mod comments;
 pub(super) mod numbers;
+mod plain;
 mod runs;
 mod starts;
 pub(super) mod strings;

@@ -1,16 +1,20 @@
 //! Strings.
-ghost use Rattle.std.specs.Prelude.{◌≡◌, ◌≤◌, ◌<◌, ◌+◌, ◌*◌, ◌^◌, ◌∷◌, [], true, IfErr, OnOk, IfOk};
+ghost use Rattle.std.specs.Prelude.{◌≡◌, ◌≢◌, ◌≤◌, ◌<◌, ◌+◌, ◌*◌, ◌^◌, ◌∷◌, [], true, slice_index};
+ghost use Rattle.std.specs.Prelude.{IfErr, IfOk};
+ghost use Rattle.std.specs.Bool.{MatchBool};
 ghost use Rattle.std.specs.Str.{IsUtf8};
 ghost use Rattle.std.specs.Str.Iter.{chars_rest};
 ghost use Rattle.std.specs.Char.{digit_value};
 ghost use Rattle.wat_lex.specs.declared.lexer.faults.LexError.TheVariants.{NumberTooBig};
 ghost use Rattle.wat_lex.specs.grammar.Classes.{is_hex};
 ghost use Rattle.wat_lex.specs.grammar.Strings.{letter_value, is_control};
-ghost use Rattle.wat_lex.specs.inside.ScannedStrings.{Escaped, escape_bytes, Breaks, Closed, Wrong};
-ghost use Rattle.wat_lex.specs.inside.ScannedStrings.{IsRowValue, Ends, StringTaken, StringRefused};
+ghost use Rattle.wat_lex.specs.inside.ScannedStrings.{Escaped, escape_bytes, Breaks, IsRowValue};
+ghost use Rattle.wat_lex.specs.inside.ScannedStrings.{Ends, BeginsByteEscape, ElementTaken};
+ghost use Rattle.wat_lex.specs.inside.ScannedStrings.{StringTaken, StringRefused};
 
 use crate::lexer::faults::{LexError, LexFault};
-use crate::lexer::scan::classes::{is_confusing, is_hex};
+use crate::lexer::scan::classes::{is_confusing, is_hex, is_hex_digit};
+use crate::lexer::scan::plain::{is_plain, plain_len};
 use crate::lexer::settings::Settings;
 use std::str::Chars;
 
@@ -226,28 +230,44 @@ pub fn escape(it: &mut Chars<'_>, flags: Settings) -> Result<EscapeValue, Broken
     braced(it, flags)
 }
 
-/// What follows the opening quote of a string.
-fn string(it: &mut Chars<'_>, flags: Settings) -> Result<(), Broken>
-    requires utf8 { IsUtf8 (chars_rest it.old) }
-    ensures ok { OnOk result (Closed flags (chars_rest it.old) (chars_rest it.new)) }
-    ensures err { IfErr result (Wrong flags (chars_rest it.old)) }
+/// Whether an escape of two hexadecimal digits stands at the start.
+fn is_byte_escape(text: &[u8]) -> bool
+    ensures { MatchBool result (BeginsByteEscape text.now) (BeginsByteEscape text.now → ⊥) }
 {
-    'elements: loop {
-        let left = it.as_str().len();
-        let Some(c) = it.next() else {
-            return refuse(0, LexError::UnexpectedEof);
-        };
-        if c == '"' {
-            return Ok(());
-        }
-        if c == '\\' {
-            escape(it, flags)?;
-        } else if is_control(c) {
-            return refuse(left, LexError::InvalidStringElement(c));
-        } else if !flags.allow && is_confusing(c) {
-            return refuse(left, LexError::ConfusingUnicode(c));
-        }
+    match text {
+        // `&`, since a branch between digits that may be any is often guessed wrong
+        [b'\\', first, second, ..] => is_hex_digit(*first) & is_hex_digit(*second),
+        _ => false,
     }
+}
+
+/// A fault so many bytes from the start of what is read.
+fn fault_at(offset: usize, error: LexError) -> Result<usize, LexFault>
+    ensures { result ≡ Err (record { offset = offset; error = error }) }
+{
+    Err(LexFault { offset, error })
+}
+
+/// How many bytes the element of a string takes that stands at the start.
+fn element_len(text: &str, flags: Settings) -> Result<usize, LexFault>
+    requires open { slice_index text.now 0 ≢ 34 }
+    ensures ok { IfOk result (ElementTaken flags text.now) }
+    ensures err { IfErr result (StringRefused flags text.now) }
+{
+    let mut it = text.chars();
+    let Some(c) = it.next() else {
+        return fault_at(0, LexError::UnexpectedEof);
+    };
+    if c == '\\' {
+        if let Err(broken) = escape(&mut it, flags) {
+            return fault_at(text.len() - broken.left, broken.error);
+        }
+    } else if is_control(c) {
+        return fault_at(0, LexError::InvalidStringElement(c));
+    } else if !flags.allow && is_confusing(c) {
+        return fault_at(0, LexError::ConfusingUnicode(c));
+    }
+    Ok(text.len() - it.as_str().len())
 }
 
 /// How many bytes the elements of a string and its closing quote take, behind its opening quote.
@@ -255,12 +275,17 @@ pub fn string_len(text: &str, flags: Settings) -> Result<usize, LexFault>
     ensures ok { IfOk result (StringTaken flags text.now) }
     ensures err { IfErr result (StringRefused flags text.now) }
 {
-    let mut it = text.chars();
-    match string(&mut it, flags) {
-        Ok(()) => Ok(text.len() - it.as_str().len()),
-        Err(fault) => Err(LexFault {
-            offset: text.len() - fault.left,
-            error: fault.error,
-        }),
+    let bytes = text.as_bytes();
+    let mut at = 0;
+    'elements: loop {
+        match &bytes[at..] {
+            [b'"', ..] => return Ok(at + 1),
+            [first, ..] if is_plain(*first) => at += plain_len(&bytes[at..]),
+            rest if is_byte_escape(rest) => at += 3,
+            _ => match element_len(&text[at..], flags) {
+                Ok(len) => at += len,
+                Err(fault) => return fault_at(at + fault.offset, fault.error),
+            },
+        }
     }
 }

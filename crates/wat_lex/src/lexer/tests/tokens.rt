@@ -177,6 +177,26 @@ fn strings(rt: HostRuntime) -> Result<(), Fail> {
         ("$\"\\u{61__62}\"", "Id 0..13, "),
         ("\"\\'", "unexpected end-of-file at 3, "),
         ("\"\\", "unexpected end-of-file at 2, "),
+        (
+            "\" !#$%&'()*+,-./0123456789:;<=>?@AZ[]^_`az{|}~\" ;; 16 bytes",
+            "String 0..47, LineComment 48..59, ",
+        ),
+        (
+            "\"aä漢–😀\u{7ff}\u{800}\u{ffff}\u{10ffff}€aä漢–😀ÿ\\ff\\u{20ac}aä漢–😀ÿ\"                ",
+            "String 0..71, ",
+        ),
+        (
+            "\"a string of plain bytes\u{7f} and more of them\"",
+            "invalid character in string '\\u{7f}' at 24, ",
+        ),
+        (
+            "\"a string of plain bytes, and more\u{1f} of them behind\"",
+            "invalid character in string '\\u{1f}' at 34, ",
+        ),
+        (
+            "\"a string of plain bytes that nothing ends",
+            "unexpected end-of-file at 42, ",
+        ),
     ];
     compare(&rt, rt.alloc(), rows.as_slice(), DENIED)
 }
@@ -189,6 +209,10 @@ fn confusing_characters(rt: HostRuntime) -> Result<(), Fail> {
         ("\"\u{202e}\"", "'\\u{202e}' at 1, "),
         (";;€\u{202e}", "'\\u{202e}' at 5, "),
         ("(;–\u{2066};)", "'\\u{2066}' at 5, "),
+        (
+            "\"a string of plain bytes–\u{206c} and more of them\"",
+            "'\\u{206c}' at 27, ",
+        ),
     ];
     for (text, want) in denied.iter() {
         let got = items(&rt, rt.alloc(), text, DENIED)?;

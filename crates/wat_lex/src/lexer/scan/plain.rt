@@ -1,0 +1,53 @@
+//! Bytes of strings that stand for themselves.
+ghost use Rattle.std.specs.Prelude.{◌≡◌};
+ghost use Rattle.std.specs.List.{prefix_len};
+ghost use Rattle.wat_lex.specs.inside.Blocks.{failures};
+ghost use Rattle.wat_lex.specs.inside.ScannedStrings.{is_plain};
+
+use crate::lexer::scan::blocks::block_at;
+use std::simd::prelude::*;
+
+/// Whether a byte in a string stands for itself, or for a part of a character that does. 0xE2, with
+/// which each confusing character begins, is not plain.
+pub fn is_plain(b: u8) -> bool
+    ensures { result ≡ is_plain b }
+{
+    b >= 0x20 && !matches!(b, b'"' | b'\\' | 0x7f | 0xe2)
+}
+
+/// A bit for each byte that is not plain, the lowest for the first.
+#[inline(always)]
+fn other_than_plain(block: u8x16) -> u64
+    ensures { result ≡ failures is_plain block }
+{
+    (block.simd_lt(u8x16::splat(0x20))
+        | block.simd_eq(u8x16::splat(b'"'))
+        | block.simd_eq(u8x16::splat(b'\\'))
+        | block.simd_eq(u8x16::splat(0x7f))
+        | block.simd_eq(u8x16::splat(0xe2))).to_bitmask()
+}
+
+fn plain_len_by_byte(text: &[u8]) -> usize
+    ensures { result ≡ prefix_len is_plain text.now }
+{
+    let mut i = 0;
+    while i < text.len() && is_plain(text[i]) {
+        i += 1;
+    }
+    i
+}
+
+/// How many plain bytes stand at the start.
+pub fn plain_len(text: &[u8]) -> usize
+    ensures { result ≡ prefix_len is_plain text.now }
+{
+    let mut i = 0;
+    while text.len() - i >= 16 {
+        let others = other_than_plain(block_at(text, i));
+        if others != 0 {
+            return i + others.trailing_zeros() as usize;
+        }
+        i += 16;
+    }
+    i + plain_len_by_byte(&text[i..])
+}
