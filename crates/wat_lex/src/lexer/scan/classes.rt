@@ -124,9 +124,7 @@ fn idchar_len_by_byte(text: &[u8]) -> usize
     i
 }
 
-/// How many idchars stand at the start.
-#[inline]
-pub fn idchar_len(text: &[u8]) -> usize
+fn idchar_len_by_block(text: &[u8]) -> usize
     ensures { result ≡ prefix_len is_idchar text.now }
 {
     let mut i = 0;
@@ -138,4 +136,15 @@ pub fn idchar_len(text: &[u8]) -> usize
         i += 16;
     }
     i + idchar_len_by_byte(&text[i..])
+}
+
+/// How many idchars stand at the start. Around a string it is mostly none.
+#[inline]
+pub fn idchar_len(text: &[u8]) -> usize
+    ensures { result ≡ prefix_len is_idchar text.now }
+{
+    match text {
+        [first, ..] if !is_idchar(*first) => 0,
+        _ => idchar_len_by_block(text),
+    }
 }

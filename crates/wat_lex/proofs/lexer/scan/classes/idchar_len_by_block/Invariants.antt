@@ -1,7 +1,7 @@
 use Rattle.std.proofs.Common.{◌≡◌, ◌≤◌, ◌+◌, ◌-◌, length, drop}
 use Rattle.std.specs.List.{prefix_len}
 use Rattle.wat_lex.specs.grammar.Classes.{is_idchar}
-use Rattle.wat_lex.proofs.lexer.scan.classes.idchar_len.Given as goal
+use Rattle.wat_lex.proofs.lexer.scan.classes.idchar_len_by_block.Given as goal
 
 abbrev pub invariant-loop-i : goal.invariant-loop-i
 invariant-loop-i l = record {
