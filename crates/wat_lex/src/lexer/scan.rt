@@ -9,7 +9,7 @@ ghost use Rattle.wat_lex.specs.declared.lexer.settings.Settings.{Settings};
 
 use crate::lexer::faults::{LexError, LexFault};
 use crate::lexer::kinds::{Outline, Shape, TokenKind};
-use crate::lexer::scan::classes::{idchar_len, is_run_char, whitespace_len};
+use crate::lexer::scan::classes::{idchar_len, idchar_len_by_block, is_run_char, whitespace_len};
 use crate::lexer::scan::comments::{block_comment, block_outline, line_comment, line_outline};
 use crate::lexer::scan::runs::{run, run_outline, word_kind};
 use crate::lexer::scan::starts::{Start, start_of};
@@ -73,7 +73,7 @@ fn idchars(text: &str, shape: Shape, flags: Settings) -> Outline
     ensures { Outlined flags text.now result }
 {
     let bytes = text.as_bytes();
-    let len = idchar_len(bytes);
+    let len = idchar_len_by_block(bytes);
     if byte_at(bytes, len) == b'"' {
         return run_outline(text, len, flags);
     }

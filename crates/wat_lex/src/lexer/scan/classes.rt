@@ -124,7 +124,9 @@ fn idchar_len_by_byte(text: &[u8]) -> usize
     i
 }
 
-fn idchar_len_by_block(text: &[u8]) -> usize
+/// How many idchars stand at the start. Mostly there are some.
+#[inline]
+pub fn idchar_len_by_block(text: &[u8]) -> usize
     ensures { result ≡ prefix_len is_idchar text.now }
 {
     let mut i = 0;
