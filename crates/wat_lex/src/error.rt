@@ -1,8 +1,8 @@
 //! Errors.
-ghost use Rattle.std.specs.Prelude.{◌≡◌, ◌↔◌, ◌⊎◌, Some, None, IsTrue, IsNone, IsOk, IfOk, OnOk};
+ghost use Rattle.std.specs.Prelude.{◌≡◌, ◌↔◌, Some, None, IsTrue, IsNone, IsOk, IfOk, OnOk};
 ghost use Rattle.std.specs.Prelude.{OnErr, IfSome, string_bytes};
 ghost use Rattle.std.specs.Option.{option_copied};
-ghost use Rattle.wat_lex.specs.errors.ErrorView.{report_of};
+ghost use Rattle.wat_lex.specs.errors.ErrorView.{cause_of};
 ghost use Rattle.wat_lex.specs.errors.Errors.{IsUnlessMemory, report_in, lexical, Custom, HasText};
 ghost use Rattle.wat_lex.specs.errors.Errors.{with_text, lex_error_of, offset_of, message_of};
 ghost use Rattle.wat_lex.specs.errors.Errors.{printed};
@@ -12,8 +12,8 @@ ghost use Rattle.wat_lex.specs.errors.Rendering.{rendered};
 use crate::lexer::LexError;
 use crate::token::Span;
 use std::alloc::{AllocError, AllocFailed, Global};
-use std::fmt;
 use std::marker::Model;
+use std::{fmt, mem};
 
 #[cfg(test)]
 mod tests;
@@ -27,14 +27,30 @@ use text::Text;
 /// column.
 #[derive(Debug, Drop)]
 pub struct Error {
-    text: Option<Text>,
-    span: Span,
     kind: Kind,
 }
 
+// Room for an error is cleared for each token that is handed on, so what a fault keeps is behind
+// one box. A message without a text is not: `Error::new` can't be refused.
 #[derive(Debug, Drop)]
 enum Kind {
     Memory,
+    /// A message without a text.
+    Plain { span: Span, message: String },
+    /// A lexical error or a message, with its text.
+    InText(Box<Located>),
+}
+
+/// What went wrong at a place of a text.
+#[derive(Debug, Drop)]
+struct Located {
+    span: Span,
+    reason: Reason,
+    text: Text,
+}
+
+#[derive(Debug, Drop)]
+enum Reason {
     Lex(LexError),
     Message(String),
 }
@@ -61,9 +77,7 @@ impl Error {
         }) }
     {
         Error {
-            text: None,
-            span,
-            kind: Kind::Message(message),
+            kind: Kind::Plain { span, message },
         }
     }
 
@@ -74,7 +88,7 @@ impl Error {
         ensures rendered { IfSome result (λ r.
             printed (Some r) ≡ rendered content.now (message error) span) }
     {
-        Error::in_text(alloc, span, content, Kind::Lex(error))
+        Error::in_text(alloc, span, content, Reason::Lex(error))
     }
 
     /// An error of one's own at a position of the text `content`, or an out-of-memory error.
@@ -84,20 +98,17 @@ impl Error {
         ensures rendered { IfSome result (λ r.
             printed (Some r) ≡ rendered content.now (string_bytes message) span) }
     {
-        Error::in_text(alloc, span, content, Kind::Message(message))
+        Error::in_text(alloc, span, content, Reason::Message(message))
     }
 
-    /// The error of a kind with its text, or an out-of-memory error.
-    fn in_text(alloc: Global, span: Span, content: &str, kind: Kind) -> Error
-        ensures { (result ≡ None) ⊎ (result ≡ with_text content.now (report_of span None kind)) }
+    /// The error of a reason with its text, or an out-of-memory error.
+    fn in_text(alloc: Global, span: Span, content: &str, reason: Reason) -> Error
+        ensures { IsUnlessMemory result (report_in content.now span (cause_of reason)) }
     {
-        let mut error = Error {
-            text: None,
-            span,
-            kind,
-        };
-        match error.set_text(alloc, content) {
-            Ok(()) => error,
+        match Located::new(alloc, span, content, reason) {
+            Ok(located) => Error {
+                kind: Kind::InText(located),
+            },
             Err(_) => Error::out_of_memory(),
         }
     }
@@ -109,10 +120,14 @@ impl Error {
         ensures kept { OnErr result (self.new ≡ self.old) }
         ensures free { HasText self.old → IsOk result }
     {
-        if self.text.is_some() || self.is_out_of_memory() {
+        let Kind::Plain { span, message } = &mut self.kind else {
             return Ok(());
-        }
-        self.text = Some(Text::new(alloc, contents, self.span)?);
+        };
+        let empty = Reason::Message(String::new(alloc));
+        let mut located = Located::new(alloc, *span, contents, empty)?;
+        // Nothing more can be refused, so the message may leave its place.
+        located.reason = Reason::Message(mem::replace(message, String::new(alloc)));
+        self.kind = Kind::InText(located);
         Ok(())
     }
 
@@ -120,11 +135,7 @@ impl Error {
     pub fn out_of_memory() -> Error
         ensures { result ≡ None }
     {
-        Error {
-            text: None,
-            span: Span { offset: 0 },
-            kind: Kind::Memory,
-        }
+        Error { kind: Kind::Memory }
     }
 
     /// Whether a request for memory was refused.
@@ -140,7 +151,8 @@ impl Error {
     {
         match &self.kind {
             Kind::Memory => Span { offset: 0 },
-            _ => self.span,
+            Kind::Plain { span, .. } => *span,
+            Kind::InText(located) => located.span,
         }
     }
 
@@ -148,9 +160,12 @@ impl Error {
     pub fn lex_error(&self) -> Option<&LexError>
         ensures { option_copied result ≡ lex_error_of self.now }
     {
-        match &self.kind {
-            Kind::Lex(error) => Some(error),
-            _ => None,
+        let Kind::InText(located) = &self.kind else {
+            return None;
+        };
+        match &located.reason {
+            Reason::Lex(error) => Some(error),
+            Reason::Message(_) => None,
         }
     }
 
@@ -160,9 +175,26 @@ impl Error {
     {
         match &self.kind {
             Kind::Memory => String::from_str(alloc, "out of memory"),
-            Kind::Lex(error) => format!(in alloc; "{error}"),
-            Kind::Message(message) => message.clone(),
+            Kind::Plain { message, .. } => message.clone(),
+            Kind::InText(located) => format!(in alloc; "{}", located.reason),
         }
+    }
+}
+
+impl Located {
+    ghost use Rattle.wat_lex.specs.errors.ErrorView.{report_of};
+
+    fn new(
+        alloc: Global,
+        span: Span,
+        content: &str,
+        reason: Reason,
+    ) -> Result<Box<Located>, AllocError>
+        ensures { IfOk result (λ located.
+            report_of located.value ≡ report_in content.now span (cause_of reason)) }
+    {
+        let text = Text::new(alloc, content, span)?;
+        Ok(Box::new(alloc, Located { span, reason, text })?)
     }
 }
 
@@ -190,13 +222,24 @@ impl fmt::Display for Error {
 
     fn fmt<W: fmt::Write>(&self, f: &mut fmt::Formatter<W>) -> fmt::Result {
         match &self.kind {
-            Kind::Memory => return write!(f, "out of memory"),
-            Kind::Lex(error) => write!(f, "{error}")?,
-            Kind::Message(message) => write!(f, "{message}")?,
+            Kind::Memory => write!(f, "out of memory"),
+            Kind::Plain { span, message } => write!(f, "{message} at byte offset {}", span.offset),
+            Kind::InText(located) => write!(f, "{}{}", located.reason, located.text),
         }
-        match &self.text {
-            Some(text) => write!(f, "{text}"),
-            None => write!(f, " at byte offset {}", self.span.offset),
+    }
+}
+
+impl fmt::Display for Reason {
+    ghost use Rattle.std.specs.Prelude.{Some};
+    ghost use Rattle.wat_lex.specs.errors.Errors.{cause_text};
+    ghost use Rattle.wat_lex.specs.errors.ErrorView.{cause_of};
+
+    ghost output = { λ r. Some (cause_text (cause_of r)) };
+
+    fn fmt<W: fmt::Write>(&self, f: &mut fmt::Formatter<W>) -> fmt::Result {
+        match self {
+            Reason::Lex(error) => write!(f, "{error}"),
+            Reason::Message(message) => write!(f, "{message}"),
         }
     }
 }

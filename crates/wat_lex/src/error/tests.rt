@@ -314,8 +314,8 @@ fn a_text_is_set_once(rt: HostRuntime) -> Result<(), Fail> {
     answers(&rt, rt.alloc(), &error, "out of memory", "out of memory")
 }
 
-// The out-of-memory branch is taken where the run refuses the first request, as `--fail-alloc 1`
-// does.
+// The out-of-memory branch is taken where the run refuses the first or the second request, as
+// `--fail-alloc 1` and `2` do.
 #[test]
 fn an_error_that_finds_no_memory_says_so(rt: HostRuntime) -> Result<(), Fail> {
     let error = Error::lex(
@@ -334,7 +334,7 @@ fn an_error_that_finds_no_memory_says_so(rt: HostRuntime) -> Result<(), Fail> {
     answers(&rt, rt.alloc(), &error, message, printed)
 }
 
-// The out-of-memory branch is taken where the run refuses the second request.
+// The out-of-memory branch is taken where the run refuses the second or the third request.
 #[test]
 fn a_refused_text_leaves_the_error(rt: HostRuntime) -> Result<(), Fail> {
     let message = String::from_str(rt.alloc(), "m")?;
