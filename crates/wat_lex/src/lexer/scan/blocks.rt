@@ -2,7 +2,7 @@
 ghost use Rattle.std.specs.Prelude.{◌≡◌, ◌≤◌, ◌+◌, length};
 ghost use Rattle.std.specs.Simd.Lanes.{chunk};
 ghost use Rattle.wat_lex.specs.grammar.Classes.{is_idchar, is_whitespace};
-ghost use Rattle.wat_lex.specs.inside.Blocks.{failures};
+ghost use Rattle.wat_lex.specs.inside.Blocks.{failures, other_than_semicolon};
 
 use std::simd::prelude::*;
 
@@ -41,4 +41,12 @@ pub fn other_than_whitespace(block: u8x16) -> u64
 {
     let wanted = u8x16::from_array(WHITESPACE_BY_LOW).swizzle_dyn(block & u8x16::splat(15));
     wanted.simd_ne(block).to_bitmask()
+}
+
+/// A bit for each `;`, the lowest for the first.
+#[inline(always)]
+pub fn semicolons(block: u8x16) -> u64
+    ensures { result ≡ failures other_than_semicolon block }
+{
+    block.simd_eq(u8x16::splat(b';')).to_bitmask()
 }

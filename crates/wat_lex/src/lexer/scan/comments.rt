@@ -9,11 +9,13 @@ ghost use Rattle.wat_lex.specs.tokens.Faults.{IsComment};
 ghost use Rattle.wat_lex.specs.inside.ScannedLexemes.{LexemeFound, Refused, FirstConfusing};
 ghost use Rattle.wat_lex.specs.declared.lexer.kinds.TokenKind.TheVariants.{LineComment};
 ghost use Rattle.wat_lex.specs.declared.lexer.kinds.TokenKind.TheVariants.{BlockComment};
+ghost use Rattle.wat_lex.specs.inside.Blocks.{other_than_semicolon};
 ghost use Rattle.wat_lex.specs.inside.Outlines.{Outlined};
 ghost use Rattle.wat_lex.specs.tokens.Setting.{allowing};
 
 use crate::lexer::faults::{LexError, LexFault};
 use crate::lexer::kinds::{Lexeme, Outline, Shape, TokenKind};
+use crate::lexer::scan::blocks::{block_at, semicolons};
 use crate::lexer::scan::classes::is_confusing;
 use crate::lexer::settings::Settings;
 use memchr::{memchr, memchr2};
@@ -47,6 +49,27 @@ fn first_confusing(text: &str) -> Option<(usize, char)>
     None
 }
 
+fn semicolon_by_search(text: &[u8]) -> usize
+    ensures { result ≡ prefix_len other_than_semicolon text.now }
+{
+    memchr(b';', text).unwrap_or(text.len())
+}
+
+/// How many bytes stand before the first `;`.
+fn semicolon_by_block(text: &[u8]) -> usize
+    ensures { result ≡ prefix_len other_than_semicolon text.now }
+{
+    let mut i = 0;
+    while text.len() - i >= 16 {
+        let found = semicolons(block_at(text, i));
+        if found != 0 {
+            return i + found.trailing_zeros() as usize;
+        }
+        i += 16;
+    }
+    i + semicolon_by_search(&text[i..])
+}
+
 /// How many bytes the items of a block comment and its `;)` take, behind its `(;`.
 fn closing_len(text: &[u8]) -> Option<usize>
     ensures range { IfSome result (λ n. n ≤ length text.now) }
@@ -66,7 +89,11 @@ fn closing_len(text: &[u8]) -> Option<usize>
                 return Some(i);
             }
         } else {
-            i += 1;
+            let next = i + 1;
+            i = next + semicolon_by_block(&text[next..]);
+            if i > next && text[i - 1] == b'(' {
+                i -= 1;
+            }
         }
     }
     None
