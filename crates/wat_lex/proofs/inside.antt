@@ -5,6 +5,7 @@ pub mod Confusing
 pub mod StringSteps
 pub mod HexRows
 pub mod LineComments
+pub mod PlainLines
 pub mod RunSteps
 pub mod Starts
 pub mod Outlines
