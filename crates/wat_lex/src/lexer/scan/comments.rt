@@ -76,8 +76,8 @@ fn semicolon_by_search(text: &[u8]) -> usize
     memchr(b';', text).unwrap_or(text.len())
 }
 
-/// How many bytes stand before the first `;`. Its code stays out of the loop that calls it, which is
-/// faster so where comments are nested.
+/// How many bytes stand before the first `;`. Its code stays out of the loop that calls it, which
+/// is faster so where comments are nested.
 #[inline(never)]
 fn semicolon_by_block(text: &[u8]) -> usize
     ensures { result ≡ prefix_len other_than_semicolon text.now }
