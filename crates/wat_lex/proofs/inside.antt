@@ -6,6 +6,7 @@ pub mod StringSteps
 pub mod StringElements
 pub mod HexRows
 pub mod LineComments
+pub mod PlainLines
 pub mod RunSteps
 pub mod Starts
 pub mod Outlines

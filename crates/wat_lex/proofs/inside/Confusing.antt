@@ -60,7 +60,7 @@ clear_chars (c ∷ cs) h = (
   clear_chars cs (λ k l e. h (length (encode c) + k) (omega (arith, length-append (encode c) (encodes cs))) (get_or-append-add (encode c) (encodes cs) k 0 ∙ e)),
 )
 
-clear_text : (bs : List ℕ) → IsUtf8 bs → Leadless bs → NonePass is_confusing (chars bs)
+pub clear_text : (bs : List ℕ) → IsUtf8 bs → Leadless bs → NonePass is_confusing (chars bs)
 clear_text bs u h = clear_chars (chars bs) (subst Leadless (sym (encodes-chars bs u)) h)
 
 NonePass-append : (p : ℕ → Bool) (xs ys : List ℕ) → NonePass p xs → NonePass p ys → NonePass p (xs ++ ys)

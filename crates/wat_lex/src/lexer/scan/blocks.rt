@@ -2,7 +2,7 @@
 ghost use Rattle.std.specs.Prelude.{◌≡◌, ◌≤◌, ◌+◌, length};
 ghost use Rattle.std.specs.Simd.Lanes.{chunk};
 ghost use Rattle.wat_lex.specs.grammar.Classes.{is_idchar, is_whitespace};
-ghost use Rattle.wat_lex.specs.inside.Blocks.{failures};
+ghost use Rattle.wat_lex.specs.inside.Blocks.{failures, is_plain_in_line, other_than_semicolon};
 
 use std::simd::prelude::*;
 
@@ -14,6 +14,9 @@ const IDCHARS_BY_HIGH: [u8; 16] = [0, 0, 1, 2, 4, 8, 4, 16, 0, 0, 0, 0, 0, 0, 0,
 
 /// By a byte's low four bits: the one byte of whitespace that ends so, or a byte that does not.
 const WHITESPACE_BY_LOW: [u8; 16] = [32, 0, 0, 0, 0, 0, 0, 0, 0, 9, 10, 0, 0, 13, 0, 0];
+
+/// By a byte's low four bits: the one byte that is not plain and ends so, or a byte that does not.
+const NOT_PLAIN_BY_LOW: [u8; 16] = [1, 0, 226, 0, 0, 0, 0, 0, 0, 0, 10, 0, 0, 13, 0, 0];
 
 /// The 16 bytes at a place.
 #[inline(always)]
@@ -41,4 +44,22 @@ pub fn other_than_whitespace(block: u8x16) -> u64
 {
     let wanted = u8x16::from_array(WHITESPACE_BY_LOW).swizzle_dyn(block & u8x16::splat(15));
     wanted.simd_ne(block).to_bitmask()
+}
+
+/// A bit for each `;`, the lowest for the first.
+#[inline(always)]
+pub fn semicolons(block: u8x16) -> u64
+    ensures { result ≡ failures other_than_semicolon block }
+{
+    block.simd_eq(u8x16::splat(b';')).to_bitmask()
+}
+
+/// A bit for each byte that ends a line or may begin a confusing character, the lowest for the
+/// first.
+#[inline(always)]
+pub fn other_than_plain(block: u8x16) -> u64
+    ensures { result ≡ failures is_plain_in_line block }
+{
+    let stop = u8x16::from_array(NOT_PLAIN_BY_LOW).swizzle_dyn(block & u8x16::splat(15));
+    stop.simd_eq(block).to_bitmask()
 }

@@ -9,14 +9,16 @@ ghost use Rattle.wat_lex.specs.tokens.Faults.{IsComment};
 ghost use Rattle.wat_lex.specs.inside.ScannedLexemes.{LexemeFound, Refused, FirstConfusing};
 ghost use Rattle.wat_lex.specs.declared.lexer.kinds.TokenKind.TheVariants.{LineComment};
 ghost use Rattle.wat_lex.specs.declared.lexer.kinds.TokenKind.TheVariants.{BlockComment};
+ghost use Rattle.wat_lex.specs.inside.Blocks.{is_plain_in_line, other_than_semicolon};
 ghost use Rattle.wat_lex.specs.inside.Outlines.{Outlined};
 ghost use Rattle.wat_lex.specs.tokens.Setting.{allowing};
 
 use crate::lexer::faults::{LexError, LexFault};
 use crate::lexer::kinds::{Lexeme, Outline, Shape, TokenKind};
+use crate::lexer::scan::blocks::{block_at, other_than_plain, semicolons};
 use crate::lexer::scan::classes::is_confusing;
 use crate::lexer::settings::Settings;
-use memchr::{memchr, memchr2};
+use memchr::{memchr, memchr2, memchr3};
 
 /// How many bytes stand before the end of the line.
 fn line_len(text: &[u8]) -> usize
@@ -47,6 +49,50 @@ fn first_confusing(text: &str) -> Option<(usize, char)>
     None
 }
 
+fn plain_by_search(text: &[u8]) -> usize
+    ensures { result ≡ prefix_len is_plain_in_line text.now }
+{
+    memchr3(b'\n', b'\r', 0xe2, text).unwrap_or(text.len())
+}
+
+/// How many bytes stand before a line's end, or a byte that may begin a confusing character.
+fn plain_by_block(text: &[u8]) -> usize
+    ensures { result ≡ prefix_len is_plain_in_line text.now }
+{
+    let mut i = 0;
+    while text.len() - i >= 16 {
+        let others = other_than_plain(block_at(text, i));
+        if others != 0 {
+            return i + others.trailing_zeros() as usize;
+        }
+        i += 16;
+    }
+    i + plain_by_search(&text[i..])
+}
+
+fn semicolon_by_search(text: &[u8]) -> usize
+    ensures { result ≡ prefix_len other_than_semicolon text.now }
+{
+    memchr(b';', text).unwrap_or(text.len())
+}
+
+/// How many bytes stand before the first `;`. Its code stays out of the loop that calls it, which
+/// is faster so where comments are nested.
+#[inline(never)]
+fn semicolon_by_block(text: &[u8]) -> usize
+    ensures { result ≡ prefix_len other_than_semicolon text.now }
+{
+    let mut i = 0;
+    while text.len() - i >= 16 {
+        let found = semicolons(block_at(text, i));
+        if found != 0 {
+            return i + found.trailing_zeros() as usize;
+        }
+        i += 16;
+    }
+    i + semicolon_by_search(&text[i..])
+}
+
 /// How many bytes the items of a block comment and its `;)` take, behind its `(;`.
 fn closing_len(text: &[u8]) -> Option<usize>
     ensures range { IfSome result (λ n. n ≤ length text.now) }
@@ -66,7 +112,11 @@ fn closing_len(text: &[u8]) -> Option<usize>
                 return Some(i);
             }
         } else {
-            i += 1;
+            let next = i + 1;
+            i = next + semicolon_by_block(&text[next..]);
+            if i > next && text[i - 1] == b'(' {
+                i -= 1;
+            }
         }
     }
     None
@@ -121,7 +171,12 @@ pub fn line_comment(text: &str, flags: Settings) -> Result<usize, LexFault>
         LexemeFound flags text.now (record { kind = LineComment; len = len })) }
     ensures err { IfErr result (Refused flags text.now) }
 {
-    let len = line_len(&text.as_bytes()[2..]);
+    let line = &text.as_bytes()[2..];
+    let plain = plain_by_block(line);
+    if plain == line.len() || line[plain] != 0xe2 {
+        return Ok(plain + 2);
+    }
+    let len = line_len(line);
     let comment = Lexeme {
         kind: TokenKind::LineComment,
         len: len + 2,

@@ -1,0 +1,24 @@
+use Rattle.std.proofs.Common.{◌-◌, length, take, drop, ap, ◌∙◌, arith}
+use Rattle.std.proofs.lemmas.List.{length-take}
+use Rattle.std.proofs.lemmas.List.Sums.{prefix_len-le-length}
+use Rattle.wat_lex.specs.inside.Blocks.{failures, is_plain_in_line}
+use Rattle.wat_lex.proofs.inside.Blocks.{goes_on, ends_at}
+use Rattle.wat_lex.proofs.lexer.scan.comments.plain_by_block.Goals as goal
+
+pub returns-then-others-ne0 : goal.returns-then-others-ne0
+returns-then-others-ne0 c =
+    let others = c.other_than_plain-others.ensures ∙ ap (failures is_plain_in_line) c.block_at.ensures in
+    omega (arith, ends_at is_plain_in_line c.args.text.now c.loop-i.i 16 _ others (omega arith) (omega arith) c.if-others-ne0.true)
+
+pub loop-i-preserved : goal.loop-i-preserved
+loop-i-preserved c =
+    let others = c.other_than_plain-others.ensures ∙ ap (failures is_plain_in_line) c.block_at.ensures in
+    record {
+      range = omega arith;
+      so_far = omega (arith, goes_on is_plain_in_line c.args.text.now c.loop-i.i 16 _ others (omega arith) c.if-others-ne0.false);
+    }
+
+pub overflow_add-result-2 : goal.overflow_add-result-2
+overflow_add-result-2 c =
+    let rest = take (length c.args.text.now - c.loop-i.i) (drop c.loop-i.i c.args.text.now) in
+    record { fits = omega (arith, c.plain_by_search.ensures, prefix_len-le-length is_plain_in_line rest, length-take (length c.args.text.now - c.loop-i.i) (drop c.loop-i.i c.args.text.now)) }
