@@ -1,7 +1,7 @@
 -- A line comment in which no byte begins a confusing character.
-use Rattle.std.proofs.Common.{◌≡◌, ◌≢◌, ◌<◌, ◌≤◌, ◌+◌, ◌-◌, ℕ, zero, suc, List, length, take, drop, get_or, refl, arith, ap, sym, ◌∙◌, subst, true, false, not, inl, get_or-drop}
+use Rattle.std.proofs.Common.{◌≡◌, ◌≢◌, ◌<◌, ◌+◌, ℕ, zero, suc, List, length, take, drop, get_or, refl, arith, ap, sym, ◌∙◌, subst, true, false, not, inl, get_or-drop}
 use Rattle.std.specs.List.{prefix_len}
-use Rattle.std.specs.Str.{chars, IsUtf8}
+use Rattle.std.specs.Str.{IsUtf8}
 use Rattle.std.proofs.lemmas.Bool.{both_ways}
 use Rattle.std.proofs.lemmas.Bool.Decides.{nat_tests}
 use Rattle.std.proofs.lemmas.List.{get_or-take, length-take}

@@ -70,6 +70,25 @@ fn plain_by_block(text: &[u8]) -> usize
     i + plain_by_search(&text[i..])
 }
 
+/// The same, two blocks a turn.
+fn plain_by_two_blocks(text: &[u8]) -> usize
+    ensures { result ≡ prefix_len is_plain_in_line text.now }
+{
+    let mut i = 0;
+    while text.len() - i >= 32 {
+        let first = other_than_plain(block_at(text, i));
+        if first != 0 {
+            return i + first.trailing_zeros() as usize;
+        }
+        let second = other_than_plain(block_at(text, i + 16));
+        if second != 0 {
+            return i + 16 + second.trailing_zeros() as usize;
+        }
+        i += 32;
+    }
+    i + plain_by_block(&text[i..])
+}
+
 fn semicolon_by_search(text: &[u8]) -> usize
     ensures { result ≡ prefix_len other_than_semicolon text.now }
 {
@@ -172,7 +191,7 @@ pub fn line_comment(text: &str, flags: Settings) -> Result<usize, LexFault>
     ensures err { IfErr result (Refused flags text.now) }
 {
     let line = &text.as_bytes()[2..];
-    let plain = plain_by_block(line);
+    let plain = plain_by_two_blocks(line);
     if plain == line.len() || line[plain] != 0xe2 {
         return Ok(plain + 2);
     }

@@ -125,6 +125,7 @@ fn kind_by_first(word: &[u8]) -> TokenKind
 }
 
 /// The kind of a word of idchars.
+#[inline(always)]
 pub fn word_kind(word: &[u8]) -> TokenKind
     ensures { WordKind word.now result }
 {
