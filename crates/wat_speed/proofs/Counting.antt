@@ -38,9 +38,6 @@ tiled_more : (s : Setting) (from to : ℕ) (ts : List Token) (t : Token) → Til
 tiled_more s from to [] t h k = (subst (λ p. TokenAt s p t) (sym h) k, refl)
 tiled_more s from to (u ∷ ts) t h k = (h.0, tiled_more s (u.offset + u.len) to ts t h.1 k)
 
-pub counted_start : (s : Setting) → Counted s (record { tokens = 0; kinds = 0; bytes = 0 })
-counted_start s = record { raw = []; tiling = refl; tokens = refl; kinds = refl; low = omega arith }
-
 abbrev pub with_token : Count → Token → Count
 with_token c t = record { tokens = c.tokens + 1; kinds = c.kinds + place t.kind; bytes = t.offset + t.len }
 

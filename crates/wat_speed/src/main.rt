@@ -1,4 +1,4 @@
-//! Measures the lexer over the text of standard input, by each of its calls that give tokens. As
+//! Measures the lexer over the text of standard input, by `scan`, `parse` and `iter`. As
 //! the three stand in one program, none is inlined in its loop; alone it may be, and faster.
 #![tactic(auto)]
 

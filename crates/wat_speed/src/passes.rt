@@ -1,5 +1,5 @@
 //! Passes over a text, each by another call of the lexer.
-ghost use Rattle.std.specs.Prelude.{◌≡◌, ◌+◌, ◌<◌, ◌≤◌, ◌^◌, length};
+ghost use Rattle.std.specs.Prelude.{◌≡◌, ◌+◌, ◌<◌, ◌^◌, length};
 ghost use Rattle.wat_speed.specs.Counts.{place, Counts};
 
 use std::alloc::Global;

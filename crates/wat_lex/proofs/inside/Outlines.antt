@@ -31,9 +31,6 @@ use Rattle.wat_lex.proofs.inside.RunSteps.{joined_start, joined_end}
 use Rattle.wat_lex.proofs.tokens.OneFault.{CommentStart, block, line, comment_start, run_begins, no_word_at_fault, fault_some}
 use Rattle.wat_lex.proofs.tokens.Scans.{found_fits}
 
-pub outlined_end : (flags : Settings) (text : List ℕ) → text ≡ [] → Outlined flags text (record { shape = shape.End; len = 0 })
-outlined_end flags text e = record { fits = omega arith; word = λ k h. absurd h; end = λ _. e; fault = λ f. cc }
-
 pub outlined_fault : (flags : Settings) (text : List ℕ) (f : LexFault) → Refused flags text f → Outlined flags text (record { shape = shape.Fault; len = 0 })
 outlined_fault flags text f h = record { fits = omega arith; word = λ k g. absurd g; end = λ e. cc; fault = λ _. (f, h) }
 

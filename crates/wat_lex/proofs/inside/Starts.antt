@@ -46,6 +46,3 @@ pub name_start : (c : ℕ) → is_idchar c ≡ true → (c < 48) ⊎ (57 < c) �
 name_start c h d l i p m a =
     let none = begins c (λ x y. omega (arith, d)) p m (λ e. omega (arith, l)) (λ e. omega (arith, l)) in
     record { idchar = h; stands = (λ e. cc, λ e. cc); kind = by_first c Reserved none (ap (λ t. if t then Keyword else named_kind (c ∷ [])) (not_lower c (λ x y. omega (arith, l))) ∙ ap (λ t. if t then Id else if c == 64 then Annotation else Reserved) (ne_eqb c 36 i) ∙ ap (λ t. if t then Annotation else Reserved) (ne_eqb c 64 a)) }
-
-pub number_start : (c : ℕ) → is_idchar c ≡ true → BeginsWord c shape.Word
-number_start c h = record { idchar = h; stands = (λ e. cc, λ e. cc); kind = λ rest k w. w }

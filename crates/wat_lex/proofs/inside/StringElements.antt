@@ -16,7 +16,6 @@ use Rattle.wat_lex.specs.tokens.StringFaults.{StringFault, later, no_quote, cont
 use Rattle.wat_lex.specs.inside.ScannedStrings.{Escaped, Breaks, BeginsByteEscape, ElementTaken, StringTaken, StringRefused, is_plain}
 use Rattle.wat_lex.specs.declared.lexer.scan.strings.Broken.{Broken}
 use Rattle.wat_lex.specs.declared.lexer.faults.LexError.{LexError}
-use Rattle.wat_lex.specs.declared.lexer.faults.LexFault.{LexFault}
 use Rattle.wat_lex.specs.declared.lexer.faults.LexError.TheVariants.{InvalidStringElement, UnexpectedEof, ConfusingUnicode}
 use Rattle.wat_lex.specs.declared.lexer.settings.Settings.{Settings}
 use Rattle.wat_lex.proofs.grammar.AsciiPrefixes.{led}
@@ -124,13 +123,6 @@ closed flags text at h l e =
     let past : drop 1 (drop at text) ≡ drop (at + 1) text = drop-drop 1 at text in
     let q = h.quoted [] (chars (drop 1 (drop at text))) (subst (λ x. Quoted flags x [] (chars (drop 1 (drop at text)))) (sym t.chars) ends) in
     record { value = q.0; quoted = subst (λ x. Quoted flags (chars text) q.0 (chars x)) past q.1; utf8 = subst IsUtf8 past t.utf8; range = omega arith }
-
-pub refused_at : (flags : Settings) (text : List ℕ) (at : ℕ) (f : LexFault) → Continues flags text at → StringRefused flags (drop at text) f → StringRefused flags text (record { offset = at + f.offset; error = f.error })
-refused_at flags text at f h r = record {
-  at = r.at;
-  fault = h.fault f.error r.at r.fault;
-  place = let a = h.range in let p = r.place in omega (arith, a, p, length-drop at text);
-}
 
 -- ---- plain bytes
 

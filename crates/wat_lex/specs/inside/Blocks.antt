@@ -7,10 +7,10 @@ use Rattle.wat_lex.specs.grammar.Classes.{semicolon, line_feed, carriage_return}
 abbrev pub failures : (ℕ → Bool) → List ℕ → ℕ
 failures p block = mask_l (map (λ b. not (p b)) block)
 
--- a byte that neither opens nor closes a block comment by itself
+-- any byte but `;`, of which each `(;` and `;)` has one
 abbrev pub other_than_semicolon : ℕ → Bool
 other_than_semicolon b = not (b == semicolon)
 
--- a byte of a line that begins no confusing character
+-- a byte that ends no line and can begin no confusing character
 abbrev pub is_plain_in_line : ℕ → Bool
 is_plain_in_line b = not (b == line_feed || b == carriage_return || b == 0xE2)

@@ -31,7 +31,7 @@ HasKind shape.Word bytes k = WordKind bytes k
 HasKind shape.End bytes k = ⊥
 HasKind shape.Fault bytes k = ⊥
 
--- the text begins with no word
+-- there is a fault at the start of the text
 abbrev pub IsRefused : Settings → List ℕ → Type 0
 IsRefused flags text = (f : LexFault) × Refused flags text f
 

@@ -1,5 +1,5 @@
 -- What the parts of the lexer answer for the text from a place on, by bytes. No part of the standard.
-use Rattle.std.specs.Prelude.{◌≡◌, ◌+◌, ℕ, List, [], ◌∷◌, ◌++◌, length, IsTrue, Option, MatchOption, Result, MatchResult}
+use Rattle.std.specs.Prelude.{◌≡◌, ◌+◌, ℕ, List, ◌∷◌, ◌++◌, length, IsTrue}
 use Rattle.std.specs.Str.{chars, NonePass}
 use Rattle.wat_lex.specs.grammar.Classes.{size, is_confusing}
 use Rattle.wat_lex.specs.tokens.Faults.{Fault}
@@ -20,10 +20,6 @@ pub record Refused (flags : Settings) (text : List ℕ) (f : LexFault) : Type 0 
   pub at : List ℕ
   pub fault : Fault flags (chars text) f.error at
   pub place : f.offset + size at ≡ length text
-
--- what stands at the start of the text
-abbrev pub Answers : Settings → List ℕ → Result (Option Lexeme) LexFault → Type 0
-Answers flags text r = MatchResult r (λ found. MatchOption found (text ≡ []) (LexemeFound flags text)) (Refused flags text)
 
 -- the first confusing character of the text and its place
 pub record FirstConfusing (text : List ℕ) (i c : ℕ) : Type 0 where

@@ -12,8 +12,8 @@ use Rattle.wat_lex.specs.declared.lexer.scan.strings.EscapeValue.TheVariants.{By
 use Rattle.wat_lex.specs.declared.lexer.faults.LexError.TheVariants.{LoneUnderscore, InvalidUnicodeValue, Expected}
 use Rattle.wat_lex.specs.declared.lexer.faults.LexFault.{LexFault}
 
--- A byte that ends no string, begins no escape and no confusing character, and is no control character. It is a character
--- that stands for itself, or a part of one.
+-- A byte that ends no string, begins no escape, can begin no confusing character, and is no control character. Such bytes
+-- from a character's start up to another byte are characters that stand for themselves.
 abbrev pub is_plain : ℕ → Bool
 is_plain b = (not (is_control b) && not (b == quote)) && (not (b == backslash) && not (b == 0xE2))
 

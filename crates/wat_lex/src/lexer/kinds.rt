@@ -88,7 +88,8 @@ pub enum SignToken {
     Minus,
 }
 
-/// What stands at the start of a text: a token's kind and its length in bytes.
+/// What stands at the start of a text: a token's kind, of which only contracts speak, and its
+/// length in bytes.
 #[derive(Clone, Copy)]
 pub struct Lexeme {
     pub kind: TokenKind,

@@ -101,7 +101,7 @@ pub fn first_outline(text: &str, flags: Settings) -> Outline
     }
 }
 
-/// The kind of a token of this shape that is no word.
+/// The kind of a token whose shape alone tells it.
 #[inline(always)]
 fn plain_kind(shape: Shape) -> TokenKind
     requires no_word { shape ≢ Word }

@@ -15,8 +15,9 @@ const IDCHARS_BY_HIGH: [u8; 16] = [0, 0, 1, 2, 4, 8, 4, 16, 0, 0, 0, 0, 0, 0, 0,
 /// By a byte's low four bits: the one byte of whitespace that ends so, or a byte that does not.
 const WHITESPACE_BY_LOW: [u8; 16] = [32, 0, 0, 0, 0, 0, 0, 0, 0, 9, 10, 0, 0, 13, 0, 0];
 
-/// By a byte's low four bits: the one byte that is not plain and ends so, or a byte that does not.
-const NOT_PLAIN_BY_LOW: [u8; 16] = [1, 0, 226, 0, 0, 0, 0, 0, 0, 0, 10, 0, 0, 13, 0, 0];
+/// By a byte's low four bits: the one byte that is not plain in a line and ends so, or a byte that
+/// does not.
+const NOT_PLAIN_IN_LINE_BY_LOW: [u8; 16] = [1, 0, 226, 0, 0, 0, 0, 0, 0, 0, 10, 0, 0, 13, 0, 0];
 
 /// The 16 bytes at a place.
 #[inline(always)]
@@ -57,9 +58,9 @@ pub fn semicolons(block: u8x16) -> u64
 /// A bit for each byte that ends a line or may begin a confusing character, the lowest for the
 /// first.
 #[inline(always)]
-pub fn other_than_plain(block: u8x16) -> u64
+pub fn other_than_plain_in_line(block: u8x16) -> u64
     ensures { result ≡ failures is_plain_in_line block }
 {
-    let stop = u8x16::from_array(NOT_PLAIN_BY_LOW).swizzle_dyn(block & u8x16::splat(15));
+    let stop = u8x16::from_array(NOT_PLAIN_IN_LINE_BY_LOW).swizzle_dyn(block & u8x16::splat(15));
     stop.simd_eq(block).to_bitmask()
 }

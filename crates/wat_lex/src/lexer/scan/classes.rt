@@ -1,7 +1,7 @@
 //! Classes of bytes and characters.
 ghost use Rattle.std.specs.Prelude.{◌≡◌};
 ghost use Rattle.std.specs.List.{prefix_len};
-ghost use Rattle.wat_lex.specs.grammar.Classes.{is_whitespace, is_idchar, is_hex, is_punctuation};
+ghost use Rattle.wat_lex.specs.grammar.Classes.{is_whitespace, is_idchar, is_hex};
 ghost use Rattle.wat_lex.specs.grammar.Classes.{is_run_char, is_confusing};
 
 use crate::lexer::scan::blocks::{block_at, other_than_idchars, other_than_whitespace};
@@ -48,12 +48,6 @@ pub fn is_hex_digit(b: u8) -> bool
     ensures { result ≡ is_hex b }
 {
     CLASSES[b as usize] & HEX_DIGIT != 0
-}
-
-pub fn is_punctuation(b: u8) -> bool
-    ensures { result ≡ is_punctuation b }
-{
-    matches!(b, b',' | b'[' | b']' | b'{' | b'}')
 }
 
 pub fn is_hex(c: char) -> bool
@@ -103,7 +97,8 @@ fn whitespace_len_by_block(text: &[u8]) -> usize
     i + whitespace_len_by_byte(&text[i..])
 }
 
-/// How many bytes of whitespace stand at the start, behind a first one. Mostly there are none.
+/// How many bytes of whitespace stand at the start of what follows a first one. Mostly there are
+/// none.
 #[inline]
 pub fn whitespace_len(text: &[u8]) -> usize
     ensures { result ≡ prefix_len is_whitespace text.now }

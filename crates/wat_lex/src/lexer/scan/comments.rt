@@ -15,7 +15,7 @@ ghost use Rattle.wat_lex.specs.tokens.Setting.{allowing};
 
 use crate::lexer::faults::{LexError, LexFault};
 use crate::lexer::kinds::{Lexeme, Outline, Shape, TokenKind};
-use crate::lexer::scan::blocks::{block_at, other_than_plain, semicolons};
+use crate::lexer::scan::blocks::{block_at, other_than_plain_in_line, semicolons};
 use crate::lexer::scan::classes::is_confusing;
 use crate::lexer::settings::Settings;
 use memchr::{memchr, memchr2, memchr3};
@@ -61,7 +61,7 @@ fn plain_by_block(text: &[u8]) -> usize
 {
     let mut i = 0;
     while text.len() - i >= 16 {
-        let others = other_than_plain(block_at(text, i));
+        let others = other_than_plain_in_line(block_at(text, i));
         if others != 0 {
             return i + others.trailing_zeros() as usize;
         }
@@ -70,17 +70,18 @@ fn plain_by_block(text: &[u8]) -> usize
     i + plain_by_search(&text[i..])
 }
 
-/// The same, two blocks a turn.
+/// How many bytes stand before a line's end, or a byte that may begin a confusing character, by
+/// two blocks a turn.
 fn plain_by_two_blocks(text: &[u8]) -> usize
     ensures { result ≡ prefix_len is_plain_in_line text.now }
 {
     let mut i = 0;
     while text.len() - i >= 32 {
-        let first = other_than_plain(block_at(text, i));
+        let first = other_than_plain_in_line(block_at(text, i));
         if first != 0 {
             return i + first.trailing_zeros() as usize;
         }
-        let second = other_than_plain(block_at(text, i + 16));
+        let second = other_than_plain_in_line(block_at(text, i + 16));
         if second != 0 {
             return i + 16 + second.trailing_zeros() as usize;
         }
@@ -96,7 +97,7 @@ fn semicolon_by_search(text: &[u8]) -> usize
 }
 
 /// How many bytes stand before the first `;`. Its code stays out of the loop that calls it, which
-/// is faster so where comments are nested.
+/// makes nested comments faster.
 #[inline(never)]
 fn semicolon_by_block(text: &[u8]) -> usize
     ensures { result ≡ prefix_len other_than_semicolon text.now }

@@ -176,7 +176,7 @@ fn decimal_len(text: &[u8]) -> usize
     i
 }
 
-/// The kind of a word of decimal digits alone, with a sign or none; by far the most numbers are so.
+/// The kind of a word of decimal digits alone, with a sign or none; most numbers by far are so.
 pub fn plain_integer(word: &[u8]) -> Option<TokenKind>
     ensures { IfSome result (λ kind. Number word.now kind) }
 {

@@ -7,8 +7,8 @@ ghost use Rattle.wat_lex.specs.inside.ScannedStrings.{is_plain};
 use crate::lexer::scan::blocks::block_at;
 use std::simd::prelude::*;
 
-/// Whether a byte in a string stands for itself, or for a part of a character that does. 0xE2, with
-/// which each confusing character begins, is not plain.
+/// Whether a byte ends no string, begins no escape, can begin no confusing character, whose first
+/// byte is 0xE2, and is no control character.
 pub fn is_plain(b: u8) -> bool
     ensures { result ≡ is_plain b }
 {

@@ -7,12 +7,12 @@ use Rattle.wat_lex.proofs.lexer.scan.comments.plain_by_block.Goals as goal
 
 pub returns-then-others-ne0 : goal.returns-then-others-ne0
 returns-then-others-ne0 c =
-    let others = c.other_than_plain-others.ensures ∙ ap (failures is_plain_in_line) c.block_at.ensures in
+    let others = c.other_than_plain_in_line-others.ensures ∙ ap (failures is_plain_in_line) c.block_at.ensures in
     omega (arith, ends_at is_plain_in_line c.args.text.now c.loop-i.i 16 _ others (omega arith) (omega arith) c.if-others-ne0.true)
 
 pub loop-i-preserved : goal.loop-i-preserved
 loop-i-preserved c =
-    let others = c.other_than_plain-others.ensures ∙ ap (failures is_plain_in_line) c.block_at.ensures in
+    let others = c.other_than_plain_in_line-others.ensures ∙ ap (failures is_plain_in_line) c.block_at.ensures in
     record {
       range = omega arith;
       so_far = omega (arith, goes_on is_plain_in_line c.args.text.now c.loop-i.i 16 _ others (omega arith) c.if-others-ne0.false);

@@ -8,20 +8,20 @@ use Rattle.wat_lex.proofs.lexer.scan.comments.plain_by_two_blocks.Goals as goal
 
 pub returns-then-first-ne0 : goal.returns-then-first-ne0
 returns-then-first-ne0 c =
-    let first = c.other_than_plain-first.ensures ∙ ap (failures is_plain_in_line) c.block_at.ensures in
+    let first = c.other_than_plain_in_line-first.ensures ∙ ap (failures is_plain_in_line) c.block_at.ensures in
     omega (arith, ends_at is_plain_in_line c.args.text.now c.loop-i.i 16 _ first (omega arith) (omega arith) c.if-first-ne0.true)
 
 pub returns-then-second-ne0 : goal.returns-then-second-ne0
 returns-then-second-ne0 c =
-    let first = c.other_than_plain-first.ensures ∙ ap (failures is_plain_in_line) c.block_at.ensures in
-    let second = c.other_than_plain-second.ensures ∙ ap (failures is_plain_in_line) c.block_at-in-loop-i.ensures in
+    let first = c.other_than_plain_in_line-first.ensures ∙ ap (failures is_plain_in_line) c.block_at.ensures in
+    let second = c.other_than_plain_in_line-second.ensures ∙ ap (failures is_plain_in_line) c.block_at-in-loop-i.ensures in
     omega (arith, goes_on is_plain_in_line c.args.text.now c.loop-i.i 16 _ first (omega arith) c.if-first-ne0.false, ends_at is_plain_in_line c.args.text.now (c.loop-i.i + 16) 16 _ second (omega arith) (omega arith) c.if-second-ne0.true)
 
 pub loop-i-preserved : goal.loop-i-preserved
 loop-i-preserved c =
     let i = c.loop-i.i in
-    let first = c.other_than_plain-first.ensures ∙ ap (failures is_plain_in_line) c.block_at.ensures in
-    let second = c.other_than_plain-second.ensures ∙ ap (failures is_plain_in_line) c.block_at-in-loop-i.ensures in
+    let first = c.other_than_plain_in_line-first.ensures ∙ ap (failures is_plain_in_line) c.block_at.ensures in
+    let second = c.other_than_plain_in_line-second.ensures ∙ ap (failures is_plain_in_line) c.block_at-in-loop-i.ensures in
     let same : i + 16 + 16 ≡ i + 32 = omega arith in
     record {
       range = omega arith;
