@@ -1,0 +1,5 @@
+mod groups
+mod names
+mod shown
+mod places
+mod inside

@@ -1,0 +1,2 @@
+-- Lemmas on groups in parentheses.
+pub mod Closing

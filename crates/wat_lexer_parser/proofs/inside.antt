@@ -1,0 +1,1 @@
+-- Lemmas on the table of a buffer.

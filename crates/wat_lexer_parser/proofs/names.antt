@@ -1,0 +1,2 @@
+-- Lemmas on maps of texts.
+pub mod MapsOfTexts

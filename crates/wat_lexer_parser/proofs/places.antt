@@ -1,0 +1,2 @@
+-- Lemmas on places.
+pub mod Tails

@@ -1,0 +1,101 @@
+-- What is shown at a place, a step at a time.
+use Rattle.std.proofs.Common.{◌≡◌, ℕ, zero, suc, ◌+◌, ◌-◌, ◌<◌, ◌≤◌, List, [], ◌∷◌, refl, sym, ap, ◌∙◌, inl, inr, subst, length, drop, get_or, arith, length-drop, Some, None, Ok, Err}
+use Rattle.std.specs.Prelude.{slice_get, Option}
+use Rattle.std.proofs.lemmas.List.{drop_more, drop_all, get_or_read}
+use Rattle.wat_lex.specs.declared.lexer.faults.LexFault.{LexFault}
+use Rattle.wat_lex.specs.declared.lexer.kinds.TokenKind.{TokenKind}
+use Rattle.wat_lex.specs.declared.lexer.kinds.TokenKind.TheVariants.{LineComment, BlockComment, Whitespace, LParen, RParen, String, Id, Keyword, Annotation, Reserved, Integer, Float}
+use Rattle.wat_lex.specs.declared.lexer.kinds.Token.{Token}
+use Rattle.wat_lexer_parser.specs.declared.parser.fault.Fault.{Fault}
+use Rattle.wat_lexer_parser.specs.declared.parser.fault.Step.{Step}
+use Rattle.wat_lexer_parser.specs.declared.parser.fault.Step.TheVariants.{Pass, Take, Finish, Refuse, Skip}
+use Rattle.wat_lexer_parser.proofs.groups.Closing.{Closed}
+use Rattle.wat_lexer_parser.specs.names.RegisteredNames.{Names}
+use Rattle.wat_lexer_parser.specs.shown.Shown.{Shown, ended, left_open}
+use Rattle.wat_lexer_parser.specs.shown.Showing.{Showing, Inside, shown_in, shown, placed, first, step_of, step_kind}
+use Rattle.wat_lexer_parser.specs.places.Source.{Source}
+use Rattle.wat_lexer_parser.proofs.shown.Skipping.{past_closed, closes_or_not}
+
+abbrev pub does : List ℕ → Option LexFault → Names → Token → List Token → Step → Shown
+does x z n t r Pass = shown_in x z n Showing r
+does x z n t r Take = Ok (Some (t, r))
+does x z n t r Finish = ended z
+does x z n t r (Refuse f) = Err f
+does x z n t r Skip = shown_in x z n (Inside t 0) r
+
+pub step_at : (x : List ℕ) (z : Option LexFault) (n : Names) (t : Token) (r : List Token) → shown_in x z n Showing (t ∷ r) ≡ does x z n t r (step_of x n t (first r))
+unfolding shown_in
+step_at x z n t r = refl
+
+first-drop : (i : ℕ) (ts : List Token) → first (drop i ts) ≡ slice_get ts i
+first-drop zero [] = refl
+first-drop zero (t ∷ ts) = refl
+first-drop (suc i) [] = refl
+first-drop (suc i) (t ∷ ts) = first-drop i ts
+
+-- the token at a place says what is shown there
+pub shown_at : (s : Source) (n : Names) (i : ℕ) (t : Token) → i < length s.tokens → t ≡ get_or s.tokens i t
+    → shown s i n ≡ placed s.tokens (does s.setting.text s.ending n t (drop (i + 1) s.tokens) (step_of s.setting.text n t (slice_get s.tokens (i + 1))))
+unfolding shown
+shown_at s n i t h e =
+    let f : drop i s.tokens ≡ t ∷ drop (i + 1) s.tokens = drop_more s.tokens i t h ∙ ap (λ x. x ∷ drop (i + 1) s.tokens) (sym e) in
+    ap (λ x. placed s.tokens (shown_in s.setting.text s.ending n Showing x)) f
+    ∙ ap (placed s.tokens) (step_at s.setting.text s.ending n t (drop (i + 1) s.tokens))
+    ∙ ap (λ u. placed s.tokens (does s.setting.text s.ending n t (drop (i + 1) s.tokens) (step_of s.setting.text n t u))) (first-drop (i + 1) s.tokens)
+
+pub shown_end : (s : Source) (n : Names) (i : ℕ) → length s.tokens ≤ i → shown s i n ≡ placed s.tokens (ended s.ending)
+unfolding shown shown_in
+shown_end s n i h = ap (λ x. placed s.tokens (shown_in s.setting.text s.ending n Showing x)) (drop_all i s.tokens h)
+
+pub shown_pass : (s : Source) (n : Names) (i : ℕ) (t : Token) → i < length s.tokens → t ≡ get_or s.tokens i t
+    → step_of s.setting.text n t (slice_get s.tokens (i + 1)) ≡ Pass → shown s i n ≡ shown s (i + 1) n
+unfolding shown
+shown_pass s n i t h e f = shown_at s n i t h e ∙ ap (λ k. placed s.tokens (does s.setting.text s.ending n t (drop (i + 1) s.tokens) k)) f
+
+pub shown_take : (s : Source) (n : Names) (i : ℕ) (t : Token) → i < length s.tokens → t ≡ get_or s.tokens i t
+    → step_of s.setting.text n t (slice_get s.tokens (i + 1)) ≡ Take → shown s i n ≡ Ok (Some (t, i + 1))
+shown_take s n i t h e f =
+    let k : length s.tokens - length (drop (i + 1) s.tokens) ≡ i + 1 = omega (arith, length-drop (i + 1) s.tokens) in
+    shown_at s n i t h e ∙ ap (λ k. placed s.tokens (does s.setting.text s.ending n t (drop (i + 1) s.tokens) k)) f ∙ ap (λ x. Ok (Some (t, x))) k
+
+pub shown_finish : (s : Source) (n : Names) (i : ℕ) (t : Token) → i < length s.tokens → t ≡ get_or s.tokens i t
+    → step_of s.setting.text n t (slice_get s.tokens (i + 1)) ≡ Finish → shown s i n ≡ placed s.tokens (ended s.ending)
+shown_finish s n i t h e f = shown_at s n i t h e ∙ ap (λ k. placed s.tokens (does s.setting.text s.ending n t (drop (i + 1) s.tokens) k)) f
+
+pub shown_refuse : (s : Source) (n : Names) (i : ℕ) (t : Token) (x : Fault) → i < length s.tokens → t ≡ get_or s.tokens i t
+    → step_of s.setting.text n t (slice_get s.tokens (i + 1)) ≡ Refuse x → shown s i n ≡ Err x
+shown_refuse s n i t x h e f = shown_at s n i t h e ∙ ap (λ k. placed s.tokens (does s.setting.text s.ending n t (drop (i + 1) s.tokens) k)) f
+
+pub shown_skip : (s : Source) (n : Names) (i j : ℕ) (t : Token) → i < length s.tokens → t ≡ get_or s.tokens i t
+    → step_of s.setting.text n t (slice_get s.tokens (i + 1)) ≡ Skip → Closed (drop (i + 1) s.tokens) (drop (j + 1) s.tokens) → shown s i n ≡ shown s (j + 1) n
+unfolding shown
+shown_skip s n i j t h e f g =
+    shown_at s n i t h e ∙ ap (λ k. placed s.tokens (does s.setting.text s.ending n t (drop (i + 1) s.tokens) k)) f
+    ∙ ap (placed s.tokens) (past_closed s.setting.text s.ending n t 0 (drop (i + 1) s.tokens) (drop (j + 1) s.tokens) g)
+
+pub shown_unclosed : (s : Source) (n : Names) (i : ℕ) (t : Token) → i < length s.tokens → t ≡ get_or s.tokens i t
+    → step_of s.setting.text n t (slice_get s.tokens (i + 1)) ≡ Skip → ((r : List Token) → Closed (drop (i + 1) s.tokens) r → ⊥) → shown s i n ≡ placed s.tokens (left_open s.ending t)
+shown_unclosed s n i t h e f g =
+    shown_at s n i t h e ∙ ap (λ k. placed s.tokens (does s.setting.text s.ending n t (drop (i + 1) s.tokens) k)) f
+    ∙ ap (placed s.tokens) (elim (closes_or_not s.setting.text s.ending n t 0 (drop (i + 1) s.tokens)) [
+      | inl k ↦ absurd (g k.1.0 k.1.1)
+      | inr k ↦ k.shows
+    ])
+
+-- only an opening parenthesis begins a group
+pub skip_opens : (s : Source) (n : Names) (t : Token) (u : Option Token) → step_of s.setting.text n t u ≡ Skip → t.kind ≡ LParen
+skip_opens s n t u e = opens t.kind refl
+  where
+    opens : (k : TokenKind) → t.kind ≡ k → t.kind ≡ LParen
+    opens LParen f = f
+    opens LineComment f = let g : step_kind s.setting.text n t LineComment u ≡ Skip = subst (λ x. step_kind s.setting.text n t x u ≡ Skip) f e in cc
+    opens BlockComment f = let g : step_kind s.setting.text n t BlockComment u ≡ Skip = subst (λ x. step_kind s.setting.text n t x u ≡ Skip) f e in cc
+    opens Whitespace f = let g : step_kind s.setting.text n t Whitespace u ≡ Skip = subst (λ x. step_kind s.setting.text n t x u ≡ Skip) f e in cc
+    opens RParen f = let g : step_kind s.setting.text n t RParen u ≡ Skip = subst (λ x. step_kind s.setting.text n t x u ≡ Skip) f e in cc
+    opens String f = let g : step_kind s.setting.text n t String u ≡ Skip = subst (λ x. step_kind s.setting.text n t x u ≡ Skip) f e in cc
+    opens Id f = let g : step_kind s.setting.text n t Id u ≡ Skip = subst (λ x. step_kind s.setting.text n t x u ≡ Skip) f e in cc
+    opens Keyword f = let g : step_kind s.setting.text n t Keyword u ≡ Skip = subst (λ x. step_kind s.setting.text n t x u ≡ Skip) f e in cc
+    opens Annotation f = let g : step_kind s.setting.text n t Annotation u ≡ Skip = subst (λ x. step_kind s.setting.text n t x u ≡ Skip) f e in cc
+    opens Reserved f = let g : step_kind s.setting.text n t Reserved u ≡ Skip = subst (λ x. step_kind s.setting.text n t x u ≡ Skip) f e in cc
+    opens (Integer y) f = let g : step_kind s.setting.text n t (Integer y) u ≡ Skip = subst (λ x. step_kind s.setting.text n t x u ≡ Skip) f e in cc
+    opens (Float y) f = let g : step_kind s.setting.text n t (Float y) u ≡ Skip = subst (λ x. step_kind s.setting.text n t x u ≡ Skip) f e in cc

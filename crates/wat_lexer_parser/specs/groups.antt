@@ -1,0 +1,3 @@
+-- Groups in parentheses, and the sorts of tokens that a parser tells apart.
+pub mod Sorts
+pub mod Groups

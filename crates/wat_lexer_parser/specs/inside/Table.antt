@@ -1,0 +1,79 @@
+-- What the table of a buffer holds beside the raw tokens: of each annotation that stands directly behind a parenthesis its name, and
+-- where its group is closed.
+use Rattle.std.specs.Prelude.{◌≡◌, ◌<◌, ◌≤◌, ◌^◌, ◌+◌, ◌*◌, ℕ, List, [], ◌∷◌, length, drop, Option, Some, None, Result, Err, MatchOption, slice_get, get_or}
+use Rattle.wat_lex.specs.tokens.ReadableTokens.{IsTokenOf, word_of}
+use Rattle.wat_lex.specs.tokens.Setting.{Setting}
+use Rattle.wat_lex.specs.values.WordValues.{name_value}
+use Rattle.wat_lex.specs.declared.lexer.faults.LexError.{LexError}
+use Rattle.wat_lex.specs.declared.lexer.faults.LexError.TheVariants.{EmptyAnnotation}
+use Rattle.wat_lex.specs.declared.lexer.kinds.TokenKind.TheVariants.{LParen, Annotation}
+use Rattle.wat_lex.specs.declared.lexer.kinds.Token.{Token}
+use Rattle.wat_lexer_parser.specs.groups.Groups.{Group, NoGroup}
+use Rattle.wat_lexer_parser.specs.places.Source.{Source, IsRead}
+
+-- the name of an annotation, or what is wrong with it
+abbrev pub NameOrFault : Type 0
+NameOrFault = Result (List ℕ) LexError
+
+-- at the place a parenthesis opens, and the annotation directly behind it has this name
+pub record HeadAt (text : List ℕ) (ts : List Token) (i : ℕ) (x : NameOrFault) : Type 0 where
+  pub paren : Token
+  pub word : Token
+  pub opens : slice_get ts i ≡ Some paren
+  pub next : slice_get ts (i + 1) ≡ Some word
+  pub is_open : paren.kind ≡ LParen
+  pub is_annotation : word.kind ≡ Annotation
+  pub name : x ≡ name_value EmptyAnnotation (word_of text word)
+
+-- the places grow
+abbrev pub Sorted : List ℕ → Type 0
+Sorted opens = (g h : ℕ) → g < h → h < length opens → get_or opens g 0 < get_or opens h 0
+
+-- the places of all such parentheses, with the names
+pub record Headed (text : List ℕ) (ts : List Token) (opens : List ℕ) (names : List NameOrFault) : Type 0 where
+  pub long : length names ≡ length opens
+  pub each : (g : ℕ) → g < length opens → HeadAt text ts (get_or opens g 0) (get_or names g (Err EmptyAnnotation))
+  pub all : (i : ℕ) (t u : Token) → slice_get ts i ≡ Some t → slice_get ts (i + 1) ≡ Some u → t.kind ≡ LParen → u.kind ≡ Annotation → (g : ℕ) × (g < length opens) × (get_or opens g 0 ≡ i)
+  pub sorted : Sorted opens
+
+-- how many tokens have one start
+abbrev pub block : ℕ
+block = 32
+
+-- for each block of places how many of these places lie before it
+pub record Started (opens starts : List ℕ) : Type 0 where
+  pub within : (b : ℕ) → b < length starts → get_or starts b 0 ≤ length opens
+  pub before : (b g : ℕ) → b < length starts → g < get_or starts b 0 → get_or opens g 0 < block * b
+  pub covers : (g : ℕ) → g < length opens → get_or opens g 0 < block * length starts
+
+-- the index of a place among these, or None where it is none of them
+abbrev pub Found : List ℕ → ℕ → Option ℕ → Type 0
+Found opens place found = MatchOption found
+    ((g : ℕ) → g < length opens → get_or opens g 0 ≡ place → ⊥)
+    (λ g. (g < length opens) × (get_or opens g 0 ≡ place))
+
+-- the parenthesis at a place is closed at the place that is given, or nowhere
+abbrev pub Pair : List Token → ℕ → Option ℕ → Type 0
+Pair ts i None = NoGroup (drop (i + 1) ts)
+Pair ts i (Some j) = (i < j) × (j < length ts) × Group (drop (i + 1) ts) (drop (j + 1) ts)
+
+-- where each of these parentheses is closed
+pub record Paired (ts : List Token) (opens : List ℕ) (closes : List (Option ℕ)) : Type 0 where
+  pub long : length closes ≡ length opens
+  pub pair : (g : ℕ) → g < length opens → Pair ts (get_or opens g 0) (get_or closes g None)
+
+-- each token may be handed to the readers
+abbrev pub Readable : List ℕ → List Token → Type 0
+Readable text [] = Unit {0}
+Readable text (t ∷ ts) = (IsTokenOf text t × (t.offset + t.len < 2 ^ 32)) × Readable text ts
+
+-- the tokens are those up to a place of the text, and the annotations among them are noted
+pub record Noted (text : List ℕ) (ts : List Token) (opens : List ℕ) (names : List NameOrFault) (starts : List ℕ) : Type 0 where
+  pub readable : Readable text ts
+  pub headed : Headed text ts opens names
+  pub started : Started opens starts
+
+pub record Table (s : Source) (opens : List ℕ) (names : List NameOrFault) (starts : List ℕ) (closes : List (Option ℕ)) : Type 0 where
+  pub read : IsRead s
+  pub noted : Noted s.setting.text s.tokens opens names starts
+  pub paired : Paired s.tokens opens closes

@@ -1,0 +1,2 @@
+-- The names of annotations that are registered.
+pub mod RegisteredNames

@@ -1,0 +1,4 @@
+-- A parser as its callers see it, and what its calls answer.
+pub mod State
+pub mod Takers
+pub mod Closures

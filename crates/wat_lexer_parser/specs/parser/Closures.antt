@@ -1,0 +1,38 @@
+-- What calls with closures answer, and what taking a parenthesis does. No part of the standard.
+use Rattle.std.specs.Prelude.{ℕ, Bool, ◌+◌, ◌≡◌, ◌⊎◌, codes, IfSome, Option, Some, None, Result, Ok, Err}
+use Rattle.wat_lex.specs.errors.Errors.{Report}
+use Rattle.wat_lexer_parser.specs.names.RegisteredNames.{Names}
+use Rattle.wat_lexer_parser.specs.parser.State.{State, expected, seen}
+use Rattle.wat_lexer_parser.specs.parser.Takers.{taken, as_open, as_close}
+use Rattle.wat_lexer_parser.specs.places.Source.{Source}
+
+-- the place behind what was taken, or the refusal where nothing was
+abbrev pub taken_or : Report → Result (Option (Unit {0} × ℕ)) Report → Result ℕ Report
+taken_or refusal (Ok None) = Err refusal
+taken_or refusal (Ok (Some (v, q))) = Ok q
+taken_or refusal (Err f) = Err f
+
+-- the place behind the `(` that is shown
+unfoldable pub opened : Source → ℕ → Names → Result ℕ Report
+opened s p names = taken_or (expected s p names (codes "expected `(`")) (taken as_open s.setting.text (seen s p names))
+
+-- the place behind the `)` that is shown
+unfoldable pub closed : Source → ℕ → Names → Result ℕ Report
+closed s p names = taken_or (expected s p names (codes "expected `)`")) (taken as_close s.setting.text (seen s p names))
+
+-- the state in which the closure of `parens` is called
+abbrev pub inside : State → ℕ → State
+inside a p = record { source = a.source; place = p; names = a.names; depth = a.depth + 1 }
+
+module _ {T : Type 0} where
+  -- R says what the closure answers, and the state that it leaves. Behind it `)` is taken.
+  abbrev pub ParensOk : (State → Result T (Option Report) → State → Type 0) → State → T → State → Type 0
+  ParensOk R a t b =
+      (p : ℕ) × (q : State) × (opened a.source a.place a.names ≡ Ok p) × R (inside a p) (Ok t) q × (closed a.source q.place q.names ≡ Ok b.place) × (b ≡ record a { place = b.place; names = q.names })
+
+  -- no `(` is shown, or the closure refuses, or no `)` is shown behind it; place and depth are what they were
+  abbrev pub ParensErr : (State → Result T (Option Report) → State → Type 0) → State → Option Report → State → Type 0
+  ParensErr R a e b =
+      ((b ≡ a) × IfSome e (λ f. opened a.source a.place a.names ≡ Err f))
+      ⊎ ((p : ℕ) × (q : State) × (opened a.source a.place a.names ≡ Ok p) × R (inside a p) (Err e) q × (b ≡ record a { names = q.names }))
+      ⊎ ((p : ℕ) × (q : State) × (t : T) × (opened a.source a.place a.names ≡ Ok p) × R (inside a p) (Ok t) q × (b ≡ record a { names = q.names }) × IfSome e (λ f. closed a.source q.place q.names ≡ Err f))

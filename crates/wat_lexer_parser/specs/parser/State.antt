@@ -1,0 +1,62 @@
+-- What a parser is to its callers, and what a call answers. No part of the standard.
+use Rattle.std.specs.Prelude.{ℕ, List, ◌≡◌, ⊤, codes, if◌then◌else◌, nat_lt, Option, Some, None, Result, Ok, Err}
+use Rattle.wat_lex.specs.errors.Errors.{Report, Custom, lexical, report_in}
+use Rattle.wat_lex.specs.declared.lexer.kinds.Token.{Token}
+use Rattle.wat_lexer_parser.specs.declared.parser.fault.Fault.{Fault}
+use Rattle.wat_lexer_parser.specs.declared.parser.fault.FaultKind.{FaultKind}
+use Rattle.wat_lexer_parser.specs.declared.parser.fault.FaultKind.TheVariants.{Lex, Unclosed}
+use Rattle.wat_lexer_parser.specs.names.RegisteredNames.{Names}
+use Rattle.wat_lexer_parser.specs.places.Places.{span_at, offset_at}
+use Rattle.wat_lexer_parser.specs.places.Source.{Source}
+use Rattle.wat_lexer_parser.specs.shown.Showing.{Look, shown}
+
+-- a parser, as its callers see it
+pub record State : Type 0 where
+  pub source : Source
+  pub place : ℕ
+  pub names : Names
+  pub depth : ℕ
+
+abbrev pub report_by : List ℕ → ℕ → FaultKind → Report
+report_by text offset (Lex e) = lexical text (record { offset = offset; error = e })
+report_by text offset Unclosed = record { offset = offset; cause = Custom (codes "unclosed annotation"); excerpt = None }
+
+-- the report of a fault that a look reaches; an annotation that is not closed is reported without its line
+unfoldable pub report_of : List ℕ → Fault → Report
+report_of text f = report_by text f.offset f.kind
+
+-- the report of a message at a byte of the text
+abbrev pub message_at : Source → ℕ → List ℕ → Report
+message_at s offset message = report_in s.setting.text offset (Custom message)
+
+-- the report of a message at the current span
+abbrev pub expected : Source → ℕ → Names → List ℕ → Report
+expected s p names message = message_at s (span_at s p names) message
+
+-- what is seen: a token with the place behind it, None at the end, or the report of a fault
+abbrev pub Seen : Type 0
+Seen = Result (Option (Token × ℕ)) Report
+
+abbrev pub told : List ℕ → Look → Seen
+told text (Ok found) = Ok found
+told text (Err f) = Err (report_of text f)
+
+unfoldable pub seen : Source → ℕ → Names → Seen
+seen s p names = told s.setting.text (shown s p names)
+
+-- the answer of a call is this one, told by f, unless memory was wanting
+abbrev pub Answers : {V T : Type 0} → (T → V) → Result V Report → Result T (Option Report) → Type 0
+Answers f m (Ok x) = m ≡ Ok (f x)
+Answers f m (Err None) = ⊤
+Answers f m (Err (Some e)) = m ≡ Err e
+
+-- groups may be this deep
+abbrev pub most_depth : ℕ
+most_depth = 100
+
+abbrev pub depth_checked : State → Result (Unit {0}) Report
+depth_checked s = if nat_lt most_depth s.depth then Err (expected s.source s.place s.names (codes "item nesting too deep")) else Ok tt
+
+-- the report of a name that is registered as often as can be, at the place and without its line
+abbrev pub too_often : State → Report
+too_often s = record { offset = offset_at s.source.tokens s.place; cause = Custom (codes "annotation registered too often"); excerpt = None }

@@ -1,0 +1,74 @@
+-- WebAssembly specification, text format, lexical format: tokens; values: strings, identifiers. What takers of one kind of token
+-- answer of what is seen. Integers and floats have their value by the relations of their words.
+use Rattle.std.specs.Prelude.{ℕ, Bool, false, List, is_some, Option, Some, None, Result, Ok, Err}
+use Rattle.wat_lex.specs.errors.Errors.{Report, lexical}
+use Rattle.wat_lex.specs.tokens.ReadableTokens.{token_text, word_of}
+use Rattle.wat_lex.specs.values.WordValues.{string_value, name_value}
+use Rattle.wat_lex.specs.declared.lexer.faults.LexError.{LexError}
+use Rattle.wat_lex.specs.declared.lexer.faults.LexError.TheVariants.{EmptyId, EmptyAnnotation}
+use Rattle.wat_lex.specs.declared.lexer.kinds.Token.{Token}
+use Rattle.wat_lex.specs.declared.lexer.kinds.TokenKind.{TokenKind}
+use Rattle.wat_lex.specs.declared.lexer.kinds.TokenKind.TheVariants.{LParen, RParen, String, Id, Keyword, Annotation, Reserved, Integer, Float}
+use Rattle.wat_lexer_parser.specs.parser.State.{Seen}
+
+-- how tokens of one kind are read: None for another kind, else a value or a refusal
+abbrev pub Reader : Type 0 → Type 0
+Reader V = List ℕ → Token → TokenKind → Option (Result V Report)
+
+abbrev pub taken_by : {V : Type 0} → ℕ → Option (Result V Report) → Result (Option (V × ℕ)) Report
+taken_by q None = Ok None
+taken_by q (Some (Ok v)) = Ok (Some (v, q))
+taken_by q (Some (Err f)) = Err f
+
+-- the value of the seen token with the place behind it; None where another kind or the end is seen
+abbrev pub taken : {V : Type 0} → Reader V → List ℕ → Seen → Result (Option (V × ℕ)) Report
+taken read text (Ok None) = Ok None
+taken read text (Ok (Some (t, q))) = taken_by q (read text t t.kind)
+taken read text (Err f) = Err f
+
+-- whether a token of the kind is seen
+abbrev pub sees : {V : Type 0} → Reader V → List ℕ → Seen → Result Bool Report
+sees read text (Ok None) = Ok false
+sees read text (Ok (Some (t, q))) = Ok (is_some (read text t t.kind))
+sees read text (Err f) = Err f
+
+abbrev pub as_open : Reader (Unit {0})
+as_open text t LParen = Some (Ok tt)
+as_open text t kind = None
+
+abbrev pub as_close : Reader (Unit {0})
+as_close text t RParen = Some (Ok tt)
+as_close text t kind = None
+
+abbrev pub as_keyword : Reader (List ℕ)
+as_keyword text t Keyword = Some (Ok (token_text text t))
+as_keyword text t kind = None
+
+abbrev pub as_reserved : Reader (List ℕ)
+as_reserved text t Reserved = Some (Ok (token_text text t))
+as_reserved text t kind = None
+
+abbrev pub as_string : Reader (List ℕ)
+as_string text t String = Some (Ok (string_value (word_of text t)))
+as_string text t kind = None
+
+abbrev pub as_integer : Reader (Unit {0})
+as_integer text t (Integer k) = Some (Ok tt)
+as_integer text t kind = None
+
+abbrev pub as_float : Reader (Unit {0})
+as_float text t (Float k) = Some (Ok tt)
+as_float text t kind = None
+
+-- a name, or the report of what is wrong with it, at the token
+abbrev pub name_answer : List ℕ → Token → Result (List ℕ) LexError → Result (List ℕ) Report
+name_answer text t (Ok name) = Ok name
+name_answer text t (Err e) = Err (lexical text (record { offset = t.offset; error = e }))
+
+abbrev pub as_id : Reader (List ℕ)
+as_id text t Id = Some (name_answer text t (name_value EmptyId (word_of text t)))
+as_id text t kind = None
+
+abbrev pub as_annotation : Reader (List ℕ)
+as_annotation text t Annotation = Some (name_answer text t (name_value EmptyAnnotation (word_of text t)))
+as_annotation text t kind = None

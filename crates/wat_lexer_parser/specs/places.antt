@@ -1,0 +1,3 @@
+-- Places between raw tokens, and what is shown and found there.
+pub mod Source
+pub mod Places

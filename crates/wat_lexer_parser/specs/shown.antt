@@ -1,0 +1,5 @@
+-- What a parser shows of raw tokens: as a relation, as a function, and the laws of both.
+pub mod Shown
+pub mod Showing
+pub mod AllShown
+pub mod ShownLaws

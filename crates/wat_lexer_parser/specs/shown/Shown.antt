@@ -1,0 +1,61 @@
+-- WebAssembly specification, text format, lexical format: white space, comments, annotations. What a parser shows of raw tokens:
+-- neither white space nor comments, nor a group `(@name ..)` whose name is not registered. Faults of such groups are no part of the
+-- standard.
+use Rattle.std.specs.Prelude.{◌≡◌, ◌≢◌, ℕ, List, [], ◌∷◌, ◌+◌, Option, Some, None, Result, Ok, Err, IsTrue, IsFalse}
+use Rattle.std.specs.Str.{IsUtf8}
+use Rattle.wat_lex.specs.values.Names.{Name, NameFault}
+use Rattle.wat_lex.specs.tokens.ReadableTokens.{word_of}
+use Rattle.wat_lex.specs.declared.lexer.faults.LexError.{LexError}
+use Rattle.wat_lex.specs.declared.lexer.faults.LexError.TheVariants.{EmptyAnnotation}
+use Rattle.wat_lex.specs.declared.lexer.faults.LexFault.{LexFault}
+use Rattle.wat_lex.specs.declared.lexer.kinds.Token.{Token}
+use Rattle.wat_lex.specs.declared.lexer.kinds.TokenKind.TheVariants.{LParen, Annotation}
+use Rattle.wat_lexer_parser.specs.declared.parser.fault.Fault.{Fault}
+use Rattle.wat_lexer_parser.specs.declared.parser.fault.FaultKind.TheVariants.{Lex, Unclosed}
+use Rattle.wat_lexer_parser.specs.groups.Groups.{Group, NoGroup}
+use Rattle.wat_lexer_parser.specs.groups.Sorts.{is_blank, is_marked}
+use Rattle.wat_lexer_parser.specs.names.RegisteredNames.{Names, is_registered}
+
+-- a token and the tokens behind it, or None at the end, or a fault
+abbrev pub Shown : Type 0
+Shown = Result (Option (Token × List Token)) Fault
+
+-- what the raw tokens end with is shown
+abbrev pub ended : Option LexFault → Shown
+ended None = Ok None
+ended (Some f) = Err (record { offset = f.offset; kind = Lex f.error })
+
+-- the same within a group that this parenthesis opens: the text's end is a fault there
+abbrev pub left_open : Option LexFault → Token → Shown
+left_open None t = Err (record { offset = t.offset + 1; kind = Unclosed })
+left_open (Some f) t = ended (Some f)
+
+-- the token is an annotation of this name
+pub record IsNamed (text : List ℕ) (t : Token) (x : List ℕ) : Type 0 where
+  pub kind : t.kind ≡ Annotation
+  pub name : Name (word_of text t) x
+  pub utf8 : IsUtf8 x
+  pub some : x ≢ []
+
+-- the token is an annotation, and this is wrong with its name
+pub record IsMisnamed (text : List ℕ) (t : Token) (e : LexError) : Type 0 where
+  pub kind : t.kind ≡ Annotation
+  pub fault : NameFault EmptyAnnotation (word_of text t) e
+
+-- a parenthesis opens, and the text has `@` directly behind it
+abbrev pub IsMarked : List ℕ → Token → Type 0
+IsMarked text t = (t.kind ≡ LParen) × IsTrue (is_marked text t)
+
+-- What is shown of the raw tokens from a place on, under registered names.
+pub data Shows (text : List ℕ) (ending : Option LexFault) (names : Names) : List Token → Shown → Type 0 where
+  none_left : Shows text ending names [] (ended ending)
+  blank : {t : Token} {r : List Token} {a : Shown} → IsTrue (is_blank t.kind) → Shows text ending names r a → Shows text ending names (t ∷ r) a
+  none_follows : {t : Token} → IsMarked text t → Shows text ending names (t ∷ []) (ended ending)
+  no_annotation : {t u : Token} {r : List Token} → IsMarked text t → u.kind ≢ Annotation → Shows text ending names (t ∷ u ∷ r) (Ok (Some (t, u ∷ r)))
+  misnamed : {t u : Token} {r : List Token} {e : LexError} → IsMarked text t → IsMisnamed text u e → Shows text ending names (t ∷ u ∷ r) (Err (record { offset = u.offset; kind = Lex e }))
+  registered : {t u : Token} {r : List Token} {x : List ℕ} → IsMarked text t → IsNamed text u x → IsTrue (is_registered names x) → Shows text ending names (t ∷ u ∷ r) (Ok (Some (t, u ∷ r)))
+  skipped : {t u : Token} {r m : List Token} {x : List ℕ} {a : Shown} → IsMarked text t → IsNamed text u x → IsFalse (is_registered names x) → Group (u ∷ r) m → Shows text ending names m a
+      → Shows text ending names (t ∷ u ∷ r) a
+  unclosed : {t u : Token} {r : List Token} {x : List ℕ} → IsMarked text t → IsNamed text u x → IsFalse (is_registered names x) → NoGroup (u ∷ r) → Shows text ending names (t ∷ u ∷ r) (left_open ending t)
+  unmarked : {t : Token} {r : List Token} → t.kind ≡ LParen → IsFalse (is_marked text t) → Shows text ending names (t ∷ r) (Ok (Some (t, r)))
+  other : {t : Token} {r : List Token} → IsFalse (is_blank t.kind) → t.kind ≢ LParen → Shows text ending names (t ∷ r) (Ok (Some (t, r)))

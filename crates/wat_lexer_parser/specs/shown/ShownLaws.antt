@@ -1,0 +1,30 @@
+-- WebAssembly specification, text format, lexical format: annotations. The laws of what is shown, for every text of UTF-8 and its
+-- raw tokens: the cases leave nothing out and no choice.
+use Rattle.std.specs.Prelude.{◌≡◌, ◌≤◌, ℕ, List, Option, length, drop}
+use Rattle.std.specs.Str.{IsUtf8}
+use Rattle.wat_lex.specs.tokens.Setting.{Setting}
+use Rattle.wat_lex.specs.tokens.Tiling.{MaximalTiling}
+use Rattle.wat_lex.specs.declared.lexer.faults.LexFault.{LexFault}
+use Rattle.wat_lex.specs.declared.lexer.kinds.Token.{Token}
+use Rattle.wat_lexer_parser.specs.groups.Groups.{Group}
+use Rattle.wat_lexer_parser.specs.names.RegisteredNames.{Names}
+use Rattle.wat_lexer_parser.specs.places.Places.{offset_at}
+use Rattle.wat_lexer_parser.specs.places.Source.{Source, IsRead}
+use Rattle.wat_lexer_parser.specs.shown.Shown.{Shown, Shows}
+use Rattle.wat_lexer_parser.specs.shown.Showing.{Showing, shown_in}
+
+-- the raw tokens from a place on are the tail of the raw tokens
+abbrev pub TailsAreRaw : Type 0
+TailsAreRaw = (s : Setting) (ts : List Token) (e : Option LexFault) (p : ℕ) → MaximalTiling s 0 ts e → p ≤ length ts → MaximalTiling s (offset_at ts p) (drop p ts) e
+
+-- a group ends at one place
+abbrev pub GroupIsOne : Type 0
+GroupIsOne = (ts r q : List Token) → Group ts r → Group ts q → r ≡ q
+
+-- what the function gives is shown
+abbrev pub SomethingShown : Type 0
+SomethingShown = (s : Source) (names : Names) (p : ℕ) → IsUtf8 s.setting.text → IsRead s → Shows s.setting.text s.ending names (drop p s.tokens) (shown_in s.setting.text s.ending names Showing (drop p s.tokens))
+
+-- and nothing else
+abbrev pub OneThingShown : Type 0
+OneThingShown = (text : List ℕ) (e : Option LexFault) (names : Names) (ts : List Token) (a : Shown) → Shows text e names ts a → a ≡ shown_in text e names Showing ts

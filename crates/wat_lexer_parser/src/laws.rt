@@ -1,0 +1,23 @@
+//! Laws of what a parser shows, for every text of UTF-8 and its raw tokens. Each function does
+//! nothing: its contract is the law, for the proofs of crates above.
+ghost use Rattle.wat_lexer_parser.specs.shown.ShownLaws.{TailsAreRaw, GroupIsOne};
+ghost use Rattle.wat_lexer_parser.specs.shown.ShownLaws.{SomethingShown, OneThingShown};
+
+/// The raw tokens from a place on are the tail of the raw tokens.
+pub fn tails()
+    ensures { TailsAreRaw }
+{}
+
+/// A group ends at one place.
+pub fn groups()
+    ensures { GroupIsOne }
+{}
+
+/// At each place of a text something is shown, and it is one thing: what the function gives.
+pub fn shown()
+    ensures some { SomethingShown }
+    ensures one { OneThingShown }
+{
+    wat_lex::laws::names();
+    wat_lex::laws::tokens();
+}

@@ -1,0 +1,8 @@
+//! The parser layer of the WebAssembly text formats: a buffer of raw tokens, and a parser that shows those that count. White space,
+//! comments and annotations that are not registered are passed over.
+#![tactic(auto)]
+
+pub mod laws;
+pub mod parser;
+
+pub use wat_lex::error::Error;

@@ -1,0 +1,4 @@
+//! The parser.
+pub mod fault;
+mod names;
+pub mod replay;

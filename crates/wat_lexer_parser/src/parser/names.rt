@@ -1,0 +1,131 @@
+//! The registered names.
+ghost use Rattle.std.specs.Prelude.{◌≡◌, ◌<◌, ◌+◌, ◌-◌, ◌^◌, IsSome, OnOk, OnErr, IsTrue, ◌↔◌, Some, is_some, IfErr, cond, nat_eq};
+ghost use Rattle.std.specs.FinMap as map;
+ghost use Rattle.std.specs.String.{string_cmp, string_bytes};
+ghost use Rattle.std.specs.BTreeMap.{UpdatesBy, get_by_text};
+ghost use Rattle.std.specs.Cmp.Lexicographic.{slice_cmp};
+ghost use Rattle.std.specs.Ordering.{nat_cmp};
+ghost use Rattle.std.specs.Result.{IsErrOf};
+ghost use Rattle.wat_lexer_parser.specs.names.RegisteredNames.{Names as Counts};
+ghost use Rattle.wat_lexer_parser.specs.names.RegisteredNames.{count, fewer, is_registered};
+
+use std::alloc::{AllocError, AllocFailed, Global};
+use std::collections::BTreeMap;
+use std::marker::Model;
+
+#[derive(Drop)]
+pub struct Names {
+    counts: BTreeMap<String, usize>,
+}
+
+impl Model for Names {
+    ghost use Rattle.wat_lexer_parser.specs.names.RegisteredNames.{Names};
+    ghost use Rattle.std.specs.FinMap as map;
+    ghost use Rattle.std.specs.Coded.{coded_ℕ, coded_list};
+
+    ghost Value = { Names };
+
+    ghost coded = { map.code (coded_list coded_ℕ) coded_ℕ };
+
+    ghost use Rattle.wat_lexer_parser.specs.inside.MapEntries.{names_of};
+    ghost use Rattle.wat_lexer_parser.specs.names.RegisteredNames.{IsPositive};
+
+    ghost view = { λ n. names_of n.counts.entries };
+
+    ghost invariant = { λ n. IsPositive (names_of n.counts.entries) };
+}
+
+#[derive(Clone, Copy, PartialEq, Eq)]
+pub enum RegisterError {
+    TooOften,
+    OutOfMemory,
+}
+
+impl<T: Drop> From<AllocFailed<T>> for RegisterError {
+    ghost use Rattle.std.specs.Prelude.{◌≡◌};
+    ghost use Rattle.wat_lexer_parser.specs.declared.parser.names.RegisterError.TheVariants.{OutOfMemory};
+
+    ghost from_gives = { λ _ e. e ≡ OutOfMemory };
+
+    fn from(_e: AllocFailed<T>) -> RegisterError {
+        RegisterError::OutOfMemory
+    }
+}
+
+impl From<AllocError> for RegisterError {
+    ghost use Rattle.std.specs.Prelude.{◌≡◌};
+    ghost use Rattle.wat_lexer_parser.specs.declared.parser.names.RegisterError.TheVariants.{OutOfMemory};
+
+    ghost from_gives = { λ _ e. e ≡ OutOfMemory };
+
+    fn from(_e: AllocError) -> RegisterError {
+        RegisterError::OutOfMemory
+    }
+}
+
+/// Sets the count of a name that is there.
+fn set_count(counts: &mut BTreeMap<String, usize>, name: &str, count: usize)
+    requires { IsSome (get_by_text counts.old name.now) }
+    ensures { UpdatesBy string_cmp (λ k. slice_cmp nat_cmp name.now (string_bytes k)) counts.old counts.new (Some count) }
+{
+    if let Some(slot) = counts.get_mut(name) {
+        *slot = count;
+    }
+}
+
+impl Names {
+    pub fn new(alloc: Global) -> Names
+        ensures { result ≡ map.empty }
+    {
+        Names {
+            counts: BTreeMap::new(alloc),
+        }
+    }
+
+    pub fn count(&self, name: &str) -> usize
+        ensures { result ≡ count self.now name.now }
+    {
+        match self.counts.get(name) {
+            Some(count) => *count,
+            None => 0,
+        }
+    }
+
+    pub fn is_registered(&self, name: &str) -> bool
+        ensures { result ≡ is_registered self.now name.now }
+    {
+        self.count(name) > 0
+    }
+
+    pub fn register(&mut self, alloc: Global, name: &str) -> Result<(), RegisterError>
+        ensures ok { OnOk result (self.new ≡ map.insert self.old name.now (count self.old name.now + 1)) }
+        ensures err { OnErr result (self.new ≡ self.old) }
+        ensures there { OnOk result (0 < count self.new name.now) }
+        ensures undo { OnOk result (fewer self.new name.now ≡ self.old) }
+        ensures often { IsErrOf result RegisterError.TooOften ↔ count self.old name.now ≡ usize.MAX }
+    {
+        let count = self.count(name);
+        if count == usize::MAX {
+            return Err(RegisterError::TooOften);
+        }
+        if count > 0 {
+            set_count(&mut self.counts, name, count + 1);
+        } else {
+            let key = String::from_str(alloc, name)?;
+            self.counts.insert(key, count + 1)?;
+        }
+        Ok(())
+    }
+
+    pub fn unregister(&mut self, name: &str)
+        requires { 0 < count self.old name.now }
+        ensures { self.new ≡ fewer self.old name.now }
+    {
+        let count = self.count(name);
+        if count > 1 {
+            set_count(&mut self.counts, name, count - 1);
+        } else {
+            self.counts.remove(name);
+        }
+    }
+}
