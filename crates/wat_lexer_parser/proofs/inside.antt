@@ -1,1 +1,2 @@
 -- Lemmas on the table of a buffer.
+pub mod Heads

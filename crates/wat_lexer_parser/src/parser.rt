@@ -2,3 +2,4 @@
 pub mod fault;
 mod names;
 pub mod replay;
+mod table;

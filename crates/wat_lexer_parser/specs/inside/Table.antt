@@ -1,14 +1,15 @@
 -- What the table of a buffer holds beside the raw tokens: of each annotation that stands directly behind a parenthesis its name, and
 -- where its group is closed.
-use Rattle.std.specs.Prelude.{◌≡◌, ◌<◌, ◌≤◌, ◌^◌, ◌+◌, ◌*◌, ℕ, List, [], ◌∷◌, length, drop, Option, Some, None, Result, Err, MatchOption, slice_get, get_or}
+use Rattle.std.specs.Prelude.{◌≡◌, ◌<◌, ◌≤◌, ◌^◌, ◌+◌, ◌*◌, ◌&&◌, ℕ, Bool, true, false, List, [], ◌∷◌, length, drop, Option, Some, None, Result, Err, MatchOption, slice_get, get_or}
 use Rattle.wat_lex.specs.tokens.ReadableTokens.{IsTokenOf, word_of}
-use Rattle.wat_lex.specs.tokens.Setting.{Setting}
 use Rattle.wat_lex.specs.values.WordValues.{name_value}
 use Rattle.wat_lex.specs.declared.lexer.faults.LexError.{LexError}
 use Rattle.wat_lex.specs.declared.lexer.faults.LexError.TheVariants.{EmptyAnnotation}
+use Rattle.wat_lex.specs.declared.lexer.kinds.TokenKind.{TokenKind}
 use Rattle.wat_lex.specs.declared.lexer.kinds.TokenKind.TheVariants.{LParen, Annotation}
 use Rattle.wat_lex.specs.declared.lexer.kinds.Token.{Token}
 use Rattle.wat_lexer_parser.specs.groups.Groups.{Group, NoGroup}
+use Rattle.wat_lexer_parser.specs.groups.Sorts.{is_open}
 use Rattle.wat_lexer_parser.specs.places.Source.{Source, IsRead}
 
 -- the name of an annotation, or what is wrong with it
@@ -35,6 +36,15 @@ pub record Headed (text : List ℕ) (ts : List Token) (opens : List ℕ) (names 
   pub each : (g : ℕ) → g < length opens → HeadAt text ts (get_or opens g 0) (get_or names g (Err EmptyAnnotation))
   pub all : (i : ℕ) (t u : Token) → slice_get ts i ≡ Some t → slice_get ts (i + 1) ≡ Some u → t.kind ≡ LParen → u.kind ≡ Annotation → (g : ℕ) × (g < length opens) × (get_or opens g 0 ≡ i)
   pub sorted : Sorted opens
+
+abbrev pub is_annotation : TokenKind → Bool
+is_annotation Annotation = true
+is_annotation kind = false
+
+-- the last token is a parenthesis, and the next an annotation
+abbrev pub is_head : Option Token → Token → Bool
+is_head None u = false
+is_head (Some t) u = is_open t.kind && is_annotation u.kind
 
 -- how many tokens have one start
 abbrev pub block : ℕ
@@ -67,13 +77,15 @@ abbrev pub Readable : List ℕ → List Token → Type 0
 Readable text [] = Unit {0}
 Readable text (t ∷ ts) = (IsTokenOf text t × (t.offset + t.len < 2 ^ 32)) × Readable text ts
 
--- the tokens are those up to a place of the text, and the annotations among them are noted
+-- annotations are noted among these tokens, which may be read
 pub record Noted (text : List ℕ) (ts : List Token) (opens : List ℕ) (names : List NameOrFault) (starts : List ℕ) : Type 0 where
   pub readable : Readable text ts
   pub headed : Headed text ts opens names
   pub started : Started opens starts
+  pub full : length ts ≤ block * length starts
 
-pub record Table (s : Source) (opens : List ℕ) (names : List NameOrFault) (starts : List ℕ) (closes : List (Option ℕ)) : Type 0 where
+-- the table of a text
+pub record IsTable (s : Source) (opens : List ℕ) (names : List NameOrFault) (starts : List ℕ) (closes : List (Option ℕ)) : Type 0 where
   pub read : IsRead s
   pub noted : Noted s.setting.text s.tokens opens names starts
   pub paired : Paired s.tokens opens closes

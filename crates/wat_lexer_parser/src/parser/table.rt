@@ -1,0 +1,150 @@
+//! The table of a buffer: the raw tokens of its text, and what a look has to know of annotations.
+ghost use Rattle.std.specs.Prelude.{◌≡◌, ◌<◌, ◌≤◌, ◌+◌, ◌-◌, ◌*◌, ◌^◌, ◌++◌, ◌∷◌, [], length, map};
+ghost use Rattle.std.specs.Prelude.{IfOk, OnOk, None, slice_get, get_or};
+ghost use Rattle.wat_lex.specs.tokens.ReadableTokens.{IsTokenOf, word_of};
+ghost use Rattle.wat_lex.specs.tokens.Tiling.{MaximalTiling};
+ghost use Rattle.wat_lex.specs.values.WordValues.{name_answer, name_value};
+ghost use Rattle.wat_lex.specs.declared.lexer.faults.LexError.TheVariants.{EmptyAnnotation};
+ghost use Rattle.wat_lex.specs.declared.lexer.kinds.TokenKind.TheVariants.{Annotation};
+ghost use Rattle.wat_lexer_parser.specs.inside.Table.{block, is_head, Found, Noted, Paired};
+ghost use Rattle.wat_lexer_parser.specs.inside.Table.{Sorted, Started};
+
+use std::alloc::{AllocError, Global};
+use std::borrow::CowStr;
+use wat_lex::lexer::{LexError, LexFault, Lexer, Token, TokenKind};
+
+/// How many tokens have one entry among the starts.
+const BLOCK: usize = 32;
+
+/// The raw tokens of a text up to its end or its first fault, and the annotations among them that
+/// stand directly behind a parenthesis.
+#[derive(Drop)]
+pub struct Table<'a> {
+    pub tokens: Vec<Token>,
+    pub fault: Option<LexFault>,
+    /// The places of these parentheses.
+    pub opens: Vec<usize>,
+    /// The names of these annotations, or what is wrong with them.
+    pub names: Vec<Result<CowStr<'a>, LexError>>,
+    /// For each block of tokens, how many of these parentheses stand before it.
+    pub starts: Vec<usize>,
+    /// Where the groups of these annotations are closed.
+    pub closes: Vec<Option<usize>>,
+}
+
+/// Whether a token is an annotation, and the last one before it a parenthesis that opens.
+fn is_head(last: Option<Token>, token: Token) -> bool
+    ensures { result ≡ is_head last token }
+{
+    match last {
+        Some(last) => {
+            matches!(last.kind, TokenKind::LParen) && matches!(token.kind, TokenKind::Annotation)
+        }
+        None => false,
+    }
+}
+
+impl<'a> Table<'a> {
+    /// The table of no tokens.
+    fn new(alloc: Global) -> Table<'a>
+        ensures tokens { result.tokens.items ≡ [] }
+        ensures fault { result.fault ≡ None }
+        ensures opens { result.opens.items ≡ [] }
+        ensures names { map name_answer result.names.items ≡ [] }
+        ensures starts { result.starts.items ≡ [] }
+    {
+        Table {
+            tokens: Vec::new(alloc),
+            fault: None,
+            opens: Vec::new(alloc),
+            names: Vec::new(alloc),
+            starts: Vec::new(alloc),
+            closes: Vec::new(alloc),
+        }
+    }
+
+    /// Adds a token.
+    fn push(&mut self, token: Token) -> Result<(), AllocError>
+        requires started { Started self.old.opens.items self.old.starts.items }
+        requires full { length self.old.tokens.items ≤ block * length self.old.starts.items }
+        requires below { (g : _) → g < length self.old.opens.items →
+            get_or self.old.opens.items g 0 < length self.old.tokens.items }
+        ensures tokens { OnOk result
+            (self.new.tokens.items ≡ self.old.tokens.items ++ token ∷ []) }
+        ensures started { OnOk result (Started self.new.opens.items self.new.starts.items) }
+        ensures full { OnOk result
+            (length self.new.tokens.items ≤ block * length self.new.starts.items) }
+        ensures opens { self.new.opens ≡ self.old.opens }
+        ensures names { self.new.names ≡ self.old.names }
+        ensures fault { self.new.fault ≡ self.old.fault }
+    {
+        if self.starts.len() <= self.tokens.len() / BLOCK {
+            self.starts.push(self.opens.len())?;
+        }
+        self.tokens.push(token)?;
+        Ok(())
+    }
+
+    /// Notes that the last two tokens are a parenthesis and an annotation.
+    fn note(&mut self, alloc: Global, text: &'a str, token: &Token) -> Result<(), AllocError>
+        requires token { IsTokenOf text.now token.now }
+        requires kind { token.now.kind ≡ Annotation }
+        requires two { 1 < length self.old.tokens.items }
+        ensures opens { OnOk result
+            (self.new.opens.items
+            ≡ self.old.opens.items ++ (length self.old.tokens.items - 2) ∷ []) }
+        ensures names { OnOk result
+            (map name_answer self.new.names.items
+            ≡ map name_answer self.old.names.items
+            ++ name_value EmptyAnnotation (word_of text.now token.now) ∷ []) }
+        ensures tokens { self.new.tokens ≡ self.old.tokens }
+        ensures starts { self.new.starts ≡ self.old.starts }
+        ensures fault { self.new.fault ≡ self.old.fault }
+    {
+        let name = token.name(alloc, text)?;
+        self.opens.push(self.tokens.len() - 2)?;
+        self.names.push(name)?;
+        Ok(())
+    }
+
+    /// Adds a token, and notes it where it is an annotation directly behind a parenthesis.
+    fn add(&mut self, alloc: Global, text: &'a str, token: Token) -> Result<(), AllocError>
+        requires token { IsTokenOf text.now token }
+        requires short { token.offset + token.len < 2 ^ 32 }
+        requires noted { Noted text.now self.old.tokens.items self.old.opens.items
+            (map name_answer self.old.names.items) self.old.starts.items }
+        ensures tokens { OnOk result
+            (self.new.tokens.items ≡ self.old.tokens.items ++ token ∷ []) }
+        ensures noted { OnOk result (
+            Noted text.now self.new.tokens.items self.new.opens.items
+            (map name_answer self.new.names.items) self.new.starts.items) }
+        ensures fault { self.new.fault ≡ self.old.fault }
+    {
+        let is_head = is_head(self.tokens.last().copied(), token);
+        self.push(token)?;
+        if is_head {
+            self.note(alloc, text, &token)?;
+        }
+        Ok(())
+    }
+}
+
+/// The index of a place among the places of parentheses.
+pub fn find(opens: &[usize], starts: &[usize], place: usize) -> Option<usize>
+    requires sorted { Sorted opens.now }
+    requires started { Started opens.now starts.now }
+    ensures { Found opens.now place result }
+{
+    let mut i = match starts.get(place / BLOCK) {
+        Some(start) => *start,
+        None => return None,
+    };
+    while i < opens.len() && opens[i] < place {
+        i += 1;
+    }
+    if i < opens.len() && opens[i] == place {
+        Some(i)
+    } else {
+        None
+    }
+}
