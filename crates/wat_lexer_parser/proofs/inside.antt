@@ -1,2 +1,4 @@
 -- Lemmas on the table of a buffer.
 pub mod Heads
+pub mod Pairing
+pub mod Filling

@@ -1,5 +1,10 @@
 //! The parser.
-pub mod fault;
+mod buffer;
+mod fault;
 mod names;
-pub mod replay;
+mod replay;
 mod table;
+
+pub use buffer::ParseBuffer;
+pub use fault::FaultKind;
+pub use replay::{Call, Reply};

@@ -1,6 +1,6 @@
 -- What the table of a buffer holds beside the raw tokens: of each annotation that stands directly behind a parenthesis its name, and
 -- where its group is closed.
-use Rattle.std.specs.Prelude.{◌≡◌, ◌<◌, ◌≤◌, ◌^◌, ◌+◌, ◌*◌, ◌&&◌, ℕ, Bool, true, false, List, [], ◌∷◌, length, drop, Option, Some, None, Result, Err, MatchOption, slice_get, get_or}
+use Rattle.std.specs.Prelude.{◌≡◌, ◌<◌, ◌≤◌, ◌^◌, ◌+◌, ◌*◌, ◌&&◌, ℕ, Bool, true, false, List, [], ◌∷◌, length, drop, Option, Some, None, Result, Err, MatchOption, slice_get, slice_set as set, get_or, ◌⊎◌}
 use Rattle.wat_lex.specs.tokens.ReadableTokens.{IsTokenOf, word_of}
 use Rattle.wat_lex.specs.values.WordValues.{name_value}
 use Rattle.wat_lex.specs.declared.lexer.faults.LexError.{LexError}
@@ -67,10 +67,32 @@ abbrev pub Pair : List Token → ℕ → Option ℕ → Type 0
 Pair ts i None = NoGroup (drop (i + 1) ts)
 Pair ts i (Some j) = (i < j) × (j < length ts) × Group (drop (i + 1) ts) (drop (j + 1) ts)
 
+-- at each of these places a parenthesis opens
+abbrev pub Opening : List Token → List ℕ → Type 0
+Opening ts opens = (g : ℕ) → g < length opens → (t : Token) × (slice_get ts (get_or opens g 0) ≡ Some t) × (t.kind ≡ LParen)
+
+-- no place is before the first
+abbrev pub NoneBefore : List ℕ → ℕ → Type 0
+NoneBefore opens i = (g : ℕ) → g < length opens → i ≤ get_or opens g 0
+
+-- where k is one of the places, its group is closed at i
+abbrev pub ClosesOne : List ℕ → List (Option ℕ) → ℕ → ℕ → List (Option ℕ) → Type 0
+ClosesOne opens old k i new =
+    (((g : ℕ) → g < length opens → get_or opens g 0 ≡ k → ⊥) × (new ≡ old))
+    ⊎ ((g : ℕ) × (g < length opens) × (get_or opens g 0 ≡ k) × (new ≡ set old g (Some i)))
+
 -- where each of these parentheses is closed
 pub record Paired (ts : List Token) (opens : List ℕ) (closes : List (Option ℕ)) : Type 0 where
   pub long : length closes ≡ length opens
   pub pair : (g : ℕ) → g < length opens → Pair ts (get_or opens g 0) (get_or closes g None)
+
+-- at the place a parenthesis opens, and this annotation stands directly behind it
+pub record HeadsAnnotation (ts : List Token) (i : ℕ) (u : Token) : Type 0 where
+  pub paren : Token
+  pub opens : slice_get ts i ≡ Some paren
+  pub next : slice_get ts (i + 1) ≡ Some u
+  pub is_open : paren.kind ≡ LParen
+  pub is_annotation : u.kind ≡ Annotation
 
 -- each token may be handed to the readers
 abbrev pub Readable : List ℕ → List Token → Type 0

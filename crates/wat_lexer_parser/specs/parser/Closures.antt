@@ -1,8 +1,8 @@
 -- What calls with closures answer, and what taking a parenthesis does. No part of the standard.
-use Rattle.std.specs.Prelude.{ℕ, Bool, ◌+◌, ◌≡◌, ◌⊎◌, codes, IfSome, Option, Some, None, Result, Ok, Err}
+use Rattle.std.specs.Prelude.{ℕ, Bool, ◌+◌, ◌≡◌, ◌⊎◌, codes, Option, Some, None, Result, Ok, Err}
 use Rattle.wat_lex.specs.errors.Errors.{Report}
 use Rattle.wat_lexer_parser.specs.names.RegisteredNames.{Names}
-use Rattle.wat_lexer_parser.specs.parser.State.{State, expected, seen}
+use Rattle.wat_lexer_parser.specs.parser.State.{State, IsRefusal, expected, seen}
 use Rattle.wat_lexer_parser.specs.parser.Takers.{taken, as_open, as_close}
 use Rattle.wat_lexer_parser.specs.places.Source.{Source}
 
@@ -33,6 +33,6 @@ module _ {T : Type 0} where
   -- no `(` is shown, or the closure refuses, or no `)` is shown behind it; place and depth are what they were
   abbrev pub ParensErr : (State → Result T (Option Report) → State → Type 0) → State → Option Report → State → Type 0
   ParensErr R a e b =
-      ((b ≡ a) × IfSome e (λ f. opened a.source a.place a.names ≡ Err f))
+      ((b ≡ a) × IsRefusal (opened a.source a.place a.names) e)
       ⊎ ((p : ℕ) × (q : State) × (opened a.source a.place a.names ≡ Ok p) × R (inside a p) (Err e) q × (b ≡ record a { names = q.names }))
-      ⊎ ((p : ℕ) × (q : State) × (t : T) × (opened a.source a.place a.names ≡ Ok p) × R (inside a p) (Ok t) q × (b ≡ record a { names = q.names }) × IfSome e (λ f. closed a.source q.place q.names ≡ Err f))
+      ⊎ ((p : ℕ) × (q : State) × (t : T) × (opened a.source a.place a.names ≡ Ok p) × R (inside a p) (Ok t) q × (b ≡ record a { names = q.names }) × IsRefusal (closed a.source q.place q.names) e)

@@ -1,13 +1,13 @@
 -- What a parser is to its callers, and what a call answers. No part of the standard.
-use Rattle.std.specs.Prelude.{ℕ, List, ◌≡◌, ⊤, codes, if◌then◌else◌, nat_lt, Option, Some, None, Result, Ok, Err}
-use Rattle.wat_lex.specs.errors.Errors.{Report, Custom, lexical, report_in}
+use Rattle.std.specs.Prelude.{ℕ, ◌≤◌, List, length, Bool, ◌≡◌, ◌||◌, is_err, IsTrue, codes, if◌then◌else◌, nat_lt, Option, Some, None, Result, Ok, Err}
+use Rattle.wat_lex.specs.errors.Errors.{Report, Custom, lexical, report_in, IsUnlessMemory}
 use Rattle.wat_lex.specs.declared.lexer.kinds.Token.{Token}
 use Rattle.wat_lexer_parser.specs.declared.parser.fault.Fault.{Fault}
 use Rattle.wat_lexer_parser.specs.declared.parser.fault.FaultKind.{FaultKind}
 use Rattle.wat_lexer_parser.specs.declared.parser.fault.FaultKind.TheVariants.{Lex, Unclosed}
-use Rattle.wat_lexer_parser.specs.names.RegisteredNames.{Names}
+use Rattle.wat_lexer_parser.specs.names.RegisteredNames.{Names, IsPositive}
 use Rattle.wat_lexer_parser.specs.places.Places.{span_at, offset_at}
-use Rattle.wat_lexer_parser.specs.places.Source.{Source}
+use Rattle.wat_lexer_parser.specs.places.Source.{Source, IsRead}
 use Rattle.wat_lexer_parser.specs.shown.Showing.{Look, shown}
 
 -- a parser, as its callers see it
@@ -16,6 +16,13 @@ pub record State : Type 0 where
   pub place : ℕ
   pub names : Names
   pub depth : ℕ
+
+-- The place is one of its raw tokens' ends or 0, no more groups are open than tokens were passed, and no count is 0.
+pub record IsSound (a : State) : Type 0 where
+  pub read : IsRead a.source
+  pub within : a.place ≤ length a.source.tokens
+  pub deep : a.depth ≤ a.place
+  pub counts : IsPositive a.names
 
 abbrev pub report_by : List ℕ → ℕ → FaultKind → Report
 report_by text offset (Lex e) = lexical text (record { offset = offset; error = e })
@@ -44,11 +51,17 @@ told text (Err f) = Err (report_of text f)
 unfoldable pub seen : Source → ℕ → Names → Seen
 seen s p names = told s.setting.text (shown s p names)
 
--- the answer of a call is this one, told by f, unless memory was wanting
-abbrev pub Answers : {V T : Type 0} → (T → V) → Result V Report → Result T (Option Report) → Type 0
-Answers f m (Ok x) = m ≡ Ok (f x)
-Answers f m (Err None) = ⊤
-Answers f m (Err (Some e)) = m ≡ Err e
+-- The answer of a call is this one, the value through f; or memory was wanting, which comes only in place of a report, or where the
+-- value itself may take memory.
+abbrev pub Answers : {V T : Type 0} → Bool → (T → V) → Result V Report → Result T (Option Report) → Type 0
+Answers takes f m (Ok x) = m ≡ Ok (f x)
+Answers takes f m (Err None) = IsTrue (takes || is_err m)
+Answers takes f m (Err (Some e)) = m ≡ Err e
+
+-- the error is the refusal that there is, unless memory was wanting
+abbrev pub IsRefusal : {V : Type 0} → Result V Report → Option Report → Type 0
+IsRefusal (Ok v) e = ⊥
+IsRefusal (Err f) e = IsUnlessMemory e f
 
 -- groups may be this deep
 abbrev pub most_depth : ℕ

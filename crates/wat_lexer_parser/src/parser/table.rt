@@ -7,6 +7,7 @@ ghost use Rattle.wat_lex.specs.values.WordValues.{name_answer, name_value};
 ghost use Rattle.wat_lex.specs.declared.lexer.faults.LexError.TheVariants.{EmptyAnnotation};
 ghost use Rattle.wat_lex.specs.declared.lexer.kinds.TokenKind.TheVariants.{Annotation};
 ghost use Rattle.wat_lexer_parser.specs.inside.Table.{block, is_head, Found, Noted, Paired};
+ghost use Rattle.wat_lexer_parser.specs.inside.Table.{ClosesOne, NoneBefore, Opening};
 ghost use Rattle.wat_lexer_parser.specs.inside.Table.{Sorted, Started};
 
 use std::alloc::{AllocError, Global};
@@ -146,5 +147,111 @@ pub fn find(opens: &[usize], starts: &[usize], place: usize) -> Option<usize>
         Some(i)
     } else {
         None
+    }
+}
+
+/// Where the first of the places is, or the end where there is none.
+fn first_of(opens: &[usize], end: usize) -> usize
+    requires { Sorted opens.now }
+    ensures { NoneBefore opens.now result }
+{
+    match opens.first() {
+        Some(first) => *first,
+        None => end,
+    }
+}
+
+/// Notes that the group of the parenthesis at `paren`, where it is one of the places, is closed at
+/// `close`.
+fn note_close(
+    closes: &mut Vec<Option<usize>>,
+    opens: &[usize],
+    starts: &[usize],
+    paren: usize,
+    close: usize,
+)
+    requires sorted { Sorted opens.now }
+    requires started { Started opens.now starts.now }
+    requires long { length closes.old.items ≡ length opens.now }
+    ensures { ClosesOne opens.now closes.old.items paren close closes.new.items }
+{
+    match find(opens, starts, paren) {
+        Some(i) => closes[i] = Some(close),
+        None => {}
+    }
+}
+
+/// Where the groups are closed that open at these places: one pass over the tokens, with a stack.
+fn closes(
+    alloc: Global,
+    tokens: &[Token],
+    opens: &[usize],
+    starts: &[usize],
+) -> Result<Vec<Option<usize>>, AllocError>
+    requires opening { Opening tokens.now opens.now }
+    requires sorted { Sorted opens.now }
+    requires started { Started opens.now starts.now }
+    ensures { IfOk result (λ closes. Paired tokens.now opens.now closes.items) }
+{
+    let mut closes: Vec<Option<usize>> = vec![in alloc; None; opens.len()]?;
+    let mut opened: Vec<usize> = Vec::new(alloc);
+    let mut i = first_of(opens, tokens.len());
+    while i < tokens.len() {
+        let token = tokens[i];
+        match token.kind {
+            TokenKind::LParen => {
+                opened.push(i)?;
+                i += 1;
+            }
+            TokenKind::RParen => match opened.pop() {
+                Some(paren) => {
+                    note_close(&mut closes, opens, starts, paren, i);
+                    i += 1;
+                }
+                None => i += 1,
+            },
+            _ => i += 1,
+        }
+    }
+    Ok(closes)
+}
+
+/// The raw tokens of a lexer's text, with its annotations noted.
+fn fill<'a>(alloc: Global, lexer: &Lexer<'a>) -> Result<Table<'a>, AllocError>
+    ensures read { IfOk result (λ t. MaximalTiling lexer.now 0 t.tokens.items t.fault) }
+    ensures noted { IfOk result (λ t. Noted lexer.now.text t.tokens.items t.opens.items
+        (map name_answer t.names.items) t.starts.items) }
+{
+    let text = lexer.input();
+    let mut table = Table::new(alloc);
+    let mut pos = 0;
+    'tokens: loop {
+        match lexer.scan(pos) {
+            Ok(Some(token)) => {
+                table.add(alloc, text, token)?;
+                pos = token.offset + token.len as usize;
+            }
+            Ok(None) => return Ok(table),
+            Err(fault) => {
+                table.fault = Some(fault);
+                return Ok(table);
+            }
+        }
+    }
+}
+
+impl<'a> Table<'a> {
+    /// The table of a lexer's text. It is refused for want of memory alone.
+    pub fn of(alloc: Global, lexer: &Lexer<'a>) -> Result<Table<'a>, AllocError>
+        ensures read { IfOk result (λ t. MaximalTiling lexer.now 0 t.tokens.items t.fault) }
+        ensures noted { IfOk result (λ t. Noted lexer.now.text t.tokens.items t.opens.items
+            (map name_answer t.names.items) t.starts.items) }
+        ensures paired { IfOk result (λ t.
+            Paired t.tokens.items t.opens.items t.closes.items) }
+    {
+        let mut table = fill(alloc, lexer)?;
+        table.tokens.shrink_to_fit();
+        table.closes = closes(alloc, &table.tokens, &table.opens, &table.starts)?;
+        Ok(table)
     }
 }

@@ -13,7 +13,7 @@ returns-in_ok-note-clause-noted c =
     let h : is_head (slice_get a.tokens.items (length a.tokens.items - 1)) c.args.token ≡ true = search rules in
     let same = ap (λ (v : _). v.items) (c.in_ok-note.ensures.tokens) in
     noted_more c.args.text.now a.tokens.items d.tokens.items a.opens.items b.opens.items d.opens.items a.starts.items d.starts.items (map name_answer a.names.items) (map name_answer d.names.items) c.args.token c.requires.noted c.requires.token c.requires.short
-        (search rules) (search rules) (search rules) h (search rules) (search rules) (search rules)
+    (search rules) (search rules) (search rules) h (search rules) (search rules) (search rules)
 
 pub returns-else-is_head-clause-noted : goal.returns-else-is_head-clause-noted
 returns-else-is_head-clause-noted c =
@@ -21,4 +21,4 @@ returns-else-is_head-clause-noted c =
     let b = c.push.new.self in
     let h : is_head (slice_get a.tokens.items (length a.tokens.items - 1)) c.args.token ≡ false = search rules in
     noted_plain c.args.text.now a.tokens.items b.tokens.items a.opens.items b.opens.items a.starts.items b.starts.items (map name_answer a.names.items) (map name_answer b.names.items) c.args.token c.requires.noted c.requires.token c.requires.short
-        (search rules) (search rules) (search rules) h (search rules) (search rules)
+    (search rules) (search rules) (search rules) h (search rules) (search rules)

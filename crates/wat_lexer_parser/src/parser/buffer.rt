@@ -1,0 +1,292 @@
+//! The buffer of a text: its raw tokens, and what a look at them needs.
+ghost use Rattle.std.specs.Prelude.{◌≡◌, ◌<◌, ◌≤◌, ◌^◌, ◌+◌, false, length, Some, slice_get};
+ghost use Rattle.std.specs.Prelude.{IfOk, IfErr, IfSome};
+ghost use Rattle.std.specs.Str.{IsUtf8};
+ghost use Rattle.wat_lex.specs.errors.Errors.{IsUnlessMemory};
+ghost use Rattle.wat_lex.specs.tokens.ReadableTokens.{IsTokenOf};
+ghost use Rattle.wat_lex.specs.values.WordValues.{name_answer};
+ghost use Rattle.wat_lex.specs.declared.lexer.kinds.TokenKind.TheVariants.{Annotation, LParen};
+ghost use Rattle.wat_lexer_parser.specs.declared.parser.fault.FaultKind.TheVariants.{Lex};
+ghost use Rattle.wat_lexer_parser.specs.groups.Sorts.{is_marked};
+ghost use Rattle.wat_lexer_parser.specs.inside.Table.{HeadsAnnotation, Pair};
+ghost use Rattle.wat_lexer_parser.specs.names.RegisteredNames.{no_names};
+ghost use Rattle.wat_lexer_parser.specs.parser.State.{message_at, report_of};
+ghost use Rattle.wat_lexer_parser.specs.places.Places.{offset_at, span_at, empty_of};
+ghost use Rattle.wat_lexer_parser.specs.places.Source.{IsRead};
+ghost use Rattle.wat_lexer_parser.specs.shown.Shown.{ended, left_open};
+ghost use Rattle.wat_lexer_parser.specs.shown.Showing.{name_at, placed, shown, step_kind};
+ghost use Rattle.wat_lexer_parser.specs.shown.Showing.{step_named, step_of};
+
+use crate::parser::fault::{Fault, FaultKind, Step};
+use crate::parser::names::Names;
+use crate::parser::table::{Table, find};
+use std::alloc::Global;
+use std::borrow::CowStr;
+use std::marker::Model;
+use wat_lex::error::Error;
+use wat_lex::lexer::{LexError, LexFault, Lexer, Token, TokenKind};
+use wat_lex::token::Span;
+
+/// A text with its raw tokens, of which a parser shows those that count.
+///
+/// The tokens are found once, when the buffer is made. A fault of the text is kept, and reported
+/// when the parser reaches it.
+#[derive(Drop)]
+pub struct ParseBuffer<'a> {
+    lexer: Lexer<'a>,
+    track: bool,
+    table: Table<'a>,
+    alloc: Global,
+}
+
+impl<'a> Model for ParseBuffer<'a> {
+    ghost use Rattle.std.specs.Prelude.{map};
+    ghost use Rattle.wat_lex.specs.values.WordValues.{name_answer};
+    ghost use Rattle.wat_lexer_parser.specs.inside.Table.{IsTable};
+    ghost use Rattle.wat_lexer_parser.specs.places.Source.{Source};
+
+    ghost Value = { Source };
+
+    ghost view = { λ b. record {
+      setting = b.lexer;
+      track = b.track;
+      tokens = b.table.tokens.items;
+      ending = b.table.fault;
+    } };
+
+    ghost invariant = { λ b. IsTable
+      (record {
+        setting = b.lexer;
+        track = b.track;
+        tokens = b.table.tokens.items;
+        ending = b.table.fault;
+      })
+      b.table.opens.items (map name_answer b.table.names.items) b.table.starts.items
+      b.table.closes.items };
+}
+
+impl<'a> ParseBuffer<'a> {
+    /// The buffer of a text of at most `u32::MAX` bytes, with both settings of the lexer off. It is
+    /// refused for want of memory alone.
+    pub fn new(alloc: Global, text: &'a str) -> Result<ParseBuffer<'a>, Error>
+        requires { length text.now < 2 ^ 32 }
+        ensures setting { IfOk result (λ b. b.setting ≡ record {
+          text = text.now;
+          flags = record { allow = false; strict = false };
+        }) }
+        ensures track { IfOk result (λ b. b.track ≡ false) }
+        ensures read { IfOk result IsRead }
+        ensures memory { IfErr result (λ e. e ≡ None) }
+    {
+        ParseBuffer::new_with_lexer(alloc, Lexer::new(text))
+    }
+
+    /// The buffer of a lexer's text, with its settings.
+    pub fn new_with_lexer(alloc: Global, lexer: Lexer<'a>) -> Result<ParseBuffer<'a>, Error>
+        ensures setting { IfOk result (λ b. b.setting ≡ lexer.entry) }
+        ensures track { IfOk result (λ b. b.track ≡ false) }
+        ensures read { IfOk result IsRead }
+        ensures memory { IfErr result (λ e. e ≡ None) }
+    {
+        let table = Table::of(alloc, &lexer)?;
+        Ok(ParseBuffer {
+            lexer,
+            track: false,
+            table,
+            alloc,
+        })
+    }
+
+    /// Sets whether the spans of instructions are tracked, which a parser only answers back.
+    pub fn track_instr_spans(&mut self, track: bool) -> &mut Self
+        ensures same { result.ghost_name ≡ self.entry.ghost_name }
+        ensures track { result.now ≡ record self.old { track = track } }
+    {
+        self.track = track;
+        self
+    }
+
+    /// The raw tokens of the text, up to its end or its first fault.
+    pub fn raw(&self) -> &[Token]
+        ensures tokens { result.now ≡ self.now.tokens }
+        ensures read { IsRead self.now }
+    {
+        &self.table.tokens
+    }
+
+    /// The first fault of the text.
+    pub fn lex_fault(&self) -> Option<LexFault>
+        ensures ending { result ≡ self.now.ending }
+        ensures read { IsRead self.now }
+    {
+        self.table.fault
+    }
+
+    pub(crate) fn tracks(&self) -> bool
+        ensures { result ≡ self.now.track }
+    {
+        self.track
+    }
+
+    pub(crate) fn text(&self) -> &'a str
+        ensures text { result.now ≡ self.now.setting.text }
+        ensures utf8 { IsUtf8 self.now.setting.text }
+    {
+        self.lexer.input()
+    }
+
+    pub(crate) fn alloc(&self) -> Global {
+        self.alloc
+    }
+}
+
+/// The fault that is shown where the text has one.
+fn lexical(fault: LexFault) -> Fault
+    ensures { result ≡ record { offset = fault.offset; kind = Lex fault.error } }
+{
+    Fault {
+        offset: fault.offset,
+        kind: FaultKind::Lex(fault.error),
+    }
+}
+
+/// What an annotation of this name means for the parenthesis before it.
+fn step_by(name: &Result<CowStr<'_>, LexError>, token: Token, names: &Names) -> Step
+    ensures { result ≡ step_named names.now token (Some (name_answer name.now)) }
+{
+    match name {
+        Ok(name) => {
+            if names.is_registered(name.as_str()) {
+                Step::Take
+            } else {
+                Step::Skip
+            }
+        }
+        Err(error) => Step::Refuse(Fault {
+            offset: token.offset,
+            kind: FaultKind::Lex(*error),
+        }),
+    }
+}
+
+// A look, which takes no memory.
+impl<'a> ParseBuffer<'a> {
+    /// The raw token at a place.
+    pub(crate) fn token_at(&self, place: usize) -> Option<Token>
+        ensures value { result ≡ slice_get self.now.tokens place }
+        ensures within { IfSome result (λ t. place < length self.now.tokens) }
+        ensures small { length self.now.tokens < 2 ^ 63 }
+    {
+        self.table.tokens.get(place).copied()
+    }
+
+    /// The token at a place is one for the readers.
+    pub(crate) fn is_readable(&self, place: usize, token: Token)
+        requires { slice_get self.now.tokens place ≡ Some token }
+        ensures token { IsTokenOf self.now.setting.text token }
+        ensures short { token.offset + token.len < 2 ^ 32 }
+    {
+        let _count = self.table.tokens.len();
+    }
+
+    /// Whether the byte behind the token's first is `@`.
+    fn is_marked(&self, token: Token) -> bool
+        requires { token.offset < 2 ^ 32 }
+        ensures { result ≡ is_marked self.now.setting.text token }
+    {
+        match self.text().as_bytes().get(token.offset + 1) {
+            Some(byte) => *byte == b'@',
+            None => false,
+        }
+    }
+
+    /// The index of an annotation, and what its name means for the parenthesis before it, at this
+    /// place.
+    fn step_named(&self, place: usize, token: Token, names: &Names) -> Step
+        requires { HeadsAnnotation self.now.tokens place token }
+        ensures { result ≡ step_named names.now token (name_at self.now.setting.text token) }
+    {
+        match find(&self.table.opens, &self.table.starts, place) {
+            Some(i) => step_by(&self.table.names[i], token, names),
+            None => Step::Take,
+        }
+    }
+
+    /// Where the group of the annotation is closed whose parenthesis stands at a place.
+    fn close_of(&self, place: usize, token: Token) -> Option<usize>
+        requires { HeadsAnnotation self.now.tokens place token }
+        ensures { Pair self.now.tokens place result }
+    {
+        match find(&self.table.opens, &self.table.starts, place) {
+            Some(i) => self.table.closes[i],
+            None => None,
+        }
+    }
+
+    /// What a parenthesis means by the token directly behind it.
+    fn step_open(&self, place: usize, token: Token, names: &Names) -> Step
+        requires within { place < 2 ^ 63 }
+        requires short { token.offset < 2 ^ 32 }
+        requires token { slice_get self.now.tokens place ≡ Some token }
+        requires kind { token.kind ≡ LParen }
+        ensures { result ≡ step_kind self.now.setting.text names.now token LParen
+            (slice_get self.now.tokens (place + 1)) }
+    {
+        match self.token_at(place + 1) {
+            Some(next) => match next.kind {
+                TokenKind::Annotation => {
+                    if self.is_marked(token) {
+                        self.step_named(place, next, names)
+                    } else {
+                        Step::Take
+                    }
+                }
+                _ => Step::Take,
+            },
+            None => {
+                if self.is_marked(token) {
+                    Step::Finish
+                } else {
+                    Step::Take
+                }
+            }
+        }
+    }
+
+    /// What the token at a place means for a look there.
+    fn step(&self, place: usize, token: Token, names: &Names) -> Step
+        requires within { place < 2 ^ 63 }
+        requires short { token.offset < 2 ^ 32 }
+        requires token { slice_get self.now.tokens place ≡ Some token }
+        ensures { result ≡ step_of self.now.setting.text names.now token
+            (slice_get self.now.tokens (place + 1)) }
+    {
+        match token.kind {
+            TokenKind::Whitespace | TokenKind::LineComment | TokenKind::BlockComment => Step::Pass,
+            TokenKind::LParen => self.step_open(place, token, names),
+            _ => Step::Take,
+        }
+    }
+
+    fn ending(&self) -> Result<Option<(Token, usize)>, Fault>
+        ensures { result ≡ placed self.now.tokens (ended self.now.ending) }
+    {
+        match self.table.fault {
+            None => Ok(None),
+            Some(fault) => Err(lexical(fault)),
+        }
+    }
+
+    fn left_open(&self, token: Token) -> Result<Option<(Token, usize)>, Fault>
+        requires { token.offset < 2 ^ 32 }
+        ensures { result ≡ placed self.now.tokens (left_open self.now.ending token) }
+    {
+        match self.table.fault {
+            None => Err(Fault {
+                offset: token.offset + 1,
+                kind: FaultKind::Unclosed,
+            }),
+            Some(fault) => Err(lexical(fault)),
+        }
+    }
+}
