@@ -1,5 +1,6 @@
 -- Lemmas on what is shown.
 pub mod Skipping
+pub mod Annotations
 pub mod Looks
 pub mod Steps
 pub mod SomethingShown

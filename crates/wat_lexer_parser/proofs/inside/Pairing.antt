@@ -163,11 +163,11 @@ walk_close ts i k ks opens ps qs t o s a e w d =
     let top : k < i = walk_top ts i k ks opens ps w in
     let c = walk_closes ts i k ks opens ps t a e w in
     let reach : (q : ℕ) → q < length ks → Reaches (drop (get_or ks q 0 + 1) ts) (length ks - q) (drop (i + 1) ts) = λ q h.
-        let n : length (ks ++ (k ∷ [])) - q ≡ (length ks - q) + 1 = omega arith in
-        let g = w.reaches q (omega arith) in
-        let g1 = subst (λ x. Reaches (drop (get_or (ks ++ (k ∷ [])) q 0 + 1) ts) x (drop i ts)) n g in
-        let g2 = subst (λ x. Reaches (drop (x + 1) ts) ((length ks - q) + 1) (drop i ts)) (get_or_append_left ks (k ∷ []) 0 q h) g1 in
-        step_close (drop (get_or ks q 0 + 1) ts) (drop (i + 1) ts) t (length ks - q) e (subst (λ x. Reaches (drop (get_or ks q 0 + 1) ts) ((length ks - q) + 1) x) (cut ts i t a) g2) in
+    let n : length (ks ++ (k ∷ [])) - q ≡ (length ks - q) + 1 = omega arith in
+    let g = w.reaches q (omega arith) in
+    let g1 = subst (λ x. Reaches (drop (get_or (ks ++ (k ∷ [])) q 0 + 1) ts) x (drop i ts)) n g in
+    let g2 = subst (λ x. Reaches (drop (x + 1) ts) ((length ks - q) + 1) (drop i ts)) (get_or_append_left ks (k ∷ []) 0 q h) g1 in
+    step_close (drop (get_or ks q 0 + 1) ts) (drop (i + 1) ts) t (length ks - q) e (subst (λ x. Reaches (drop (get_or ks q 0 + 1) ts) ((length ks - q) + 1) x) (cut ts i t a) g2) in
     let low : (q : ℕ) → q < length ks → get_or ks q 0 < i + 1 = λ q h. omega (arith, w.below q (omega arith), get_or_append_left ks (k ∷ []) 0 q h) in
     let earlier : (g : ℕ) → g < length opens → get_or opens g 0 < i + 1 → get_or opens g 0 < i = λ g m h. elim (cases_lt (get_or opens g 0) i) [
       | inl b ↦ b

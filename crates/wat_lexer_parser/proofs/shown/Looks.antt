@@ -1,6 +1,6 @@
 -- What is shown at a place, a step at a time.
 use Rattle.std.proofs.Common.{◌≡◌, ℕ, zero, suc, ◌+◌, ◌-◌, ◌<◌, ◌≤◌, List, [], ◌∷◌, refl, sym, ap, ◌∙◌, inl, inr, subst, length, drop, get_or, arith, length-drop, Some, None, Ok, Err}
-use Rattle.std.specs.Prelude.{slice_get, Option}
+use Rattle.std.specs.Prelude.{slice_get, Option, if◌then◌else◌}
 use Rattle.std.proofs.lemmas.List.{drop_more, drop_all, get_or_read}
 use Rattle.wat_lex.specs.declared.lexer.faults.LexFault.{LexFault}
 use Rattle.wat_lex.specs.declared.lexer.kinds.TokenKind.{TokenKind}
@@ -12,9 +12,14 @@ use Rattle.wat_lexer_parser.specs.declared.parser.fault.Step.TheVariants.{Pass, 
 use Rattle.wat_lexer_parser.proofs.groups.Closing.{Closed}
 use Rattle.wat_lexer_parser.specs.names.RegisteredNames.{Names}
 use Rattle.wat_lexer_parser.specs.shown.Shown.{Shown, ended, left_open}
-use Rattle.wat_lexer_parser.specs.shown.Showing.{Showing, Inside, shown_in, shown, placed, first, step_of, step_kind}
+use Rattle.wat_lexer_parser.specs.shown.Showing.{Showing, Inside, shown_in, shown, placed, first, step_of, step_kind, step_next, step_named, name_at}
 use Rattle.wat_lexer_parser.specs.places.Source.{Source}
+use Rattle.wat_lexer_parser.specs.groups.Sorts.{is_marked}
+use Rattle.wat_lexer_parser.specs.inside.Table.{HeadsAnnotation}
+use Rattle.wat_lexer_parser.proofs.shown.Annotations.{is_annotation, no_name}
 use Rattle.wat_lexer_parser.proofs.shown.Skipping.{past_closed, closes_or_not}
+use Rattle.std.proofs.lemmas.Bool.{cases_Bool}
+use Rattle.std.proofs.lemmas.Option.{slice_get_read}
 
 abbrev pub does : List ℕ → Option LexFault → Names → Token → List Token → Step → Shown
 does x z n t r Pass = shown_in x z n Showing r
@@ -99,3 +104,24 @@ skip_opens s n t u e = opens t.kind refl
     opens Reserved f = let g : step_kind s.setting.text n t Reserved u ≡ Skip = subst (λ x. step_kind s.setting.text n t x u ≡ Skip) f e in cc
     opens (Integer y) f = let g : step_kind s.setting.text n t (Integer y) u ≡ Skip = subst (λ x. step_kind s.setting.text n t x u ≡ Skip) f e in cc
     opens (Float y) f = let g : step_kind s.setting.text n t (Float y) u ≡ Skip = subst (λ x. step_kind s.setting.text n t x u ≡ Skip) f e in cc
+
+-- what a step that skips has behind it
+heads_by : (s : Source) (n : Names) (i : ℕ) (t : Token) (o : Option Token) → slice_get s.tokens i ≡ Some t → slice_get s.tokens (i + 1) ≡ o → t.kind ≡ LParen → step_kind s.setting.text n t LParen o ≡ Skip → (u : Token) × HeadsAnnotation s.tokens i u
+heads_by s n i t None e f o h = elim (cases_Bool (is_marked s.setting.text t)) [
+  | inl m ↦ let k : Finish ≡ Skip = sym (ap (λ b. if b then step_next s.setting.text n None else Take) m) ∙ h in cc
+  | inr m ↦ let k : Take ≡ Skip = sym (ap (λ b. if b then step_next s.setting.text n None else Take) m) ∙ h in cc
+]
+heads_by s n i t (Some u) e f o h = elim (cases_Bool (is_marked s.setting.text t)) [
+  | inl m ↦
+      let k : step_named n u (name_at s.setting.text u) ≡ Skip = sym (ap (λ b. if b then step_next s.setting.text n (Some u) else Take) m) ∙ h in
+      elim (is_annotation u.kind) [
+        | inl a ↦ (u, record { paren = t; opens = e; next = f; is_open = o; is_annotation = a })
+        | inr a ↦ let l : Take ≡ Skip = sym (ap (step_named n u) (no_name s.setting.text u u.kind a)) ∙ k in cc
+      ]
+  | inr m ↦ let k : Take ≡ Skip = sym (ap (λ b. if b then step_next s.setting.text n (Some u) else Take) m) ∙ h in cc
+]
+
+pub skip_heads : (s : Source) (n : Names) (i : ℕ) (t : Token) → i < length s.tokens → t ≡ get_or s.tokens i t → step_of s.setting.text n t (slice_get s.tokens (i + 1)) ≡ Skip → (u : Token) × HeadsAnnotation s.tokens i u
+skip_heads s n i t l e h =
+    let o = skip_opens s n t (slice_get s.tokens (i + 1)) h in
+    heads_by s n i t (slice_get s.tokens (i + 1)) (slice_get_read s.tokens (length s.tokens) i t refl l e) refl o (subst (λ k. step_kind s.setting.text n t k (slice_get s.tokens (i + 1)) ≡ Skip) o h)

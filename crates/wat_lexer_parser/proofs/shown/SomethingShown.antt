@@ -23,7 +23,8 @@ use Rattle.wat_lexer_parser.specs.groups.Sorts.{is_blank, is_marked}
 use Rattle.wat_lexer_parser.proofs.groups.Closing.{closed_from, group_from, closed_shorter}
 use Rattle.wat_lexer_parser.proofs.groups.Closing.{Closed, close, beyond, nested}
 use Rattle.wat_lexer_parser.proofs.shown.Skipping.{past_closed, closes_or_not}
-use Rattle.wat_lexer_parser.proofs.shown.Steps.{blank_step, other_step, no_name, named, misnamed_is, by_step, mark_step, name_step, registered_step}
+use Rattle.wat_lexer_parser.proofs.shown.Annotations.{is_annotation, no_name}
+use Rattle.wat_lexer_parser.proofs.shown.Steps.{blank_step, other_step, named, misnamed_is, by_step, mark_step, name_step, registered_step}
 
 kind_sort : (k : TokenKind) → (k ≡ LParen) ⊎ ((is_blank k ≡ true) ⊎ ((is_blank k ≡ false) × (k ≢ LParen)))
 kind_sort Whitespace = inr (inl refl)
@@ -65,20 +66,6 @@ nameable_drop : (text : List ℕ) (p : ℕ) (ts : List Token) → Nameable text 
 nameable_drop text zero ts h = h
 nameable_drop text (suc p) [] h = tt
 nameable_drop text (suc p) (t ∷ ts) h = nameable_drop text p ts h.1
-
-is_annotation : (k : TokenKind) → (k ≡ Annotation) ⊎ (k ≢ Annotation)
-is_annotation Whitespace = inr (λ e. cc)
-is_annotation LineComment = inr (λ e. cc)
-is_annotation BlockComment = inr (λ e. cc)
-is_annotation LParen = inr (λ e. cc)
-is_annotation RParen = inr (λ e. cc)
-is_annotation String = inr (λ e. cc)
-is_annotation Id = inr (λ e. cc)
-is_annotation Keyword = inr (λ e. cc)
-is_annotation Annotation = inl refl
-is_annotation Reserved = inr (λ e. cc)
-is_annotation (Integer k) = inr (λ e. cc)
-is_annotation (Float k) = inr (λ e. cc)
 
 nameable_past : (x : List ℕ) (s r : List Token) → Closed s r → Nameable x s → Nameable x r
 nameable_past x s r (close e) h = h.1

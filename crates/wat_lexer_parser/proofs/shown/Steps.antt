@@ -19,6 +19,7 @@ use Rattle.wat_lexer_parser.specs.shown.Showing.{name_by, name_at}
 use Rattle.wat_lexer_parser.proofs.groups.Closing.{closed_from, group_from}
 use Rattle.wat_lexer_parser.proofs.shown.Skipping.{past_closed, closes_or_not}
 use Rattle.wat_lexer_parser.proofs.shown.Looks.{step_at, does}
+use Rattle.wat_lexer_parser.proofs.shown.Annotations.{no_name}
 use Rattle.wat_lex.specs.tokens.EverySetting.{NamesAreValues}
 
 pub blank_step : (x : List ℕ) (n : Names) (t : Token) (u : Option Token) (k : TokenKind) → is_blank k ≡ true → step_kind x n t k u ≡ Pass
@@ -48,20 +49,6 @@ other_step x n t u Annotation e f = refl
 other_step x n t u Reserved e f = refl
 other_step x n t u (Integer k) e f = refl
 other_step x n t u (Float k) e f = refl
-
-pub no_name : (x : List ℕ) (u : Token) (k : TokenKind) → k ≢ Annotation → name_by k x u ≡ None
-no_name x u Whitespace f = refl
-no_name x u LineComment f = refl
-no_name x u BlockComment f = refl
-no_name x u LParen f = refl
-no_name x u RParen f = refl
-no_name x u String f = refl
-no_name x u Id f = refl
-no_name x u Keyword f = refl
-no_name x u Annotation f = absurd (f refl)
-no_name x u Reserved f = refl
-no_name x u (Integer k) f = refl
-no_name x u (Float k) f = refl
 
 -- the function's name of an annotation is the grammar's
 pub named : NamesAreValues → (x : List ℕ) (u : Token) (v : List ℕ) → IsNamed x u v → name_at x u ≡ Some (Ok v)

@@ -5,7 +5,8 @@ ghost use Rattle.std.specs.Str.{IsUtf8};
 ghost use Rattle.wat_lex.specs.errors.Errors.{IsUnlessMemory};
 ghost use Rattle.wat_lex.specs.tokens.ReadableTokens.{IsTokenOf};
 ghost use Rattle.wat_lex.specs.values.WordValues.{name_answer};
-ghost use Rattle.wat_lex.specs.declared.lexer.kinds.TokenKind.TheVariants.{Annotation, LParen};
+ghost use Rattle.wat_lex.specs.declared.lexer.kinds.Token.{Token};
+ghost use Rattle.wat_lex.specs.declared.lexer.kinds.TokenKind.TheVariants.{LParen};
 ghost use Rattle.wat_lexer_parser.specs.declared.parser.fault.FaultKind.TheVariants.{Lex};
 ghost use Rattle.wat_lexer_parser.specs.groups.Sorts.{is_marked};
 ghost use Rattle.wat_lexer_parser.specs.inside.Table.{HeadsAnnotation, Pair};
@@ -55,14 +56,14 @@ impl<'a> Model for ParseBuffer<'a> {
     } };
 
     ghost invariant = { λ b. IsTable
-      (record {
-        setting = b.lexer;
-        track = b.track;
-        tokens = b.table.tokens.items;
-        ending = b.table.fault;
-      })
-      b.table.opens.items (map name_answer b.table.names.items) b.table.starts.items
-      b.table.closes.items };
+        (record {
+          setting = b.lexer;
+          track = b.track;
+          tokens = b.table.tokens.items;
+          ending = b.table.fault;
+        })
+        b.table.opens.items (map name_answer b.table.names.items) b.table.starts.items
+        b.table.closes.items };
 }
 
 impl<'a> ParseBuffer<'a> {
@@ -200,8 +201,7 @@ impl<'a> ParseBuffer<'a> {
         }
     }
 
-    /// The index of an annotation, and what its name means for the parenthesis before it, at this
-    /// place.
+    /// What the name of an annotation means for the parenthesis before it, which stands at a place.
     fn step_named(&self, place: usize, token: Token, names: &Names) -> Step
         requires { HeadsAnnotation self.now.tokens place token }
         ensures { result ≡ step_named names.now token (name_at self.now.setting.text token) }
@@ -213,8 +213,8 @@ impl<'a> ParseBuffer<'a> {
     }
 
     /// Where the group of the annotation is closed whose parenthesis stands at a place.
-    fn close_of(&self, place: usize, token: Token) -> Option<usize>
-        requires { HeadsAnnotation self.now.tokens place token }
+    fn close_of(&self, place: usize) -> Option<usize>
+        requires { (u : Token) × HeadsAnnotation self.now.tokens place u }
         ensures { Pair self.now.tokens place result }
     {
         match find(&self.table.opens, &self.table.starts, place) {
@@ -287,6 +287,101 @@ impl<'a> ParseBuffer<'a> {
                 kind: FaultKind::Unclosed,
             }),
             Some(fault) => Err(lexical(fault)),
+        }
+    }
+
+    /// What is shown at a place, with the place behind it. It takes no memory.
+    pub(crate) fn look(&self, place: usize, names: &Names) -> Result<Option<(Token, usize)>, Fault>
+        ensures value { result ≡ shown self.now place names.now }
+        ensures on { IfOk result (λ found. IfSome found (λ v.
+            (place < v.1) × (v.1 ≤ length self.now.tokens))) }
+        ensures reader { IfOk result (λ found. IfSome found (λ v.
+            IsTokenOf self.now.setting.text v.0)) }
+    {
+        let mut i = place;
+        while i < self.table.tokens.len() {
+            let token = self.table.tokens[i];
+            self.is_readable(i, token);
+            match self.step(i, token, names) {
+                Step::Pass => i += 1,
+                Step::Take => return Ok(Some((token, i + 1))),
+                Step::Finish => return self.ending(),
+                Step::Refuse(fault) => return Err(fault),
+                Step::Skip => match self.close_of(i) {
+                    Some(close) => i = close + 1,
+                    None => return self.left_open(token),
+                },
+            }
+        }
+        self.ending()
+    }
+
+    /// The byte of a place.
+    pub(crate) fn offset_at(&self, place: usize) -> usize
+        ensures { result ≡ offset_at self.now.tokens place }
+    {
+        if place == 0 {
+            return 0;
+        }
+        match self.token_at(place - 1) {
+            Some(token) => {
+                self.is_readable(place - 1, token);
+                token.offset + token.len as usize
+            }
+            None => 0,
+        }
+    }
+
+    /// The current span at a place.
+    #[tactic(auto, unfolding(crate::specs::places::Places::span_at))]
+    pub(crate) fn span_at(&self, place: usize, names: &Names) -> usize
+        ensures { result ≡ span_at self.now place names.now }
+    {
+        match self.look(place, names) {
+            Ok(None) => self.text().len(),
+            Ok(Some((token, _))) => token.offset,
+            Err(_) => self.offset_at(place),
+        }
+    }
+
+    /// Whether the end or `)` is shown.
+    pub(crate) fn is_empty(&self, place: usize, names: &Names) -> bool
+        ensures { result ≡ empty_of (shown self.now place names.now) }
+    {
+        match self.look(place, names) {
+            Ok(None) => true,
+            Ok(Some((token, _))) => matches!(token.kind, TokenKind::RParen),
+            Err(_) => false,
+        }
+    }
+}
+
+// Errors about the text.
+impl<'a> ParseBuffer<'a> {
+    /// The error of a fault that is shown.
+    #[cold]
+    #[tactic(auto, unfolding(crate::specs::parser::State::report_of))]
+    pub(crate) fn error_of(&self, fault: Fault) -> Error
+        ensures { IsUnlessMemory result (report_of self.now.setting.text fault) }
+    {
+        let span = Span::from_offset(fault.offset);
+        match fault.kind {
+            FaultKind::Lex(error) => Error::lex(self.alloc, span, self.text(), error),
+            FaultKind::Unclosed => match String::from_str(self.alloc, "unclosed annotation") {
+                Ok(message) => Error::new(span, message),
+                Err(_) => Error::out_of_memory(),
+            },
+        }
+    }
+
+    /// The error of a message at a byte of the text.
+    #[cold]
+    pub(crate) fn error_at(&self, span: Span, message: &str) -> Error
+        ensures { IsUnlessMemory result (message_at self.now span message.now) }
+    {
+        match String::from_str(self.alloc, message) {
+            Ok(message) => Error::parse(self.alloc, span, self.text(), message),
+            Err(_) => Error::out_of_memory(),
         }
     }
 }
