@@ -51,6 +51,10 @@ told text (Err f) = Err (report_of text f)
 unfoldable pub seen : Source → ℕ → Names → Seen
 seen s p names = told s.setting.text (shown s p names)
 
+-- the same from a parser's state, under its names
+abbrev pub seen_from : State → ℕ → Seen
+seen_from a p = seen a.source p a.names
+
 -- The answer of a call is this one, the value through f; or memory was wanting, which comes only in place of a report, or where the
 -- value itself may take memory.
 abbrev pub Answers : {V T : Type 0} → Bool → (T → V) → Result V Report → Result T (Option Report) → Type 0

@@ -1,15 +1,18 @@
 -- WebAssembly specification, text format, lexical format: tokens; values: strings, identifiers. What takers of one kind of token
 -- answer of what is seen. Integers and floats have their value by the relations of their words.
-use Rattle.std.specs.Prelude.{ℕ, Bool, false, List, is_some, Option, Some, None, Result, Ok, Err}
+use Rattle.std.specs.List.{list_any}
+use Rattle.std.specs.Prelude.{ℕ, Bool, false, ◌==◌, ◌&&◌, List, is_some, Option, Some, None, Result, Ok, Err}
 use Rattle.wat_lex.specs.errors.Errors.{Report, lexical}
 use Rattle.wat_lex.specs.tokens.ReadableTokens.{token_text, word_of}
+use Rattle.wat_lex.specs.grammar.Classes.{quote, backslash}
+use Rattle.wat_lex.specs.values.NumberValues.{is_integer_rewritten, is_float_rewritten}
 use Rattle.wat_lex.specs.values.WordValues.{string_value, name_value}
 use Rattle.wat_lex.specs.declared.lexer.faults.LexError.{LexError}
 use Rattle.wat_lex.specs.declared.lexer.faults.LexError.TheVariants.{EmptyId, EmptyAnnotation}
 use Rattle.wat_lex.specs.declared.lexer.kinds.Token.{Token}
 use Rattle.wat_lex.specs.declared.lexer.kinds.TokenKind.{TokenKind}
 use Rattle.wat_lex.specs.declared.lexer.kinds.TokenKind.TheVariants.{LParen, RParen, String, Id, Keyword, Annotation, Reserved, Integer, Float}
-use Rattle.wat_lexer_parser.specs.parser.State.{Seen}
+use Rattle.wat_lexer_parser.specs.parser.State.{State, Seen, seen_from}
 
 -- how tokens of one kind are read: None for another kind, else a value or a refusal
 abbrev pub Reader : Type 0 → Type 0
@@ -31,6 +34,19 @@ abbrev pub sees : {V : Type 0} → Reader V → List ℕ → Seen → Result Boo
 sees read text (Ok None) = Ok false
 sees read text (Ok (Some (t, q))) = Ok (is_some (read text t t.kind))
 sees read text (Err f) = Err f
+
+-- the same at a place, from a parser's state
+abbrev pub taken_from : {V : Type 0} → Reader V → State → ℕ → Result (Option (V × ℕ)) Report
+taken_from read a p = taken read a.source.setting.text (seen_from a p)
+
+abbrev pub sees_from : {V : Type 0} → Reader V → State → ℕ → Result Bool Report
+sees_from read a p = sees read a.source.setting.text (seen_from a p)
+
+-- the token alone
+abbrev pub token_of : Seen → Result (Option Token) Report
+token_of (Ok None) = Ok None
+token_of (Ok (Some (t, q))) = Ok (Some t)
+token_of (Err f) = Err f
 
 abbrev pub as_open : Reader (Unit {0})
 as_open text t LParen = Some (Ok tt)
@@ -72,3 +88,32 @@ as_id text t kind = None
 abbrev pub as_annotation : Reader (List ℕ)
 as_annotation text t Annotation = Some (name_answer text t (name_value EmptyAnnotation (word_of text t)))
 as_annotation text t kind = None
+
+-- Whether reading the seen token may take memory.
+abbrev pub may_take : (List ℕ → Token → Bool) → State → ℕ → Bool
+may_take takes a p = by (seen_from a p)
+  where
+    by : Seen → Bool
+    by (Ok None) = false
+    by (Ok (Some (t, q))) = takes a.source.setting.text t
+    by (Err f) = false
+
+abbrev pub contains : ℕ → List ℕ → Bool
+contains c w = list_any (λ d. d == c) w
+
+-- strings with an escape are decoded
+abbrev pub string_takes : List ℕ → Token → Bool
+string_takes text t = contains backslash (word_of text t)
+
+-- so are quoted names
+abbrev pub name_takes : List ℕ → Token → Bool
+name_takes text t = contains quote (word_of text t) && contains backslash (word_of text t)
+
+-- numbers with underscores or `0x` are written anew
+abbrev pub number_takes : List ℕ → Token → Bool
+number_takes text t = by t.kind
+  where
+    by : TokenKind → Bool
+    by (Integer k) = is_integer_rewritten k
+    by (Float k) = is_float_rewritten k
+    by kind = false
