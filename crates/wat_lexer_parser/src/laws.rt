@@ -1,5 +1,6 @@
 //! Laws of what a parser shows, for every text of UTF-8 and its raw tokens. Each function does
 //! nothing: its contract is the law, for the proofs of crates above.
+ghost use Rattle.wat_lexer_parser.specs.calls.CallLaws.{LooksAndRefusals};
 ghost use Rattle.wat_lexer_parser.specs.shown.ShownLaws.{TailsAreRaw, GroupIsOne};
 ghost use Rattle.wat_lexer_parser.specs.shown.ShownLaws.{SomethingShown, OneThingShown};
 
@@ -21,3 +22,8 @@ pub fn shown()
     wat_lex::laws::names();
     wat_lex::laws::tokens();
 }
+
+/// Looks and refused calls change nothing else.
+pub fn calls()
+    ensures { LooksAndRefusals }
+{}

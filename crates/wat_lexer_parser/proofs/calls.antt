@@ -1,0 +1,3 @@
+-- Lemmas on lists of calls, and on all that is shown.
+pub mod Refusals
+pub mod Beginnings
