@@ -3,3 +3,4 @@ pub mod Refusals
 pub mod Beginnings
 pub mod Behind
 pub mod EachShown
+pub mod ShownOneByOne

@@ -7,7 +7,8 @@ use Rattle.wat_lexer_parser.specs.declared.parser.fault.Fault.{Fault}
 use Rattle.wat_lexer_parser.specs.declared.parser.fault.Step.TheVariants.{Pass, Take, Finish, Refuse, Skip}
 use Rattle.wat_lexer_parser.specs.names.RegisteredNames.{Names}
 use Rattle.wat_lexer_parser.specs.shown.Shown.{Shown, ended, left_open}
-use Rattle.wat_lexer_parser.specs.shown.Showing.{Look, Mode, Showing, Inside, shown_in, placed, first, step_of, after}
+use Rattle.wat_lexer_parser.specs.places.Source.{Source}
+use Rattle.wat_lexer_parser.specs.shown.Showing.{Mode, Showing, Inside, shown_in, placed, shown, first, step_of, after}
 use Rattle.wat_lexer_parser.proofs.shown.Looks.{does}
 
 -- the rest is a tail of the tokens, and shorter: one token was passed, and so many more
@@ -87,3 +88,11 @@ pub from_token : (ts : List Token) (a : Shown) (t : Token) (q : ℕ) → placed 
 from_token ts (Ok None) t q e = cc
 from_token ts (Ok (Some (u, r))) t q e = let k = same_token u t (length ts - length r) q e in (r, ap (λ v. Ok (Some (v, r))) k.0, k.1)
 from_token ts (Err f) t q e = cc
+
+-- the place behind a shown token is further on, and within the tokens
+pub forward_shown : (s : Source) (p : ℕ) (n : Names) (t : Token) (q : ℕ) → shown s p n ≡ Ok (Some (t, q)) → (p < q) × (q ≤ length s.tokens)
+unfolding shown
+forward_shown s p n t q e =
+    let k = from_token s.tokens (shown_in s.setting.text s.ending n Showing (drop p s.tokens)) t q e in
+    let b = behind_place s.tokens p k.0 (behind_in s.setting.text s.ending n Showing (drop p s.tokens) t k.0 k.1) in
+    (omega (arith, b.forward, k.2), omega (arith, b.inside, k.2))

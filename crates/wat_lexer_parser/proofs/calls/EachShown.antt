@@ -37,7 +37,7 @@ abbrev AllFrom : Source → Names → ℕ → Type 0
 AllFrom s n p = (us : List Token) × (f : Option Fault) × ShowsAll s.setting.text s.ending n (drop p s.tokens) us f
 
 -- what is shown at a place is shown of the tokens there
-shows_at : SomethingShown → (s : Source) (n : Names) (p : ℕ) (a : Shown) → IsUtf8 s.setting.text → IsRead s → shown_in s.setting.text s.ending n Showing (drop p s.tokens) ≡ a → Shows s.setting.text s.ending n (drop p s.tokens) a
+pub shows_at : SomethingShown → (s : Source) (n : Names) (p : ℕ) (a : Shown) → IsUtf8 s.setting.text → IsRead s → shown_in s.setting.text s.ending n Showing (drop p s.tokens) ≡ a → Shows s.setting.text s.ending n (drop p s.tokens) a
 shows_at some s n p a u h e = subst (Shows s.setting.text s.ending n (drop p s.tokens)) e (some s n p u h)
 
 token_then : (s : Source) (n : Names) (p : ℕ) (t : Token) (r : List Token) → Shows s.setting.text s.ending n (drop p s.tokens) (Ok (Some (t, r))) → BehindPlace s.tokens p r
