@@ -1,8 +1,7 @@
 -- All that is shown, one token after another.
-use Rattle.std.proofs.Common.{◌≡◌, ℕ, zero, suc, ◌+◌, ◌-◌, ◌<◌, List, [], ◌∷◌, ◌++◌, refl, sym, ap, ◌∙◌, subst, length, drop, length-drop, append_assoc, arith, Some, None, Ok, Err}
+use Rattle.std.proofs.Common.{◌≡◌, ℕ, zero, suc, ◌-◌, ◌<◌, List, [], ◌∷◌, refl, sym, ap, ◌∙◌, subst, length, drop, length-drop, arith, Some, None, Ok, Err}
 use Rattle.std.specs.Prelude.{Option}
 use Rattle.std.specs.Str.{IsUtf8}
-use Rattle.std.proofs.lemmas.List.{append-nil}
 use Rattle.wat_lex.specs.declared.lexer.faults.LexFault.{LexFault}
 use Rattle.wat_lex.specs.declared.lexer.kinds.Token.{Token}
 use Rattle.wat_lexer_parser.specs.declared.parser.fault.Fault.{Fault}
@@ -10,9 +9,9 @@ use Rattle.wat_lexer_parser.specs.names.RegisteredNames.{Names}
 use Rattle.wat_lexer_parser.specs.places.Source.{Source, IsRead}
 use Rattle.wat_lexer_parser.specs.shown.AllShown.{ShowsAll, end, fault, next}
 use Rattle.wat_lexer_parser.specs.shown.Shown.{Shown, Shows}
-use Rattle.wat_lexer_parser.specs.shown.Showing.{Showing, shown_in, shown}
+use Rattle.wat_lexer_parser.specs.shown.Showing.{Showing, shown_in}
 use Rattle.wat_lexer_parser.specs.shown.ShownLaws.{SomethingShown, OneThingShown}
-use Rattle.wat_lexer_parser.proofs.calls.Behind.{BehindPlace, behind_in, behind_place, same_token, from_none, from_fault, from_token}
+use Rattle.wat_lexer_parser.proofs.calls.Behind.{BehindPlace, behind_in, behind_place, same_token}
 
 same_shown : OneThingShown → (x : List ℕ) (z : Option LexFault) (n : Names) (ts : List Token) (a b : Shown) → Shows x z n ts a → Shows x z n ts b → a ≡ b
 same_shown one x z n ts a b h k = one x z n ts a h ∙ sym (one x z n ts b k)
