@@ -3,3 +3,4 @@ mod names
 mod shown
 mod places
 mod inside
+mod calls

@@ -1,7 +1,9 @@
-//! Laws of what a parser shows, for every text of UTF-8 and its raw tokens. Each function does
-//! nothing: its contract is the law, for the proofs of crates above.
+//! Laws of what a parser shows, for every text of UTF-8 and its raw tokens, and of what it replies
+//! to calls. Each function does nothing: its contract is the law, for the proofs of crates above.
+ghost use Rattle.wat_lexer_parser.specs.calls.CallLaws.{LooksAndRefusals};
 ghost use Rattle.wat_lexer_parser.specs.shown.ShownLaws.{TailsAreRaw, GroupIsOne};
 ghost use Rattle.wat_lexer_parser.specs.shown.ShownLaws.{SomethingShown, OneThingShown};
+ghost use Rattle.wat_lexer_parser.specs.shown.ShownLaws.{SomethingIsAllShown, AllShownIsOne};
 
 /// The raw tokens from a place on are the tail of the raw tokens.
 pub fn tails()
@@ -21,3 +23,17 @@ pub fn shown()
     wat_lex::laws::names();
     wat_lex::laws::tokens();
 }
+
+/// From each place of a text tokens are shown one after another, and then the end or a fault: these
+/// tokens are one list, and what follows them is one thing.
+pub fn all_shown()
+    ensures all_some { SomethingIsAllShown }
+    ensures all_one { AllShownIsOne }
+{
+    shown();
+}
+
+/// Looks and refused calls change nothing else.
+pub fn calls()
+    ensures { LooksAndRefusals }
+{}

@@ -35,6 +35,10 @@ pub record NothingElse (s : State) (cs : List Call) : Type 0 where
   pub same_replies : replies s (kept_calls s cs) ≡ kept_replies s cs
   pub same_state : state_after s (kept_calls s cs) ≡ state_after s cs
 
+-- which holds of each state and each list of calls
+abbrev pub LooksAndRefusals : Type 0
+LooksAndRefusals = (s : State) (cs : List Call) → NothingElse s cs
+
 -- the state after some beginning of the calls
 abbrev pub BeginsWith : State → List Call → State → Type 0
 BeginsWith s cs t = (k : ℕ) × (t ≡ state_after s (take k cs))

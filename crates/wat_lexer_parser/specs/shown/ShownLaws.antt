@@ -6,10 +6,12 @@ use Rattle.wat_lex.specs.tokens.Setting.{Setting}
 use Rattle.wat_lex.specs.tokens.Tiling.{MaximalTiling}
 use Rattle.wat_lex.specs.declared.lexer.faults.LexFault.{LexFault}
 use Rattle.wat_lex.specs.declared.lexer.kinds.Token.{Token}
+use Rattle.wat_lexer_parser.specs.declared.parser.fault.Fault.{Fault}
 use Rattle.wat_lexer_parser.specs.groups.Groups.{Group}
 use Rattle.wat_lexer_parser.specs.names.RegisteredNames.{Names}
 use Rattle.wat_lexer_parser.specs.places.Places.{offset_at}
 use Rattle.wat_lexer_parser.specs.places.Source.{Source, IsRead}
+use Rattle.wat_lexer_parser.specs.shown.AllShown.{ShowsAll}
 use Rattle.wat_lexer_parser.specs.shown.Shown.{Shown, Shows}
 use Rattle.wat_lexer_parser.specs.shown.Showing.{Showing, shown_in}
 
@@ -28,3 +30,11 @@ SomethingShown = (s : Source) (names : Names) (p : ℕ) → IsUtf8 s.setting.tex
 -- and nothing else
 abbrev pub OneThingShown : Type 0
 OneThingShown = (text : List ℕ) (e : Option LexFault) (names : Names) (ts : List Token) (a : Shown) → Shows text e names ts a → a ≡ shown_in text e names Showing ts
+
+-- from each place on, tokens are shown one after another, and then the end or a fault
+abbrev pub SomethingIsAllShown : Type 0
+SomethingIsAllShown = (s : Source) (names : Names) (p : ℕ) → IsUtf8 s.setting.text → IsRead s → (us : List Token) × (f : Option Fault) × ShowsAll s.setting.text s.ending names (drop p s.tokens) us f
+
+-- and no others
+abbrev pub AllShownIsOne : Type 0
+AllShownIsOne = (text : List ℕ) (e : Option LexFault) (names : Names) (ts us vs : List Token) (f g : Option Fault) → ShowsAll text e names ts us f → ShowsAll text e names ts vs g → (us ≡ vs) × (f ≡ g)

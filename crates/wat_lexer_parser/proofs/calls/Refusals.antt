@@ -1,0 +1,111 @@
+-- Looks and refused calls leave the state.
+use Rattle.std.proofs.Common.{◌≡◌, ℕ, List, [], ◌∷◌, Bool, true, false, refl, sym, ap, ◌∙◌, inl, inr, Some, None, Ok, Err}
+use Rattle.std.specs.Prelude.{if◌then◌else◌, nat_eq, Result, string_bytes}
+use Rattle.std.proofs.lemmas.Bool.{cases_Bool}
+use Rattle.wat_lexer_parser.specs.declared.parser.fault.Fault.{Fault}
+use Rattle.wat_lexer_parser.specs.declared.parser.replay.Call.{Call}
+use Rattle.wat_lexer_parser.specs.declared.parser.replay.Call.TheVariants as call
+use Rattle.wat_lexer_parser.specs.declared.parser.replay.Reply.{Reply}
+use Rattle.wat_lexer_parser.specs.declared.parser.replay.Reply.TheVariants as reply
+use Rattle.wat_lexer_parser.specs.calls.Calls.{answer, replies, state_after, shown_reply, comment_reply, place_after, takes, close_reply, takes_reply, open_reply, group_reply, most_often}
+use Rattle.wat_lexer_parser.specs.calls.CallLaws.{is_done, is_kept, kept_calls, kept_replies, NothingElse}
+use Rattle.wat_lexer_parser.specs.groups.Sorts.{is_open, is_close}
+use Rattle.wat_lexer_parser.specs.names.RegisteredNames.{Names, count, more, fewer, is_registered}
+use Rattle.wat_lexer_parser.specs.parser.State.{State}
+use Rattle.wat_lexer_parser.specs.places.Places.{comment_at}
+use Rattle.wat_lexer_parser.specs.places.Source.{Source}
+use Rattle.wat_lexer_parser.specs.shown.Showing.{Look, shown}
+
+shown_still : (a : Look) (p : ℕ) → is_done (shown_reply a) ≡ false → place_after a p ≡ p
+shown_still (Ok None) p e = refl
+shown_still (Ok (Some (t, q))) p e = cc
+shown_still (Err f) p e = refl
+
+comment_still : (a : Look) (p : ℕ) → is_done (comment_reply a) ≡ false → place_after a p ≡ p
+comment_still (Ok None) p e = refl
+comment_still (Ok (Some (t, q))) p e = cc
+comment_still (Err f) p e = refl
+
+-- a refused group leaves the place
+abbrev pub StaysRefused : ℕ → Reply × ℕ → Type 0
+StaysRefused p a = is_done a.0 ≡ false → a.1 ≡ p
+
+close_still : (s : Source) (n : Names) (p q : ℕ) (a : Look) → StaysRefused p (close_reply s n p q a)
+close_still s n p q (Ok None) = λ e. refl
+close_still s n p q (Ok (Some (t, r))) = closes (is_close t.kind) refl
+  where
+    closes : (b : Bool) → is_close t.kind ≡ b → StaysRefused p (close_reply s n p q (Ok (Some (t, r))))
+    closes true f = rw f (λ e. cc)
+    closes false f = rw f (λ e. refl)
+close_still s n p q (Err f) = λ e. refl
+
+takes_still : (s : Source) (n : Names) (p : ℕ) (a : Result ℕ Fault) → StaysRefused p (takes_reply s n p a)
+takes_still s n p (Ok q) = close_still s n p q (shown s q n)
+takes_still s n p (Err f) = λ e. refl
+
+open_still : (s : Source) (n : Names) (k p : ℕ) (a : Look) → StaysRefused p (open_reply s n k p a)
+open_still s n k p (Ok None) = λ e. refl
+open_still s n k p (Ok (Some (t, q))) = opens (is_open t.kind) refl
+  where
+    opens : (b : Bool) → is_open t.kind ≡ b → StaysRefused p (open_reply s n k p (Ok (Some (t, q))))
+    opens true f = rw f (takes_still s n p (takes s n k q))
+    opens false f = rw f (λ e. refl)
+open_still s n k p (Err f) = λ e. refl
+
+register_still : (s : State) (x : List ℕ) (b : Bool)
+    → let a : Reply × State = if b then (reply.TooOften, s) else (reply.Done, record s { names = more s.names x }) in is_done a.0 ≡ false → a.1 ≡ s
+register_still s x true e = refl
+register_still s x false e = cc
+
+unregister_still : (s : State) (x : List ℕ) (b : Bool)
+    → let a : Reply × State = if b then (reply.Done, record s { names = fewer s.names x }) else (reply.Absent, s) in is_done a.0 ≡ false → a.1 ≡ s
+unregister_still s x true e = cc
+unregister_still s x false e = refl
+
+at_place : (s : State) (p : ℕ) → p ≡ s.place → record s { place = p } ≡ s
+at_place s p e = ap (λ x. record s { place = x }) e
+
+-- a look, and a call that was refused, leaves the state
+pub refused_still : (s : State) (c : Call) → is_kept s c ≡ false → (answer s c).1 ≡ s
+unfolding group_reply
+refused_still s call.Look e = refl
+refused_still s call.Take e = at_place s _ (shown_still (shown s.source s.place s.names) s.place e)
+refused_still s call.Comment e = at_place s _ (comment_still (comment_at s.source s.place) s.place e)
+refused_still s (call.Register x) e = register_still s (string_bytes x) (nat_eq (count s.names (string_bytes x)) most_often) e
+refused_still s (call.Unregister x) e = unregister_still s (string_bytes x) (is_registered s.names (string_bytes x)) e
+refused_still s (call.Parens n) e = at_place s _ (open_still s.source s.names n s.place (shown s.source s.place s.names) e)
+
+-- a call more before a list of calls: one that is kept, and one that is not
+kept_more : (s : State) (c : Call) (cs : List Call) → is_kept s c ≡ true → NothingElse (answer s c).1 cs → NothingElse s (c ∷ cs)
+unfolding replies state_after kept_calls kept_replies
+kept_more s c cs e rest =
+    let left = kept_calls (answer s c).1 cs in
+    let given = kept_replies (answer s c).1 cs in
+    let f : kept_calls s (c ∷ cs) ≡ c ∷ left = ap (λ b. if b then c ∷ left else left) e in
+    let g : kept_replies s (c ∷ cs) ≡ (answer s c).0 ∷ given = ap (λ b. if b then (answer s c).0 ∷ given else given) e in
+    record {
+      same_replies = ap (replies s) f ∙ ap (λ x. (answer s c).0 ∷ x) rest.same_replies ∙ sym g;
+      same_state = ap (state_after s) f ∙ rest.same_state;
+    }
+
+left_out : (s : State) (c : Call) (cs : List Call) → is_kept s c ≡ false → NothingElse (answer s c).1 cs → NothingElse s (c ∷ cs)
+unfolding replies state_after kept_calls kept_replies
+left_out s c cs e rest =
+    let left = kept_calls (answer s c).1 cs in
+    let given = kept_replies (answer s c).1 cs in
+    let still = sym (refused_still s c e) in
+    let f : kept_calls s (c ∷ cs) ≡ left = ap (λ b. if b then c ∷ left else left) e in
+    let g : kept_replies s (c ∷ cs) ≡ given = ap (λ b. if b then (answer s c).0 ∷ given else given) e in
+    record {
+      same_replies = ap (replies s) f ∙ ap (λ x. replies x left) still ∙ rest.same_replies ∙ sym g;
+      same_state = ap (state_after s) f ∙ ap (λ x. state_after x left) still ∙ rest.same_state;
+    }
+
+-- without looks and refused calls the other replies and the last state are the same
+pub nothing_else : (s : State) (cs : List Call) → NothingElse s cs
+unfolding replies state_after kept_calls kept_replies
+nothing_else s [] = record { same_replies = refl; same_state = refl }
+nothing_else s (c ∷ cs) = elim (cases_Bool (is_kept s c)) [
+  | inl e ↦ kept_more s c cs e (nothing_else (answer s c).1 cs)
+  | inr e ↦ left_out s c cs e (nothing_else (answer s c).1 cs)
+]
