@@ -1,2 +1,3 @@
 -- Lemmas on places.
 pub mod Tails
+pub mod Comments

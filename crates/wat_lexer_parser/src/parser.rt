@@ -1,8 +1,16 @@
 //! The parser.
-ghost use Rattle.std.specs.Prelude.{◌≡◌, ◌≤◌, ◌<◌, ◌+◌, length, IfOk, IfSome};
+ghost use Rattle.std.specs.Prelude.{◌≡◌, ◌≤◌, ◌<◌, ◌+◌, true, false, length, Ok, Err};
+ghost use Rattle.std.specs.Prelude.{IfOk, IfErr, IfSome, OnOk, OnErr};
 ghost use Rattle.wat_lex.specs.tokens.ReadableTokens.{IsTokenOf};
-ghost use Rattle.wat_lexer_parser.specs.names.RegisteredNames.{no_names};
-ghost use Rattle.wat_lexer_parser.specs.places.Places.{span_at};
+ghost use Rattle.wat_lex.specs.errors.Errors.{IsUnlessMemory};
+ghost use Rattle.wat_lexer_parser.specs.names.RegisteredNames.{no_names, is_registered};
+ghost use Rattle.wat_lexer_parser.specs.names.RegisteredNames.{count, fewer};
+ghost use Rattle.wat_lexer_parser.specs.parser.Closures.{opened, closed, ParensOk, ParensErr};
+ghost use Rattle.wat_lexer_parser.specs.parser.State.{Answers, IsRefusal, IsSound};
+ghost use Rattle.wat_lexer_parser.specs.parser.State.{expected, message_at, depth_checked};
+ghost use Rattle.wat_lexer_parser.specs.parser.State.{registered, too_often};
+ghost use Rattle.wat_lexer_parser.specs.places.Places.{empty_of, is_meaningful};
+ghost use Rattle.wat_lexer_parser.specs.places.Places.{offset_at, span_at};
 ghost use Rattle.wat_lexer_parser.specs.shown.Showing.{shown};
 
 mod buffer;
@@ -18,9 +26,10 @@ pub use fault::FaultKind;
 pub use replay::{Call, Reply};
 
 use crate::parser::fault::Fault;
-use crate::parser::names::Names;
+use crate::parser::names::{Names, RegisterError};
 use std::alloc::Global;
 use std::marker::Model;
+use wat_lex::error::Error;
 use wat_lex::lexer::Token;
 use wat_lex::token::Span;
 
@@ -114,4 +123,175 @@ impl<'a> Parser<'a> {
         let buffer = self.buffer;
         Span::from_offset(buffer.span_at(place, &self.names))
     }
+
+    /// Whether the end or `)` is shown, so that a list ends here; false at a fault.
+    pub fn is_empty(&self) -> bool
+        ensures value { result ≡
+            empty_of (shown self.now.source self.now.place self.now.names) }
+        ensures sound { IsSound self.now }
+    {
+        let buffer = self.buffer;
+        let _raw = buffer.raw();
+        self.names.are_positive();
+        buffer.is_empty(self.place, &self.names)
+    }
+
+    /// The current span: that of the token that is shown, the text's length at the end, or the
+    /// place itself where a fault is shown.
+    pub fn cur_span(&self) -> Span
+        ensures { result ≡ span_at self.now.source self.now.place self.now.names }
+    {
+        self.span_from(self.place)
+    }
+
+    /// The place: where the last token or comment that was taken ends, 0 at first.
+    pub fn prev_span(&self) -> Span
+        ensures { result ≡ offset_at self.now.source.tokens self.now.place }
+    {
+        let buffer = self.buffer;
+        Span::from_offset(buffer.offset_at(self.place))
+    }
+
+    /// How many groups of [`parens`](Parser::parens) are open.
+    pub fn parens_depth(&self) -> usize
+        ensures { result ≡ self.now.depth }
+    {
+        self.depth
+    }
+
+    /// An error with this message at the current span.
+    pub fn error(&self, message: &str) -> Error
+        ensures { IsUnlessMemory result
+            (expected self.now.source self.now.place self.now.names message.now) }
+    {
+        self.error_at(self.cur_span(), message)
+    }
+
+    /// An error with this message at a span of the text.
+    pub fn error_at(&self, span: Span, message: &str) -> Error
+        ensures { IsUnlessMemory result (message_at self.now.source span message.now) }
+    {
+        let buffer = self.buffer;
+        buffer.error_at(span, message)
+    }
+
+    /// Refuses more than [`MAX_PARENS_DEPTH`] open groups.
+    pub fn depth_check(&self) -> Result<(), Error>
+        ensures { Answers false (λ u. u) (depth_checked self.now) result }
+    {
+        if self.depth > MAX_PARENS_DEPTH {
+            return Err(self.error("item nesting too deep"));
+        }
+        Ok(())
+    }
+
+    /// Whether the whole text has a token that counts, or a fault.
+    pub fn has_meaningful_tokens(&self) -> bool
+        ensures { result ≡ is_meaningful self.now.source }
+    {
+        let buffer = self.buffer;
+        buffer.is_meaningful()
+    }
+
+    /// What the buffer was told by [`ParseBuffer::track_instr_spans`].
+    pub fn track_instr_spans(&self) -> bool
+        ensures { result ≡ self.now.source.track }
+    {
+        let buffer = self.buffer;
+        buffer.tracks()
+    }
+
+    /// Whether annotations of this name are shown.
+    pub fn is_registered(&self, name: &str) -> bool
+        ensures { result ≡ is_registered self.now.names name.now }
+    {
+        self.names.is_registered(name)
+    }
+
+    /// Registers a name once more: annotations of it are shown. A refusal leaves all as it was.
+    pub fn register_annotation(&mut self, name: &str) -> Result<(), Error>
+        ensures value { Answers true (λ _. self.new) (registered self.old name.now) result }
+        ensures refused { OnErr result (self.new ≡ self.old) }
+        ensures undo { OnOk result (fewer self.new.names name.now ≡ self.old.names) }
+        ensures there { OnOk result (0 < count self.new.names name.now) }
+    {
+        let alloc = self.alloc();
+        match self.names.register(alloc, name) {
+            Ok(()) => Ok(()),
+            Err(RegisterError::TooOften) => Err(self.too_often()),
+            Err(RegisterError::OutOfMemory) => Err(Error::out_of_memory()),
+        }
+    }
+
+    /// The error of a name that is registered as often as can be.
+    fn too_often(&self) -> Error
+        ensures { IsUnlessMemory result (too_often self.now) }
+    {
+        match String::from_str(self.alloc(), "annotation registered too often") {
+            Ok(message) => Error::new(self.prev_span(), message),
+            Err(_) => Error::out_of_memory(),
+        }
+    }
+
+    /// Takes back one registering of a name.
+    pub fn unregister_annotation(&mut self, name: &str)
+        requires { 0 < count self.old.names name.now }
+        ensures { self.new ≡ record self.old { names = fewer self.old.names name.now } }
+    {
+        self.names.unregister(name);
+    }
+
+    ghost use Rattle.std.specs.Fn.{FnOnceReturnsAtMut};
+
+    /// Calls a function with a cursor at the place, and moves to the place of the cursor that it
+    /// answers; where it refuses the parser stays.
+    pub fn step<T, F: for<'p> FnOnce(Cursor<'p, 'a>) -> Result<(T, Cursor<'p, 'a>), Error>>(
+        &mut self,
+        f: F,
+    ) -> Result<T, Error>
+        requires may { (c : _) → c.parser.now ≡ self.old → c.at ≡ self.old.place → F.pre f c }
+        requires same { (c : _) (t : T) (d : _) → c.parser.now ≡ self.old →
+            c.at ≡ self.old.place → F.post f c (Ok (t, d)) →
+            (d.parser.now ≡ self.old) × (self.old.place ≤ d.at) }
+        ensures ok { IfOk result (λ t. (c : _) × (d : _) × (c.parser.now ≡ self.old)
+            × (c.at ≡ self.old.place) × F.post f c (Ok (t, d))
+            × (self.new ≡ record self.old { place = d.at })) }
+        ensures err { IfErr result (λ e. (self.new ≡ self.old)
+            × ((c : _) × (c.parser.now ≡ self.old) × (c.at ≡ self.old.place)
+            × F.post f c (Err e))) }
+    {
+        match f(Cursor::new(self)) {
+            Ok((value, next)) => {
+                let at = next.place();
+                self.place = at;
+                Ok(value)
+            }
+            Err(e) => Err(e),
+        }
+    }
+
+    /// Takes `(`.
+    #[tactic(auto, using(crate::proofs::parser::Refusals::refusal), unfolding(crate::specs::parser::Closures::opened))]
+    fn open(&mut self) -> Result<(), Error>
+        ensures ok { OnOk result
+            (opened self.old.source self.old.place self.old.names ≡ Ok self.new.place) }
+        ensures moved { self.new ≡ record self.old { place = self.new.place } }
+        ensures on { OnOk result (self.old.place < self.new.place) }
+        ensures err { IfErr result
+            (IsRefusal (opened self.old.source self.old.place self.old.names)) }
+        ensures stays { OnErr result (self.new ≡ self.old) }
+    {
+        let cursor = Cursor::new(self);
+        match cursor.lparen()? {
+            Some(next) => {
+                let at = next.place();
+                self.place = at;
+                Ok(())
+            }
+            None => Err(cursor.error("expected `(`")),
+        }
+    }
 }
+
+/// How many groups of [`Parser::parens`] may be open where [`Parser::depth_check`] is asked.
+pub const MAX_PARENS_DEPTH: usize = 100;

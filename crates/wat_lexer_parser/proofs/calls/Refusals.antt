@@ -7,10 +7,10 @@ use Rattle.wat_lexer_parser.specs.declared.parser.replay.Call.{Call}
 use Rattle.wat_lexer_parser.specs.declared.parser.replay.Call.TheVariants as call
 use Rattle.wat_lexer_parser.specs.declared.parser.replay.Reply.{Reply}
 use Rattle.wat_lexer_parser.specs.declared.parser.replay.Reply.TheVariants as reply
-use Rattle.wat_lexer_parser.specs.calls.Calls.{answer, replies, state_after, shown_reply, comment_reply, place_after, takes, close_reply, takes_reply, open_reply, group_reply, most_often}
+use Rattle.wat_lexer_parser.specs.calls.Calls.{answer, replies, state_after, shown_reply, comment_reply, place_after, takes, close_reply, takes_reply, open_reply, group_reply}
 use Rattle.wat_lexer_parser.specs.calls.CallLaws.{is_done, is_kept, kept_calls, kept_replies, NothingElse}
 use Rattle.wat_lexer_parser.specs.groups.Sorts.{is_open, is_close}
-use Rattle.wat_lexer_parser.specs.names.RegisteredNames.{Names, count, more, fewer, is_registered}
+use Rattle.wat_lexer_parser.specs.names.RegisteredNames.{most_often, Names, count, more, fewer, is_registered}
 use Rattle.wat_lexer_parser.specs.parser.State.{State}
 use Rattle.wat_lexer_parser.specs.places.Places.{comment_at}
 use Rattle.wat_lexer_parser.specs.places.Source.{Source}

@@ -6,7 +6,7 @@ use Rattle.wat_lexer_parser.specs.declared.parser.replay.Call.TheVariants as cal
 use Rattle.wat_lexer_parser.specs.declared.parser.replay.Reply.{Reply}
 use Rattle.wat_lexer_parser.specs.declared.parser.replay.Reply.TheVariants as reply
 use Rattle.wat_lexer_parser.specs.groups.Sorts.{is_open, is_close}
-use Rattle.wat_lexer_parser.specs.names.RegisteredNames.{Names, count, more, fewer, is_registered}
+use Rattle.wat_lexer_parser.specs.names.RegisteredNames.{Names, most_often, count, more, fewer, is_registered}
 use Rattle.wat_lexer_parser.specs.parser.State.{State}
 use Rattle.wat_lexer_parser.specs.places.Places.{comment_at, span_at}
 use Rattle.wat_lexer_parser.specs.places.Source.{Source}
@@ -58,10 +58,6 @@ open_reply s names n p (Err f) = (fault_reply f, p)
 
 unfoldable pub group_reply : Source → Names → ℕ → ℕ → Reply × ℕ
 group_reply s names n p = open_reply s names n p (shown s p names)
-
--- the greatest count
-abbrev pub most_often : ℕ
-most_often = 18446744073709551615
 
 -- the reply to a call, and the state behind it
 abbrev pub answer : State → Call → Reply × State

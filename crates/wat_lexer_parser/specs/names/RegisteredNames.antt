@@ -20,6 +20,10 @@ count names x = unwrap_or (finmap.get names x) 0
 abbrev pub is_registered : Names → List ℕ → Bool
 is_registered names x = nat_lt 0 (count names x)
 
+-- the greatest count
+abbrev pub most_often : ℕ
+most_often = 18446744073709551615
+
 -- the names after one more
 abbrev pub more : Names → List ℕ → Names
 more names x = finmap.insert names x (count names x + 1)

@@ -1,11 +1,11 @@
 -- What a parser is to its callers, and what a call answers. No part of the standard.
-use Rattle.std.specs.Prelude.{ℕ, ◌≤◌, List, length, Bool, ◌≡◌, ◌||◌, is_err, IsTrue, codes, if◌then◌else◌, nat_lt, Option, Some, None, Result, Ok, Err}
+use Rattle.std.specs.Prelude.{ℕ, ◌≤◌, List, length, Bool, ◌≡◌, ◌||◌, is_err, IsTrue, codes, if◌then◌else◌, nat_lt, nat_eq, Option, Some, None, Result, Ok, Err}
 use Rattle.wat_lex.specs.errors.Errors.{Report, Custom, lexical, report_in, IsUnlessMemory}
 use Rattle.wat_lex.specs.declared.lexer.kinds.Token.{Token}
 use Rattle.wat_lexer_parser.specs.declared.parser.fault.Fault.{Fault}
 use Rattle.wat_lexer_parser.specs.declared.parser.fault.FaultKind.{FaultKind}
 use Rattle.wat_lexer_parser.specs.declared.parser.fault.FaultKind.TheVariants.{Lex, Unclosed}
-use Rattle.wat_lexer_parser.specs.names.RegisteredNames.{Names, IsPositive}
+use Rattle.wat_lexer_parser.specs.names.RegisteredNames.{Names, IsPositive, count, more, most_often}
 use Rattle.wat_lexer_parser.specs.places.Places.{span_at, offset_at}
 use Rattle.wat_lexer_parser.specs.places.Source.{Source, IsRead}
 use Rattle.wat_lexer_parser.specs.shown.Showing.{Look, shown}
@@ -77,3 +77,7 @@ depth_checked s = if nat_lt most_depth s.depth then Err (expected s.source s.pla
 -- the report of a name that is registered as often as can be, at the place and without its line
 abbrev pub too_often : State → Report
 too_often s = record { offset = offset_at s.source.tokens s.place; cause = Custom (codes "annotation registered too often"); excerpt = None }
+
+-- the state after a name is registered once more, or the refusal
+abbrev pub registered : State → List ℕ → Result State Report
+registered s x = if nat_eq (count s.names x) most_often then Err (too_often s) else Ok (record s { names = more s.names x })

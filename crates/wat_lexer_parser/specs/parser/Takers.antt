@@ -12,7 +12,8 @@ use Rattle.wat_lex.specs.declared.lexer.faults.LexError.TheVariants.{EmptyId, Em
 use Rattle.wat_lex.specs.declared.lexer.kinds.Token.{Token}
 use Rattle.wat_lex.specs.declared.lexer.kinds.TokenKind.{TokenKind}
 use Rattle.wat_lex.specs.declared.lexer.kinds.TokenKind.TheVariants.{LParen, RParen, String, Id, Keyword, Annotation, Reserved, Integer, Float}
-use Rattle.wat_lexer_parser.specs.parser.State.{State, Seen, seen_from}
+use Rattle.wat_lexer_parser.specs.parser.State.{State, Seen, seen_from, told}
+use Rattle.wat_lexer_parser.specs.places.Places.{comment_at}
 
 -- how tokens of one kind are read: None for another kind, else a value or a refusal
 abbrev pub Reader : Type 0 → Type 0
@@ -89,14 +90,23 @@ abbrev pub as_annotation : Reader (List ℕ)
 as_annotation text t Annotation = Some (name_answer text t (name_value EmptyAnnotation (word_of text t)))
 as_annotation text t kind = None
 
--- Whether reading the seen token may take memory.
+-- the text of a comment, with the place behind it
+abbrev pub comment_by : List ℕ → Seen → Result (Option (List ℕ × ℕ)) Report
+comment_by text (Ok None) = Ok None
+comment_by text (Ok (Some (t, q))) = Ok (Some (token_text text t, q))
+comment_by text (Err f) = Err f
+
+abbrev pub comment_from : State → ℕ → Result (Option (List ℕ × ℕ)) Report
+comment_from a p = comment_by a.source.setting.text (told a.source.setting.text (comment_at a.source p))
+
+-- whether reading the seen token may take memory
+abbrev pub may_take_of : (List ℕ → Token → Bool) → List ℕ → Seen → Bool
+may_take_of takes text (Ok None) = false
+may_take_of takes text (Ok (Some (t, q))) = takes text t
+may_take_of takes text (Err f) = false
+
 abbrev pub may_take : (List ℕ → Token → Bool) → State → ℕ → Bool
-may_take takes a p = by (seen_from a p)
-  where
-    by : Seen → Bool
-    by (Ok None) = false
-    by (Ok (Some (t, q))) = takes a.source.setting.text t
-    by (Err f) = false
+may_take takes a p = may_take_of takes a.source.setting.text (seen_from a p)
 
 abbrev pub contains : ℕ → List ℕ → Bool
 contains c w = list_any (λ d. d == c) w

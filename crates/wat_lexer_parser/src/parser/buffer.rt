@@ -1,5 +1,6 @@
 //! The buffer of a text: its raw tokens, and what a look at them needs.
-ghost use Rattle.std.specs.Prelude.{◌≡◌, ◌<◌, ◌≤◌, ◌^◌, ◌+◌, false, length, Some, slice_get};
+ghost use Rattle.std.specs.Prelude.{◌≡◌, ◌<◌, ◌≤◌, ◌^◌, ◌+◌, false, length, drop, not, Some, slice_get};
+ghost use Rattle.std.specs.List.{list_any};
 ghost use Rattle.std.specs.Prelude.{IfOk, IfErr, IfSome};
 ghost use Rattle.std.specs.Str.{IsUtf8};
 ghost use Rattle.wat_lex.specs.errors.Errors.{IsUnlessMemory};
@@ -8,11 +9,12 @@ ghost use Rattle.wat_lex.specs.values.WordValues.{name_answer};
 ghost use Rattle.wat_lex.specs.declared.lexer.kinds.Token.{Token};
 ghost use Rattle.wat_lex.specs.declared.lexer.kinds.TokenKind.TheVariants.{LParen};
 ghost use Rattle.wat_lexer_parser.specs.declared.parser.fault.FaultKind.TheVariants.{Lex};
-ghost use Rattle.wat_lexer_parser.specs.groups.Sorts.{is_marked};
+ghost use Rattle.wat_lexer_parser.specs.groups.Sorts.{is_blank, is_comment, is_marked, is_space};
 ghost use Rattle.wat_lexer_parser.specs.inside.Table.{HeadsAnnotation, Pair};
 ghost use Rattle.wat_lexer_parser.specs.names.RegisteredNames.{no_names};
 ghost use Rattle.wat_lexer_parser.specs.parser.State.{message_at, report_of};
 ghost use Rattle.wat_lexer_parser.specs.places.Places.{offset_at, span_at, empty_of};
+ghost use Rattle.wat_lexer_parser.specs.places.Places.{comment_at, past_space, is_meaningful};
 ghost use Rattle.wat_lexer_parser.specs.places.Source.{IsRead};
 ghost use Rattle.wat_lexer_parser.specs.shown.Shown.{ended, left_open};
 ghost use Rattle.wat_lexer_parser.specs.shown.Showing.{name_at, placed, shown, step_kind};
@@ -149,6 +151,35 @@ fn lexical(fault: LexFault) -> Fault
         offset: fault.offset,
         kind: FaultKind::Lex(fault.error),
     }
+}
+
+/// Whether tokens of the kind are never shown.
+fn is_blank(kind: TokenKind) -> bool
+    ensures { result ≡ is_blank kind }
+{
+    match kind {
+        TokenKind::Whitespace | TokenKind::LineComment | TokenKind::BlockComment => true,
+        _ => false,
+    }
+}
+
+/// Whether a token is neither white space nor a comment.
+fn any_counts(tokens: &[Token]) -> bool
+    ensures { result ≡ list_any (λ t. not (is_blank t.kind)) tokens.now }
+{
+    tokens.iter().any(|token| !is_blank(token.kind))
+}
+
+fn is_space(kind: TokenKind) -> bool
+    ensures { result ≡ is_space kind }
+{
+    matches!(kind, TokenKind::Whitespace)
+}
+
+fn is_comment(kind: TokenKind) -> bool
+    ensures { result ≡ is_comment kind }
+{
+    matches!(kind, TokenKind::LineComment | TokenKind::BlockComment)
 }
 
 /// What an annotation of this name means for the parenthesis before it.
@@ -314,6 +345,48 @@ impl<'a> ParseBuffer<'a> {
             }
         }
         self.ending()
+    }
+
+    /// The place behind the whitespace token at a place, if one is there.
+    #[tactic(auto, using(crate::proofs::places::Comments::past_none, crate::proofs::places::Comments::past_one, crate::proofs::places::Comments::past_other))]
+    fn past_space(&self, place: usize) -> usize
+        requires { place ≤ length self.now.tokens }
+        ensures past { past_space (drop place self.now.tokens) ≡ drop result self.now.tokens }
+        ensures on { place ≤ result }
+    {
+        match self.token_at(place) {
+            Some(token) if is_space(token.kind) => place + 1,
+            Some(_) => place,
+            None => place,
+        }
+    }
+
+    /// The comment at a place, with the place behind it. It takes no memory.
+    #[tactic(auto, using(crate::proofs::places::Comments::comment_none, crate::proofs::places::Comments::comment_found, crate::proofs::places::Comments::comment_other))]
+    pub(crate) fn comment_at(&self, place: usize) -> Result<Option<(Token, usize)>, Fault>
+        requires { place ≤ length self.now.tokens }
+        ensures value { result ≡ comment_at self.now place }
+        ensures on { IfOk result (λ found. IfSome found (λ v.
+            (place < v.1) × (v.1 ≤ length self.now.tokens))) }
+        ensures reader { IfOk result (λ found. IfSome found (λ v.
+            IsTokenOf self.now.setting.text v.0)) }
+    {
+        let at = self.past_space(place);
+        match self.token_at(at) {
+            Some(token) if is_comment(token.kind) => {
+                self.is_readable(at, token);
+                Ok(Some((token, at + 1)))
+            }
+            Some(_) => Ok(None),
+            None => self.ending(),
+        }
+    }
+
+    /// Whether the text has a token that counts, or a fault.
+    pub(crate) fn is_meaningful(&self) -> bool
+        ensures { result ≡ is_meaningful self.now }
+    {
+        any_counts(&self.table.tokens) || self.table.fault.is_some()
     }
 
     /// The byte of a place.

@@ -1,17 +1,29 @@
 //! A cursor over what a parser shows.
-ghost use Rattle.std.specs.Prelude.{◌≡◌, ◌≤◌, ◌<◌, ℕ, IfOk, IfSome, length, false, Option, Some, Ok};
+ghost use Rattle.std.specs.Prelude.{◌≡◌, ◌⊎◌, ◌≤◌, ◌<◌, ℕ, IfOk, IfSome, length, false, Option, Some, Ok};
 ghost use Rattle.std.specs.Cow.{cow_str_bytes, cow_slice_items};
 ghost use Rattle.std.specs.Option.{option_map};
 ghost use Rattle.wat_lex.specs.errors.Errors.{IsUnlessMemory};
-ghost use Rattle.wat_lex.specs.tokens.ReadableTokens.{IsTokenOf};
+ghost use Rattle.wat_lex.specs.tokens.ReadableTokens.{IsTokenOf, word_of};
+ghost use Rattle.wat_lex.specs.values.NumberValues.{IsFloatOf, IsIntegerOf, IsNumeralOf};
+ghost use Rattle.wat_lex.specs.values.WordValues.{empty_name, name_value};
+ghost use Rattle.wat_lex.specs.declared.lexer.kinds.FloatKind.{FloatKind};
+ghost use Rattle.wat_lex.specs.declared.lexer.kinds.IntegerKind.{IntegerKind};
+ghost use Rattle.wat_lex.specs.declared.lexer.kinds.Token.{Token};
+ghost use Rattle.wat_lex.specs.declared.lexer.kinds.TokenKind.TheVariants as variant;
 ghost use Rattle.wat_lexer_parser.specs.parser.State.{Answers, expected, seen_from};
 ghost use Rattle.wat_lexer_parser.specs.parser.Takers.{taken_from, sees_from, token_of};
+ghost use Rattle.wat_lexer_parser.specs.parser.Takers.{comment_from, may_take, name_answer};
 ghost use Rattle.wat_lexer_parser.specs.parser.Takers.{as_open, as_close, as_keyword, as_reserved};
+ghost use Rattle.wat_lexer_parser.specs.parser.Takers.{as_id, as_annotation, as_string};
+ghost use Rattle.wat_lexer_parser.specs.parser.Takers.{as_integer, as_float};
+ghost use Rattle.wat_lexer_parser.specs.parser.Takers.{name_takes, number_takes, string_takes};
 ghost use Rattle.wat_lexer_parser.specs.places.Places.{span_at};
 
 use crate::parser::Parser;
+use std::alloc::Global;
+use std::borrow::{CowSlice, CowStr};
 use wat_lex::error::Error;
-use wat_lex::lexer::{Token, TokenKind};
+use wat_lex::lexer::{Float, Integer, Token, TokenKind};
 use wat_lex::token::Span;
 
 /// A place in a parser's text, from which tokens are taken without moving the parser.
@@ -102,7 +114,7 @@ impl<'p, 'a> Cursor<'p, 'a> {
 
     /// The cursor at a place.
     fn moved(self, at: usize) -> Self
-        requires { at ≤ length self.entry.parser.now.source.tokens }
+        requires { at ≤ length self.parser.now.source.tokens }
         ensures parser { result.parser ≡ self.entry.parser }
         ensures at { result.at ≡ at }
     {
@@ -114,7 +126,8 @@ impl<'p, 'a> Cursor<'p, 'a> {
 
     /// Whether `(` is shown.
     pub fn peek_lparen(self) -> Result<bool, Error>
-        ensures { Answers false (λ b. b) (sees_from as_open self.entry.parser.now self.entry.at) result }
+        ensures { Answers false (λ b. b)
+            (sees_from as_open self.entry.parser.now self.entry.at) result }
     {
         match self.look()? {
             Some((token, _)) => Ok(matches!(token.kind, TokenKind::LParen)),
@@ -122,10 +135,89 @@ impl<'p, 'a> Cursor<'p, 'a> {
         }
     }
 
+    /// Whether `)` is shown.
+    pub fn peek_rparen(self) -> Result<bool, Error>
+        ensures { Answers false (λ b. b)
+            (sees_from as_close self.entry.parser.now self.entry.at) result }
+    {
+        match self.look()? {
+            Some((token, _)) => Ok(matches!(token.kind, TokenKind::RParen)),
+            None => Ok(false),
+        }
+    }
+
+    /// Whether an identifier, whatever its name, is shown.
+    pub fn peek_id(self) -> Result<bool, Error>
+        ensures { Answers false (λ b. b)
+            (sees_from as_id self.entry.parser.now self.entry.at) result }
+    {
+        match self.look()? {
+            Some((token, _)) => Ok(matches!(token.kind, TokenKind::Id)),
+            None => Ok(false),
+        }
+    }
+
+    /// Whether a reserved token is shown.
+    pub fn peek_reserved(self) -> Result<bool, Error>
+        ensures { Answers false (λ b. b)
+            (sees_from as_reserved self.entry.parser.now self.entry.at) result }
+    {
+        match self.look()? {
+            Some((token, _)) => Ok(matches!(token.kind, TokenKind::Reserved)),
+            None => Ok(false),
+        }
+    }
+
+    /// Whether a keyword is shown.
+    pub fn peek_keyword(self) -> Result<bool, Error>
+        ensures { Answers false (λ b. b)
+            (sees_from as_keyword self.entry.parser.now self.entry.at) result }
+    {
+        match self.look()? {
+            Some((token, _)) => Ok(matches!(token.kind, TokenKind::Keyword)),
+            None => Ok(false),
+        }
+    }
+
+    /// Whether an integer is shown.
+    pub fn peek_integer(self) -> Result<bool, Error>
+        ensures { Answers false (λ b. b)
+            (sees_from as_integer self.entry.parser.now self.entry.at) result }
+    {
+        match self.look()? {
+            Some((token, _)) => Ok(matches!(token.kind, TokenKind::Integer(_))),
+            None => Ok(false),
+        }
+    }
+
+    /// Whether a floating-point number is shown.
+    pub fn peek_float(self) -> Result<bool, Error>
+        ensures { Answers false (λ b. b)
+            (sees_from as_float self.entry.parser.now self.entry.at) result }
+    {
+        match self.look()? {
+            Some((token, _)) => Ok(matches!(token.kind, TokenKind::Float(_))),
+            None => Ok(false),
+        }
+    }
+
+    /// Whether a string is shown.
+    pub fn peek_string(self) -> Result<bool, Error>
+        ensures { Answers false (λ b. b)
+            (sees_from as_string self.entry.parser.now self.entry.at) result }
+    {
+        match self.look()? {
+            Some((token, _)) => Ok(matches!(token.kind, TokenKind::String)),
+            None => Ok(false),
+        }
+    }
+
     /// Takes `(`.
     pub fn lparen(self) -> Result<Option<Self>, Error>
-        ensures value { Answers false (option_map (λ next. (tt, next.at))) (taken_from as_open self.entry.parser.now self.entry.at) result }
-        ensures parser { IfOk result (λ found. IfSome found (λ next. next.parser ≡ self.entry.parser)) }
+        ensures value { Answers false (option_map (λ next. (tt, next.at)))
+            (taken_from as_open self.entry.parser.now self.entry.at) result }
+        ensures parser { IfOk result (λ found. IfSome found (λ next.
+            next.parser ≡ self.entry.parser)) }
         ensures on { IfOk result (λ found. IfSome found (λ next. self.entry.at < next.at)) }
     {
         match self.look()? {
@@ -137,10 +229,50 @@ impl<'p, 'a> Cursor<'p, 'a> {
         }
     }
 
+    /// Takes `)`.
+    pub fn rparen(self) -> Result<Option<Self>, Error>
+        ensures value { Answers false (option_map (λ next. (tt, next.at)))
+            (taken_from as_close self.entry.parser.now self.entry.at) result }
+        ensures parser { IfOk result (λ found. IfSome found (λ next.
+            next.parser ≡ self.entry.parser)) }
+        ensures on { IfOk result (λ found. IfSome found (λ next. self.entry.at < next.at)) }
+    {
+        match self.look()? {
+            Some((token, at)) => match token.kind {
+                TokenKind::RParen => Ok(Some(self.moved(at))),
+                _ => Ok(None),
+            },
+            None => Ok(None),
+        }
+    }
+
+    /// Takes an identifier, and answers its name, without the `$`.
+    pub fn id(self) -> Result<Option<(CowStr<'a>, Self)>, Error>
+        ensures value { Answers (may_take name_takes self.entry.parser.now self.entry.at) (option_map (λ v. (cow_str_bytes v.0, v.1.at)))
+            (taken_from as_id self.entry.parser.now self.entry.at) result }
+        ensures parser { IfOk result (λ found. IfSome found (λ v.
+            v.1.parser ≡ self.entry.parser)) }
+        ensures on { IfOk result (λ found. IfSome found (λ v. self.entry.at < v.1.at)) }
+    {
+        match self.look()? {
+            Some((token, at)) => match token.kind {
+                TokenKind::Id => {
+                    let parser = self.parser;
+                    let name = name_of(parser.alloc(), parser.text(), &token)?;
+                    Ok(Some((name, self.moved(at))))
+                }
+                _ => Ok(None),
+            },
+            None => Ok(None),
+        }
+    }
+
     /// Takes a keyword.
     pub fn keyword(self) -> Result<Option<(&'a str, Self)>, Error>
-        ensures value { Answers false (option_map (λ v. (v.0.now, v.1.at))) (taken_from as_keyword self.entry.parser.now self.entry.at) result }
-        ensures parser { IfOk result (λ found. IfSome found (λ v. v.1.parser ≡ self.entry.parser)) }
+        ensures value { Answers false (option_map (λ v. (v.0.now, v.1.at)))
+            (taken_from as_keyword self.entry.parser.now self.entry.at) result }
+        ensures parser { IfOk result (λ found. IfSome found (λ v.
+            v.1.parser ≡ self.entry.parser)) }
         ensures on { IfOk result (λ found. IfSome found (λ v. self.entry.at < v.1.at)) }
     {
         match self.look()? {
@@ -152,6 +284,153 @@ impl<'p, 'a> Cursor<'p, 'a> {
                 _ => Ok(None),
             },
             None => Ok(None),
+        }
+    }
+
+    /// Takes an annotation, and answers its name, without the `@`.
+    pub fn annotation(self) -> Result<Option<(CowStr<'a>, Self)>, Error>
+        ensures value { Answers (may_take name_takes self.entry.parser.now self.entry.at) (option_map (λ v. (cow_str_bytes v.0, v.1.at)))
+            (taken_from as_annotation self.entry.parser.now self.entry.at) result }
+        ensures parser { IfOk result (λ found. IfSome found (λ v.
+            v.1.parser ≡ self.entry.parser)) }
+        ensures on { IfOk result (λ found. IfSome found (λ v. self.entry.at < v.1.at)) }
+    {
+        match self.look()? {
+            Some((token, at)) => match token.kind {
+                TokenKind::Annotation => {
+                    let parser = self.parser;
+                    let name = name_of(parser.alloc(), parser.text(), &token)?;
+                    Ok(Some((name, self.moved(at))))
+                }
+                _ => Ok(None),
+            },
+            None => Ok(None),
+        }
+    }
+
+    /// Takes a reserved token.
+    pub fn reserved(self) -> Result<Option<(&'a str, Self)>, Error>
+        ensures value { Answers false (option_map (λ v. (v.0.now, v.1.at)))
+            (taken_from as_reserved self.entry.parser.now self.entry.at) result }
+        ensures parser { IfOk result (λ found. IfSome found (λ v.
+            v.1.parser ≡ self.entry.parser)) }
+        ensures on { IfOk result (λ found. IfSome found (λ v. self.entry.at < v.1.at)) }
+    {
+        match self.look()? {
+            Some((token, at)) => match token.kind {
+                TokenKind::Reserved => {
+                    let parser = self.parser;
+                    Ok(Some((token.reserved(parser.text()), self.moved(at))))
+                }
+                _ => Ok(None),
+            },
+            None => Ok(None),
+        }
+    }
+
+    /// Takes an integer.
+    pub fn integer(self) -> Result<Option<(Integer<'a>, Self)>, Error>
+        ensures value { Answers (may_take number_takes self.entry.parser.now self.entry.at) (option_map (λ v. (tt, v.1.at)))
+            (taken_from as_integer self.entry.parser.now self.entry.at) result }
+        ensures word { (t : Token) (q : ℕ) (k : IntegerKind) →
+            seen_from self.entry.parser.now self.entry.at ≡ Ok (Some (t, q)) →
+            t.kind ≡ variant.Integer k → IfOk result (λ found. IfSome found (λ v.
+            IsIntegerOf k (word_of self.entry.parser.now.source.setting.text t) v.0
+            × IsNumeralOf k (word_of self.entry.parser.now.source.setting.text t) v.0)) }
+        ensures parser { IfOk result (λ found. IfSome found (λ v.
+            v.1.parser ≡ self.entry.parser)) }
+        ensures on { IfOk result (λ found. IfSome found (λ v. self.entry.at < v.1.at)) }
+    {
+        match self.look()? {
+            Some((token, at)) => match token.kind {
+                TokenKind::Integer(kind) => {
+                    let parser = self.parser;
+                    let integer = token.integer(parser.alloc(), parser.text(), kind)?;
+                    Ok(Some((integer, self.moved(at))))
+                }
+                _ => Ok(None),
+            },
+            None => Ok(None),
+        }
+    }
+
+    /// Takes a floating-point number.
+    pub fn float(self) -> Result<Option<(Float<'a>, Self)>, Error>
+        ensures value { Answers (may_take number_takes self.entry.parser.now self.entry.at) (option_map (λ v. (tt, v.1.at)))
+            (taken_from as_float self.entry.parser.now self.entry.at) result }
+        ensures word { (t : Token) (q : ℕ) (k : FloatKind) →
+            seen_from self.entry.parser.now self.entry.at ≡ Ok (Some (t, q)) →
+            t.kind ≡ variant.Float k → IfOk result (λ found. IfSome found (λ v.
+            IsFloatOf k (word_of self.entry.parser.now.source.setting.text t) v.0)) }
+        ensures parser { IfOk result (λ found. IfSome found (λ v.
+            v.1.parser ≡ self.entry.parser)) }
+        ensures on { IfOk result (λ found. IfSome found (λ v. self.entry.at < v.1.at)) }
+    {
+        match self.look()? {
+            Some((token, at)) => match token.kind {
+                TokenKind::Float(kind) => {
+                    let parser = self.parser;
+                    let float = token.float(parser.alloc(), parser.text(), kind)?;
+                    Ok(Some((float, self.moved(at))))
+                }
+                _ => Ok(None),
+            },
+            None => Ok(None),
+        }
+    }
+
+    /// Takes a string, and answers its value.
+    pub fn string(self) -> Result<Option<(CowSlice<'a, u8>, Self)>, Error>
+        ensures value { Answers (may_take string_takes self.entry.parser.now self.entry.at) (option_map (λ v. (cow_slice_items v.0, v.1.at)))
+            (taken_from as_string self.entry.parser.now self.entry.at) result }
+        ensures parser { IfOk result (λ found. IfSome found (λ v.
+            v.1.parser ≡ self.entry.parser)) }
+        ensures on { IfOk result (λ found. IfSome found (λ v. self.entry.at < v.1.at)) }
+    {
+        match self.look()? {
+            Some((token, at)) => match token.kind {
+                TokenKind::String => {
+                    let parser = self.parser;
+                    let value = token.string(parser.alloc(), parser.text())?;
+                    Ok(Some((value, self.moved(at))))
+                }
+                _ => Ok(None),
+            },
+            None => Ok(None),
+        }
+    }
+
+    /// Takes the comment that comes next, with white space before it or none, and answers its text.
+    /// None where the end or another token comes next; the error where a fault does.
+    pub fn comment(self) -> Result<Option<(&'a str, Self)>, Error>
+        ensures value { Answers false (option_map (λ v. (v.0.now, v.1.at)))
+            (comment_from self.entry.parser.now self.entry.at) result }
+        ensures parser { IfOk result (λ found. IfSome found (λ v.
+            v.1.parser ≡ self.entry.parser)) }
+        ensures on { IfOk result (λ found. IfSome found (λ v. self.entry.at < v.1.at)) }
+    {
+        let parser = self.parser;
+        match parser.buffer().comment_at(self.at) {
+            Ok(Some((token, at))) => Ok(Some((token.src(parser.text()), self.moved(at)))),
+            Ok(None) => Ok(None),
+            Err(fault) => Err(parser.buffer().error_of(fault)),
+        }
+    }
+}
+
+/// The name of an identifier or an annotation, or the error of what is wrong with it.
+fn name_of<'a>(alloc: Global, text: &'a str, token: &Token) -> Result<CowStr<'a>, Error>
+    requires token { IsTokenOf text.now token.now }
+    requires kind { (token.now.kind ≡ variant.Id) ⊎ (token.now.kind ≡ variant.Annotation) }
+    ensures { Answers (name_takes text.now token.now) (λ name. cow_str_bytes name)
+        (name_answer text.now token.now
+        (name_value (empty_name token.now.kind) (word_of text.now token.now))) result }
+{
+    match token.name(alloc, text)? {
+        Ok(name) => Ok(name),
+        Err(error) => {
+            let span = Span::from_offset(token.offset);
+            Err(Error::lex(alloc, span, text, error))
         }
     }
 }

@@ -7,7 +7,7 @@ ghost use Rattle.std.specs.Cmp.Lexicographic.{slice_cmp};
 ghost use Rattle.std.specs.Ordering.{nat_cmp};
 ghost use Rattle.std.specs.Result.{IsErrOf};
 ghost use Rattle.wat_lexer_parser.specs.names.RegisteredNames.{Names as Counts};
-ghost use Rattle.wat_lexer_parser.specs.names.RegisteredNames.{count, fewer, is_registered};
+ghost use Rattle.wat_lexer_parser.specs.names.RegisteredNames.{count, fewer, is_registered, IsPositive};
 
 use std::alloc::{AllocError, AllocFailed, Global};
 use std::collections::BTreeMap;
@@ -80,6 +80,13 @@ impl Names {
         Names {
             counts: BTreeMap::new(alloc),
         }
+    }
+
+    /// No name has a count of 0.
+    pub fn are_positive(&self)
+        ensures { IsPositive self.now }
+    {
+        let _names = self.counts.len();
     }
 
     pub fn count(&self, name: &str) -> usize

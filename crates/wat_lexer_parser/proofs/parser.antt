@@ -1,0 +1,3 @@
+-- Lemmas on what a parser's calls answer.
+pub mod Escapes
+pub mod Refusals

@@ -1,0 +1,48 @@
+-- Words in which no escape stands.
+use Rattle.std.proofs.Common.{◌≡◌, ℕ, Bool, true, false, List, [], ◌∷◌, inl, inr, Err, Ok, Some, None, subst, ap, ◌∙◌, sym}
+use Rattle.std.specs.Prelude.{◌==◌, ◌&&◌, ◌||◌, Option, Result, is_err}
+use Rattle.std.specs.List.{list_any}
+use Rattle.std.specs.Str.{NonePass}
+use Rattle.std.proofs.lemmas.Bool.{cases_Bool}
+use Rattle.wat_lex.specs.errors.Errors.{Report}
+use Rattle.wat_lex.specs.grammar.Classes.{quote, backslash}
+use Rattle.wat_lex.specs.values.Names.{HasNone, HasNoEscape}
+use Rattle.wat_lex.specs.declared.lexer.kinds.Token.{Token}
+use Rattle.wat_lexer_parser.specs.parser.State.{State, Answers, seen_from}
+use Rattle.wat_lexer_parser.specs.parser.Takers.{contains, may_take, may_take_of}
+
+none_pass : (p : ℕ → Bool) (w : List ℕ) → list_any p w ≡ false → NonePass p w
+none_pass p [] e = tt
+none_pass p (c ∷ w) e = elim (cases_Bool (p c)) [
+  | inl h ↦ let k : true ≡ false = sym (ap (λ b. b || list_any p w) h) ∙ e in cc
+  | inr h ↦ (h, none_pass p w (sym (ap (λ b. b || list_any p w) h) ∙ e))
+]
+
+pub has_none : (c : ℕ) (w : List ℕ) → contains c w ≡ false → HasNone c w
+has_none c w e = none_pass (λ d. d == c) w e
+
+no_escape : (w : List ℕ) → (contains quote w && contains backslash w) ≡ false → HasNoEscape w
+no_escape w e = elim (cases_Bool (contains quote w)) [
+  | inl h ↦ inr (has_none backslash w (sym (ap (λ b. b && contains backslash w) h) ∙ e))
+  | inr h ↦ inl (has_none quote w h)
+]
+
+-- what succeeds where no escape stands may only be refused where one may
+pub escapes : (w : List ℕ) → (HasNoEscape w → ⊥) → (contains quote w && contains backslash w) ≡ true
+escapes w h = elim (cases_Bool (contains quote w && contains backslash w)) [
+  | inl e ↦ e
+  | inr e ↦ absurd (h (no_escape w e))
+]
+
+pub contained : (c : ℕ) (w : List ℕ) → (HasNone c w → ⊥) → contains c w ≡ true
+contained c w h = elim (cases_Bool (contains c w)) [
+  | inl e ↦ e
+  | inr e ↦ absurd (h (has_none c w e))
+]
+
+-- memory may be wanting
+pub wanting : {V T : Type 0} (takes : Bool) (f : T → V) (m : Result V Report) (r : Result T (Option Report)) → r ≡ Err None → takes ≡ true → Answers takes f m r
+wanting takes f m r e h = subst (Answers takes f m) (sym e) (ap (λ b. b || is_err m) h)
+
+pub may_take_at : (takes : List ℕ → Token → Bool) (a : State) (p q : ℕ) (t : Token) → seen_from a p ≡ Ok (Some (t, q)) → may_take takes a p ≡ takes a.source.setting.text t
+may_take_at takes a p q t e = ap (may_take_of takes a.source.setting.text) e
