@@ -2,3 +2,4 @@
 pub mod State
 pub mod Takers
 pub mod Closures
+pub mod Sights

@@ -4,5 +4,6 @@
 
 pub mod laws;
 pub mod parser;
+pub mod token;
 
 pub use wat_lex::error::Error;

@@ -6,6 +6,7 @@ ghost use Rattle.wat_lex.specs.errors.Errors.{IsUnlessMemory};
 ghost use Rattle.wat_lexer_parser.specs.names.RegisteredNames.{no_names, is_registered};
 ghost use Rattle.wat_lexer_parser.specs.names.RegisteredNames.{count, fewer};
 ghost use Rattle.wat_lexer_parser.specs.parser.Closures.{opened, closed, ParensOk, ParensErr};
+ghost use Rattle.wat_lexer_parser.specs.parser.Sights.{second, takes_second};
 ghost use Rattle.wat_lexer_parser.specs.parser.State.{Answers, IsRefusal, IsSound};
 ghost use Rattle.wat_lexer_parser.specs.parser.State.{expected, message_at, depth_checked};
 ghost use Rattle.wat_lexer_parser.specs.parser.State.{registered, too_often};
@@ -17,12 +18,14 @@ mod buffer;
 mod cursor;
 mod fault;
 mod names;
+mod peek;
 mod replay;
 mod table;
 
 pub use buffer::ParseBuffer;
 pub use cursor::Cursor;
 pub use fault::FaultKind;
+pub use peek::Peek;
 pub use replay::{Call, Reply};
 
 use crate::parser::fault::Fault;
@@ -289,6 +292,102 @@ impl<'a> Parser<'a> {
                 Ok(())
             }
             None => Err(cursor.error("expected `(`")),
+        }
+    }
+
+    /// Takes `)`.
+    #[tactic(auto, using(crate::proofs::parser::Refusals::refusal), unfolding(crate::specs::parser::Closures::closed))]
+    fn close(&mut self) -> Result<(), Error>
+        ensures ok { OnOk result
+            (closed self.old.source self.old.place self.old.names ≡ Ok self.new.place) }
+        ensures moved { self.new ≡ record self.old { place = self.new.place } }
+        ensures on { OnOk result (self.old.place < self.new.place) }
+        ensures err { IfErr result
+            (IsRefusal (closed self.old.source self.old.place self.old.names)) }
+        ensures stays { OnErr result (self.new ≡ self.old) }
+    {
+        let cursor = Cursor::new(self);
+        match cursor.rparen()? {
+            Some(next) => {
+                let at = next.place();
+                self.place = at;
+                Ok(())
+            }
+            None => Err(cursor.error("expected `)`")),
+        }
+    }
+
+    /// Takes `(`, calls a function with the depth one more, and takes `)`.
+    ///
+    /// Where one of them refuses, place and depth are put back; names stay as the function left
+    /// them.
+    pub fn parens<T: Drop, F: FnOnce(&mut Parser<'a>) -> Result<T, Error>>(
+        &mut self,
+        f: F,
+    ) -> Result<T, Error>
+        requires may { (p : _) → p.now.source ≡ self.old.source →
+            p.now.names ≡ self.old.names → p.now.depth ≡ self.old.depth + 1 →
+            opened self.old.source self.old.place self.old.names ≡ Ok p.now.place → F.pre f p }
+        requires leaves { (p : _) (r : _) (q : _) → F.post f p r q →
+            (q.now.source ≡ p.now.source) × (q.now.depth ≡ p.now.depth) }
+        ensures ok { IfOk result (λ t.
+            ParensOk (FnOnceReturnsAtMut F.FnOnce f) self.old t self.new) }
+        ensures err { IfErr result (λ e.
+            ParensErr (FnOnceReturnsAtMut F.FnOnce f) self.old e self.new) }
+        ensures back { OnErr result
+            ((self.new.place ≡ self.old.place) × (self.new.depth ≡ self.old.depth)) }
+    {
+        let place = self.place;
+        let depth = self.depth;
+        self.open()?;
+        self.depth += 1;
+        match f(self) {
+            Ok(value) => match self.close() {
+                Ok(()) => {
+                    self.depth = depth;
+                    Ok(value)
+                }
+                Err(e) => {
+                    self.depth = depth;
+                    self.place = place;
+                    Err(e)
+                }
+            },
+            Err(e) => {
+                self.depth = depth;
+                self.place = place;
+                Err(e)
+            }
+        }
+    }
+
+    /// Whether a type is seen at the place.
+    pub fn peek<T: Peek>(&self) -> Result<bool, Error>
+        ensures { Answers (T.takes self.now.source self.now.place self.now.names) (λ b. b)
+            (T.sight self.now.source self.now.place self.now.names) result }
+    {
+        T::peek(Cursor::new(self))
+    }
+
+    /// Whether a type is seen behind the token that is shown; false where none is shown.
+    pub fn peek2<T: Peek>(&self) -> Result<bool, Error>
+        ensures { Answers
+            (takes_second T.takes self.now.source self.now.place self.now.names) (λ b. b)
+            (second T.sight self.now.source self.now.place self.now.names) result }
+    {
+        T::peek2(Cursor::new(self))
+    }
+
+    /// Whether a type is seen behind the next two tokens; false where one of them is missing.
+    pub fn peek3<T: Peek>(&self) -> Result<bool, Error>
+        ensures { Answers
+            (takes_second (takes_second T.takes) self.now.source self.now.place self.now.names)
+            (λ b. b)
+            (second (second T.sight) self.now.source self.now.place self.now.names) result }
+    {
+        match Cursor::new(self).any()? {
+            Some((_, next)) => T::peek2(next),
+            None => Ok(false),
         }
     }
 }

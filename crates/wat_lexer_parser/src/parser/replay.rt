@@ -1,6 +1,18 @@
 //! Calls of a parser as values, and the replies to them.
-use crate::parser::fault::FaultKind;
-use wat_lex::lexer::Token;
+ghost use Rattle.std.specs.Prelude.{◌≡◌, ◌≤◌, ◌<◌, length, IfOk, OnOk, OnErr};
+ghost use Rattle.std.specs.Prelude.{Ok, Err};
+ghost use Rattle.wat_lexer_parser.specs.calls.CallLaws.{NothingElse, BeginsWith};
+ghost use Rattle.wat_lexer_parser.specs.calls.Calls.{answer, replies, state_after};
+ghost use Rattle.wat_lexer_parser.specs.calls.Calls.{fault_reply, shown_reply, comment_reply};
+ghost use Rattle.wat_lexer_parser.specs.calls.Calls.{place_after, takes, close_reply, group_reply};
+ghost use Rattle.wat_lexer_parser.specs.places.Places.{comment_at};
+ghost use Rattle.wat_lexer_parser.specs.shown.Showing.{shown};
+
+use crate::parser::Parser;
+use crate::parser::fault::{Fault, FaultKind};
+use crate::parser::names::RegisterError;
+use std::alloc::{AllocError, Global};
+use wat_lex::lexer::{Token, TokenKind};
 
 /// A call of a parser.
 #[derive(Debug, Drop, PartialEq)]
@@ -40,4 +52,99 @@ pub enum Reply {
     NotClosed(usize),
     /// The name is registered as often as can be.
     TooOften,
+}
+
+/// What a look finds: a token or a comment with the place behind it, None, or a fault.
+type Found = Result<Option<(Token, usize)>, Fault>;
+
+fn fault_reply(fault: Fault) -> Reply
+    ensures { result ≡ fault_reply fault }
+{
+    Reply::Fault(fault.offset, fault.kind)
+}
+
+fn shown_reply(found: Found) -> Reply
+    ensures { result ≡ shown_reply found }
+{
+    match found {
+        Ok(None) => Reply::End,
+        Ok(Some((token, _))) => Reply::Token(token),
+        Err(fault) => fault_reply(fault),
+    }
+}
+
+fn comment_reply(found: Found) -> Reply
+    ensures { result ≡ comment_reply found }
+{
+    match found {
+        Ok(None) => Reply::Absent,
+        Ok(Some((token, _))) => Reply::Comment(token.offset, token.len),
+        Err(fault) => fault_reply(fault),
+    }
+}
+
+/// The place behind what was found.
+fn place_after(found: Found, place: usize) -> usize
+    ensures { result ≡ place_after found place }
+{
+    match found {
+        Ok(Some((_, next))) => next,
+        Ok(None) => place,
+        Err(_) => place,
+    }
+}
+
+impl<'a> Parser<'a> {
+    /// The place behind up to so many shown tokens.
+    fn takes(&self, place: usize, count: usize) -> Result<usize, Fault>
+        requires { place ≤ length self.now.source.tokens }
+        ensures value { result ≡ takes self.now.source self.now.names count place }
+        ensures on { IfOk result (λ q. place ≤ q) }
+        ensures within { IfOk result (λ q. q ≤ length self.now.source.tokens) }
+    {
+        let mut at = place;
+        for _ in 0..count {
+            match self.look(at) {
+                Ok(Some((_, next))) => at = next,
+                Ok(None) => return Ok(at),
+                Err(fault) => return Err(fault),
+            }
+        }
+        Ok(at)
+    }
+
+    /// The reply to taking `)` at `at`, and the place behind it, or `place` where none is shown.
+    fn close_group(&self, place: usize, at: usize) -> (Reply, usize)
+        ensures { result ≡ close_reply self.now.source self.now.names place at
+            (shown self.now.source at self.now.names) }
+    {
+        match self.look(at) {
+            Ok(Some((token, next))) => match token.kind {
+                TokenKind::RParen => (Reply::Done, next),
+                _ => (Reply::NotClosed(self.span_from(at).offset()), place),
+            },
+            Ok(None) => (Reply::NotClosed(self.span_from(at).offset()), place),
+            Err(fault) => (fault_reply(fault), place),
+        }
+    }
+
+    /// The reply to taking a group of up to so many tokens, and the place behind it, or the parser's
+    /// own where it is no such group.
+    #[tactic(auto, unfolding(crate::specs::calls::Calls::group_reply))]
+    fn group(&self, count: usize) -> (Reply, usize)
+        ensures { result ≡ group_reply self.now.source self.now.names count self.now.place }
+    {
+        let place = self.place();
+        match self.look(place) {
+            Ok(Some((token, next))) => match token.kind {
+                TokenKind::LParen => match self.takes(next, count) {
+                    Ok(at) => self.close_group(place, at),
+                    Err(fault) => (fault_reply(fault), place),
+                },
+                _ => (Reply::NotOpen(self.span_from(place).offset()), place),
+            },
+            Ok(None) => (Reply::NotOpen(self.span_from(place).offset()), place),
+            Err(fault) => (fault_reply(fault), place),
+        }
+    }
 }
