@@ -4,3 +4,4 @@ pub mod Beginnings
 pub mod Behind
 pub mod EachShown
 pub mod ShownOneByOne
+pub mod Takes

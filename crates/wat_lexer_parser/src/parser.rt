@@ -19,14 +19,14 @@ mod cursor;
 mod fault;
 mod names;
 mod peek;
-mod replay;
+mod calls;
 mod table;
 
 pub use buffer::ParseBuffer;
 pub use cursor::Cursor;
 pub use fault::FaultKind;
 pub use peek::Peek;
-pub use replay::{Call, Reply};
+pub use calls::{Call, Reply, replay};
 
 use crate::parser::fault::Fault;
 use crate::parser::names::{Names, RegisterError};

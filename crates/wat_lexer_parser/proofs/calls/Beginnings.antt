@@ -3,8 +3,8 @@ use Rattle.std.proofs.Common.{◌≡◌, ℕ, ◌+◌, ◌<◌, ◌≤◌, List,
 use Rattle.std.specs.Prelude.{slice_get}
 use Rattle.std.proofs.lemmas.Option.{get_or_from_slice_get, slice_get_within}
 use Rattle.std.proofs.lemmas.List.{take_more, take_all}
-use Rattle.wat_lexer_parser.specs.declared.parser.replay.Call.{Call}
-use Rattle.wat_lexer_parser.specs.declared.parser.replay.Reply.{Reply}
+use Rattle.wat_lexer_parser.specs.declared.parser.calls.Call.{Call}
+use Rattle.wat_lexer_parser.specs.declared.parser.calls.Reply.{Reply}
 use Rattle.wat_lexer_parser.specs.calls.Calls.{answer, replies, state_after}
 use Rattle.wat_lexer_parser.specs.calls.CallLaws.{BeginsWith}
 use Rattle.wat_lexer_parser.specs.parser.State.{State}

@@ -3,10 +3,10 @@ use Rattle.std.proofs.Common.{◌≡◌, ℕ, List, [], ◌∷◌, Bool, true, f
 use Rattle.std.specs.Prelude.{if◌then◌else◌, nat_eq, Result, string_bytes}
 use Rattle.std.proofs.lemmas.Bool.{cases_Bool}
 use Rattle.wat_lexer_parser.specs.declared.parser.fault.Fault.{Fault}
-use Rattle.wat_lexer_parser.specs.declared.parser.replay.Call.{Call}
-use Rattle.wat_lexer_parser.specs.declared.parser.replay.Call.TheVariants as call
-use Rattle.wat_lexer_parser.specs.declared.parser.replay.Reply.{Reply}
-use Rattle.wat_lexer_parser.specs.declared.parser.replay.Reply.TheVariants as reply
+use Rattle.wat_lexer_parser.specs.declared.parser.calls.Call.{Call}
+use Rattle.wat_lexer_parser.specs.declared.parser.calls.Call.TheVariants as call
+use Rattle.wat_lexer_parser.specs.declared.parser.calls.Reply.{Reply}
+use Rattle.wat_lexer_parser.specs.declared.parser.calls.Reply.TheVariants as reply
 use Rattle.wat_lexer_parser.specs.calls.Calls.{answer, replies, state_after, shown_reply, comment_reply, place_after, takes, close_reply, takes_reply, open_reply, group_reply}
 use Rattle.wat_lexer_parser.specs.calls.CallLaws.{is_done, is_kept, kept_calls, kept_replies, NothingElse}
 use Rattle.wat_lexer_parser.specs.groups.Sorts.{is_open, is_close}

@@ -1,9 +1,9 @@
 -- What holds of every list of calls: looks and refused calls change nothing else. No part of the standard.
 use Rattle.std.specs.Prelude.{ℕ, ◌≡◌, Bool, true, false, ◌&&◌, not, List, [], ◌∷◌, take, if◌then◌else◌}
-use Rattle.wat_lexer_parser.specs.declared.parser.replay.Call.{Call}
-use Rattle.wat_lexer_parser.specs.declared.parser.replay.Call.TheVariants as call
-use Rattle.wat_lexer_parser.specs.declared.parser.replay.Reply.{Reply}
-use Rattle.wat_lexer_parser.specs.declared.parser.replay.Reply.TheVariants as reply
+use Rattle.wat_lexer_parser.specs.declared.parser.calls.Call.{Call}
+use Rattle.wat_lexer_parser.specs.declared.parser.calls.Call.TheVariants as call
+use Rattle.wat_lexer_parser.specs.declared.parser.calls.Reply.{Reply}
+use Rattle.wat_lexer_parser.specs.declared.parser.calls.Reply.TheVariants as reply
 use Rattle.wat_lexer_parser.specs.calls.Calls.{answer, replies, state_after}
 use Rattle.wat_lexer_parser.specs.parser.State.{State}
 

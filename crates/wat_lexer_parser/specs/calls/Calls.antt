@@ -1,10 +1,10 @@
 -- What a parser replies to calls, and where they leave it: the fold of a list of calls. No part of the standard.
 use Rattle.std.specs.Prelude.{ℕ, zero, suc, Bool, true, false, List, [], ◌∷◌, nat_eq, if◌then◌else◌, Some, None, Result, Ok, Err, string_bytes}
 use Rattle.wat_lexer_parser.specs.declared.parser.fault.Fault.{Fault}
-use Rattle.wat_lexer_parser.specs.declared.parser.replay.Call.{Call}
-use Rattle.wat_lexer_parser.specs.declared.parser.replay.Call.TheVariants as call
-use Rattle.wat_lexer_parser.specs.declared.parser.replay.Reply.{Reply}
-use Rattle.wat_lexer_parser.specs.declared.parser.replay.Reply.TheVariants as reply
+use Rattle.wat_lexer_parser.specs.declared.parser.calls.Call.{Call}
+use Rattle.wat_lexer_parser.specs.declared.parser.calls.Call.TheVariants as call
+use Rattle.wat_lexer_parser.specs.declared.parser.calls.Reply.{Reply}
+use Rattle.wat_lexer_parser.specs.declared.parser.calls.Reply.TheVariants as reply
 use Rattle.wat_lexer_parser.specs.groups.Sorts.{is_open, is_close}
 use Rattle.wat_lexer_parser.specs.names.RegisteredNames.{Names, most_often, count, more, fewer, is_registered}
 use Rattle.wat_lexer_parser.specs.parser.State.{State}
@@ -59,13 +59,19 @@ open_reply s names n p (Err f) = (fault_reply f, p)
 unfoldable pub group_reply : Source → Names → ℕ → ℕ → Reply × ℕ
 group_reply s names n p = open_reply s names n p (shown s p names)
 
+abbrev pub register : State → List ℕ → Reply × State
+register s x = if nat_eq (count s.names x) most_often then (reply.TooOften, s) else (reply.Done, record s { names = more s.names x })
+
+abbrev pub unregister : State → List ℕ → Reply × State
+unregister s x = if is_registered s.names x then (reply.Done, record s { names = fewer s.names x }) else (reply.Absent, s)
+
 -- the reply to a call, and the state behind it
 abbrev pub answer : State → Call → Reply × State
 answer s call.Look = (shown_reply (shown s.source s.place s.names), s)
 answer s call.Take = (shown_reply (shown s.source s.place s.names), record s { place = place_after (shown s.source s.place s.names) s.place })
 answer s call.Comment = (comment_reply (comment_at s.source s.place), record s { place = place_after (comment_at s.source s.place) s.place })
-answer s (call.Register x) = if nat_eq (count s.names (string_bytes x)) most_often then (reply.TooOften, s) else (reply.Done, record s { names = more s.names (string_bytes x) })
-answer s (call.Unregister x) = if is_registered s.names (string_bytes x) then (reply.Done, record s { names = fewer s.names (string_bytes x) }) else (reply.Absent, s)
+answer s (call.Register x) = register s (string_bytes x)
+answer s (call.Unregister x) = unregister s (string_bytes x)
 answer s (call.Parens n) = ((group_reply s.source s.names n s.place).0, record s { place = (group_reply s.source s.names n s.place).1 })
 
 -- the replies to a list of calls, each made before the next call

@@ -2,7 +2,7 @@
 ghost use Rattle.std.specs.Prelude.{◌≡◌, ◌≤◌, ◌<◌, length, IfOk, OnOk, OnErr};
 ghost use Rattle.std.specs.Prelude.{Ok, Err};
 ghost use Rattle.wat_lexer_parser.specs.calls.CallLaws.{NothingElse, BeginsWith};
-ghost use Rattle.wat_lexer_parser.specs.calls.Calls.{answer, replies, state_after};
+ghost use Rattle.wat_lexer_parser.specs.calls.Calls.{answer, register, unregister, replies, state_after};
 ghost use Rattle.wat_lexer_parser.specs.calls.Calls.{fault_reply, shown_reply, comment_reply};
 ghost use Rattle.wat_lexer_parser.specs.calls.Calls.{place_after, takes, close_reply, group_reply};
 ghost use Rattle.wat_lexer_parser.specs.places.Places.{comment_at};
@@ -103,9 +103,13 @@ impl<'a> Parser<'a> {
         ensures within { IfOk result (λ q. q ≤ length self.now.source.tokens) }
     {
         let mut at = place;
-        for _ in 0..count {
+        let mut left = count;
+        while left > 0 {
             match self.look(at) {
-                Ok(Some((_, next))) => at = next,
+                Ok(Some((_, next))) => {
+                    at = next;
+                    left -= 1;
+                }
                 Ok(None) => return Ok(at),
                 Err(fault) => return Err(fault),
             }
@@ -115,8 +119,11 @@ impl<'a> Parser<'a> {
 
     /// The reply to taking `)` at `at`, and the place behind it, or `place` where none is shown.
     fn close_group(&self, place: usize, at: usize) -> (Reply, usize)
-        ensures { result ≡ close_reply self.now.source self.now.names place at
+        requires { (place ≤ at) × (place ≤ length self.now.source.tokens) }
+        ensures value { result ≡ close_reply self.now.source self.now.names place at
             (shown self.now.source at self.now.names) }
+        ensures on { place ≤ result.1 }
+        ensures within { result.1 ≤ length self.now.source.tokens }
     {
         match self.look(at) {
             Ok(Some((token, next))) => match token.kind {
@@ -132,7 +139,10 @@ impl<'a> Parser<'a> {
     /// own where it is no such group.
     #[tactic(auto, unfolding(crate::specs::calls::Calls::group_reply))]
     fn group(&self, count: usize) -> (Reply, usize)
-        ensures { result ≡ group_reply self.now.source self.now.names count self.now.place }
+        ensures value { result ≡
+            group_reply self.now.source self.now.names count self.now.place }
+        ensures on { self.now.place ≤ result.1 }
+        ensures within { result.1 ≤ length self.now.source.tokens }
     {
         let place = self.place();
         match self.look(place) {
@@ -147,4 +157,79 @@ impl<'a> Parser<'a> {
             Err(fault) => (fault_reply(fault), place),
         }
     }
+
+    /// Replies to a call, and does it. Where memory is wanting it is not done.
+    fn answer(&mut self, call: &Call) -> Result<Reply, AllocError>
+        ensures reply { IfOk result (λ reply. reply ≡ (answer self.old call.now).0) }
+        ensures state { OnOk result (self.new ≡ (answer self.old call.now).1) }
+        ensures refused { OnErr result (self.new ≡ self.old) }
+    {
+        match call {
+            Call::Look => Ok(shown_reply(self.look(self.place))),
+            Call::Take => {
+                let found = self.look(self.place);
+                self.place = place_after(found, self.place);
+                Ok(shown_reply(found))
+            }
+            Call::Comment => {
+                let buffer = self.buffer;
+                let found = buffer.comment_at(self.place);
+                self.place = place_after(found, self.place);
+                Ok(comment_reply(found))
+            }
+            Call::Register(name) => self.answer_register(name.as_str()),
+            Call::Unregister(name) => Ok(self.answer_unregister(name.as_str())),
+            Call::Parens(count) => {
+                let (reply, place) = self.group(*count);
+                self.place = place;
+                Ok(reply)
+            }
+        }
+    }
+
+    fn answer_register(&mut self, name: &str) -> Result<Reply, AllocError>
+        ensures reply { IfOk result (λ reply. reply ≡ (register self.old name.now).0) }
+        ensures state { OnOk result (self.new ≡ (register self.old name.now).1) }
+        ensures refused { OnErr result (self.new ≡ self.old) }
+    {
+        let alloc = self.alloc();
+        match self.names.register(alloc, name) {
+            Ok(()) => Ok(Reply::Done),
+            Err(RegisterError::TooOften) => Ok(Reply::TooOften),
+            Err(RegisterError::OutOfMemory) => Err(AllocError),
+        }
+    }
+
+    fn answer_unregister(&mut self, name: &str) -> Reply
+        ensures reply { result ≡ (unregister self.old name.now).0 }
+        ensures state { self.new ≡ (unregister self.old name.now).1 }
+    {
+        if self.names.is_registered(name) {
+            self.names.unregister(name);
+            Reply::Done
+        } else {
+            Reply::Absent
+        }
+    }
+}
+
+/// Makes the calls of a list one after another, and answers the replies. Where memory is wanting
+/// the parser stands behind some beginning of the list.
+pub fn replay<'a>(
+    alloc: Global,
+    parser: &mut Parser<'a>,
+    calls: &[Call],
+) -> Result<Vec<Reply>, AllocError>
+    ensures replies { IfOk result (λ made. made.items ≡ replies parser.old calls.now) }
+    ensures state { IfOk result (λ _. parser.new ≡ state_after parser.old calls.now) }
+    ensures beginning { OnErr result (BeginsWith parser.old calls.now parser.new) }
+{
+    let mut replies = Vec::new(alloc);
+    let mut i = 0;
+    while i < calls.len() {
+        let reply = parser.answer(&calls[i])?;
+        i += 1;
+        replies.push(reply)?;
+    }
+    Ok(replies)
 }
