@@ -8,28 +8,27 @@ ghost use Rattle.wat_lexer_parser.specs.names.RegisteredNames.{count, fewer};
 ghost use Rattle.wat_lexer_parser.specs.parser.Closures.{opened, closed, ParensOk, ParensErr};
 ghost use Rattle.wat_lexer_parser.specs.parser.Sights.{second, takes_second};
 ghost use Rattle.wat_lexer_parser.specs.parser.State.{Answers, IsRefusal, IsSound};
-ghost use Rattle.wat_lexer_parser.specs.parser.State.{expected, message_at, depth_checked};
+ghost use Rattle.wat_lexer_parser.specs.parser.State.{report_here, message_at, depth_checked};
 ghost use Rattle.wat_lexer_parser.specs.parser.State.{registered, too_often};
 ghost use Rattle.wat_lexer_parser.specs.places.Places.{empty_of, is_meaningful};
-ghost use Rattle.wat_lexer_parser.specs.places.Places.{offset_at, span_at};
+ghost use Rattle.wat_lexer_parser.specs.places.Places.{offset_at, current_span};
 ghost use Rattle.wat_lexer_parser.specs.shown.Showing.{shown};
 
 mod buffer;
+mod calls;
 mod cursor;
 mod fault;
 mod names;
 mod peek;
-mod calls;
 mod table;
-
-pub use buffer::ParseBuffer;
-pub use cursor::Cursor;
-pub use fault::FaultKind;
-pub use peek::Peek;
-pub use calls::{Call, Reply, replay};
 
 use crate::parser::fault::Fault;
 use crate::parser::names::{Names, RegisterError};
+pub use buffer::ParseBuffer;
+pub use calls::{Call, Reply, replay};
+pub use cursor::Cursor;
+pub use fault::FaultKind;
+pub use peek::Peek;
 use std::alloc::Global;
 use std::marker::Model;
 use wat_lex::error::Error;
@@ -121,10 +120,10 @@ impl<'a> Parser<'a> {
 
     /// The current span at a place.
     pub(crate) fn span_from(&self, place: usize) -> Span
-        ensures { result ≡ span_at self.now.source place self.now.names }
+        ensures { result ≡ current_span self.now.source place self.now.names }
     {
         let buffer = self.buffer;
-        Span::from_offset(buffer.span_at(place, &self.names))
+        Span::from_offset(buffer.current_span(place, &self.names))
     }
 
     /// Whether the end or `)` is shown, so that a list ends here; false at a fault.
@@ -142,7 +141,7 @@ impl<'a> Parser<'a> {
     /// The current span: that of the token that is shown, the text's length at the end, or the
     /// place itself where a fault is shown.
     pub fn cur_span(&self) -> Span
-        ensures { result ≡ span_at self.now.source self.now.place self.now.names }
+        ensures { result ≡ current_span self.now.source self.now.place self.now.names }
     {
         self.span_from(self.place)
     }
@@ -165,7 +164,7 @@ impl<'a> Parser<'a> {
     /// An error with this message at the current span.
     pub fn error(&self, message: &str) -> Error
         ensures { IsUnlessMemory result
-            (expected self.now.source self.now.place self.now.names message.now) }
+            (report_here self.now.source self.now.place self.now.names message.now) }
     {
         self.error_at(self.cur_span(), message)
     }

@@ -6,7 +6,7 @@ use Rattle.std.proofs.lemmas.List.{take_more, take_all}
 use Rattle.wat_lexer_parser.specs.declared.parser.calls.Call.{Call}
 use Rattle.wat_lexer_parser.specs.declared.parser.calls.Reply.{Reply}
 use Rattle.wat_lexer_parser.specs.calls.Calls.{answer, replies, state_after}
-use Rattle.wat_lexer_parser.specs.calls.CallLaws.{BeginsWith}
+use Rattle.wat_lexer_parser.specs.calls.CallLaws.{AfterSome}
 use Rattle.wat_lexer_parser.specs.parser.State.{State}
 
 replies_push : (s : State) (cs : List Call) (c : Call) → replies s (cs ++ (c ∷ [])) ≡ replies s cs ++ ((answer (state_after s cs) c).0 ∷ [])
@@ -58,5 +58,5 @@ play_more s cs k given now c r next h e f p = record {
 pub play_end : (s : State) (cs : List Call) (k : ℕ) (given : List Reply) (now : State) → length cs ≤ k → Played s cs k given now → (given ≡ replies s cs) × (now ≡ state_after s cs)
 play_end s cs k given now h p = let e = take_all k cs h in (p.replied ∙ ap (replies s) e, p.reached ∙ ap (state_after s) e)
 
-pub play_begins : (s : State) (cs : List Call) (k : ℕ) (given : List Reply) (now : State) → Played s cs k given now → BeginsWith s cs now
+pub play_begins : (s : State) (cs : List Call) (k : ℕ) (given : List Reply) (now : State) → Played s cs k given now → AfterSome s cs now
 play_begins s cs k given now p = (k, p.reached)

@@ -6,7 +6,7 @@ use Rattle.wat_lex.specs.declared.lexer.kinds.Token.{Token}
 use Rattle.wat_lexer_parser.specs.declared.parser.fault.Fault.{Fault}
 use Rattle.wat_lexer_parser.specs.declared.parser.fault.Step.TheVariants.{Pass, Take, Finish, Refuse, Skip}
 use Rattle.wat_lexer_parser.specs.names.RegisteredNames.{Names}
-use Rattle.wat_lexer_parser.specs.shown.Shown.{Shown, ended, left_open}
+use Rattle.wat_lexer_parser.specs.shown.Shown.{Finding, ended, left_open}
 use Rattle.wat_lexer_parser.specs.places.Source.{Source}
 use Rattle.wat_lexer_parser.specs.shown.Showing.{Mode, Showing, Inside, shown_in, placed, shown, first, step_of, after}
 use Rattle.wat_lexer_parser.proofs.shown.Looks.{does}
@@ -74,17 +74,17 @@ behind_place ts p r b =
     record { forward = omega (arith, h); inside = omega arith; tail = e ∙ ap (λ k. drop k ts) (sym h) }
 
 -- from a look at a place to what is shown there
-pub from_none : (ts : List Token) (a : Shown) → placed ts a ≡ Ok None → a ≡ Ok None
+pub from_none : (ts : List Token) (a : Finding) → placed ts a ≡ Ok None → a ≡ Ok None
 from_none ts (Ok None) e = refl
 from_none ts (Ok (Some (t, r))) e = cc
 from_none ts (Err f) e = cc
 
-pub from_fault : (ts : List Token) (a : Shown) (f : Fault) → placed ts a ≡ Err f → a ≡ Err f
+pub from_fault : (ts : List Token) (a : Finding) (f : Fault) → placed ts a ≡ Err f → a ≡ Err f
 from_fault ts (Ok None) f e = cc
 from_fault ts (Ok (Some (t, r))) f e = cc
 from_fault ts (Err g) f e = let k : g ≡ f = cc in ap Err k
 
-pub from_token : (ts : List Token) (a : Shown) (t : Token) (q : ℕ) → placed ts a ≡ Ok (Some (t, q)) → (r : List Token) × (a ≡ Ok (Some (t, r))) × (length ts - length r ≡ q)
+pub from_token : (ts : List Token) (a : Finding) (t : Token) (q : ℕ) → placed ts a ≡ Ok (Some (t, q)) → (r : List Token) × (a ≡ Ok (Some (t, r))) × (length ts - length r ≡ q)
 from_token ts (Ok None) t q e = cc
 from_token ts (Ok (Some (u, r))) t q e = let k = same_token u t (length ts - length r) q e in (r, ap (λ v. Ok (Some (v, r))) k.0, k.1)
 from_token ts (Err f) t q e = cc

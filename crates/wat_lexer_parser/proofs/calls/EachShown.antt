@@ -7,44 +7,44 @@ use Rattle.wat_lex.specs.declared.lexer.kinds.Token.{Token}
 use Rattle.wat_lexer_parser.specs.declared.parser.fault.Fault.{Fault}
 use Rattle.wat_lexer_parser.specs.names.RegisteredNames.{Names}
 use Rattle.wat_lexer_parser.specs.places.Source.{Source, IsRead}
-use Rattle.wat_lexer_parser.specs.shown.AllShown.{ShowsAll, end, fault, next}
-use Rattle.wat_lexer_parser.specs.shown.Shown.{Shown, Shows}
+use Rattle.wat_lexer_parser.specs.shown.AllShown.{AllShown, end, fault, next}
+use Rattle.wat_lexer_parser.specs.shown.Shown.{Finding, Shown}
 use Rattle.wat_lexer_parser.specs.shown.Showing.{Showing, shown_in}
 use Rattle.wat_lexer_parser.specs.shown.ShownLaws.{SomethingShown, OneThingShown}
 use Rattle.wat_lexer_parser.proofs.calls.Behind.{BehindPlace, behind_in, behind_place, same_token}
 
-same_shown : OneThingShown → (x : List ℕ) (z : Option LexFault) (n : Names) (ts : List Token) (a b : Shown) → Shows x z n ts a → Shows x z n ts b → a ≡ b
+same_shown : OneThingShown → (x : List ℕ) (z : Option LexFault) (n : Names) (ts : List Token) (a b : Finding) → Shown x z n ts a → Shown x z n ts b → a ≡ b
 same_shown one x z n ts a b h k = one x z n ts a h ∙ sym (one x z n ts b k)
 
 -- of two lists that are shown each is the other
-pub all_is_one : OneThingShown → (x : List ℕ) (z : Option LexFault) (n : Names) (ts us vs : List Token) (f g : Option Fault) → ShowsAll x z n ts us f → ShowsAll x z n ts vs g → (us ≡ vs) × (f ≡ g)
+pub all_is_one : OneThingShown → (x : List ℕ) (z : Option LexFault) (n : Names) (ts us vs : List Token) (f g : Option Fault) → AllShown x z n ts us f → AllShown x z n ts vs g → (us ≡ vs) × (f ≡ g)
 all_is_one one x z n ts us vs f g (end h) (end k) = (refl, refl)
-all_is_one one x z n ts us vs f g (end h) (fault {f = b} k) = let e : ◌≡◌ {A = Shown} (Ok None) (Err b) = same_shown one x z n ts _ _ h k in cc
-all_is_one one x z n ts us vs f g (end h) (next {r = r} {t = t} k l) = let e : ◌≡◌ {A = Shown} (Ok None) (Ok (Some (t, r))) = same_shown one x z n ts _ _ h k in cc
-all_is_one one x z n ts us vs f g (fault {f = a} h) (end k) = let e : ◌≡◌ {A = Shown} (Err a) (Ok None) = same_shown one x z n ts _ _ h k in cc
-all_is_one one x z n ts us vs f g (fault {f = a} h) (fault {f = b} k) = let e : ◌≡◌ {A = Shown} (Err a) (Err b) = same_shown one x z n ts _ _ h k in let d : a ≡ b = cc in (refl, ap Some d)
-all_is_one one x z n ts us vs f g (fault {f = a} h) (next {r = r} {t = t} k l) = let e : ◌≡◌ {A = Shown} (Err a) (Ok (Some (t, r))) = same_shown one x z n ts _ _ h k in cc
-all_is_one one x z n ts us vs f g (next {r = r} {t = t} h m) (end k) = let e : ◌≡◌ {A = Shown} (Ok (Some (t, r))) (Ok None) = same_shown one x z n ts _ _ h k in cc
-all_is_one one x z n ts us vs f g (next {r = r} {t = t} h m) (fault {f = b} k) = let e : ◌≡◌ {A = Shown} (Ok (Some (t, r))) (Err b) = same_shown one x z n ts _ _ h k in cc
+all_is_one one x z n ts us vs f g (end h) (fault {f = b} k) = let e : ◌≡◌ {A = Finding} (Ok None) (Err b) = same_shown one x z n ts _ _ h k in cc
+all_is_one one x z n ts us vs f g (end h) (next {r = r} {t = t} k l) = let e : ◌≡◌ {A = Finding} (Ok None) (Ok (Some (t, r))) = same_shown one x z n ts _ _ h k in cc
+all_is_one one x z n ts us vs f g (fault {f = a} h) (end k) = let e : ◌≡◌ {A = Finding} (Err a) (Ok None) = same_shown one x z n ts _ _ h k in cc
+all_is_one one x z n ts us vs f g (fault {f = a} h) (fault {f = b} k) = let e : ◌≡◌ {A = Finding} (Err a) (Err b) = same_shown one x z n ts _ _ h k in let d : a ≡ b = cc in (refl, ap Some d)
+all_is_one one x z n ts us vs f g (fault {f = a} h) (next {r = r} {t = t} k l) = let e : ◌≡◌ {A = Finding} (Err a) (Ok (Some (t, r))) = same_shown one x z n ts _ _ h k in cc
+all_is_one one x z n ts us vs f g (next {r = r} {t = t} h m) (end k) = let e : ◌≡◌ {A = Finding} (Ok (Some (t, r))) (Ok None) = same_shown one x z n ts _ _ h k in cc
+all_is_one one x z n ts us vs f g (next {r = r} {t = t} h m) (fault {f = b} k) = let e : ◌≡◌ {A = Finding} (Ok (Some (t, r))) (Err b) = same_shown one x z n ts _ _ h k in cc
 all_is_one one x z n ts us vs f g (next {r = r} {us = ws} {t = t} h m) (next {r = q} {us = xs} {t = u} k l) =
     let e = same_token t u r q (same_shown one x z n ts _ _ h k) in
-    let d = all_is_one one x z n r ws xs f g m (subst (λ y. ShowsAll x z n y xs g) (sym e.1) l) in
+    let d = all_is_one one x z n r ws xs f g m (subst (λ y. AllShown x z n y xs g) (sym e.1) l) in
     (ap (λ y. y ∷ ws) e.0 ∙ ap (λ y. u ∷ y) d.0, d.1)
 
 -- some tokens are shown from a place on, and then the end or a fault
 abbrev AllFrom : Source → Names → ℕ → Type 0
-AllFrom s n p = (us : List Token) × (f : Option Fault) × ShowsAll s.setting.text s.ending n (drop p s.tokens) us f
+AllFrom s n p = (us : List Token) × (f : Option Fault) × AllShown s.setting.text s.ending n (drop p s.tokens) us f
 
 -- what is shown at a place is shown of the tokens there
-pub shows_at : SomethingShown → (s : Source) (n : Names) (p : ℕ) (a : Shown) → IsUtf8 s.setting.text → IsRead s → shown_in s.setting.text s.ending n Showing (drop p s.tokens) ≡ a → Shows s.setting.text s.ending n (drop p s.tokens) a
-shows_at some s n p a u h e = subst (Shows s.setting.text s.ending n (drop p s.tokens)) e (some s n p u h)
+pub shows_at : SomethingShown → (s : Source) (n : Names) (p : ℕ) (a : Finding) → IsUtf8 s.setting.text → IsRead s → shown_in s.setting.text s.ending n Showing (drop p s.tokens) ≡ a → Shown s.setting.text s.ending n (drop p s.tokens) a
+shows_at some s n p a u h e = subst (Shown s.setting.text s.ending n (drop p s.tokens)) e (some s n p u h)
 
-token_then : (s : Source) (n : Names) (p : ℕ) (t : Token) (r : List Token) → Shows s.setting.text s.ending n (drop p s.tokens) (Ok (Some (t, r))) → BehindPlace s.tokens p r
+token_then : (s : Source) (n : Names) (p : ℕ) (t : Token) (r : List Token) → Shown s.setting.text s.ending n (drop p s.tokens) (Ok (Some (t, r))) → BehindPlace s.tokens p r
     → AllFrom s n (length s.tokens - length r) → AllFrom s n p
-token_then s n p t r h b m = (t ∷ m.0, m.1, next h (subst (λ y. ShowsAll s.setting.text s.ending n y m.0 m.1) (sym b.tail) m.2))
+token_then s n p t r h b m = (t ∷ m.0, m.1, next h (subst (λ y. AllShown s.setting.text s.ending n y m.0 m.1) (sym b.tail) m.2))
 
 place_by : SomethingShown → (s : Source) (n : Names) (p : ℕ) → IsUtf8 s.setting.text → IsRead s → ((q : ℕ) → length (drop q s.tokens) < length (drop p s.tokens) → AllFrom s n q)
-    → (a : Shown) → shown_in s.setting.text s.ending n Showing (drop p s.tokens) ≡ a → AllFrom s n p
+    → (a : Finding) → shown_in s.setting.text s.ending n Showing (drop p s.tokens) ≡ a → AllFrom s n p
 place_by some s n p u h below (Ok None) e = ([], None, end (shows_at some s n p (Ok None) u h e))
 place_by some s n p u h below (Err f) e = ([], Some f, fault (shows_at some s n p (Err f) u h e))
 place_by some s n p u h below (Ok (Some (t, r))) e =

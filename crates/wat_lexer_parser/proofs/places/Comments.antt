@@ -7,7 +7,7 @@ use Rattle.wat_lex.specs.declared.lexer.kinds.Token.{Token}
 use Rattle.wat_lexer_parser.specs.groups.Sorts.{is_space, is_comment}
 use Rattle.wat_lexer_parser.specs.places.Places.{past_space, comment_in, comment_at}
 use Rattle.wat_lexer_parser.specs.places.Source.{Source}
-use Rattle.wat_lexer_parser.specs.shown.Shown.{Shown, ended}
+use Rattle.wat_lexer_parser.specs.shown.Shown.{Finding, ended}
 use Rattle.wat_lexer_parser.specs.shown.Showing.{placed}
 
 drop_some : (ts : List Token) (p : ℕ) (t : Token) → slice_get ts p ≡ Some t → drop p ts ≡ t ∷ drop (p + 1) ts

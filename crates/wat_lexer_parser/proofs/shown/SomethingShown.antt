@@ -17,7 +17,7 @@ use Rattle.wat_lex.specs.declared.lexer.kinds.Token.{Token}
 use Rattle.wat_lexer_parser.specs.declared.parser.fault.Step.TheVariants.{Pass, Take, Finish, Skip}
 use Rattle.wat_lexer_parser.specs.names.RegisteredNames.{Names, is_registered}
 use Rattle.wat_lexer_parser.specs.places.Source.{Source, IsRead}
-use Rattle.wat_lexer_parser.specs.shown.Shown.{IsNamed, IsMisnamed, Shows, none_left, blank, other, unmarked, none_follows, no_annotation, misnamed, registered, skipped, unclosed}
+use Rattle.wat_lexer_parser.specs.shown.Shown.{IsNamed, IsMisnamed, Shown, none_left, blank, other, unmarked, none_follows, no_annotation, misnamed, registered, skipped, unclosed}
 use Rattle.wat_lexer_parser.specs.shown.Showing.{Showing, shown_in, first}
 use Rattle.wat_lexer_parser.specs.groups.Sorts.{is_blank, is_marked}
 use Rattle.wat_lexer_parser.proofs.groups.Closing.{closed_from, group_from, closed_shorter}
@@ -73,49 +73,49 @@ nameable_past x s r (beyond {s = u} e g) h = nameable_past x u r g h.1
 nameable_past x s r (nested {s = u} {m = m} e g k) h = nameable_past x m r k (nameable_past x u m g h.1)
 
 abbrev pub Below : List ℕ → Option LexFault → Names → ℕ → Type 0
-Below x z n d = (ts : List Token) → length ts < d → Nameable x ts → Shows x z n ts (shown_in x z n Showing ts)
+Below x z n d = (ts : List Token) → length ts < d → Nameable x ts → Shown x z n ts (shown_in x z n Showing ts)
 
-opened : Known → (x : List ℕ) (z : Option LexFault) (n : Names) (t : Token) (r : List Token) → Below x z n (length (t ∷ r)) → Nameable x r → t.kind ≡ LParen → is_marked x t ≡ true → Shows x z n (t ∷ r) (shown_in x z n Showing (t ∷ r))
-opened known x z n t [] below h e f = subst (Shows x z n (t ∷ [])) (sym (by_step x z n t [] Finish (mark_step x n t None true e f))) (none_follows (e, f))
+opened : Known → (x : List ℕ) (z : Option LexFault) (n : Names) (t : Token) (r : List Token) → Below x z n (length (t ∷ r)) → Nameable x r → t.kind ≡ LParen → is_marked x t ≡ true → Shown x z n (t ∷ r) (shown_in x z n Showing (t ∷ r))
+opened known x z n t [] below h e f = subst (Shown x z n (t ∷ [])) (sym (by_step x z n t [] Finish (mark_step x n t None true e f))) (none_follows (e, f))
 opened known x z n t (u ∷ r) below h e f = elim (is_annotation u.kind) [
   | inl a ↦ by_name a (h.0 a)
-  | inr a ↦ subst (Shows x z n (t ∷ u ∷ r)) (sym (by_step x z n t (u ∷ r) Take (name_step x n t u None e f (no_name x u u.kind a)))) (no_annotation (e, f) a)
+  | inr a ↦ subst (Shown x z n (t ∷ u ∷ r)) (sym (by_step x z n t (u ∷ r) Take (name_step x n t u None e f (no_name x u u.kind a)))) (no_annotation (e, f) a)
 ]
   where
-    skips : (v : List ℕ) → IsNamed x u v → is_registered n v ≡ false → Shows x z n (t ∷ u ∷ r) (shown_in x z n Showing (t ∷ u ∷ r))
+    skips : (v : List ℕ) → IsNamed x u v → is_registered n v ≡ false → Shown x z n (t ∷ u ∷ r) (shown_in x z n Showing (t ∷ u ∷ r))
     skips v g i =
         let k = by_step x z n t (u ∷ r) Skip (registered_step x n t u v false e f (named known.values x u v g) i) in
         elim (closes_or_not x z n t 0 (u ∷ r)) [
           | inl l ↦
               let m = l.1.0 in
               let c = l.1.1 in
-              subst (Shows x z n (t ∷ u ∷ r)) (sym (k ∙ past_closed x z n t 0 (u ∷ r) m c))
+              subst (Shown x z n (t ∷ u ∷ r)) (sym (k ∙ past_closed x z n t 0 (u ∷ r) m c))
               (skipped (e, f) g i (group_from (u ∷ r) m c) (below m (omega (arith, closed_shorter (u ∷ r) m c)) (nameable_past x (u ∷ r) m c h)))
-          | inr l ↦ subst (Shows x z n (t ∷ u ∷ r)) (sym (k ∙ l.shows)) (unclosed (e, f) g i (λ m c. l.none m (m, closed_from (u ∷ r) m c, refl)))
+          | inr l ↦ subst (Shown x z n (t ∷ u ∷ r)) (sym (k ∙ l.shows)) (unclosed (e, f) g i (λ m c. l.none m (m, closed_from (u ∷ r) m c, refl)))
         ]
 
-    by_good : (v : List ℕ) → IsNamed x u v → Shows x z n (t ∷ u ∷ r) (shown_in x z n Showing (t ∷ u ∷ r))
+    by_good : (v : List ℕ) → IsNamed x u v → Shown x z n (t ∷ u ∷ r) (shown_in x z n Showing (t ∷ u ∷ r))
     by_good v g = elim (cases_Bool (is_registered n v)) [
-      | inl i ↦ subst (Shows x z n (t ∷ u ∷ r)) (sym (by_step x z n t (u ∷ r) Take (registered_step x n t u v true e f (named known.values x u v g) i))) (registered (e, f) g i)
+      | inl i ↦ subst (Shown x z n (t ∷ u ∷ r)) (sym (by_step x z n t (u ∷ r) Take (registered_step x n t u v true e f (named known.values x u v g) i))) (registered (e, f) g i)
       | inr i ↦ skips v g i
     ]
 
-    by_bad : (v : _) → IsMisnamed x u v → Shows x z n (t ∷ u ∷ r) (shown_in x z n Showing (t ∷ u ∷ r))
-    by_bad v g = subst (Shows x z n (t ∷ u ∷ r)) (sym (by_step x z n t (u ∷ r) _ (name_step x n t u (Some (Err v)) e f (misnamed_is known.values x u v g)))) (misnamed (e, f) g)
+    by_bad : (v : _) → IsMisnamed x u v → Shown x z n (t ∷ u ∷ r) (shown_in x z n Showing (t ∷ u ∷ r))
+    by_bad v g = subst (Shown x z n (t ∷ u ∷ r)) (sym (by_step x z n t (u ∷ r) _ (name_step x n t u (Some (Err v)) e f (misnamed_is known.values x u v g)))) (misnamed (e, f) g)
 
-    by_name : u.kind ≡ Annotation → SomeName EmptyAnnotation (word_of x u) → Shows x z n (t ∷ u ∷ r) (shown_in x z n Showing (t ∷ u ∷ r))
+    by_name : u.kind ≡ Annotation → SomeName EmptyAnnotation (word_of x u) → Shown x z n (t ∷ u ∷ r) (shown_in x z n Showing (t ∷ u ∷ r))
     by_name a (good {name = v} p q s) = by_good v (record { kind = a; name = p; utf8 = q; some = s })
     by_name a (fault {e = v} p) = by_bad v (record { kind = a; fault = p })
 
-one_more : Known → (x : List ℕ) (z : Option LexFault) (n : Names) (t : Token) (r : List Token) → Below x z n (length (t ∷ r)) → Nameable x r → Shows x z n (t ∷ r) (shown_in x z n Showing (t ∷ r))
+one_more : Known → (x : List ℕ) (z : Option LexFault) (n : Names) (t : Token) (r : List Token) → Below x z n (length (t ∷ r)) → Nameable x r → Shown x z n (t ∷ r) (shown_in x z n Showing (t ∷ r))
 one_more known x z n t r below h = elim (kind_sort t.kind) [
   | inl e ↦ elim (cases_Bool (is_marked x t)) [
     | inl f ↦ opened known x z n t r below h e f
-    | inr f ↦ subst (Shows x z n (t ∷ r)) (sym (by_step x z n t r Take (mark_step x n t (first r) false e f))) (unmarked e f)
+    | inr f ↦ subst (Shown x z n (t ∷ r)) (sym (by_step x z n t r Take (mark_step x n t (first r) false e f))) (unmarked e f)
   ]
   | inr k ↦ elim k [
-    | inl e ↦ subst (Shows x z n (t ∷ r)) (sym (by_step x z n t r Pass (blank_step x n t (first r) t.kind e))) (blank e (below r (omega arith) h))
-    | inr e ↦ subst (Shows x z n (t ∷ r)) (sym (by_step x z n t r Take (other_step x n t (first r) t.kind e.0 e.1))) (other e.0 e.1)
+    | inl e ↦ subst (Shown x z n (t ∷ r)) (sym (by_step x z n t r Pass (blank_step x n t (first r) t.kind e))) (blank e (below r (omega arith) h))
+    | inr e ↦ subst (Shown x z n (t ∷ r)) (sym (by_step x z n t r Take (other_step x n t (first r) t.kind e.0 e.1))) (other e.0 e.1)
   ]
 ]
 
@@ -125,8 +125,8 @@ below_all known x z n zero ts l h = absurd (omega arith)
 below_all known x z n (suc d) [] l h = none_left
 below_all known x z n (suc d) (t ∷ r) l h = one_more known x z n t r (λ ts k g. below_all known x z n d ts (omega arith) g) h.1
 
-shows_shown : Known → (x : List ℕ) (z : Option LexFault) (n : Names) (ts : List Token) → Nameable x ts → Shows x z n ts (shown_in x z n Showing ts)
+shows_shown : Known → (x : List ℕ) (z : Option LexFault) (n : Names) (ts : List Token) → Nameable x ts → Shown x z n ts (shown_in x z n Showing ts)
 shows_shown known x z n ts h = below_all known x z n (suc (length ts)) ts (omega arith) h
 
-pub something_shown : Known → (s : Source) (n : Names) (p : ℕ) → IsUtf8 s.setting.text → IsCharBoundary s.setting.text 0 → IsRead s → Shows s.setting.text s.ending n (drop p s.tokens) (shown_in s.setting.text s.ending n Showing (drop p s.tokens))
+pub something_shown : Known → (s : Source) (n : Names) (p : ℕ) → IsUtf8 s.setting.text → IsCharBoundary s.setting.text 0 → IsRead s → Shown s.setting.text s.ending n (drop p s.tokens) (shown_in s.setting.text s.ending n Showing (drop p s.tokens))
 something_shown known s n p u b h = shows_shown known s.setting.text s.ending n (drop p s.tokens) (nameable_drop s.setting.text p s.tokens (nameable known s.setting 0 h.to s.tokens u b h.tiling))

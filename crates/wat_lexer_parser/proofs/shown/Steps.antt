@@ -12,7 +12,7 @@ use Rattle.wat_lexer_parser.specs.declared.parser.fault.Step.{Step}
 use Rattle.wat_lexer_parser.specs.declared.parser.fault.Step.TheVariants.{Pass, Take, Finish, Skip}
 use Rattle.wat_lexer_parser.specs.groups.Groups.{Group}
 use Rattle.wat_lexer_parser.specs.names.RegisteredNames.{Names, is_registered}
-use Rattle.wat_lexer_parser.specs.shown.Shown.{Shown, IsNamed, IsMisnamed, Shows, none_left, blank, other, unmarked, none_follows, no_annotation, misnamed, registered, skipped, unclosed, left_open}
+use Rattle.wat_lexer_parser.specs.shown.Shown.{Finding, IsNamed, IsMisnamed, Shown, none_left, blank, other, unmarked, none_follows, no_annotation, misnamed, registered, skipped, unclosed, left_open}
 use Rattle.wat_lexer_parser.specs.shown.Showing.{Showing, Inside, shown_in, first, step_of, step_kind, step_next, step_named}
 use Rattle.wat_lexer_parser.specs.groups.Sorts.{is_blank, is_marked}
 use Rattle.wat_lexer_parser.specs.shown.Showing.{name_by, name_at}
@@ -73,7 +73,7 @@ registered_step x n t u v b e f g h = name_step x n t u (Some (Ok v)) e f g ∙ 
 no_group : (x : List ℕ) (z : Option LexFault) (n : Names) (t : Token) (ts : List Token) → ((m : List Token) → Group ts m → ⊥) → shown_in x z n (Inside t 0) ts ≡ left_open z t
 no_group x z n t ts h = elim (closes_or_not x z n t 0 ts) [ inl g ↦ absurd (h g.1.0 (group_from ts g.1.0 g.1.1)) | inr g ↦ g.shows ]
 
-pub shows_is : NamesAreValues → (x : List ℕ) (z : Option LexFault) (n : Names) (ts : List Token) (a : Shown) → Shows x z n ts a → shown_in x z n Showing ts ≡ a
+pub shows_is : NamesAreValues → (x : List ℕ) (z : Option LexFault) (n : Names) (ts : List Token) (a : Finding) → Shown x z n ts a → shown_in x z n Showing ts ≡ a
 unfolding shown_in
 shows_is laws x z n ts a none_left = refl
 shows_is laws x z n ts a (blank {t = t} {r = r} e h) = by_step x z n t r Pass (blank_step x n t (first r) t.kind e) ∙ shows_is laws x z n r a h

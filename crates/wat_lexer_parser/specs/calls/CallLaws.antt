@@ -7,7 +7,7 @@ use Rattle.wat_lexer_parser.specs.declared.parser.calls.Reply.TheVariants as rep
 use Rattle.wat_lexer_parser.specs.calls.Calls.{answer, replies, state_after}
 use Rattle.wat_lexer_parser.specs.parser.State.{State}
 
--- the call was not refused
+-- the reply is that of a call that did something
 abbrev pub is_done : Reply → Bool
 is_done (reply.Token t) = true
 is_done (reply.Comment o n) = true
@@ -40,5 +40,5 @@ abbrev pub LooksAndRefusals : Type 0
 LooksAndRefusals = (s : State) (cs : List Call) → NothingElse s cs
 
 -- the state after some beginning of the calls
-abbrev pub BeginsWith : State → List Call → State → Type 0
-BeginsWith s cs t = (k : ℕ) × (t ≡ state_after s (take k cs))
+abbrev pub AfterSome : State → List Call → State → Type 0
+AfterSome s cs t = (k : ℕ) × (t ≡ state_after s (take k cs))

@@ -8,7 +8,7 @@ use Rattle.wat_lexer_parser.specs.declared.parser.calls.Reply.TheVariants as rep
 use Rattle.wat_lexer_parser.specs.groups.Sorts.{is_open, is_close}
 use Rattle.wat_lexer_parser.specs.names.RegisteredNames.{Names, most_often, count, more, fewer, is_registered}
 use Rattle.wat_lexer_parser.specs.parser.State.{State}
-use Rattle.wat_lexer_parser.specs.places.Places.{comment_at, span_at}
+use Rattle.wat_lexer_parser.specs.places.Places.{comment_at, current_span}
 use Rattle.wat_lexer_parser.specs.places.Source.{Source}
 use Rattle.wat_lexer_parser.specs.shown.Showing.{Look, shown}
 
@@ -36,15 +36,15 @@ takes_by f p (Ok None) = Ok p
 takes_by f p (Ok (Some (t, q))) = f q
 takes_by f p (Err e) = Err e
 
--- the place behind up to n shown tokens
+-- the place behind up to n shown tokens, or the fault that is shown before
 unfoldable pub takes : Source → Names → ℕ → ℕ → Result ℕ Fault
 takes s names zero p = Ok p
 takes s names (suc n) p = takes_by (λ q. takes s names n q) p (shown s p names)
 
--- A group of up to n tokens: the reply, and the place behind it. Where it is no such group the place is what it was.
+-- the reply to taking `)` at q, with the place behind it, or p where none is shown
 abbrev pub close_reply : Source → Names → ℕ → ℕ → Look → Reply × ℕ
-close_reply s names p q (Ok None) = (reply.NotClosed (span_at s q names), p)
-close_reply s names p q (Ok (Some (t, r))) = if is_close t.kind then (reply.Done, r) else (reply.NotClosed (span_at s q names), p)
+close_reply s names p q (Ok None) = (reply.NotClosed (current_span s q names), p)
+close_reply s names p q (Ok (Some (t, r))) = if is_close t.kind then (reply.Done, r) else (reply.NotClosed (current_span s q names), p)
 close_reply s names p q (Err f) = (fault_reply f, p)
 
 abbrev pub takes_reply : Source → Names → ℕ → Result ℕ Fault → Reply × ℕ
@@ -52,10 +52,11 @@ takes_reply s names p (Ok q) = close_reply s names p q (shown s q names)
 takes_reply s names p (Err f) = (fault_reply f, p)
 
 abbrev pub open_reply : Source → Names → ℕ → ℕ → Look → Reply × ℕ
-open_reply s names n p (Ok None) = (reply.NotOpen (span_at s p names), p)
-open_reply s names n p (Ok (Some (t, q))) = if is_open t.kind then takes_reply s names p (takes s names n q) else (reply.NotOpen (span_at s p names), p)
+open_reply s names n p (Ok None) = (reply.NotOpen (current_span s p names), p)
+open_reply s names n p (Ok (Some (t, q))) = if is_open t.kind then takes_reply s names p (takes s names n q) else (reply.NotOpen (current_span s p names), p)
 open_reply s names n p (Err f) = (fault_reply f, p)
 
+-- a group of up to n tokens: the reply, and the place behind it, or p where it is no such group
 unfoldable pub group_reply : Source → Names → ℕ → ℕ → Reply × ℕ
 group_reply s names n p = open_reply s names n p (shown s p names)
 

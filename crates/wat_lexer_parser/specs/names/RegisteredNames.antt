@@ -1,5 +1,5 @@
--- WebAssembly specification, text format, lexical format: annotations. The names of annotations that a parser has registered, each
--- with a count above 0.
+-- WebAssembly specification, text format, lexical format: annotations, of which the standard lets a tool take those that it knows. The
+-- names that a parser has registered, each with a count above 0. Registering and counts are no part of the standard.
 use Rattle.std.specs.Prelude.{ℕ, Bool, ◌≢◌, ◌+◌, ◌-◌, List, nat_lt, cond, Some}
 use Rattle.std.specs.FinMap as finmap
 use Rattle.std.specs.Cmp.Lexicographic.{slice_cmp}

@@ -2,7 +2,7 @@
 use Rattle.std.specs.Prelude.{ℕ, Bool, ◌+◌, ◌≡◌, ◌⊎◌, codes, Option, Some, None, Result, Ok, Err}
 use Rattle.wat_lex.specs.errors.Errors.{Report}
 use Rattle.wat_lexer_parser.specs.names.RegisteredNames.{Names}
-use Rattle.wat_lexer_parser.specs.parser.State.{State, IsRefusal, expected, seen}
+use Rattle.wat_lexer_parser.specs.parser.State.{State, IsRefusal, report_here, seen}
 use Rattle.wat_lexer_parser.specs.parser.Takers.{taken, as_open, as_close}
 use Rattle.wat_lexer_parser.specs.places.Source.{Source}
 
@@ -14,11 +14,11 @@ taken_or refusal (Err f) = Err f
 
 -- the place behind the `(` that is shown
 unfoldable pub opened : Source → ℕ → Names → Result ℕ Report
-opened s p names = taken_or (expected s p names (codes "expected `(`")) (taken as_open s.setting.text (seen s p names))
+opened s p names = taken_or (report_here s p names (codes "expected `(`")) (taken as_open s.setting.text (seen s p names))
 
 -- the place behind the `)` that is shown
 unfoldable pub closed : Source → ℕ → Names → Result ℕ Report
-closed s p names = taken_or (expected s p names (codes "expected `)`")) (taken as_close s.setting.text (seen s p names))
+closed s p names = taken_or (report_here s p names (codes "expected `)`")) (taken as_close s.setting.text (seen s p names))
 
 -- the state in which the closure of `parens` is called
 abbrev pub inside : State → ℕ → State

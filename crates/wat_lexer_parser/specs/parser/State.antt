@@ -6,7 +6,7 @@ use Rattle.wat_lexer_parser.specs.declared.parser.fault.Fault.{Fault}
 use Rattle.wat_lexer_parser.specs.declared.parser.fault.FaultKind.{FaultKind}
 use Rattle.wat_lexer_parser.specs.declared.parser.fault.FaultKind.TheVariants.{Lex, Unclosed}
 use Rattle.wat_lexer_parser.specs.names.RegisteredNames.{Names, IsPositive, count, more, most_often}
-use Rattle.wat_lexer_parser.specs.places.Places.{span_at, offset_at}
+use Rattle.wat_lexer_parser.specs.places.Places.{current_span, offset_at}
 use Rattle.wat_lexer_parser.specs.places.Source.{Source, IsRead}
 use Rattle.wat_lexer_parser.specs.shown.Showing.{Look, shown}
 
@@ -37,8 +37,8 @@ abbrev pub message_at : Source → ℕ → List ℕ → Report
 message_at s offset message = report_in s.setting.text offset (Custom message)
 
 -- the report of a message at the current span
-abbrev pub expected : Source → ℕ → Names → List ℕ → Report
-expected s p names message = message_at s (span_at s p names) message
+abbrev pub report_here : Source → ℕ → Names → List ℕ → Report
+report_here s p names message = message_at s (current_span s p names) message
 
 -- what is seen: a token with the place behind it, None at the end, or the report of a fault
 abbrev pub Seen : Type 0
@@ -55,8 +55,8 @@ seen s p names = told s.setting.text (shown s p names)
 abbrev pub seen_from : State → ℕ → Seen
 seen_from a p = seen a.source p a.names
 
--- The answer of a call is this one, the value through f; or memory was wanting, which comes only in place of a report, or where the
--- value itself may take memory.
+-- The answer of a call: the value, of which callers see what f tells, or the report; or memory was wanting, which comes only in place of a
+-- report, or where the value itself may take memory.
 abbrev pub Answers : {V T : Type 0} → Bool → (T → V) → Result V Report → Result T (Option Report) → Type 0
 Answers takes f m (Ok x) = m ≡ Ok (f x)
 Answers takes f m (Err None) = IsTrue (takes || is_err m)
@@ -72,7 +72,7 @@ abbrev pub most_depth : ℕ
 most_depth = 100
 
 abbrev pub depth_checked : State → Result (Unit {0}) Report
-depth_checked s = if nat_lt most_depth s.depth then Err (expected s.source s.place s.names (codes "item nesting too deep")) else Ok tt
+depth_checked s = if nat_lt most_depth s.depth then Err (report_here s.source s.place s.names (codes "item nesting too deep")) else Ok tt
 
 -- the report of a name that is registered as often as can be, at the place and without its line
 abbrev pub too_often : State → Report

@@ -1,4 +1,5 @@
--- WebAssembly specification, text format, lexical format: tokens; values: strings, identifiers. What takers of one kind of token
+-- WebAssembly specification, text format, lexical format: tokens, comments, annotations; values: integers, floating-point, strings,
+-- identifiers. What takers of one kind of token
 -- answer of what is seen. Integers and floats have their value by the relations of their words.
 use Rattle.std.specs.List.{list_any}
 use Rattle.std.specs.Prelude.{ℕ, Bool, false, ◌==◌, ◌&&◌, List, is_some, Option, Some, None, Result, Ok, Err}
@@ -78,16 +79,16 @@ as_float text t (Float k) = Some (Ok tt)
 as_float text t kind = None
 
 -- a name, or the report of what is wrong with it, at the token
-abbrev pub name_answer : List ℕ → Token → Result (List ℕ) LexError → Result (List ℕ) Report
-name_answer text t (Ok name) = Ok name
-name_answer text t (Err e) = Err (lexical text (record { offset = t.offset; error = e }))
+abbrev pub name_or_report : List ℕ → Token → Result (List ℕ) LexError → Result (List ℕ) Report
+name_or_report text t (Ok name) = Ok name
+name_or_report text t (Err e) = Err (lexical text (record { offset = t.offset; error = e }))
 
 abbrev pub as_id : Reader (List ℕ)
-as_id text t Id = Some (name_answer text t (name_value EmptyId (word_of text t)))
+as_id text t Id = Some (name_or_report text t (name_value EmptyId (word_of text t)))
 as_id text t kind = None
 
 abbrev pub as_annotation : Reader (List ℕ)
-as_annotation text t Annotation = Some (name_answer text t (name_value EmptyAnnotation (word_of text t)))
+as_annotation text t Annotation = Some (name_or_report text t (name_value EmptyAnnotation (word_of text t)))
 as_annotation text t kind = None
 
 -- the text of a comment, with the place behind it

@@ -1,4 +1,4 @@
--- WebAssembly specification, text format, lexical format: white space, comments, annotations. What `Shown` says, as a function of
+-- WebAssembly specification, text format, lexical format: white space, comments, annotations. What `Finding` says, as a function of
 -- the raw tokens.
 use Rattle.std.specs.Prelude.{ℕ, zero, suc, List, [], ◌∷◌, ◌+◌, ◌-◌, if◌then◌else◌, length, drop, Option, Some, None, Result, Ok, Err}
 use Rattle.wat_lex.specs.tokens.ReadableTokens.{word_of}
@@ -16,7 +16,7 @@ use Rattle.wat_lexer_parser.specs.declared.parser.fault.Step.TheVariants.{Pass, 
 use Rattle.wat_lexer_parser.specs.groups.Sorts.{is_marked}
 use Rattle.wat_lexer_parser.specs.names.RegisteredNames.{Names, is_registered}
 use Rattle.wat_lexer_parser.specs.places.Source.{Source}
-use Rattle.wat_lexer_parser.specs.shown.Shown.{Shown, ended, left_open}
+use Rattle.wat_lexer_parser.specs.shown.Shown.{Finding, ended, left_open}
 
 abbrev pub name_by : TokenKind → List ℕ → Token → Option (Result (List ℕ) LexError)
 name_by Annotation text t = Some (name_value EmptyAnnotation (word_of text t))
@@ -64,7 +64,7 @@ abbrev pub first : List Token → Option Token
 first [] = None
 first (t ∷ r) = Some t
 
-unfoldable pub shown_in : List ℕ → Option LexFault → Names → Mode → List Token → Shown
+unfoldable pub shown_in : List ℕ → Option LexFault → Names → Mode → List Token → Finding
 shown_in text ending names Showing [] = ended ending
 shown_in text ending names (Inside o d) [] = left_open ending o
 shown_in text ending names Showing (t ∷ r) = elim (step_of text names t (first r)) [
@@ -80,7 +80,7 @@ shown_in text ending names (Inside o d) (t ∷ r) = shown_in text ending names (
 abbrev pub Look : Type 0
 Look = Result (Option (Token × ℕ)) Fault
 
-abbrev pub placed : List Token → Shown → Look
+abbrev pub placed : List Token → Finding → Look
 placed ts (Ok None) = Ok None
 placed ts (Ok (Some (t, r))) = Ok (Some (t, length ts - length r))
 placed ts (Err f) = Err f

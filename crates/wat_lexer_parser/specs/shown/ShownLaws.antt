@@ -1,5 +1,5 @@
--- WebAssembly specification, text format, lexical format: annotations. The laws of what is shown, for every text of UTF-8 and its
--- raw tokens: the cases leave nothing out and no choice.
+-- WebAssembly specification, text format, lexical format: annotations. The laws of what is shown: the cases leave nothing out, for every
+-- text of UTF-8 and its raw tokens, and no choice, for any tokens.
 use Rattle.std.specs.Prelude.{◌≡◌, ◌≤◌, ℕ, List, Option, length, drop}
 use Rattle.std.specs.Str.{IsUtf8}
 use Rattle.wat_lex.specs.tokens.Setting.{Setting}
@@ -11,8 +11,8 @@ use Rattle.wat_lexer_parser.specs.groups.Groups.{Group}
 use Rattle.wat_lexer_parser.specs.names.RegisteredNames.{Names}
 use Rattle.wat_lexer_parser.specs.places.Places.{offset_at}
 use Rattle.wat_lexer_parser.specs.places.Source.{Source, IsRead}
-use Rattle.wat_lexer_parser.specs.shown.AllShown.{ShowsAll}
-use Rattle.wat_lexer_parser.specs.shown.Shown.{Shown, Shows}
+use Rattle.wat_lexer_parser.specs.shown.AllShown.{AllShown}
+use Rattle.wat_lexer_parser.specs.shown.Shown.{Finding, Shown}
 use Rattle.wat_lexer_parser.specs.shown.Showing.{Showing, shown_in}
 
 -- the raw tokens from a place on are the tail of the raw tokens
@@ -25,16 +25,16 @@ GroupIsOne = (ts r q : List Token) → Group ts r → Group ts q → r ≡ q
 
 -- what the function gives is shown
 abbrev pub SomethingShown : Type 0
-SomethingShown = (s : Source) (names : Names) (p : ℕ) → IsUtf8 s.setting.text → IsRead s → Shows s.setting.text s.ending names (drop p s.tokens) (shown_in s.setting.text s.ending names Showing (drop p s.tokens))
+SomethingShown = (s : Source) (names : Names) (p : ℕ) → IsUtf8 s.setting.text → IsRead s → Shown s.setting.text s.ending names (drop p s.tokens) (shown_in s.setting.text s.ending names Showing (drop p s.tokens))
 
 -- and nothing else
 abbrev pub OneThingShown : Type 0
-OneThingShown = (text : List ℕ) (e : Option LexFault) (names : Names) (ts : List Token) (a : Shown) → Shows text e names ts a → a ≡ shown_in text e names Showing ts
+OneThingShown = (text : List ℕ) (e : Option LexFault) (names : Names) (ts : List Token) (a : Finding) → Shown text e names ts a → a ≡ shown_in text e names Showing ts
 
 -- from each place on, tokens are shown one after another, and then the end or a fault
 abbrev pub SomethingIsAllShown : Type 0
-SomethingIsAllShown = (s : Source) (names : Names) (p : ℕ) → IsUtf8 s.setting.text → IsRead s → (us : List Token) × (f : Option Fault) × ShowsAll s.setting.text s.ending names (drop p s.tokens) us f
+SomethingIsAllShown = (s : Source) (names : Names) (p : ℕ) → IsUtf8 s.setting.text → IsRead s → (us : List Token) × (f : Option Fault) × AllShown s.setting.text s.ending names (drop p s.tokens) us f
 
 -- and no others
 abbrev pub AllShownIsOne : Type 0
-AllShownIsOne = (text : List ℕ) (e : Option LexFault) (names : Names) (ts us vs : List Token) (f g : Option Fault) → ShowsAll text e names ts us f → ShowsAll text e names ts vs g → (us ≡ vs) × (f ≡ g)
+AllShownIsOne = (text : List ℕ) (e : Option LexFault) (names : Names) (ts us vs : List Token) (f g : Option Fault) → AllShown text e names ts us f → AllShown text e names ts vs g → (us ≡ vs) × (f ≡ g)

@@ -13,7 +13,7 @@ ghost use Rattle.wat_lexer_parser.specs.groups.Sorts.{is_blank, is_comment, is_m
 ghost use Rattle.wat_lexer_parser.specs.inside.Table.{HeadsAnnotation, Pair};
 ghost use Rattle.wat_lexer_parser.specs.names.RegisteredNames.{no_names};
 ghost use Rattle.wat_lexer_parser.specs.parser.State.{message_at, report_of};
-ghost use Rattle.wat_lexer_parser.specs.places.Places.{offset_at, span_at, empty_of};
+ghost use Rattle.wat_lexer_parser.specs.places.Places.{offset_at, current_span, empty_of};
 ghost use Rattle.wat_lexer_parser.specs.places.Places.{comment_at, past_space, is_meaningful};
 ghost use Rattle.wat_lexer_parser.specs.places.Source.{IsRead};
 ghost use Rattle.wat_lexer_parser.specs.shown.Shown.{ended, left_open};
@@ -406,9 +406,9 @@ impl<'a> ParseBuffer<'a> {
     }
 
     /// The current span at a place.
-    #[tactic(auto, unfolding(crate::specs::places::Places::span_at))]
-    pub(crate) fn span_at(&self, place: usize, names: &Names) -> usize
-        ensures { result ≡ span_at self.now place names.now }
+    #[tactic(auto, unfolding(crate::specs::places::Places::current_span))]
+    pub(crate) fn current_span(&self, place: usize, names: &Names) -> usize
+        ensures { result ≡ current_span self.now place names.now }
     {
         match self.look(place, names) {
             Ok(None) => self.text().len(),

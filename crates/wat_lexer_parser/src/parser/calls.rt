@@ -1,7 +1,7 @@
 //! Calls of a parser as values, and the replies to them.
 ghost use Rattle.std.specs.Prelude.{◌≡◌, ◌≤◌, ◌<◌, length, IfOk, OnOk, OnErr};
 ghost use Rattle.std.specs.Prelude.{Ok, Err};
-ghost use Rattle.wat_lexer_parser.specs.calls.CallLaws.{NothingElse, BeginsWith};
+ghost use Rattle.wat_lexer_parser.specs.calls.CallLaws.{NothingElse, AfterSome};
 ghost use Rattle.wat_lexer_parser.specs.calls.Calls.{answer, register, unregister, replies, state_after};
 ghost use Rattle.wat_lexer_parser.specs.calls.Calls.{fault_reply, shown_reply, comment_reply};
 ghost use Rattle.wat_lexer_parser.specs.calls.Calls.{place_after, takes, close_reply, group_reply};
@@ -222,7 +222,7 @@ pub fn replay<'a>(
 ) -> Result<Vec<Reply>, AllocError>
     ensures replies { IfOk result (λ made. made.items ≡ replies parser.old calls.now) }
     ensures state { IfOk result (λ _. parser.new ≡ state_after parser.old calls.now) }
-    ensures beginning { OnErr result (BeginsWith parser.old calls.now parser.new) }
+    ensures beginning { OnErr result (AfterSome parser.old calls.now parser.new) }
 {
     let mut replies = Vec::new(alloc);
     let mut i = 0;

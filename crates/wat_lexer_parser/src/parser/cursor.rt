@@ -10,14 +10,14 @@ ghost use Rattle.wat_lex.specs.declared.lexer.kinds.FloatKind.{FloatKind};
 ghost use Rattle.wat_lex.specs.declared.lexer.kinds.IntegerKind.{IntegerKind};
 ghost use Rattle.wat_lex.specs.declared.lexer.kinds.Token.{Token};
 ghost use Rattle.wat_lex.specs.declared.lexer.kinds.TokenKind.TheVariants as variant;
-ghost use Rattle.wat_lexer_parser.specs.parser.State.{Answers, expected, seen_from};
+ghost use Rattle.wat_lexer_parser.specs.parser.State.{Answers, report_here, seen_from};
 ghost use Rattle.wat_lexer_parser.specs.parser.Takers.{taken_from, sees_from, token_of};
-ghost use Rattle.wat_lexer_parser.specs.parser.Takers.{comment_from, may_take, name_answer};
+ghost use Rattle.wat_lexer_parser.specs.parser.Takers.{comment_from, may_take, name_or_report};
 ghost use Rattle.wat_lexer_parser.specs.parser.Takers.{as_open, as_close, as_keyword, as_reserved};
 ghost use Rattle.wat_lexer_parser.specs.parser.Takers.{as_id, as_annotation, as_string};
 ghost use Rattle.wat_lexer_parser.specs.parser.Takers.{as_integer, as_float};
 ghost use Rattle.wat_lexer_parser.specs.parser.Takers.{name_takes, number_takes, string_takes};
-ghost use Rattle.wat_lexer_parser.specs.places.Places.{span_at};
+ghost use Rattle.wat_lexer_parser.specs.places.Places.{current_span};
 
 use crate::parser::Parser;
 use std::alloc::Global;
@@ -71,7 +71,7 @@ impl<'p, 'a> Cursor<'p, 'a> {
     /// The current span: that of the token that is shown, the text's length at the end, or the
     /// place itself where a fault is shown.
     pub fn cur_span(&self) -> Span
-        ensures { result ≡ span_at self.now.parser.now.source self.now.at self.now.parser.now.names }
+        ensures { result ≡ current_span self.now.parser.now.source self.now.at self.now.parser.now.names }
     {
         let parser = self.parser;
         parser.span_from(self.at)
@@ -79,7 +79,7 @@ impl<'p, 'a> Cursor<'p, 'a> {
 
     /// An error at the current span.
     pub fn error(&self, message: &str) -> Error
-        ensures { IsUnlessMemory result (expected self.now.parser.now.source self.now.at self.now.parser.now.names message.now) }
+        ensures { IsUnlessMemory result (report_here self.now.parser.now.source self.now.at self.now.parser.now.names message.now) }
     {
         let parser = self.parser;
         parser.buffer().error_at(self.cur_span(), message)
@@ -423,7 +423,7 @@ fn name_of<'a>(alloc: Global, text: &'a str, token: &Token) -> Result<CowStr<'a>
     requires token { IsTokenOf text.now token.now }
     requires kind { (token.now.kind ≡ variant.Id) ⊎ (token.now.kind ≡ variant.Annotation) }
     ensures { Answers (name_takes text.now token.now) (λ name. cow_str_bytes name)
-        (name_answer text.now token.now
+        (name_or_report text.now token.now
         (name_value (empty_name token.now.kind) (word_of text.now token.now))) result }
 {
     match token.name(alloc, text)? {
