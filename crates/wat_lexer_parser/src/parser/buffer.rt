@@ -20,6 +20,7 @@ ghost use Rattle.wat_lexer_parser.specs.shown.Shown.{ended, left_open};
 ghost use Rattle.wat_lexer_parser.specs.shown.Showing.{name_at, placed, shown, step_kind};
 ghost use Rattle.wat_lexer_parser.specs.shown.Showing.{step_named, step_of};
 
+use crate::parser::Parser;
 use crate::parser::fault::{Fault, FaultKind, Step};
 use crate::parser::names::Names;
 use crate::parser::table::{Table, find};
@@ -123,6 +124,20 @@ impl<'a> ParseBuffer<'a> {
         ensures read { IsRead self.now }
     {
         self.table.fault
+    }
+
+    /// A parser at the text's start, with no names registered and no group open.
+    pub fn parser(&'a self) -> Parser<'a>
+        ensures start { result ≡ record {
+          source = self.now;
+          place = 0;
+          names = no_names;
+          depth = 0;
+        } }
+        ensures read { IsRead self.now }
+    {
+        let _raw = self.raw();
+        Parser::new(self)
     }
 
     pub(crate) fn tracks(&self) -> bool
