@@ -20,10 +20,12 @@ mod cursor;
 mod fault;
 mod names;
 mod peek;
+mod reading;
 mod table;
 
 use crate::parser::fault::Fault;
 use crate::parser::names::{Names, RegisterError};
+use crate::parser::reading::Reading;
 pub use buffer::ParseBuffer;
 pub use calls::{Call, Reply, replay};
 pub use cursor::Cursor;
@@ -35,10 +37,10 @@ use wat_lex::error::Error;
 use wat_lex::lexer::Token;
 use wat_lex::token::Span;
 
-/// A parser over a buffer.
+/// A parser over a reading.
 #[derive(Drop)]
 pub struct Parser<'a> {
-    buffer: &'a ParseBuffer<'a>,
+    reading: Reading<'a>,
     place: usize,
     depth: usize,
     names: Names,
@@ -54,49 +56,50 @@ impl<'a> Model for Parser<'a> {
     ghost coded = { state_code };
 
     ghost view = { λ p. record {
-      source = p.buffer.now;
+      source = p.reading;
       place = p.place;
       names = p.names;
       depth = p.depth;
     } };
 
-    ghost invariant = { λ p. (p.depth ≤ p.place) × (p.place ≤ length p.buffer.now.tokens) };
+    ghost invariant = { λ p. (p.depth ≤ p.place) × (p.place ≤ length p.reading.tokens) };
 }
 
 impl<'a> Parser<'a> {
-    pub(crate) fn new(buffer: &'a ParseBuffer<'a>) -> Parser<'a>
+    pub(crate) fn new(reading: Reading<'a>) -> Parser<'a>
         ensures { result ≡ record {
-          source = buffer.now;
+          source = reading.entry;
           place = 0;
           names = no_names;
           depth = 0;
         } }
     {
+        let alloc = reading.alloc();
         Parser {
-            buffer,
+            reading,
             place: 0,
             depth: 0,
-            names: Names::new(buffer.alloc()),
+            names: Names::new(alloc),
         }
     }
 
-    pub(crate) fn buffer(&self) -> &'a ParseBuffer<'a>
+    pub(crate) fn reading(&self) -> &Reading<'a>
         ensures { result.now ≡ self.now.source }
     {
-        self.buffer
+        &self.reading
     }
 
     /// The allocator of the buffer, for what a type holds that is read.
     pub fn alloc(&self) -> Global {
-        let buffer = self.buffer;
-        buffer.alloc()
+        let reading = &self.reading;
+        reading.alloc()
     }
 
     pub(crate) fn text(&self) -> &'a str
         ensures { result.now ≡ self.now.source.setting.text }
     {
-        let buffer = self.buffer;
-        buffer.text()
+        let reading = &self.reading;
+        reading.text()
     }
 
     pub(crate) fn place(&self) -> usize
@@ -114,16 +117,16 @@ impl<'a> Parser<'a> {
         ensures reader { IfOk result (λ found. IfSome found (λ v.
             IsTokenOf self.now.source.setting.text v.0)) }
     {
-        let buffer = self.buffer;
-        buffer.look(place, &self.names)
+        let reading = &self.reading;
+        reading.look(place, &self.names)
     }
 
     /// The current span at a place.
     pub(crate) fn span_from(&self, place: usize) -> Span
         ensures { result ≡ current_span self.now.source place self.now.names }
     {
-        let buffer = self.buffer;
-        Span::from_offset(buffer.current_span(place, &self.names))
+        let reading = &self.reading;
+        Span::from_offset(reading.current_span(place, &self.names))
     }
 
     /// Whether the end or `)` is shown, so that a list ends here; false at a fault.
@@ -132,10 +135,10 @@ impl<'a> Parser<'a> {
             empty_of (shown self.now.source self.now.place self.now.names) }
         ensures sound { IsSound self.now }
     {
-        let buffer = self.buffer;
-        let _raw = buffer.raw();
+        let reading = &self.reading;
+        reading.is_read();
         self.names.are_positive();
-        buffer.is_empty(self.place, &self.names)
+        reading.is_empty(self.place, &self.names)
     }
 
     /// The current span: that of the token that is shown, the text's length at the end, or the
@@ -150,8 +153,8 @@ impl<'a> Parser<'a> {
     pub fn prev_span(&self) -> Span
         ensures { result ≡ offset_at self.now.source.tokens self.now.place }
     {
-        let buffer = self.buffer;
-        Span::from_offset(buffer.offset_at(self.place))
+        let reading = &self.reading;
+        Span::from_offset(reading.offset_at(self.place))
     }
 
     /// How many groups of [`parens`](Parser::parens) are open.
@@ -173,8 +176,8 @@ impl<'a> Parser<'a> {
     pub fn error_at(&self, span: Span, message: &str) -> Error
         ensures { IsUnlessMemory result (message_at self.now.source span message.now) }
     {
-        let buffer = self.buffer;
-        buffer.error_at(span, message)
+        let reading = &self.reading;
+        reading.error_at(span, message)
     }
 
     /// Refuses more than [`MAX_PARENS_DEPTH`] open groups.
@@ -191,16 +194,16 @@ impl<'a> Parser<'a> {
     pub fn has_meaningful_tokens(&self) -> bool
         ensures { result ≡ is_meaningful self.now.source }
     {
-        let buffer = self.buffer;
-        buffer.is_meaningful()
+        let reading = &self.reading;
+        reading.is_meaningful()
     }
 
     /// What the buffer was told by [`ParseBuffer::track_instr_spans`].
     pub fn track_instr_spans(&self) -> bool
         ensures { result ≡ self.now.source.track }
     {
-        let buffer = self.buffer;
-        buffer.tracks()
+        let reading = &self.reading;
+        reading.tracks()
     }
 
     /// Whether annotations of this name are shown.

@@ -1,35 +1,15 @@
-//! The buffer of a text: its raw tokens, and what a look at them needs.
-ghost use Rattle.std.specs.Prelude.{◌≡◌, ◌<◌, ◌≤◌, ◌^◌, ◌+◌, false, length, drop, not, Some, slice_get};
-ghost use Rattle.std.specs.List.{list_any};
-ghost use Rattle.std.specs.Prelude.{IfOk, IfErr, IfSome};
-ghost use Rattle.std.specs.Str.{IsUtf8};
-ghost use Rattle.wat_lex.specs.errors.Errors.{IsUnlessMemory};
-ghost use Rattle.wat_lex.specs.tokens.ReadableTokens.{IsTokenOf};
-ghost use Rattle.wat_lex.specs.values.WordValues.{name_answer};
-ghost use Rattle.wat_lex.specs.declared.lexer.kinds.Token.{Token};
-ghost use Rattle.wat_lex.specs.declared.lexer.kinds.TokenKind.TheVariants.{LParen};
-ghost use Rattle.wat_lexer_parser.specs.declared.parser.fault.FaultKind.TheVariants.{Lex};
-ghost use Rattle.wat_lexer_parser.specs.groups.Sorts.{is_blank, is_comment, is_marked, is_space};
-ghost use Rattle.wat_lexer_parser.specs.inside.Table.{HeadsAnnotation, Pair};
+//! The buffer of a text.
+ghost use Rattle.std.specs.Prelude.{◌≡◌, ◌<◌, ◌^◌, false, length, IfOk, IfErr};
 ghost use Rattle.wat_lexer_parser.specs.names.RegisteredNames.{no_names};
-ghost use Rattle.wat_lexer_parser.specs.parser.State.{message_at, report_of};
-ghost use Rattle.wat_lexer_parser.specs.places.Places.{offset_at, current_span, empty_of};
-ghost use Rattle.wat_lexer_parser.specs.places.Places.{comment_at, past_space, is_meaningful};
 ghost use Rattle.wat_lexer_parser.specs.places.Source.{IsRead};
-ghost use Rattle.wat_lexer_parser.specs.shown.Shown.{ended, left_open};
-ghost use Rattle.wat_lexer_parser.specs.shown.Showing.{name_at, placed, shown, step_kind};
-ghost use Rattle.wat_lexer_parser.specs.shown.Showing.{step_named, step_of};
 
 use crate::parser::Parser;
-use crate::parser::fault::{Fault, FaultKind, Step};
-use crate::parser::names::Names;
-use crate::parser::table::{Table, find};
+use crate::parser::reading::Reading;
+use crate::parser::table::Table;
 use std::alloc::Global;
-use std::borrow::CowStr;
 use std::marker::Model;
 use wat_lex::error::Error;
-use wat_lex::lexer::{LexError, LexFault, Lexer, Token, TokenKind};
-use wat_lex::token::Span;
+use wat_lex::lexer::{LexFault, Lexer, Settings, Token};
 
 /// A text with its raw tokens, of which a parser shows those that count.
 ///
@@ -39,14 +19,14 @@ use wat_lex::token::Span;
 pub struct ParseBuffer<'a> {
     lexer: Lexer<'a>,
     track: bool,
-    table: Table<'a>,
+    table: Table,
     alloc: Global,
 }
 
 impl<'a> Model for ParseBuffer<'a> {
     ghost use Rattle.std.specs.Prelude.{map};
-    ghost use Rattle.wat_lex.specs.values.WordValues.{name_answer};
     ghost use Rattle.wat_lexer_parser.specs.inside.Table.{IsTable};
+    ghost use Rattle.wat_lexer_parser.specs.inside.TableNames.{name_view};
     ghost use Rattle.wat_lexer_parser.specs.places.Source.{Source};
 
     ghost Value = { Source };
@@ -65,7 +45,7 @@ impl<'a> Model for ParseBuffer<'a> {
           tokens = b.table.tokens.items;
           ending = b.table.fault;
         })
-        b.table.opens.items (map name_answer b.table.names.items) b.table.starts.items
+        b.table.opens.items (map name_view b.table.names.items) b.table.starts.items
         b.table.closes.items };
 }
 
@@ -127,7 +107,7 @@ impl<'a> ParseBuffer<'a> {
     }
 
     /// A parser at the text's start, with no names registered and no group open.
-    pub fn parser(&'a self) -> Parser<'a>
+    pub fn parser(&self) -> Parser<'_>
         ensures start { result ≡ record {
           source = self.now;
           place = 0;
@@ -136,340 +116,14 @@ impl<'a> ParseBuffer<'a> {
         } }
         ensures read { IsRead self.now }
     {
-        let _raw = self.raw();
-        Parser::new(self)
+        Parser::new(self.reading())
     }
 
-    pub(crate) fn tracks(&self) -> bool
-        ensures { result ≡ self.now.track }
+    /// The buffer as its parsers read it.
+    fn reading(&self) -> Reading<'_>
+        ensures same { result ≡ self.now }
+        ensures read { IsRead self.now }
     {
-        self.track
-    }
-
-    pub(crate) fn text(&self) -> &'a str
-        ensures text { result.now ≡ self.now.setting.text }
-        ensures utf8 { IsUtf8 self.now.setting.text }
-    {
-        self.lexer.input()
-    }
-
-    pub(crate) fn alloc(&self) -> Global {
-        self.alloc
-    }
-}
-
-/// The fault that is shown where the text has one.
-fn lexical(fault: LexFault) -> Fault
-    ensures { result ≡ record { offset = fault.offset; kind = Lex fault.error } }
-{
-    Fault {
-        offset: fault.offset,
-        kind: FaultKind::Lex(fault.error),
-    }
-}
-
-/// Whether tokens of the kind are never shown.
-fn is_blank(kind: TokenKind) -> bool
-    ensures { result ≡ is_blank kind }
-{
-    match kind {
-        TokenKind::Whitespace | TokenKind::LineComment | TokenKind::BlockComment => true,
-        _ => false,
-    }
-}
-
-/// Whether a token is neither white space nor a comment.
-fn any_counts(tokens: &[Token]) -> bool
-    ensures { result ≡ list_any (λ t. not (is_blank t.kind)) tokens.now }
-{
-    tokens.iter().any(|token| !is_blank(token.kind))
-}
-
-fn is_space(kind: TokenKind) -> bool
-    ensures { result ≡ is_space kind }
-{
-    matches!(kind, TokenKind::Whitespace)
-}
-
-fn is_comment(kind: TokenKind) -> bool
-    ensures { result ≡ is_comment kind }
-{
-    matches!(kind, TokenKind::LineComment | TokenKind::BlockComment)
-}
-
-/// What an annotation of this name means for the parenthesis before it.
-fn step_by(name: &Result<CowStr<'_>, LexError>, token: Token, names: &Names) -> Step
-    ensures { result ≡ step_named names.now token (Some (name_answer name.now)) }
-{
-    match name {
-        Ok(name) => {
-            if names.is_registered(name.as_str()) {
-                Step::Take
-            } else {
-                Step::Skip
-            }
-        }
-        Err(error) => Step::Refuse(Fault {
-            offset: token.offset,
-            kind: FaultKind::Lex(*error),
-        }),
-    }
-}
-
-// A look, which takes no memory.
-impl<'a> ParseBuffer<'a> {
-    /// The raw token at a place.
-    pub(crate) fn token_at(&self, place: usize) -> Option<Token>
-        ensures value { result ≡ slice_get self.now.tokens place }
-        ensures within { IfSome result (λ t. place < length self.now.tokens) }
-        ensures small { length self.now.tokens < 2 ^ 63 }
-    {
-        self.table.tokens.get(place).copied()
-    }
-
-    /// The token at a place is one for the readers.
-    pub(crate) fn is_readable(&self, place: usize, token: Token)
-        requires { slice_get self.now.tokens place ≡ Some token }
-        ensures token { IsTokenOf self.now.setting.text token }
-        ensures short { token.offset + token.len < 2 ^ 32 }
-    {
-        let _count = self.table.tokens.len();
-    }
-
-    /// Whether the byte behind the token's first is `@`.
-    fn is_marked(&self, token: Token) -> bool
-        requires { token.offset < 2 ^ 32 }
-        ensures { result ≡ is_marked self.now.setting.text token }
-    {
-        match self.text().as_bytes().get(token.offset + 1) {
-            Some(byte) => *byte == b'@',
-            None => false,
-        }
-    }
-
-    /// What the name of an annotation means for the parenthesis before it, which stands at a place.
-    fn step_named(&self, place: usize, token: Token, names: &Names) -> Step
-        requires { HeadsAnnotation self.now.tokens place token }
-        ensures { result ≡ step_named names.now token (name_at self.now.setting.text token) }
-    {
-        match find(&self.table.opens, &self.table.starts, place) {
-            Some(i) => step_by(&self.table.names[i], token, names),
-            None => Step::Take,
-        }
-    }
-
-    /// Where the group of the annotation is closed whose parenthesis stands at a place.
-    fn close_of(&self, place: usize) -> Option<usize>
-        requires { (u : Token) × HeadsAnnotation self.now.tokens place u }
-        ensures { Pair self.now.tokens place result }
-    {
-        match find(&self.table.opens, &self.table.starts, place) {
-            Some(i) => self.table.closes[i],
-            None => None,
-        }
-    }
-
-    /// What a parenthesis means by the token directly behind it.
-    fn step_open(&self, place: usize, token: Token, names: &Names) -> Step
-        requires within { place < 2 ^ 63 }
-        requires short { token.offset < 2 ^ 32 }
-        requires token { slice_get self.now.tokens place ≡ Some token }
-        requires kind { token.kind ≡ LParen }
-        ensures { result ≡ step_kind self.now.setting.text names.now token LParen
-            (slice_get self.now.tokens (place + 1)) }
-    {
-        match self.token_at(place + 1) {
-            Some(next) => match next.kind {
-                TokenKind::Annotation => {
-                    if self.is_marked(token) {
-                        self.step_named(place, next, names)
-                    } else {
-                        Step::Take
-                    }
-                }
-                _ => Step::Take,
-            },
-            None => {
-                if self.is_marked(token) {
-                    Step::Finish
-                } else {
-                    Step::Take
-                }
-            }
-        }
-    }
-
-    /// What the token at a place means for a look there.
-    fn step(&self, place: usize, token: Token, names: &Names) -> Step
-        requires within { place < 2 ^ 63 }
-        requires short { token.offset < 2 ^ 32 }
-        requires token { slice_get self.now.tokens place ≡ Some token }
-        ensures { result ≡ step_of self.now.setting.text names.now token
-            (slice_get self.now.tokens (place + 1)) }
-    {
-        match token.kind {
-            TokenKind::Whitespace | TokenKind::LineComment | TokenKind::BlockComment => Step::Pass,
-            TokenKind::LParen => self.step_open(place, token, names),
-            _ => Step::Take,
-        }
-    }
-
-    fn ending(&self) -> Result<Option<(Token, usize)>, Fault>
-        ensures { result ≡ placed self.now.tokens (ended self.now.ending) }
-    {
-        match self.table.fault {
-            None => Ok(None),
-            Some(fault) => Err(lexical(fault)),
-        }
-    }
-
-    fn left_open(&self, token: Token) -> Result<Option<(Token, usize)>, Fault>
-        requires { token.offset < 2 ^ 32 }
-        ensures { result ≡ placed self.now.tokens (left_open self.now.ending token) }
-    {
-        match self.table.fault {
-            None => Err(Fault {
-                offset: token.offset + 1,
-                kind: FaultKind::Unclosed,
-            }),
-            Some(fault) => Err(lexical(fault)),
-        }
-    }
-
-    /// What is shown at a place, with the place behind it. It takes no memory.
-    pub(crate) fn look(&self, place: usize, names: &Names) -> Result<Option<(Token, usize)>, Fault>
-        ensures value { result ≡ shown self.now place names.now }
-        ensures on { IfOk result (λ found. IfSome found (λ v.
-            (place < v.1) × (v.1 ≤ length self.now.tokens))) }
-        ensures reader { IfOk result (λ found. IfSome found (λ v.
-            IsTokenOf self.now.setting.text v.0)) }
-    {
-        let mut i = place;
-        while i < self.table.tokens.len() {
-            let token = self.table.tokens[i];
-            self.is_readable(i, token);
-            match self.step(i, token, names) {
-                Step::Pass => i += 1,
-                Step::Take => return Ok(Some((token, i + 1))),
-                Step::Finish => return self.ending(),
-                Step::Refuse(fault) => return Err(fault),
-                Step::Skip => match self.close_of(i) {
-                    Some(close) => i = close + 1,
-                    None => return self.left_open(token),
-                },
-            }
-        }
-        self.ending()
-    }
-
-    /// The place behind the whitespace token at a place, if one is there.
-    #[tactic(auto, using(crate::proofs::places::Comments::past_none, crate::proofs::places::Comments::past_one, crate::proofs::places::Comments::past_other))]
-    fn past_space(&self, place: usize) -> usize
-        requires { place ≤ length self.now.tokens }
-        ensures past { past_space (drop place self.now.tokens) ≡ drop result self.now.tokens }
-        ensures on { place ≤ result }
-    {
-        match self.token_at(place) {
-            Some(token) if is_space(token.kind) => place + 1,
-            Some(_) => place,
-            None => place,
-        }
-    }
-
-    /// The comment at a place, with the place behind it. It takes no memory.
-    #[tactic(auto, using(crate::proofs::places::Comments::comment_none, crate::proofs::places::Comments::comment_found, crate::proofs::places::Comments::comment_other))]
-    pub(crate) fn comment_at(&self, place: usize) -> Result<Option<(Token, usize)>, Fault>
-        requires { place ≤ length self.now.tokens }
-        ensures value { result ≡ comment_at self.now place }
-        ensures on { IfOk result (λ found. IfSome found (λ v.
-            (place < v.1) × (v.1 ≤ length self.now.tokens))) }
-        ensures reader { IfOk result (λ found. IfSome found (λ v.
-            IsTokenOf self.now.setting.text v.0)) }
-    {
-        let at = self.past_space(place);
-        match self.token_at(at) {
-            Some(token) if is_comment(token.kind) => {
-                self.is_readable(at, token);
-                Ok(Some((token, at + 1)))
-            }
-            Some(_) => Ok(None),
-            None => self.ending(),
-        }
-    }
-
-    /// Whether the text has a token that counts, or a fault.
-    pub(crate) fn is_meaningful(&self) -> bool
-        ensures { result ≡ is_meaningful self.now }
-    {
-        any_counts(&self.table.tokens) || self.table.fault.is_some()
-    }
-
-    /// The byte of a place.
-    pub(crate) fn offset_at(&self, place: usize) -> usize
-        ensures { result ≡ offset_at self.now.tokens place }
-    {
-        if place == 0 {
-            return 0;
-        }
-        match self.token_at(place - 1) {
-            Some(token) => {
-                self.is_readable(place - 1, token);
-                token.offset + token.len as usize
-            }
-            None => 0,
-        }
-    }
-
-    /// The current span at a place.
-    #[tactic(auto, unfolding(crate::specs::places::Places::current_span))]
-    pub(crate) fn current_span(&self, place: usize, names: &Names) -> usize
-        ensures { result ≡ current_span self.now place names.now }
-    {
-        match self.look(place, names) {
-            Ok(None) => self.text().len(),
-            Ok(Some((token, _))) => token.offset,
-            Err(_) => self.offset_at(place),
-        }
-    }
-
-    /// Whether the end or `)` is shown.
-    pub(crate) fn is_empty(&self, place: usize, names: &Names) -> bool
-        ensures { result ≡ empty_of (shown self.now place names.now) }
-    {
-        match self.look(place, names) {
-            Ok(None) => true,
-            Ok(Some((token, _))) => matches!(token.kind, TokenKind::RParen),
-            Err(_) => false,
-        }
-    }
-}
-
-// Errors about the text.
-impl<'a> ParseBuffer<'a> {
-    /// The error of a fault that is shown.
-    #[cold]
-    #[tactic(auto, unfolding(crate::specs::parser::State::report_of))]
-    pub(crate) fn error_of(&self, fault: Fault) -> Error
-        ensures { IsUnlessMemory result (report_of self.now.setting.text fault) }
-    {
-        let span = Span::from_offset(fault.offset);
-        match fault.kind {
-            FaultKind::Lex(error) => Error::lex(self.alloc, span, self.text(), error),
-            FaultKind::Unclosed => match String::from_str(self.alloc, "unclosed annotation") {
-                Ok(message) => Error::new(span, message),
-                Err(_) => Error::out_of_memory(),
-            },
-        }
-    }
-
-    /// The error of a message at a byte of the text.
-    #[cold]
-    pub(crate) fn error_at(&self, span: Span, message: &str) -> Error
-        ensures { IsUnlessMemory result (message_at self.now span message.now) }
-    {
-        match String::from_str(self.alloc, message) {
-            Ok(message) => Error::parse(self.alloc, span, self.text(), message),
-            Err(_) => Error::out_of_memory(),
-        }
+        Reading::new(self.lexer.input(), self.lexer.settings(), self.track, &self.table, self.alloc)
     }
 }

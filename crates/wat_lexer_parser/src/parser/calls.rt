@@ -172,8 +172,8 @@ impl<'a> Parser<'a> {
                 Ok(shown_reply(found))
             }
             Call::Comment => {
-                let buffer = self.buffer;
-                let found = buffer.comment_at(self.place);
+                let reading = &self.reading;
+                let found = reading.comment_at(self.place);
                 self.place = place_after(found, self.place);
                 Ok(comment_reply(found))
             }

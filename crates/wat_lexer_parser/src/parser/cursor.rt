@@ -64,7 +64,7 @@ impl<'p, 'a> Cursor<'p, 'a> {
         let parser = self.parser;
         match parser.look(self.at) {
             Ok(found) => Ok(found),
-            Err(fault) => Err(parser.buffer().error_of(fault)),
+            Err(fault) => Err(parser.reading().error_of(fault)),
         }
     }
 
@@ -82,7 +82,7 @@ impl<'p, 'a> Cursor<'p, 'a> {
         ensures { IsUnlessMemory result (report_here self.now.parser.now.source self.now.at self.now.parser.now.names message.now) }
     {
         let parser = self.parser;
-        parser.buffer().error_at(self.cur_span(), message)
+        parser.reading().error_at(self.cur_span(), message)
     }
 
     /// The token that is shown, or None at the end, or the error of the fault that is shown.
@@ -410,10 +410,10 @@ impl<'p, 'a> Cursor<'p, 'a> {
         ensures on { IfOk result (λ found. IfSome found (λ v. self.entry.at < v.1.at)) }
     {
         let parser = self.parser;
-        match parser.buffer().comment_at(self.at) {
+        match parser.reading().comment_at(self.at) {
             Ok(Some((token, at))) => Ok(Some((token.src(parser.text()), self.moved(at)))),
             Ok(None) => Ok(None),
-            Err(fault) => Err(parser.buffer().error_of(fault)),
+            Err(fault) => Err(parser.reading().error_of(fault)),
         }
     }
 }
