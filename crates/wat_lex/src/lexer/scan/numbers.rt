@@ -10,7 +10,7 @@ ghost use Rattle.wat_lex.specs.grammar.Numbers.{Tail, Payload, Number};
 ghost use Rattle.wat_lex.specs.inside.ScannedNumbers.{LongestDigits, NoDigits, OnlyIntegralPart};
 ghost use Rattle.wat_lex.specs.inside.ScannedNumbers.{NoIntegralPart};
 
-use crate::lexer::kinds::{FloatKind, IntegerKind, SignToken, TokenKind};
+use crate::lexer::kinds::{FloatKind, IntegerKind, Sign, TokenKind};
 use crate::lexer::scan::classes::is_hex_digit;
 
 fn is_digit(b: u8, hex: bool) -> bool
@@ -33,13 +33,13 @@ fn is_exponent_letter(b: u8, hex: bool) -> bool
     }
 }
 
-fn sign_of(word: &[u8]) -> Option<SignToken>
+fn sign_of(word: &[u8]) -> Sign
     ensures { result ≡ sign_of word.now }
 {
     match word {
-        [b'+', ..] => Some(SignToken::Plus),
-        [b'-', ..] => Some(SignToken::Minus),
-        _ => None,
+        [b'+', ..] => Sign::Plus,
+        [b'-', ..] => Sign::Minus,
+        _ => Sign::None,
     }
 }
 
