@@ -86,11 +86,11 @@ pub no_payload : (s : List ℕ) → ((t : List ℕ) → s ≢ codes "nan:0x" ++ 
 no_payload s p (payload {t = t} e h) = p t e
 
 -- no first digits
-pub none_integral : (s : List ℕ) → s ≢ codes "inf" → s ≢ codes "nan" → ((t : List ℕ) → s ≢ codes "nan:0x" ++ t) → NoIntegralPart s → NoNumber s
-none_integral s i a p n = record { inf = i; nan = a; payload = no_payload s p; integer = λ hex h. n hex [] h (inl refl); float = no_integral s n }
+pub none_integral : (s : List ℕ) → s ≢ codes "inf" → s ≢ codes "nan" → (Payload s → ⊥) → NoIntegralPart s → NoNumber s
+none_integral s i a p n = record { inf = i; nan = a; payload = p; integer = λ hex h. n hex [] h (inl refl); float = no_integral s n }
 
 -- first digits, and then no tail
-pub none_tail : (s rest : List ℕ) (hex : Bool) → s ≢ codes "inf" → s ≢ codes "nan" → ((t : List ℕ) → s ≢ codes "nan:0x" ++ t) → OnlyIntegralPart hex s rest → rest ≢ [] → (Tail hex rest → ⊥) → NoNumber s
+pub none_tail : (s rest : List ℕ) (hex : Bool) → s ≢ codes "inf" → s ≢ codes "nan" → (Payload s → ⊥) → OnlyIntegralPart hex s rest → rest ≢ [] → (Tail hex rest → ⊥) → NoNumber s
 none_tail s rest hex i a p o e n = none_integral s i a p (λ k r h f. by k r f (o.only k r h f))
   where
     by : (k : Bool) (r : List ℕ) → Follows k r → (k ≡ hex) × (r ≡ rest) → ⊥

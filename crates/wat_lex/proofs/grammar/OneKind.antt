@@ -5,7 +5,7 @@ use Rattle.std.proofs.lemmas.Bool.{both_ways}
 use Rattle.wat_lex.specs.grammar.Numbers.{Digits, is_digit, sign_of, is_negative, has_underscores, IntegralPart, decimal, hexadecimal, Tail, Decimals, decimals, Payload, payload, unsigned, Number}
 use Rattle.wat_lex.specs.inside.ScannedNumbers.{Follows}
 use Rattle.wat_lex.specs.grammar.Runs.{Piece, Idchar, Quoted, idchars, RunKind, WordKind}
-use Rattle.wat_lex.specs.declared.lexer.kinds.SignToken.{SignToken}
+use Rattle.wat_lex.specs.declared.lexer.kinds.Sign.{Sign}
 use Rattle.wat_lex.specs.declared.lexer.kinds.IntegerKind.{IntegerKind}
 use Rattle.wat_lex.specs.declared.lexer.kinds.FloatKind.TheVariants.{Inf, Nan, NanVal, Normal}
 use Rattle.wat_lex.specs.declared.lexer.kinds.TokenKind.{TokenKind}
@@ -79,7 +79,7 @@ integer_float h k s a (decimals {t = t} b g) = let e = integral_one h k s [] t a
 float_float : (h k : Bool) (s : List ℕ) → Decimals h s → Decimals k s → h ≡ k
 float_float h k s (decimals {t = t} a f) (decimals {t = u} b g) = (integral_one h k s t u a (inr f) b (inr g)).0
 
-made : Option SignToken → Bool → Bool → IntegerKind
+made : Sign → Bool → Bool → IntegerKind
 made s u h = record { sign = s; has_underscores = u; hex = h }
 
 integer_same : (k l : IntegerKind) → k.sign ≡ l.sign → k.has_underscores ≡ l.has_underscores → k.hex ≡ l.hex → k ≡ l

@@ -9,7 +9,7 @@ use Rattle.wat_lex.specs.declared.lexer.kinds.TokenKind.{TokenKind}
 use Rattle.wat_lex.specs.declared.lexer.kinds.TokenKind.TheVariants.{Integer, Float}
 use Rattle.wat_lex.proofs.grammar.Digits.{digits_first, digits_none, digits_next, digits_parted, stops_at}
 use Rattle.wat_lex.proofs.grammar.Tails.{stops_nil, digits_end, exponent_some, exponent_none, tail_power, behind_digits, behind_none}
-use Rattle.wat_lex.proofs.grammar.NumberKinds.{no_number, none_payload, none_integral, none_tail, integral_hex, integral_no_hex, integral_decimal, integral_no_decimal}
+use Rattle.wat_lex.proofs.grammar.NumberKinds.{no_number, none_payload, no_payload, none_integral, none_tail, integral_hex, integral_no_hex, integral_decimal, integral_no_decimal}
 
 -- decided
 Either : Type 0 → Type 0
@@ -152,11 +152,11 @@ unfolding Either
 with_tail w rest hex i a p o n =
     elim (some_tail hex rest n) [
       | inl t ↦ is (Float (Normal (has_underscores w) hex)) (decimals o.integral t, refl)
-      | inr t ↦ none (no_number w (none_tail (unsigned w) rest hex i a p o n t))
+      | inr t ↦ none (no_number w (none_tail (unsigned w) rest hex i a (no_payload (unsigned w) p) o n t))
     ]
 
 with_integral : (w : List ℕ) → unsigned w ≢ codes "inf" → unsigned w ≢ codes "nan" → ((t : List ℕ) → unsigned w ≢ codes "nan:0x" ++ t) → SomeIntegralPart (unsigned w) → SomeNumber w
-with_integral w i a p (none n) = none (no_number w (none_integral (unsigned w) i a p n))
+with_integral w i a p (none n) = none (no_number w (none_integral (unsigned w) i a (no_payload (unsigned w) p) n))
 with_integral w i a p (integral {hex = hex} {rest = []} o) = is (Integer (record { sign = sign_of w; has_underscores = has_underscores w; hex = hex })) (o.integral, refl, refl)
 with_integral w i a p (integral {hex = hex} {rest = c ∷ r} o) = with_tail w (c ∷ r) hex i a p o (λ e. cc)
 

@@ -4,6 +4,8 @@ use Rattle.std.specs.Prelude.{◌≡◌, ℕ, Bool, true, false, ◌||◌, ◌==
 use Rattle.std.specs.Char.{is_ascii_digit, is_ascii_hexdigit, char_set_contains}
 use Rattle.std.specs.List.{list_any}
 use Rattle.wat_lex.specs.grammar.Classes.{underscore, plus, minus, dot}
+use Rattle.wat_lex.specs.declared.lexer.kinds.Sign.{Sign}
+use Rattle.wat_lex.specs.declared.lexer.kinds.Sign.TheVariants as sign
 use Rattle.wat_lex.specs.declared.lexer.kinds.SignToken.{SignToken}
 use Rattle.wat_lex.specs.declared.lexer.kinds.SignToken.TheVariants.{Plus, Minus}
 use Rattle.wat_lex.specs.declared.lexer.kinds.FloatKind.TheVariants.{Inf, Nan, NanVal, Normal}
@@ -11,9 +13,15 @@ use Rattle.wat_lex.specs.declared.lexer.kinds.TokenKind.{TokenKind}
 use Rattle.wat_lex.specs.declared.lexer.kinds.TokenKind.TheVariants.{Integer, Float}
 
 -- the sign that the word begins with
-abbrev pub sign_of : List ℕ → Option SignToken
-sign_of [] = None
-sign_of (c ∷ t) = if c == plus then Some Plus else if c == minus then Some Minus else None
+abbrev pub sign_of : List ℕ → Sign
+sign_of [] = sign.None
+sign_of (c ∷ t) = if c == plus then sign.Plus else if c == minus then sign.Minus else sign.None
+
+-- a sign as callers see it
+abbrev pub sign_token : Sign → Option SignToken
+sign_token sign.None = None
+sign_token sign.Plus = Some Plus
+sign_token sign.Minus = Some Minus
 
 -- the word without its sign
 abbrev pub unsigned : List ℕ → List ℕ

@@ -7,7 +7,7 @@ use Rattle.std.specs.Str.Parse.{IsNumeral, without_leading_sign, digits_value}
 use Rattle.std.specs.Cow.{cow_str_bytes, IsBorrowedStr, IsOwnedStr}
 use Rattle.std.specs.declared.borrow.CowStr.{CowStr}
 use Rattle.wat_lex.specs.grammar.Classes.{underscore, minus, dot}
-use Rattle.wat_lex.specs.grammar.Numbers.{unsigned, is_negative, is_exponent_letter, Digits, IntegralPart}
+use Rattle.wat_lex.specs.grammar.Numbers.{sign_token, unsigned, is_negative, is_exponent_letter, Digits, IntegralPart}
 use Rattle.wat_lex.specs.declared.lexer.kinds.IntegerKind.{IntegerKind}
 use Rattle.wat_lex.specs.declared.lexer.kinds.SignToken.{SignToken}
 use Rattle.wat_lex.specs.declared.lexer.kinds.FloatKind.{FloatKind}
@@ -91,7 +91,7 @@ integer_base integer = base integer.hex
 
 -- Its digits are borrowed where it has neither underscores nor `0x`, and else written anew.
 pub record IsIntegerOf (kind : IntegerKind) (word : List ℕ) (integer : Integer) : Type 0 where
-  pub sign : integer.sign ≡ kind.sign
+  pub sign : integer.sign ≡ sign_token kind.sign
   pub digits : IsText (is_integer_rewritten kind) (number_text kind.hex word) integer.digits
   pub hex : integer.hex ≡ kind.hex
 

@@ -1,14 +1,17 @@
 //! Tokens and their kinds.
+ghost use Rattle.std.specs.Prelude.{◌≡◌};
+ghost use Rattle.wat_lex.specs.grammar.Numbers.{sign_token};
 
 /// A single token of a text.
+// The largest field stands first, so that a token has 16 bytes.
 #[derive(Clone, Copy, Debug, PartialEq)]
 pub struct Token {
-    /// What kind of token this is.
-    pub kind: TokenKind,
     /// Where the token begins, in bytes from the text's start.
     pub offset: usize,
     /// How many bytes the token has.
     pub len: u32,
+    /// What kind of token this is.
+    pub kind: TokenKind,
 }
 
 /// The kinds of tokens, whitespace and comments among them.
@@ -45,7 +48,7 @@ pub enum TokenKind {
 /// What the lexer knows of an integer.
 #[derive(Clone, Copy, Debug, PartialEq)]
 pub struct IntegerKind {
-    pub(crate) sign: Option<SignToken>,
+    pub(crate) sign: Sign,
     pub(crate) has_underscores: bool,
     pub(crate) hex: bool,
 }
@@ -86,6 +89,27 @@ pub enum SignToken {
     Plus,
     /// `-`
     Minus,
+}
+
+/// The sign that a number begins with, or none, in one byte: an `Option` has a tag of its own, and
+/// a token is to be small.
+#[derive(Clone, Copy, Debug, PartialEq)]
+pub(crate) enum Sign {
+    None,
+    Plus,
+    Minus,
+}
+
+impl Sign {
+    pub(crate) fn token(self) -> Option<SignToken>
+        ensures { result ≡ sign_token self }
+    {
+        match self {
+            Sign::None => None,
+            Sign::Plus => Some(SignToken::Plus),
+            Sign::Minus => Some(SignToken::Minus),
+        }
+    }
 }
 
 /// What stands at the start of a text: a token's kind, of which only contracts speak, and its

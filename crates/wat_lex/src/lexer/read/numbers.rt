@@ -57,7 +57,7 @@ impl<'a> Integer<'a> {
     {
         let digits = number_text(alloc, word, kind.hex, kind.has_underscores)?;
         Ok(Integer {
-            sign: kind.sign,
+            sign: kind.sign.token(),
             digits,
             hex: kind.hex,
         })

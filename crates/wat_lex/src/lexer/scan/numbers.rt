@@ -10,7 +10,7 @@ ghost use Rattle.wat_lex.specs.grammar.Numbers.{Tail, Payload, Number};
 ghost use Rattle.wat_lex.specs.inside.ScannedNumbers.{LongestDigits, NoDigits, OnlyIntegralPart};
 ghost use Rattle.wat_lex.specs.inside.ScannedNumbers.{NoIntegralPart};
 
-use crate::lexer::kinds::{FloatKind, IntegerKind, SignToken, TokenKind};
+use crate::lexer::kinds::{FloatKind, IntegerKind, Sign, TokenKind};
 use crate::lexer::scan::classes::is_hex_digit;
 
 fn is_digit(b: u8, hex: bool) -> bool
@@ -33,13 +33,13 @@ fn is_exponent_letter(b: u8, hex: bool) -> bool
     }
 }
 
-fn sign_of(word: &[u8]) -> Option<SignToken>
+fn sign_of(word: &[u8]) -> Sign
     ensures { result ≡ sign_of word.now }
 {
     match word {
-        [b'+', ..] => Some(SignToken::Plus),
-        [b'-', ..] => Some(SignToken::Minus),
-        _ => None,
+        [b'+', ..] => Sign::Plus,
+        [b'-', ..] => Sign::Minus,
+        _ => Sign::None,
     }
 }
 
@@ -139,15 +139,17 @@ fn after_integral(text: &[u8]) -> Option<(bool, &[u8])>
     Some((false, after_digits(text, false)?))
 }
 
-/// The kind of a number's word that is neither an infinity nor a NaN.
-fn digits_kind(word: &[u8]) -> Option<TokenKind>
+/// The kind of a number's word by what follows its first digits. Inlined, the kind would be cleared
+/// at each of these digits.
+#[inline(never)]
+fn kind_by_rest(word: &[u8], hex: bool, rest: &[u8]) -> Option<TokenKind>
     requires infinity { unsigned word.now ≢ codes "inf" }
     requires nan { unsigned word.now ≢ codes "nan" }
     requires payload { Payload (unsigned word.now) → ⊥ }
+    requires first { OnlyIntegralPart hex (unsigned word.now) rest.now }
     ensures some { IfSome result (λ kind. Number word.now kind) }
     ensures none { IfNone result ((kind : TokenKind) → Number word.now kind → ⊥) }
 {
-    let (hex, rest) = after_integral(unsigned(word))?;
     let has_underscores = has_underscores(word);
     if rest.is_empty() {
         return Some(TokenKind::Integer(IntegerKind {
@@ -163,6 +165,18 @@ fn digits_kind(word: &[u8]) -> Option<TokenKind>
         has_underscores,
         hex,
     }))
+}
+
+/// The kind of a number's word that is neither an infinity nor a NaN.
+fn digits_kind(word: &[u8]) -> Option<TokenKind>
+    requires infinity { unsigned word.now ≢ codes "inf" }
+    requires nan { unsigned word.now ≢ codes "nan" }
+    requires payload { Payload (unsigned word.now) → ⊥ }
+    ensures some { IfSome result (λ kind. Number word.now kind) }
+    ensures none { IfNone result ((kind : TokenKind) → Number word.now kind → ⊥) }
+{
+    let (hex, rest) = after_integral(unsigned(word))?;
+    kind_by_rest(word, hex, rest)
 }
 
 /// How many decimal digits stand at the start.

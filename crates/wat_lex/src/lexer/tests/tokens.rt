@@ -2,6 +2,7 @@
 use crate::error::Error;
 use crate::lexer::{LexError, Lexer, Settings, Token, TokenKind};
 use std::alloc::Global;
+use std::mem::size_of;
 use std::process::Abort;
 use std::test::Fail;
 
@@ -337,6 +338,11 @@ fn first_tokens(rt: HostRuntime) -> Result<(), Fail> {
         }
     }
     Ok(())
+}
+
+#[test]
+fn a_token_has_16_bytes(rt: HostRuntime) {
+    assert_eq!(rt; size_of::<Token>(), 16);
 }
 
 #[test]
