@@ -76,6 +76,13 @@ impl<'a> Lexer<'a> {
         self.input
     }
 
+    /// The two settings.
+    pub fn settings(&self) -> Settings
+        ensures { result ≡ self.now.flags }
+    {
+        self.settings
+    }
+
     /// Sets whether the nine characters that can make a text look other than it is
     /// may stand in comments and strings.
     pub fn allow_confusing_unicode(&mut self, allow: bool) -> &mut Self

@@ -341,6 +341,7 @@ impl<'a> Parser<'a> {
     {
         let place = self.place;
         let depth = self.depth;
+        self.reading.is_read();
         self.open()?;
         self.depth += 1;
         match f(self) {

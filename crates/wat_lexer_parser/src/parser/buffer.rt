@@ -124,6 +124,12 @@ impl<'a> ParseBuffer<'a> {
         ensures same { result ≡ self.now }
         ensures read { IsRead self.now }
     {
-        Reading::new(self.lexer.input(), self.lexer.settings(), self.track, &self.table, self.alloc)
+        Reading::new(
+            self.lexer.input(),
+            self.lexer.settings(),
+            self.track,
+            &self.table,
+            self.alloc,
+        )
     }
 }

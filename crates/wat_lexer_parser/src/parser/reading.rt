@@ -61,14 +61,14 @@ impl<'a> Model for Reading<'a> {
     } };
 
     ghost invariant = { λ b. (length b.text.now < 2 ^ 32) × IsTable
-      (record {
-        setting = record { text = b.text.now; flags = b.settings };
-        track = b.track;
-        tokens = b.table.now.tokens.items;
-        ending = b.table.now.fault;
-      })
-      b.table.now.opens.items (map name_view b.table.now.names.items) b.table.now.starts.items
-      b.table.now.closes.items };
+        (record {
+          setting = record { text = b.text.now; flags = b.settings };
+          track = b.track;
+          tokens = b.table.now.tokens.items;
+          ending = b.table.now.fault;
+        })
+        b.table.now.opens.items (map name_view b.table.now.names.items) b.table.now.starts.items
+        b.table.now.closes.items };
 }
 
 impl<'a> Reading<'a> {
@@ -81,14 +81,14 @@ impl<'a> Reading<'a> {
     ) -> Reading<'a>
         requires short { length text.now < 2 ^ 32 }
         requires table { IsTable
-          (record {
-            setting = record { text = text.now; flags = settings };
-            track = track;
-            tokens = table.now.tokens.items;
-            ending = table.now.fault;
-          })
-          table.now.opens.items (map name_view table.now.names.items) table.now.starts.items
-          table.now.closes.items }
+            (record {
+              setting = record { text = text.now; flags = settings };
+              track = track;
+              tokens = table.now.tokens.items;
+              ending = table.now.fault;
+            })
+            table.now.opens.items (map name_view table.now.names.items) table.now.starts.items
+            table.now.closes.items }
         ensures { result ≡ record {
           setting = record { text = text.now; flags = settings };
           track = track;
@@ -105,11 +105,12 @@ impl<'a> Reading<'a> {
         }
     }
 
-    /// The tokens are those of the text.
+    /// The tokens are those of the text, and so many at most.
     pub fn is_read(&self)
-        ensures { IsRead self.now }
+        ensures read { IsRead self.now }
+        ensures small { length self.now.tokens < 2 ^ 63 }
     {
-        let _track = self.track;
+        let _count = self.table.tokens.len();
     }
 
     pub fn tracks(&self) -> bool
