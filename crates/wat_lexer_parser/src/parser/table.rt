@@ -17,6 +17,9 @@ use wat_lex::lexer::{LexError, LexFault, Lexer, Token, TokenKind};
 /// How many tokens have one entry among the starts.
 const BLOCK: usize = 32;
 
+/// How many bytes a token is likely to have. Room that stays unused is given back.
+const LIKELY: usize = 4;
+
 /// The raw tokens of a text up to its end or its first fault, and the annotations among them that
 /// stand directly behind a parenthesis.
 #[derive(Drop)]
@@ -46,22 +49,22 @@ fn is_head(last: Option<Token>, token: Token) -> bool
 }
 
 impl Table {
-    /// The table of no tokens.
-    fn new(alloc: Global) -> Table
-        ensures tokens { result.tokens.items ≡ [] }
-        ensures fault { result.fault ≡ None }
-        ensures opens { result.opens.items ≡ [] }
-        ensures names { map name_view result.names.items ≡ [] }
-        ensures starts { result.starts.items ≡ [] }
+    /// The table of no tokens, with room for so many.
+    fn new(alloc: Global, room: usize) -> Result<Table, AllocError>
+        ensures tokens { IfOk result (λ t. t.tokens.items ≡ []) }
+        ensures fault { IfOk result (λ t. t.fault ≡ None) }
+        ensures opens { IfOk result (λ t. t.opens.items ≡ []) }
+        ensures names { IfOk result (λ t. map name_view t.names.items ≡ []) }
+        ensures starts { IfOk result (λ t. t.starts.items ≡ []) }
     {
-        Table {
-            tokens: Vec::new(alloc),
+        Ok(Table {
+            tokens: Vec::with_capacity(alloc, room)?,
             fault: None,
             opens: Vec::new(alloc),
             names: Vec::new(alloc),
             starts: Vec::new(alloc),
             closes: Vec::new(alloc),
-        }
+        })
     }
 
     /// Adds a token.
@@ -226,7 +229,7 @@ fn fill(alloc: Global, lexer: &Lexer<'_>) -> Result<Table, AllocError>
         (map name_view t.names.items) t.starts.items) }
 {
     let text = lexer.input();
-    let mut table = Table::new(alloc);
+    let mut table = Table::new(alloc, text.len() / LIKELY)?;
     let mut pos = 0;
     'tokens: loop {
         match lexer.scan(pos) {

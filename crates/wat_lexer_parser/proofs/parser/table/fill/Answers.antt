@@ -7,8 +7,8 @@ use Rattle.wat_lexer_parser.proofs.parser.table.fill.Goals as goal
 
 pub tokens-init : goal.tokens-init
 tokens-init c =
-    let t = c.new-table.result in
-    let e = c.new-table.ensures in
+    let t = c.in_ok-table.table in
+    let e = c.in_ok-table.ensures in
     record {
       filling = filling_start c.args.lexer.now t.tokens.items t.opens.items (map name_view t.names.items) t.starts.items (IsCharBoundary-start c.args.lexer.now.text c.input-text.ensures.utf8) e.tokens e.opens e.names e.starts;
       fault = e.fault;
