@@ -1,3 +1,4 @@
+mod Counts
 mod Decimals
 mod InputLaws
 mod KnownBytes

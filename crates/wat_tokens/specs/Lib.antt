@@ -1,3 +1,4 @@
+pub mod Calls
 pub mod Inputs
 pub mod Lists
 pub mod Options

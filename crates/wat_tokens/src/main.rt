@@ -1,6 +1,7 @@
 //! Lists the raw tokens of a WebAssembly text that comes on standard input.
 #![tactic(auto)]
 
+pub mod calls;
 pub mod ends;
 mod line;
 pub mod list;
