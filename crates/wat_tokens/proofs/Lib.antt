@@ -1,3 +1,4 @@
+mod CallLaws
 mod Counts
 mod Decimals
 mod InputLaws

@@ -4,4 +4,5 @@ pub mod Lists
 pub mod Options
 pub mod Outcomes
 pub mod Plain
+pub mod Replies
 pub mod Streams

@@ -31,11 +31,15 @@ kind_name (Float k) = codes "Float"
 abbrev pub line : Token → List ℕ
 line t = decimal t.offset ++ codes ".." ++ decimal (t.offset + t.len) ++ codes " " ++ kind_name t.kind ++ codes "\n"
 
+-- one line for each token
+abbrev pub token_lines : List Token → List ℕ
+token_lines tokens = flat_map line tokens
+
 -- The lines of the raw tokens of a text from its start, and its fault where it has one.
 pub record ListText (s : Setting) (text : List ℕ) (fault : Option LexFault) : Type 0 where
   pub tokens : List Token
   pub tiling : MaximalTiling s 0 tokens fault
-  pub lines : text ≡ flat_map line tokens
+  pub lines : text ≡ token_lines tokens
 
 -- The bytes are a text of at most 2^32-1 bytes, these are its lines, and this is the error of its fault where it has one.
 pub record Lists (settings : Settings) (bytes text : List ℕ) (error : Option (Option Report)) : Type 0 where

@@ -7,6 +7,7 @@ mod line;
 pub mod list;
 pub mod options;
 pub mod outcome;
+pub mod play;
 pub mod run;
 #[cfg(test)]
 mod tests;

@@ -1,12 +1,13 @@
 //! What a run of the program ends in.
-ghost use Rattle.std.specs.Prelude.{◌≡◌, false, IfSome, OnOk};
+ghost use Rattle.std.specs.Prelude.{◌≡◌, ◌⊎◌, false, IfSome, OnOk};
 ghost use Rattle.std.specs.Io.KnownBytes.{Appends};
 ghost use Rattle.wat_tokens.specs.Outcomes.{outcome_of, refusal, report, status, Ran, Responds};
 ghost use Rattle.wat_lex.specs.declared.lexer.settings.Settings.{Settings};
-ghost use Rattle.wat_tokens.specs.Options.{Selects};
+ghost use Rattle.wat_tokens.specs.declared.options.Command.{Command};
+ghost use Rattle.wat_tokens.specs.Options.{Asks, AsksPlay, listing};
 
 use crate::ends::{Sink, Source};
-use crate::options::settings_of;
+use crate::options::{Command, Task, command_of};
 use crate::run::{RunError, run_list};
 use std::alloc::Global;
 use std::io;
@@ -50,19 +51,25 @@ pub fn respond<R: Source, W: Sink>(
 ) -> Outcome
     requires input { R.has_failed input.old ≡ false }
     requires output { W.has_failed output.old ≡ false }
-    ensures selected { (settings : Settings) → Selects words.now settings →
+    ensures listed { (settings : Settings) → Asks words.now (listing settings) →
         IfSome (R.left input.old) (λ bytes.
         Responds settings bytes result (W.held output.old) (W.held output.new)) }
-    ensures ran { (settings : Settings) → Selects words.now settings →
+    ensures ran { (settings : Settings) → Asks words.now (listing settings) →
         Ran R.left R.has_failed R.has_ended W.held W.has_failed settings
         input.old input.new output.old output.new result }
-    ensures usage { ((settings : Settings) → ¬ Selects words.now settings) →
-        (result ≡ Outcome.Usage) × (input.new ≡ input.old) × (output.new ≡ output.old) }
+    ensures usage { ((command : Command) → ¬ Asks words.now command) →
+        (result ≡ Outcome.Usage) ⊎ ((result ≡ Outcome.Refused RunError.Memory) × AsksPlay words.now) }
+    ensures unread { ((command : Command) → ¬ Asks words.now command) →
+        (input.new ≡ input.old) × (output.new ≡ output.old) }
 {
-    let Some(settings) = settings_of(words) else {
-        return Outcome::Usage;
-    };
-    Outcome::of_run(run_list(alloc, input, output, settings))
+    match command_of(alloc, words) {
+        Ok(Some(Command {
+            settings,
+            task: Task::List,
+        })) => Outcome::of_run(run_list(alloc, input, output, settings)),
+        Ok(_) => Outcome::Usage,
+        Err(_) => Outcome::Refused(RunError::Memory),
+    }
 }
 
 impl Outcome {
