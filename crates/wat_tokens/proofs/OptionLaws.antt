@@ -1,5 +1,5 @@
 -- The words ask for one command at most.
-use Rattle.std.proofs.Common.{◌≡◌, ◌∙◌, ◌≤◌, ◌+◌, ◌<◌, ℕ, zero, suc, sym, ap, refl, subst, Bool, true, false, cond, ◌||◌, eqb, eq-eqb, List, [], ◌∷◌, ◌++◌, length, take, drop, get_or, arith}
+use Rattle.std.proofs.Common.{◌≡◌, ◌≢◌, ◌⊎◌, inl, inr, ◌∙◌, ◌≤◌, ◌+◌, ◌<◌, ℕ, zero, suc, sym, ap, refl, subst, Bool, true, false, cond, ◌||◌, eqb, eq-eqb, List, [], ◌∷◌, ◌++◌, length, take, drop, get_or, arith}
 use Rattle.std.specs.Prelude.{String, string_bytes, codes, count_by}
 use Rattle.std.specs.List.{prefix_len}
 use Rattle.std.specs.Str.{bytes_eq}
@@ -96,6 +96,17 @@ options_are words c h = sym (take_at h.options h.rest _ refl) ∙ ap (λ n. take
 
 pub rest_is : (words : List (String Global)) (c : Command) (h : Asks words c) → h.rest ≡ drop (options_in words) words
 rest_is words c h = sym (drop_at h.options h.rest _ refl) ∙ ap (λ n. drop n (h.options ++ h.rest)) (sym (end_is words c h)) ∙ ap (drop (options_in words)) (sym h.cut)
+
+pub is_listing : (c : Command) → c.task ≡ task.List → c ≡ listing c.settings
+is_listing c e =
+    let command : Task → Command = λ t. record { settings = c.settings; task = t } in
+    ap command e
+
+-- whether a task is the list
+pub list_or_not : (t : Task) → (t ≡ task.List) ⊎ (t ≢ task.List)
+list_or_not task.List = inl refl
+list_or_not (task.Sig names) = inr (λ e. cc)
+list_or_not (task.Play calls) = inr (λ e. cc)
 
 no_task : (t : Task) → AsksTask [] t → t ≡ task.List
 no_task task.List h = refl

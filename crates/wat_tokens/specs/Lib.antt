@@ -4,5 +4,6 @@ pub mod Lists
 pub mod Options
 pub mod Outcomes
 pub mod Plain
+pub mod Printed
 pub mod Replies
 pub mod Streams

@@ -1,10 +1,8 @@
 //! What a run of the program ends in.
-ghost use Rattle.std.specs.Prelude.{◌≡◌, ◌⊎◌, false, IfSome, OnOk};
+ghost use Rattle.std.specs.Prelude.{◌≡◌, ◌≢◌, false, OnOk};
 ghost use Rattle.std.specs.Io.KnownBytes.{Appends};
-ghost use Rattle.wat_tokens.specs.Outcomes.{outcome_of, refusal, report, status, Ran, Responds};
-ghost use Rattle.wat_lex.specs.declared.lexer.settings.Settings.{Settings};
-ghost use Rattle.wat_tokens.specs.declared.options.Command.{Command};
-ghost use Rattle.wat_tokens.specs.Options.{Asks, AsksPlay, listing};
+ghost use Rattle.wat_tokens.specs.Outcomes.{outcome_of, refusal, report, status, Ran, Responded};
+ghost use Rattle.wat_tokens.specs.Lists.{Lists};
 
 use crate::ends::{Sink, Source};
 use crate::options::{Command, Task, command_of};
@@ -42,7 +40,29 @@ fn refusal(error: RunError) -> &'static str
     }
 }
 
-/// Lists the input on the output, as the words ask.
+/// Writes what the command asks for.
+fn carry_out<R: Source, W: Sink>(
+    alloc: Global,
+    command: Command<'_>,
+    input: &mut R,
+    output: &mut W,
+) -> Outcome
+    requires input { R.has_failed input.old ≡ false }
+    requires output { W.has_failed output.old ≡ false }
+    ensures list { command.entry.task ≡ Task.List →
+        Ran R.left R.has_failed R.has_ended W.held W.has_failed (Lists command.entry.settings)
+        input.old input.new output.old output.new result }
+    ensures other { command.entry.task ≢ Task.List →
+        (result ≡ Outcome.Usage) × (input.new ≡ input.old) × (output.new ≡ output.old) }
+{
+    let Command { settings, task } = command;
+    let Task::List = task else {
+        return Outcome::Usage;
+    };
+    Outcome::of_run(run_list(alloc, input, output, settings))
+}
+
+/// Writes of the input on the output what the words ask for.
 pub fn respond<R: Source, W: Sink>(
     alloc: Global,
     words: &[String],
@@ -51,23 +71,12 @@ pub fn respond<R: Source, W: Sink>(
 ) -> Outcome
     requires input { R.has_failed input.old ≡ false }
     requires output { W.has_failed output.old ≡ false }
-    ensures listed { (settings : Settings) → Asks words.now (listing settings) →
-        IfSome (R.left input.old) (λ bytes.
-        Responds settings bytes result (W.held output.old) (W.held output.new)) }
-    ensures ran { (settings : Settings) → Asks words.now (listing settings) →
-        Ran R.left R.has_failed R.has_ended W.held W.has_failed settings
+    ensures { Responded R.left R.has_failed R.has_ended W.held W.has_failed words.now
         input.old input.new output.old output.new result }
-    ensures usage { ((command : Command) → ¬ Asks words.now command) →
-        (result ≡ Outcome.Usage) ⊎ ((result ≡ Outcome.Refused RunError.Memory) × AsksPlay words.now) }
-    ensures unread { ((command : Command) → ¬ Asks words.now command) →
-        (input.new ≡ input.old) × (output.new ≡ output.old) }
 {
     match command_of(alloc, words) {
-        Ok(Some(Command {
-            settings,
-            task: Task::List,
-        })) => Outcome::of_run(run_list(alloc, input, output, settings)),
-        Ok(_) => Outcome::Usage,
+        Ok(Some(command)) => carry_out(alloc, command, input, output),
+        Ok(None) => Outcome::Usage,
         Err(_) => Outcome::Refused(RunError::Memory),
     }
 }
