@@ -1,5 +1,5 @@
 -- The words ask for one command at most.
-use Rattle.std.proofs.Common.{◌≡◌, ◌≢◌, ◌⊎◌, inl, inr, ◌∙◌, ◌≤◌, ◌+◌, ◌<◌, ℕ, zero, suc, sym, ap, refl, subst, Bool, true, false, cond, ◌||◌, eqb, eq-eqb, List, [], ◌∷◌, ◌++◌, length, take, drop, get_or, arith}
+use Rattle.std.proofs.Common.{◌≡◌, ◌≢◌, ◌⊎◌, inl, inr, ◌∙◌, ◌≤◌, ◌+◌, ℕ, suc, sym, ap, refl, subst, Bool, true, false, cond, ◌||◌, eqb, eq-eqb, List, [], ◌∷◌, ◌++◌, length, take, drop, get_or, arith}
 use Rattle.std.specs.Prelude.{String, string_bytes, codes, count_by}
 use Rattle.std.specs.List.{prefix_len}
 use Rattle.std.specs.Str.{bytes_eq}
@@ -9,12 +9,10 @@ use Rattle.std.proofs.lemmas.List.Folds.{prefix_len-append}
 use Rattle.std.proofs.lemmas.List.Sums.{sum_by-cons}
 use Rattle.std.proofs.lemmas.Slice.Eq.{bytes_eq-Decides}
 use Rattle.wat_lex.specs.declared.lexer.settings.Settings.{Settings}
-use Rattle.wat_lexer_parser.specs.declared.parser.replay.Call.{Call}
 use Rattle.wat_tokens.specs.declared.options.Command.{Command}
 use Rattle.wat_tokens.specs.declared.options.Task.{Task}
 use Rattle.wat_tokens.specs.declared.options.Task.TheVariants as task
-use Rattle.wat_tokens.specs.Calls.{SpellsCall}
-use Rattle.wat_tokens.specs.Options.{Selects, once_if, is_option, BeginsWith, SpellsCalls, AsksTask, Asks, listing}
+use Rattle.wat_tokens.specs.Options.{Selects, once_if, is_option, BeginsWith, AsksTask, Asks, listing}
 
 once_if-injective : (a b : Bool) → once_if a ≡ once_if b → a ≡ b
 once_if-injective true true e = refl

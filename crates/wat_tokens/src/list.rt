@@ -16,7 +16,7 @@ pub struct Listing {
 }
 
 /// How the line of a token of this kind ends.
-pub fn line_end(kind: TokenKind) -> &'static str
+pub(crate) fn line_end(kind: TokenKind) -> &'static str
     ensures text { result.now ≡ codes " " ++ kind_name kind ++ codes "\n" }
     ensures short { length result.now ≤ 14 }
 {
@@ -37,7 +37,7 @@ pub fn line_end(kind: TokenKind) -> &'static str
 }
 
 /// Writes a token's line behind the others.
-fn push_line(lines: &mut Vec<u8>, token: &Token) -> Result<(), AllocError>
+pub(crate) fn push_line(lines: &mut Vec<u8>, token: &Token) -> Result<(), AllocError>
     requires { token.now.offset + token.now.len < 2 ^ 32 }
     ensures { OnOk result (lines.new.items ≡ lines.old.items ++ line token.now) }
 {

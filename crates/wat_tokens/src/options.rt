@@ -112,10 +112,7 @@ fn task_of<'a>(alloc: Global, words: &'a [String]) -> Result<Option<Task<'a>>, A
 
 /// What the words ask for: options, each at most once, in either order, and then nothing, or `sig`
 /// and names, or `play` and calls.
-pub fn command_of<'a>(
-    alloc: Global,
-    words: &'a [String],
-) -> Result<Option<Command<'a>>, AllocError>
+pub fn command_of<'a>(alloc: Global, words: &'a [String]) -> Result<Option<Command<'a>>, AllocError>
     ensures asked { IfOk result (λ command.
         MatchOption command ((c : Command) → ¬ Asks words.now c) (Asks words.now)) }
 

@@ -1,4 +1,4 @@
-use Rattle.std.proofs.Common.{arith, subst, sym, ◌∙◌, ap, take, drop}
+use Rattle.std.proofs.Common.{subst, sym, ◌∙◌, ap, take, drop}
 use Rattle.std.proofs.lemmas.List.Sums.{prefix_len-le-length}
 use Rattle.wat_tokens.specs.Options.{Selects, AsksTask}
 use Rattle.wat_tokens.proofs.OptionLaws.{options_are, rest_is}
