@@ -5,18 +5,17 @@ use Rattle.std.specs.Prelude.{Some, None, Option, IfSome}
 use Rattle.std.specs.Io.KnownBytes.{Consumes}
 use Rattle.std.specs.Str.{IsUtf8}
 use Rattle.wat_lex.specs.errors.Errors.{Report}
-use Rattle.wat_lex.specs.declared.lexer.settings.Settings.{Settings}
 use Rattle.wat_tokens.specs.Inputs.{ReadsWhole, ReadsPast, ReadsShort}
-use Rattle.wat_tokens.specs.Lists.{Lists, AppendsSomeLines}
+use Rattle.wat_tokens.specs.Printed.{AppendsCut}
 use Rattle.wat_tokens.specs.Streams.{AppendsPrefix, Reads}
 use Rattle.wat_tokens.proofs.KnownBytes.{consumes_all, consumes_more}
 
-pub lines_cut : (settings : Settings) (a b held held' : Option (List ℕ)) (bytes text : List ℕ) (error : Option (Option Report)) → ReadsWhole a b bytes → Lists settings bytes text error → AppendsPrefix held held' text → IfSome a (λ xs. AppendsSomeLines settings xs held held')
-lines_cut settings None b held held' bytes text error r l p = tt
-lines_cut settings (Some xs) b held held' bytes text error r l p = record {
+pub lines_cut : (prints : List ℕ → List ℕ → Option (Option Report) → Type 0) (a b held held' : Option (List ℕ)) (bytes text : List ℕ) (error : Option (Option Report)) → ReadsWhole a b bytes → prints bytes text error → AppendsPrefix held held' text → IfSome a (λ xs. AppendsCut (prints xs) held held')
+lines_cut prints None b held held' bytes text error r l p = tt
+lines_cut prints (Some xs) b held held' bytes text error r l p = record {
   text = text;
   error = error;
-  lists = subst (λ v. Lists settings v text error) (consumes_all xs b bytes r.given r.ended) l;
+  printed = subst (λ v. prints v text error) (consumes_all xs b bytes r.given r.ended) l;
   appended = p;
 }
 

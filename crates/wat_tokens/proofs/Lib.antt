@@ -1,3 +1,5 @@
+mod CallLaws
+mod Counts
 mod Decimals
 mod InputLaws
 mod KnownBytes

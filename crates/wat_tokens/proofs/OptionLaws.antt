@@ -1,9 +1,18 @@
--- The words select one setting at most.
-use Rattle.std.proofs.Common.{◌≡◌, ◌∙◌, sym, ap, refl, Bool, true, false, List, arith}
-use Rattle.std.specs.Prelude.{String}
+-- The words ask for one command at most.
+use Rattle.std.proofs.Common.{◌≡◌, ◌≢◌, ◌⊎◌, inl, inr, ◌∙◌, ◌≤◌, ◌+◌, ℕ, suc, sym, ap, refl, subst, Bool, true, false, cond, ◌||◌, eqb, eq-eqb, List, [], ◌∷◌, ◌++◌, length, take, drop, get_or, arith}
+use Rattle.std.specs.Prelude.{String, string_bytes, codes, count_by}
+use Rattle.std.specs.List.{prefix_len}
+use Rattle.std.specs.Str.{bytes_eq}
 use Rattle.std.specs.declared.alloc.Global.{Global}
+use Rattle.std.proofs.lemmas.List.{take_at, drop_at}
+use Rattle.std.proofs.lemmas.List.Folds.{prefix_len-append}
+use Rattle.std.proofs.lemmas.List.Sums.{sum_by-cons}
+use Rattle.std.proofs.lemmas.Slice.Eq.{bytes_eq-Decides}
 use Rattle.wat_lex.specs.declared.lexer.settings.Settings.{Settings}
-use Rattle.wat_tokens.specs.Options.{Selects, once_if}
+use Rattle.wat_tokens.specs.declared.options.Command.{Command}
+use Rattle.wat_tokens.specs.declared.options.Task.{Task}
+use Rattle.wat_tokens.specs.declared.options.Task.TheVariants as task
+use Rattle.wat_tokens.specs.Options.{Selects, once_if, is_option, BeginsWith, AsksTask, Asks, listing}
 
 once_if-injective : (a b : Bool) → once_if a ≡ once_if b → a ≡ b
 once_if-injective true true e = refl
@@ -17,3 +26,97 @@ one_selection words a b h k =
     let strict = once_if-injective a.strict b.strict (sym h.strict ∙ k.strict) in
     let settings : Bool → Bool → Settings = λ x y. record { allow = x; strict = y } in
     ap (λ x. settings x a.strict) allow ∙ ap (λ y. settings b.allow y) strict
+
+few_step : (p q : Bool) (m n l : ℕ) → (p ≡ true → q ≡ true → ⊥) → m + n ≤ l → (cond p 1 0 + m) + (cond q 1 0 + n) ≤ suc l
+few_step true true m n l apart h = absurd (apart refl refl)
+few_step true false m n l apart h = omega arith
+few_step false true m n l apart h = omega arith
+few_step false false m n l apart h = omega arith
+
+-- no element passes both tests
+few : {X : Type 0} (a b : X → Bool) → ((x : X) → a x ≡ true → b x ≡ true → ⊥) → (xs : List X) → count_by a xs + count_by b xs ≤ length xs
+few a b apart [] = omega arith
+few a b apart (x ∷ xs) = rw (sum_by-cons (λ y. cond (a y) 1 0) x xs, sum_by-cons (λ y. cond (b y) 1 0) x xs) (few_step (a x) (b x) (count_by a xs) (count_by b xs) (length xs) (apart x) (few a b apart xs))
+
+all_step : (p q : Bool) (m n l k : ℕ) → (p ≡ true → q ≡ true → ⊥) → m + n ≤ l → (m + n ≡ l → k ≡ l) → (cond p 1 0 + m) + (cond q 1 0 + n) ≡ suc l → cond (p || q) (1 + k) 0 ≡ suc l
+all_step true true m n l k apart h f e = absurd (apart refl refl)
+all_step true false m n l k apart h f e = omega (arith, f (omega arith))
+all_step false true m n l k apart h f e = omega (arith, f (omega arith))
+all_step false false m n l k apart h f e = absurd (omega arith)
+
+-- and if each passes one of them, all pass from the front on
+all_pass : {X : Type 0} (a b : X → Bool) → ((x : X) → a x ≡ true → b x ≡ true → ⊥) → (xs : List X) → count_by a xs + count_by b xs ≡ length xs → prefix_len (λ x. a x || b x) xs ≡ length xs
+all_pass a b apart [] e = refl
+all_pass a b apart (x ∷ xs) e =
+    let counts = rw (sum_by-cons (λ y. cond (a y) 1 0) x xs, sum_by-cons (λ y. cond (b y) 1 0) x xs) at e in
+    all_step (a x) (b x) (count_by a xs) (count_by b xs) (length xs) (prefix_len (λ y. a y || b y) xs) (apart x) (few a b apart xs) (all_pass a b apart xs) counts
+
+abbrev is : List ℕ → String Global → Bool
+is text word = bytes_eq (string_bytes word) text
+
+two_options : (word : String Global) → is (codes "--allow-confusing") word ≡ true → is (codes "--strict-underscores") word ≡ true → ⊥
+two_options word h k =
+    let allow = (bytes_eq-Decides (string_bytes word) (codes "--allow-confusing")).0 h in
+    let strict = (bytes_eq-Decides (string_bytes word) (codes "--strict-underscores")).0 k in
+    let letter : 97 ≡ 115 = ap (λ text. get_or text 2 0) (sym allow ∙ strict) in
+    omega (arith, letter)
+
+-- how many options stand in front
+abbrev pub options_in : List (String Global) → ℕ
+options_in words = prefix_len (λ word. is_option (string_bytes word)) words
+
+only_options : (words : List (String Global)) (s : Settings) → Selects words s → options_in words ≡ length words
+only_options words s h = all_pass (is (codes "--allow-confusing")) (is (codes "--strict-underscores")) two_options words (omega (arith, h.allow, h.strict, h.no_other))
+
+begins : (text : List ℕ) (words rest : List (String Global)) → is_option text ≡ false → BeginsWith text words rest → options_in words ≡ 0
+begins text words rest other h = ap options_in h.cut ∙ ap (λ t. cond (is_option t) (1 + options_in rest) 0) h.is_text ∙ ap (λ b. cond b (1 + options_in rest) 0) other
+
+task_first : (words : List (String Global)) (t : Task) → AsksTask words t → options_in words ≡ 0
+task_first words task.List h = ap options_in h
+task_first words (task.Sig names) h = begins (codes "sig") words names.now refl h
+task_first words (task.Play calls) h = begins (codes "play") words h.0 refl h.1
+
+length_matched : (n : ℕ) (m k : ℕ) → n ≡ m → cond (eqb n m) (m + k) n ≡ m + k
+length_matched n m k e = ap (λ b. cond b (m + k) n) (eq-eqb n m e)
+
+options_end : (options rest : List (String Global)) (s : Settings) → Selects options s → options_in rest ≡ 0 → options_in (options ++ rest) ≡ length options
+options_end options rest s h first =
+    prefix_len-append (λ word. is_option (string_bytes word)) options rest
+    ∙ length_matched (options_in options) (length options) (options_in rest) (only_options options s h)
+    ∙ omega (arith, first)
+
+-- where the options end
+end_is : (words : List (String Global)) (c : Command) (h : Asks words c) → options_in words ≡ length h.options
+end_is words c h = ap options_in h.cut ∙ options_end h.options h.rest c.settings h.selects (task_first h.rest c.task h.asks)
+
+pub options_are : (words : List (String Global)) (c : Command) (h : Asks words c) → h.options ≡ take (options_in words) words
+options_are words c h = sym (take_at h.options h.rest _ refl) ∙ ap (λ n. take n (h.options ++ h.rest)) (sym (end_is words c h)) ∙ ap (take (options_in words)) (sym h.cut)
+
+pub rest_is : (words : List (String Global)) (c : Command) (h : Asks words c) → h.rest ≡ drop (options_in words) words
+rest_is words c h = sym (drop_at h.options h.rest _ refl) ∙ ap (λ n. drop n (h.options ++ h.rest)) (sym (end_is words c h)) ∙ ap (drop (options_in words)) (sym h.cut)
+
+pub is_listing : (c : Command) → c.task ≡ task.List → c ≡ listing c.settings
+is_listing c e =
+    let command : Task → Command = λ t. record { settings = c.settings; task = t } in
+    ap command e
+
+-- whether a task is the list
+pub list_or_not : (t : Task) → (t ≡ task.List) ⊎ (t ≢ task.List)
+list_or_not task.List = inl refl
+list_or_not (task.Sig names) = inr (λ e. cc)
+list_or_not (task.Play calls) = inr (λ e. cc)
+
+no_task : (t : Task) → AsksTask [] t → t ≡ task.List
+no_task task.List h = refl
+no_task (task.Sig names) h = let e = h.cut in cc
+no_task (task.Play calls) h = let e = h.1.cut in cc
+
+-- words that ask for the list ask for nothing else
+pub one_listing : (words : List (String Global)) (s : Settings) (c : Command) → Asks words (listing s) → Asks words c → c ≡ listing s
+one_listing words s c h k =
+    let options = options_are words (listing s) h ∙ sym (options_are words c k) in
+    let rest = rest_is words c k ∙ sym (rest_is words (listing s) h) ∙ h.asks in
+    let settings = one_selection k.options c.settings s k.selects (subst (λ ws. Selects ws s) options h.selects) in
+    let asked = no_task c.task (subst (λ ws. AsksTask ws c.task) rest k.asks) in
+    let command : Settings → Task → Command = λ x t. record { settings = x; task = t } in
+    ap (λ x. command x c.task) settings ∙ ap (λ t. command s t) asked

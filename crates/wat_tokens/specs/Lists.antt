@@ -2,7 +2,6 @@
 use Rattle.std.specs.Prelude.{◌≡◌, ◌<◌, ◌+◌, ◌^◌, ◌++◌, ℕ, List, length, codes, Option, Some, flat_map}
 use Rattle.std.specs.Option.{option_map}
 use Rattle.std.specs.Fmt.{decimal}
-use Rattle.std.specs.Io.KnownBytes.{Appends}
 use Rattle.std.specs.Str.{IsUtf8}
 use Rattle.wat_lex.specs.errors.Errors.{Report, lexical}
 use Rattle.wat_lex.specs.tokens.Setting.{Setting}
@@ -12,7 +11,6 @@ use Rattle.wat_lex.specs.declared.lexer.kinds.Token.{Token}
 use Rattle.wat_lex.specs.declared.lexer.kinds.TokenKind.{TokenKind}
 use Rattle.wat_lex.specs.declared.lexer.kinds.TokenKind.TheVariants.{LineComment, BlockComment, Whitespace, LParen, RParen, String, Id, Keyword, Annotation, Reserved, Integer, Float}
 use Rattle.wat_lex.specs.declared.lexer.settings.Settings.{Settings}
-use Rattle.wat_tokens.specs.Streams.{AppendsPrefix}
 
 abbrev pub kind_name : TokenKind → List ℕ
 kind_name LineComment = codes "LineComment"
@@ -31,11 +29,19 @@ kind_name (Float k) = codes "Float"
 abbrev pub line : Token → List ℕ
 line t = decimal t.offset ++ codes ".." ++ decimal (t.offset + t.len) ++ codes " " ++ kind_name t.kind ++ codes "\n"
 
+-- one line for each token
+abbrev pub token_lines : List Token → List ℕ
+token_lines tokens = flat_map line tokens
+
+-- what is written of the tokens that are shown
+abbrev pub signature_text : List Token → List ℕ
+signature_text shown = token_lines shown
+
 -- The lines of the raw tokens of a text from its start, and its fault where it has one.
 pub record ListText (s : Setting) (text : List ℕ) (fault : Option LexFault) : Type 0 where
   pub tokens : List Token
   pub tiling : MaximalTiling s 0 tokens fault
-  pub lines : text ≡ flat_map line tokens
+  pub lines : text ≡ token_lines tokens
 
 -- The bytes are a text of at most 2^32-1 bytes, these are its lines, and this is the error of its fault where it has one.
 pub record Lists (settings : Settings) (bytes text : List ℕ) (error : Option (Option Report)) : Type 0 where
@@ -44,16 +50,3 @@ pub record Lists (settings : Settings) (bytes text : List ℕ) (error : Option (
   pub fault : Option LexFault
   pub list : ListText (record { text = bytes; flags = settings }) text fault
   pub reported : error ≡ option_map (λ f. Some (lexical bytes f)) fault
-
--- Known bytes grow by the lines of the bytes.
-pub record AppendsLines (settings : Settings) (bytes : List ℕ) (error : Option (Option Report)) (old new : Option (List ℕ)) : Type 0 where
-  pub text : List ℕ
-  pub lists : Lists settings bytes text error
-  pub appended : Appends old new text
-
--- Known bytes grow by a prefix of the lines of the bytes.
-pub record AppendsSomeLines (settings : Settings) (bytes : List ℕ) (old new : Option (List ℕ)) : Type 0 where
-  pub text : List ℕ
-  pub error : Option (Option Report)
-  pub lists : Lists settings bytes text error
-  pub appended : AppendsPrefix old new text

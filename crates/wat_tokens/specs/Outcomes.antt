@@ -1,11 +1,14 @@
 -- What a run of the program ends in: its exit status, and its report on standard error. No part of the standard.
-use Rattle.std.specs.Prelude.{◌≡◌, ◌⊎◌, ◌↔◌, ℕ, Bool, true, List, [], ◌++◌, codes, Option, Some, None, IfSome, Result, Ok, Err, IfOk, IfErr, OnOk, IsErrOf}
+use Rattle.std.specs.Prelude.{◌≡◌, ◌⊎◌, ◌↔◌, ℕ, Bool, true, List, [], ◌++◌, codes, String, Option, Some, None, IfSome, Result, Ok, Err, IfOk, IfErr, OnOk, IsErrOf}
 use Rattle.std.specs.Io.KnownBytes.{Keeps}
 use Rattle.std.specs.Str.{IsUtf8}
+use Rattle.std.specs.declared.alloc.Global.{Global}
 use Rattle.wat_lex.specs.errors.Errors.{Report, printed}
 use Rattle.wat_lex.specs.declared.lexer.settings.Settings.{Settings}
 use Rattle.wat_tokens.specs.Inputs.{HasEnded, ReadsPast, ReadsShort}
-use Rattle.wat_tokens.specs.Lists.{AppendsLines, AppendsSomeLines}
+use Rattle.wat_tokens.specs.Lists.{Lists}
+use Rattle.wat_tokens.specs.Options.{Asks, AsksPlay, listing}
+use Rattle.wat_tokens.specs.Printed.{AppendsText, AppendsCut}
 use Rattle.wat_tokens.specs.declared.outcome.Outcome.{Outcome}
 use Rattle.wat_tokens.specs.declared.outcome.Outcome.TheVariants.{Listed, Faulty, Refused, Usage}
 use Rattle.wat_tokens.specs.declared.run.RunError.{RunError}
@@ -41,25 +44,27 @@ report (Faulty error) = printed error ++ codes "\n"
 report (Refused error) = refusal error ++ codes "\n"
 report Usage = usage ++ codes "\n"
 
--- what the known bytes of the output have become where these settings were asked for and the input had these bytes
-abbrev pub Responds : Settings → List ℕ → Outcome → Option (List ℕ) → Option (List ℕ) → Type 0
-Responds settings bytes Listed old new = AppendsLines settings bytes None old new
-Responds settings bytes (Faulty error) old new = AppendsLines settings bytes (Some error) old new
-Responds settings bytes (Refused Write) old new = AppendsSomeLines settings bytes old new
-Responds settings bytes (Refused Read) old new = Keeps old new
-Responds settings bytes (Refused TooLong) old new = Keeps old new
-Responds settings bytes (Refused NotUtf8) old new = Keeps old new
-Responds settings bytes (Refused Memory) old new = Keeps old new
-Responds settings bytes Usage old new = ⊥
+-- what the known bytes of the output have become where these texts are printed of the input's bytes
+abbrev pub Responds : (List ℕ → Option (Option Report) → Type 0) → Outcome → Option (List ℕ) → Option (List ℕ) → Type 0
+Responds prints Listed old new = AppendsText prints None old new
+Responds prints (Faulty error) old new = AppendsText prints (Some error) old new
+Responds prints (Refused Write) old new = AppendsCut prints old new
+Responds prints (Refused Read) old new = Keeps old new
+Responds prints (Refused TooLong) old new = Keeps old new
+Responds prints (Refused NotUtf8) old new = Keeps old new
+Responds prints (Refused Memory) old new = Keeps old new
+Responds prints Usage old new = ⊥
 
--- What is known of a run over a source and a sink that ended in this outcome. A source tells what it has left, whether a read has
--- failed, and whether the last one gave the end; a sink what it holds, and whether a write has failed.
-pub record Ran {S T : Type 0} (left : S → Option (List ℕ)) (read_failed has_ended : S → Bool) (held : T → Option (List ℕ)) (write_failed : T → Bool) (settings : Settings) (input input' : S) (output output' : T) (outcome : Outcome) : Type 0 where
+-- What is known of a run over a source and a sink that ended in this outcome, and prints these texts of the bytes that it reads. A
+-- source tells what it has left, whether a read has failed, and whether the last one gave the end; a sink what it holds, and
+-- whether a write has failed.
+pub record Ran {S T : Type 0} (left : S → Option (List ℕ)) (read_failed has_ended : S → Bool) (held : T → Option (List ℕ)) (write_failed : T → Bool) (prints : List ℕ → List ℕ → Option (Option Report) → Type 0) (input input' : S) (output output' : T) (outcome : Outcome) : Type 0 where
   pub run : Result (Option (Option Report)) RunError
   pub outcome_is : outcome ≡ outcome_of run
-  -- the lines were written, or a prefix of them where the write failed, and else nothing
-  pub listed : IfOk run (λ error. IfSome (left input) (λ bytes. AppendsLines settings bytes error (held output) (held output')))
-  pub cut : IsErrOf run Write → IfSome (left input) (λ bytes. AppendsSomeLines settings bytes (held output) (held output'))
+  pub responds : IfSome (left input) (λ bytes. Responds (prints bytes) outcome (held output) (held output'))
+  -- the text was written, or a prefix of it where the write failed, and else nothing
+  pub listed : IfOk run (λ error. IfSome (left input) (λ bytes. AppendsText (prints bytes) error (held output) (held output')))
+  pub cut : IsErrOf run Write → IfSome (left input) (λ bytes. AppendsCut (prints bytes) (held output) (held output'))
   pub unwritten : IfErr run (λ e. (e ≡ Write) ⊎ (output' ≡ output))
   -- the source was read to its end where this is told of all its bytes
   pub ended : OnOk run (HasEnded (left input') (has_ended input'))
@@ -71,3 +76,10 @@ pub record Ran {S T : Type 0} (left : S → Option (List ℕ)) (read_failed has_
   pub short : IsErrOf run TooLong ⊎ ReadsShort (left input) (left input')
   pub too_long : IfSome (left input) (λ _. IsErrOf run TooLong ↔ ReadsPast (left input) (left input'))
   pub not_utf8 : IfSome (left input) (λ bytes. IsErrOf run NotUtf8 ↔ ((has_ended input' ≡ true) × (¬ IsUtf8 bytes)))
+
+-- What the words of the command line came to: the list ran that they ask for; they ask for none; or there was no memory to read
+-- their calls into.
+pub data Responded {S T : Type 0} (left : S → Option (List ℕ)) (read_failed has_ended : S → Bool) (held : T → Option (List ℕ)) (write_failed : T → Bool) (words : List (String Global)) (input input' : S) (output output' : T) (outcome : Outcome) : Type 0 where
+  listed : (settings : Settings) → Asks words (listing settings) → Ran left read_failed has_ended held write_failed (Lists settings) input input' output output' outcome → Responded left read_failed has_ended held write_failed words input input' output output' outcome
+  unasked : ((settings : Settings) → ¬ Asks words (listing settings)) → outcome ≡ Usage → input' ≡ input → output' ≡ output → Responded left read_failed has_ended held write_failed words input input' output output' outcome
+  unread : AsksPlay words → outcome ≡ Refused Memory → input' ≡ input → output' ≡ output → Responded left read_failed has_ended held write_failed words input input' output output' outcome

@@ -16,33 +16,33 @@ pub struct Listing {
 }
 
 /// How the line of a token of this kind ends.
-fn line_end(kind: TokenKind) -> &'static [u8]
+pub(crate) fn line_end(kind: TokenKind) -> &'static str
     ensures text { result.now ≡ codes " " ++ kind_name kind ++ codes "\n" }
     ensures short { length result.now ≤ 14 }
 {
     match kind {
-        TokenKind::LineComment => b" LineComment\n",
-        TokenKind::BlockComment => b" BlockComment\n",
-        TokenKind::Whitespace => b" Whitespace\n",
-        TokenKind::LParen => b" LParen\n",
-        TokenKind::RParen => b" RParen\n",
-        TokenKind::String => b" String\n",
-        TokenKind::Id => b" Id\n",
-        TokenKind::Keyword => b" Keyword\n",
-        TokenKind::Annotation => b" Annotation\n",
-        TokenKind::Reserved => b" Reserved\n",
-        TokenKind::Integer(_) => b" Integer\n",
-        TokenKind::Float(_) => b" Float\n",
+        TokenKind::LineComment => " LineComment\n",
+        TokenKind::BlockComment => " BlockComment\n",
+        TokenKind::Whitespace => " Whitespace\n",
+        TokenKind::LParen => " LParen\n",
+        TokenKind::RParen => " RParen\n",
+        TokenKind::String => " String\n",
+        TokenKind::Id => " Id\n",
+        TokenKind::Keyword => " Keyword\n",
+        TokenKind::Annotation => " Annotation\n",
+        TokenKind::Reserved => " Reserved\n",
+        TokenKind::Integer(_) => " Integer\n",
+        TokenKind::Float(_) => " Float\n",
     }
 }
 
 /// Writes a token's line behind the others.
-fn push_line(lines: &mut Vec<u8>, token: &Token) -> Result<(), AllocError>
+pub(crate) fn push_line(lines: &mut Vec<u8>, token: &Token) -> Result<(), AllocError>
     requires { token.now.offset + token.now.len < 2 ^ 32 }
     ensures { OnOk result (lines.new.items ≡ lines.old.items ++ line token.now) }
 {
     let mut line = Line::new();
-    line.put(line_end(token.kind));
+    line.put(line_end(token.kind).as_bytes());
     line.put_number((token.offset + token.len as usize) as u32);
     line.put(b"..");
     line.put_number(token.offset as u32);

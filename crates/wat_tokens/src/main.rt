@@ -1,11 +1,13 @@
 //! Lists the raw tokens of a WebAssembly text that comes on standard input.
 #![tactic(auto)]
 
+pub mod calls;
 pub mod ends;
 mod line;
 pub mod list;
 pub mod options;
 pub mod outcome;
+pub mod play;
 pub mod run;
 #[cfg(test)]
 mod tests;

@@ -1,12 +1,11 @@
 //! What a run of the program ends in.
-ghost use Rattle.std.specs.Prelude.{◌≡◌, false, IfSome, OnOk};
+ghost use Rattle.std.specs.Prelude.{◌≡◌, ◌≢◌, false, OnOk};
 ghost use Rattle.std.specs.Io.KnownBytes.{Appends};
-ghost use Rattle.wat_tokens.specs.Outcomes.{outcome_of, refusal, report, status, Ran, Responds};
-ghost use Rattle.wat_lex.specs.declared.lexer.settings.Settings.{Settings};
-ghost use Rattle.wat_tokens.specs.Options.{Selects};
+ghost use Rattle.wat_tokens.specs.Outcomes.{outcome_of, refusal, report, status, Ran, Responded};
+ghost use Rattle.wat_tokens.specs.Lists.{Lists};
 
 use crate::ends::{Sink, Source};
-use crate::options::settings_of;
+use crate::options::{Command, Task, command_of};
 use crate::run::{RunError, run_list};
 use std::alloc::Global;
 use std::io;
@@ -41,7 +40,29 @@ fn refusal(error: RunError) -> &'static str
     }
 }
 
-/// Lists the input on the output, as the words ask.
+/// Writes what the command asks for.
+fn carry_out<R: Source, W: Sink>(
+    alloc: Global,
+    command: Command<'_>,
+    input: &mut R,
+    output: &mut W,
+) -> Outcome
+    requires input { R.has_failed input.old ≡ false }
+    requires output { W.has_failed output.old ≡ false }
+    ensures list { command.entry.task ≡ Task.List →
+        Ran R.left R.has_failed R.has_ended W.held W.has_failed (Lists command.entry.settings)
+        input.old input.new output.old output.new result }
+    ensures other { command.entry.task ≢ Task.List →
+        (result ≡ Outcome.Usage) × (input.new ≡ input.old) × (output.new ≡ output.old) }
+{
+    let Command { settings, task } = command;
+    let Task::List = task else {
+        return Outcome::Usage;
+    };
+    Outcome::of_run(run_list(alloc, input, output, settings))
+}
+
+/// Writes of the input on the output what the words ask for.
 pub fn respond<R: Source, W: Sink>(
     alloc: Global,
     words: &[String],
@@ -50,19 +71,14 @@ pub fn respond<R: Source, W: Sink>(
 ) -> Outcome
     requires input { R.has_failed input.old ≡ false }
     requires output { W.has_failed output.old ≡ false }
-    ensures selected { (settings : Settings) → Selects words.now settings →
-        IfSome (R.left input.old) (λ bytes.
-        Responds settings bytes result (W.held output.old) (W.held output.new)) }
-    ensures ran { (settings : Settings) → Selects words.now settings →
-        Ran R.left R.has_failed R.has_ended W.held W.has_failed settings
+    ensures { Responded R.left R.has_failed R.has_ended W.held W.has_failed words.now
         input.old input.new output.old output.new result }
-    ensures usage { ((settings : Settings) → ¬ Selects words.now settings) →
-        (result ≡ Outcome.Usage) × (input.new ≡ input.old) × (output.new ≡ output.old) }
 {
-    let Some(settings) = settings_of(words) else {
-        return Outcome::Usage;
-    };
-    Outcome::of_run(run_list(alloc, input, output, settings))
+    match command_of(alloc, words) {
+        Ok(Some(command)) => carry_out(alloc, command, input, output),
+        Ok(None) => Outcome::Usage,
+        Err(_) => Outcome::Refused(RunError::Memory),
+    }
 }
 
 impl Outcome {

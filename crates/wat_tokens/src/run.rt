@@ -4,7 +4,8 @@ ghost use Rattle.std.specs.Prelude.{Some, is_ok, IfOk, OnOk, IfErr, IfSome, IsEr
 ghost use Rattle.std.specs.Option.{option_map};
 ghost use Rattle.std.specs.Str.{IsUtf8};
 ghost use Rattle.wat_lex.specs.errors.Errors.{lexical};
-ghost use Rattle.wat_tokens.specs.Lists.{Lists, AppendsLines, AppendsSomeLines};
+ghost use Rattle.wat_tokens.specs.Lists.{Lists};
+ghost use Rattle.wat_tokens.specs.Printed.{AppendsText, AppendsCut};
 ghost use Rattle.wat_tokens.specs.Inputs.{ReadsWhole, ReadsPast, ReadsShort, HasEnded};
 
 use crate::ends::{Sink, Source};
@@ -133,7 +134,7 @@ pub fn run_list<R: Source, W: Sink>(
     requires input { R.has_failed input.old ≡ false }
     requires output { W.has_failed output.old ≡ false }
     ensures listed { IfOk result (λ error. IfSome (R.left input.old) (λ bytes.
-        AppendsLines settings bytes error (W.held output.old) (W.held output.new))) }
+        AppendsText (Lists settings bytes) error (W.held output.old) (W.held output.new))) }
 
     // These come only once the source was read to its end.
     ensures ended { OnOk result (HasEnded (R.left input.new) (R.has_ended input.new)) }
@@ -154,7 +155,7 @@ pub fn run_list<R: Source, W: Sink>(
 
     // A failed write has written a prefix of the lines, and each other refusal nothing.
     ensures cut { IsErrOf result RunError.Write → IfSome (R.left input.old) (λ bytes.
-        AppendsSomeLines settings bytes (W.held output.old) (W.held output.new)) }
+        AppendsCut (Lists settings bytes) (W.held output.old) (W.held output.new)) }
     ensures unwritten { IfErr result (λ e. (e ≡ RunError.Write) ⊎ (output.new ≡ output.old)) }
 {
     let bytes = read_whole(alloc, input)?;

@@ -4,16 +4,21 @@ ghost use Rattle.std.specs.Prelude.{Option, Some};
 mod cuts;
 
 use crate::Settings;
+use crate::calls::read_call;
 use crate::ends::{Failed, Plain, Sink, Source};
-use crate::options::settings_of;
+use crate::options::{Command, Task, command_of};
 use crate::outcome::{Outcome, respond};
+use crate::play::reply_lines;
 use crate::run::{RunError, run_list};
 use std::alloc::Global;
 use std::io;
 use std::process::Abort;
 use std::test::Fail;
 use wat_lex::error::Error;
+use wat_lex::lexer::{LexError, Token, TokenKind};
 use wat_lex::token::Span;
+use wat_lexer_parser::parser::fault::FaultKind;
+use wat_lexer_parser::parser::replay::Reply;
 
 const OFF: Settings = Settings {
     allow: false,
@@ -444,26 +449,120 @@ fn words_of(alloc: Global, text: &str) -> Result<Vec<String>, Fail> {
     Ok(words)
 }
 
+/// A command as its words, the options and the task spelled out.
+fn spelled(alloc: Global, command: &Command<'_>) -> Result<String, Fail> {
+    let Settings { allow, strict } = command.settings;
+    let mut text = format!(in alloc; "{allow} {strict}")?;
+    match &command.task {
+        Task::List => text.push_str(" list")?,
+        Task::Sig(names) => {
+            for name in names.iter() {
+                write!(text, " <{name}>")?;
+            }
+        }
+        Task::Play(calls) => {
+            for call in calls.iter() {
+                write!(text, " {call:?}")?;
+            }
+        }
+    }
+    Ok(text)
+}
+
 #[test]
 fn words(rt: HostRuntime) -> Result<(), Fail> {
     let rows = [
-        ("", Some((false, false))),
-        ("--allow-confusing", Some((true, false))),
-        ("--strict-underscores", Some((false, true))),
-        ("--allow-confusing --strict-underscores", Some((true, true))),
-        ("--strict-underscores --allow-confusing", Some((true, true))),
-        ("--allow-confusing --allow-confusing", None),
-        ("sig", None),
-        ("play look", None),
-        ("--help", None),
+        ("", "false false list"),
+        ("--allow-confusing", "true false list"),
+        ("--strict-underscores", "false true list"),
+        ("--allow-confusing --strict-underscores", "true true list"),
+        ("--strict-underscores --allow-confusing", "true true list"),
+        ("--allow-confusing --allow-confusing", ""),
+        ("sig", "false false"),
+        ("sig a play", "false false <a> <play>"),
+        ("sig --allow-confusing", "false false <--allow-confusing>"),
+        ("--allow-confusing sig a a", "true false <a> <a>"),
+        ("--strict-underscores --allow-confusing play", "true true"),
+        (
+            "play look take comment parens=12 reg=b unreg=",
+            "false false Look Take Comment Parens(12) Register(\"b\") Unregister(\"\")",
+        ),
+        ("play look Look", ""),
+        ("play --allow-confusing", ""),
+        ("look", ""),
+        ("--help", ""),
     ];
     for (text, want) in rows {
-        let got = settings_of(&words_of(rt.alloc(), text)?).map(|settings| (
-            settings.allow,
-            settings.strict,
-        ));
-        assert_eq!(rt; got, want, "{text}");
+        let words = words_of(rt.alloc(), text)?;
+        let got = match command_of(rt.alloc(), &words)? {
+            Some(command) => spelled(rt.alloc(), &command)?,
+            None => String::new(rt.alloc()),
+        };
+        assert_eq!(rt; got.as_str(), want, "{text}");
     }
+    Ok(())
+}
+
+#[test]
+fn calls(rt: HostRuntime) -> Result<(), Fail> {
+    let rows = [
+        ("look", "Some(Look)"),
+        ("take", "Some(Take)"),
+        ("comment", "Some(Comment)"),
+        ("reg=", "Some(Register(\"\"))"),
+        ("reg=a=b", "Some(Register(\"a=b\"))"),
+        ("unreg=reg", "Some(Unregister(\"reg\"))"),
+        ("parens=0", "Some(Parens(0))"),
+        ("parens=000000007", "Some(Parens(7))"),
+        ("parens=123456789", "Some(Parens(123456789))"),
+        ("parens=", "None"),
+        ("parens=1234567890", "None"),
+        ("parens=+1", "None"),
+        ("parens=-1", "None"),
+        ("parens=1a", "None"),
+        ("parens=١", "None"),
+        ("Look", "None"),
+        ("look ", "None"),
+        ("reg", "None"),
+        ("", "None"),
+    ];
+    for (word, want) in rows {
+        let call = read_call(rt.alloc(), word)?;
+        assert_eq!(rt;
+            format!(in rt.alloc(); "{call:?}")?.as_str(),
+            want,
+            "{word}"
+        );
+    }
+    Ok(())
+}
+
+#[test]
+fn replies(rt: HostRuntime) -> Result<(), Fail> {
+    let token = Token {
+        offset: 7,
+        kind: TokenKind::Whitespace,
+        len: u32::MAX,
+    };
+    let rows = [
+        Reply::Token(token),
+        Reply::End,
+        Reply::Fault(0, FaultKind::Lex(LexError::Unexpected('é'))),
+        Reply::Fault(12, FaultKind::Unclosed),
+        Reply::Comment(10, 5),
+        Reply::Comment(usize::MAX, u32::MAX),
+        Reply::Done,
+        Reply::Absent,
+        Reply::NotOpen(1),
+        Reply::NotClosed(23),
+        Reply::TooOften,
+    ];
+    let want = "7..4294967302 Whitespace\nend\nfault 0 unexpected character '\\u{e9}'\n\
+        fault 12 unclosed annotation\ncomment 10..15\n\
+        comment 18446744073709551615..18446744078004518910\ndone\nabsent\nnot open 1\n\
+        not closed 23\ntoo often\n";
+    assert_eq!(rt; reply_lines(rt.alloc(), &rows)?.as_slice(), want.as_bytes());
+    assert!(rt; reply_lines(rt.alloc(), &[])?.is_empty());
     Ok(())
 }
 
@@ -474,7 +573,8 @@ fn responses(rt: HostRuntime) -> Result<(), Fail> {
         ("--allow-confusing", 0, "0..10 String\n"),
         ("--strict-underscores", 1, ""),
         ("--strict-underscores --allow-confusing", 1, ""),
-        ("sig", 2, ""),
+        ("--allow-confusing --allow-confusing", 2, ""),
+        ("play looks", 2, ""),
     ];
     for (words, status, lines) in rows {
         let mut input = Plain::new(b"\"\\u{1__0}\"".as_slice());

@@ -1,31 +1,22 @@
-use Rattle.wat_tokens.proofs.OptionLaws.{one_selection}
-use Rattle.wat_tokens.proofs.OutcomeLaws.{run_responds}
+use Rattle.std.proofs.Common.{ap, subst, inl, inr, refl}
+use Rattle.wat_tokens.specs.Options.{Asks, listing}
+use Rattle.wat_tokens.specs.Outcomes.Responded.{listed, unasked}
+use Rattle.wat_tokens.specs.declared.options.Command.{Command}
+use Rattle.wat_tokens.proofs.OptionLaws.{is_listing, list_or_not, one_listing}
 use Rattle.wat_tokens.proofs.outcome.respond.Goals as goal
 
-pub returns-clause-selected : goal.returns-clause-selected
-returns-clause-selected g c = λ settings selected.
-    let same = one_selection c.args.words.now settings c.in-Some.settings selected c.in-Some.ensures.selected in
-    let ran = c.run_list.ensures in
-    let held = g.W.Sink.held in
-    let responded = run_responds held c.args.output.now c.run_list.new.output c.in-Some.settings (g.R.Source.left c.args.input.now) c.run_list.result ran.listed ran.cut ran.unwritten in
-    rw same rw c.of_run.ensures responded
+pub returns-in-Ok-Some : goal.returns-in-Ok-Some
+returns-in-Ok-Some g c =
+    let command = c.in-Ok-Some.command in
+    let asked = rw c.in-Ok-Some.field-0-is at c.in-Ok-Some.ensures.asked in
+    elim (list_or_not command.task) [
+      | inl e ↦ listed command.settings (subst (λ x. Asks c.args.words.now x) (is_listing command e) asked) (c.carry_out.ensures.list e)
+      | inr other ↦
+          let usage = c.carry_out.ensures.other other in
+          unasked (λ settings h. other (let same = one_listing c.args.words.now settings command h asked in ap (λ (x : Command). x.task) same)) usage.0 usage.1 usage.2
+    ]
 
-pub returns-clause-ran : goal.returns-clause-ran
-returns-clause-ran g c = λ settings selected.
-    let same = one_selection c.args.words.now settings c.in-Some.settings selected c.in-Some.ensures.selected in
-    let r = c.run_list.ensures in
-    rw same (record {
-      run = c.run_list.result;
-      outcome_is = c.of_run.ensures;
-      listed = r.listed;
-      cut = r.cut;
-      unwritten = r.unwritten;
-      ended = r.ended;
-      not_utf8_ended = r.not_utf8_ended;
-      write_ended = r.write_ended;
-      read = r.read;
-      write = r.write;
-      short = r.short;
-      too_long = r.too_long;
-      not_utf8 = r.not_utf8;
-    })
+pub returns-in-Ok-None : goal.returns-in-Ok-None
+returns-in-Ok-None g c =
+    let none = rw c.in-Ok-None.field-0-is at c.in-Ok-None.ensures.asked in
+    unasked (λ settings h. none (listing settings) h) refl refl refl

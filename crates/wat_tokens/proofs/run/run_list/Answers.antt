@@ -1,4 +1,5 @@
 use Rattle.std.proofs.Common.{rules, inr}
+use Rattle.wat_tokens.specs.Lists.{Lists}
 use Rattle.wat_tokens.proofs.InputLaws.{lines_cut, whole_is_short, past_known, no_text_known}
 use Rattle.wat_tokens.proofs.run.run_list.Goals as goal
 
@@ -17,7 +18,7 @@ returns-then-is_err-clause-not_utf8 g c = no_text_known _ _ c.in_ok-bytes.ensure
 pub returns-then-is_err-clause-cut : goal.returns-then-is_err-clause-cut
 returns-then-is_err-clause-cut g c =
     let listed = rw c.deref.ensures.value at c.in_ok-lines.ensures.listed in
-    λ _. lines_cut _ _ _ _ _ _ _ _ c.in_ok-bytes.ensures.whole listed (search rules)
+    λ _. lines_cut (Lists c.args.settings) _ _ _ _ _ _ _ c.in_ok-bytes.ensures.whole listed (search rules)
 
 pub returns-then-is_err-clause-short : goal.returns-then-is_err-clause-short
 returns-then-is_err-clause-short g c = inr (whole_is_short c.in_ok-bytes.ensures.whole)

@@ -1,0 +1,19 @@
+-- What a run writes of the bytes that it has read: one of the texts that are printed of them, with the error that is reported. No
+-- part of the standard.
+use Rattle.std.specs.Prelude.{ℕ, List, Option}
+use Rattle.std.specs.Io.KnownBytes.{Appends}
+use Rattle.wat_lex.specs.errors.Errors.{Report}
+use Rattle.wat_tokens.specs.Streams.{AppendsPrefix}
+
+-- Known bytes grow by a text that is printed with this error.
+pub record AppendsText (prints : List ℕ → Option (Option Report) → Type 0) (error : Option (Option Report)) (old new : Option (List ℕ)) : Type 0 where
+  pub text : List ℕ
+  pub printed : prints text error
+  pub appended : Appends old new text
+
+-- Known bytes grow by a prefix of a text that is printed.
+pub record AppendsCut (prints : List ℕ → Option (Option Report) → Type 0) (old new : Option (List ℕ)) : Type 0 where
+  pub text : List ℕ
+  pub error : Option (Option Report)
+  pub printed : prints text error
+  pub appended : AppendsPrefix old new text
