@@ -3,7 +3,7 @@ use Rattle.std.proofs.Common.{◌≡◌, ◌∙◌, ◌+◌, ◌<◌, ℕ, zero,
 use Rattle.std.specs.Prelude.{String, string_bytes}
 use Rattle.std.specs.declared.alloc.Global.{Global}
 use Rattle.std.proofs.lemmas.List.{take_more}
-use Rattle.wat_lexer_parser.specs.declared.parser.replay.Call.{Call}
+use Rattle.wat_lexer_parser.specs.declared.parser.calls.Call.{Call}
 use Rattle.wat_tokens.specs.Calls.{SpellsCall, SpellsNoCall}
 use Rattle.wat_tokens.specs.Options.{SpellsCalls}
 

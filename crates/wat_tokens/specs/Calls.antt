@@ -1,8 +1,8 @@
 -- The words of the command line that stand for calls of a parser. No part of the standard.
 use Rattle.std.specs.Prelude.{◌≡◌, ◌⊎◌, ◌≤◌, ◌++◌, ℕ, List, length, codes, string_bytes}
 use Rattle.std.specs.Str.Parse.{IsNumeral, digits_value}
-use Rattle.wat_lexer_parser.specs.declared.parser.replay.Call.{Call}
-use Rattle.wat_lexer_parser.specs.declared.parser.replay.Call.TheVariants.{Look, Take, Comment, Register, Unregister, Parens}
+use Rattle.wat_lexer_parser.specs.declared.parser.calls.Call.{Call}
+use Rattle.wat_lexer_parser.specs.declared.parser.calls.Call.TheVariants.{Look, Take, Comment, Register, Unregister, Parens}
 
 -- one to nine decimal digits
 pub record IsCount (digits : List ℕ) : Type 0 where

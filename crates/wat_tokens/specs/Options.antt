@@ -3,7 +3,7 @@ use Rattle.std.specs.Prelude.{◌≡◌, ◌+◌, ◌||◌, ℕ, Bool, ⊤, List
 use Rattle.std.specs.Str.{bytes_eq}
 use Rattle.std.specs.declared.alloc.Global.{Global}
 use Rattle.wat_lex.specs.declared.lexer.settings.Settings.{Settings}
-use Rattle.wat_lexer_parser.specs.declared.parser.replay.Call.{Call}
+use Rattle.wat_lexer_parser.specs.declared.parser.calls.Call.{Call}
 use Rattle.wat_tokens.specs.Calls.{SpellsCall}
 use Rattle.wat_tokens.specs.declared.options.Command.{Command}
 use Rattle.wat_tokens.specs.declared.options.Task.{Task}

@@ -4,8 +4,8 @@ use Rattle.std.specs.Fmt.{decimal}
 use Rattle.wat_lex.specs.errors.Messages.{message}
 use Rattle.wat_lexer_parser.specs.declared.parser.fault.FaultKind.{FaultKind}
 use Rattle.wat_lexer_parser.specs.declared.parser.fault.FaultKind.TheVariants.{Lex, Unclosed}
-use Rattle.wat_lexer_parser.specs.declared.parser.replay.Reply.{Reply}
-use Rattle.wat_lexer_parser.specs.declared.parser.replay.Reply.TheVariants.{Token, End, Fault, Comment, Done, Absent, NotOpen, NotClosed, TooOften}
+use Rattle.wat_lexer_parser.specs.declared.parser.calls.Reply.{Reply}
+use Rattle.wat_lexer_parser.specs.declared.parser.calls.Reply.TheVariants.{Token, End, Fault, Comment, Done, Absent, NotOpen, NotClosed, TooOften}
 use Rattle.wat_tokens.specs.Lists.{line}
 
 abbrev pub fault_message : FaultKind → List ℕ

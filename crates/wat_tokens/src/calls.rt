@@ -5,7 +5,7 @@ ghost use Rattle.std.specs.Str.Parse.{digits_value};
 ghost use Rattle.wat_tokens.specs.Calls.{IsCount, SpellsCall, SpellsNoCall, HasName};
 
 use std::alloc::{AllocError, Global};
-use wat_lexer_parser::parser::replay::Call;
+use wat_lexer_parser::parser::Call;
 
 /// How many digits the longest count has.
 const MOST_DIGITS: usize = 9;

@@ -4,7 +4,7 @@ ghost use Rattle.std.specs.List.{prefix_len};
 ghost use Rattle.std.specs.declared.alloc.Global.{Global};
 ghost use Rattle.std.specs.declared.string.String.{String};
 ghost use Rattle.wat_lex.specs.declared.lexer.settings.Settings.{Settings};
-ghost use Rattle.wat_lexer_parser.specs.declared.parser.replay.Call.{Call};
+ghost use Rattle.wat_lexer_parser.specs.declared.parser.calls.Call.{Call};
 ghost use Rattle.wat_tokens.specs.declared.options.Command.{Command};
 ghost use Rattle.wat_tokens.specs.declared.options.Task.{Task};
 ghost use Rattle.wat_tokens.specs.Options.{occurrences, is_option, Selects, BeginsWith};
@@ -13,7 +13,7 @@ ghost use Rattle.wat_tokens.specs.Options.{SpellsCalls, AsksTask, Asks, AsksPlay
 use crate::calls::read_call;
 use std::alloc::{AllocError, Global};
 use wat_lex::lexer::Settings;
-use wat_lexer_parser::parser::replay::Call;
+use wat_lexer_parser::parser::Call;
 
 /// What to write of a text.
 #[derive(Drop)]

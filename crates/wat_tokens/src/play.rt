@@ -5,8 +5,7 @@ ghost use Rattle.wat_tokens.specs.Replies.{play_text};
 use crate::list::line_end;
 use std::alloc::{AllocError, Global};
 use std::fmt;
-use wat_lexer_parser::parser::fault::FaultKind;
-use wat_lexer_parser::parser::replay::Reply;
+use wat_lexer_parser::parser::{FaultKind, Reply};
 
 /// What is wrong with what is shown, as its message.
 #[derive(Clone, Copy)]

@@ -17,8 +17,7 @@ use std::test::Fail;
 use wat_lex::error::Error;
 use wat_lex::lexer::{LexError, Token, TokenKind};
 use wat_lex::token::Span;
-use wat_lexer_parser::parser::fault::FaultKind;
-use wat_lexer_parser::parser::replay::Reply;
+use wat_lexer_parser::parser::{FaultKind, Reply};
 
 const OFF: Settings = Settings {
     allow: false,
