@@ -4,3 +4,4 @@ pub mod Annotations
 pub mod Looks
 pub mod Steps
 pub mod SomethingShown
+pub mod Marks

@@ -4,6 +4,7 @@ ghost use Rattle.wat_lexer_parser.specs.calls.CallLaws.{LooksAndRefusals};
 ghost use Rattle.wat_lexer_parser.specs.shown.ShownLaws.{TailsAreRaw, GroupIsOne};
 ghost use Rattle.wat_lexer_parser.specs.shown.ShownLaws.{SomethingShown, OneThingShown};
 ghost use Rattle.wat_lexer_parser.specs.shown.ShownLaws.{SomethingIsAllShown, AllShownIsOne};
+ghost use Rattle.wat_lexer_parser.specs.shown.ShownLaws.{ShownIsTaken, MarksEndInFaults};
 
 /// The raw tokens from a place on are the tail of the raw tokens.
 pub fn tails()
@@ -23,6 +24,16 @@ pub fn shown()
     wat_lex::laws::names();
     wat_lex::laws::tokens();
 }
+
+/// A token that is shown at a place stands right before the place behind it, which is further on.
+pub fn taken()
+    ensures { ShownIsTaken }
+{}
+
+/// Where the raw tokens end in a parenthesis with `@` directly behind it, a fault follows.
+pub fn marks()
+    ensures { MarksEndInFaults }
+{}
 
 /// From each place of a text tokens are shown one after another, and then the end or a fault: these
 /// tokens are one list, and what follows them is one thing.

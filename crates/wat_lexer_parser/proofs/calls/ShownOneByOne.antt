@@ -25,7 +25,7 @@ pub shown_up_to_more : SomethingShown → (s : Source) (n : Names) (p : ℕ) (us
 unfolding shown
 shown_up_to_more some s n p us t q u h e m =
     let k = from_token s.tokens (shown_in s.setting.text s.ending n Showing (drop p s.tokens)) t q e in
-    let b = behind_place s.tokens p k.0 (behind_in s.setting.text s.ending n Showing (drop p s.tokens) t k.0 k.1) in
+    let b = behind_place t s.tokens p k.0 (behind_in s.setting.text s.ending n Showing (drop p s.tokens) t k.0 k.1) in
     let r : k.0 ≡ drop q s.tokens = b.tail ∙ ap (λ y. drop y s.tokens) k.2 in
     record {
       inside = omega (arith, b.inside, k.2);

@@ -1,6 +1,6 @@
 -- WebAssembly specification, text format, lexical format: annotations. The laws of what is shown: the cases leave nothing out, for every
 -- text of UTF-8 and its raw tokens, and no choice, for any tokens.
-use Rattle.std.specs.Prelude.{◌≡◌, ◌≤◌, ℕ, List, Option, length, drop}
+use Rattle.std.specs.Prelude.{◌≡◌, ◌≢◌, ◌≤◌, ◌<◌, ◌+◌, ◌-◌, ℕ, List, [], ◌∷◌, ◌++◌, Option, Some, None, Ok, length, drop, slice_get}
 use Rattle.std.specs.Str.{IsUtf8}
 use Rattle.wat_lex.specs.tokens.Setting.{Setting}
 use Rattle.wat_lex.specs.tokens.Tiling.{MaximalTiling}
@@ -12,8 +12,8 @@ use Rattle.wat_lexer_parser.specs.names.RegisteredNames.{Names}
 use Rattle.wat_lexer_parser.specs.places.Places.{offset_at}
 use Rattle.wat_lexer_parser.specs.places.Source.{Source, IsRead}
 use Rattle.wat_lexer_parser.specs.shown.AllShown.{AllShown}
-use Rattle.wat_lexer_parser.specs.shown.Shown.{Finding, Shown}
-use Rattle.wat_lexer_parser.specs.shown.Showing.{Showing, shown_in}
+use Rattle.wat_lexer_parser.specs.shown.Shown.{Finding, Shown, IsMarked}
+use Rattle.wat_lexer_parser.specs.shown.Showing.{Showing, shown_in, shown}
 
 -- the raw tokens from a place on are the tail of the raw tokens
 abbrev pub TailsAreRaw : Type 0
@@ -38,3 +38,11 @@ SomethingIsAllShown = (s : Source) (names : Names) (p : ℕ) → IsUtf8 s.settin
 -- and no others
 abbrev pub AllShownIsOne : Type 0
 AllShownIsOne = (text : List ℕ) (e : Option LexFault) (names : Names) (ts us vs : List Token) (f g : Option Fault) → AllShown text e names ts us f → AllShown text e names ts vs g → (us ≡ vs) × (f ≡ g)
+
+-- A token that is shown at a place is one of the tokens from there on, and the place behind it is where it ends.
+abbrev pub ShownIsTaken : Type 0
+ShownIsTaken = (s : Source) (p : ℕ) (names : Names) (t : Token) (q : ℕ) → shown s p names ≡ Ok (Some (t, q)) → (p < q) × (q ≤ length s.tokens) × (slice_get s.tokens (q - 1) ≡ Some t) × (offset_at s.tokens q ≡ t.offset + t.len)
+
+-- where the last token is a parenthesis with `@` directly behind it, a fault of the text follows
+abbrev pub MarksEndInFaults : Type 0
+MarksEndInFaults = (s : Source) (ts : List Token) (t : Token) → IsRead s → s.tokens ≡ ts ++ (t ∷ []) → IsMarked s.setting.text t → s.ending ≢ None
