@@ -4,6 +4,8 @@
 
 pub mod laws;
 pub mod parser;
+#[cfg(test)]
+mod tests;
 pub mod token;
 
 pub use wat_lex::error::Error;
