@@ -22,6 +22,8 @@ mod names;
 mod peek;
 mod reading;
 mod table;
+#[cfg(test)]
+mod tests;
 
 use crate::parser::fault::Fault;
 use crate::parser::names::{Names, RegisterError};
@@ -217,6 +219,7 @@ impl<'a> Parser<'a> {
     pub fn register_annotation(&mut self, name: &str) -> Result<(), Error>
         ensures value { Answers true (λ _. self.new) (registered self.old name.now) result }
         ensures refused { OnErr result (self.new ≡ self.old) }
+        ensures kept { self.new ≡ record self.old { names = self.new.names } }
         ensures undo { OnOk result (fewer self.new.names name.now ≡ self.old.names) }
         ensures there { OnOk result (0 < count self.new.names name.now) }
     {

@@ -7,8 +7,9 @@ use wat_lex::lexer::{Token, TokenKind};
 
 mod calls;
 mod closures;
-//mod deep;
+mod deep;
 mod looks;
+mod memory;
 mod shown;
 mod takers;
 

@@ -26,7 +26,10 @@ fn peeks_at_parentheses(rt: HostRuntime) -> Result<(), Fail> {
         assert_eq!(rt; got.as_str(), want, "{text}");
         assert_eq!(rt; parser.prev_span().offset(), 0);
     }
-    assert_eq!(rt; (LParen::display(), RParen::display()), ("left paren", "right paren"));
+    assert_eq!(rt;
+        (LParen::display(), RParen::display()),
+        ("left paren", "right paren")
+    );
     Ok(())
 }
 

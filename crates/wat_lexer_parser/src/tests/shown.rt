@@ -8,7 +8,7 @@ use wat_lex::error::Error;
 use wat_lex::lexer::{LexError, LexFault, Lexer, Token};
 
 /// Takes the token that is shown; None at the end.
-fn take(parser: &mut Parser<'_>) -> Result<Option<Token>, Error> {
+pub fn take(parser: &mut Parser<'_>) -> Result<Option<Token>, Error> {
     parser.step(|cursor| match cursor.any()? {
         Some((token, next)) => Ok((Some(token), next)),
         None => Ok((None, cursor)),
@@ -29,6 +29,17 @@ fn shown(alloc: Global, parser: &mut Parser<'_>, most: usize) -> Result<String, 
         }
     }
     Err("no end")?
+}
+
+/// Whether this is shown of a text, where a name is registered or none.
+fn shows(rt: &impl Abort, alloc: Global, text: &str, name: &str, want: &str) -> Result<bool, Fail> {
+    let buffer = buffer(rt, alloc, text)?;
+    let mut parser = buffer.parser();
+    if !name.is_empty() {
+        parser.register_annotation(name)?;
+    }
+    let got = shown(alloc, &mut parser, 9)?;
+    Ok(got.as_str() == want)
 }
 
 #[test]
@@ -60,13 +71,7 @@ fn tokens_that_are_shown(rt: HostRuntime) -> Result<(), Fail> {
         ),
     ];
     for (text, name, want) in rows {
-        let buffer = buffer(&rt, rt.alloc(), text)?;
-        let mut parser = buffer.parser();
-        if name != "" {
-            parser.register_annotation(name)?;
-        }
-        let got = shown(rt.alloc(), &mut parser, 9)?;
-        assert_eq!(rt; got.as_str(), want, "{text} {name}");
+        assert!(rt; shows(&rt, rt.alloc(), text, name, want)?);
     }
     Ok(())
 }

