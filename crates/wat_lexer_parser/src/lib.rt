@@ -1,4 +1,5 @@
-//! The parser layer of the WebAssembly text formats: a buffer of raw tokens, and a parser that shows those that count. White space,
+//! The parser layer of the WebAssembly text formats: a buffer of raw tokens, and a parser that
+//! shows those that count. White space,
 //! comments and annotations that are not registered are passed over.
 #![tactic(auto)]
 

@@ -279,7 +279,7 @@ impl<'a> Parser<'a> {
     }
 
     /// Takes `(`.
-    #[tactic(auto, using(crate::proofs::parser::Refusals::refusal), unfolding(crate::specs::parser::Closures::opened))]
+    #[tactic(auto, using(crate::proofs::parser::Refusals::refusal,), unfolding(crate::specs::parser::Closures::opened))]
     fn open(&mut self) -> Result<(), Error>
         ensures ok { OnOk result
             (opened self.old.source self.old.place self.old.names ≡ Ok self.new.place) }
@@ -301,7 +301,7 @@ impl<'a> Parser<'a> {
     }
 
     /// Takes `)`.
-    #[tactic(auto, using(crate::proofs::parser::Refusals::refusal), unfolding(crate::specs::parser::Closures::closed))]
+    #[tactic(auto, using(crate::proofs::parser::Refusals::refusal,), unfolding(crate::specs::parser::Closures::closed))]
     fn close(&mut self) -> Result<(), Error>
         ensures ok { OnOk result
             (closed self.old.source self.old.place self.old.names ≡ Ok self.new.place) }

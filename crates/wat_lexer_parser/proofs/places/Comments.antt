@@ -50,3 +50,7 @@ comment_found s p q t e f g =
 
 pub comment_other : (s : Source) (p q : ℕ) (t : Token) → past_space (drop p s.tokens) ≡ drop q s.tokens → slice_get s.tokens q ≡ Some t → is_comment t.kind ≡ false → comment_at s p ≡ Ok None
 comment_other s p q t e f g = comment_front s p q t false e f g
+
+pub ruleset spaces = (past_none, past_one, past_other)
+
+pub ruleset comments = (comment_none, comment_found, comment_other)

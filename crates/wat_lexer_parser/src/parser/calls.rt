@@ -2,7 +2,8 @@
 ghost use Rattle.std.specs.Prelude.{◌≡◌, ◌≤◌, ◌<◌, length, IfOk, OnOk, OnErr};
 ghost use Rattle.std.specs.Prelude.{Ok, Err};
 ghost use Rattle.wat_lexer_parser.specs.calls.CallLaws.{NothingElse, AfterSome};
-ghost use Rattle.wat_lexer_parser.specs.calls.Calls.{answer, register, unregister, replies, state_after};
+ghost use Rattle.wat_lexer_parser.specs.calls.Calls.{answer, register, unregister, replies};
+ghost use Rattle.wat_lexer_parser.specs.calls.Calls.{state_after};
 ghost use Rattle.wat_lexer_parser.specs.calls.Calls.{fault_reply, shown_reply, comment_reply};
 ghost use Rattle.wat_lexer_parser.specs.calls.Calls.{place_after, takes, close_reply, group_reply};
 ghost use Rattle.wat_lexer_parser.specs.places.Places.{comment_at};
@@ -135,7 +136,8 @@ impl<'a> Parser<'a> {
         }
     }
 
-    /// The reply to taking a group of up to so many tokens, and the place behind it, or the parser's
+    /// The reply to taking a group of up to so many tokens, and the place behind it, or the
+    /// parser's
     /// own where it is no such group.
     #[tactic(auto, unfolding(crate::specs::calls::Calls::group_reply))]
     fn group(&self, count: usize) -> (Reply, usize)

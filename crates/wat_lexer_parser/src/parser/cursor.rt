@@ -1,5 +1,6 @@
 //! A cursor over what a parser shows.
-ghost use Rattle.std.specs.Prelude.{◌≡◌, ◌⊎◌, ◌≤◌, ◌<◌, ℕ, IfOk, IfSome, length, false, Option, Some, Ok};
+ghost use Rattle.std.specs.Prelude.{◌≡◌, ◌⊎◌, ◌≤◌, ◌<◌, ℕ, IfOk, IfSome, length, false, Option};
+ghost use Rattle.std.specs.Prelude.{Some, Ok};
 ghost use Rattle.std.specs.Cow.{cow_str_bytes, cow_slice_items};
 ghost use Rattle.std.specs.Option.{option_map};
 ghost use Rattle.wat_lex.specs.errors.Errors.{IsUnlessMemory};
@@ -55,7 +56,8 @@ impl<'p, 'a> Cursor<'p, 'a> {
     /// What is shown here, with the place behind it.
     #[tactic(auto, unfolding(crate::specs::parser::State::seen))]
     fn look(self) -> Result<Option<(Token, usize)>, Error>
-        ensures value { Answers false (λ found. found) (seen_from self.entry.parser.now self.entry.at) result }
+        ensures value { Answers false (λ found. found) (seen_from self.entry.parser.now
+            self.entry.at) result }
         ensures on { IfOk result (λ found. IfSome found (λ v.
             (self.entry.at < v.1) × (v.1 ≤ length self.entry.parser.now.source.tokens))) }
         ensures reader { IfOk result (λ found. IfSome found (λ v.
@@ -71,7 +73,8 @@ impl<'p, 'a> Cursor<'p, 'a> {
     /// The current span: that of the token that is shown, the text's length at the end, or the
     /// place itself where a fault is shown.
     pub fn cur_span(&self) -> Span
-        ensures { result ≡ current_span self.now.parser.now.source self.now.at self.now.parser.now.names }
+        ensures { result ≡ current_span self.now.parser.now.source self.now.at
+            self.now.parser.now.names }
     {
         let parser = self.parser;
         parser.span_from(self.at)
@@ -79,7 +82,8 @@ impl<'p, 'a> Cursor<'p, 'a> {
 
     /// An error at the current span.
     pub fn error(&self, message: &str) -> Error
-        ensures { IsUnlessMemory result (report_here self.now.parser.now.source self.now.at self.now.parser.now.names message.now) }
+        ensures { IsUnlessMemory result (report_here self.now.parser.now.source self.now.at
+            self.now.parser.now.names message.now) }
     {
         let parser = self.parser;
         parser.reading().error_at(self.cur_span(), message)
@@ -87,7 +91,8 @@ impl<'p, 'a> Cursor<'p, 'a> {
 
     /// The token that is shown, or None at the end, or the error of the fault that is shown.
     pub fn token(&self) -> Result<Option<Token>, Error>
-        ensures value { Answers false (λ t. t) (token_of (seen_from self.now.parser.now self.now.at)) result }
+        ensures value { Answers false (λ t. t) (token_of (seen_from self.now.parser.now
+            self.now.at)) result }
         ensures reader { IfOk result (λ found. IfSome found (
             IsTokenOf self.now.parser.now.source.setting.text)) }
     {
@@ -100,7 +105,8 @@ impl<'p, 'a> Cursor<'p, 'a> {
 
     /// Takes the token that is shown, whatever its kind.
     pub fn any(self) -> Result<Option<(Token, Self)>, Error>
-        ensures value { Answers false (option_map (λ v. (v.0, v.1.at))) (seen_from self.entry.parser.now self.entry.at) result }
+        ensures value { Answers false (option_map (λ v. (v.0, v.1.at))) (seen_from
+            self.entry.parser.now self.entry.at) result }
         ensures parser { IfOk result (λ found. IfSome found (λ v. v.1.parser ≡ self.entry.parser)) }
         ensures on { IfOk result (λ found. IfSome found (λ v. self.entry.at < v.1.at)) }
         ensures reader { IfOk result (λ found. IfSome found (λ v.
@@ -248,7 +254,8 @@ impl<'p, 'a> Cursor<'p, 'a> {
 
     /// Takes an identifier, and answers its name, without the `$`.
     pub fn id(self) -> Result<Option<(CowStr<'a>, Self)>, Error>
-        ensures value { Answers (may_take name_takes self.entry.parser.now self.entry.at) (option_map (λ v. (cow_str_bytes v.0, v.1.at)))
+        ensures value { Answers (may_take name_takes self.entry.parser.now self.entry.at)
+            (option_map (λ v. (cow_str_bytes v.0, v.1.at)))
             (taken_from as_id self.entry.parser.now self.entry.at) result }
         ensures parser { IfOk result (λ found. IfSome found (λ v.
             v.1.parser ≡ self.entry.parser)) }
@@ -289,7 +296,8 @@ impl<'p, 'a> Cursor<'p, 'a> {
 
     /// Takes an annotation, and answers its name, without the `@`.
     pub fn annotation(self) -> Result<Option<(CowStr<'a>, Self)>, Error>
-        ensures value { Answers (may_take name_takes self.entry.parser.now self.entry.at) (option_map (λ v. (cow_str_bytes v.0, v.1.at)))
+        ensures value { Answers (may_take name_takes self.entry.parser.now self.entry.at)
+            (option_map (λ v. (cow_str_bytes v.0, v.1.at)))
             (taken_from as_annotation self.entry.parser.now self.entry.at) result }
         ensures parser { IfOk result (λ found. IfSome found (λ v.
             v.1.parser ≡ self.entry.parser)) }
@@ -330,7 +338,8 @@ impl<'p, 'a> Cursor<'p, 'a> {
 
     /// Takes an integer.
     pub fn integer(self) -> Result<Option<(Integer<'a>, Self)>, Error>
-        ensures value { Answers (may_take number_takes self.entry.parser.now self.entry.at) (option_map (λ v. (tt, v.1.at)))
+        ensures value { Answers (may_take number_takes self.entry.parser.now self.entry.at)
+            (option_map (λ v. (tt, v.1.at)))
             (taken_from as_integer self.entry.parser.now self.entry.at) result }
         ensures word { (t : Token) (q : ℕ) (k : IntegerKind) →
             seen_from self.entry.parser.now self.entry.at ≡ Ok (Some (t, q)) →
@@ -356,7 +365,8 @@ impl<'p, 'a> Cursor<'p, 'a> {
 
     /// Takes a floating-point number.
     pub fn float(self) -> Result<Option<(Float<'a>, Self)>, Error>
-        ensures value { Answers (may_take number_takes self.entry.parser.now self.entry.at) (option_map (λ v. (tt, v.1.at)))
+        ensures value { Answers (may_take number_takes self.entry.parser.now self.entry.at)
+            (option_map (λ v. (tt, v.1.at)))
             (taken_from as_float self.entry.parser.now self.entry.at) result }
         ensures word { (t : Token) (q : ℕ) (k : FloatKind) →
             seen_from self.entry.parser.now self.entry.at ≡ Ok (Some (t, q)) →
@@ -381,7 +391,8 @@ impl<'p, 'a> Cursor<'p, 'a> {
 
     /// Takes a string, and answers its value.
     pub fn string(self) -> Result<Option<(CowSlice<'a, u8>, Self)>, Error>
-        ensures value { Answers (may_take string_takes self.entry.parser.now self.entry.at) (option_map (λ v. (cow_slice_items v.0, v.1.at)))
+        ensures value { Answers (may_take string_takes self.entry.parser.now self.entry.at)
+            (option_map (λ v. (cow_slice_items v.0, v.1.at)))
             (taken_from as_string self.entry.parser.now self.entry.at) result }
         ensures parser { IfOk result (λ found. IfSome found (λ v.
             v.1.parser ≡ self.entry.parser)) }

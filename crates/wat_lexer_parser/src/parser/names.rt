@@ -1,5 +1,6 @@
 //! The registered names.
-ghost use Rattle.std.specs.Prelude.{◌≡◌, ◌<◌, ◌+◌, ◌-◌, ◌^◌, IsSome, OnOk, OnErr, IsTrue, ◌↔◌, Some, is_some, IfErr, cond, nat_eq};
+ghost use Rattle.std.specs.Prelude.{◌≡◌, ◌<◌, ◌+◌, ◌-◌, ◌^◌, IsSome, OnOk, OnErr, IsTrue, ◌↔◌};
+ghost use Rattle.std.specs.Prelude.{Some, is_some, IfErr, cond, nat_eq};
 ghost use Rattle.std.specs.FinMap as map;
 ghost use Rattle.std.specs.String.{string_cmp, string_bytes};
 ghost use Rattle.std.specs.BTreeMap.{UpdatesBy, get_by_text};
@@ -7,7 +8,8 @@ ghost use Rattle.std.specs.Cmp.Lexicographic.{slice_cmp};
 ghost use Rattle.std.specs.Ordering.{nat_cmp};
 ghost use Rattle.std.specs.Result.{IsErrOf};
 ghost use Rattle.wat_lexer_parser.specs.names.RegisteredNames.{Names as Counts};
-ghost use Rattle.wat_lexer_parser.specs.names.RegisteredNames.{count, fewer, is_registered, IsPositive};
+ghost use Rattle.wat_lexer_parser.specs.names.RegisteredNames.{count, fewer, is_registered};
+ghost use Rattle.wat_lexer_parser.specs.names.RegisteredNames.{IsPositive};
 
 use std::alloc::{AllocError, AllocFailed, Global};
 use std::collections::BTreeMap;
@@ -66,7 +68,8 @@ impl From<AllocError> for RegisterError {
 /// Sets the count of a name that is there.
 fn set_count(counts: &mut BTreeMap<String, usize>, name: &str, count: usize)
     requires { IsSome (get_by_text counts.old name.now) }
-    ensures { UpdatesBy string_cmp (λ k. slice_cmp nat_cmp name.now (string_bytes k)) counts.old counts.new (Some count) }
+    ensures { UpdatesBy string_cmp (λ k. slice_cmp nat_cmp name.now (string_bytes k)) counts.old
+        counts.new (Some count) }
 {
     if let Some(slot) = counts.get_mut(name) {
         *slot = count;
@@ -105,7 +108,8 @@ impl Names {
     }
 
     pub fn register(&mut self, alloc: Global, name: &str) -> Result<(), RegisterError>
-        ensures ok { OnOk result (self.new ≡ map.insert self.old name.now (count self.old name.now + 1)) }
+        ensures ok { OnOk result (self.new ≡ map.insert self.old name.now (count self.old name.now
+            + 1)) }
         ensures err { OnErr result (self.new ≡ self.old) }
         ensures there { OnOk result (0 < count self.new name.now) }
         ensures undo { OnOk result (fewer self.new name.now ≡ self.old) }

@@ -1,5 +1,6 @@
 //! A text and its table, as parsers read them.
-ghost use Rattle.std.specs.Prelude.{◌≡◌, ◌<◌, ◌≤◌, ◌^◌, ◌+◌, false, length, drop, map, not, Some, slice_get};
+ghost use Rattle.std.specs.Prelude.{◌≡◌, ◌<◌, ◌≤◌, ◌^◌, ◌+◌, false, length, drop, map, not, Some};
+ghost use Rattle.std.specs.Prelude.{slice_get};
 ghost use Rattle.std.specs.List.{list_any};
 ghost use Rattle.std.specs.Prelude.{IfOk, IfErr, IfSome};
 ghost use Rattle.std.specs.Str.{IsUtf8};
@@ -337,7 +338,7 @@ impl<'a> Reading<'a> {
     }
 
     /// The place behind the whitespace token at a place, if one is there.
-    #[tactic(auto, using(crate::proofs::places::Comments::past_none, crate::proofs::places::Comments::past_one, crate::proofs::places::Comments::past_other))]
+    #[tactic(auto, using(crate::proofs::places::Comments::spaces))]
     fn past_space(&self, place: usize) -> usize
         requires { place ≤ length self.now.tokens }
         ensures past { past_space (drop place self.now.tokens) ≡ drop result self.now.tokens }
@@ -351,7 +352,7 @@ impl<'a> Reading<'a> {
     }
 
     /// The comment at a place, with the place behind it. It takes no memory.
-    #[tactic(auto, using(crate::proofs::places::Comments::comment_none, crate::proofs::places::Comments::comment_found, crate::proofs::places::Comments::comment_other))]
+    #[tactic(auto, using(crate::proofs::places::Comments::comments))]
     pub fn comment_at(&self, place: usize) -> Result<Option<(Token, usize)>, Fault>
         requires { place ≤ length self.now.tokens }
         ensures value { result ≡ comment_at self.now place }
