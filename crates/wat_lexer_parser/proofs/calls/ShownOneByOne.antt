@@ -1,4 +1,4 @@
--- Finding tokens, taken one by one from the first place.
+-- Shown tokens, taken one by one from the first place.
 use Rattle.std.proofs.Common.{◌≡◌, ℕ, ◌≤◌, List, [], ◌∷◌, ◌++◌, sym, ap, ◌∙◌, subst, length, drop, append_assoc, arith, Some, None, Ok, Err}
 use Rattle.std.specs.Prelude.{Option}
 use Rattle.std.specs.Str.{IsUtf8}
