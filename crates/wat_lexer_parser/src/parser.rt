@@ -1,5 +1,5 @@
 //! The parser.
-ghost use Rattle.std.specs.Prelude.{◌≡◌, ◌≤◌, ◌<◌, ◌+◌, true, false, length, Ok, Err};
+ghost use Rattle.std.specs.Prelude.{◌≡◌, ◌≤◌, ◌<◌, ◌+◌, false, not, length, Ok};
 ghost use Rattle.std.specs.Prelude.{IfOk, IfErr, IfSome, OnOk, OnErr};
 ghost use Rattle.wat_lex.specs.tokens.ReadableTokens.{IsTokenOf};
 ghost use Rattle.wat_lex.specs.errors.Errors.{IsUnlessMemory};
@@ -215,9 +215,11 @@ impl<'a> Parser<'a> {
         self.names.is_registered(name)
     }
 
-    /// Registers a name once more: annotations of it are shown. A refusal leaves all as it was.
+    /// Registers a name once more: annotations of it are shown. A refusal leaves all as it was. Of a
+    /// name that is registered already it takes no memory but for a report.
     pub fn register_annotation(&mut self, name: &str) -> Result<(), Error>
-        ensures value { Answers true (λ _. self.new) (registered self.old name.now) result }
+        ensures value { Answers (not (is_registered self.old.names name.now)) (λ _. self.new)
+            (registered self.old name.now) result }
         ensures refused { OnErr result (self.new ≡ self.old) }
         ensures kept { self.new ≡ record self.old { names = self.new.names } }
         ensures undo { OnOk result (fewer self.new.names name.now ≡ self.old.names) }

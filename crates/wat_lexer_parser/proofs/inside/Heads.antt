@@ -10,7 +10,7 @@ use Rattle.wat_lex.specs.declared.lexer.faults.LexError.TheVariants.{EmptyAnnota
 use Rattle.wat_lex.specs.declared.lexer.kinds.TokenKind.{TokenKind}
 use Rattle.wat_lex.specs.declared.lexer.kinds.TokenKind.TheVariants.{LineComment, BlockComment, Whitespace, LParen, RParen, String, Id, Keyword, Annotation, Reserved, Integer, Float}
 use Rattle.wat_lex.specs.declared.lexer.kinds.Token.{Token}
-use Rattle.wat_lexer_parser.specs.inside.Table.{NameOrFault, HeadAt, Sorted, Headed, Started, Noted, Readable, block, is_head, is_annotation}
+use Rattle.wat_lexer_parser.specs.inside.Table.{NameOrFault, HeadAt, Headed, Started, Noted, Readable, block, is_head, is_annotation}
 use Rattle.wat_lexer_parser.specs.groups.Sorts.{is_open}
 
 pub slice_left : {A : Type 0} (ts us : List A) (i : ℕ) (t : A) → slice_get ts i ≡ Some t → slice_get (ts ++ us) i ≡ Some t

@@ -1,5 +1,5 @@
 -- Refusals.
-use Rattle.std.proofs.Common.{◌≡◌, Err, Some, None, subst, sym, ap}
+use Rattle.std.proofs.Common.{◌≡◌, Err, subst, sym}
 use Rattle.std.specs.Prelude.{Option, Result}
 use Rattle.wat_lex.specs.errors.Errors.{Report, IsUnlessMemory}
 use Rattle.wat_lexer_parser.specs.parser.State.{IsRefusal}

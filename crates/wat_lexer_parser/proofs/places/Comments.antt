@@ -1,13 +1,13 @@
 -- The comment at a place, read from the tokens there.
-use Rattle.std.proofs.Common.{◌≡◌, ◌+◌, ◌-◌, ◌<◌, ◌≤◌, ℕ, zero, suc, Bool, true, false, List, [], ◌∷◌, length, drop, refl, sym, ap, ◌∙◌, arith, Some, None, Ok, length-drop}
-use Rattle.std.specs.Prelude.{Option, slice_get, if◌then◌else◌}
+use Rattle.std.proofs.Common.{◌≡◌, ◌+◌, ◌-◌, ℕ, zero, suc, Bool, true, false, List, [], ◌∷◌, length, drop, refl, sym, ap, ◌∙◌, arith, Some, None, Ok, length-drop}
+use Rattle.std.specs.Prelude.{slice_get, if◌then◌else◌}
 use Rattle.std.proofs.lemmas.List.{drop_more}
 use Rattle.std.proofs.lemmas.Option.{slice_get_within, get_or_from_slice_get}
 use Rattle.wat_lex.specs.declared.lexer.kinds.Token.{Token}
 use Rattle.wat_lexer_parser.specs.groups.Sorts.{is_space, is_comment}
 use Rattle.wat_lexer_parser.specs.places.Places.{past_space, comment_in, comment_at}
 use Rattle.wat_lexer_parser.specs.places.Source.{Source}
-use Rattle.wat_lexer_parser.specs.shown.Shown.{Finding, ended}
+use Rattle.wat_lexer_parser.specs.shown.Shown.{ended}
 use Rattle.wat_lexer_parser.specs.shown.Showing.{placed}
 
 drop_some : (ts : List Token) (p : ℕ) (t : Token) → slice_get ts p ≡ Some t → drop p ts ≡ t ∷ drop (p + 1) ts

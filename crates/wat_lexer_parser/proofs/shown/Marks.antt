@@ -1,9 +1,9 @@
 -- Behind a parenthesis with `@` a token or a fault follows.
 use lib.Utf8.{encode}
-use Rattle.std.proofs.Common.{◌≡◌, ◌≢◌, ℕ, ◌+◌, List, [], ◌∷◌, ◌++◌, sym, ap, ◌∙◌, subst, length, arith, Some, None}
-use Rattle.std.specs.Prelude.{Option, IsTrue, slice_get}
+use Rattle.std.proofs.Common.{◌≡◌, ℕ, ◌+◌, List, [], ◌∷◌, ◌++◌, ap, ◌∙◌, subst, length, arith, Some, None}
+use Rattle.std.specs.Prelude.{Option, IsTrue}
 use Rattle.std.proofs.lemmas.Option.{slice_get_past}
-use Rattle.wat_lex.specs.grammar.Classes.{size, open_paren}
+use Rattle.wat_lex.specs.grammar.Classes.{size}
 use Rattle.wat_lex.specs.grammar.Words.{Word}
 use Rattle.wat_lex.specs.tokens.Setting.{Setting}
 use Rattle.wat_lex.specs.tokens.Tiling.{TokenAt, Tiling, EndsAt}
@@ -11,8 +11,6 @@ use Rattle.wat_lex.specs.declared.lexer.faults.LexFault.{LexFault}
 use Rattle.wat_lex.specs.declared.lexer.kinds.Token.{Token}
 use Rattle.wat_lex.specs.declared.lexer.kinds.TokenKind.TheVariants.{LParen}
 use Rattle.wat_lexer_parser.specs.groups.Sorts.{is_mark}
-use Rattle.wat_lexer_parser.specs.places.Source.{Source}
-use Rattle.wat_lexer_parser.specs.shown.Shown.{IsMarked}
 use Rattle.wat_lexer_parser.specs.shown.ShownLaws.{MarksEndInFaults}
 
 -- the last token of a tiling ends where the tiling does

@@ -7,7 +7,7 @@ use Rattle.wat_lex.specs.values.UniqueValues.{SomeName, good, fault}
 use Rattle.wat_lex.specs.tokens.ReadableTokens.{IsTokenOf, word_of}
 use Rattle.wat_lex.specs.tokens.EverySetting.{NamesAreThere, NamesAreValues, TokensAreReadable, TokensEndAtBoundaries, WordsOfTokens}
 use Rattle.wat_lex.specs.tokens.Setting.{Setting, lenient}
-use Rattle.wat_lex.specs.tokens.Tiling.{Tiling, TokenAt}
+use Rattle.wat_lex.specs.tokens.Tiling.{Tiling}
 use Rattle.wat_lex.specs.grammar.Words.{Word}
 use Rattle.wat_lex.specs.declared.lexer.faults.LexError.TheVariants.{EmptyAnnotation}
 use Rattle.wat_lex.specs.declared.lexer.faults.LexFault.{LexFault}

@@ -1,5 +1,5 @@
 -- What a parser replies to calls, and where they leave it: the fold of a list of calls. No part of the standard.
-use Rattle.std.specs.Prelude.{ℕ, zero, suc, Bool, true, false, List, [], ◌∷◌, nat_eq, if◌then◌else◌, Some, None, Result, Ok, Err, string_bytes}
+use Rattle.std.specs.Prelude.{ℕ, zero, suc, List, [], ◌∷◌, nat_eq, if◌then◌else◌, Some, None, Result, Ok, Err, string_bytes}
 use Rattle.wat_lexer_parser.specs.declared.parser.fault.Fault.{Fault}
 use Rattle.wat_lexer_parser.specs.declared.parser.calls.Call.{Call}
 use Rattle.wat_lexer_parser.specs.declared.parser.calls.Call.TheVariants as call

@@ -1,5 +1,5 @@
 -- What a parser is to its callers, and what a call answers. No part of the standard.
-use Rattle.std.specs.Prelude.{ℕ, ◌≤◌, List, length, Bool, ◌≡◌, ◌||◌, is_err, IsTrue, codes, if◌then◌else◌, nat_lt, nat_eq, Option, Some, None, Result, Ok, Err}
+use Rattle.std.specs.Prelude.{ℕ, ◌≤◌, ◌<◌, ◌^◌, List, length, Bool, ◌≡◌, ◌||◌, is_err, IsTrue, codes, if◌then◌else◌, nat_lt, nat_eq, Option, Some, None, Result, Ok, Err}
 use Rattle.wat_lex.specs.errors.Errors.{Report, Custom, lexical, report_in, IsUnlessMemory}
 use Rattle.wat_lex.specs.declared.lexer.kinds.Token.{Token}
 use Rattle.wat_lexer_parser.specs.declared.parser.fault.Fault.{Fault}
@@ -17,10 +17,12 @@ pub record State : Type 0 where
   pub names : Names
   pub depth : ℕ
 
--- The place is one of its raw tokens' ends or 0, no more groups are open than tokens were passed, and no count is 0.
+-- The tokens are those of the text, and their number fits a machine word; the place is among them; no more groups are open than tokens
+-- were passed; and no count is 0.
 pub record IsSound (a : State) : Type 0 where
   pub read : IsRead a.source
   pub within : a.place ≤ length a.source.tokens
+  pub small : length a.source.tokens < 2 ^ 63
   pub deep : a.depth ≤ a.place
   pub counts : IsPositive a.names
 

@@ -1,6 +1,6 @@
 -- WebAssembly specification, text format, lexical format: white space, comments, annotations. All that is shown, one token after
 -- another, and then the end or a fault.
-use Rattle.std.specs.Prelude.{ℕ, List, [], ◌∷◌, Option, Some, None, Result, Ok, Err}
+use Rattle.std.specs.Prelude.{ℕ, List, [], ◌∷◌, Option, Some, None, Ok, Err}
 use Rattle.wat_lex.specs.declared.lexer.faults.LexFault.{LexFault}
 use Rattle.wat_lex.specs.declared.lexer.kinds.Token.{Token}
 use Rattle.wat_lexer_parser.specs.declared.parser.fault.Fault.{Fault}

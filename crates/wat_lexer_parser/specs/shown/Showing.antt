@@ -1,6 +1,6 @@
 -- WebAssembly specification, text format, lexical format: white space, comments, annotations. What `Shown` says, as a function of
 -- the raw tokens.
-use Rattle.std.specs.Prelude.{ℕ, zero, suc, List, [], ◌∷◌, ◌+◌, ◌-◌, if◌then◌else◌, length, drop, Option, Some, None, Result, Ok, Err}
+use Rattle.std.specs.Prelude.{ℕ, zero, suc, List, [], ◌∷◌, ◌-◌, if◌then◌else◌, length, drop, Option, Some, None, Result, Ok, Err}
 use Rattle.wat_lex.specs.tokens.ReadableTokens.{word_of}
 use Rattle.wat_lex.specs.values.WordValues.{name_value}
 use Rattle.wat_lex.specs.declared.lexer.faults.LexError.{LexError}

@@ -1,6 +1,6 @@
 //! The registered names.
 ghost use Rattle.std.specs.Prelude.{◌≡◌, ◌<◌, ◌+◌, ◌-◌, ◌^◌, IsSome, OnOk, OnErr, IsTrue, ◌↔◌};
-ghost use Rattle.std.specs.Prelude.{Some, is_some, IfErr, cond, nat_eq};
+ghost use Rattle.std.specs.Prelude.{Some, is_some, IfErr, cond, nat_eq, false};
 ghost use Rattle.std.specs.FinMap as map;
 ghost use Rattle.std.specs.String.{string_cmp, string_bytes};
 ghost use Rattle.std.specs.BTreeMap.{UpdatesBy, get_by_text};
@@ -114,6 +114,8 @@ impl Names {
         ensures there { OnOk result (0 < count self.new name.now) }
         ensures undo { OnOk result (fewer self.new name.now ≡ self.old) }
         ensures often { IsErrOf result RegisterError.TooOften ↔ count self.old name.now ≡ usize.MAX }
+        ensures free { IsErrOf result RegisterError.OutOfMemory →
+            is_registered self.old name.now ≡ false }
     {
         let count = self.count(name);
         if count == usize::MAX {

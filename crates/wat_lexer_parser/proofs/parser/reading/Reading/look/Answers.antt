@@ -1,4 +1,4 @@
-use Rattle.std.proofs.Common.{drop, ◌≡◌, ◌≤◌, ◌<◌, ◌+◌, ◌∙◌, sym, ap, subst, arith, rules, get_or, length, Some, None}
+use Rattle.std.proofs.Common.{drop, ◌≡◌, ◌≤◌, ◌<◌, ◌+◌, ◌∙◌, sym, subst, arith, rules, get_or, length, Some, None}
 use Rattle.std.specs.Prelude.{slice_get}
 use Rattle.wat_lexer_parser.specs.declared.parser.fault.Step.TheVariants.{Pass, Take, Finish, Refuse, Skip}
 use Rattle.wat_lexer_parser.specs.inside.Table.{Pair}

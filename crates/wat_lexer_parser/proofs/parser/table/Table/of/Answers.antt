@@ -1,4 +1,4 @@
-use Rattle.std.proofs.Common.{◌≡◌, ◌∙◌, map, rules, subst, sym}
+use Rattle.std.proofs.Common.{◌≡◌, map, rules, subst, sym}
 use Rattle.wat_lexer_parser.specs.inside.TableNames.{name_view}
 use Rattle.wat_lexer_parser.specs.inside.Table.{Opening, Noted}
 use Rattle.wat_lexer_parser.proofs.inside.Filling.{opening_from}
