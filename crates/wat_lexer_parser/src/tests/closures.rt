@@ -1,4 +1,6 @@
 //! Calls with closures: what they answer, and what they leave where they refuse.
+ghost use Rattle.std.specs.Prelude.{◌≡◌};
+
 use super::buffer;
 use crate::parser::Parser;
 use std::alloc::Global;
@@ -9,7 +11,9 @@ use wat_lex::lexer::Float;
 use wat_lex::token::Span;
 
 /// Takes a keyword.
-fn keyword<'a>(parser: &mut Parser<'a>) -> Result<&'a str, Error> {
+fn keyword<'a>(parser: &mut Parser<'a>) -> Result<&'a str, Error>
+    ensures { parser.new ≡ record parser.old { place = parser.new.place } }
+{
     parser.step(|cursor| match cursor.keyword()? {
         Some(found) => Ok(found),
         None => Err(cursor.error("expected a keyword")),
@@ -75,6 +79,27 @@ fn a_refused_step_leaves_the_place(rt: HostRuntime) -> Result<(), Fail> {
     Ok(())
 }
 
+/// Takes a group of a keyword and a group of a keyword.
+fn two_groups(parser: &mut Parser<'_>) -> Result<(), Error> {
+    parser.parens(|parser| -> Result<(), Error> {
+        keyword(parser)?;
+        parser.parens(|parser| -> Result<(), Error> {
+            keyword(parser)?;
+            Ok(())
+        })
+    })
+}
+
+#[test]
+fn groups_are_taken_whole(rt: HostRuntime) -> Result<(), Fail> {
+    let buffer = buffer(&rt, rt.alloc(), "(@a b) (x (y)) z")?;
+    let mut parser = buffer.parser();
+    two_groups(&mut parser)?;
+    assert_eq!(rt; stand(&parser), (14, 0));
+    assert_eq!(rt; keyword(&mut parser)?, "z");
+    Ok(())
+}
+
 /// Takes three groups, each in the one before, which are empty.
 fn three_groups(parser: &mut Parser<'_>) -> Result<(), Error> {
     parser.parens(|parser| {
@@ -104,6 +129,26 @@ fn refused_groups_put_place_and_depth_back(rt: HostRuntime) -> Result<(), Fail> 
         assert_eq!(rt; got.as_str(), want, "{text}");
         assert_eq!(rt; stand(&parser), (0, 0), "{text}");
     }
+    Ok(())
+}
+
+/// Registers a name inside of a group, and refuses the group.
+fn refused_group(parser: &mut Parser<'_>) -> Result<(), Error> {
+    parser.parens(|parser| -> Result<(), Error> {
+        parser.register_annotation("a")?;
+        keyword(parser)?;
+        Err(parser.error("no group"))
+    })
+}
+
+#[test]
+fn names_of_a_refused_group_stay(rt: HostRuntime) -> Result<(), Fail> {
+    let buffer = buffer(&rt, rt.alloc(), "(x (@a))")?;
+    let mut parser = buffer.parser();
+    let got = refusal(rt.alloc(), refused_group(&mut parser))?;
+    assert_eq!(rt; got.as_str(), "no group at 3");
+    assert_eq!(rt; stand(&parser), (0, 0));
+    assert!(rt; parser.is_registered("a") && !parser.is_registered("b"));
     Ok(())
 }
 
