@@ -15,6 +15,9 @@ use std::alloc::{AllocError, AllocFailed, Global};
 use std::collections::BTreeMap;
 use std::marker::Model;
 
+#[cfg(test)]
+mod tests;
+
 #[derive(Drop)]
 pub struct Names {
     counts: BTreeMap<String, usize>,
@@ -107,6 +110,15 @@ impl Names {
         self.count(name) > 0
     }
 
+    /// Sets the count of a name that is registered.
+    fn set(&mut self, name: &str, times: usize)
+        requires there { 0 < count self.old name.now }
+        requires some { 0 < times }
+        ensures { self.new ≡ map.insert self.old name.now times }
+    {
+        set_count(&mut self.counts, name, times);
+    }
+
     pub fn register(&mut self, alloc: Global, name: &str) -> Result<(), RegisterError>
         ensures ok { OnOk result (self.new ≡ map.insert self.old name.now (count self.old name.now
             + 1)) }
@@ -122,7 +134,7 @@ impl Names {
             return Err(RegisterError::TooOften);
         }
         if count > 0 {
-            set_count(&mut self.counts, name, count + 1);
+            self.set(name, count + 1);
         } else {
             let key = String::from_str(alloc, name)?;
             self.counts.insert(key, count + 1)?;
@@ -136,7 +148,7 @@ impl Names {
     {
         let count = self.count(name);
         if count > 1 {
-            set_count(&mut self.counts, name, count - 1);
+            self.set(name, count - 1);
         } else {
             self.counts.remove(name);
         }

@@ -5,13 +5,10 @@ use Rattle.wat_lexer_parser.specs.inside.MapEntries.{names_of}
 use Rattle.wat_lexer_parser.specs.names.RegisteredNames.{IsPositive, count, fewer}
 use Rattle.wat_lexer_parser.proofs.names.MapsOfTexts.{is_there, set-count, positive-insert, undo, counted}
 use Rattle.wat_lexer_parser.proofs.parser.names.Names.register.Goals as goal
-use Rattle.wat_lexer_parser.proofs.parser.names.Names.register.Goals.{After-set_count, In_ok-insert}
+use Rattle.wat_lexer_parser.proofs.parser.names.Names.register.Goals.{In_ok-insert, After-set}
 
-pub set_count-requires : goal.set_count-requires
-set_count-requires c = is_there c.self.inside.counts c.args.self.now c.args.name.now c.self.view_is (subst (λ k. 0 < k) c.count-count.ensures c.if-count-gt0.true)
-
-is_set : (c : After-set_count) → names_of c.set_count.new.counts.entries ≡ map.insert c.args.self.now c.args.name.now (count c.args.self.now c.args.name.now + 1)
-is_set c = set-count c.self.inside.counts c.set_count.new.counts c.args.self.now c.args.name.now (c.count-count.result + 1) c.self.view_is c.set_count.ensures ∙ ap (λ k. map.insert c.args.self.now c.args.name.now (k + 1)) c.count-count.ensures
+is_set : (c : After-set) → c.set.new.self ≡ map.insert c.args.self.now c.args.name.now (count c.args.self.now c.args.name.now + 1)
+is_set c = c.set.ensures ∙ ap (λ k. map.insert c.args.self.now c.args.name.now (k + 1)) c.count-count.ensures
 
 is_inserted : (c : In_ok-insert) → names_of c.insert.new.self.entries ≡ map.insert c.args.self.now c.args.name.now (count c.args.self.now c.args.name.now + 1)
 is_inserted c =
@@ -20,26 +17,20 @@ is_inserted c =
     ∙ ap (λ x. map.insert c.args.self.now x (c.count-count.result + 1)) key_is_name
     ∙ ap (λ k. map.insert c.args.self.now c.args.name.now (k + 1)) c.count-count.ensures
 
-pub returns-then-count-gt0-clause-ok : goal.returns-then-count-gt0-clause-ok
-returns-then-count-gt0-clause-ok c = is_set (goal.at.returns-then-count-gt0-clause-ok c).After-set_count
-
 pub returns-in_ok-insert-clause-ok : goal.returns-in_ok-insert-clause-ok
 returns-in_ok-insert-clause-ok c = is_inserted (goal.at.returns-in_ok-insert-clause-ok c).In_ok-insert
 
 pub invariant_of-self : goal.invariant_of-self
-invariant_of-self c = subst IsPositive (sym (is_set (goal.at.invariant_of-self c).After-set_count)) (positive-insert c.args.self.now c.args.name.now (count c.args.self.now c.args.name.now + 1) (omega arith) (subst IsPositive c.self.view_is c.self.invariant))
-
-pub invariant_of-self-in_ok-insert : goal.invariant_of-self-in_ok-insert
-invariant_of-self-in_ok-insert c = subst IsPositive (sym (is_inserted (goal.at.invariant_of-self-in_ok-insert c).In_ok-insert)) (positive-insert c.args.self.now c.args.name.now (count c.args.self.now c.args.name.now + 1) (omega arith) (subst IsPositive c.self.view_is c.self.invariant))
-
-pub returns-then-count-gt0-clause-undo : goal.returns-then-count-gt0-clause-undo
-returns-then-count-gt0-clause-undo c = ap (λ n. fewer n c.args.name.now) (is_set (goal.at.returns-then-count-gt0-clause-undo c).After-set_count) ∙ undo c.args.self.now c.args.name.now (subst IsPositive c.self.view_is c.self.invariant)
+invariant_of-self c = subst IsPositive (sym (is_inserted (goal.at.invariant_of-self c).In_ok-insert)) (positive-insert c.args.self.now c.args.name.now (count c.args.self.now c.args.name.now + 1) (omega arith) (subst IsPositive c.self.view_is c.self.invariant))
 
 pub returns-in_ok-insert-clause-undo : goal.returns-in_ok-insert-clause-undo
 returns-in_ok-insert-clause-undo c = ap (λ n. fewer n c.args.name.now) (is_inserted (goal.at.returns-in_ok-insert-clause-undo c).In_ok-insert) ∙ undo c.args.self.now c.args.name.now (subst IsPositive c.self.view_is c.self.invariant)
 
-pub returns-then-count-gt0-clause-there : goal.returns-then-count-gt0-clause-there
-returns-then-count-gt0-clause-there c = subst (λ n. 0 < count n c.args.name.now) (sym (is_set (goal.at.returns-then-count-gt0-clause-there c).After-set_count)) (counted c.args.self.now c.args.name.now (count c.args.self.now c.args.name.now + 1) (omega arith))
-
 pub returns-in_ok-insert-clause-there : goal.returns-in_ok-insert-clause-there
 returns-in_ok-insert-clause-there c = subst (λ n. 0 < count n c.args.name.now) (sym (is_inserted (goal.at.returns-in_ok-insert-clause-there c).In_ok-insert)) (counted c.args.self.now c.args.name.now (count c.args.self.now c.args.name.now + 1) (omega arith))
+
+pub returns-then-count-gt0-clause-undo : goal.returns-then-count-gt0-clause-undo
+returns-then-count-gt0-clause-undo c = ap (λ n. fewer n c.args.name.now) (is_set (goal.at.returns-then-count-gt0-clause-undo c).After-set) ∙ undo c.args.self.now c.args.name.now (subst IsPositive c.self.view_is c.self.invariant)
+
+pub returns-then-count-gt0-clause-there : goal.returns-then-count-gt0-clause-there
+returns-then-count-gt0-clause-there c = subst (λ n. 0 < count n c.args.name.now) (sym (is_set (goal.at.returns-then-count-gt0-clause-there c).After-set)) (counted c.args.self.now c.args.name.now (count c.args.self.now c.args.name.now + 1) (omega arith))

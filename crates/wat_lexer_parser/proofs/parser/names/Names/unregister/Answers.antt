@@ -4,19 +4,8 @@ use Rattle.wat_lexer_parser.specs.names.RegisteredNames.{IsPositive}
 use Rattle.wat_lexer_parser.proofs.names.MapsOfTexts.{is_there, taken-many, taken-last, set-count, names-removed, positive-insert, positive-remove}
 use Rattle.wat_lexer_parser.proofs.parser.names.Names.unregister.Goals as goal
 
-pub set_count-requires : goal.set_count-requires
-set_count-requires c = is_there c.self.inside.counts c.args.self.now c.args.name.now c.self.view_is c.requires
-
-pub returns-then-count-gt1 : goal.returns-then-count-gt1
-returns-then-count-gt1 c = taken-many c.self.inside.counts c.set_count.new.counts c.args.self.now c.args.name.now c.count-count.result c.self.view_is c.count-count.ensures c.if-count-gt1.true c.set_count.ensures
-
 pub returns-else-count-gt1 : goal.returns-else-count-gt1
 returns-else-count-gt1 c = taken-last c.self.inside.counts c.remove.new.self c.args.self.now c.args.name.now c.count-count.result c.self.view_is c.count-count.ensures c.if-count-gt1.false c.remove.ensures.updates
 
 pub invariant_of-self : goal.invariant_of-self
-invariant_of-self c =
-    let more : 1 < c.count-count.result = c.if-count-gt1.true in
-    subst IsPositive (sym (set-count c.self.inside.counts c.set_count.new.counts c.args.self.now c.args.name.now (c.count-count.result - 1) c.self.view_is c.set_count.ensures)) (positive-insert c.args.self.now c.args.name.now (c.count-count.result - 1) (omega arith) (subst IsPositive c.self.view_is c.self.invariant))
-
-pub invariant_of-self-else-count-gt1 : goal.invariant_of-self-else-count-gt1
-invariant_of-self-else-count-gt1 c = subst IsPositive (sym (names-removed c.self.inside.counts c.remove.new.self c.args.name.now c.remove.ensures.updates)) (positive-remove (names_of c.self.inside.counts.entries) c.args.name.now c.self.invariant)
+invariant_of-self c = subst IsPositive (sym (names-removed c.self.inside.counts c.remove.new.self c.args.name.now c.remove.ensures.updates)) (positive-remove (names_of c.self.inside.counts.entries) c.args.name.now c.self.invariant)
