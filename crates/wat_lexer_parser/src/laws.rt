@@ -4,6 +4,7 @@ ghost use Rattle.wat_lexer_parser.specs.calls.CallLaws.{LooksAndRefusals};
 ghost use Rattle.wat_lexer_parser.specs.shown.ShownLaws.{TailsAreRaw, GroupIsOne};
 ghost use Rattle.wat_lexer_parser.specs.shown.ShownLaws.{SomethingShown, OneThingShown};
 ghost use Rattle.wat_lexer_parser.specs.shown.ShownLaws.{SomethingIsAllShown, AllShownIsOne};
+ghost use Rattle.wat_lexer_parser.specs.shown.ShownLaws.{LooksAreAllShown};
 ghost use Rattle.wat_lexer_parser.specs.shown.ShownLaws.{ShownIsTaken, MarksEndInFaults};
 
 /// The raw tokens from a place on are the tail of the raw tokens.
@@ -36,10 +37,11 @@ pub fn marks()
 {}
 
 /// From each place of a text tokens are shown one after another, and then the end or a fault: these
-/// tokens are one list, and what follows them is one thing.
+/// tokens are one list, and what follows them is one thing. Looks give them one by one.
 pub fn all_shown()
     ensures all_some { SomethingIsAllShown }
     ensures all_one { AllShownIsOne }
+    ensures looks { LooksAreAllShown }
 {
     shown();
 }

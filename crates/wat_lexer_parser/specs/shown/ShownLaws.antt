@@ -1,6 +1,6 @@
 -- WebAssembly specification, text format, lexical format: annotations. The laws of what is shown: the cases leave nothing out, for every
 -- text of UTF-8 and its raw tokens, and no choice, for any tokens.
-use Rattle.std.specs.Prelude.{◌≡◌, ◌≢◌, ◌≤◌, ◌<◌, ◌+◌, ◌-◌, ℕ, List, [], ◌∷◌, ◌++◌, Option, Some, None, Ok, length, drop, slice_get}
+use Rattle.std.specs.Prelude.{◌≡◌, ◌≢◌, ◌≤◌, ◌<◌, ◌+◌, ◌-◌, ℕ, List, [], ◌∷◌, ◌++◌, Option, Some, None, Ok, Err, length, drop, slice_get}
 use Rattle.std.specs.Str.{IsUtf8}
 use Rattle.wat_lex.specs.tokens.Setting.{Setting}
 use Rattle.wat_lex.specs.tokens.Tiling.{MaximalTiling}
@@ -38,6 +38,13 @@ SomethingIsAllShown = (s : Source) (names : Names) (p : ℕ) → IsUtf8 s.settin
 -- and no others
 abbrev pub AllShownIsOne : Type 0
 AllShownIsOne = (text : List ℕ) (e : Option LexFault) (names : Names) (ts us vs : List Token) (f g : Option Fault) → AllShown text e names ts us f → AllShown text e names ts vs g → (us ≡ vs) × (f ≡ g)
+
+-- what a look at a place shows, and then all that is shown from the place behind it
+pub record LooksAreAllShown : Type 0 where
+  pub token : (s : Source) (names : Names) (p q : ℕ) (t : Token) (us : List Token) (e : Option Fault) → IsUtf8 s.setting.text → IsRead s → shown s p names ≡ Ok (Some (t, q))
+      → AllShown s.setting.text s.ending names (drop q s.tokens) us e → AllShown s.setting.text s.ending names (drop p s.tokens) (t ∷ us) e
+  pub end : (s : Source) (names : Names) (p : ℕ) → IsUtf8 s.setting.text → IsRead s → shown s p names ≡ Ok None → AllShown s.setting.text s.ending names (drop p s.tokens) [] None
+  pub fault : (s : Source) (names : Names) (p : ℕ) (f : Fault) → IsUtf8 s.setting.text → IsRead s → shown s p names ≡ Err f → AllShown s.setting.text s.ending names (drop p s.tokens) [] (Some f)
 
 -- A token that is shown at a place is one of the tokens from there on, and the place behind it is where it ends.
 abbrev pub ShownIsTaken : Type 0

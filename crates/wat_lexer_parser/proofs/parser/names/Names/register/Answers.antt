@@ -3,7 +3,7 @@ use Rattle.std.specs.FinMap as map
 use Rattle.std.proofs.lemmas.Result.{IfOk-at_ok}
 use Rattle.wat_lexer_parser.specs.inside.MapEntries.{names_of}
 use Rattle.wat_lexer_parser.specs.names.RegisteredNames.{IsPositive, count, fewer}
-use Rattle.wat_lexer_parser.proofs.names.MapsOfTexts.{is_there, set-count, positive-insert, undo, counted}
+use Rattle.wat_lexer_parser.proofs.names.MapsOfTexts.{set-count, positive-insert, undo, counted}
 use Rattle.wat_lexer_parser.proofs.parser.names.Names.register.Goals as goal
 use Rattle.wat_lexer_parser.proofs.parser.names.Names.register.Goals.{In_ok-insert, After-set}
 

@@ -1,7 +1,7 @@
-use Rattle.std.proofs.Common.{◌<◌, ◌-◌, arith, subst, sym}
+use Rattle.std.proofs.Common.{subst, sym}
 use Rattle.wat_lexer_parser.specs.inside.MapEntries.{names_of}
 use Rattle.wat_lexer_parser.specs.names.RegisteredNames.{IsPositive}
-use Rattle.wat_lexer_parser.proofs.names.MapsOfTexts.{is_there, taken-many, taken-last, set-count, names-removed, positive-insert, positive-remove}
+use Rattle.wat_lexer_parser.proofs.names.MapsOfTexts.{taken-last, names-removed, positive-remove}
 use Rattle.wat_lexer_parser.proofs.parser.names.Names.unregister.Goals as goal
 
 pub returns-else-count-gt1 : goal.returns-else-count-gt1
