@@ -39,7 +39,7 @@ use wat_lex::error::Error;
 use wat_lex::lexer::Token;
 use wat_lex::token::Span;
 
-/// A parser over a reading.
+/// A parser over a buffer: a place in its text, and the names of annotations that are registered.
 #[derive(Drop)]
 pub struct Parser<'a> {
     reading: Reading<'a>,
@@ -281,7 +281,7 @@ impl<'a> Parser<'a> {
     }
 
     /// Takes `(`.
-    #[tactic(auto, using(crate::proofs::parser::Refusals::refusal,), unfolding(crate::specs::parser::Closures::opened))]
+    #[tactic(auto, using(crate::proofs::parser::Refusals::refusal), unfolding(crate::specs::parser::Closures::opened))]
     fn open(&mut self) -> Result<(), Error>
         ensures ok { OnOk result
             (opened self.old.source self.old.place self.old.names ≡ Ok self.new.place) }
@@ -303,7 +303,7 @@ impl<'a> Parser<'a> {
     }
 
     /// Takes `)`.
-    #[tactic(auto, using(crate::proofs::parser::Refusals::refusal,), unfolding(crate::specs::parser::Closures::closed))]
+    #[tactic(auto, using(crate::proofs::parser::Refusals::refusal), unfolding(crate::specs::parser::Closures::closed))]
     fn close(&mut self) -> Result<(), Error>
         ensures ok { OnOk result
             (closed self.old.source self.old.place self.old.names ≡ Ok self.new.place) }

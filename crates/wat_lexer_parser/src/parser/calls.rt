@@ -9,6 +9,7 @@ ghost use Rattle.wat_lexer_parser.specs.calls.Calls.{place_after, takes, close_r
 ghost use Rattle.wat_lexer_parser.specs.places.Places.{comment_at};
 ghost use Rattle.wat_lexer_parser.specs.shown.Showing.{shown};
 
+use crate::laws;
 use crate::parser::Parser;
 use crate::parser::fault::{Fault, FaultKind};
 use crate::parser::names::RegisterError;
@@ -137,8 +138,7 @@ impl<'a> Parser<'a> {
     }
 
     /// The reply to taking a group of up to so many tokens, and the place behind it, or the
-    /// parser's
-    /// own where it is no such group.
+    /// parser's own where it is no such group.
     #[tactic(auto, unfolding(crate::specs::calls::Calls::group_reply))]
     fn group(&self, count: usize) -> (Reply, usize)
         ensures value { result ≡
@@ -225,7 +225,9 @@ pub fn replay<'a>(
     ensures replies { IfOk result (λ made. made.items ≡ replies parser.old calls.now) }
     ensures state { IfOk result (λ _. parser.new ≡ state_after parser.old calls.now) }
     ensures beginning { OnErr result (AfterSome parser.old calls.now parser.new) }
+    ensures law { NothingElse parser.old calls.now }
 {
+    laws::calls();
     let mut replies = Vec::new(alloc);
     let mut i = 0;
     while i < calls.len() {
