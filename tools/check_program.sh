@@ -66,9 +66,36 @@ expect 'underscores, strict' 1 '' "$underscores_fault" "$program" --strict-under
 expect 'both options' 1 '' "$underscores_fault" "$program" --allow-confusing --strict-underscores < <(printf %s "$underscores")
 expect 'both, the other way' 0 '0..5 LineComment\n' '' "$program" --strict-underscores --allow-confusing < <(printf %s "$confusing")
 
+# the tokens that count
+annotated='(@a (@b) ) (;c;) x'
+expect 'sig' 0 '17..18 Keyword\n' '' "$program" sig < <(printf %s "$annotated")
+expect 'sig, a name' 0 '0..1 LParen\n1..3 Annotation\n9..10 RParen\n17..18 Keyword\n' '' "$program" sig a < <(printf %s "$annotated")
+expect 'sig, names' 0 '0..1 LParen\n1..3 Annotation\n4..5 LParen\n5..7 Annotation\n7..8 RParen\n9..10 RParen\n17..18 Keyword\n' '' \
+    "$program" sig b a b < <(printf %s "$annotated")
+expect 'sig, an empty name' 0 '17..18 Keyword\n' '' "$program" sig '' < <(printf %s "$annotated")
+expect 'sig, not closed' 1 '' 'unclosed annotation at byte offset 1\n' "$program" sig < <(printf '(@a 1')
+expect 'sig, a fault' 1 '0..1 Keyword\n' "$(fault 'unterminated block comment' 2 'x(;' ' ')" "$program" sig < <(printf 'x(;')
+expect 'sig, confusing' 1 '' "$confusing_fault" "$program" sig < <(printf %s "$confusing")
+expect 'sig, confusing, allowed' 0 '' '' "$program" --allow-confusing sig < <(printf %s "$confusing")
+expect 'sig, strict' 1 '' "$underscores_fault" "$program" --strict-underscores sig < <(printf %s "$underscores")
+expect 'sig, no UTF-8' 2 '' 'wat_tokens: input is not UTF-8\n' "$program" sig a < <(printf 'a \377')
+output=/dev/full expect 'sig, no room' 2 '' 'wat_tokens: write failed\n' "$program" sig < <(printf x)
+
+# replies to calls
+expect 'play, no calls' 0 '' '' "$program" play < <(printf '"')
+expect 'play' 0 '0..6 Keyword\n19..20 Keyword\ndone\n7..8 LParen\ndone\n19..20 Keyword\nabsent\n' '' \
+    "$program" play take look reg=name look unreg=name look unreg=name < <(printf 'module (@name "m") x')
+expect 'play, groups' 0 'not closed 3\n0..1 LParen\nnot closed 4\n' '' "$program" play parens=1 look parens=2 < <(printf '(a b')
+expect 'play, comments' 0 'absent\n0..1 Keyword\ncomment 2..5\nend\n' '' "$program" play comment take comment look < <(printf 'x ;;c')
+expect 'play, a fault' 0 'fault 1 empty annotation id\n' '' "$program" play look < <(printf '(@)')
+expect 'play, confusing, allowed' 0 'end\n' '' "$program" --allow-confusing play look < <(printf %s "$confusing")
+expect 'play, strict' 0 'fault 6 bare underscore in numeric literal\n' '' "$program" --strict-underscores play look < <(printf %s "$underscores")
+expect 'play, no UTF-8' 2 '' 'wat_tokens: input is not UTF-8\n' "$program" play look < <(printf 'a \377')
+output=/dev/full expect 'play, no room' 2 '' 'wat_tokens: write failed\n' "$program" play look < <(printf x)
+
 # other words
-for words in --help x sig 'sig f' play 'play look' '--allow-confusing sig' '--allow-confusing --allow-confusing' \
-    '--strict-underscores --strict-underscores' '--allow-confusing --strict-underscores --allow-confusing'; do
+for words in --help x 'play Look' 'play look parens=' 'play parens=1234567890' '--allow-confusing --allow-confusing' \
+    'look' 'sig=a' '--strict-underscores --strict-underscores' '--allow-confusing --strict-underscores --allow-confusing'; do
     # shellcheck disable=SC2086
     expect "the words $words" 2 '' "$usage" "$program" $words < <(printf x)
 done

@@ -6,3 +6,4 @@ mod KnownBytes
 mod Listings
 mod OptionLaws
 mod OutcomeLaws
+mod ShownLaws

@@ -1,41 +1,24 @@
--- The lines of a text so far.
-use Rattle.std.proofs.Common.{◌≡◌, ◌+◌, ◌++◌, ℕ, List, [], ◌∷◌, length, refl, ap, sym, ◌∙◌, subst}
-use Rattle.std.specs.Prelude.{Some, None, flat_map}
-use Rattle.std.specs.Str.{IsCharBoundary, IsUtf8}
-use Rattle.std.proofs.lemmas.List.Concat.{flat_map-append}
-use Rattle.std.proofs.lemmas.List.{append-nil}
+-- The raw tokens of a text, and their lines.
+use Rattle.std.proofs.Common.{◌≡◌, ◌+◌, ◌<◌, ◌≤◌, ◌^◌, ℕ, zero, suc, List, [], ◌∷◌, length, subst, arith}
+use Rattle.std.specs.Prelude.{Option, Some, slice_get}
+use Rattle.std.specs.Str.{IsUtf8, IsCharBoundary}
 use Rattle.std.proofs.lemmas.Str.{IsCharBoundary-start}
+use Rattle.wat_lex.specs.tokens.EverySetting.{TokensEndAtBoundaries}
 use Rattle.wat_lex.specs.tokens.Setting.{Setting}
-use Rattle.wat_lex.specs.tokens.Tiling.{TokenAt, Tiling}
-use Rattle.wat_lex.specs.tokens.Faults.{FaultAt}
-use Rattle.wat_lex.specs.declared.lexer.kinds.Token.{Token}
+use Rattle.wat_lex.specs.tokens.Tiling.{Tiling, MaximalTiling}
 use Rattle.wat_lex.specs.declared.lexer.faults.LexFault.{LexFault}
-use Rattle.wat_tokens.specs.Lists.{line, ListText}
+use Rattle.wat_lex.specs.declared.lexer.kinds.Token.{Token}
 
--- the lines of the tokens up to a place
-pub record Listed (s : Setting) (pos : ℕ) (lines : List ℕ) : Type 0 where
-  pub tokens : List Token
-  pub tiling : Tiling s 0 pos tokens
-  pub text : lines ≡ flat_map line tokens
-  pub boundary : IsCharBoundary s.text pos
+-- each token of a tiling ends within the text
+ends_within : TokensEndAtBoundaries → (s : Setting) (p to : ℕ) (ts : List Token) (i : ℕ) (t : Token) → IsUtf8 s.text → IsCharBoundary s.text p → Tiling s p to ts → slice_get ts i ≡ Some t → t.offset + t.len ≤ length s.text
+ends_within ends s p to [] i t u b h e = cc
+ends_within ends s p to (v ∷ ts) zero t u b h e =
+    let k : v ≡ t = cc in
+    subst (λ (x : Token). x.offset + x.len ≤ length s.text) k (ends s p v u b h.0).0
+ends_within ends s p to (v ∷ ts) (suc i) t u b h e = ends_within ends s (v.offset + v.len) to ts i t u (ends s p v u b h.0) h.1 e
 
-tiled_more : (s : Setting) (from to : ℕ) (ts : List Token) (t : Token) → Tiling s from to ts → TokenAt s to t → Tiling s from (t.offset + t.len) (ts ++ t ∷ [])
-tiled_more s from to [] t h k = (subst (λ p. TokenAt s p t) (sym h) k, refl)
-tiled_more s from to (u ∷ ts) t h k = (h.0, tiled_more s (u.offset + u.len) to ts t h.1 k)
-
-pub listed_start : (s : Setting) (lines : List ℕ) → IsUtf8 s.text → lines ≡ [] → Listed s 0 lines
-listed_start s lines u e = record { tokens = []; tiling = refl; text = e; boundary = IsCharBoundary-start s.text u }
-
-pub listed_more : (s : Setting) (pos : ℕ) (lines more : List ℕ) (t : Token) → Listed s pos lines → TokenAt s pos t → more ≡ lines ++ line t → IsCharBoundary s.text (pos + t.len) → Listed s (t.offset + t.len) more
-listed_more s pos lines more t h k e b = record {
-  tokens = h.tokens ++ t ∷ [];
-  tiling = tiled_more s 0 pos h.tokens t h.tiling k;
-  text = e ∙ ap (λ x. x ++ line t) h.text ∙ ap (λ x. flat_map line h.tokens ++ x) (sym (append-nil (line t))) ∙ sym (flat_map-append line h.tokens (t ∷ []));
-  boundary = let o = k.offset in subst (λ p. IsCharBoundary s.text (p + t.len)) (sym o) b;
-}
-
-pub listed_end : (s : Setting) (pos : ℕ) (lines : List ℕ) → Listed s pos lines → pos ≡ length s.text → ListText s lines None
-listed_end s pos lines h e = record { tokens = h.tokens; tiling = record { to = pos; tiling = h.tiling; ends = e }; lines = h.text }
-
-pub listed_fault : (s : Setting) (pos : ℕ) (lines : List ℕ) (f : LexFault) → Listed s pos lines → FaultAt s pos f → ListText s lines (Some f)
-listed_fault s pos lines f h e = record { tokens = h.tokens; tiling = record { to = pos; tiling = h.tiling; ends = e }; lines = h.text }
+-- so in a short text it has small numbers
+pub raw_short : TokensEndAtBoundaries → (s : Setting) (ts : List Token) (ending : Option LexFault) (i : ℕ) (t : Token) → IsUtf8 s.text → length s.text < 2 ^ 32 → MaximalTiling s 0 ts ending → slice_get ts i ≡ Some t → t.offset + t.len < 2 ^ 32
+raw_short ends s ts ending i t u l h e =
+    let within = ends_within ends s 0 h.to ts i t u (IsCharBoundary-start s.text u) h.tiling e in
+    omega (arith, within, l)

@@ -1,5 +1,5 @@
 -- The words ask for one command at most.
-use Rattle.std.proofs.Common.{◌≡◌, ◌≢◌, ◌⊎◌, inl, inr, ◌∙◌, ◌≤◌, ◌+◌, ℕ, suc, sym, ap, refl, subst, Bool, true, false, cond, ◌||◌, eqb, eq-eqb, List, [], ◌∷◌, ◌++◌, length, take, drop, get_or, arith}
+use Rattle.std.proofs.Common.{◌≡◌, ◌∙◌, ◌≤◌, ◌+◌, ℕ, suc, sym, ap, refl, Bool, true, false, cond, ◌||◌, eqb, eq-eqb, List, [], ◌∷◌, ◌++◌, length, take, drop, get_or, arith}
 use Rattle.std.specs.Prelude.{String, string_bytes, codes, count_by}
 use Rattle.std.specs.List.{prefix_len}
 use Rattle.std.specs.Str.{bytes_eq}
@@ -12,7 +12,7 @@ use Rattle.wat_lex.specs.declared.lexer.settings.Settings.{Settings}
 use Rattle.wat_tokens.specs.declared.options.Command.{Command}
 use Rattle.wat_tokens.specs.declared.options.Task.{Task}
 use Rattle.wat_tokens.specs.declared.options.Task.TheVariants as task
-use Rattle.wat_tokens.specs.Options.{Selects, once_if, is_option, BeginsWith, AsksTask, Asks, listing}
+use Rattle.wat_tokens.specs.Options.{Selects, once_if, is_option, BeginsWith, AsksTask, Asks}
 
 once_if-injective : (a b : Bool) → once_if a ≡ once_if b → a ≡ b
 once_if-injective true true e = refl
@@ -94,29 +94,3 @@ options_are words c h = sym (take_at h.options h.rest _ refl) ∙ ap (λ n. take
 
 pub rest_is : (words : List (String Global)) (c : Command) (h : Asks words c) → h.rest ≡ drop (options_in words) words
 rest_is words c h = sym (drop_at h.options h.rest _ refl) ∙ ap (λ n. drop n (h.options ++ h.rest)) (sym (end_is words c h)) ∙ ap (drop (options_in words)) (sym h.cut)
-
-pub is_listing : (c : Command) → c.task ≡ task.List → c ≡ listing c.settings
-is_listing c e =
-    let command : Task → Command = λ t. record { settings = c.settings; task = t } in
-    ap command e
-
--- whether a task is the list
-pub list_or_not : (t : Task) → (t ≡ task.List) ⊎ (t ≢ task.List)
-list_or_not task.List = inl refl
-list_or_not (task.Sig names) = inr (λ e. cc)
-list_or_not (task.Play calls) = inr (λ e. cc)
-
-no_task : (t : Task) → AsksTask [] t → t ≡ task.List
-no_task task.List h = refl
-no_task (task.Sig names) h = let e = h.cut in cc
-no_task (task.Play calls) h = let e = h.1.cut in cc
-
--- words that ask for the list ask for nothing else
-pub one_listing : (words : List (String Global)) (s : Settings) (c : Command) → Asks words (listing s) → Asks words c → c ≡ listing s
-one_listing words s c h k =
-    let options = options_are words (listing s) h ∙ sym (options_are words c k) in
-    let rest = rest_is words c k ∙ sym (rest_is words (listing s) h) ∙ h.asks in
-    let settings = one_selection k.options c.settings s k.selects (subst (λ ws. Selects ws s) options h.selects) in
-    let asked = no_task c.task (subst (λ ws. AsksTask ws c.task) rest k.asks) in
-    let command : Settings → Task → Command = λ x t. record { settings = x; task = t } in
-    ap (λ x. command x c.task) settings ∙ ap (λ t. command s t) asked

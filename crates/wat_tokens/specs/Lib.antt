@@ -6,4 +6,6 @@ pub mod Outcomes
 pub mod Plain
 pub mod Printed
 pub mod Replies
+pub mod Runs
+pub mod Shows
 pub mod Streams

@@ -33,10 +33,6 @@ line t = decimal t.offset ++ codes ".." ++ decimal (t.offset + t.len) ++ codes "
 abbrev pub token_lines : List Token → List ℕ
 token_lines tokens = flat_map line tokens
 
--- what is written of the tokens that are shown
-abbrev pub signature_text : List Token → List ℕ
-signature_text shown = token_lines shown
-
 -- The lines of the raw tokens of a text from its start, and its fault where it has one.
 pub record ListText (s : Setting) (text : List ℕ) (fault : Option LexFault) : Type 0 where
   pub tokens : List Token

@@ -62,7 +62,3 @@ pub record AsksPlay (words : List (String Global)) : Type 0 where
   pub cut : words ≡ options ++ rest
   pub selects : Selects options settings
   pub play : BeginsWith (codes "play") rest calls
-
--- lists the raw tokens
-abbrev pub listing : Settings → Command
-listing s = record { settings = s; task = task.List }

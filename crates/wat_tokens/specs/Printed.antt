@@ -3,7 +3,23 @@
 use Rattle.std.specs.Prelude.{ℕ, List, Option}
 use Rattle.std.specs.Io.KnownBytes.{Appends}
 use Rattle.wat_lex.specs.errors.Errors.{Report}
+use Rattle.wat_lex.specs.declared.lexer.settings.Settings.{Settings}
+use Rattle.wat_tokens.specs.Lists.{Lists}
+use Rattle.wat_tokens.specs.Replies.{Plays}
+use Rattle.wat_tokens.specs.Shows.{Shows}
 use Rattle.wat_tokens.specs.Streams.{AppendsPrefix}
+use Rattle.wat_tokens.specs.declared.print.Printing.{Printing}
+use Rattle.wat_tokens.specs.declared.print.Printing.TheVariants as printing
+
+-- a text is printed of bytes, and an error is answered, if there is one
+abbrev pub Prints : Type 1
+Prints = List ℕ → List ℕ → Option (Option Report) → Type 0
+
+-- what is printed
+abbrev pub prints : Settings → Printing → Prints
+prints s printing.Raw = Lists s
+prints s (printing.Shown names) = Shows s names.now
+prints s (printing.Replies calls) = Plays s calls.now
 
 -- Known bytes grow by a text that is printed with this error.
 pub record AppendsText (prints : List ℕ → Option (Option Report) → Type 0) (error : Option (Option Report)) (old new : Option (List ℕ)) : Type 0 where

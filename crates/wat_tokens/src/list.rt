@@ -1,10 +1,13 @@
 //! The list of a text's raw tokens.
 ghost use Rattle.std.specs.Prelude.{◌≡◌, ◌++◌, ◌+◌, ◌<◌, ◌≤◌, ◌^◌, codes, length, IfOk, OnOk};
-ghost use Rattle.wat_tokens.specs.Lists.{kind_name, line, ListText};
+ghost use Rattle.std.specs.Prelude.{Some, slice_get};
+ghost use Rattle.wat_lexer_parser.specs.places.Source.{IsRead};
+ghost use Rattle.wat_tokens.specs.Lists.{kind_name, line, token_lines, ListText};
 
 use crate::line::Line;
 use std::alloc::{AllocError, Global};
 use wat_lex::lexer::{LexFault, Lexer, Settings, Token, TokenKind};
+use wat_lexer_parser::parser::ParseBuffer;
 
 /// The lines of a text's raw tokens, and its fault where it has one.
 #[derive(Drop)]
@@ -49,16 +52,34 @@ pub(crate) fn push_line(lines: &mut Vec<u8>, token: &Token) -> Result<(), AllocE
     lines.extend_from_slice(line.as_bytes())
 }
 
-/// The lexer over a text with these settings.
-fn lexer_of<'a>(text: &'a str, settings: Settings) -> Lexer<'a>
+/// The buffer of a text that is read with these settings.
+pub(crate) fn buffer_of<'a>(
+    alloc: Global,
+    text: &'a str,
+    settings: Settings,
+) -> Result<ParseBuffer<'a>, AllocError>
     requires { length text.now < 2 ^ 32 }
-    ensures { result ≡ record { text = text.now; flags = settings } }
+    ensures setting { IfOk result (λ b.
+        b.setting ≡ record { text = text.now; flags = settings }) }
+    ensures read { IfOk result IsRead }
 {
     let mut lexer = Lexer::new(text);
     lexer
         .allow_confusing_unicode(settings.allow)
         .strict_underscores(settings.strict);
-    lexer
+    ParseBuffer::new_with_lexer(alloc, lexer).map_err(|_| AllocError)
+}
+
+/// A line for each token.
+fn token_lines(alloc: Global, tokens: &[Token]) -> Result<Vec<u8>, AllocError>
+    requires { (i : _) (t : _) → slice_get tokens.now i ≡ Some t → t.offset + t.len < 2 ^ 32 }
+    ensures { IfOk result (λ lines. lines.items ≡ token_lines tokens.now) }
+{
+    let mut lines = Vec::new(alloc);
+    for token in tokens {
+        push_line(&mut lines, token)?;
+    }
+    Ok(lines)
 }
 
 /// Lists a text of at most `u32::MAX` bytes.
@@ -67,22 +88,10 @@ pub fn list(alloc: Global, text: &str, settings: Settings) -> Result<Listing, Al
     ensures { IfOk result (λ listing.
         ListText (record { text = text.now; flags = settings }) listing.lines.items listing.fault) }
 {
-    let lexer = lexer_of(text, settings);
-    let mut lines = Vec::new(alloc);
-    let mut pos = 0;
-    'tokens: loop {
-        match lexer.scan(pos) {
-            Ok(Some(token)) => {
-                push_line(&mut lines, &token)?;
-                pos = token.offset + token.len as usize;
-            }
-            Ok(None) => return Ok(Listing { lines, fault: None }),
-            Err(fault) => {
-                return Ok(Listing {
-                    lines,
-                    fault: Some(fault),
-                });
-            }
-        }
-    }
+    wat_lex::laws::tokens();
+    let buffer = buffer_of(alloc, text, settings)?;
+    Ok(Listing {
+        lines: token_lines(alloc, buffer.raw())?,
+        fault: buffer.lex_fault(),
+    })
 }

@@ -1,4 +1,5 @@
-//! Lists the raw tokens of a WebAssembly text that comes on standard input.
+//! Lists the raw tokens of a WebAssembly text that comes on standard input, or those that count, or
+//! what a parser replies to calls.
 #![tactic(auto)]
 
 pub mod calls;
@@ -8,7 +9,9 @@ pub mod list;
 pub mod options;
 pub mod outcome;
 pub mod play;
+mod print;
 pub mod run;
+pub mod show;
 #[cfg(test)]
 mod tests;
 
@@ -28,7 +31,7 @@ fn words(rt: &HostRuntime) -> io::Result<Vec<String>> {
     Ok(words)
 }
 
-/// Lists standard input on standard output, as the words ask.
+/// Writes of standard input on standard output what the words ask for.
 fn answer(rt: &HostRuntime) -> Outcome {
     let words = match words(rt) {
         Ok(words) => words,

@@ -1,12 +1,12 @@
 //! What a run of the program ends in.
-ghost use Rattle.std.specs.Prelude.{◌≡◌, ◌≢◌, false, OnOk};
+ghost use Rattle.std.specs.Prelude.{◌≡◌, false, OnOk};
 ghost use Rattle.std.specs.Io.KnownBytes.{Appends};
-ghost use Rattle.wat_tokens.specs.Outcomes.{outcome_of, refusal, report, status, Ran, Responded};
-ghost use Rattle.wat_tokens.specs.Lists.{Lists};
+ghost use Rattle.wat_tokens.specs.Outcomes.{outcome_of, refusal, report, status, task_prints};
+ghost use Rattle.wat_tokens.specs.Outcomes.{Ran, Responded};
 
 use crate::ends::{Sink, Source};
 use crate::options::{Command, Task, command_of};
-use crate::run::{RunError, run_list};
+use crate::run::{RunError, run_list, run_play, run_sig};
 use std::alloc::Global;
 use std::io;
 use wat_lex::error::Error;
@@ -49,17 +49,19 @@ fn carry_out<R: Source, W: Sink>(
 ) -> Outcome
     requires input { R.has_failed input.old ≡ false }
     requires output { W.has_failed output.old ≡ false }
-    ensures list { command.entry.task ≡ Task.List →
-        Ran R.left R.has_failed R.has_ended W.held W.has_failed (Lists command.entry.settings)
+    ensures { Ran R.left R.has_failed R.has_ended W.held W.has_failed
+        (task_prints command.entry.settings command.entry.task)
         input.old input.new output.old output.new result }
-    ensures other { command.entry.task ≢ Task.List →
-        (result ≡ Outcome.Usage) × (input.new ≡ input.old) × (output.new ≡ output.old) }
 {
     let Command { settings, task } = command;
-    let Task::List = task else {
-        return Outcome::Usage;
-    };
-    Outcome::of_run(run_list(alloc, input, output, settings))
+    match task {
+        Task::List => Outcome::of_run(run_list(alloc, input, output, settings)),
+        Task::Sig(names) => Outcome::of_run(run_sig(alloc, input, output, settings, names)),
+        Task::Play(calls) => match run_play(alloc, input, output, settings, &calls) {
+            Ok(()) => Outcome::Listed,
+            Err(error) => Outcome::Refused(error),
+        },
+    }
 }
 
 /// Writes of the input on the output what the words ask for.
@@ -82,7 +84,7 @@ pub fn respond<R: Source, W: Sink>(
 }
 
 impl Outcome {
-    /// What listing the input ended in.
+    /// What a run ended in.
     pub fn of_run(run: Result<Option<Error>, RunError>) -> Outcome
         ensures { result ≡ outcome_of run }
     {

@@ -1,11 +1,12 @@
 //! The lines of a parser's replies.
-ghost use Rattle.std.specs.Prelude.{◌≡◌, ◌+◌, IfOk};
-ghost use Rattle.wat_tokens.specs.Replies.{play_text};
+ghost use Rattle.std.specs.Prelude.{◌≡◌, ◌<◌, ◌+◌, ◌^◌, length, IfOk};
+ghost use Rattle.wat_tokens.specs.Replies.{play_text, PlayText};
 
-use crate::list::line_end;
+use crate::list::{buffer_of, line_end};
 use std::alloc::{AllocError, Global};
 use std::fmt;
-use wat_lexer_parser::parser::{FaultKind, Reply};
+use wat_lex::lexer::Settings;
+use wat_lexer_parser::parser::{Call, FaultKind, Reply, replay};
 
 /// What is wrong with what is shown, as its message.
 #[derive(Clone, Copy)]
@@ -73,4 +74,21 @@ pub fn reply_lines(alloc: Global, replies: &[Reply]) -> Result<Vec<u8>, AllocErr
         write!(lines, "{}", ReplyLine(reply))?;
     }
     Ok(lines.into_bytes())
+}
+
+/// A line for each reply to calls from the start of a text of at most `u32::MAX` bytes.
+pub fn play(
+    alloc: Global,
+    text: &str,
+    settings: Settings,
+    calls: &[Call],
+) -> Result<Vec<u8>, AllocError>
+    requires { length text.now < 2 ^ 32 }
+    ensures { IfOk result (λ lines.
+        PlayText (record { text = text.now; flags = settings }) calls.now lines.items) }
+{
+    let buffer = buffer_of(alloc, text, settings)?;
+    let mut parser = buffer.parser();
+    let replies = replay(alloc, &mut parser, calls)?;
+    reply_lines(alloc, &replies)
 }

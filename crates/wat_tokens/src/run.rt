@@ -1,20 +1,20 @@
 //! From a source of bytes to the lines on a sink.
 ghost use Rattle.std.specs.Prelude.{◌≡◌, ◌⊎◌, ◌↔◌, true, false, ◌<◌, ◌^◌, length};
-ghost use Rattle.std.specs.Prelude.{Some, is_ok, IfOk, OnOk, IfErr, IfSome, IsErrOf};
-ghost use Rattle.std.specs.Option.{option_map};
+ghost use Rattle.std.specs.Prelude.{is_ok, IfOk, OnOk, IfErr, IfSome, IsErrOf};
 ghost use Rattle.std.specs.Str.{IsUtf8};
-ghost use Rattle.wat_lex.specs.errors.Errors.{lexical};
-ghost use Rattle.wat_tokens.specs.Lists.{Lists};
-ghost use Rattle.wat_tokens.specs.Printed.{AppendsText, AppendsCut};
 ghost use Rattle.wat_tokens.specs.Inputs.{ReadsWhole, ReadsPast, ReadsShort, HasEnded};
+ghost use Rattle.wat_tokens.specs.Lists.{Lists};
+ghost use Rattle.wat_tokens.specs.Printed.{prints, AppendsText, AppendsCut};
+ghost use Rattle.wat_tokens.specs.Replies.{Plays};
+ghost use Rattle.wat_tokens.specs.Runs.{without_error, Runs};
+ghost use Rattle.wat_tokens.specs.Shows.{Shows};
 
 use crate::ends::{Sink, Source};
-use crate::list::list;
+use crate::print::{Output, Printing, print};
 use std::alloc::{AllocError, Global};
-use std::str;
 use wat_lex::error::Error;
-use wat_lex::lexer::{LexFault, Settings};
-use wat_lex::token::Span;
+use wat_lex::lexer::Settings;
+use wat_lexer_parser::parser::Call;
 
 /// Why a run ended without its lines.
 #[derive(Clone, Copy, Debug, PartialEq, Eq)]
@@ -80,61 +80,19 @@ fn read_whole<R: Source>(alloc: Global, input: &mut R) -> Result<Vec<u8>, RunErr
     }
 }
 
-/// The error of the fault of a text, where it has one.
-fn error_of(alloc: Global, text: &str, fault: Option<LexFault>) -> Result<Option<Error>, RunError>
-    ensures error { IfOk result (λ error.
-        error ≡ option_map (λ f. Some (lexical text.now f)) fault) }
-    ensures refused { IfErr result (λ e. e ≡ RunError.Memory) }
-{
-    let Some(fault) = fault else {
-        return Ok(None);
-    };
-    let span = Span::from_offset(fault.offset);
-    let error = Error::lex(alloc, span, text, fault.error);
-    if error.is_out_of_memory() {
-        return Err(RunError::Memory);
-    }
-    Ok(Some(error))
-}
-
-/// The lines of the raw tokens of the bytes up to the first fault, and the error of that fault.
-#[derive(Drop)]
-struct Output {
-    lines: Vec<u8>,
-    error: Option<Error>,
-}
-
-/// Lists bytes that may be no text.
-fn list_bytes(alloc: Global, bytes: &[u8], settings: Settings) -> Result<Output, RunError>
-    requires { length bytes.now < 2 ^ 32 }
-    ensures listed { IfOk result (λ reply.
-        Lists settings bytes.now reply.lines.items reply.error) }
-    ensures not_utf8 { IsErrOf result RunError.NotUtf8 ↔ (¬ IsUtf8 bytes.now) }
-    ensures refused { IfErr result (λ e. (e ≡ RunError.NotUtf8) ⊎ (e ≡ RunError.Memory)) }
-{
-    let Ok(text) = str::from_utf8(bytes) else {
-        return Err(RunError::NotUtf8);
-    };
-    let listing = list(alloc, text, settings)?;
-    let error = error_of(alloc, text, listing.fault)?;
-    Ok(Output {
-        lines: listing.lines,
-        error,
-    })
-}
-
-/// Writes the list of the raw tokens of all that the source has left, up to the first fault, and
-/// answers that fault's error, which prints its line.
-pub fn run_list<R: Source, W: Sink>(
+/// Writes what is printed of all that the source has left, and answers the error of the fault
+/// behind it.
+fn run<R: Source, W: Sink>(
     alloc: Global,
     input: &mut R,
     output: &mut W,
     settings: Settings,
+    printing: Printing<'_>,
 ) -> Result<Option<Error>, RunError>
     requires input { R.has_failed input.old ≡ false }
     requires output { W.has_failed output.old ≡ false }
-    ensures listed { IfOk result (λ error. IfSome (R.left input.old) (λ bytes.
-        AppendsText (Lists settings bytes) error (W.held output.old) (W.held output.new))) }
+    ensures written { IfOk result (λ error. IfSome (R.left input.old) (λ bytes.
+        AppendsText (prints settings printing.entry bytes) error (W.held output.old) (W.held output.new))) }
 
     // These come only once the source was read to its end.
     ensures ended { OnOk result (HasEnded (R.left input.new) (R.has_ended input.new)) }
@@ -155,13 +113,65 @@ pub fn run_list<R: Source, W: Sink>(
 
     // A failed write has written a prefix of the lines, and each other refusal nothing.
     ensures cut { IsErrOf result RunError.Write → IfSome (R.left input.old) (λ bytes.
-        AppendsCut (Lists settings bytes) (W.held output.old) (W.held output.new)) }
+        AppendsCut (prints settings printing.entry bytes) (W.held output.old) (W.held output.new)) }
     ensures unwritten { IfErr result (λ e. (e ≡ RunError.Write) ⊎ (output.new ≡ output.old)) }
 {
     let bytes = read_whole(alloc, input)?;
-    let Output { lines, error } = list_bytes(alloc, &bytes, settings)?;
+    let Output { lines, error } = print(alloc, &bytes, settings, printing)?;
     if output.write_all(&lines).is_err() {
         return Err(RunError::Write);
     }
     Ok(error)
+}
+
+/// Writes the list of the raw tokens of all that the source has left, up to the first fault, and
+/// answers that fault's error, which prints its line.
+pub fn run_list<R: Source, W: Sink>(
+    alloc: Global,
+    input: &mut R,
+    output: &mut W,
+    settings: Settings,
+) -> Result<Option<Error>, RunError>
+    requires input { R.has_failed input.old ≡ false }
+    requires output { W.has_failed output.old ≡ false }
+    ensures { Runs R.left R.has_failed R.has_ended W.held W.has_failed (Lists settings)
+        input.old input.new output.old output.new result }
+{
+    run(alloc, input, output, settings, Printing::Raw)
+}
+
+/// Writes the list of the tokens that count, those that a parser shows where these names are
+/// registered, up to the first fault, and answers that fault's error.
+pub fn run_sig<R: Source, W: Sink>(
+    alloc: Global,
+    input: &mut R,
+    output: &mut W,
+    settings: Settings,
+    names: &[String],
+) -> Result<Option<Error>, RunError>
+    requires input { R.has_failed input.old ≡ false }
+    requires output { W.has_failed output.old ≡ false }
+    ensures { Runs R.left R.has_failed R.has_ended W.held W.has_failed (Shows settings names.now)
+        input.old input.new output.old output.new result }
+{
+    run(alloc, input, output, settings, Printing::Shown(names))
+}
+
+/// Writes a parser's replies to calls from the start of the text.
+pub fn run_play<R: Source, W: Sink>(
+    alloc: Global,
+    input: &mut R,
+    output: &mut W,
+    settings: Settings,
+    calls: &[Call],
+) -> Result<(), RunError>
+    requires input { R.has_failed input.old ≡ false }
+    requires output { W.has_failed output.old ≡ false }
+    ensures { Runs R.left R.has_failed R.has_ended W.held W.has_failed (Plays settings calls.now)
+        input.old input.new output.old output.new (without_error result) }
+{
+    match run(alloc, input, output, settings, Printing::Replies(calls)) {
+        Ok(_) => Ok(()),
+        Err(error) => Err(error),
+    }
 }

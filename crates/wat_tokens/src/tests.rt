@@ -2,6 +2,7 @@
 ghost use Rattle.std.specs.Prelude.{Option, Some};
 
 mod cuts;
+mod shown;
 
 use crate::Settings;
 use crate::calls::read_call;

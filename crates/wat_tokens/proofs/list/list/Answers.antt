@@ -1,25 +1,25 @@
-use Rattle.std.proofs.Common.{subst, sym}
-use Rattle.std.specs.Prelude.{Some, None}
+use Rattle.std.proofs.Common.{◌<◌, ◌^◌, ◌∙◌, length, ap, subst, sym}
 use Rattle.std.specs.Str.{IsUtf8}
 use Rattle.wat_lex.specs.tokens.Setting.{Setting}
-use Rattle.wat_tokens.specs.Lists.{ListText}
-use Rattle.wat_tokens.proofs.Listings.{listed_start, listed_more, listed_end, listed_fault}
+use Rattle.wat_lex.specs.tokens.Tiling.{MaximalTiling}
+use Rattle.wat_tokens.specs.Lists.{token_lines}
+use Rattle.wat_tokens.proofs.Listings.{raw_short}
 use Rattle.wat_tokens.proofs.list.list.Goals as goal
 
-pub tokens-init : goal.tokens-init
-tokens-init c = listed_start c.lexer_of-lexer.result _ (subst (λ (s : Setting). IsUtf8 s.text) (sym c.lexer_of-lexer.ensures) c.utf8.text) c.new-lines.ensures.items
+pub token_lines-requires : goal.token_lines-requires
+token_lines-requires c = λ i t e.
+    let b = c.in_ok-buffer.buffer in
+    let setting = sym c.in_ok-buffer.ensures.setting in
+    let utf8 = subst (λ (s : Setting). IsUtf8 s.text) setting c.utf8.text in
+    let short = subst (λ (s : Setting). length s.text < 2 ^ 32) setting c.requires in
+    raw_short c.tokens.ensures.boundary b.setting b.tokens b.ending i t utf8 short c.in_ok-buffer.ensures.read (rw c.raw.ensures.tokens at e)
 
-pub tokens-preserved : goal.tokens-preserved
-tokens-preserved c =
-    let token = rw c.in-Ok-Some.field-0-is at c.in-Ok-Some.ensures.token in
-    let boundary = rw c.in-Ok-Some.field-0-is at c.in-Ok-Some.ensures.boundary in
-    listed_more c.lexer_of-lexer.result c.tokens.pos c.tokens.lines.items _ c.in-Ok-Some.token c.tokens.invariant token c.in_ok-push_line-in-Ok-Some.ensures boundary
-
-pub returns-in-Ok-None : goal.returns-in-Ok-None
-returns-in-Ok-None c =
-    let end = rw c.in-Ok-None.field-0-is at c.in-Ok-None.ensures.end in
-    subst (λ (s : Setting). ListText s c.tokens.lines.items None) c.lexer_of-lexer.ensures (listed_end c.lexer_of-lexer.result c.tokens.pos c.tokens.lines.items c.tokens.invariant end)
-
-pub returns-in-Err : goal.returns-in-Err
-returns-in-Err c =
-    subst (λ (s : Setting). ListText s c.tokens.lines.items (Some c.in-Err.fault)) c.lexer_of-lexer.ensures (listed_fault c.lexer_of-lexer.result c.tokens.pos c.tokens.lines.items c.in-Err.fault c.tokens.invariant c.in-Err.ensures.fault)
+pub returns : goal.returns
+returns c =
+    let b = c.in_ok-buffer.buffer in
+    let tiling = subst (λ (s : Setting). MaximalTiling s 0 b.tokens b.ending) c.in_ok-buffer.ensures.setting c.in_ok-buffer.ensures.read in
+    record {
+      tokens = b.tokens;
+      tiling = rw c.lex_fault.ensures.ending tiling;
+      lines = c.in_ok-token_lines.ensures ∙ ap token_lines c.raw.ensures.tokens;
+    }

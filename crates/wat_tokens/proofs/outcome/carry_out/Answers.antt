@@ -1,27 +1,21 @@
-use Rattle.wat_tokens.specs.Lists.{Lists}
-use Rattle.wat_tokens.proofs.OutcomeLaws.{run_responds}
+use Rattle.std.proofs.Common.{refl}
+use Rattle.wat_tokens.specs.Runs.{without_error}
+use Rattle.wat_tokens.specs.declared.outcome.Outcome.TheVariants.{Listed, Refused}
+use Rattle.wat_tokens.proofs.OutcomeLaws.{ran}
 use Rattle.wat_tokens.proofs.outcome.carry_out.Goals as goal
 
-pub returns-clause-list : goal.returns-clause-list
-returns-clause-list g c = λ _.
-    let r = c.run_list.ensures in
-    let responded = run_responds g.W.Sink.held c.args.output.now c.run_list.new.output (Lists c.args.command.settings) (g.R.Source.left c.args.input.now) c.run_list.result r.listed r.cut r.unwritten in
-    record {
-      run = c.run_list.result;
-      outcome_is = c.of_run.ensures;
-      responds = rw c.of_run.ensures responded;
-      listed = r.listed;
-      cut = r.cut;
-      unwritten = r.unwritten;
-      ended = r.ended;
-      not_utf8_ended = r.not_utf8_ended;
-      write_ended = r.write_ended;
-      read = r.read;
-      write = r.write;
-      short = r.short;
-      too_long = r.too_long;
-      not_utf8 = r.not_utf8;
-    }
+pub returns-in-List : goal.returns-in-List
+returns-in-List g c = rw c.in-List.is (ran c.run_list.result c.of_run.result c.run_list.ensures c.of_run.ensures)
 
-pub returns-clause-other : goal.returns-clause-other
-returns-clause-other g c = λ other. absurd (other c.in-List.is)
+pub returns-in-Sig : goal.returns-in-Sig
+returns-in-Sig g c = rw c.in-Sig.is (ran c.run_sig.result c.of_run-in-Sig.result c.run_sig.ensures c.of_run-in-Sig.ensures)
+
+pub returns-in-Ok : goal.returns-in-Ok
+returns-in-Ok g c =
+    let runs = rw c.deref.ensures.value at c.run_play.ensures in
+    rw c.in-Play.is (ran (without_error c.run_play.result) Listed runs (rw c.in-Ok.is refl))
+
+pub returns : goal.returns
+returns g c =
+    let runs = rw c.deref.ensures.value at c.run_play.ensures in
+    rw c.in-Play.is (ran (without_error c.run_play.result) (Refused c.in-Err.error) runs (rw c.in-Err.is refl))

@@ -1,7 +1,7 @@
 use Rattle.std.proofs.Common.{rules, inr}
-use Rattle.wat_tokens.specs.Lists.{Lists}
+use Rattle.wat_tokens.specs.Printed.{prints}
 use Rattle.wat_tokens.proofs.InputLaws.{lines_cut, whole_is_short, past_known, no_text_known}
-use Rattle.wat_tokens.proofs.run.run_list.Goals as goal
+use Rattle.wat_tokens.proofs.run.run.Goals as goal
 
 pub returns-in_err-bytes-clause-too_long : goal.returns-in_err-bytes-clause-too_long
 returns-in_err-bytes-clause-too_long g c = past_known _ _ (search rules) (search rules)
@@ -17,8 +17,11 @@ returns-then-is_err-clause-not_utf8 g c = no_text_known _ _ c.in_ok-bytes.ensure
 
 pub returns-then-is_err-clause-cut : goal.returns-then-is_err-clause-cut
 returns-then-is_err-clause-cut g c =
-    let listed = rw c.deref.ensures.value at c.in_ok-lines.ensures.listed in
-    λ _. lines_cut (Lists c.args.settings) _ _ _ _ _ _ _ c.in_ok-bytes.ensures.whole listed (search rules)
+    let printed = rw c.deref.ensures.value at c.in_ok-lines.ensures.printed in
+    λ _. lines_cut (prints c.args.settings c.args.printing) _ _ _ _ _ _ _ c.in_ok-bytes.ensures.whole printed (search rules)
 
 pub returns-then-is_err-clause-short : goal.returns-then-is_err-clause-short
 returns-then-is_err-clause-short g c = inr (whole_is_short c.in_ok-bytes.ensures.whole)
+
+pub returns-clause-not_utf8 : goal.returns-clause-not_utf8
+returns-clause-not_utf8 g c = no_text_known _ _ c.in_ok-bytes.ensures.whole (search rules) (search rules)

@@ -1,0 +1,100 @@
+//! What is printed of bytes that may be no text.
+ghost use Rattle.std.specs.Prelude.{◌≡◌, ◌⊎◌, ◌↔◌, ◌<◌, ◌^◌, length, Some, IfOk, IfErr, IsErrOf};
+ghost use Rattle.std.specs.Option.{option_map};
+ghost use Rattle.std.specs.Str.{IsUtf8};
+ghost use Rattle.wat_lex.specs.errors.Errors.{lexical};
+ghost use Rattle.wat_tokens.specs.Lists.{Lists};
+ghost use Rattle.wat_tokens.specs.Printed.{prints};
+
+use crate::list::list;
+use crate::play::play;
+use crate::run::RunError;
+use crate::show::show;
+use std::alloc::Global;
+use std::str;
+use wat_lex::error::Error;
+use wat_lex::lexer::{LexFault, Settings};
+use wat_lex::token::Span;
+use wat_lexer_parser::parser::Call;
+
+/// What to print of a text.
+#[derive(Clone, Copy)]
+pub enum Printing<'a> {
+    /// Its raw tokens.
+    Raw,
+    /// The tokens that are shown where these names are registered.
+    Shown(&'a [String]),
+    /// The replies to these calls.
+    Replies(&'a [Call]),
+}
+
+/// The lines that are printed, and the error of the fault behind them.
+#[derive(Drop)]
+pub struct Output {
+    pub lines: Vec<u8>,
+    pub error: Option<Error>,
+}
+
+/// The error of the fault of a text, where it has one.
+fn error_of(alloc: Global, text: &str, fault: Option<LexFault>) -> Result<Option<Error>, RunError>
+    ensures error { IfOk result (λ error.
+        error ≡ option_map (λ f. Some (lexical text.now f)) fault) }
+    ensures refused { IfErr result (λ e. e ≡ RunError.Memory) }
+{
+    let Some(fault) = fault else {
+        return Ok(None);
+    };
+    let span = Span::from_offset(fault.offset);
+    let error = Error::lex(alloc, span, text, fault.error);
+    if error.is_out_of_memory() {
+        return Err(RunError::Memory);
+    }
+    Ok(Some(error))
+}
+
+/// The lines of the raw tokens of a text, and the error of its fault.
+fn print_raw(alloc: Global, text: &str, settings: Settings) -> Result<Output, RunError>
+    requires { length text.now < 2 ^ 32 }
+    ensures listed { IfOk result (λ output.
+        Lists settings text.now output.lines.items output.error) }
+    ensures refused { IfErr result (λ e. e ≡ RunError.Memory) }
+{
+    let listing = list(alloc, text, settings)?;
+    let error = error_of(alloc, text, listing.fault)?;
+    Ok(Output {
+        lines: listing.lines,
+        error,
+    })
+}
+
+/// What is printed of bytes.
+pub fn print(
+    alloc: Global,
+    bytes: &[u8],
+    settings: Settings,
+    printing: Printing<'_>,
+) -> Result<Output, RunError>
+    requires { length bytes.now < 2 ^ 32 }
+    ensures printed { IfOk result (λ output.
+        prints settings printing.entry bytes.now output.lines.items output.error) }
+    ensures not_utf8 { IsErrOf result RunError.NotUtf8 ↔ (¬ IsUtf8 bytes.now) }
+    ensures refused { IfErr result (λ e. (e ≡ RunError.NotUtf8) ⊎ (e ≡ RunError.Memory)) }
+{
+    let Ok(text) = str::from_utf8(bytes) else {
+        return Err(RunError::NotUtf8);
+    };
+    match printing {
+        Printing::Raw => print_raw(alloc, text, settings),
+        Printing::Shown(names) => {
+            let shown = show(alloc, text, settings, names)?;
+            Ok(Output {
+                lines: shown.lines,
+                error: shown.error,
+            })
+        }
+        Printing::Replies(calls) => Ok(Output {
+            lines: play(alloc, text, settings, calls)?,
+            error: None,
+        }),
+    }
+}
