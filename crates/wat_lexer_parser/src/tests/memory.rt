@@ -30,11 +30,24 @@ fn is_seen(parser: &Parser<'_>) -> bool {
         && parser.peek3::<LParen>().is_ok()
 }
 
+const TEXT: &str = "(@\"\\62\" c) d";
+
+// The requests of the next test without its looks: which one is the fifth behind the buffer and the
+// name.
+#[test]
+fn buffer_and_name(rt: HostRuntime) -> Result<(), Fail> {
+    let buffer = buffer(&rt, rt.alloc(), TEXT)?;
+    let mut registered = buffer.parser();
+    registered.register_annotation("b")?;
+    assert!(rt; matches!(refused_request(rt.alloc()), None | Some(4)));
+    Ok(())
+}
+
 // With that request refused which is the fifth behind the buffer and the name, it has to be the
 // fifth of this test's own: then no look made one, not even one whose refusal is ignored.
 #[test]
 fn looks_make_no_request(rt: HostRuntime) -> Result<(), Fail> {
-    let buffer = buffer(&rt, rt.alloc(), "(@\"\\62\" c) d")?;
+    let buffer = buffer(&rt, rt.alloc(), TEXT)?;
     let mut registered = buffer.parser();
     registered.register_annotation("b")?;
     let plain = buffer.parser();
