@@ -1,10 +1,12 @@
 //! A cursor over what a parser shows.
-ghost use Rattle.std.specs.Prelude.{◌≡◌, ◌⊎◌, ◌≤◌, ◌<◌, ℕ, IfOk, IfSome, length, false, Option};
+ghost use Rattle.std.specs.Prelude.{◌≡◌, ◌⊎◌, ◌↔◌, ◌≤◌, ◌<◌, ℕ, IfOk, IfSome, length, false, Option};
 ghost use Rattle.std.specs.Prelude.{Some, Ok};
-ghost use Rattle.std.specs.Cow.{cow_str_bytes, cow_slice_items};
+ghost use Rattle.std.specs.Cow.{cow_str_bytes, cow_slice_items, IsBorrowedSlice, IsBorrowedStr};
 ghost use Rattle.std.specs.Option.{option_map};
 ghost use Rattle.wat_lex.specs.errors.Errors.{IsUnlessMemory};
+ghost use Rattle.wat_lex.specs.grammar.Classes.{backslash};
 ghost use Rattle.wat_lex.specs.tokens.ReadableTokens.{IsTokenOf, word_of};
+ghost use Rattle.wat_lex.specs.values.Names.{HasNone, HasNoEscape};
 ghost use Rattle.wat_lex.specs.values.NumberValues.{IsFloatOf, IsIntegerOf, IsNumeralOf};
 ghost use Rattle.wat_lex.specs.values.WordValues.{empty_name, name_value};
 ghost use Rattle.wat_lex.specs.declared.lexer.kinds.FloatKind.{FloatKind};
@@ -257,6 +259,10 @@ impl<'p, 'a> Cursor<'p, 'a> {
         ensures value { Answers (may_take name_takes self.entry.parser.now self.entry.at)
             (option_map (λ v. (cow_str_bytes v.0, v.1.at)))
             (taken_from as_id self.entry.parser.now self.entry.at) result }
+        ensures borrowed { (t : Token) (q : ℕ) →
+            seen_from self.entry.parser.now self.entry.at ≡ Ok (Some (t, q)) →
+            IfOk result (λ found. IfSome found (λ v. IsBorrowedStr v.0 ↔
+            HasNoEscape (word_of self.entry.parser.now.source.setting.text t))) }
         ensures parser { IfOk result (λ found. IfSome found (λ v.
             v.1.parser ≡ self.entry.parser)) }
         ensures on { IfOk result (λ found. IfSome found (λ v. self.entry.at < v.1.at)) }
@@ -299,6 +305,10 @@ impl<'p, 'a> Cursor<'p, 'a> {
         ensures value { Answers (may_take name_takes self.entry.parser.now self.entry.at)
             (option_map (λ v. (cow_str_bytes v.0, v.1.at)))
             (taken_from as_annotation self.entry.parser.now self.entry.at) result }
+        ensures borrowed { (t : Token) (q : ℕ) →
+            seen_from self.entry.parser.now self.entry.at ≡ Ok (Some (t, q)) →
+            IfOk result (λ found. IfSome found (λ v. IsBorrowedStr v.0 ↔
+            HasNoEscape (word_of self.entry.parser.now.source.setting.text t))) }
         ensures parser { IfOk result (λ found. IfSome found (λ v.
             v.1.parser ≡ self.entry.parser)) }
         ensures on { IfOk result (λ found. IfSome found (λ v. self.entry.at < v.1.at)) }
@@ -394,6 +404,10 @@ impl<'p, 'a> Cursor<'p, 'a> {
         ensures value { Answers (may_take string_takes self.entry.parser.now self.entry.at)
             (option_map (λ v. (cow_slice_items v.0, v.1.at)))
             (taken_from as_string self.entry.parser.now self.entry.at) result }
+        ensures borrowed { (t : Token) (q : ℕ) →
+            seen_from self.entry.parser.now self.entry.at ≡ Ok (Some (t, q)) →
+            IfOk result (λ found. IfSome found (λ v. IsBorrowedSlice v.0 ↔
+            HasNone backslash (word_of self.entry.parser.now.source.setting.text t))) }
         ensures parser { IfOk result (λ found. IfSome found (λ v.
             v.1.parser ≡ self.entry.parser)) }
         ensures on { IfOk result (λ found. IfSome found (λ v. self.entry.at < v.1.at)) }
@@ -433,9 +447,11 @@ impl<'p, 'a> Cursor<'p, 'a> {
 fn name_of<'a>(alloc: Global, text: &'a str, token: &Token) -> Result<CowStr<'a>, Error>
     requires token { IsTokenOf text.now token.now }
     requires kind { (token.now.kind ≡ variant.Id) ⊎ (token.now.kind ≡ variant.Annotation) }
-    ensures { Answers (name_takes text.now token.now) (λ name. cow_str_bytes name)
+    ensures value { Answers (name_takes text.now token.now) (λ name. cow_str_bytes name)
         (name_or_report text.now token.now
         (name_value (empty_name token.now.kind) (word_of text.now token.now))) result }
+    ensures borrowed { IfOk result (λ name.
+        IsBorrowedStr name ↔ HasNoEscape (word_of text.now token.now)) }
 {
     match token.name(alloc, text)? {
         Ok(name) => Ok(name),

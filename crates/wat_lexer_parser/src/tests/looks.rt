@@ -1,5 +1,6 @@
 //! What is asked of a parser or a cursor, and takes nothing.
 use super::buffer;
+use super::takers::is_told;
 use crate::parser::{Parser, Peek};
 use crate::token::{LParen, RParen};
 use std::alloc::Global;
@@ -30,6 +31,19 @@ fn peeks_at_parentheses(rt: HostRuntime) -> Result<(), Fail> {
         (LParen::display(), RParen::display()),
         ("left paren", "right paren")
     );
+    Ok(())
+}
+
+#[test]
+fn peeks_at_faults(rt: HostRuntime) -> Result<(), Fail> {
+    let rows = [("\"", 1), ("x (@", 2), ("x y (@a", 3)];
+    for (text, first) in rows {
+        let buffer = buffer(&rt, rt.alloc(), text)?;
+        let parser = buffer.parser();
+        assert_eq!(rt; is_told(parser.peek::<LParen>()), first == 1, "{text}");
+        assert_eq!(rt; is_told(parser.peek2::<RParen>()), first <= 2, "{text}");
+        assert!(rt; is_told(parser.peek3::<LParen>()), "{text}");
+    }
     Ok(())
 }
 

@@ -1,9 +1,10 @@
-//! Looks where memory is refused.
+//! Looks, and takers of plain words, where memory is refused.
 use super::buffer;
 use crate::parser::{Cursor, Parser};
 use crate::token::{LParen, RParen};
 use std::alloc::Global;
 use std::test::Fail;
+use wat_lex::lexer::TokenKind;
 
 /// Which of five requests is refused.
 fn refused_request(alloc: Global) -> Option<usize> {
@@ -30,7 +31,32 @@ fn is_seen(parser: &Parser<'_>) -> bool {
         && parser.peek3::<LParen>().is_ok()
 }
 
-const TEXT: &str = "(@\"\\62\" c) d";
+/// How many of the next words are read, each by the taker of its kind. The escaped one is passed
+/// over.
+fn words_read(from: Cursor<'_, '_>) -> usize {
+    let mut read = 0;
+    let mut cursor = from;
+    for _ in 0..20 {
+        let Ok(Some((token, next))) = cursor.any() else {
+            return read;
+        };
+        let is_read = match token.kind {
+            TokenKind::Id => matches!(cursor.id(), Ok(Some(_))),
+            TokenKind::Annotation => token.len == 2 && matches!(cursor.annotation(), Ok(Some(_))),
+            TokenKind::String => matches!(cursor.string(), Ok(Some(_))),
+            TokenKind::Integer(_) => matches!(cursor.integer(), Ok(Some(_))),
+            TokenKind::Float(_) => matches!(cursor.float(), Ok(Some(_))),
+            _ => false,
+        };
+        if is_read && read < 20 {
+            read += 1;
+        }
+        cursor = next;
+    }
+    read
+}
+
+const TEXT: &str = "(@\"\\62\" c) d $a @b \"s\" 1 1.5";
 
 // The requests of the next test without its looks: which one is the fifth behind the buffer and the
 // name.
@@ -57,6 +83,7 @@ fn looks_make_no_request(rt: HostRuntime) -> Result<(), Fail> {
         assert_eq!(rt; Cursor::new(parser).peek_lparen().ok(), Some(is_open));
         assert_eq!(rt; parser.is_registered("b"), is_open);
         assert!(rt; is_seen(parser));
+        assert_eq!(rt; words_read(Cursor::new(parser)), 5);
     }
     assert!(rt; matches!(refused_request(rt.alloc()), None | Some(4)));
     Ok(())

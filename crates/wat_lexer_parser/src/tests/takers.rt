@@ -161,32 +161,40 @@ fn names_that_are_refused(rt: HostRuntime) -> Result<(), Fail> {
     Ok(())
 }
 
-/// Whether each taker, and each peek, answers an error.
-fn all_refuse(cursor: Cursor<'_, '_>) -> bool {
+/// Whether a call answers the report of a fault, and no want of memory.
+pub(super) fn is_told<T: Drop>(answer: Result<T, Error>) -> bool {
+    match answer {
+        Ok(_) => false,
+        Err(error) => !error.is_out_of_memory(),
+    }
+}
+
+/// Whether each taker, and each peek, answers a report.
+fn all_tell(cursor: Cursor<'_, '_>) -> bool {
     let takers = [
-        cursor.any().is_err(),
-        cursor.token().is_err(),
-        cursor.lparen().is_err(),
-        cursor.rparen().is_err(),
-        cursor.id().is_err(),
-        cursor.annotation().is_err(),
-        cursor.keyword().is_err(),
-        cursor.reserved().is_err(),
-        cursor.string().is_err(),
-        cursor.integer().is_err(),
-        cursor.float().is_err(),
+        is_told(cursor.any()),
+        is_told(cursor.token()),
+        is_told(cursor.lparen()),
+        is_told(cursor.rparen()),
+        is_told(cursor.id()),
+        is_told(cursor.annotation()),
+        is_told(cursor.keyword()),
+        is_told(cursor.reserved()),
+        is_told(cursor.string()),
+        is_told(cursor.integer()),
+        is_told(cursor.float()),
     ];
     let peeks = [
-        cursor.peek_lparen().is_err(),
-        cursor.peek_rparen().is_err(),
-        cursor.peek_id().is_err(),
-        cursor.peek_keyword().is_err(),
-        cursor.peek_reserved().is_err(),
-        cursor.peek_string().is_err(),
-        cursor.peek_integer().is_err(),
-        cursor.peek_float().is_err(),
+        is_told(cursor.peek_lparen()),
+        is_told(cursor.peek_rparen()),
+        is_told(cursor.peek_id()),
+        is_told(cursor.peek_keyword()),
+        is_told(cursor.peek_reserved()),
+        is_told(cursor.peek_string()),
+        is_told(cursor.peek_integer()),
+        is_told(cursor.peek_float()),
     ];
-    takers.iter().all(|refused| *refused) && peeks.iter().all(|refused| *refused)
+    takers.iter().all(|told| *told) && peeks.iter().all(|told| *told)
 }
 
 #[test]
@@ -200,7 +208,7 @@ fn each_taker_answers_the_fault_that_is_shown(rt: HostRuntime) -> Result<(), Fai
         let buffer = buffer(&rt, rt.alloc(), text)?;
         let parser = buffer.parser();
         let cursor = Cursor::new(&parser);
-        assert!(rt; all_refuse(cursor), "{text}");
+        assert!(rt; all_tell(cursor), "{text}");
         let Err(error) = cursor.token() else {
             panic!(rt; "no fault: {text}");
         };

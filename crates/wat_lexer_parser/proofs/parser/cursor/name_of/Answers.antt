@@ -6,8 +6,8 @@ use Rattle.wat_lexer_parser.specs.parser.Takers.{name_takes, name_or_report}
 use Rattle.wat_lexer_parser.proofs.parser.Escapes.{escapes, wanting}
 use Rattle.wat_lexer_parser.proofs.parser.cursor.name_of.Goals as goal
 
-pub returns-in_err-name : goal.returns-in_err-name
-returns-in_err-name c =
+pub returns-in_err-name-clause-value : goal.returns-in_err-name-clause-value
+returns-in_err-name-clause-value c =
     let x = c.args.text.now in
     let t = c.args.token.now in
     let none : c.from_residual.result ≡ Err None = search rules in
