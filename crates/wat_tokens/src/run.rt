@@ -92,7 +92,8 @@ fn run<R: Source, W: Sink>(
     requires input { R.has_failed input.old ≡ false }
     requires output { W.has_failed output.old ≡ false }
     ensures written { IfOk result (λ error. IfSome (R.left input.old) (λ bytes.
-        AppendsText (prints settings printing.entry bytes) error (W.held output.old) (W.held output.new))) }
+        AppendsText (prints settings printing.entry bytes) error
+        (W.held output.old) (W.held output.new))) }
 
     // These come only once the source was read to its end.
     ensures ended { OnOk result (HasEnded (R.left input.new) (R.has_ended input.new)) }
@@ -113,7 +114,8 @@ fn run<R: Source, W: Sink>(
 
     // A failed write has written a prefix of the lines, and each other refusal nothing.
     ensures cut { IsErrOf result RunError.Write → IfSome (R.left input.old) (λ bytes.
-        AppendsCut (prints settings printing.entry bytes) (W.held output.old) (W.held output.new)) }
+        AppendsCut (prints settings printing.entry bytes)
+        (W.held output.old) (W.held output.new)) }
     ensures unwritten { IfErr result (λ e. (e ≡ RunError.Write) ⊎ (output.new ≡ output.old)) }
 {
     let bytes = read_whole(alloc, input)?;

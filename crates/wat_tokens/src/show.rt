@@ -2,7 +2,6 @@
 ghost use Rattle.std.specs.Prelude.{◌≡◌, ◌≤◌, ◌<◌, ◌^◌, length, IfOk, IfErr, OnOk, None};
 ghost use Rattle.std.specs.Str.{IsUtf8};
 ghost use Rattle.wat_lexer_parser.specs.places.Source.{IsRead};
-ghost use Rattle.wat_tokens.specs.Lists.{Lists};
 ghost use Rattle.wat_tokens.specs.Shows.{with_name, with_names, ShownFrom, ShownText};
 
 use crate::list::{buffer_of, push_line};
@@ -54,7 +53,8 @@ fn lines_from<'p, 'a>(
     requires utf8 { IsUtf8 from.parser.now.source.setting.text }
     requires short { length from.parser.now.source.setting.text < 2 ^ 32 }
     ensures shown { IfOk result (λ r.
-        ShownFrom from.entry.parser.now.source from.entry.parser.now.names from.entry.at r.0.lines.items r.0.error) }
+        ShownFrom from.entry.parser.now.source from.entry.parser.now.names from.entry.at
+        r.0.lines.items r.0.error) }
     ensures parser { IfOk result (λ r. r.1.parser ≡ from.entry.parser) }
     ensures on { IfOk result (λ r. from.entry.at ≤ r.1.at) }
     ensures refused { IfErr result (λ e. e ≡ None) }
