@@ -1,7 +1,6 @@
 -- Lemmas on lists of calls, and on all that is shown.
 pub mod Refusals
 pub mod Beginnings
-pub mod Behind
 pub mod EachShown
 pub mod ShownOneByOne
 pub mod Takes

@@ -4,4 +4,6 @@ pub mod shown
 pub mod places
 pub mod parser
 pub mod calls
+pub mod readings
+pub mod lemmas
 pub mod inside

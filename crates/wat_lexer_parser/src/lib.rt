@@ -1,8 +1,12 @@
-//! The parser layer of the WebAssembly text formats: a buffer of raw tokens, and a parser that
-//! shows those that count. White space,
-//! comments and annotations that are not registered are passed over.
+//! The parser layer of the WebAssembly text formats: a buffer of raw tokens, a parser that shows
+//! those that count, and the types that it reads. White space, comments and annotations that are not
+//! registered are passed over.
+//!
+//! The items of the lexer are named here again, so that who reads texts needs no other crate.
 #![tactic(auto)]
 
+pub mod annotation;
+pub mod kw;
 pub mod laws;
 pub mod parser;
 #[cfg(test)]
@@ -10,3 +14,4 @@ mod tests;
 pub mod token;
 
 pub use wat_lex::error::Error;
+pub use wat_lex::{encode, gensym, lexer};

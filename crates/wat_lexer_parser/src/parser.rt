@@ -18,12 +18,16 @@ mod buffer;
 mod calls;
 mod cursor;
 mod fault;
+mod lookahead;
 mod names;
 mod peek;
 mod reading;
+mod reads;
 mod table;
 #[cfg(test)]
 mod tests;
+mod typed;
+mod whole;
 
 use crate::parser::fault::Fault;
 use crate::parser::names::{Names, RegisterError};
@@ -32,12 +36,15 @@ pub use buffer::ParseBuffer;
 pub use calls::{Call, Reply, replay};
 pub use cursor::Cursor;
 pub use fault::FaultKind;
+pub use lookahead::Lookahead1;
 pub use peek::Peek;
+pub use reads::{Parse, Result};
 use std::alloc::Global;
 use std::marker::Model;
 use wat_lex::error::Error;
 use wat_lex::lexer::Token;
 use wat_lex::token::Span;
+pub use whole::parse;
 
 /// A parser over a buffer: a place in its text, and the names of annotations that are registered.
 #[derive(Drop)]
@@ -343,6 +350,8 @@ impl<'a> Parser<'a> {
             ParensErr (FnOnceReturnsAtMut F.FnOnce f) self.old e self.new) }
         ensures back { OnErr result
             ((self.new.place ≡ self.old.place) × (self.new.depth ≡ self.old.depth)) }
+        ensures on { ((p : _) (r : _) (q : _) → F.post f p r q → p.now.place ≤ q.now.place) →
+            self.old.place ≤ self.new.place }
     {
         let place = self.place;
         let depth = self.depth;

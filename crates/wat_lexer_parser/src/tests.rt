@@ -12,6 +12,8 @@ mod looks;
 mod memory;
 mod shown;
 mod takers;
+mod types;
+mod words;
 
 /// The buffer of a text.
 fn buffer<'a>(rt: &impl Abort, alloc: Global, text: &'a str) -> Result<ParseBuffer<'a>, Fail> {

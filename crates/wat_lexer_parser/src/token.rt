@@ -1,51 +1,17 @@
-//! Tokens as types, for those who peek at them.
-use crate::parser::{Cursor, Peek};
-use wat_lex::error::Error;
+//! What tokens read as: places, identifiers and indices, numbers, strings and words, as types that a
+//! parser reads and peeks at.
 
-/// The token `(`.
-#[derive(Clone, Copy, Debug, PartialEq, Eq)]
-pub struct LParen(());
+mod containers;
+mod integers;
+mod names;
+mod parens;
+mod references;
+mod strings;
+mod words;
 
-impl Peek for LParen {
-    ghost use Rattle.std.specs.Prelude.{codes, false};
-    ghost use Rattle.wat_lexer_parser.specs.parser.Sights.{sight_of};
-    ghost use Rattle.wat_lexer_parser.specs.parser.Takers.{as_open};
-
-    ghost sight = { sight_of as_open };
-
-    ghost takes = { λ _ _ _. false };
-
-    ghost shows = { codes "left paren" };
-
-    fn peek(cursor: Cursor<'_, '_>) -> Result<bool, Error> {
-        cursor.peek_lparen()
-    }
-
-    fn display() -> &'static str {
-        "left paren"
-    }
-}
-
-/// The token `)`.
-#[derive(Clone, Copy, Debug, PartialEq, Eq)]
-pub struct RParen(());
-
-impl Peek for RParen {
-    ghost use Rattle.std.specs.Prelude.{codes, false};
-    ghost use Rattle.wat_lexer_parser.specs.parser.Sights.{sight_of};
-    ghost use Rattle.wat_lexer_parser.specs.parser.Takers.{as_close};
-
-    ghost sight = { sight_of as_close };
-
-    ghost takes = { λ _ _ _. false };
-
-    ghost shows = { codes "right paren" };
-
-    fn peek(cursor: Cursor<'_, '_>) -> Result<bool, Error> {
-        cursor.peek_rparen()
-    }
-
-    fn display() -> &'static str {
-        "right paren"
-    }
-}
+pub use names::NameAnnotation;
+pub use parens::{LParen, RParen};
+pub use references::ItemRef;
+pub use wat_lex::token::{Id, Index, Span};
+pub use wat_words::{Std, StdAnnotation, Word};
+pub use words::{AnnotationWord, Keyword, ReservedSymbol};

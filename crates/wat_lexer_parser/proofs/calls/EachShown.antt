@@ -11,7 +11,7 @@ use Rattle.wat_lexer_parser.specs.shown.AllShown.{AllShown, end, fault, next}
 use Rattle.wat_lexer_parser.specs.shown.Shown.{Finding, Shown}
 use Rattle.wat_lexer_parser.specs.shown.Showing.{Showing, shown_in}
 use Rattle.wat_lexer_parser.specs.shown.ShownLaws.{SomethingShown, OneThingShown}
-use Rattle.wat_lexer_parser.proofs.calls.Behind.{BehindPlace, behind_in, behind_place, same_token}
+use Rattle.wat_lexer_parser.specs.lemmas.Behind.{BehindPlace, behind_in, behind_place, same_token}
 
 same_shown : OneThingShown → (x : List ℕ) (z : Option LexFault) (n : Names) (ts : List Token) (a b : Finding) → Shown x z n ts a → Shown x z n ts b → a ≡ b
 same_shown one x z n ts a b h k = one x z n ts a h ∙ sym (one x z n ts b k)

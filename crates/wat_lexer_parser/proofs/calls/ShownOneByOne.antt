@@ -9,7 +9,7 @@ use Rattle.wat_lexer_parser.specs.places.Source.{Source, IsRead}
 use Rattle.wat_lexer_parser.specs.shown.AllShown.{AllShown, end, fault, next}
 use Rattle.wat_lexer_parser.specs.shown.Showing.{Showing, shown_in, shown}
 use Rattle.wat_lexer_parser.specs.shown.ShownLaws.{SomethingShown, LooksAreAllShown}
-use Rattle.wat_lexer_parser.proofs.calls.Behind.{behind_in, behind_place, from_none, from_fault, from_token}
+use Rattle.wat_lexer_parser.specs.lemmas.Behind.{behind_in, behind_place, from_none, from_fault, from_token}
 use Rattle.wat_lexer_parser.proofs.calls.EachShown.{shows_at}
 
 token_first : SomethingShown → (s : Source) (n : Names) (p q : ℕ) (t : Token) (us : List Token) (f : Option Fault) → IsUtf8 s.setting.text → IsRead s → shown s p n ≡ Ok (Some (t, q))

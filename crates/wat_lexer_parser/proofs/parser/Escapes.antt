@@ -1,6 +1,6 @@
 -- Words in which no escape stands.
 use Rattle.std.proofs.Common.{◌≡◌, ℕ, Bool, true, false, List, [], ◌∷◌, inl, inr, Err, Ok, Some, None, subst, ap, ◌∙◌, sym}
-use Rattle.std.specs.Prelude.{◌==◌, ◌&&◌, ◌||◌, Option, Result, is_err}
+use Rattle.std.specs.Prelude.{◌==◌, ◌&&◌, ◌||◌, Option, Result, is_err, is_some}
 use Rattle.std.specs.List.{list_any}
 use Rattle.std.specs.Str.{NonePass}
 use Rattle.std.proofs.lemmas.Bool.{cases_Bool}
@@ -8,8 +8,9 @@ use Rattle.wat_lex.specs.errors.Errors.{Report}
 use Rattle.wat_lex.specs.grammar.Classes.{quote, backslash}
 use Rattle.wat_lex.specs.values.Names.{HasNone, HasNoEscape}
 use Rattle.wat_lex.specs.declared.lexer.kinds.Token.{Token}
+use Rattle.wat_lex.specs.declared.lexer.kinds.TokenKind.TheVariants.{String}
 use Rattle.wat_lexer_parser.specs.parser.State.{State, Answers, seen_from}
-use Rattle.wat_lexer_parser.specs.parser.Takers.{contains, may_take, may_take_of}
+use Rattle.wat_lexer_parser.specs.parser.Takers.{contains, may_take, may_take_from, as_string, string_takes, word_takes}
 
 none_pass : (p : ℕ → Bool) (w : List ℕ) → list_any p w ≡ false → NonePass p w
 none_pass p [] e = tt
@@ -44,5 +45,6 @@ contained c w h = elim (cases_Bool (contains c w)) [
 pub wanting : {V T : Type 0} (takes : Bool) (f : T → V) (m : Result V Report) (r : Result T (Option Report)) → r ≡ Err None → takes ≡ true → Answers takes f m r
 wanting takes f m r e h = subst (Answers takes f m) (sym e) (ap (λ b. b || is_err m) h)
 
-pub may_take_at : (takes : List ℕ → Token → Bool) (a : State) (p q : ℕ) (t : Token) → seen_from a p ≡ Ok (Some (t, q)) → may_take takes a p ≡ takes a.source.setting.text t
-may_take_at takes a p q t e = ap (may_take_of takes a.source.setting.text) e
+pub may_take_string : (a : State) (p q : ℕ) (t : Token) → seen_from a p ≡ Ok (Some (t, q)) → t.kind ≡ String → may_take_from as_string a p ≡ string_takes a.source.setting.text t
+may_take_string a p q t e k =
+    let x = a.source.setting.text in ap (may_take as_string x) e ∙ ap (λ k. is_some (as_string x t k) && word_takes x t k) k

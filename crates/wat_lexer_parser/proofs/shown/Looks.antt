@@ -10,6 +10,7 @@ use Rattle.wat_lexer_parser.specs.declared.parser.fault.Fault.{Fault}
 use Rattle.wat_lexer_parser.specs.declared.parser.fault.Step.{Step}
 use Rattle.wat_lexer_parser.specs.declared.parser.fault.Step.TheVariants.{Pass, Take, Finish, Refuse, Skip}
 use Rattle.wat_lexer_parser.proofs.groups.Closing.{Closed}
+use Rattle.wat_lexer_parser.specs.lemmas.Behind.{does}
 use Rattle.wat_lexer_parser.specs.names.RegisteredNames.{Names}
 use Rattle.wat_lexer_parser.specs.shown.Shown.{Finding, ended, left_open}
 use Rattle.wat_lexer_parser.specs.shown.Showing.{Showing, Inside, shown_in, shown, placed, first, step_of, step_kind, step_next, step_named, name_at}
@@ -20,13 +21,6 @@ use Rattle.wat_lexer_parser.proofs.shown.Annotations.{is_annotation, no_name}
 use Rattle.wat_lexer_parser.proofs.shown.Skipping.{past_closed, closes_or_not}
 use Rattle.std.proofs.lemmas.Bool.{cases_Bool}
 use Rattle.std.proofs.lemmas.Option.{slice_get_read}
-
-abbrev pub does : List ℕ → Option LexFault → Names → Token → List Token → Step → Finding
-does x z n t r Pass = shown_in x z n Showing r
-does x z n t r Take = Ok (Some (t, r))
-does x z n t r Finish = ended z
-does x z n t r (Refuse f) = Err f
-does x z n t r Skip = shown_in x z n (Inside t 0) r
 
 pub step_at : (x : List ℕ) (z : Option LexFault) (n : Names) (t : Token) (r : List Token) → shown_in x z n Showing (t ∷ r) ≡ does x z n t r (step_of x n t (first r))
 unfolding shown_in

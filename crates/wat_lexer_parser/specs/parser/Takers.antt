@@ -1,18 +1,23 @@
 -- WebAssembly specification, text format, lexical format: tokens, comments, annotations; values: integers, floating-point, strings,
 -- identifiers. What takers of one kind of token
--- answer of what is seen. Integers and floats have their value by the relations of their words.
+-- answer of what is seen. Floats have their value by the relations of their words.
 use Rattle.std.specs.List.{list_any}
-use Rattle.std.specs.Prelude.{ℕ, Bool, false, ◌==◌, ◌&&◌, List, is_some, Option, Some, None, Result, Ok, Err}
+use Rattle.std.specs.Str.Parse.{digits_value, without_leading_sign}
+use Rattle.std.specs.Prelude.{ℕ, Bool, true, false, ◌==◌, ◌&&◌, List, is_some, Option, Some, None, Result, Ok, Err}
 use Rattle.wat_lex.specs.errors.Errors.{Report, lexical}
 use Rattle.wat_lex.specs.tokens.ReadableTokens.{token_text, word_of}
 use Rattle.wat_lex.specs.grammar.Classes.{quote, backslash}
-use Rattle.wat_lex.specs.values.NumberValues.{is_integer_rewritten, is_float_rewritten}
+use Rattle.wat_lex.specs.grammar.Numbers.{sign_token}
+use Rattle.wat_lex.specs.values.NumberValues.{is_integer_rewritten, is_float_rewritten, integer_value, integer_sign, integer_digits, integer_base}
 use Rattle.wat_lex.specs.values.WordValues.{string_value, name_value}
 use Rattle.wat_lex.specs.declared.lexer.faults.LexError.{LexError}
 use Rattle.wat_lex.specs.declared.lexer.faults.LexError.TheVariants.{EmptyId, EmptyAnnotation}
+use Rattle.wat_lex.specs.declared.lexer.kinds.SignToken.{SignToken}
+use Rattle.wat_lex.specs.declared.lexer.kinds.SignToken.TheVariants.{Plus, Minus}
 use Rattle.wat_lex.specs.declared.lexer.kinds.Token.{Token}
 use Rattle.wat_lex.specs.declared.lexer.kinds.TokenKind.{TokenKind}
 use Rattle.wat_lex.specs.declared.lexer.kinds.TokenKind.TheVariants.{LParen, RParen, String, Id, Keyword, Annotation, Reserved, Integer, Float}
+use Rattle.wat_lex.specs.declared.lexer.read.numbers.Integer.{Integer as Number}
 use Rattle.wat_lexer_parser.specs.parser.State.{State, Seen, seen_from, told}
 use Rattle.wat_lexer_parser.specs.places.Places.{comment_at}
 
@@ -70,9 +75,19 @@ abbrev pub as_string : Reader (List ℕ)
 as_string text t String = Some (Ok (string_value (word_of text t)))
 as_string text t kind = None
 
-abbrev pub as_integer : Reader (Unit {0})
-as_integer text t (Integer k) = Some (Ok tt)
+abbrev pub is_minus : Option SignToken → Bool
+is_minus (Some Minus) = true
+is_minus (Some Plus) = false
+is_minus None = false
+
+-- whether an integer has a minus, and the whole number that its digits write
+abbrev pub as_integer : Reader (Bool × ℕ)
+as_integer text t (Integer k) = Some (Ok (is_minus (sign_token k.sign), integer_value k.hex (word_of text t)))
 as_integer text t kind = None
+
+-- the same of an integer that is read
+abbrev pub number_of : Number → Bool × ℕ
+number_of i = (is_minus (integer_sign i), digits_value (integer_base i) (without_leading_sign (integer_digits i)))
 
 abbrev pub as_float : Reader (Unit {0})
 as_float text t (Float k) = Some (Ok tt)
@@ -100,15 +115,6 @@ comment_by text (Err f) = Err f
 abbrev pub comment_from : State → ℕ → Result (Option (List ℕ × ℕ)) Report
 comment_from a p = comment_by a.source.setting.text (told a.source.setting.text (comment_at a.source p))
 
--- whether reading the seen token may take memory
-abbrev pub may_take_of : (List ℕ → Token → Bool) → List ℕ → Seen → Bool
-may_take_of takes text (Ok None) = false
-may_take_of takes text (Ok (Some (t, q))) = takes text t
-may_take_of takes text (Err f) = false
-
-abbrev pub may_take : (List ℕ → Token → Bool) → State → ℕ → Bool
-may_take takes a p = may_take_of takes a.source.setting.text (seen_from a p)
-
 abbrev pub contains : ℕ → List ℕ → Bool
 contains c w = list_any (λ d. d == c) w
 
@@ -120,11 +126,20 @@ string_takes text t = contains backslash (word_of text t)
 abbrev pub name_takes : List ℕ → Token → Bool
 name_takes text t = contains quote (word_of text t) && contains backslash (word_of text t)
 
--- numbers with underscores or `0x` are written anew
-abbrev pub number_takes : List ℕ → Token → Bool
-number_takes text t = by t.kind
-  where
-    by : TokenKind → Bool
-    by (Integer k) = is_integer_rewritten k
-    by (Float k) = is_float_rewritten k
-    by kind = false
+-- whether reading a word takes memory; numbers with underscores or `0x` are written anew
+abbrev pub word_takes : List ℕ → Token → TokenKind → Bool
+word_takes text t String = string_takes text t
+word_takes text t Id = name_takes text t
+word_takes text t Annotation = name_takes text t
+word_takes text t (Integer k) = is_integer_rewritten k
+word_takes text t (Float k) = is_float_rewritten k
+word_takes text t kind = false
+
+-- whether taking the seen token may take memory, where it is of the kind that is read
+abbrev pub may_take : {V : Type 0} → Reader V → List ℕ → Seen → Bool
+may_take read text (Ok None) = false
+may_take read text (Ok (Some (t, q))) = is_some (read text t t.kind) && word_takes text t t.kind
+may_take read text (Err f) = false
+
+abbrev pub may_take_from : {V : Type 0} → Reader V → State → ℕ → Bool
+may_take_from read a p = may_take read a.source.setting.text (seen_from a p)

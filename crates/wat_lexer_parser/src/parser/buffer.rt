@@ -1,7 +1,7 @@
 //! The buffer of a text.
 ghost use Rattle.std.specs.Prelude.{◌≡◌, ◌<◌, ◌^◌, false, length, IfOk, IfErr};
 ghost use Rattle.wat_lexer_parser.specs.names.RegisteredNames.{no_names};
-ghost use Rattle.wat_lexer_parser.specs.places.Source.{IsRead};
+ghost use Rattle.wat_lexer_parser.specs.places.Source.{IsRead, Source};
 
 use crate::parser::Parser;
 use crate::parser::reading::Reading;
@@ -117,6 +117,16 @@ impl<'a> ParseBuffer<'a> {
         ensures read { IsRead self.now }
     {
         Parser::new(self.reading())
+    }
+
+    /// The tokens are those of the text, which has no others.
+    pub(crate) fn is_only(&self)
+        ensures only { (s : Source) → IsRead s → s.setting ≡ self.now.setting →
+            s.track ≡ self.now.track → s ≡ self.now }
+        ensures read { IsRead self.now }
+    {
+        wat_lex::laws::one_tiling();
+        let _reading = self.reading();
     }
 
     /// The buffer as its parsers read it.

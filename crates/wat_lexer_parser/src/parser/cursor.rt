@@ -1,13 +1,15 @@
 //! A cursor over what a parser shows.
-ghost use Rattle.std.specs.Prelude.{◌≡◌, ◌⊎◌, ◌↔◌, ◌≤◌, ◌<◌, ℕ, IfOk, IfSome, length, false, Option};
+ghost use Rattle.std.specs.Prelude.{◌≡◌, ◌⊎◌, ◌↔◌, ◌≤◌, ◌<◌, ◌++◌, ℕ, IfOk, IfSome, length, false, Option};
 ghost use Rattle.std.specs.Prelude.{Some, Ok};
 ghost use Rattle.std.specs.Cow.{cow_str_bytes, cow_slice_items, IsBorrowedSlice, IsBorrowedStr};
 ghost use Rattle.std.specs.Option.{option_map};
+ghost use Rattle.std.specs.Str.Parse.{IsNumeral, without_leading_sign};
 ghost use Rattle.wat_lex.specs.errors.Errors.{IsUnlessMemory};
 ghost use Rattle.wat_lex.specs.grammar.Classes.{backslash};
 ghost use Rattle.wat_lex.specs.tokens.ReadableTokens.{IsTokenOf, word_of};
 ghost use Rattle.wat_lex.specs.values.Names.{HasNone, HasNoEscape};
 ghost use Rattle.wat_lex.specs.values.NumberValues.{IsFloatOf, IsIntegerOf, IsNumeralOf};
+ghost use Rattle.wat_lex.specs.values.NumberValues.{integer_base, integer_digits};
 ghost use Rattle.wat_lex.specs.values.WordValues.{empty_name, name_value};
 ghost use Rattle.wat_lex.specs.declared.lexer.kinds.FloatKind.{FloatKind};
 ghost use Rattle.wat_lex.specs.declared.lexer.kinds.IntegerKind.{IntegerKind};
@@ -15,11 +17,11 @@ ghost use Rattle.wat_lex.specs.declared.lexer.kinds.Token.{Token};
 ghost use Rattle.wat_lex.specs.declared.lexer.kinds.TokenKind.TheVariants as variant;
 ghost use Rattle.wat_lexer_parser.specs.parser.State.{Answers, report_here, seen_from};
 ghost use Rattle.wat_lexer_parser.specs.parser.Takers.{taken_from, sees_from, token_of};
-ghost use Rattle.wat_lexer_parser.specs.parser.Takers.{comment_from, may_take, name_or_report};
+ghost use Rattle.wat_lexer_parser.specs.parser.Takers.{comment_from, may_take_from, name_or_report};
 ghost use Rattle.wat_lexer_parser.specs.parser.Takers.{as_open, as_close, as_keyword, as_reserved};
 ghost use Rattle.wat_lexer_parser.specs.parser.Takers.{as_id, as_annotation, as_string};
-ghost use Rattle.wat_lexer_parser.specs.parser.Takers.{as_integer, as_float};
-ghost use Rattle.wat_lexer_parser.specs.parser.Takers.{name_takes, number_takes, string_takes};
+ghost use Rattle.wat_lexer_parser.specs.parser.Takers.{as_integer, as_float, number_of};
+ghost use Rattle.wat_lexer_parser.specs.parser.Takers.{name_takes};
 ghost use Rattle.wat_lexer_parser.specs.places.Places.{current_span};
 
 use crate::parser::Parser;
@@ -89,6 +91,18 @@ impl<'p, 'a> Cursor<'p, 'a> {
     {
         let parser = self.parser;
         parser.reading().error_at(self.cur_span(), message)
+    }
+
+    /// An error at the current span with a message of two parts.
+    pub(crate) fn error_of(&self, what: &str, word: &str) -> Error
+        ensures { IsUnlessMemory result (report_here self.now.parser.now.source self.now.at
+            self.now.parser.now.names (what.now ++ word.now)) }
+    {
+        let parser = self.parser;
+        match format!(in parser.alloc(); "{what}{word}") {
+            Ok(message) => self.error(message.as_str()),
+            Err(_) => Error::out_of_memory(),
+        }
     }
 
     /// The token that is shown, or None at the end, or the error of the fault that is shown.
@@ -256,7 +270,7 @@ impl<'p, 'a> Cursor<'p, 'a> {
 
     /// Takes an identifier, and answers its name, without the `$`.
     pub fn id(self) -> Result<Option<(CowStr<'a>, Self)>, Error>
-        ensures value { Answers (may_take name_takes self.entry.parser.now self.entry.at)
+        ensures value { Answers (may_take_from as_id self.entry.parser.now self.entry.at)
             (option_map (λ v. (cow_str_bytes v.0, v.1.at)))
             (taken_from as_id self.entry.parser.now self.entry.at) result }
         ensures borrowed { (t : Token) (q : ℕ) →
@@ -302,7 +316,7 @@ impl<'p, 'a> Cursor<'p, 'a> {
 
     /// Takes an annotation, and answers its name, without the `@`.
     pub fn annotation(self) -> Result<Option<(CowStr<'a>, Self)>, Error>
-        ensures value { Answers (may_take name_takes self.entry.parser.now self.entry.at)
+        ensures value { Answers (may_take_from as_annotation self.entry.parser.now self.entry.at)
             (option_map (λ v. (cow_str_bytes v.0, v.1.at)))
             (taken_from as_annotation self.entry.parser.now self.entry.at) result }
         ensures borrowed { (t : Token) (q : ℕ) →
@@ -348,14 +362,16 @@ impl<'p, 'a> Cursor<'p, 'a> {
 
     /// Takes an integer.
     pub fn integer(self) -> Result<Option<(Integer<'a>, Self)>, Error>
-        ensures value { Answers (may_take number_takes self.entry.parser.now self.entry.at)
-            (option_map (λ v. (tt, v.1.at)))
+        ensures value { Answers (may_take_from as_integer self.entry.parser.now self.entry.at)
+            (option_map (λ v. (number_of v.0, v.1.at)))
             (taken_from as_integer self.entry.parser.now self.entry.at) result }
         ensures word { (t : Token) (q : ℕ) (k : IntegerKind) →
             seen_from self.entry.parser.now self.entry.at ≡ Ok (Some (t, q)) →
             t.kind ≡ variant.Integer k → IfOk result (λ found. IfSome found (λ v.
             IsIntegerOf k (word_of self.entry.parser.now.source.setting.text t) v.0
             × IsNumeralOf k (word_of self.entry.parser.now.source.setting.text t) v.0)) }
+        ensures numeral { IfOk result (λ found. IfSome found (λ v.
+            IsNumeral (integer_base v.0) (without_leading_sign (integer_digits v.0)))) }
         ensures parser { IfOk result (λ found. IfSome found (λ v.
             v.1.parser ≡ self.entry.parser)) }
         ensures on { IfOk result (λ found. IfSome found (λ v. self.entry.at < v.1.at)) }
@@ -375,7 +391,7 @@ impl<'p, 'a> Cursor<'p, 'a> {
 
     /// Takes a floating-point number.
     pub fn float(self) -> Result<Option<(Float<'a>, Self)>, Error>
-        ensures value { Answers (may_take number_takes self.entry.parser.now self.entry.at)
+        ensures value { Answers (may_take_from as_float self.entry.parser.now self.entry.at)
             (option_map (λ v. (tt, v.1.at)))
             (taken_from as_float self.entry.parser.now self.entry.at) result }
         ensures word { (t : Token) (q : ℕ) (k : FloatKind) →
@@ -401,7 +417,7 @@ impl<'p, 'a> Cursor<'p, 'a> {
 
     /// Takes a string, and answers its value.
     pub fn string(self) -> Result<Option<(CowSlice<'a, u8>, Self)>, Error>
-        ensures value { Answers (may_take string_takes self.entry.parser.now self.entry.at)
+        ensures value { Answers (may_take_from as_string self.entry.parser.now self.entry.at)
             (option_map (λ v. (cow_slice_items v.0, v.1.at)))
             (taken_from as_string self.entry.parser.now self.entry.at) result }
         ensures borrowed { (t : Token) (q : ℕ) →

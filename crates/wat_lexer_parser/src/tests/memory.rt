@@ -1,7 +1,8 @@
-//! Looks, and takers of plain words, where memory is refused.
+//! Looks, and plain words that are taken or read, where memory is refused.
 use super::buffer;
-use crate::parser::{Cursor, Parser};
-use crate::token::{LParen, RParen};
+use crate::kw;
+use crate::parser::{Cursor, Parser, parse};
+use crate::token::{ItemRef, LParen, RParen};
 use std::alloc::Global;
 use std::test::Fail;
 use wat_lex::lexer::TokenKind;
@@ -85,6 +86,38 @@ fn looks_make_no_request(rt: HostRuntime) -> Result<(), Fail> {
         assert!(rt; is_seen(parser));
         assert_eq!(rt; words_read(Cursor::new(parser)), 5);
     }
+    assert!(rt; matches!(refused_request(rt.alloc()), None | Some(4)));
+    Ok(())
+}
+
+const TYPED: &str = "12 13 (func $f) x";
+
+// The same of two buffers.
+#[test]
+fn two_buffers(rt: HostRuntime) -> Result<(), Fail> {
+    let _typed = buffer(&rt, rt.alloc(), TYPED)?;
+    let _whole = buffer(&rt, rt.alloc(), "12")?;
+    assert!(rt; matches!(refused_request(rt.alloc()), None | Some(4)));
+    Ok(())
+}
+
+/// Whether types of plain words are read, and seen, one behind another.
+fn is_read(parser: &mut Parser<'_>) -> bool {
+    matches!(parser.parse::<u32>(), Ok(12))
+        && matches!(parser.parse::<Option<u32>>(), Ok(Some(13)))
+        && parser.parse::<ItemRef<kw::func>>().is_ok()
+        && matches!(parser.peek::<u32>(), Ok(false))
+        && matches!(parser.peek::<kw::func>(), Ok(false))
+}
+
+// As above, of types that are read.
+#[test]
+fn reads_make_no_request(rt: HostRuntime) -> Result<(), Fail> {
+    let typed = buffer(&rt, rt.alloc(), TYPED)?;
+    let whole = buffer(&rt, rt.alloc(), "12")?;
+    assert!(rt; is_read(&mut typed.parser()));
+    assert!(rt; matches!(parse::<u32>(&whole), Ok(12)));
+    assert!(rt; matches!(parse::<Option<u32>>(&whole), Ok(Some(12))));
     assert!(rt; matches!(refused_request(rt.alloc()), None | Some(4)));
     Ok(())
 }

@@ -3,8 +3,8 @@ use Rattle.wat_lex.specs.grammar.Classes.{backslash}
 use Rattle.wat_lex.specs.tokens.ReadableTokens.{word_of}
 use Rattle.wat_lex.specs.values.Names.{HasNone}
 use Rattle.wat_lexer_parser.specs.parser.State.{seen_from}
-use Rattle.wat_lexer_parser.specs.parser.Takers.{may_take, string_takes, taken_from, as_string}
-use Rattle.wat_lexer_parser.proofs.parser.Escapes.{contained, may_take_at, wanting}
+use Rattle.wat_lexer_parser.specs.parser.Takers.{may_take_from, taken_from, as_string}
+use Rattle.wat_lexer_parser.proofs.parser.Escapes.{contained, may_take_string, wanting}
 use Rattle.wat_lexer_parser.proofs.parser.cursor.Cursor.string.Goals as goal
 
 pub returns-in_err-value-in-String-clause-value : goal.returns-in_err-value-in-String-clause-value
@@ -14,5 +14,5 @@ returns-in_err-value-in-String-clause-value c =
     let t = c.in-Some.token in
     let none : c.from_residual-in_err-value-in-String.result ≡ Err None = search rules in
     let e : seen_from a p ≡ Ok (Some (t, c.in-Some.at)) = search rules in
-    let f : may_take string_takes a p ≡ true = may_take_at string_takes a p c.in-Some.at t e ∙ contained backslash (word_of a.source.setting.text t) (λ h. let g : false ≡ true = c.in_err-value-in-String.ensures.free (subst (λ x. HasNone backslash (word_of x t)) (sym c.text.ensures) h) in cc) in
-    wanting (may_take string_takes a p) _ (taken_from as_string a p) c.from_residual-in_err-value-in-String.result none f
+    let f : may_take_from as_string a p ≡ true = may_take_string a p c.in-Some.at t e (search rules) ∙ contained backslash (word_of a.source.setting.text t) (λ h. let g : false ≡ true = c.in_err-value-in-String.ensures.free (subst (λ x. HasNone backslash (word_of x t)) (sym c.text.ensures) h) in cc) in
+    wanting (may_take_from as_string a p) _ (taken_from as_string a p) c.from_residual-in_err-value-in-String.result none f

@@ -1,0 +1,4 @@
+-- Lemmas on the values of tokens.
+pub mod Magnitudes
+pub mod Utf8
+pub mod WordMemory

@@ -1,0 +1,31 @@
+-- What a lookahead that has peeked at several types reports: which it might have been. No part of the standard.
+use Rattle.std.specs.Prelude.{ℕ, Bool, true, false, List, [], ◌∷◌, ◌++◌, codes, not, Result, Ok, Err}
+use Rattle.std.specs.List.{join_by}
+use Rattle.wat_lex.specs.errors.Errors.{Report}
+use Rattle.wat_lexer_parser.specs.parser.State.{State, report_here}
+use Rattle.wat_lexer_parser.specs.places.Places.{empty_of}
+use Rattle.wat_lexer_parser.specs.shown.Showing.{shown}
+
+-- the displays, with a comma and a space between two
+abbrev pub joined : List (List ℕ) → List ℕ
+joined xs = join_by (λ x. x) (codes ", ") xs
+
+-- the message of no attempts, by whether the end or `)` is shown
+abbrev pub unexpected : Bool → List ℕ
+unexpected true = codes "unexpected end of input"
+unexpected false = codes "unexpected token"
+
+abbrev pub attempts_message : Bool → List (List ℕ) → List ℕ
+attempts_message empty [] = unexpected empty
+attempts_message empty (x ∷ []) = codes "unexpected token, expected " ++ x
+attempts_message empty (x ∷ y ∷ []) = codes "unexpected token, expected " ++ (x ++ (codes " or " ++ y))
+attempts_message empty (x ∷ y ∷ z ∷ xs) = codes "unexpected token, expected one of: " ++ joined (x ∷ y ∷ z ∷ xs)
+
+-- the type is not seen, so that the attempt is kept, which may take memory
+abbrev pub is_missed : Result Bool Report → Bool
+is_missed (Ok seen) = not seen
+is_missed (Err f) = false
+
+abbrev pub attempts_report : State → List (List ℕ) → Report
+attempts_report a xs =
+    report_here a.source a.place a.names (attempts_message (empty_of (shown a.source a.place a.names)) xs)

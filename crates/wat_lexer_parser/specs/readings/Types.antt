@@ -1,0 +1,163 @@
+-- WebAssembly specification, text format: values (integers, strings, names, identifiers), lexical format (keywords), modules (indices);
+-- and the annotations proposal. What each type reads, and where peeking sees it.
+use Rattle.std.specs.Prelude.{ℕ, ◌-◌, ◌*◌, ◌^◌, nat_lt, nat_le, Bool, true, false, if◌then◌else◌, ℤ, pos, neg_ℤ, ◌-ℤ◌, List, ◌++◌, codes, Option, Some, None, Result, Ok, Err, bytes_eq}
+use Rattle.std.specs.Str.{is_utf8}
+use Rattle.wat_lex.specs.errors.Errors.{Report}
+use Rattle.wat_lex.specs.identifiers.Identifiers.{Identifier}
+use Rattle.wat_lex.specs.declared.lexer.kinds.TokenKind.TheVariants as kind
+use Rattle.wat_lex.specs.declared.token.Index.{Index}
+use Rattle.wat_lex.specs.declared.token.Index.TheVariants as index
+use Rattle.wat_lexer_parser.specs.parser.Sights.{Sight, TakesAt, sight_of, second, takes_second}
+use Rattle.wat_lexer_parser.specs.parser.State.{seen}
+use Rattle.wat_lexer_parser.specs.parser.Takers.{Reader, taken, may_take, as_id, as_integer, as_string, as_keyword, as_reserved, as_annotation, as_open}
+use Rattle.wat_lexer_parser.specs.readings.Readings.{Reading, token, refuse, refuse_behind, give, and_then, mapped, pair, spanned, allocated, checked, where_seen, optional, group, under}
+use Rattle.wat_words.specs.Words.{quoted, annotation_word}
+
+-- looks that take no memory
+abbrev pub free : TakesAt
+free s p names = false
+
+-- Identifiers: the name, the generation, and the byte at which it stands.
+
+pub record Spelled : Type 0 where
+  pub name : List ℕ
+  pub generation : ℕ
+  pub span : ℕ
+
+abbrev pub spelled : Identifier → Spelled
+spelled i = record { name = i.name; generation = i.generation; span = i.span }
+
+abbrev pub identifier : Reading Spelled
+identifier = mapped (λ v. record { name = v.0; generation = 0; span = v.1 }) (spanned (token as_id (codes "expected an identifier")))
+
+abbrev pub an_identifier : Sight
+an_identifier = sight_of as_id
+
+-- Integers, by whether the word has a minus, and the number that its digits write.
+
+-- no minus, not even before 0, and below a bound
+abbrev pub unsigned_below : ℕ → Bool × ℕ → Option ℕ
+unsigned_below bound (true, n) = None
+unsigned_below bound (false, n) = if nat_lt n bound then Some n else None
+
+-- from -half on, and below twice half, which stands for the number modulo that
+abbrev pub signed_within : ℕ → Bool × ℕ → Option ℤ
+signed_within half (true, n) = if nat_le n half then Some (neg_ℤ (pos n)) else None
+signed_within half (false, n) =
+    if nat_lt n half then Some (pos n) else if nat_lt n (2 * half) then Some (pos n -ℤ pos (2 * half)) else None
+
+abbrev pub integer : {V : Type 0} → List ℕ → (Bool × ℕ → Option V) → Reading V
+integer name fits =
+    checked fits (codes "invalid " ++ name ++ codes " number: constant out of range") (token as_integer (codes "expected a " ++ name))
+
+abbrev pub an_integer : Sight
+an_integer = sight_of as_integer
+
+-- Indices: an identifier, or a `u32` with the byte at which it stands.
+
+pub data Reference : Type 0 where
+  Number : ℕ → ℕ → Reference
+  Named : Spelled → Reference
+
+abbrev pub reference : Index → Reference
+reference (index.Num n span) = Number n span
+reference (index.Id i) = Named (spelled i)
+
+abbrev pub an_index : Reading Reference
+an_index =
+    where_seen an_identifier free (mapped Named identifier)
+    (where_seen an_integer free (mapped (λ v. Number v.0 v.1) (spanned (integer (codes "u32") (unsigned_below (2 ^ 32)))))
+    (refuse (codes "unexpected token, expected an index or an identifier")))
+
+abbrev pub as_index : Reader (Unit {0})
+as_index text t kind.Id = Some (Ok tt)
+as_index text t (kind.Integer k) = Some (Ok tt)
+as_index text t kind = None
+
+abbrev pub sees_index : Sight
+sees_index = sight_of as_index
+
+-- an item's kind and its index, in a group
+abbrev pub item : {V : Type 0} → Reading V → Reading (V × Reference)
+item m = group (pair m an_index)
+
+abbrev pub behind_open_by : (ℕ → Result Bool Report) → Result (Option (Unit {0} × ℕ)) Report → Result Bool Report
+behind_open_by look (Ok None) = Ok false
+behind_open_by look (Ok (Some (v, q))) = look q
+behind_open_by look (Err f) = Err f
+
+-- what is seen behind a `(`
+abbrev pub behind_open : Sight → Sight
+behind_open sight s p names = behind_open_by (λ q. sight s q names) (taken as_open s.setting.text (seen s p names))
+
+abbrev pub behind_open_takes_by : (ℕ → Bool) → Result (Option (Unit {0} × ℕ)) Report → Bool
+behind_open_takes_by takes (Ok None) = false
+behind_open_takes_by takes (Ok (Some (v, q))) = takes q
+behind_open_takes_by takes (Err f) = false
+
+abbrev pub behind_open_takes : TakesAt → TakesAt
+behind_open_takes takes s p names = behind_open_takes_by (λ q. takes s q names) (taken as_open s.setting.text (seen s p names))
+
+-- Strings: bytes, or a text of UTF-8, which may be kept in memory of its own.
+
+abbrev pub bytes : Reading (List ℕ)
+bytes = token as_string (codes "expected a string")
+
+abbrev pub utf8_or_refused : List ℕ → Reading (List ℕ)
+utf8_or_refused v = if is_utf8 v then give v else refuse_behind (codes "malformed UTF-8 encoding")
+
+abbrev pub text : Reading (List ℕ)
+text = and_then bytes utf8_or_refused
+
+abbrev pub owned_text : Reading (List ℕ)
+owned_text = allocated text
+
+abbrev pub a_string : Sight
+a_string = sight_of as_string
+
+-- Words: a token of a kind that spells one. The value is the byte at which it stands.
+
+abbrev pub spelling_by : List ℕ → Option (Result (List ℕ) Report) → Option (Result (Unit {0}) Report)
+spelling_by w None = None
+spelling_by w (Some (Ok v)) = if bytes_eq v w then Some (Ok tt) else None
+spelling_by w (Some (Err f)) = Some (Err f)
+
+-- such a token that spells this word, or whose name is at fault
+abbrev pub spelling : Reader (List ℕ) → List ℕ → Reader (Unit {0})
+spelling read w text t k = spelling_by w (read text t k)
+
+abbrev pub is_taken : {V : Type 0} → Result (Option (V × ℕ)) Report → Result Bool Report
+is_taken (Ok None) = Ok false
+is_taken (Ok (Some v)) = Ok true
+is_taken (Err f) = Err f
+
+abbrev pub word : Reader (List ℕ) → List ℕ → List ℕ → Reading ℕ
+word read w expected = mapped (λ v. v.1) (spanned (token (spelling read w) expected))
+
+abbrev pub sees_word : Reader (List ℕ) → List ℕ → Sight
+sees_word read w s p names = is_taken (taken (spelling read w) s.setting.text (seen s p names))
+
+unfoldable pub keyword : Bool → List ℕ → Reading ℕ
+keyword at w = word as_keyword w (codes "expected keyword " ++ quoted at w)
+
+unfoldable pub reserved_symbol : Bool → List ℕ → Reading ℕ
+reserved_symbol at w = word as_reserved w (codes "expected reserved symbol " ++ quoted at w)
+
+unfoldable pub annotation : Bool → List ℕ → Reading ℕ
+annotation at w = word as_annotation w (codes "expected annotation " ++ quoted at w)
+
+-- peeking compares each annotation's name, which may be decoded for it
+abbrev pub annotation_takes : TakesAt
+annotation_takes s p names = may_take as_annotation s.setting.text (seen s p names)
+
+-- the name that an annotation gives, behind `@name`; and such an annotation in a group, where `@name` is the second token
+abbrev pub name_annotation : Reading (List ℕ)
+name_annotation = and_then (annotation true (annotation_word 1)) (λ at. text)
+
+abbrev pub optional_name : Reading (Option (List ℕ))
+optional_name = optional (second (sees_word as_annotation (annotation_word 1))) (takes_second annotation_takes) (group name_annotation)
+
+-- under the standard annotations' names
+abbrev pub under_standard : {V : Type 0} → Reading V → Reading V
+under_standard m =
+    under (codes "custom") (under (codes "producers") (under (codes "name") (under (codes "dylink.0") (under (codes "metadata.code.branch_hint") m))))

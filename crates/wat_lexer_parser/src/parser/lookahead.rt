@@ -1,0 +1,109 @@
+//! A look at several types, one of which is expected.
+ghost use Rattle.std.specs.Prelude.{◌≡◌, ◌||◌, ◌++◌, ◌∷◌, [], OnErr, IfOk, cond};
+ghost use Rattle.std.specs.Prelude.{codes, map, string_bytes};
+ghost use Rattle.wat_lex.specs.errors.Errors.{IsUnlessMemory};
+ghost use Rattle.wat_lexer_parser.specs.parser.State.{Answers};
+ghost use Rattle.wat_lexer_parser.specs.readings.Attempts.{attempts_message, attempts_report};
+ghost use Rattle.wat_lexer_parser.specs.readings.Attempts.{is_missed, joined};
+
+use crate::parser::{Parser, Peek};
+use std::alloc::{AllocError, Global};
+use std::marker::Model;
+use wat_lex::error::Error;
+
+/// A look at what is shown that remembers at which types it peeked in vain, for the message that
+/// one of them was expected.
+#[derive(Drop)]
+pub struct Lookahead1<'p, 'a> {
+    parser: &'p Parser<'a>,
+    attempts: Vec<&'static str>,
+}
+
+impl<'p, 'a> Model for Lookahead1<'p, 'a> {
+    ghost use Rattle.std.specs.Prelude.{List, ℕ, map};
+    ghost use Rattle.std.specs.Coded.{coded_ℕ, coded_list, coded×};
+    ghost use Rattle.wat_lexer_parser.specs.inside.Codes.{state_code};
+    ghost use Rattle.wat_lexer_parser.specs.parser.State.{State};
+
+    ghost Value = { State × List (List ℕ) };
+
+    ghost coded = { coded× state_code (coded_list (coded_list coded_ℕ)) };
+
+    ghost view = { λ l. (l.parser.now, map (λ t. t.now) l.attempts.items) };
+}
+
+impl<'p, 'a> Lookahead1<'p, 'a> {
+    pub(crate) fn new(parser: &'p Parser<'a>) -> Lookahead1<'p, 'a>
+        ensures { result ≡ (parser.now, []) }
+    {
+        Lookahead1 {
+            parser,
+            attempts: Vec::new(parser.alloc()),
+        }
+    }
+
+    /// Whether a type is seen at the parser's place. One that is not is remembered.
+    pub fn peek<T: Peek>(&mut self) -> Result<bool, Error>
+        ensures value { Answers
+            (T.takes self.old.0.source self.old.0.place self.old.0.names
+            || is_missed (T.sight self.old.0.source self.old.0.place self.old.0.names)) (λ b. b)
+            (T.sight self.old.0.source self.old.0.place self.old.0.names) result }
+        ensures kept { IfOk result (λ seen. self.new ≡
+            (self.old.0, cond seen self.old.1 (self.old.1 ++ T.shows ∷ []))) }
+        ensures refused { OnErr result (self.new ≡ self.old) }
+    {
+        if self.parser.peek::<T>()? {
+            return Ok(true);
+        }
+        self.attempts.push(T::display())?;
+        Ok(false)
+    }
+
+    /// The parser that is looked at.
+    pub fn parser(&self) -> &Parser<'a>
+        ensures { result.now ≡ self.now.0 }
+    {
+        self.parser
+    }
+
+    /// The error at the current span that one of the types was expected which were not seen.
+    pub fn error(self) -> Error
+        ensures { IsUnlessMemory result (attempts_report self.entry.0 self.entry.1) }
+    {
+        let parser = self.parser;
+        match message(parser.alloc(), parser.is_empty(), &self.attempts) {
+            Ok(message) => parser.error(message.as_str()),
+            Err(_) => Error::out_of_memory(),
+        }
+    }
+}
+
+/// What was expected: one of the types that were not seen, or, of none, anything but the end.
+fn message(alloc: Global, is_empty: bool, attempts: &[&'static str]) -> Result<String, AllocError>
+    ensures { IfOk result (λ message. string_bytes message ≡
+        attempts_message is_empty (map (λ t. t.now) attempts.now)) }
+{
+    let Some((one, others)) = attempts.split_first() else {
+        if is_empty {
+            return String::from_str(alloc, "unexpected end of input");
+        }
+        return String::from_str(alloc, "unexpected token");
+    };
+    let Some((other, more)) = others.split_first() else {
+        return format!(in alloc; "unexpected token, expected {one}");
+    };
+    let Some(_) = more.split_first() else {
+        return format!(in alloc; "unexpected token, expected {one} or {other}");
+    };
+    one_of(alloc, attempts)
+}
+
+/// That one of several types was expected.
+#[tactic(auto, using(crate::proofs::parser::Joins::join_mapped))]
+fn one_of(alloc: Global, attempts: &[&'static str]) -> Result<String, AllocError>
+    ensures { IfOk result (λ message. string_bytes message ≡
+        codes "unexpected token, expected one of: " ++ joined (map (λ t. t.now) attempts.now)) }
+{
+    let all = attempts.join(alloc, ", ")?;
+    format!(in alloc; "unexpected token, expected one of: {all}")
+}

@@ -1,0 +1,163 @@
+//! Calls of a parser that read a type.
+ghost use Rattle.std.specs.Prelude.{◌≡◌, ◌≤◌, [], OnErr};
+ghost use Rattle.wat_lexer_parser.specs.readings.Readings.{group, pair, under};
+ghost use Rattle.wat_lexer_parser.specs.readings.Reads.{IsKept, Reads, reading_at};
+ghost use Rattle.wat_lexer_parser.specs.readings.Types.{an_index, item, reference};
+ghost use Rattle.wat_lexer_parser.specs.readings.Types.{under_standard};
+
+use crate::parser::{Lookahead1, Parse, Parser};
+use std::marker::PhantomData;
+use wat_lex::error::Error;
+use wat_lex::token::Index;
+use wat_words::{StdAnnotation, Word};
+
+/// What is read where annotations of a name are shown.
+#[derive(Drop)]
+struct Under<N: Word, T> {
+    value: T,
+    of: PhantomData<N>,
+}
+
+impl<'a, N: Word, T: Parse<'a>> Parse<'a> for Under<N, T> {
+    ghost use Rattle.wat_lexer_parser.specs.lemmas.ReadingLaws.{forward_under};
+    ghost use Rattle.wat_lexer_parser.specs.readings.Readings.{under};
+
+    ghost Value = { T.Value };
+
+    ghost value = { λ u. T.value u.value };
+
+    ghost meaning = { under N.text T.meaning };
+
+    fn parse(parser: &mut Parser<'a>) -> Result<Under<N, T>, Error> {
+        Ok(Under {
+            value: parser.with_annotation::<T>(N::word())?,
+            of: PhantomData,
+        })
+    }
+
+    ghost forward = { forward_under N.text T.meaning T.forward };
+}
+
+impl<'a> Parser<'a> {
+    /// Reads a type.
+    pub fn parse<T: Parse<'a>>(&mut self) -> Result<T, Error>
+        ensures kept { IsKept self.old self.new }
+        ensures on { self.old.place ≤ self.new.place }
+        ensures reads { Reads T.value (reading_at T.meaning self.old) result self.new.place }
+    {
+        T::parse(self)
+    }
+
+    /// Takes `(`, reads a type with the depth one more, and takes `)`. Where one of them refuses, the
+    /// parser is put back.
+    pub fn parens_of<T: Parse<'a>>(&mut self) -> Result<T, Error>
+        ensures kept { IsKept self.old self.new }
+        ensures on { self.old.place ≤ self.new.place }
+        ensures reads { Reads T.value (reading_at (group T.meaning) self.old) result self.new.place }
+        ensures back { OnErr result (self.new ≡ self.old) }
+    {
+        let place = self.place;
+        let depth = self.depth;
+        self.reading.is_read();
+        self.open()?;
+        self.depth += 1;
+        let result = self.parse::<T>();
+        self.depth = depth;
+        match result {
+            Ok(value) => match self.close() {
+                Ok(()) => Ok(value),
+                Err(e) => {
+                    self.place = place;
+                    Err(e)
+                }
+            },
+            Err(e) => {
+                self.place = place;
+                Err(e)
+            }
+        }
+    }
+
+    /// Reads a type where annotations of this name are shown. The name is taken back, also where the
+    /// type refuses.
+    pub fn with_annotation<T: Parse<'a>>(&mut self, name: &str) -> Result<T, Error>
+        ensures kept { IsKept self.old self.new }
+        ensures on { self.old.place ≤ self.new.place }
+        ensures reads { Reads T.value (reading_at (under name.now T.meaning) self.old) result
+            self.new.place }
+    {
+        self.register_annotation(name)?;
+        let result = self.parse::<T>();
+        self.unregister_annotation(name);
+        result
+    }
+
+    /// Reads a type where the standard annotations are shown: `custom`, `producers`, `name`,
+    /// `dylink.0` and `metadata.code.branch_hint`. All names are taken back, also where the type
+    /// refuses or one of them can't be registered.
+    #[tactic(auto, unfolding(wat_words::specs::Words::annotation_word, wat_words::specs::Words::annotation_words))]
+    pub fn with_standard_annotations_registered<T: Parse<'a>>(&mut self) -> Result<T, Error>
+        ensures kept { IsKept self.old self.new }
+        ensures on { self.old.place ≤ self.new.place }
+        ensures reads { Reads T.value
+            (reading_at (under_standard T.meaning) self.old) result self.new.place }
+    {
+        let value = self.parse::<
+            Under<
+                StdAnnotation<0>,
+                Under<
+                    StdAnnotation<2>,
+                    Under<StdAnnotation<1>, Under<StdAnnotation<3>, Under<StdAnnotation<4>, T>>>,
+                >,
+            >,
+        >()?;
+        Ok(value.value.value.value.value.value)
+    }
+
+    /// Reads a kind and an index in a group, as [`parens_of`](Parser::parens_of) does.
+    pub(crate) fn parens_of_item<K: Parse<'a>>(&mut self) -> Result<(K, Index<'a>), Error>
+        ensures kept { IsKept self.old self.new }
+        ensures on { self.old.place ≤ self.new.place }
+        ensures reads { Reads (λ v. (K.value v.0, reference v.1))
+            (reading_at (item K.meaning) self.old) result self.new.place }
+    {
+        let place = self.place;
+        let depth = self.depth;
+        self.reading.is_read();
+        self.open()?;
+        self.depth += 1;
+        let result = self.item::<K>();
+        self.depth = depth;
+        match result {
+            Ok(item) => match self.close() {
+                Ok(()) => Ok(item),
+                Err(e) => {
+                    self.place = place;
+                    Err(e)
+                }
+            },
+            Err(e) => {
+                self.place = place;
+                Err(e)
+            }
+        }
+    }
+
+    fn item<K: Parse<'a>>(&mut self) -> Result<(K, Index<'a>), Error>
+        ensures kept { IsKept self.old self.new }
+        ensures on { self.old.place ≤ self.new.place }
+        ensures reads { Reads (λ v. (K.value v.0, reference v.1))
+            (reading_at (pair K.meaning an_index) self.old) result self.new.place }
+    {
+        let kind = self.parse::<K>()?;
+        let idx = self.parse::<Index<'a>>()?;
+        Ok((kind, idx))
+    }
+
+    /// A look at several types, one of which is expected at the place.
+    pub fn lookahead1(&self) -> Lookahead1<'_, 'a>
+        ensures { result ≡ (self.now, []) }
+    {
+        Lookahead1::new(self)
+    }
+}

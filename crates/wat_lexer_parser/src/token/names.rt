@@ -1,0 +1,72 @@
+//! The annotation `@name "..."`, which names an item.
+
+use crate::annotation;
+use crate::parser::{Parse, Parser};
+use std::alloc::{AllocError, Global};
+use std::borrow::CowStr;
+use wat_lex::error::Error;
+
+/// The annotation `@name` with the name that it gives.
+#[derive(Debug, PartialEq, Eq, Drop)]
+pub struct NameAnnotation<'a> {
+    /// The name that is given.
+    pub name: CowStr<'a>,
+}
+
+impl<'a> NameAnnotation<'a> {
+    ghost use Rattle.std.specs.Prelude.{◌≡◌, ◌≤◌, IfOk, Option};
+    ghost use Rattle.std.specs.Cow.{cow_str_bytes, IsBorrowedStr};
+    ghost use Rattle.std.specs.Prelude.{IsOk};
+    ghost use Rattle.std.specs.Option.{option_map};
+    ghost use Rattle.wat_lexer_parser.specs.readings.Reads.{IsKept, Reads, reading_at};
+    ghost use Rattle.wat_lexer_parser.specs.readings.Types.{optional_name};
+
+    /// Reads `(@name "..")` where `@name` is the second token that is shown, which takes the name's
+    /// being registered; else None, and nothing is taken.
+    pub fn parse_option(parser: &mut Parser<'a>) -> Result<Option<NameAnnotation<'a>>, Error>
+        ensures kept { IsKept parser.old parser.new }
+        ensures on { parser.old.place ≤ parser.new.place }
+        ensures reads { Reads (option_map (λ n. cow_str_bytes n.name))
+            (reading_at optional_name parser.old) result parser.new.place }
+    {
+        if parser.peek2::<annotation::name>()? {
+            Ok(Some(parser.parens_of::<NameAnnotation>()?))
+        } else {
+            Ok(None)
+        }
+    }
+
+    /// A copy. An owned name is copied too. Of a borrowed one the copy takes no memory.
+    pub fn clone(&self, alloc: Global) -> Result<Self, AllocError>
+        ensures copy { IfOk result (λ copy.
+            cow_str_bytes copy.name ≡ cow_str_bytes self.now.name) }
+        ensures free { IsBorrowedStr self.now.name → IsOk result }
+    {
+        let name = match &self.name {
+            CowStr::Borrowed(name) => CowStr::Borrowed(*name),
+            CowStr::Owned(name) => CowStr::Owned(String::from_str(alloc, name.as_str())?),
+        };
+        Ok(NameAnnotation { name })
+    }
+}
+
+impl<'a> Parse<'a> for NameAnnotation<'a> {
+    ghost use Rattle.std.specs.Prelude.{List, ℕ};
+    ghost use Rattle.std.specs.Cow.{cow_str_bytes};
+    ghost use Rattle.wat_lexer_parser.specs.lemmas.TypeLaws.{forward_name_annotation};
+    ghost use Rattle.wat_lexer_parser.specs.readings.Types.{name_annotation};
+
+    ghost Value = { List ℕ };
+
+    ghost value = { λ n. cow_str_bytes n.name };
+
+    ghost meaning = { name_annotation };
+
+    fn parse(parser: &mut Parser<'a>) -> Result<NameAnnotation<'a>, Error> {
+        parser.parse::<annotation::name>()?;
+        let name = parser.parse::<CowStr>()?;
+        Ok(NameAnnotation { name })
+    }
+
+    ghost forward = { forward_name_annotation };
+}

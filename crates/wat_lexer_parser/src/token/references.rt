@@ -1,0 +1,160 @@
+//! Identifiers and indices.
+ghost use Rattle.std.specs.Prelude.{◌≡◌, codes};
+ghost use Rattle.wat_lexer_parser.specs.parser.State.{Answers};
+
+use crate::parser::{Cursor, Parse, Parser, Peek};
+use wat_lex::error::Error;
+use wat_lex::lexer::TokenKind;
+use wat_lex::token::{Id, Index, Span};
+
+impl<'a> Parse<'a> for Id<'a> {
+    ghost use Rattle.wat_lexer_parser.specs.lemmas.TypeLaws.{forward_identifier};
+    ghost use Rattle.wat_lexer_parser.specs.readings.Types.{Spelled, identifier, spelled};
+
+    ghost Value = { Spelled };
+
+    ghost value = { λ i. spelled i };
+
+    ghost meaning = { identifier };
+
+    fn parse(parser: &mut Parser<'a>) -> Result<Id<'a>, Error> {
+        parser.step(|c| match c.id()? {
+            Some((name, next)) => Ok((Id::from_cow(name, c.cur_span()), next)),
+            None => Err(c.error("expected an identifier")),
+        })
+    }
+
+    ghost forward = { forward_identifier };
+}
+
+impl<'a> Peek for Id<'a> {
+    ghost use Rattle.wat_lexer_parser.specs.readings.Types.{an_identifier, free};
+
+    ghost sight = { an_identifier };
+
+    ghost takes = { free };
+
+    ghost shows = { codes "an identifier" };
+
+    fn peek(cursor: Cursor<'_, '_>) -> Result<bool, Error>
+        ensures { Answers (free cursor.entry.parser.now.source cursor.entry.at
+            cursor.entry.parser.now.names) (λ b. b)
+            (an_identifier cursor.entry.parser.now.source cursor.entry.at
+            cursor.entry.parser.now.names) result }
+    {
+        cursor.peek_id()
+    }
+
+    fn display() -> &'static str
+        ensures { result.now ≡ codes "an identifier" }
+    {
+        "an identifier"
+    }
+}
+
+impl<'a> Parse<'a> for Index<'a> {
+    ghost use Rattle.wat_lexer_parser.specs.lemmas.TypeLaws.{forward_index};
+    ghost use Rattle.wat_lexer_parser.specs.readings.Types.{Reference, an_index, reference};
+
+    ghost Value = { Reference };
+
+    ghost value = { λ i. reference i };
+
+    ghost meaning = { an_index };
+
+    fn parse(parser: &mut Parser<'a>) -> Result<Index<'a>, Error> {
+        if parser.peek::<Id>()? {
+            return Ok(Index::Id(parser.parse::<Id>()?));
+        }
+        if parser.peek::<u32>()? {
+            let (number, span) = parser.parse::<(u32, Span)>()?;
+            return Ok(Index::Num(number, span));
+        }
+        Err(parser.error("unexpected token, expected an index or an identifier"))
+    }
+
+    ghost forward = { forward_index };
+}
+
+impl<'a> Peek for Index<'a> {
+    ghost use Rattle.wat_lexer_parser.specs.readings.Types.{free, sees_index};
+
+    ghost sight = { sees_index };
+
+    ghost takes = { free };
+
+    ghost shows = { codes "an index" };
+
+    fn peek(cursor: Cursor<'_, '_>) -> Result<bool, Error>
+        ensures { Answers (free cursor.entry.parser.now.source cursor.entry.at
+            cursor.entry.parser.now.names) (λ b. b)
+            (sees_index cursor.entry.parser.now.source cursor.entry.at
+            cursor.entry.parser.now.names) result }
+    {
+        match cursor.token()? {
+            Some(token) => Ok(matches!(token.kind, TokenKind::Id | TokenKind::Integer(_))),
+            None => Ok(false),
+        }
+    }
+
+    fn display() -> &'static str
+        ensures { result.now ≡ codes "an index" }
+    {
+        "an index"
+    }
+}
+
+/// A reference to an item of a kind, as `(func $f)`.
+#[derive(Debug, Drop)]
+pub struct ItemRef<'a, K> {
+    /// The kind of the item.
+    pub kind: K,
+    /// Which item it is.
+    pub idx: Index<'a>,
+}
+
+impl<'a, K: Parse<'a>> Parse<'a> for ItemRef<'a, K> {
+    ghost use Rattle.wat_lexer_parser.specs.lemmas.TypeLaws.{forward_item};
+    ghost use Rattle.wat_lexer_parser.specs.readings.Types.{Reference, item, reference};
+
+    ghost Value = { K.Value × Reference };
+
+    ghost value = { λ i. (K.value i.kind, reference i.idx) };
+
+    ghost meaning = { item K.meaning };
+
+    fn parse(parser: &mut Parser<'a>) -> Result<ItemRef<'a, K>, Error> {
+        let (kind, idx) = parser.parens_of_item::<K>()?;
+        Ok(ItemRef { kind, idx })
+    }
+
+    ghost forward = { forward_item K.meaning K.forward };
+}
+
+impl<'a, K: Peek> Peek for ItemRef<'a, K> {
+    ghost use Rattle.wat_lexer_parser.specs.readings.Types.{behind_open, behind_open_takes};
+
+    ghost sight = { behind_open K.sight };
+
+    ghost takes = { behind_open_takes K.takes };
+
+    ghost shows = { codes "an item reference" };
+
+    fn peek(cursor: Cursor<'_, '_>) -> Result<bool, Error>
+        ensures { Answers (behind_open_takes K.takes cursor.entry.parser.now.source cursor.entry.at
+            cursor.entry.parser.now.names) (λ b. b)
+            (behind_open K.sight cursor.entry.parser.now.source cursor.entry.at
+            cursor.entry.parser.now.names) result }
+    {
+        match cursor.lparen()? {
+            Some(next) => K::peek(next),
+            None => Ok(false),
+        }
+    }
+
+    fn display() -> &'static str
+        ensures { result.now ≡ codes "an item reference" }
+    {
+        "an item reference"
+    }
+}

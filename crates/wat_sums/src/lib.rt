@@ -1,0 +1,118 @@
+//! Sums: an s-expression format of its own, over the parser of WebAssembly text.
+//!
+//! A text is one sum, `(sum TERM..)`. A term is a number of 32 bits, or `(neg NUMBER)`. White space,
+//! comments and numbers are those of WebAssembly.
+#![tactic(auto)]
+
+ghost use Rattle.std.specs.Prelude.{◌≡◌, ◌≤◌, ◌<◌, ◌^◌, length, map, true, false};
+ghost use Rattle.wat_lexer_parser.specs.parser.State.{Answers};
+ghost use Rattle.wat_lexer_parser.specs.places.Source.{Source, IsRead};
+ghost use Rattle.wat_lexer_parser.specs.readings.Readings.{many, whole};
+ghost use Rattle.wat_lexer_parser.specs.readings.Reads.{IsKept, Reads, reading_at};
+ghost use Rattle.wat_sums.specs.Sums.{negative, sum, term};
+
+pub mod kw;
+#[cfg(test)]
+mod tests;
+
+use std::alloc::Global;
+use wat_lexer_parser::Error;
+use wat_lexer_parser::parser::{Parse, ParseBuffer, Parser, parse};
+use wat_lexer_parser::token::LParen;
+
+/// A term of a sum.
+#[derive(Debug, Clone, Copy, PartialEq, Eq)]
+pub struct Term(pub i64);
+
+impl<'a> Parse<'a> for Term {
+    ghost use Rattle.std.specs.Prelude.{ℤ};
+    ghost use Rattle.wat_sums.specs.Sums.{forward_term, term};
+
+    ghost Value = { ℤ };
+
+    ghost value = { λ t. t.0 };
+
+    ghost meaning = { term };
+
+    #[tactic(auto, unfolding(crate::specs::Sums::term))]
+    fn parse(parser: &mut Parser<'a>) -> Result<Term, Error> {
+        let mut lookahead = parser.lookahead1();
+        if lookahead.peek::<u32>()? {
+            drop(lookahead);
+            return Ok(Term(i64::from(parser.parse::<u32>()?)));
+        }
+        if lookahead.peek::<LParen>()? {
+            drop(lookahead);
+            return parser.parens(negative);
+        }
+        Err(lookahead.error())
+    }
+
+    ghost forward = { forward_term };
+}
+
+/// A number behind `neg`, which stands for its negative.
+#[tactic(auto, unfolding(crate::specs::Sums::negative))]
+fn negative(parser: &mut Parser<'_>) -> Result<Term, Error>
+    ensures kept { IsKept parser.old parser.new }
+    ensures on { parser.old.place ≤ parser.new.place }
+    ensures reads { Reads (λ t. t.0) (reading_at negative parser.old) result parser.new.place }
+{
+    parser.parse::<kw::neg>()?;
+    Ok(Term(-i64::from(parser.parse::<u32>()?)))
+}
+
+/// A sum, as its terms.
+#[derive(Debug, Drop)]
+pub struct Sum {
+    /// The terms, in their order.
+    pub terms: Vec<Term>,
+}
+
+impl<'a> Parse<'a> for Sum {
+    ghost use Rattle.std.specs.Prelude.{List, ℤ, map};
+    ghost use Rattle.wat_sums.specs.Sums.{forward_sum, sum};
+
+    ghost Value = { List ℤ };
+
+    ghost value = { λ s. map (λ t. t.0) s.terms.items };
+
+    ghost meaning = { sum };
+
+    #[tactic(auto, unfolding(crate::specs::Sums::sum))]
+    fn parse(parser: &mut Parser<'a>) -> Result<Sum, Error> {
+        parser.parens(|p| {
+            p.parse::<kw::sum>()?;
+            Ok(Sum { terms: terms(p)? })
+        })
+    }
+
+    ghost forward = { forward_sum };
+}
+
+/// All terms before `)`.
+fn terms(parser: &mut Parser<'_>) -> Result<Vec<Term>, Error>
+    ensures kept { IsKept parser.old parser.new }
+    ensures on { parser.old.place ≤ parser.new.place }
+    ensures reads { Reads (λ v. map (λ t. t.0) v.items) (reading_at (many term) parser.old) result
+        parser.new.place }
+{
+    let mut terms = Vec::new(parser.alloc());
+    while !parser.is_empty() {
+        terms.push(parser.parse::<Term>()?)?;
+    }
+    Ok(terms)
+}
+
+/// The sum that a text spells: its terms exactly where the text is a sum, and else what is wrong.
+pub fn read(alloc: Global, text: &str) -> Result<Sum, Error>
+    requires { length text.now < 2 ^ 32 }
+    ensures { (s : Source) → IsRead s → s.setting ≡ record {
+          text = text.now;
+          flags = record { allow = false; strict = false };
+        } → s.track ≡ false →
+        Answers true (λ v. map (λ t. t.0) v.terms.items) (whole sum s) result }
+{
+    let buffer = ParseBuffer::new(alloc, text)?;
+    parse::<Sum>(&buffer)
+}
