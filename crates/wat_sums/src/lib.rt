@@ -108,9 +108,9 @@ fn terms(parser: &mut Parser<'_>) -> Result<Vec<Term>, Error>
 pub fn read(alloc: Global, text: &str) -> Result<Sum, Error>
     requires { length text.now < 2 ^ 32 }
     ensures { (s : Source) → IsRead s → s.setting ≡ record {
-          text = text.now;
-          flags = record { allow = false; strict = false };
-        } → s.track ≡ false →
+      text = text.now;
+      flags = record { allow = false; strict = false };
+    } → s.track ≡ false →
         Answers true (λ v. map (λ t. t.0) v.terms.items) (whole sum s) result }
 {
     let buffer = ParseBuffer::new(alloc, text)?;

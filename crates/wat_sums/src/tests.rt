@@ -20,8 +20,18 @@ fn spells(rt: &impl Abort, alloc: Global, text: &str, terms: &[Term]) {
 fn sums(rt: HostRuntime) {
     let alloc = rt.alloc();
     spells(&rt, alloc, "(sum)", &[]);
-    spells(&rt, alloc, "(sum 1 2 (neg 3))", &[Term(1), Term(2), Term(-3)]);
-    spells(&rt, alloc, "(;a;) ( sum 0x10 (@b c) +7 ) ;;d", &[Term(16), Term(7)]);
+    spells(
+        &rt,
+        alloc,
+        "(sum 1 2 (neg 3))",
+        &[Term(1), Term(2), Term(-3)],
+    );
+    spells(
+        &rt,
+        alloc,
+        "(;a;) ( sum 0x10 (@b c) +7 ) ;;d",
+        &[Term(16), Term(7)],
+    );
 }
 
 fn refuses(
@@ -53,6 +63,12 @@ fn refusals(rt: HostRuntime) -> Result<(), Fail> {
     let range = "invalid u32 number: constant out of range";
     refuses(&rt, alloc, "(sum -1)", 5, range)?;
     refuses(&rt, alloc, "(sum 1", 6, "expected `)`")?;
-    refuses(&rt, alloc, "(sum 1) 2", 8, "extra tokens remaining after parse")?;
+    refuses(
+        &rt,
+        alloc,
+        "(sum 1) 2",
+        8,
+        "extra tokens remaining after parse",
+    )?;
     refuses(&rt, alloc, "(sum \"", 6, "unexpected end-of-file")
 }
