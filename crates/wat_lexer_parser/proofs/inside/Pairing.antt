@@ -9,7 +9,7 @@ use Rattle.wat_lex.specs.declared.lexer.kinds.TokenKind.TheVariants.{LParen, RPa
 use Rattle.wat_lex.specs.declared.lexer.kinds.Token.{Token}
 use Rattle.wat_lexer_parser.specs.groups.Sorts.{is_paren}
 use Rattle.wat_lexer_parser.proofs.groups.Closing.{Closed, close, beyond, nested}
-use Rattle.wat_lexer_parser.specs.inside.Table.{Pair, Paired, Opening, NoneBefore, ClosesOne, Sorted}
+use Rattle.wat_lexer_parser.specs.inside.Table.{Pair, Paired, Opening, FirstFrom, ClosesOne, Sorted}
 use Rattle.wat_lexer_parser.proofs.groups.Closing.{Closings, at_nil, at_close, at_plain, at_open, kind_cases, closed_from, group_from}
 
 -- what closes s is what closes n groups in t
@@ -71,13 +71,26 @@ opens_at ts opens i g t o a l e =
     let f : get_or ts i t ≡ h.0 = get_or_from_slice_get ts i h.0 t (ap (slice_get ts) (sym e) ∙ h.1) in
     ap (λ x. x.kind) (a.is ∙ f) ∙ h.2
 
-pub walk_start : (ts : List Token) (i : ℕ) (opens : List ℕ) (ps : List (Option ℕ)) → NoneBefore opens i → ps ≡ replicate (length opens) None → Walked ts i [] opens ps
+pub walk_start : (ts : List Token) (i : ℕ) (opens : List ℕ) (ps : List (Option ℕ)) → FirstFrom opens 0 i → ps ≡ replicate (length opens) None → Walked ts i [] opens ps
 walk_start ts i opens ps n e = record {
   long = ap length e ∙ length-replicate (length opens) None;
   below = λ q h. absurd (omega arith);
   reaches = λ q h. absurd (omega arith);
   fresh = λ g l h. ap (λ x. get_or x g None) e ∙ get_or-replicate (length opens) g None None l;
-  passed = λ g l h. absurd (omega (arith, n g l));
+  passed = λ g l h. absurd (omega (arith, n g l (omega arith)));
+}
+
+-- where no parenthesis is open, what lies before the next of the places is passed over
+pub walk_on : (ts : List Token) (i j : ℕ) (ks opens : List ℕ) (ps : List (Option ℕ)) → length ks ≡ 0 → i ≤ j → FirstFrom opens i j → Walked ts i ks opens ps → Walked ts j ks opens ps
+walk_on ts i j ks opens ps z h n w = record {
+  long = w.long;
+  below = λ q l. absurd (omega arith);
+  reaches = λ q l. absurd (omega arith);
+  fresh = λ g l k. w.fresh g l (omega arith);
+  passed = λ g l k. elim (cases_lt (get_or opens g 0) i) [
+    | inl b ↦ w.passed g l b
+    | inr b ↦ absurd (omega (arith, n g l b))
+  ];
 }
 
 passed_more : (ts : List Token) (ks js : List ℕ) (m : ℕ) (x : Option ℕ) → Passed ts ks m x → Passed ts (ks ++ js) m x

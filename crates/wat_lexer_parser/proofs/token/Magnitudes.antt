@@ -1,32 +1,9 @@
 -- The digits of an integer behind its sign.
-use Rattle.std.proofs.Common.{◌≡◌, ◌≢◌, ◌∙◌, ◌≤◌, ◌<◌, ℕ, List, [], ◌∷◌, Bool, true, false, refl, sym, ap, subst, arith, inl, inr}
+use Rattle.std.proofs.Common.{◌≡◌, ◌≢◌, ◌≤◌, ◌<◌, ◌+◌, ◌*◌, ◌^◌, ℕ, List, [], ◌∷◌, refl, ap, arith, inl, inr}
 use Rattle.std.specs.Prelude.{◌==◌}
-use Rattle.std.specs.Char.{digit_value}
-use Rattle.wat_lex.specs.values.NumberValues.{base}
-use Rattle.std.proofs.lemmas.Bool.{cases_lt, cases_Bool, eqb-true}
-use Rattle.std.specs.Str.Parse.{IsNumeral, digits_value, without_leading_sign, without_leading_plus}
-
--- a numeral that does not fit is great
-pub too_great : (b k : ℕ) (ds : List ℕ) → IsNumeral b ds → (IsNumeral b ds × (digits_value b ds < k) → ⊥) → k ≤ digits_value b ds
-too_great b k ds h n = elim (cases_lt (digits_value b ds) k) [
-  | inl l ↦ absurd (n (h, l))
-  | inr l ↦ l
-]
-
-not_plus : (b c : ℕ) → b ≤ 36 → digit_value c < b → (c == 43) ≡ false
-not_plus b c l h = elim (cases_Bool (c == 43)) [
-  | inl e ↦ let k : digit_value 43 < b = subst (λ x. digit_value x < b) (eqb-true c 43 e) h in absurd (omega arith)
-  | inr e ↦ e
-]
-
-plain_digits : (b : ℕ) (ds : List ℕ) → b ≤ 36 → IsNumeral b ds → without_leading_plus ds ≡ ds
-plain_digits b [] l h = refl
-plain_digits b (c ∷ cs) l h = rw (not_plus b c l h.1.0) refl
-
-pub behind_minus : (b : ℕ) (ds rest : List ℕ) → ds ≡ 45 ∷ rest → b ≤ 36 → IsNumeral b (without_leading_sign ds) → without_leading_plus rest ≡ without_leading_sign ds
-behind_minus b ds rest e l h =
-    let k : without_leading_sign ds ≡ rest = ap without_leading_sign e in
-    plain_digits b rest l (subst (IsNumeral b) k h) ∙ sym k
+use Rattle.std.proofs.Math.Nat.{pow-le-pow_right}
+use Rattle.std.proofs.lemmas.Bool.{cases_Bool, eqb-true}
+use Rattle.std.specs.Str.Parse.{without_leading_sign, without_leading_plus}
 
 pub no_minus : (ds : List ℕ) → ((rest : List ℕ) → ds ≢ 45 ∷ rest) → without_leading_plus ds ≡ without_leading_sign ds
 no_minus [] n = refl
@@ -35,6 +12,17 @@ no_minus (c ∷ cs) n = elim (cases_Bool (c == 45)) [
   | inr e ↦ rw e refl
 ]
 
-pub base_small : (h : Bool) → base h ≤ 36
-base_small true = omega arith
-base_small false = omega arith
+pub no_plus : (ds : List ℕ) → ((rest : List ℕ) → ds ≢ 43 ∷ rest) → ds ≡ without_leading_plus ds
+no_plus [] n = refl
+no_plus (c ∷ cs) n = elim (cases_Bool (c == 43)) [
+  | inl e ↦ absurd (n cs (ap (λ x. x ∷ cs) (eqb-true c 43 e)))
+  | inr e ↦ rw e refl
+]
+
+-- a digit behind at most 18 fits in 64 bits
+pub one_more_fits : (v i d : ℕ) → v < 10 ^ i → i < 19 → d < 10 → v * 10 + d < 2 ^ 64
+one_more_fits v i d l k f =
+    let ten : 0 < 10 = omega arith in
+    let few : i ≤ 18 = omega arith in
+    let most : 10 ^ i ≤ 10 ^ 18 = pow-le-pow_right ten few in
+    omega arith

@@ -71,9 +71,9 @@ Pair ts i (Some j) = (i < j) × (j < length ts) × Group (drop (i + 1) ts) (drop
 abbrev pub Opening : List Token → List ℕ → Type 0
 Opening ts opens = (g : ℕ) → g < length opens → (t : Token) × (slice_get ts (get_or opens g 0) ≡ Some t) × (t.kind ≡ LParen)
 
--- no place is before the first
-abbrev pub NoneBefore : List ℕ → ℕ → Type 0
-NoneBefore opens i = (g : ℕ) → g < length opens → i ≤ get_or opens g 0
+-- no place is from i on and before j
+abbrev pub FirstFrom : List ℕ → ℕ → ℕ → Type 0
+FirstFrom opens i j = (g : ℕ) → g < length opens → i ≤ get_or opens g 0 → j ≤ get_or opens g 0
 
 -- where k is one of the places, its group is closed at i
 abbrev pub ClosesOne : List ℕ → List (Option ℕ) → ℕ → ℕ → List (Option ℕ) → Type 0

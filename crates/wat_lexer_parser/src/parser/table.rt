@@ -7,7 +7,7 @@ ghost use Rattle.wat_lex.specs.values.WordValues.{name_value};
 ghost use Rattle.wat_lex.specs.declared.lexer.faults.LexError.TheVariants.{EmptyAnnotation};
 ghost use Rattle.wat_lex.specs.declared.lexer.kinds.TokenKind.TheVariants.{Annotation};
 ghost use Rattle.wat_lexer_parser.specs.inside.Table.{block, is_head, Found, Noted, Paired};
-ghost use Rattle.wat_lexer_parser.specs.inside.Table.{ClosesOne, NoneBefore, Opening};
+ghost use Rattle.wat_lexer_parser.specs.inside.Table.{ClosesOne, FirstFrom, Opening};
 ghost use Rattle.wat_lexer_parser.specs.inside.Table.{Sorted, Started};
 ghost use Rattle.wat_lexer_parser.specs.inside.TableNames.{name_view};
 
@@ -18,7 +18,7 @@ use wat_lex::lexer::{LexError, LexFault, Lexer, Token, TokenKind};
 const BLOCK: usize = 32;
 
 /// How many bytes a token is likely to have. Room that stays unused is given back.
-const LIKELY: usize = 4;
+const LIKELY: usize = 2;
 
 /// The raw tokens of a text up to its end or its first fault, and the annotations among them that
 /// stand directly behind a parenthesis.
@@ -37,14 +37,15 @@ pub struct Table {
 }
 
 /// Whether a token is an annotation, and the last one before it a parenthesis that opens.
-fn is_head(last: Option<Token>, token: Token) -> bool
-    ensures { result ≡ is_head last token }
+fn is_head(before: &[Token], token: Token) -> bool
+    ensures { result ≡ is_head (slice_get before.now (length before.now - 1)) token }
 {
-    match last {
-        Some(last) => {
-            matches!(last.kind, TokenKind::LParen) && matches!(token.kind, TokenKind::Annotation)
-        }
-        None => false,
+    match token.kind {
+        TokenKind::Annotation => match before.last() {
+            Some(last) => matches!(last.kind, TokenKind::LParen),
+            None => false,
+        },
+        _ => false,
     }
 }
 
@@ -127,7 +128,7 @@ impl Table {
             (map name_view self.new.names.items) self.new.starts.items) }
         ensures fault { self.new.fault ≡ self.old.fault }
     {
-        let is_head = is_head(self.tokens.last().copied(), token);
+        let is_head = is_head(&self.tokens, token);
         self.push(token)?;
         if is_head {
             self.note(alloc, text, &token)?;
@@ -136,32 +137,45 @@ impl Table {
     }
 }
 
+/// How many of the places are before this one.
+fn count_before(opens: &[usize], starts: &[usize], place: usize) -> usize
+    requires sorted { Sorted opens.now }
+    requires started { Started opens.now starts.now }
+    ensures before { (g : _) → g < length opens.now → g < result → get_or opens.now g 0 < place }
+    ensures behind { (g : _) → g < length opens.now → result ≤ g → place ≤ get_or opens.now g 0 }
+{
+    let mut i = match starts.get(place / BLOCK) {
+        Some(start) => *start,
+        None => return opens.len(),
+    };
+    while i < opens.len() && opens[i] < place {
+        i += 1;
+    }
+    i
+}
+
 /// The index of a place among the places of parentheses.
 pub fn find(opens: &[usize], starts: &[usize], place: usize) -> Option<usize>
     requires sorted { Sorted opens.now }
     requires started { Started opens.now starts.now }
     ensures { Found opens.now place result }
 {
-    let mut i = match starts.get(place / BLOCK) {
-        Some(start) => *start,
-        None => return None,
-    };
-    while i < opens.len() && opens[i] < place {
-        i += 1;
-    }
-    if i < opens.len() && opens[i] == place {
-        Some(i)
-    } else {
-        None
+    let i = count_before(opens, starts, place);
+    match opens.get(i) {
+        Some(open) if *open == place => Some(i),
+        _ => None,
     }
 }
 
-/// Where the first of the places is, or the end where there is none.
-fn first_of(opens: &[usize], end: usize) -> usize
-    requires { Sorted opens.now }
-    ensures { NoneBefore opens.now result }
+/// The first of the places from this one on, or the end where there is none.
+fn first_from(opens: &[usize], starts: &[usize], place: usize, end: usize) -> usize
+    requires sorted { Sorted opens.now }
+    requires started { Started opens.now starts.now }
+    requires within { place ≤ end }
+    ensures on { place ≤ result }
+    ensures first { FirstFrom opens.now place result }
 {
-    match opens.first() {
+    match opens.get(count_before(opens, starts, place)) {
         Some(first) => *first,
         None => end,
     }
@@ -187,7 +201,8 @@ fn note_close(
     }
 }
 
-/// Where the groups are closed that open at these places: one pass over the tokens, with a stack.
+/// Where the groups are closed that open at these places: one pass over the tokens in them, with a
+/// stack.
 fn closes(
     alloc: Global,
     tokens: &[Token],
@@ -201,7 +216,7 @@ fn closes(
 {
     let mut closes: Vec<Option<usize>> = vec![in alloc; None; opens.len()]?;
     let mut opened: Vec<usize> = Vec::new(alloc);
-    let mut i = first_of(opens, tokens.len());
+    let mut i = first_from(opens, starts, 0, tokens.len());
     while i < tokens.len() {
         let token = tokens[i];
         match token.kind {
@@ -212,7 +227,11 @@ fn closes(
             TokenKind::RParen => match opened.pop() {
                 Some(paren) => {
                     note_close(&mut closes, opens, starts, paren, i);
-                    i += 1;
+                    i = if opened.is_empty() {
+                        first_from(opens, starts, i + 1, tokens.len())
+                    } else {
+                        i + 1
+                    };
                 }
                 None => i += 1,
             },

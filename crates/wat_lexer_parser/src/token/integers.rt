@@ -1,7 +1,7 @@
 //! Integers. Those with a sign take the words of all bits too, as `0xff` for -1 in eight bits.
 ghost use Rattle.std.specs.Prelude.{◌≡◌, ◌≤◌, ◌<◌, ◌+◌, ◌^◌, ◌≤ℤ◌, ◌<ℤ◌, ℕ, ℤ};
-ghost use Rattle.std.specs.Prelude.{IfOk, IfSome, MatchOption, codes, pos, neg_ℤ, true, false};
-ghost use Rattle.std.specs.Str.Parse.{IsNumeral, without_leading_plus, without_leading_sign};
+ghost use Rattle.std.specs.Prelude.{IfOk, IfSome, MatchOption, codes, length, pos, neg_ℤ, true, false};
+ghost use Rattle.std.specs.Str.Parse.{IsNumeral, digits_value, without_leading_sign};
 ghost use Rattle.wat_lex.specs.values.NumberValues.{integer_base, integer_digits};
 ghost use Rattle.wat_lexer_parser.specs.parser.Takers.{as_integer, number_of};
 ghost use Rattle.wat_lexer_parser.specs.readings.Reads.{CursorReads};
@@ -13,15 +13,30 @@ use wat_lex::error::Error;
 use wat_lex::lexer::{Integer, SignToken};
 use wat_lex::token::Span;
 
-/// The digits behind a `-`, where they begin with one.
+/// The digits behind a sign, or all of them where there is none.
 fn unsigned_digits(digits: &str) -> &str
-    ensures { (b : ℕ) → b ≤ 36 → IsNumeral b (without_leading_sign digits.now) →
-        without_leading_plus result.now ≡ without_leading_sign digits.now }
+    ensures { result.now ≡ without_leading_sign digits.now }
 {
     match digits.strip_prefix('-') {
         Some(rest) => rest,
-        None => digits,
+        None => match digits.strip_prefix('+') {
+            Some(rest) => rest,
+            None => digits,
+        },
     }
+}
+
+/// The number that so few decimal digits write that it fits.
+fn decimal(digits: &[u8]) -> u64
+    requires few { length digits.now ≤ 19 }
+    requires numeral { IsNumeral 10 digits.now }
+    ensures { result ≡ digits_value 10 digits.now }
+{
+    let mut value = 0;
+    for digit in digits {
+        value = value * 10 + u64::from(*digit - b'0');
+    }
+    value
 }
 
 /// The number that an integer's digits write, None where it is 2^64 at least.
@@ -31,7 +46,11 @@ fn magnitude(word: &Integer<'_>) -> Option<u64>
         (λ n. n ≡ (number_of word.now).1) }
 {
     let (digits, base) = word.val();
-    match u64::from_str_radix(unsigned_digits(digits), base) {
+    let unsigned = unsigned_digits(digits);
+    if base == 10 && unsigned.len() < 20 {
+        return Some(decimal(unsigned.as_bytes()));
+    }
+    match u64::from_str_radix(unsigned, base) {
         Ok(n) => Some(n),
         Err(_) => None,
     }
