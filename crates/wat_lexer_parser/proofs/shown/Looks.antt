@@ -7,13 +7,12 @@ use Rattle.wat_lex.specs.declared.lexer.kinds.TokenKind.{TokenKind}
 use Rattle.wat_lex.specs.declared.lexer.kinds.TokenKind.TheVariants.{LineComment, BlockComment, Whitespace, LParen, RParen, String, Id, Keyword, Annotation, Reserved, Integer, Float}
 use Rattle.wat_lex.specs.declared.lexer.kinds.Token.{Token}
 use Rattle.wat_lexer_parser.specs.declared.parser.fault.Fault.{Fault}
-use Rattle.wat_lexer_parser.specs.declared.parser.fault.Step.{Step}
 use Rattle.wat_lexer_parser.specs.declared.parser.fault.Step.TheVariants.{Pass, Take, Finish, Refuse, Skip}
 use Rattle.wat_lexer_parser.proofs.groups.Closing.{Closed}
 use Rattle.wat_lexer_parser.specs.lemmas.Behind.{does}
 use Rattle.wat_lexer_parser.specs.names.RegisteredNames.{Names}
-use Rattle.wat_lexer_parser.specs.shown.Shown.{Finding, ended, left_open}
-use Rattle.wat_lexer_parser.specs.shown.Showing.{Showing, Inside, shown_in, shown, placed, first, step_of, step_kind, step_next, step_named, name_at}
+use Rattle.wat_lexer_parser.specs.shown.Shown.{ended, left_open}
+use Rattle.wat_lexer_parser.specs.shown.Showing.{Showing, shown_in, shown, placed, first, step_of, step_kind, step_next, step_named, name_at}
 use Rattle.wat_lexer_parser.specs.places.Source.{Source}
 use Rattle.wat_lexer_parser.specs.groups.Sorts.{is_marked}
 use Rattle.wat_lexer_parser.specs.inside.Table.{HeadsAnnotation}

@@ -1,8 +1,7 @@
 -- Reading a word may ask for memory where comparing it may.
-use Rattle.std.proofs.Common.{◌≡◌, ℕ, List, Bool, true, false, refl, Some, None, Ok, Err, ap}
+use Rattle.std.proofs.Common.{◌≡◌, ℕ, List, Bool, true, refl, Some, None, Ok, Err}
 use Rattle.std.specs.Prelude.{Option, Result, ◌&&◌, is_some, bytes_eq, if◌then◌else◌}
 use Rattle.wat_lex.specs.errors.Errors.{Report}
-use Rattle.wat_lex.specs.declared.lexer.kinds.Token.{Token}
 use Rattle.wat_lexer_parser.specs.parser.State.{Seen, seen, report_here}
 use Rattle.wat_lexer_parser.specs.parser.Takers.{Reader, taken, taken_by, may_take, word_takes}
 use Rattle.wat_lexer_parser.specs.names.RegisteredNames.{Names}

@@ -1,6 +1,6 @@
 -- The laws of readings, a lemma for each word of their language: the place never goes back, and what is read takes a token. A type's own
 -- reading has them by composing. No part of the standard.
-use Rattle.std.proofs.Common.{◌≡◌, ◌≤◌, ◌<◌, ◌+◌, ℕ, List, Bool, true, false, arith, refl, ap, ◌∙◌, sym, subst, Some, None, Ok, Err}
+use Rattle.std.proofs.Common.{◌≡◌, ◌≤◌, ◌<◌, ◌+◌, ℕ, List, Bool, true, false, arith, refl, ap, ◌∙◌, Some, None, Ok, Err}
 use Rattle.std.specs.Prelude.{◌||◌, Option, Result, codes}
 use Rattle.wat_lex.specs.errors.Errors.{Report}
 use Rattle.wat_lex.specs.declared.lexer.kinds.Token.{Token}
@@ -11,7 +11,7 @@ use Rattle.wat_lexer_parser.specs.parser.State.{State, Seen, seen, told, report_
 use Rattle.wat_lexer_parser.specs.parser.Takers.{Reader, taken, taken_by, as_open, as_close}
 use Rattle.wat_lexer_parser.specs.places.Places.{current_span}
 use Rattle.wat_lexer_parser.specs.places.Source.{Source}
-use Rattle.wat_lexer_parser.specs.readings.Readings.{Outcome, Reading, value_at, refused_at, give, refuse, refuse_behind, token, token_by, also_taking, and_then, and_then_by, mapped, pair, mapped_by, told_as, spanned, allocated, checked, checked_by, passed_by, where_seen, where_seen_by, optional, closed_by, inside_by, opened_by, group, under, under_by}
+use Rattle.wat_lexer_parser.specs.readings.Readings.{Outcome, Reading, refused_at, give, refuse, refuse_behind, token, token_by, and_then, and_then_by, mapped, pair, told_as, spanned, allocated, checked, checked_by, passed_by, where_seen, where_seen_by, optional, closed_by, inside_by, opened_by, group, under, under_by}
 use Rattle.wat_lexer_parser.specs.readings.Reads.{IsForward, Advances, Reads}
 use Rattle.wat_lexer_parser.specs.shown.Showing.{Look, shown}
 use Rattle.wat_lexer_parser.specs.lemmas.Behind.{forward_shown}

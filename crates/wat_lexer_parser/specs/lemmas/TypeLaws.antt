@@ -2,10 +2,10 @@
 use Rattle.std.proofs.Common.{◌^◌, ℕ, List, Bool, true, false}
 use Rattle.std.specs.Prelude.{◌++◌, codes, Option, if◌then◌else◌}
 use Rattle.std.specs.Str.{is_utf8}
-use Rattle.wat_lexer_parser.specs.lemmas.ReadingLaws.{forward_give, forward_refuse, forward_refuse_behind, forward_token, forward_and_then, forward_mapped, forward_spanned, forward_checked, forward_where_seen, forward_optional, forward_group, forward_pair, advances_token, advances_and_then, advances_mapped, advances_spanned, advances_checked, advances_where_seen, advances_refuse, advances_group}
+use Rattle.wat_lexer_parser.specs.lemmas.ReadingLaws.{forward_give, forward_refuse, forward_refuse_behind, forward_token, forward_and_then, forward_checked, forward_where_seen, forward_optional, forward_group, forward_pair, advances_token, advances_and_then, advances_mapped, advances_spanned, advances_checked, advances_where_seen, advances_refuse, advances_group}
 use Rattle.wat_lexer_parser.specs.parser.Sights.{second, takes_second}
 use Rattle.wat_lexer_parser.specs.parser.Takers.{Reader, as_id, as_integer, as_string, as_annotation, as_keyword, as_reserved}
-use Rattle.wat_lexer_parser.specs.readings.Readings.{Reading, token, refuse, mapped, pair, spanned, and_then, where_seen, give, refuse_behind}
+use Rattle.wat_lexer_parser.specs.readings.Readings.{Reading, token, refuse, mapped, pair, spanned, where_seen, give, refuse_behind}
 use Rattle.wat_lexer_parser.specs.readings.Reads.{IsForward, Advances}
 use Rattle.wat_lexer_parser.specs.readings.Types.{Reference, Number, Named, Spelled, free, identifier, an_identifier, integer, an_integer, unsigned_below, an_index, item, bytes, text, utf8_or_refused, spelling, word, sees_word, keyword, reserved_symbol, annotation, name_annotation, optional_name, annotation_takes}
 use Rattle.wat_words.specs.Words.{quoted, annotation_word}

@@ -1,6 +1,6 @@
 -- WebAssembly specification, text format: values (integers, strings, names, identifiers), lexical format (keywords), modules (indices);
 -- and the annotations proposal. What each type reads, and where peeking sees it.
-use Rattle.std.specs.Prelude.{ℕ, ◌-◌, ◌*◌, ◌^◌, nat_lt, nat_le, Bool, true, false, if◌then◌else◌, ℤ, pos, neg_ℤ, ◌-ℤ◌, List, ◌++◌, codes, Option, Some, None, Result, Ok, Err, bytes_eq}
+use Rattle.std.specs.Prelude.{ℕ, ◌*◌, ◌^◌, nat_lt, nat_le, Bool, true, false, if◌then◌else◌, ℤ, pos, neg_ℤ, ◌-ℤ◌, List, ◌++◌, codes, Option, Some, None, Result, Ok, Err, bytes_eq}
 use Rattle.std.specs.Str.{is_utf8}
 use Rattle.wat_lex.specs.errors.Errors.{Report}
 use Rattle.wat_lex.specs.identifiers.Identifiers.{Identifier}

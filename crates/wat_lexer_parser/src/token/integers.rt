@@ -4,7 +4,7 @@ ghost use Rattle.std.specs.Prelude.{IfOk, IfSome, MatchOption, codes, length, po
 ghost use Rattle.std.specs.Str.Parse.{IsNumeral, digits_value, without_leading_sign};
 ghost use Rattle.wat_lex.specs.values.NumberValues.{integer_base, integer_digits};
 ghost use Rattle.wat_lexer_parser.specs.parser.Takers.{as_integer, number_of};
-ghost use Rattle.wat_lexer_parser.specs.readings.Reads.{CursorReads};
+ghost use Rattle.wat_lexer_parser.specs.readings.Reads.{CursorReads, IsKept, Reads, reading_at};
 ghost use Rattle.wat_lexer_parser.specs.readings.Readings.{checked, spanned, token};
 ghost use Rattle.wat_lexer_parser.specs.readings.Types.{integer, signed_within, unsigned_below};
 
@@ -96,6 +96,22 @@ fn unsigned<'p, 'a>(
     }
 }
 
+/// Parses an integer of a type without a sign, with the place where it stands.
+fn parse_unsigned(
+    parser: &mut Parser<'_>,
+    most: u64,
+    expected: &str,
+    out_of_range: &str,
+) -> Result<(u64, Span), Error>
+    ensures kept { IsKept parser.old parser.new }
+    ensures on { parser.old.place ≤ parser.new.place }
+    ensures reads { Reads (λ v. v) (reading_at (spanned (checked (unsigned_below (most + 1))
+        out_of_range.now (token as_integer expected.now))) parser.old) result parser.new.place }
+    ensures fits { IfOk result (λ v. v.0 ≤ most) }
+{
+    parser.step(|c| unsigned(c, most, expected, out_of_range))
+}
+
 /// The value in a type with a sign, which goes from `-half` up to `half - 1`.
 fn signed_value(word: &Integer<'_>, half: u64) -> Option<i64>
     requires numeral { IsNumeral (integer_base word.now)
@@ -176,6 +192,25 @@ fn signed<'p, 'a>(
     }
 }
 
+/// Parses an integer of a type with a sign, with the place where it stands.
+fn parse_signed(
+    parser: &mut Parser<'_>,
+    half: u64,
+    expected: &str,
+    out_of_range: &str,
+) -> Result<(i64, Span), Error>
+    requires least { 0 < half }
+    requires most { half ≤ 2 ^ 63 }
+    ensures kept { IsKept parser.old parser.new }
+    ensures on { parser.old.place ≤ parser.new.place }
+    ensures reads { Reads (λ v. v) (reading_at (spanned (checked (signed_within half)
+        out_of_range.now (token as_integer expected.now))) parser.old) result parser.new.place }
+    ensures low { IfOk result (λ v. neg_ℤ (pos half) ≤ℤ v.0) }
+    ensures high { IfOk result (λ v. v.0 <ℤ pos half) }
+{
+    parser.step(|c| signed(c, half, expected, out_of_range))
+}
+
 impl<'a> Parse<'a> for (u8, Span) {
     ghost use Rattle.wat_lexer_parser.specs.lemmas.TypeLaws.{forward_integer};
 
@@ -186,15 +221,13 @@ impl<'a> Parse<'a> for (u8, Span) {
     ghost meaning = { spanned (integer (codes "u8") (unsigned_below (2 ^ 8))) };
 
     fn parse(parser: &mut Parser<'a>) -> Result<(u8, Span), Error> {
-        parser.step(|c| {
-            let ((value, span), next) = unsigned(
-                c,
-                u8::MAX as u64,
-                "expected a u8",
-                "invalid u8 number: constant out of range",
-            )?;
-            Ok(((value as u8, span), next))
-        })
+        let (value, span) = parse_unsigned(
+            parser,
+            u8::MAX as u64,
+            "expected a u8",
+            "invalid u8 number: constant out of range",
+        )?;
+        Ok((value as u8, span))
     }
 
     ghost forward = { forward_integer (codes "u8") (unsigned_below (2 ^ 8)) };
@@ -244,15 +277,13 @@ impl<'a> Parse<'a> for (u16, Span) {
     ghost meaning = { spanned (integer (codes "u16") (unsigned_below (2 ^ 16))) };
 
     fn parse(parser: &mut Parser<'a>) -> Result<(u16, Span), Error> {
-        parser.step(|c| {
-            let ((value, span), next) = unsigned(
-                c,
-                u16::MAX as u64,
-                "expected a u16",
-                "invalid u16 number: constant out of range",
-            )?;
-            Ok(((value as u16, span), next))
-        })
+        let (value, span) = parse_unsigned(
+            parser,
+            u16::MAX as u64,
+            "expected a u16",
+            "invalid u16 number: constant out of range",
+        )?;
+        Ok((value as u16, span))
     }
 
     ghost forward = { forward_integer (codes "u16") (unsigned_below (2 ^ 16)) };
@@ -302,15 +333,13 @@ impl<'a> Parse<'a> for (u32, Span) {
     ghost meaning = { spanned (integer (codes "u32") (unsigned_below (2 ^ 32))) };
 
     fn parse(parser: &mut Parser<'a>) -> Result<(u32, Span), Error> {
-        parser.step(|c| {
-            let ((value, span), next) = unsigned(
-                c,
-                u32::MAX as u64,
-                "expected a u32",
-                "invalid u32 number: constant out of range",
-            )?;
-            Ok(((value as u32, span), next))
-        })
+        let (value, span) = parse_unsigned(
+            parser,
+            u32::MAX as u64,
+            "expected a u32",
+            "invalid u32 number: constant out of range",
+        )?;
+        Ok((value as u32, span))
     }
 
     ghost forward = { forward_integer (codes "u32") (unsigned_below (2 ^ 32)) };
@@ -360,15 +389,12 @@ impl<'a> Parse<'a> for (u64, Span) {
     ghost meaning = { spanned (integer (codes "u64") (unsigned_below (2 ^ 64))) };
 
     fn parse(parser: &mut Parser<'a>) -> Result<(u64, Span), Error> {
-        parser.step(|c| {
-            let ((value, span), next) = unsigned(
-                c,
-                u64::MAX,
-                "expected a u64",
-                "invalid u64 number: constant out of range",
-            )?;
-            Ok(((value, span), next))
-        })
+        parse_unsigned(
+            parser,
+            u64::MAX,
+            "expected a u64",
+            "invalid u64 number: constant out of range",
+        )
     }
 
     ghost forward = { forward_integer (codes "u64") (unsigned_below (2 ^ 64)) };
@@ -418,15 +444,13 @@ impl<'a> Parse<'a> for (i8, Span) {
     ghost meaning = { spanned (integer (codes "i8") (signed_within (2 ^ 7))) };
 
     fn parse(parser: &mut Parser<'a>) -> Result<(i8, Span), Error> {
-        parser.step(|c| {
-            let ((value, span), next) = signed(
-                c,
-                0x80,
-                "expected a i8",
-                "invalid i8 number: constant out of range",
-            )?;
-            Ok(((value as i8, span), next))
-        })
+        let (value, span) = parse_signed(
+            parser,
+            0x80,
+            "expected a i8",
+            "invalid i8 number: constant out of range",
+        )?;
+        Ok((value as i8, span))
     }
 
     ghost forward = { forward_integer (codes "i8") (signed_within (2 ^ 7)) };
@@ -476,15 +500,13 @@ impl<'a> Parse<'a> for (i16, Span) {
     ghost meaning = { spanned (integer (codes "i16") (signed_within (2 ^ 15))) };
 
     fn parse(parser: &mut Parser<'a>) -> Result<(i16, Span), Error> {
-        parser.step(|c| {
-            let ((value, span), next) = signed(
-                c,
-                0x8000,
-                "expected a i16",
-                "invalid i16 number: constant out of range",
-            )?;
-            Ok(((value as i16, span), next))
-        })
+        let (value, span) = parse_signed(
+            parser,
+            0x8000,
+            "expected a i16",
+            "invalid i16 number: constant out of range",
+        )?;
+        Ok((value as i16, span))
     }
 
     ghost forward = { forward_integer (codes "i16") (signed_within (2 ^ 15)) };
@@ -534,15 +556,13 @@ impl<'a> Parse<'a> for (i32, Span) {
     ghost meaning = { spanned (integer (codes "i32") (signed_within (2 ^ 31))) };
 
     fn parse(parser: &mut Parser<'a>) -> Result<(i32, Span), Error> {
-        parser.step(|c| {
-            let ((value, span), next) = signed(
-                c,
-                0x8000_0000,
-                "expected a i32",
-                "invalid i32 number: constant out of range",
-            )?;
-            Ok(((value as i32, span), next))
-        })
+        let (value, span) = parse_signed(
+            parser,
+            0x8000_0000,
+            "expected a i32",
+            "invalid i32 number: constant out of range",
+        )?;
+        Ok((value as i32, span))
     }
 
     ghost forward = { forward_integer (codes "i32") (signed_within (2 ^ 31)) };
@@ -592,15 +612,12 @@ impl<'a> Parse<'a> for (i64, Span) {
     ghost meaning = { spanned (integer (codes "i64") (signed_within (2 ^ 63))) };
 
     fn parse(parser: &mut Parser<'a>) -> Result<(i64, Span), Error> {
-        parser.step(|c| {
-            let ((value, span), next) = signed(
-                c,
-                0x8000_0000_0000_0000,
-                "expected a i64",
-                "invalid i64 number: constant out of range",
-            )?;
-            Ok(((value, span), next))
-        })
+        parse_signed(
+            parser,
+            0x8000_0000_0000_0000,
+            "expected a i64",
+            "invalid i64 number: constant out of range",
+        )
     }
 
     ghost forward = { forward_integer (codes "i64") (signed_within (2 ^ 63)) };
