@@ -11,4 +11,8 @@ pub mod CutTexts
 pub mod MovedTexts
 pub mod SomeAnswer
 pub mod SomeTilings
+pub mod BlankedTexts
+pub mod BlankedTokens
+pub mod BlankedTilings
+pub mod LooserComments
 pub mod EverySetting

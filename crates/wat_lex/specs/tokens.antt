@@ -8,4 +8,5 @@ pub mod CutsAndMoves
 pub mod ReadableTokens
 pub mod Raw
 pub mod Laws
+pub mod Blanking
 pub mod EverySetting

@@ -1,5 +1,6 @@
 //! Laws of the lexical format, for every text of UTF-8 and all settings. Each function does
 //! nothing: its contract is the law, for the proofs of crates above.
+ghost use Rattle.wat_lex.specs.tokens.Blanking.{BlanksAreSpace, BlanksAreText, CommentsStay};
 ghost use Rattle.wat_lex.specs.tokens.EverySetting.{SomethingStands, OneThingStands};
 ghost use Rattle.wat_lex.specs.tokens.EverySetting.{EachPlaceIsTiled, TilingsAreOne, TokensOfCuts};
 ghost use Rattle.wat_lex.specs.tokens.EverySetting.{TokensOfMoves, TokensAreReadable};
@@ -28,6 +29,15 @@ pub fn cuts()
 /// The raw tokens from a place on are those of the text that begins there.
 pub fn moves()
     ensures { TokensOfMoves }
+{}
+
+/// Where spaces stand in place of a comment, one white space token stands in place of the comment and
+/// of the white space directly beside it. All other raw tokens, their texts and the ending are what
+/// they were.
+pub fn blanks()
+    ensures tokens { BlanksAreSpace }
+    ensures text { BlanksAreText }
+    ensures looser { CommentsStay }
 {}
 
 /// A token of a tiling may be handed to the readers, who see its word, and ends at a character

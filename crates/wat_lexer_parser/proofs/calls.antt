@@ -3,4 +3,6 @@ pub mod Refusals
 pub mod Beginnings
 pub mod EachShown
 pub mod ShownOneByOne
+pub mod AllShownBlanked
+pub mod BlankingLaw
 pub mod Takes

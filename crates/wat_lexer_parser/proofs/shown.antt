@@ -5,3 +5,5 @@ pub mod Looks
 pub mod Steps
 pub mod SomethingShown
 pub mod Marks
+pub mod BlankedMarks
+pub mod BlankedShown

@@ -3,3 +3,4 @@ pub mod Shown
 pub mod Showing
 pub mod AllShown
 pub mod ShownLaws
+pub mod Blanking

@@ -1,11 +1,20 @@
 //! Laws of what a parser shows, for every text of UTF-8 and its raw tokens, and of what it replies
-//! to calls. Each function does nothing: its contract is the law, for the proofs of crates above.
+//! to calls. Each function but `blanked` does nothing: its contract is the law, for the proofs of
+//! crates above.
+ghost use Rattle.std.specs.Prelude.{◌≡◌, ◌+◌, length, IfOk, string_bytes};
+ghost use Rattle.std.specs.Str.{IsCharBoundary};
+ghost use Rattle.wat_lex.specs.tokens.Blanking.{blanked};
 ghost use Rattle.wat_lexer_parser.specs.calls.CallLaws.{LooksAndRefusals};
+ghost use Rattle.wat_lexer_parser.specs.shown.Blanking.{BlankingShowsTheSame, IsCommentOf};
+ghost use Rattle.wat_lexer_parser.specs.shown.Blanking.{ShowTheSameWhereRaw};
 ghost use Rattle.wat_lexer_parser.specs.shown.ShownLaws.{TailsAreRaw, GroupIsOne};
 ghost use Rattle.wat_lexer_parser.specs.shown.ShownLaws.{SomethingShown, OneThingShown};
 ghost use Rattle.wat_lexer_parser.specs.shown.ShownLaws.{SomethingIsAllShown, AllShownIsOne};
 ghost use Rattle.wat_lexer_parser.specs.shown.ShownLaws.{LooksAreAllShown};
 ghost use Rattle.wat_lexer_parser.specs.shown.ShownLaws.{ShownIsTaken, MarksEndInFaults};
+
+use std::alloc::{AllocError, Global};
+use wat_lex::lexer::Token;
 
 /// The raw tokens from a place on are the tail of the raw tokens.
 pub fn tails()
@@ -50,3 +59,46 @@ pub fn all_shown()
 pub fn calls()
     ensures { LooksAndRefusals }
 {}
+
+/// A comment that is overwritten with spaces changes nothing that is shown.
+pub fn blanking()
+    ensures { BlankingShowsTheSame }
+{
+    shown();
+    all_shown();
+    wat_lex::laws::blanks();
+    wat_lex::laws::one_tiling();
+    wat_lex::laws::tokens();
+}
+
+/// The text with spaces over the bytes of one of its comments. It is as long as the text and shows
+/// what the text shows, also where that has a fault further on. It is refused for want of memory
+/// alone.
+pub fn blanked(alloc: Global, text: &str, token: &Token) -> Result<String, AllocError>
+    requires { IsCommentOf text.now token.now }
+    ensures text { IfOk result (λ other. string_bytes other ≡ blanked text.now token.now) }
+    ensures length { IfOk result (λ other. length (string_bytes other) ≡ length text.now) }
+    ensures same { IfOk result (λ other. ShowTheSameWhereRaw token.now text.now
+        (string_bytes other)) }
+{
+    wat_lex::laws::blanks();
+    wat_lex::laws::tokens();
+    blanking();
+    overwritten(alloc, text, token)
+}
+
+/// The text with spaces over the bytes of a token.
+fn overwritten(alloc: Global, text: &str, token: &Token) -> Result<String, AllocError>
+    requires first { IsCharBoundary text.now token.now.offset }
+    requires last { IsCharBoundary text.now (token.now.offset + token.now.len) }
+    ensures { IfOk result (λ other. string_bytes other ≡ blanked text.now token.now) }
+{
+    let end = token.offset + token.len as usize;
+    let mut other = String::with_capacity(alloc, text.len())?;
+    other.push_str(&text[..token.offset])?;
+    for _ in 0..token.len {
+        other.push(' ')?;
+    }
+    other.push_str(&text[end..])?;
+    Ok(other)
+}

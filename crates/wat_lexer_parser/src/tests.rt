@@ -5,6 +5,7 @@ use std::process::Abort;
 use std::test::Fail;
 use wat_lex::lexer::{Token, TokenKind};
 
+mod blanking;
 mod calls;
 mod closures;
 mod deep;

@@ -55,7 +55,7 @@ token_rest s q t u b h =
     ap (λ x. chars (drop (x + t.len) s.text)) h.offset ∙ ap chars (sym (drop-drop t.len q s.text)) ∙ ap (λ x. chars (drop t.len x)) p.bytes
     ∙ ap chars (drop_at (encodes h.word) (encodes h.rest) t.len (sym h.len)) ∙ chars-encodes h.rest p.right
 
-prefix_utf8 : (text : List ℕ) (n p : ℕ) → IsUtf8 text → IsCharBoundary text n → IsCharBoundary text p → p ≤ n → IsUtf8 (drop p (take n text))
+pub prefix_utf8 : (text : List ℕ) (n p : ℕ) → IsUtf8 text → IsCharBoundary text n → IsCharBoundary text p → p ≤ n → IsUtf8 (drop p (take n text))
 prefix_utf8 text n p u b c l =
     let k : n ≡ p + (n - p) = omega arith in
     subst IsUtf8 (sym (ap (λ x. drop p (take x text)) k ∙ drop-take p (n - p) text)) (IsUtf8-between text p n u l c b)

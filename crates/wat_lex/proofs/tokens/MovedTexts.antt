@@ -95,7 +95,7 @@ unmoved s p q to (u ∷ us) h =
     record { tokens = record u { offset = q } ∷ r.tokens; end = r.end; place = r.place; is = is; tiling = (from_token s p q u h.0, r.tiling) }
 
 -- a tiling ends at a boundary
-tiling_ends : (s : Setting) (p to : ℕ) (ts : List Token) → IsUtf8 s.text → IsCharBoundary s.text p → Tiling s p to ts → IsCharBoundary s.text to
+pub tiling_ends : (s : Setting) (p to : ℕ) (ts : List Token) → IsUtf8 s.text → IsCharBoundary s.text p → Tiling s p to ts → IsCharBoundary s.text to
 tiling_ends s p to [] u b h = subst (IsCharBoundary s.text) h b
 tiling_ends s p to (t ∷ ts) u b h = tiling_ends s (t.offset + t.len) to ts u (behind s p t u b h.0) h.1
 

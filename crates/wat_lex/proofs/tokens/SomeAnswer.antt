@@ -28,14 +28,14 @@ pub data SomeAnswer (flags : Settings) (text : List ℕ) : Type 0 where
   fault : {e : LexError} {at : List ℕ} → Fault flags text e at → SomeAnswer flags text
 
 -- the longest prefix of characters that pass
-record Span (p : ℕ → Bool) (text : List ℕ) : Type 0 where
-  prefix : List ℕ
-  rest : List ℕ
-  cut : text ≡ prefix ++ rest
-  passes : Each p prefix
-  stops : Begins p rest → ⊥
+pub record Span (p : ℕ → Bool) (text : List ℕ) : Type 0 where
+  pub prefix : List ℕ
+  pub rest : List ℕ
+  pub cut : text ≡ prefix ++ rest
+  pub passes : Each p prefix
+  pub stops : Begins p rest → ⊥
 
-span : (p : ℕ → Bool) (text : List ℕ) → Span p text
+pub span : (p : ℕ → Bool) (text : List ℕ) → Span p text
 span p [] = record { prefix = []; rest = []; cut = refl; passes = tt; stops = λ b. b }
 span p (c ∷ t) =
     elim (cases_Bool (p c)) [

@@ -23,7 +23,7 @@ last_at : (s : Setting) (from to : ℕ) (ts : List Token) (t : Token) → Tiling
 last_at s from to [] t h = record { from = from; token = h.0; ends = h.1 }
 last_at s from to (u ∷ ts) t h = last_at s (u.offset + u.len) to ts t h.1
 
-paren_len : (s : Setting) (p : ℕ) (t : Token) → TokenAt s p t → t.kind ≡ LParen → t.len ≡ 1
+pub paren_len : (s : Setting) (p : ℕ) (t : Token) → TokenAt s p t → t.kind ≡ LParen → t.len ≡ 1
 unfolding encode
 paren_len s p t h e = h.len ∙ ap size (subst (λ k. Word k h.word s.flags) e h.stands.word)
 
