@@ -1,8 +1,24 @@
 //! The readers of tokens.
 use crate::run::{Ending, Expected, Run, short};
+use std::alloc::AllocError;
 use std::io;
 use wat_lex::error::Error;
-use wat_lex::lexer::{Lexer, TokenKind};
+use wat_lex::lexer::{Integer, Lexer, TokenKind};
+
+/// How the reader of an integer ended, whose digits and base are shown.
+fn integer_read(
+    run: &mut Run<'_>,
+    integer: &Result<Integer<'_>, AllocError>,
+    expected: Expected<'_>,
+) -> Ending {
+    let Ok(integer) = integer else {
+        return Ending::Memory;
+    };
+    match expected {
+        Expected::Value(shown) => Ending::answer_where(run.shows(&integer.val(), shown)),
+        Expected::Refusal(..) => Ending::Wrong,
+    }
+}
 
 /// Reads the first word of a text by the reader of its kind.
 pub fn read(run: &mut Run<'_>, text: &str, expected: Expected<'_>) -> Ending {
@@ -27,13 +43,9 @@ pub fn read(run: &mut Run<'_>, text: &str, expected: Expected<'_>) -> Ending {
             run.ending(&name, expected)
         }
         TokenKind::Integer(kind) => {
-            let integer = token.integer(run.alloc(), text, kind).map_err(Error::from);
+            let integer = token.integer(run.alloc(), text, kind);
             run.call_has_ended();
-            let value = match &integer {
-                Ok(integer) => Ok(integer.val()),
-                Err(_) => Err(Error::out_of_memory()),
-            };
-            run.ending(&value, expected)
+            integer_read(run, &integer, expected)
         }
         TokenKind::Float(kind) => {
             let float = token.float(run.alloc(), text, kind).map_err(Error::from);

@@ -132,7 +132,7 @@ impl<'r> Run<'r> {
 
     /// Prints the line of a row.
     pub fn report(&mut self, name: &str, ended: Result<Ending, Error>) -> io::Result<()> {
-        let word = match ended {
+        let word = match &ended {
             Ok(Ending::Answer) if self.is_next_refused => "behind",
             Ok(Ending::Answer) => "answer",
             Ok(Ending::Memory) => "memory",
