@@ -28,7 +28,7 @@ pub fn buffers(run: &mut Run<'_>) -> io::Result<()> {
     });
     let rows = [
         ("buffer-plain", "(module (func $foo))", 9, None),
-        ("buffer-empty", "", 0, None),
+        ("free-buffer-empty", "", 0, None),
         ("buffer-escaped-name", "(@\"\\62\" c) d", 7, None),
         ("buffer-names", "(@a (@b)) (@c) (@\"d\") 1", 17, None),
         ("buffer-fault", "a \"b", 2, end),

@@ -174,7 +174,7 @@ fn missed(run: &mut Run<'_>) -> Result<Ending, Error> {
     } else {
         "unexpected token"
     };
-    let is_told = run.refusal(&error, Expected::Refusal(message, 0)) == Ending::Answer;
+    let is_told = run.refusal(&error, Expected::Refusal(message, 0)) != Ending::Wrong;
     let ending = run.ending(&result, Expected::Value("false"));
     Ok(ending.with_state(is_kept && is_told))
 }
