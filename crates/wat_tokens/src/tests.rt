@@ -2,6 +2,7 @@
 ghost use Rattle.std.specs.Prelude.{Option, Some};
 
 mod cuts;
+mod refused;
 mod shown;
 
 use crate::Settings;

@@ -1,0 +1,260 @@
+//! Calls of parsers that take no type: groups, errors, looks at several types, and lists of calls.
+use crate::buffers::buffer_of;
+use crate::run::{Ending, Expected, Run};
+use std::alloc::{AllocError, Global};
+use std::io;
+use wat_lex::error::Error;
+use wat_lex::token::{Id, Span};
+use wat_lexer_parser::parser::{Call, Cursor, Lookahead1, Parser, replay};
+use wat_lexer_parser::token::LParen;
+
+/// Whether a parser stands at a place, within no group.
+fn is_at(parser: &Parser<'_>, place: usize) -> bool {
+    parser.prev_span().offset() == place && parser.parens_depth() == 0
+}
+
+/// A step that refuses behind a token leaves the place.
+fn refused_step(run: &mut Run<'_>) -> Result<Ending, Error> {
+    let buffer = buffer_of(run.alloc(), "x y")?;
+    let mut parser = buffer.parser();
+    let result = parser.step(|cursor| -> Result<((), Cursor<'_, '_>), Error> {
+        match cursor.keyword()? {
+            Some((_, next)) => Err(next.error("no such word")),
+            None => Ok(((), cursor)),
+        }
+    });
+    run.call_has_ended();
+    let expected = Expected::Refusal("no such word", 2);
+    Ok(run.ending(&result, expected).with_state(is_at(&parser, 0)))
+}
+
+/// Takes three groups, each in the one before, which are empty.
+fn three_groups(parser: &mut Parser<'_>) -> Result<(), Error> {
+    parser.parens(|parser| {
+        parser.depth_check()?;
+        parser.parens(|parser| {
+            parser.depth_check()?;
+            parser.parens(|parser| parser.depth_check())
+        })
+    })
+}
+
+/// A refused group puts place and depth back.
+fn refused_group(run: &mut Run<'_>, text: &str, expected: Expected<'_>) -> Result<Ending, Error> {
+    let buffer = buffer_of(run.alloc(), text)?;
+    let mut parser = buffer.parser();
+    let result = three_groups(&mut parser);
+    run.call_has_ended();
+    Ok(run.ending(&result, expected).with_state(is_at(&parser, 0)))
+}
+
+/// The same of a type.
+fn refused_group_of(
+    run: &mut Run<'_>,
+    text: &str,
+    expected: Expected<'_>,
+) -> Result<Ending, Error> {
+    let buffer = buffer_of(run.alloc(), text)?;
+    let mut parser = buffer.parser();
+    let result = parser.parens_of::<u32>();
+    run.call_has_ended();
+    Ok(run.ending(&result, expected).with_state(is_at(&parser, 0)))
+}
+
+pub fn groups(run: &mut Run<'_>) -> io::Result<()> {
+    if run.is_asked("step") {
+        let ended = refused_step(run);
+        run.report("step", ended)?;
+    }
+    let rows = [
+        ("parens-open", "x", "expected `(`", 0),
+        ("parens-close", "(((", "expected `)`", 3),
+        ("parens-fault", "((\"", "unexpected end-of-file", 3),
+    ];
+    for (name, text, message, offset) in rows {
+        if run.is_asked(name) {
+            let ended = refused_group(run, text, Expected::Refusal(message, offset));
+            run.report(name, ended)?;
+        }
+    }
+    Ok(())
+}
+
+pub fn groups_of(run: &mut Run<'_>) -> io::Result<()> {
+    let rows = [
+        ("parens-of-open", "1", "expected `(`", 0),
+        ("parens-of-type", "(x)", "expected a u32", 1),
+        ("parens-of-close", "(1 2", "expected `)`", 3),
+    ];
+    for (name, text, message, offset) in rows {
+        if run.is_asked(name) {
+            let ended = refused_group_of(run, text, Expected::Refusal(message, offset));
+            run.report(name, ended)?;
+        }
+    }
+    Ok(())
+}
+
+/// An error at the current span, or at another one.
+fn error(run: &mut Run<'_>, span: Option<Span>) -> Result<Ending, Error> {
+    let buffer = buffer_of(run.alloc(), "a\n (b)")?;
+    let parser = buffer.parser();
+    let error = match span {
+        None => parser.error("no number"),
+        Some(span) => parser.error_at(span, "no number"),
+    };
+    run.call_has_ended();
+    let expected = match span {
+        None => Expected::Refusal(
+            "no number\n     --> <anon>:1:1\n      |\n    1 | a\n      | ^",
+            0,
+        ),
+        Some(_) => Expected::Refusal(
+            "no number\n     --> <anon>:2:3\n      |\n    2 |  (b)\n      |   ^",
+            4,
+        ),
+    };
+    Ok(run.refusal(&error, expected).with_state(is_at(&parser, 0)))
+}
+
+pub fn errors(run: &mut Run<'_>) -> io::Result<()> {
+    if run.is_asked("parser-error") {
+        let ended = error(run, None);
+        run.report("parser-error", ended)?;
+    }
+    if run.is_asked("parser-error-at") {
+        let ended = error(run, Some(Span::from_offset(4)));
+        run.report("parser-error-at", ended)?;
+    }
+    Ok(())
+}
+
+/// Peeks at the first so many of three types.
+fn peek_at(lookahead: &mut Lookahead1<'_, '_>, types: usize) -> Result<(), Error> {
+    if types > 0 {
+        lookahead.peek::<u32>()?;
+    }
+    if types > 1 {
+        lookahead.peek::<Id>()?;
+    }
+    if types > 2 {
+        lookahead.peek::<LParen>()?;
+    }
+    Ok(())
+}
+
+/// The error that one of the types was expected which were not seen.
+fn expected_one(
+    run: &mut Run<'_>,
+    text: &str,
+    types: usize,
+    message: &str,
+) -> Result<Ending, Error> {
+    let buffer = buffer_of(run.alloc(), text)?;
+    let parser = buffer.parser();
+    let mut lookahead = parser.lookahead1();
+    peek_at(&mut lookahead, types)?;
+    let error = lookahead.error();
+    run.call_has_ended();
+    let ending = run.refusal(&error, Expected::Refusal(message, 0));
+    Ok(ending.with_state(is_at(&parser, 0)))
+}
+
+/// A look that finds nothing keeps the type. One that is refused leaves those that were kept.
+fn missed(run: &mut Run<'_>) -> Result<Ending, Error> {
+    let buffer = buffer_of(run.alloc(), "x")?;
+    let parser = buffer.parser();
+    let mut lookahead = parser.lookahead1();
+    let result = lookahead.peek::<u32>();
+    run.call_has_ended();
+    let is_kept = is_at(lookahead.parser(), 0);
+    let error = lookahead.error();
+    let message = if result.is_ok() {
+        "unexpected token, expected u32"
+    } else {
+        "unexpected token"
+    };
+    let is_told = run.refusal(&error, Expected::Refusal(message, 0)) != Ending::Wrong;
+    let ending = run.ending(&result, Expected::Value("false"));
+    Ok(ending.with_state(is_kept && is_told))
+}
+
+pub fn lookaheads(run: &mut Run<'_>) -> io::Result<()> {
+    if run.is_asked("lookahead-peek") {
+        let ended = missed(run);
+        run.report("lookahead-peek", ended)?;
+    }
+    let rows = [
+        ("lookahead-none", "x", 0, "unexpected token"),
+        ("lookahead-end", ")", 0, "unexpected end of input"),
+        ("lookahead-one", "x", 1, "unexpected token, expected u32"),
+        (
+            "lookahead-two",
+            "x",
+            2,
+            "unexpected token, expected u32 or an identifier",
+        ),
+        (
+            "lookahead-three",
+            "x",
+            3,
+            "unexpected token, expected one of: u32, an identifier, left paren",
+        ),
+    ];
+    for (name, text, types, message) in rows {
+        if run.is_asked(name) {
+            let ended = expected_one(run, text, types, message);
+            run.report(name, ended)?;
+        }
+    }
+    Ok(())
+}
+
+/// The calls `take look reg=name look unreg=name look unreg=name`.
+fn calls(alloc: Global) -> Result<Vec<Call>, AllocError> {
+    let name = String::from_str(alloc, "name")?;
+    let same = String::from_str(alloc, "name")?;
+    let again = String::from_str(alloc, "name")?;
+    let calls = vec![in alloc;
+        Call::Take,
+        Call::Look,
+        Call::Register(name),
+        Call::Look,
+        Call::Unregister(same),
+        Call::Look,
+        Call::Unregister(again),
+    ]?;
+    Ok(calls)
+}
+
+/// Where memory is wanting the parser stands behind some of the calls.
+fn replayed(run: &mut Run<'_>) -> Result<Ending, Error> {
+    let calls = calls(run.alloc())?;
+    let buffer = buffer_of(run.alloc(), "module (@name \"m\") x")?;
+    let mut parser = buffer.parser();
+    let result = replay(run.alloc(), &mut parser, &calls).map_err(Error::from);
+    run.call_has_ended();
+    let is_behind = is_at(&parser, 6) && !parser.is_registered("name");
+    let is_between = is_at(&parser, 0) && !parser.is_registered("name") || is_at(&parser, 6);
+    let shown = "[Token(Token { offset: 0, len: 6, kind: Keyword }), \
+                 Token(Token { offset: 19, len: 1, kind: Keyword }), Done, \
+                 Token(Token { offset: 7, len: 1, kind: LParen }), Done, \
+                 Token(Token { offset: 19, len: 1, kind: Keyword }), Absent]";
+    let is_right = if result.is_ok() {
+        is_behind
+    } else {
+        is_between
+    };
+    Ok(
+        run.ending(&result, Expected::Value(shown))
+            .with_state(is_right),
+    )
+}
+
+pub fn replays(run: &mut Run<'_>) -> io::Result<()> {
+    if run.is_asked("replay") {
+        let ended = replayed(run);
+        run.report("replay", ended)?;
+    }
+    Ok(())
+}
