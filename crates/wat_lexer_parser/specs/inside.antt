@@ -1,4 +1,5 @@
 -- What private functions promise each other. No public contract names it.
 pub mod MapEntries
 pub mod Table
+pub mod TableNames
 pub mod Codes

@@ -19,14 +19,14 @@ use wat_lex::lexer::{LexFault, Lexer, Settings, Token};
 pub struct ParseBuffer<'a> {
     lexer: Lexer<'a>,
     track: bool,
-    table: Table<'a>,
+    table: Table,
     alloc: Global,
 }
 
 impl<'a> Model for ParseBuffer<'a> {
     ghost use Rattle.std.specs.Prelude.{map};
     ghost use Rattle.wat_lexer_parser.specs.inside.Table.{IsTable};
-    ghost use Rattle.wat_lex.specs.values.WordValues.{name_answer};
+    ghost use Rattle.wat_lexer_parser.specs.inside.TableNames.{name_view};
     ghost use Rattle.wat_lexer_parser.specs.places.Source.{Source};
 
     ghost Value = { Source };
@@ -45,7 +45,7 @@ impl<'a> Model for ParseBuffer<'a> {
           tokens = b.table.tokens.items;
           ending = b.table.fault;
         })
-        b.table.opens.items (map name_answer b.table.names.items) b.table.starts.items
+        b.table.opens.items (map name_view b.table.names.items) b.table.starts.items
         b.table.closes.items };
 }
 

@@ -11,7 +11,7 @@ ghost use Rattle.wat_lex.specs.declared.lexer.kinds.TokenKind.TheVariants.{LPare
 ghost use Rattle.wat_lexer_parser.specs.declared.parser.fault.FaultKind.TheVariants.{Lex};
 ghost use Rattle.wat_lexer_parser.specs.groups.Sorts.{is_blank, is_comment, is_marked, is_space};
 ghost use Rattle.wat_lexer_parser.specs.inside.Table.{HeadsAnnotation, IsTable, Pair};
-ghost use Rattle.wat_lex.specs.values.WordValues.{name_answer};
+ghost use Rattle.wat_lexer_parser.specs.inside.TableNames.{name_view};
 ghost use Rattle.wat_lexer_parser.specs.parser.State.{message_at, report_of};
 ghost use Rattle.wat_lexer_parser.specs.places.Places.{offset_at, current_span, empty_of};
 ghost use Rattle.wat_lexer_parser.specs.places.Places.{comment_at, past_space, is_meaningful};
@@ -24,7 +24,6 @@ use crate::parser::fault::{Fault, FaultKind, Step};
 use crate::parser::names::Names;
 use crate::parser::table::{Table, find};
 use std::alloc::Global;
-use std::borrow::CowStr;
 use std::marker::Model;
 use wat_lex::error::Error;
 use wat_lex::lexer::{LexError, LexFault, Settings, Token, TokenKind};
@@ -39,14 +38,14 @@ pub struct Reading<'a> {
     text: &'a str,
     settings: Settings,
     track: bool,
-    table: &'a Table<'a>,
+    table: &'a Table,
     alloc: Global,
 }
 
 impl<'a> Model for Reading<'a> {
     ghost use Rattle.std.specs.Prelude.{map};
     ghost use Rattle.wat_lexer_parser.specs.inside.Table.{IsTable};
-    ghost use Rattle.wat_lex.specs.values.WordValues.{name_answer};
+    ghost use Rattle.wat_lexer_parser.specs.inside.TableNames.{name_view};
     ghost use Rattle.wat_lexer_parser.specs.inside.Codes.{source_code};
     ghost use Rattle.wat_lexer_parser.specs.places.Source.{Source};
     ghost use Rattle.std.specs.Prelude.{◌<◌, ◌^◌, length};
@@ -69,7 +68,7 @@ impl<'a> Model for Reading<'a> {
           tokens = b.table.now.tokens.items;
           ending = b.table.now.fault;
         })
-        b.table.now.opens.items (map name_answer b.table.now.names.items) b.table.now.starts.items
+        b.table.now.opens.items (map name_view b.table.now.names.items) b.table.now.starts.items
         b.table.now.closes.items };
 }
 
@@ -78,7 +77,7 @@ impl<'a> Reading<'a> {
         text: &'a str,
         settings: Settings,
         track: bool,
-        table: &'a Table<'a>,
+        table: &'a Table,
         alloc: Global,
     ) -> Reading<'a>
         requires short { length text.now < 2 ^ 32 }
@@ -89,7 +88,7 @@ impl<'a> Reading<'a> {
               tokens = table.now.tokens.items;
               ending = table.now.fault;
             })
-            table.now.opens.items (map name_answer table.now.names.items) table.now.starts.items
+            table.now.opens.items (map name_view table.now.names.items) table.now.starts.items
             table.now.closes.items }
         ensures { result ≡ record {
           setting = record { text = text.now; flags = settings };
@@ -174,8 +173,8 @@ fn is_comment(kind: TokenKind) -> bool
 }
 
 /// What an annotation of this name means for the parenthesis before it.
-fn step_by(name: &Result<CowStr<'_>, LexError>, token: Token, names: &Names) -> Step
-    ensures { result ≡ step_named names.now token (Some (name_answer name.now)) }
+fn step_by(name: &Result<String, LexError>, token: Token, names: &Names) -> Step
+    ensures { result ≡ step_named names.now token (Some (name_view name.now)) }
 {
     match name {
         Ok(name) => {

@@ -3,15 +3,15 @@ ghost use Rattle.std.specs.Prelude.{◌≡◌, ◌<◌, ◌≤◌, ◌+◌, ◌-
 ghost use Rattle.std.specs.Prelude.{IfOk, OnOk, None, slice_get, get_or};
 ghost use Rattle.wat_lex.specs.tokens.ReadableTokens.{IsTokenOf, word_of};
 ghost use Rattle.wat_lex.specs.tokens.Tiling.{MaximalTiling};
+ghost use Rattle.wat_lex.specs.values.WordValues.{name_value};
 ghost use Rattle.wat_lex.specs.declared.lexer.faults.LexError.TheVariants.{EmptyAnnotation};
 ghost use Rattle.wat_lex.specs.declared.lexer.kinds.TokenKind.TheVariants.{Annotation};
 ghost use Rattle.wat_lexer_parser.specs.inside.Table.{block, is_head, Found, Noted, Paired};
 ghost use Rattle.wat_lexer_parser.specs.inside.Table.{ClosesOne, FirstFrom, Opening};
 ghost use Rattle.wat_lexer_parser.specs.inside.Table.{Sorted, Started};
-ghost use Rattle.wat_lex.specs.values.WordValues.{name_answer, name_value};
+ghost use Rattle.wat_lexer_parser.specs.inside.TableNames.{name_view};
 
 use std::alloc::{AllocError, Global};
-use std::borrow::CowStr;
 use wat_lex::lexer::{LexError, LexFault, Lexer, Token, TokenKind};
 
 /// How many tokens have one entry among the starts.
@@ -23,13 +23,13 @@ const LIKELY: usize = 2;
 /// The raw tokens of a text up to its end or its first fault, and the annotations among them that
 /// stand directly behind a parenthesis.
 #[derive(Drop)]
-pub struct Table<'a> {
+pub struct Table {
     pub tokens: Vec<Token>,
     pub fault: Option<LexFault>,
     /// The places of these parentheses.
     pub opens: Vec<usize>,
     /// The names of these annotations, or what is wrong with them.
-    pub names: Vec<Result<CowStr<'a>, LexError>>,
+    pub names: Vec<Result<String, LexError>>,
     /// For each block of tokens, how many of these parentheses stand before it.
     pub starts: Vec<usize>,
     /// Where the groups of these annotations are closed.
@@ -49,13 +49,13 @@ fn is_head(before: &[Token], token: Token) -> bool
     }
 }
 
-impl<'a> Table<'a> {
+impl Table {
     /// The table of no tokens, with room for so many.
-    fn new(alloc: Global, room: usize) -> Result<Table<'a>, AllocError>
+    fn new(alloc: Global, room: usize) -> Result<Table, AllocError>
         ensures tokens { IfOk result (λ t. t.tokens.items ≡ []) }
         ensures fault { IfOk result (λ t. t.fault ≡ None) }
         ensures opens { IfOk result (λ t. t.opens.items ≡ []) }
-        ensures names { IfOk result (λ t. map name_answer t.names.items ≡ []) }
+        ensures names { IfOk result (λ t. map name_view t.names.items ≡ []) }
         ensures starts { IfOk result (λ t. t.starts.items ≡ []) }
     {
         Ok(Table {
@@ -91,7 +91,7 @@ impl<'a> Table<'a> {
     }
 
     /// Notes that the last two tokens are a parenthesis and an annotation.
-    fn note(&mut self, alloc: Global, text: &'a str, token: &Token) -> Result<(), AllocError>
+    fn note(&mut self, alloc: Global, text: &str, token: &Token) -> Result<(), AllocError>
         requires token { IsTokenOf text.now token.now }
         requires kind { token.now.kind ≡ Annotation }
         requires two { 1 < length self.old.tokens.items }
@@ -99,30 +99,33 @@ impl<'a> Table<'a> {
             (self.new.opens.items
             ≡ self.old.opens.items ++ (length self.old.tokens.items - 2) ∷ []) }
         ensures names { OnOk result
-            (map name_answer self.new.names.items
-            ≡ map name_answer self.old.names.items
+            (map name_view self.new.names.items
+            ≡ map name_view self.old.names.items
             ++ name_value EmptyAnnotation (word_of text.now token.now) ∷ []) }
         ensures tokens { self.new.tokens ≡ self.old.tokens }
         ensures starts { self.new.starts ≡ self.old.starts }
         ensures fault { self.new.fault ≡ self.old.fault }
     {
-        let name = token.name(alloc, text)?;
+        let name = match token.name(alloc, text)? {
+            Ok(name) => Ok(name.into_owned(alloc)?),
+            Err(error) => Err(error),
+        };
         self.opens.push(self.tokens.len() - 2)?;
         self.names.push(name)?;
         Ok(())
     }
 
     /// Adds a token, and notes it where it is an annotation directly behind a parenthesis.
-    fn add(&mut self, alloc: Global, text: &'a str, token: Token) -> Result<(), AllocError>
+    fn add(&mut self, alloc: Global, text: &str, token: Token) -> Result<(), AllocError>
         requires token { IsTokenOf text.now token }
         requires short { token.offset + token.len < 2 ^ 32 }
         requires noted { Noted text.now self.old.tokens.items self.old.opens.items
-            (map name_answer self.old.names.items) self.old.starts.items }
+            (map name_view self.old.names.items) self.old.starts.items }
         ensures tokens { OnOk result
             (self.new.tokens.items ≡ self.old.tokens.items ++ token ∷ []) }
         ensures noted { OnOk result (
             Noted text.now self.new.tokens.items self.new.opens.items
-            (map name_answer self.new.names.items) self.new.starts.items) }
+            (map name_view self.new.names.items) self.new.starts.items) }
         ensures fault { self.new.fault ≡ self.old.fault }
     {
         let is_head = is_head(&self.tokens, token);
@@ -239,10 +242,10 @@ fn closes(
 }
 
 /// The raw tokens of a lexer's text, with its annotations noted.
-fn fill<'a>(alloc: Global, lexer: &Lexer<'a>) -> Result<Table<'a>, AllocError>
+fn fill(alloc: Global, lexer: &Lexer<'_>) -> Result<Table, AllocError>
     ensures read { IfOk result (λ t. MaximalTiling lexer.now 0 t.tokens.items t.fault) }
     ensures noted { IfOk result (λ t. Noted lexer.now.text t.tokens.items t.opens.items
-        (map name_answer t.names.items) t.starts.items) }
+        (map name_view t.names.items) t.starts.items) }
 {
     let text = lexer.input();
     let mut table = Table::new(alloc, text.len() / LIKELY)?;
@@ -262,12 +265,12 @@ fn fill<'a>(alloc: Global, lexer: &Lexer<'a>) -> Result<Table<'a>, AllocError>
     }
 }
 
-impl<'a> Table<'a> {
+impl Table {
     /// The table of a lexer's text. It is refused for want of memory alone.
-    pub fn of(alloc: Global, lexer: &Lexer<'a>) -> Result<Table<'a>, AllocError>
+    pub fn of(alloc: Global, lexer: &Lexer<'_>) -> Result<Table, AllocError>
         ensures read { IfOk result (λ t. MaximalTiling lexer.now 0 t.tokens.items t.fault) }
         ensures noted { IfOk result (λ t. Noted lexer.now.text t.tokens.items t.opens.items
-            (map name_answer t.names.items) t.starts.items) }
+            (map name_view t.names.items) t.starts.items) }
         ensures paired { IfOk result (λ t.
             Paired t.tokens.items t.opens.items t.closes.items) }
     {
