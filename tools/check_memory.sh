@@ -9,8 +9,8 @@
 # two buffers, of types that are read.
 set -eu
 cd "$(dirname "$0")/../crates"
-behind=16
-buffers=12
+behind=15
+buffers=10
 
 # refuse CRATE N: what the tests show with the Nth request refused
 refuse() {
