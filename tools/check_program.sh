@@ -5,11 +5,7 @@
 # usage: tools/check_program.sh [PROGRAM]
 set -eu
 cd "$(dirname "$0")/.."
-program=${1:-}
-if [ -z "$program" ]; then
-    (cd crates/wat_tokens && rt run < stdin > /dev/null)
-    program=crates/wat_tokens/out/wat_tokens
-fi
+program=${1:-$(tools/build.sh wat_tokens)}
 room=$(mktemp -d)
 trap 'rm -rf "$room"' EXIT
 runs=0

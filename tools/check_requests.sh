@@ -10,11 +10,7 @@
 # usage: tools/check_requests.sh [PROGRAM]
 set -eu
 cd "$(dirname "$0")/.."
-program=${1:-}
-if [ -z "$program" ]; then
-    (cd crates/wat_requests && rt run < stdin > /dev/null)
-    program=crates/wat_requests/out/wat_requests
-fi
+program=${1:-$(tools/build.sh wat_requests)}
 most=500
 room=$(mktemp -d)
 trap 'rm -rf "$room"' EXIT

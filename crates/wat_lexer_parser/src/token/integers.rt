@@ -46,11 +46,11 @@ fn magnitude(word: &Integer<'_>) -> Option<u64>
         (λ n. n ≡ (number_of word.now).1) }
 {
     let (digits, base) = word.val();
-    let unsigned = unsigned_digits(digits);
-    if base == 10 && unsigned.len() < 20 {
-        return Some(decimal(unsigned.as_bytes()));
+    let rest = unsigned_digits(digits);
+    if base == 10 && rest.len() < 20 {
+        return Some(decimal(rest.as_bytes()));
     }
-    match u64::from_str_radix(unsigned, base) {
+    match u64::from_str_radix(rest, base) {
         Ok(n) => Some(n),
         Err(_) => None,
     }
