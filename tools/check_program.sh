@@ -41,7 +41,7 @@ fault() {
     printf '%s\\n     --> <anon>:1:%s\\n      |\\n    1 | %s\\n      | %s^\\n' "$@"
 }
 
-usage='usage: wat_tokens [--allow-confusing] [--strict-underscores] [sig NAME.. | play CALL..]\n'
+usage='usage: wat_tokens [--allow-confusing] [--strict-underscores] [sig NAME.. | play CALL.. | blank] | types\n'
 confusing=$';;\u202e'
 confusing_fault=$(fault "likely-confusing unicode character found '\\\\u{202e}'" 3 ';;' '  ')
 underscores='"\u{1__0}"'
@@ -89,8 +89,28 @@ expect 'play, strict' 0 'fault 6 bare underscore in numeric literal\n' '' "$prog
 expect 'play, no UTF-8' 2 '' 'wat_tokens: input is not UTF-8\n' "$program" play look < <(printf 'a \377')
 output=/dev/full expect 'play, no room' 2 '' 'wat_tokens: write failed\n' "$program" play look < <(printf x)
 
+# the text with its comments blanked
+expect 'blank' 0 '(module                 (func))       ' '' "$program" blank < <(printf '(module (; a comment ;) (func)) ;; end')
+expect 'blank, line ends' 0 '  \n \r\n  x  \n' '' "$program" blank < <(printf '(;\n;\r\n;)x;;\n')
+expect 'blank, no text' 0 '' '' "$program" blank < /dev/null
+expect 'blank, a fault' 1 '' "$(fault 'unterminated block comment' 6 '(;;)x(;' '     ')" "$program" blank < <(printf '(;;)x(;')
+expect 'blank, confusing' 1 '' "$confusing_fault" "$program" blank < <(printf %s "$confusing")
+expect 'blank, confusing, allowed' 0 '     ' '' "$program" --allow-confusing blank < <(printf %s "$confusing")
+expect 'blank, strict' 1 '' "$underscores_fault" "$program" --strict-underscores blank < <(printf %s "$underscores")
+expect 'blank, no UTF-8' 2 '' 'wat_tokens: input is not UTF-8\n' "$program" blank < <(printf 'a \377')
+output=/dev/full expect 'blank, no room' 2 '' 'wat_tokens: write failed\n' "$program" blank < <(printf x)
+
+# the bytes of the module that the text spells
+expect 'types' 0 '\0asm\01\0\0\0\01\05\01\0140\01\0177\0' '' "$program" types < <(printf '(module (type (func (param i32))))')
+expect 'types, none' 0 '\0asm\01\0\0\0' '' "$program" types < <(printf '(module)')
+expect 'types, refused' 1 '' "$(fault "expected keyword \`type\`" 10 '(module (func))' '         ')" "$program" types < <(printf '(module (func))')
+expect 'types, a fault' 1 '' "$(fault 'unterminated block comment' 9 '(module)(;' '        ')" "$program" types < <(printf '(module)(;')
+expect 'types, confusing' 1 '' "$confusing_fault" "$program" types < <(printf %s "$confusing")
+expect 'types, no UTF-8' 2 '' 'wat_tokens: input is not UTF-8\n' "$program" types < <(printf '(module) \377')
+output=/dev/full expect 'types, no room' 2 '' 'wat_tokens: write failed\n' "$program" types < <(printf '(module)')
+
 # other words
-for words in --help x 'play Look' 'play look parens=' 'play parens=1234567890' '--allow-confusing --allow-confusing' \
+for words in --help x 'blank x' 'blank --allow-confusing' '--allow-confusing types' 'types --strict-underscores' 'types x' 'play Look' 'play look parens=' 'play parens=1234567890' '--allow-confusing --allow-confusing' \
     'look' 'sig=a' '--strict-underscores --strict-underscores' '--allow-confusing --strict-underscores --allow-confusing'; do
     # shellcheck disable=SC2086
     expect "the words $words" 2 '' "$usage" "$program" $words < <(printf x)

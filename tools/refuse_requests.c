@@ -1,6 +1,7 @@
-/* Refuses requests for memory of the program that it is loaded in front of: the Nth where REFUSE_AT is N, and each from the Nth on where
- * REFUSE_FROM is. The others go to the C library's allocator. A request to make a block smaller gives memory back, and is neither counted
- * nor refused; so the sizes of the blocks are kept. It includes no header, so that a compiler alone builds it. */
+/* Refuses requests of the program that it is loaded in front of. Of those for memory the Nth where REFUSE_AT is N, and each from the Nth on
+ * where REFUSE_FROM is; a request to make a block no larger is neither counted nor refused, so the sizes of the blocks are kept. Of the reads of standard input the Nth where FAIL_READ is N, and of the writes on standard output the Nth where FAIL_WRITE is;
+ * where MOST is N, each moves N bytes at most. The others go to the C library. Where TELL is the number of an open file, it is told there at
+ * the end how many of each there were. It includes no header, so that a compiler alone builds it. */
 
 typedef unsigned long size;
 
@@ -9,10 +10,14 @@ extern void *__libc_calloc(size count, size bytes);
 extern void *__libc_realloc(void *block, size bytes);
 extern void __libc_free(void *block);
 extern void *__libc_memalign(size alignment, size bytes);
+extern long __read(int file, void *bytes, size count);
+extern long __write(int file, const void *bytes, size count);
+extern int *__errno_location(void);
 extern char *getenv(const char *name);
 extern long atol(const char *text);
+extern int dprintf(int file, const char *format, ...);
 
-static long requests;
+static long requests, reads, writes;
 
 static long number(const char *name)
 {
@@ -46,6 +51,9 @@ static void *kept(void *start, size bytes)
 {
     if (start) {
         int i = place_of(0);
+        if (i == MOST_BLOCKS - 1) {
+            __builtin_trap();
+        }
         blocks[i].start = start;
         blocks[i].bytes = bytes;
     }
@@ -93,4 +101,43 @@ void free(void *start)
 {
     forget(start);
     __libc_free(start);
+}
+
+/* How many bytes of those are moved. */
+static size at_most(size count)
+{
+    size most = number("MOST");
+    return most > 0 && count > most ? most : count;
+}
+
+static long fail(void)
+{
+    int input_output_error = 5;
+    *__errno_location() = input_output_error;
+    return -1;
+}
+
+long read(int file, void *bytes, size count)
+{
+    if (file != 0) {
+        return __read(file, bytes, count);
+    }
+    reads += 1;
+    return reads == number("FAIL_READ") ? fail() : __read(file, bytes, at_most(count));
+}
+
+long write(int file, const void *bytes, size count)
+{
+    if (file != 1) {
+        return __write(file, bytes, count);
+    }
+    writes += 1;
+    return writes == number("FAIL_WRITE") ? fail() : __write(file, bytes, at_most(count));
+}
+
+__attribute__((destructor)) static void tell(void)
+{
+    if (number("TELL")) {
+        dprintf(number("TELL"), "requests=%ld reads=%ld writes=%ld\n", requests, reads, writes);
+    }
 }

@@ -31,9 +31,9 @@ pub fn moves()
     ensures { TokensOfMoves }
 {}
 
-/// Where spaces stand in place of a comment, one white space token stands in place of the comment and
-/// of the white space directly beside it. All other raw tokens, their texts and the ending are what
-/// they were.
+/// Where spaces, tabs or line ends stand in place of a comment's bytes, one white space token stands
+/// in place of the comment and of the white space directly beside it. All other raw tokens, their
+/// texts and the ending are what they were.
 pub fn blanks()
     ensures tokens { BlanksAreSpace }
     ensures text { BlanksAreText }

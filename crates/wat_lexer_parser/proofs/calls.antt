@@ -5,4 +5,5 @@ pub mod EachShown
 pub mod ShownOneByOne
 pub mod AllShownBlanked
 pub mod BlankingLaw
+pub mod BlankTextsLaw
 pub mod Takes

@@ -7,3 +7,4 @@ pub mod SomethingShown
 pub mod Marks
 pub mod BlankedMarks
 pub mod BlankedShown
+pub mod BlankBytes

@@ -3,3 +3,5 @@ pub mod Behind
 pub mod ReadingLaws
 pub mod TypeLaws
 pub mod ManyLaws
+pub mod LoopLaws
+pub mod ReadingParts

@@ -4,3 +4,4 @@ pub mod Showing
 pub mod AllShown
 pub mod ShownLaws
 pub mod Blanking
+pub mod BlankTexts

@@ -7,6 +7,7 @@ ghost use Rattle.wat_lex.specs.tokens.Blanking.{blanked};
 ghost use Rattle.wat_lexer_parser.specs.calls.CallLaws.{LooksAndRefusals};
 ghost use Rattle.wat_lexer_parser.specs.shown.Blanking.{BlankingShowsTheSame, IsCommentOf};
 ghost use Rattle.wat_lexer_parser.specs.shown.Blanking.{ShowTheSameWhereRaw};
+ghost use Rattle.wat_lexer_parser.specs.shown.BlankTexts.{BlankTextsShowTheSame};
 ghost use Rattle.wat_lexer_parser.specs.shown.ShownLaws.{TailsAreRaw, GroupIsOne};
 ghost use Rattle.wat_lexer_parser.specs.shown.ShownLaws.{SomethingShown, OneThingShown};
 ghost use Rattle.wat_lexer_parser.specs.shown.ShownLaws.{SomethingIsAllShown, AllShownIsOne};
@@ -60,7 +61,7 @@ pub fn calls()
     ensures { LooksAndRefusals }
 {}
 
-/// A comment that is overwritten with spaces changes nothing that is shown.
+/// A comment that is overwritten with spaces, tabs and line ends changes nothing that is shown.
 pub fn blanking()
     ensures { BlankingShowsTheSame }
 {
@@ -68,6 +69,16 @@ pub fn blanking()
     all_shown();
     wat_lex::laws::blanks();
     wat_lex::laws::one_tiling();
+    wat_lex::laws::tokens();
+}
+
+/// A text without a fault, with spaces over the bytes of all its comments but for the line ends in
+/// them, is as long, has the same line ends and no comment, and shows the same.
+pub fn blank_texts()
+    ensures { BlankTextsShowTheSame }
+{
+    blanking();
+    wat_lex::laws::blanks();
     wat_lex::laws::tokens();
 }
 

@@ -9,8 +9,6 @@ pub mod annotation;
 pub mod kw;
 pub mod laws;
 pub mod parser;
-#[cfg(test)]
-mod tests;
 pub mod token;
 
 pub use wat_lex::error::Error;

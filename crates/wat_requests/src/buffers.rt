@@ -1,9 +1,10 @@
-//! Buffers of texts.
+//! Buffers of texts, and a text with spaces over a comment.
 use crate::run::{Ending, Run, short};
 use std::alloc::Global;
 use std::io;
 use wat_lex::error::Error;
-use wat_lex::lexer::{LexError, LexFault, Lexer};
+use wat_lex::lexer::{LexError, LexFault, Lexer, TokenKind};
+use wat_lexer_parser::laws;
 use wat_lexer_parser::parser::ParseBuffer;
 
 /// The buffer of a text.
@@ -47,6 +48,35 @@ pub fn buffers(run: &mut Run<'_>) -> io::Result<()> {
         let buffer = ParseBuffer::new_with_lexer(run.alloc(), lexer);
         run.call_has_ended();
         run.report(name, Ok(made(&buffer, 5, None)))?;
+    }
+    Ok(())
+}
+
+/// The text with spaces over its second raw token, which is a comment.
+fn blanked(run: &mut Run<'_>) -> Result<Ending, Error> {
+    let text = "a(;\u{e9};)b";
+    let mut lexer = Lexer::new(text);
+    lexer.allow_confusing_unicode(true);
+    let buffer = ParseBuffer::new_with_lexer(run.alloc(), lexer)?;
+    let raw = buffer.raw();
+    if raw.len() > 1 {
+        let token = raw[1];
+        if let TokenKind::BlockComment = token.kind {
+            let other = laws::blanked(run.alloc(), text, &token);
+            run.call_has_ended();
+            return Ok(match &other {
+                Ok(other) => Ending::answer_where(other.as_str() == "a      b"),
+                Err(_) => Ending::Memory,
+            });
+        }
+    }
+    Ok(Ending::Wrong)
+}
+
+pub fn blanks(run: &mut Run<'_>) -> io::Result<()> {
+    if run.is_asked("blanked") {
+        let ended = blanked(run);
+        run.report("blanked", ended)?;
     }
     Ok(())
 }

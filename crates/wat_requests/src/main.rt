@@ -7,12 +7,14 @@
 
 mod buffers;
 mod cursors;
+mod each_type;
 mod encoding;
 mod errors;
 mod free;
 mod groups;
 mod identifiers;
 mod lexing;
+mod modules;
 mod names;
 mod readers;
 mod run;
@@ -35,6 +37,7 @@ fn lexer_rows(run: &mut Run<'_>) -> io::Result<()> {
     errors::texts(run)?;
     readers::words(run)?;
     readers::names_that_are_wrong(run)?;
+    readers::names(run)?;
     identifiers::copies(run)?;
     encoding::values(run)?;
     encoding::lists(run)
@@ -43,6 +46,7 @@ fn lexer_rows(run: &mut Run<'_>) -> io::Result<()> {
 /// Runs the rows of the parser's crate.
 fn parser_rows(run: &mut Run<'_>) -> io::Result<()> {
     buffers::buffers(run)?;
+    buffers::blanks(run)?;
     names::registered(run)?;
     names::read_under_names(run)?;
     cursors::looks(run)?;
@@ -64,7 +68,10 @@ fn type_rows(run: &mut Run<'_>) -> io::Result<()> {
     types::parts_of_words(run)?;
     types::part_values(run)?;
     types::peeks(run)?;
-    types::name_annotations(run)
+    types::name_annotations(run)?;
+    each_type::peeks(run)?;
+    each_type::faults(run)?;
+    each_type::spans(run)
 }
 
 fn main(rt: HostRuntime) -> io::Result<()> {
@@ -77,5 +84,6 @@ fn main(rt: HostRuntime) -> io::Result<()> {
     lexer_rows(&mut run)?;
     parser_rows(&mut run)?;
     type_rows(&mut run)?;
+    modules::compiled(&mut run)?;
     free::rows(&mut run)
 }

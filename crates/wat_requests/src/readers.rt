@@ -106,3 +106,32 @@ pub fn names_that_are_wrong(run: &mut Run<'_>) -> io::Result<()> {
     }
     Ok(())
 }
+
+/// Reads the name of an identifier, without an error of its own.
+fn named(run: &mut Run<'_>, text: &str, expected: Expected<'_>) -> Ending {
+    let text = short(text);
+    let Ok(Some(token)) = Lexer::new(text).scan(0) else {
+        return Ending::Wrong;
+    };
+    let TokenKind::Id = token.kind else {
+        return Ending::Wrong;
+    };
+    let name = token.name(run.alloc(), text).map_err(Error::from);
+    run.call_has_ended();
+    run.ending(&name, expected)
+}
+
+pub fn names(run: &mut Run<'_>) -> io::Result<()> {
+    let rows = [
+        ("read-name", "$\"\\62\"", "Ok(\"b\")"),
+        ("free-token-name", "$b", "Ok(\"b\")"),
+        ("free-token-name-empty", "$", "Err(EmptyId)"),
+    ];
+    for (name, text, shown) in rows {
+        if run.is_asked(name) {
+            let ending = named(run, text, Expected::Value(shown));
+            run.report(name, Ok(ending))?;
+        }
+    }
+    Ok(())
+}

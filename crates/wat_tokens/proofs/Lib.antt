@@ -1,4 +1,5 @@
 mod CallLaws
+mod CompileLaws
 mod Counts
 mod Decimals
 mod InputLaws

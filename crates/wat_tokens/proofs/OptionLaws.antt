@@ -1,18 +1,24 @@
 -- The words ask for one command at most.
 use Rattle.std.proofs.Common.{◌≡◌, ◌∙◌, ◌≤◌, ◌+◌, ℕ, suc, sym, ap, refl, Bool, true, false, cond, ◌||◌, eqb, eq-eqb, List, [], ◌∷◌, ◌++◌, length, take, drop, get_or, arith}
-use Rattle.std.specs.Prelude.{String, string_bytes, codes, count_by}
+use Rattle.std.specs.Prelude.{◌==◌, String, string_bytes, codes, count_by}
 use Rattle.std.specs.List.{prefix_len}
 use Rattle.std.specs.Str.{bytes_eq}
 use Rattle.std.specs.declared.alloc.Global.{Global}
+use Rattle.std.proofs.lemmas.Bool.{eqb-true}
 use Rattle.std.proofs.lemmas.List.{take_at, drop_at}
 use Rattle.std.proofs.lemmas.List.Folds.{prefix_len-append}
 use Rattle.std.proofs.lemmas.List.Sums.{sum_by-cons}
 use Rattle.std.proofs.lemmas.Slice.Eq.{bytes_eq-Decides}
 use Rattle.wat_lex.specs.declared.lexer.settings.Settings.{Settings}
 use Rattle.wat_tokens.specs.declared.options.Command.{Command}
+use Rattle.wat_tokens.specs.declared.options.Command.TheVariants as command
 use Rattle.wat_tokens.specs.declared.options.Task.{Task}
 use Rattle.wat_tokens.specs.declared.options.Task.TheVariants as task
-use Rattle.wat_tokens.specs.Options.{Selects, once_if, is_option, BeginsWith, AsksTask, Asks}
+use Rattle.wat_tokens.specs.Options.{Selects, once_if, is_option, BeginsWith, AsksTask, AsksTokens, AsksTypes, Asks}
+
+pub no_words : (words : List (String Global)) → (length words == 0) ≡ true → words ≡ []
+no_words [] e = refl
+no_words (word ∷ words) e = absurd (let k = eqb-true (length (word ∷ words)) 0 e in omega (arith, k))
 
 once_if-injective : (a b : Bool) → once_if a ≡ once_if b → a ≡ b
 once_if-injective true true e = refl
@@ -75,6 +81,7 @@ task_first : (words : List (String Global)) (t : Task) → AsksTask words t → 
 task_first words task.List h = ap options_in h
 task_first words (task.Sig names) h = begins (codes "sig") words names.now refl h
 task_first words (task.Play calls) h = begins (codes "play") words h.0 refl h.1
+task_first words task.Blank h = begins (codes "blank") words [] refl h
 
 length_matched : (n : ℕ) (m k : ℕ) → n ≡ m → cond (eqb n m) (m + k) n ≡ m + k
 length_matched n m k e = ap (λ b. cond b (m + k) n) (eq-eqb n m e)
@@ -85,12 +92,17 @@ options_end options rest s h first =
     ∙ length_matched (options_in options) (length options) (options_in rest) (only_options options s h)
     ∙ omega (arith, first)
 
+-- no command is asked for where no task and no module is
+pub none_asked : (words : List (String Global)) → ((s : Settings) (t : Task) → ¬ AsksTokens words s t) → ¬ AsksTypes words → (c : Command) → ¬ Asks words c
+none_asked words tokens types (command.Tokens s t) h = tokens s t h
+none_asked words tokens types command.Types h = types h
+
 -- where the options end
-end_is : (words : List (String Global)) (c : Command) (h : Asks words c) → options_in words ≡ length h.options
-end_is words c h = ap options_in h.cut ∙ options_end h.options h.rest c.settings h.selects (task_first h.rest c.task h.asks)
+end_is : (words : List (String Global)) (s : Settings) (t : Task) (h : AsksTokens words s t) → options_in words ≡ length h.options
+end_is words s t h = ap options_in h.cut ∙ options_end h.options h.rest s h.selects (task_first h.rest t h.asks)
 
-pub options_are : (words : List (String Global)) (c : Command) (h : Asks words c) → h.options ≡ take (options_in words) words
-options_are words c h = sym (take_at h.options h.rest _ refl) ∙ ap (λ n. take n (h.options ++ h.rest)) (sym (end_is words c h)) ∙ ap (take (options_in words)) (sym h.cut)
+pub options_are : (words : List (String Global)) (s : Settings) (t : Task) (h : AsksTokens words s t) → h.options ≡ take (options_in words) words
+options_are words s t h = sym (take_at h.options h.rest _ refl) ∙ ap (λ n. take n (h.options ++ h.rest)) (sym (end_is words s t h)) ∙ ap (take (options_in words)) (sym h.cut)
 
-pub rest_is : (words : List (String Global)) (c : Command) (h : Asks words c) → h.rest ≡ drop (options_in words) words
-rest_is words c h = sym (drop_at h.options h.rest _ refl) ∙ ap (λ n. drop n (h.options ++ h.rest)) (sym (end_is words c h)) ∙ ap (drop (options_in words)) (sym h.cut)
+pub rest_is : (words : List (String Global)) (s : Settings) (t : Task) (h : AsksTokens words s t) → h.rest ≡ drop (options_in words) words
+rest_is words s t h = sym (drop_at h.options h.rest _ refl) ∙ ap (λ n. drop n (h.options ++ h.rest)) (sym (end_is words s t h)) ∙ ap (drop (options_in words)) (sym h.cut)

@@ -1,4 +1,6 @@
+pub mod Blanks
 pub mod Calls
+pub mod Compiles
 pub mod Inputs
 pub mod Lists
 pub mod Options

@@ -6,6 +6,7 @@ use Rattle.wat_lex.specs.declared.lexer.settings.Settings.{Settings}
 use Rattle.wat_lexer_parser.specs.declared.parser.calls.Call.{Call}
 use Rattle.wat_tokens.specs.Calls.{SpellsCall}
 use Rattle.wat_tokens.specs.declared.options.Command.{Command}
+use Rattle.wat_tokens.specs.declared.options.Command.TheVariants as command
 use Rattle.wat_tokens.specs.declared.options.Task.{Task}
 use Rattle.wat_tokens.specs.declared.options.Task.TheVariants as task
 
@@ -44,14 +45,24 @@ abbrev pub AsksTask : List (String Global) → Task → Type 0
 AsksTask words task.List = words ≡ []
 AsksTask words (task.Sig names) = BeginsWith (codes "sig") words names.now
 AsksTask words (task.Play calls) = (rest : List (String Global)) × BeginsWith (codes "play") words rest × SpellsCalls rest calls.items
+AsksTask words task.Blank = BeginsWith (codes "blank") words []
 
 -- the words are options, and then those of a task
-pub record Asks (words : List (String Global)) (command : Command) : Type 0 where
+pub record AsksTokens (words : List (String Global)) (settings : Settings) (task : Task) : Type 0 where
   pub options : List (String Global)
   pub rest : List (String Global)
   pub cut : words ≡ options ++ rest
-  pub selects : Selects options command.settings
-  pub asks : AsksTask rest command.task
+  pub selects : Selects options settings
+  pub asks : AsksTask rest task
+
+-- the word is `types`, without options
+abbrev pub AsksTypes : List (String Global) → Type 0
+AsksTypes words = BeginsWith (codes "types") words []
+
+-- what the words ask for
+abbrev pub Asks : List (String Global) → Command → Type 0
+Asks words (command.Tokens settings task) = AsksTokens words settings task
+Asks words command.Types = AsksTypes words
 
 -- the words are options, `play`, and then others
 pub record AsksPlay (words : List (String Global)) : Type 0 where

@@ -4,6 +4,8 @@ use Rattle.std.specs.Io.KnownBytes.{Keeps}
 use Rattle.std.specs.declared.alloc.Global.{Global}
 use Rattle.wat_lex.specs.errors.Errors.{Report, printed}
 use Rattle.wat_lex.specs.declared.lexer.settings.Settings.{Settings}
+use Rattle.wat_tokens.specs.Blanks.{Blanks}
+use Rattle.wat_tokens.specs.Compiles.{Compiles}
 use Rattle.wat_tokens.specs.Lists.{Lists}
 use Rattle.wat_tokens.specs.Options.{Asks, AsksPlay}
 use Rattle.wat_tokens.specs.Printed.{Prints, AppendsText, AppendsCut}
@@ -11,6 +13,7 @@ use Rattle.wat_tokens.specs.Replies.{Plays}
 use Rattle.wat_tokens.specs.Runs.{Runs}
 use Rattle.wat_tokens.specs.Shows.{Shows}
 use Rattle.wat_tokens.specs.declared.options.Command.{Command}
+use Rattle.wat_tokens.specs.declared.options.Command.TheVariants as command
 use Rattle.wat_tokens.specs.declared.options.Task.{Task}
 use Rattle.wat_tokens.specs.declared.options.Task.TheVariants as task
 use Rattle.wat_tokens.specs.declared.outcome.Outcome.{Outcome}
@@ -24,7 +27,7 @@ outcome_of (Ok None) = Listed
 outcome_of (Ok (Some error)) = Faulty error
 outcome_of (Err error) = Refused error
 
--- 0 for all lines, 1 for the lines before a fault, 2 otherwise
+-- 0 where all is written, 1 where the text has a fault or is refused, 2 otherwise
 abbrev pub status : Outcome → ℕ
 status Listed = 0
 status (Faulty error) = 1
@@ -39,7 +42,7 @@ refusal Write = codes "wat_tokens: write failed"
 refusal Memory = codes "wat_tokens: out of memory"
 
 abbrev pub usage : List ℕ
-usage = codes "usage: wat_tokens [--allow-confusing] [--strict-underscores] [sig NAME.. | play CALL..]"
+usage = codes "usage: wat_tokens [--allow-confusing] [--strict-underscores] [sig NAME.. | play CALL.. | blank] | types"
 
 -- what stands on standard error
 abbrev pub report : Outcome → List ℕ
@@ -59,11 +62,17 @@ Responds prints (Refused NotUtf8) old new = Keeps old new
 Responds prints (Refused Memory) old new = Keeps old new
 Responds prints Usage old new = ⊥
 
--- what a command prints
+-- what a task prints
 abbrev pub task_prints : Settings → Task → Prints
 task_prints s task.List = Lists s
 task_prints s (task.Sig names) = Shows s names.now
 task_prints s (task.Play calls) = Plays s calls.items
+task_prints s task.Blank = Blanks s
+
+-- what a command prints
+abbrev pub command_prints : Command → Prints
+command_prints (command.Tokens s task) = task_prints s task
+command_prints command.Types = Compiles
 
 -- What is known of a run that ended in this outcome.
 pub record Ran {S T : Type 0} (left : S → Option (List ℕ)) (read_failed has_ended : S → Bool) (held : T → Option (List ℕ)) (write_failed : T → Bool) (prints : Prints) (input input' : S) (output output' : T) (outcome : Outcome) : Type 0 where
@@ -75,6 +84,6 @@ pub record Ran {S T : Type 0} (left : S → Option (List ℕ)) (read_failed has_
 -- What the words of the command line came to: what they ask for was run; they ask for nothing; or there was no memory to read their
 -- calls into.
 pub data Responded {S T : Type 0} (left : S → Option (List ℕ)) (read_failed has_ended : S → Bool) (held : T → Option (List ℕ)) (write_failed : T → Bool) (words : List (String Global)) (input input' : S) (output output' : T) (outcome : Outcome) : Type 0 where
-  ran : (command : Command) → Asks words command → Ran left read_failed has_ended held write_failed (task_prints command.settings command.task) input input' output output' outcome → Responded left read_failed has_ended held write_failed words input input' output output' outcome
+  ran : (command : Command) → Asks words command → Ran left read_failed has_ended held write_failed (command_prints command) input input' output output' outcome → Responded left read_failed has_ended held write_failed words input input' output output' outcome
   unasked : ((command : Command) → ¬ Asks words command) → outcome ≡ Usage → input' ≡ input → output' ≡ output → Responded left read_failed has_ended held write_failed words input input' output output' outcome
   unread : AsksPlay words → outcome ≡ Refused Memory → input' ≡ input → output' ≡ output → Responded left read_failed has_ended held write_failed words input input' output output' outcome

@@ -4,6 +4,8 @@ use Rattle.std.specs.Prelude.{ℕ, List, Option}
 use Rattle.std.specs.Io.KnownBytes.{Appends}
 use Rattle.wat_lex.specs.errors.Errors.{Report}
 use Rattle.wat_lex.specs.declared.lexer.settings.Settings.{Settings}
+use Rattle.wat_tokens.specs.Blanks.{Blanks}
+use Rattle.wat_tokens.specs.Compiles.{Compiles}
 use Rattle.wat_tokens.specs.Lists.{Lists}
 use Rattle.wat_tokens.specs.Replies.{Plays}
 use Rattle.wat_tokens.specs.Shows.{Shows}
@@ -20,6 +22,8 @@ abbrev pub prints : Settings → Printing → Prints
 prints s printing.Raw = Lists s
 prints s (printing.Shown names) = Shows s names.now
 prints s (printing.Replies calls) = Plays s calls.now
+prints s printing.Blank = Blanks s
+prints s printing.Types = Compiles
 
 -- Known bytes grow by a text that is printed with this error.
 pub record AppendsText (prints : List ℕ → Option (Option Report) → Type 0) (error : Option (Option Report)) (old new : Option (List ℕ)) : Type 0 where

@@ -1,7 +1,9 @@
 //! Lists the raw tokens of a WebAssembly text that comes on standard input, or those that count, or
-//! what a parser replies to calls.
+//! what a parser replies to calls; or writes the text with its comments blanked, or the bytes of the
+//! module that the text spells.
 #![tactic(auto)]
 
+pub mod blank;
 pub mod calls;
 pub mod ends;
 mod line;

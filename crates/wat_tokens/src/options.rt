@@ -1,6 +1,7 @@
 //! The words of the command line.
 ghost use Rattle.std.specs.Prelude.{◌≡◌, IfOk, OnErr, IfSome, IfNone, MatchOption, List, codes};
 ghost use Rattle.std.specs.Prelude.{string_bytes};
+ghost use Rattle.std.specs.Bool.{OnTrue, OnFalse};
 ghost use Rattle.std.specs.List.{prefix_len};
 ghost use Rattle.std.specs.declared.alloc.Global.{Global};
 ghost use Rattle.std.specs.declared.string.String.{String};
@@ -9,31 +10,33 @@ ghost use Rattle.wat_lexer_parser.specs.declared.parser.calls.Call.{Call};
 ghost use Rattle.wat_tokens.specs.declared.options.Command.{Command};
 ghost use Rattle.wat_tokens.specs.declared.options.Task.{Task};
 ghost use Rattle.wat_tokens.specs.Options.{occurrences, is_option, Selects, BeginsWith};
-ghost use Rattle.wat_tokens.specs.Options.{SpellsCalls, AsksTask, Asks, AsksPlay};
+ghost use Rattle.wat_tokens.specs.Options.{SpellsCalls, AsksTask, Asks, AsksPlay, AsksTypes};
 
 use crate::calls::read_call;
 use std::alloc::{AllocError, Global};
 use wat_lex::lexer::Settings;
 use wat_lexer_parser::parser::Call;
 
-/// What to write of a text.
+/// What to write of a text's tokens.
 #[derive(Drop)]
 pub enum Task<'a> {
-    /// Its raw tokens.
+    /// The raw tokens.
     List,
     /// The tokens that are shown where these names are registered.
     Sig(&'a [String]),
     /// The replies to these calls.
     Play(Vec<Call>),
+    /// The text with its comments blanked.
+    Blank,
 }
 
 /// What the words of the command line ask for.
 #[derive(Drop)]
-pub struct Command<'a> {
-    /// How the text is read.
-    pub settings: Settings,
-    /// What is written of it.
-    pub task: Task<'a>,
+pub enum Command<'a> {
+    /// What is written of the tokens of the text, which is read with these settings.
+    Tokens(Settings, Task<'a>),
+    /// The bytes of the module that the text spells.
+    Types,
 }
 
 /// How often a word stands among the words.
@@ -107,12 +110,25 @@ fn task_of<'a>(alloc: Global, words: &'a [String]) -> Result<Option<Task<'a>>, A
             };
             Ok(Some(Task::Play(calls)))
         }
+        "blank" if rest.is_empty() => Ok(Some(Task::Blank)),
         _ => Ok(None),
     }
 }
 
+/// Whether the words ask for the bytes of a module. No options stand there, since it is read in one
+/// way.
+fn asks_types(words: &[String]) -> bool
+    ensures yes { OnTrue result (AsksTypes words.now) }
+    ensures no { OnFalse result (¬ AsksTypes words.now) }
+{
+    let Some((word, rest)) = words.split_first() else {
+        return false;
+    };
+    word.as_str() == "types" && rest.is_empty()
+}
+
 /// What the words ask for: options, each at most once, in either order, and then nothing, or `sig`
-/// and names, or `play` and calls.
+/// and names, or `play` and calls, or `blank`; or `types` alone.
 pub fn command_of<'a>(alloc: Global, words: &'a [String]) -> Result<Option<Command<'a>>, AllocError>
     ensures asked { IfOk result (λ command.
         MatchOption command ((c : Command) → ¬ Asks words.now c) (Asks words.now)) }
@@ -120,6 +136,9 @@ pub fn command_of<'a>(alloc: Global, words: &'a [String]) -> Result<Option<Comma
     // Nothing else takes memory.
     ensures refused { OnErr result (AsksPlay words.now) }
 {
+    if asks_types(words) {
+        return Ok(Some(Command::Types));
+    }
     let (options, rest) = words.split_at(options_len(words));
     let Some(settings) = settings_of(options) else {
         return Ok(None);
@@ -127,5 +146,5 @@ pub fn command_of<'a>(alloc: Global, words: &'a [String]) -> Result<Option<Comma
     let Some(task) = task_of(alloc, rest)? else {
         return Ok(None);
     };
-    Ok(Some(Command { settings, task }))
+    Ok(Some(Command::Tokens(settings, task)))
 }

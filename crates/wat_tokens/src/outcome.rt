@@ -6,22 +6,24 @@ ghost use Rattle.wat_tokens.specs.Outcomes.{Ran, Responded};
 
 use crate::ends::{Sink, Source};
 use crate::options::{Command, Task, command_of};
-use crate::run::{RunError, run_list, run_play, run_sig};
+use crate::run::{RunError, run_blank, run_list, run_play, run_sig, run_types};
 use std::alloc::Global;
 use std::io;
 use wat_lex::error::Error;
+use wat_lex::lexer::Settings;
 
-const USAGE: &str =
-    "usage: wat_tokens [--allow-confusing] [--strict-underscores] [sig NAME.. | play CALL..]";
+const USAGE: &str = "usage: wat_tokens [--allow-confusing] [--strict-underscores] \
+     [sig NAME.. | play CALL.. | blank] | types";
 
 /// What a run of the program ends in.
 #[derive(Drop)]
 pub enum Outcome {
-    /// All lines are written.
+    /// All is written.
     Listed,
-    /// The lines before a fault are written.
+    /// The text has a fault or is no module: the lines before the fault are written, or nothing where
+    /// comments are blanked or the text is to be a module.
     Faulty(Error),
-    /// The run was refused. Only a failed write has written something, a prefix of the lines.
+    /// The run was refused. Only a failed write has written something, a prefix of what is printed.
     Refused(RunError),
     /// The words on the command line are none that the program takes.
     Usage,
@@ -40,20 +42,20 @@ fn refusal(error: RunError) -> &'static str
     }
 }
 
-/// Writes what the command asks for.
+/// Writes what the task asks for.
 fn carry_out<R: Source, W: Sink>(
     alloc: Global,
-    command: Command<'_>,
+    settings: Settings,
+    task: Task<'_>,
     input: &mut R,
     output: &mut W,
 ) -> Outcome
     requires input { R.has_failed input.old ≡ false }
     requires output { W.has_failed output.old ≡ false }
     ensures { Ran R.left R.has_failed R.has_ended W.held W.has_failed
-        (task_prints command.entry.settings command.entry.task)
+        (task_prints settings task.entry)
         input.old input.new output.old output.new result }
 {
-    let Command { settings, task } = command;
     match task {
         Task::List => Outcome::of_run(run_list(alloc, input, output, settings)),
         Task::Sig(names) => Outcome::of_run(run_sig(alloc, input, output, settings, names)),
@@ -61,6 +63,7 @@ fn carry_out<R: Source, W: Sink>(
             Ok(()) => Outcome::Listed,
             Err(error) => Outcome::Refused(error),
         },
+        Task::Blank => Outcome::of_run(run_blank(alloc, input, output, settings)),
     }
 }
 
@@ -77,7 +80,10 @@ pub fn respond<R: Source, W: Sink>(
         input.old input.new output.old output.new result }
 {
     match command_of(alloc, words) {
-        Ok(Some(command)) => carry_out(alloc, command, input, output),
+        Ok(Some(Command::Tokens(settings, task))) => {
+            carry_out(alloc, settings, task, input, output)
+        }
+        Ok(Some(Command::Types)) => Outcome::of_run(run_types(alloc, input, output)),
         Ok(None) => Outcome::Usage,
         Err(_) => Outcome::Refused(RunError::Memory),
     }

@@ -3,9 +3,12 @@ ghost use Rattle.std.specs.Prelude.{◌≡◌, ◌⊎◌, ◌↔◌, ◌<◌, �
 ghost use Rattle.std.specs.Option.{option_map};
 ghost use Rattle.std.specs.Str.{IsUtf8};
 ghost use Rattle.wat_lex.specs.errors.Errors.{lexical};
+ghost use Rattle.wat_tokens.specs.Blanks.{Blanks};
+ghost use Rattle.wat_tokens.specs.Compiles.{Compiles};
 ghost use Rattle.wat_tokens.specs.Lists.{Lists};
 ghost use Rattle.wat_tokens.specs.Printed.{prints};
 
+use crate::blank::blank;
 use crate::list::list;
 use crate::play::play;
 use crate::run::RunError;
@@ -16,6 +19,7 @@ use wat_lex::error::Error;
 use wat_lex::lexer::{LexFault, Settings};
 use wat_lex::token::Span;
 use wat_lexer_parser::parser::Call;
+use wat_types::compile_types;
 
 /// What to print of a text.
 #[derive(Clone, Copy)]
@@ -26,12 +30,16 @@ pub enum Printing<'a> {
     Shown(&'a [String]),
     /// The replies to these calls.
     Replies(&'a [Call]),
+    /// The text with its comments blanked.
+    Blank,
+    /// The bytes of the module that it spells.
+    Types,
 }
 
-/// The lines that are printed, and the error of the fault behind them.
+/// What is printed, and the error of the fault or refusal of the text.
 #[derive(Drop)]
 pub struct Output {
-    pub lines: Vec<u8>,
+    pub text: Vec<u8>,
     pub error: Option<Error>,
 }
 
@@ -56,15 +64,48 @@ fn error_of(alloc: Global, text: &str, fault: Option<LexFault>) -> Result<Option
 fn print_raw(alloc: Global, text: &str, settings: Settings) -> Result<Output, RunError>
     requires { length text.now < 2 ^ 32 }
     ensures listed { IfOk result (λ output.
-        Lists settings text.now output.lines.items output.error) }
+        Lists settings text.now output.text.items output.error) }
     ensures refused { IfErr result (λ e. e ≡ RunError.Memory) }
 {
     let listing = list(alloc, text, settings)?;
     let error = error_of(alloc, text, listing.fault)?;
     Ok(Output {
-        lines: listing.lines,
+        text: listing.lines,
         error,
     })
+}
+
+/// A text with its comments blanked, or nothing and the error of its fault.
+fn print_blank(alloc: Global, text: &str, settings: Settings) -> Result<Output, RunError>
+    requires { length text.now < 2 ^ 32 }
+    ensures blanked { IfOk result (λ output.
+        Blanks settings text.now output.text.items output.error) }
+    ensures refused { IfErr result (λ e. e ≡ RunError.Memory) }
+{
+    let blanking = blank(alloc, text, settings)?;
+    let error = error_of(alloc, text, blanking.fault)?;
+    Ok(Output {
+        text: blanking.text,
+        error,
+    })
+}
+
+/// The bytes of the module that a text spells, or nothing and the error of its refusal.
+fn print_types(alloc: Global, text: &str) -> Result<Output, RunError>
+    requires { length text.now < 2 ^ 32 }
+    ensures compiled { IfOk result (λ output.
+        Compiles text.now output.text.items output.error) }
+    ensures refused { IfErr result (λ e. e ≡ RunError.Memory) }
+{
+    wat_lex::laws::one_tiling();
+    match compile_types(alloc, text) {
+        Ok(text) => Ok(Output { text, error: None }),
+        Err(error) if error.is_out_of_memory() => Err(RunError::Memory),
+        Err(error) => Ok(Output {
+            text: Vec::new(alloc),
+            error: Some(error),
+        }),
+    }
 }
 
 /// What is printed of bytes.
@@ -76,7 +117,7 @@ pub fn print(
 ) -> Result<Output, RunError>
     requires { length bytes.now < 2 ^ 32 }
     ensures printed { IfOk result (λ output.
-        prints settings printing.entry bytes.now output.lines.items output.error) }
+        prints settings printing.entry bytes.now output.text.items output.error) }
     ensures not_utf8 { IsErrOf result RunError.NotUtf8 ↔ (¬ IsUtf8 bytes.now) }
     ensures refused { IfErr result (λ e. (e ≡ RunError.NotUtf8) ⊎ (e ≡ RunError.Memory)) }
 {
@@ -88,13 +129,15 @@ pub fn print(
         Printing::Shown(names) => {
             let shown = show(alloc, text, settings, names)?;
             Ok(Output {
-                lines: shown.lines,
+                text: shown.lines,
                 error: shown.error,
             })
         }
         Printing::Replies(calls) => Ok(Output {
-            lines: play(alloc, text, settings, calls)?,
+            text: play(alloc, text, settings, calls)?,
             error: None,
         }),
+        Printing::Blank => print_blank(alloc, text, settings),
+        Printing::Types => print_types(alloc, text),
     }
 }

@@ -1,7 +1,9 @@
-//! From a source of bytes to the lines on a sink.
+//! From a source of bytes to what is printed on a sink.
 ghost use Rattle.std.specs.Prelude.{◌≡◌, ◌⊎◌, ◌↔◌, true, false, ◌<◌, ◌^◌, length};
 ghost use Rattle.std.specs.Prelude.{is_ok, IfOk, OnOk, IfErr, IfSome, IsErrOf};
 ghost use Rattle.std.specs.Str.{IsUtf8};
+ghost use Rattle.wat_tokens.specs.Blanks.{Blanks};
+ghost use Rattle.wat_tokens.specs.Compiles.{Compiles};
 ghost use Rattle.wat_tokens.specs.Inputs.{ReadsWhole, ReadsPast, ReadsShort, HasEnded};
 ghost use Rattle.wat_tokens.specs.Lists.{Lists};
 ghost use Rattle.wat_tokens.specs.Printed.{prints, AppendsText, AppendsCut};
@@ -16,7 +18,7 @@ use wat_lex::error::Error;
 use wat_lex::lexer::Settings;
 use wat_lexer_parser::parser::Call;
 
-/// Why a run ended without its lines.
+/// Why a run ended without what it prints.
 #[derive(Clone, Copy, Debug, PartialEq, Eq)]
 pub enum RunError {
     /// A read failed.
@@ -47,6 +49,12 @@ const LONGEST: usize = u32::MAX as usize;
 
 /// How many bytes are read at a time.
 const PIECE: usize = 65_536;
+
+/// How the text of a module is read: as the standard has it.
+const STANDARD: Settings = Settings {
+    allow: false,
+    strict: false,
+};
 
 /// All that a source has left, or the refusal: it is read to its end, or to one byte past the
 /// longest text.
@@ -80,8 +88,7 @@ fn read_whole<R: Source>(alloc: Global, input: &mut R) -> Result<Vec<u8>, RunErr
     }
 }
 
-/// Writes what is printed of all that the source has left, and answers the error of the fault
-/// behind it.
+/// Writes what is printed of all that the source has left, and answers the error of its fault.
 fn run<R: Source, W: Sink>(
     alloc: Global,
     input: &mut R,
@@ -112,15 +119,15 @@ fn run<R: Source, W: Sink>(
         IsErrOf result RunError.NotUtf8 ↔ ((R.has_ended input.new ≡ true) × (¬ IsUtf8 bytes))) }
     ensures write { IsErrOf result RunError.Write ↔ (W.has_failed output.new ≡ true) }
 
-    // A failed write has written a prefix of the lines, and each other refusal nothing.
+    // A failed write has written a prefix of what is printed, and each other refusal nothing.
     ensures cut { IsErrOf result RunError.Write → IfSome (R.left input.old) (λ bytes.
         AppendsCut (prints settings printing.entry bytes)
         (W.held output.old) (W.held output.new)) }
     ensures unwritten { IfErr result (λ e. (e ≡ RunError.Write) ⊎ (output.new ≡ output.old)) }
 {
     let bytes = read_whole(alloc, input)?;
-    let Output { lines, error } = print(alloc, &bytes, settings, printing)?;
-    if output.write_all(&lines).is_err() {
+    let Output { text, error } = print(alloc, &bytes, settings, printing)?;
+    if output.write_all(&text).is_err() {
         return Err(RunError::Write);
     }
     Ok(error)
@@ -176,4 +183,35 @@ pub fn run_play<R: Source, W: Sink>(
         Ok(_) => Ok(()),
         Err(error) => Err(error),
     }
+}
+
+/// Writes all that the source has left with its comments blanked, spaces over all their bytes but the
+/// line ends. Where the text has a fault nothing is written, and the answer is that fault's error.
+pub fn run_blank<R: Source, W: Sink>(
+    alloc: Global,
+    input: &mut R,
+    output: &mut W,
+    settings: Settings,
+) -> Result<Option<Error>, RunError>
+    requires input { R.has_failed input.old ≡ false }
+    requires output { W.has_failed output.old ≡ false }
+    ensures { Runs R.left R.has_failed R.has_ended W.held W.has_failed (Blanks settings)
+        input.old input.new output.old output.new result }
+{
+    run(alloc, input, output, settings, Printing::Blank)
+}
+
+/// Writes the bytes of the module that all that the source has left spells. Where it is refused nothing
+/// is written, and the answer is the error of that refusal.
+pub fn run_types<R: Source, W: Sink>(
+    alloc: Global,
+    input: &mut R,
+    output: &mut W,
+) -> Result<Option<Error>, RunError>
+    requires input { R.has_failed input.old ≡ false }
+    requires output { W.has_failed output.old ≡ false }
+    ensures { Runs R.left R.has_failed R.has_ended W.held W.has_failed Compiles
+        input.old input.new output.old output.new result }
+{
+    run(alloc, input, output, STANDARD, Printing::Types)
 }

@@ -1,6 +1,8 @@
 //! Texts with their lists, from outside, and readers, writers, sources and sinks that fail.
 ghost use Rattle.std.specs.Prelude.{Option, Some};
 
+mod blanked;
+mod compiled;
 mod cuts;
 mod refused;
 mod shown;
@@ -424,7 +426,7 @@ fn outcomes(rt: HostRuntime) -> Result<(), Fail> {
             Outcome::Usage,
             2,
             "usage: wat_tokens [--allow-confusing] [--strict-underscores] \
-             [sig NAME.. | play CALL..]\n",
+             [sig NAME.. | play CALL.. | blank] | types\n",
         ),
         (
             Outcome::of_run(Ok(Some(Error::new(Span::from_offset(3), message)))),
@@ -452,9 +454,13 @@ fn words_of(alloc: Global, text: &str) -> Result<Vec<String>, Fail> {
 
 /// A command as its words, the options and the task spelled out.
 fn spelled(alloc: Global, command: &Command<'_>) -> Result<String, Fail> {
-    let Settings { allow, strict } = command.settings;
+    let (settings, task) = match command {
+        Command::Tokens(settings, task) => (settings, task),
+        Command::Types => return Ok(String::from_str(alloc, "types")?),
+    };
+    let Settings { allow, strict } = *settings;
     let mut text = format!(in alloc; "{allow} {strict}")?;
-    match &command.task {
+    match task {
         Task::List => text.push_str(" list")?,
         Task::Sig(names) => {
             for name in names.iter() {
@@ -466,6 +472,7 @@ fn spelled(alloc: Global, command: &Command<'_>) -> Result<String, Fail> {
                 write!(text, " {call:?}")?;
             }
         }
+        Task::Blank => text.push_str(" blank")?,
     }
     Ok(text)
 }
@@ -488,6 +495,20 @@ fn words(rt: HostRuntime) -> Result<(), Fail> {
             "play look take comment parens=12 reg=b unreg=",
             "false false Look Take Comment Parens(12) Register(\"b\") Unregister(\"\")",
         ),
+        ("blank", "false false blank"),
+        ("--allow-confusing blank", "true false blank"),
+        ("sig blank", "false false <blank>"),
+        ("blank x", ""),
+        ("blank --allow-confusing", ""),
+        ("play blank", ""),
+        ("types", "types"),
+        ("sig types", "false false <types>"),
+        ("--allow-confusing types", ""),
+        ("--strict-underscores types", ""),
+        ("types --allow-confusing", ""),
+        ("types types", ""),
+        ("blank types", ""),
+        ("Types", ""),
         ("play look Look", ""),
         ("play --allow-confusing", ""),
         ("look", ""),
@@ -574,8 +595,13 @@ fn responses(rt: HostRuntime) -> Result<(), Fail> {
         ("--allow-confusing", 0, "0..10 String\n"),
         ("--strict-underscores", 1, ""),
         ("--strict-underscores --allow-confusing", 1, ""),
+        ("blank", 0, "\"\\u{1__0}\""),
+        ("--strict-underscores blank", 1, ""),
         ("--allow-confusing --allow-confusing", 2, ""),
         ("play looks", 2, ""),
+        ("blank blank", 2, ""),
+        ("types", 1, ""),
+        ("--allow-confusing types", 2, ""),
     ];
     for (words, status, lines) in rows {
         let mut input = Plain::new(b"\"\\u{1__0}\"".as_slice());

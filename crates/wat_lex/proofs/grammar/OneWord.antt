@@ -45,7 +45,7 @@ fails : (b : Bool) → (b ≡ true → ⊥) → b ≡ false
 fails true h = absurd (h refl)
 fails false h = refl
 
-whitespace_no_run : (c : ℕ) → is_whitespace c ≡ true → is_run_char c ≡ true → ⊥
+pub whitespace_no_run : (c : ℕ) → is_whitespace c ≡ true → is_run_char c ≡ true → ⊥
 whitespace_no_run c = set_apart is_run_char (32 ∷ 10 ∷ 13 ∷ 9 ∷ []) c (refl, (refl, (refl, (refl, tt))))
 
 punctuation_no_whitespace : (c : ℕ) → is_punctuation c ≡ true → is_whitespace c ≡ true → ⊥

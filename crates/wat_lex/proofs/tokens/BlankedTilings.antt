@@ -1,5 +1,5 @@
--- The raw tokens of a text with spaces over a comment.
-use Rattle.std.proofs.Common.{◌≡◌, ◌≢◌, ◌≤◌, ◌<◌, ◌+◌, ◌-◌, ◌⊎◌, ℕ, zero, suc, List, [], ◌∷◌, ◌++◌, length, get_or, take, drop, replicate, refl, arith, ap, sym, ◌∙◌, subst, append_assoc, inl, inr}
+-- The raw tokens of a text with white bytes over a comment.
+use Rattle.std.proofs.Common.{◌≡◌, ◌≢◌, ◌≤◌, ◌<◌, ◌+◌, ◌-◌, ◌⊎◌, ℕ, zero, suc, List, [], ◌∷◌, ◌++◌, length, get_or, take, drop, refl, arith, ap, sym, ◌∙◌, subst, append_assoc, inl, inr}
 use Rattle.std.specs.Prelude.{Option, Some, None}
 use Rattle.std.specs.List.{All}
 use Rattle.std.specs.Str.{chars, IsUtf8, IsCharBoundary}
@@ -7,7 +7,7 @@ use Rattle.std.proofs.lemmas.List.{append_cancel_right, length-take-le}
 use Rattle.std.proofs.lemmas.List.Elements.{All-nil, All-cons}
 use Rattle.wat_lex.specs.grammar.Classes.{size, Each, Begins, is_whitespace}
 use Rattle.wat_lex.specs.grammar.Words.{Word, MayFollow, WordStands}
-use Rattle.wat_lex.specs.tokens.Blanking.{space, blanked, with_blanks, AtMostOneSpace, Spaced, IsRawComment, BlanksAreSpace, BlanksAreText}
+use Rattle.wat_lex.specs.tokens.Blanking.{AreBlanksOf, overwritten, AtMostOneSpace, Spaced, IsRawComment, BlanksAreSpace, BlanksAreText}
 use Rattle.wat_lex.specs.tokens.Faults.{IsComment}
 use Rattle.wat_lex.specs.tokens.ReadableTokens.{token_text}
 use Rattle.wat_lex.specs.tokens.Setting.{Setting}
@@ -19,8 +19,8 @@ use Rattle.wat_lex.specs.declared.lexer.kinds.TokenKind.TheVariants.{LineComment
 use Rattle.wat_lex.specs.declared.lexer.settings.Settings.{Settings}
 use Rattle.wat_lex.proofs.grammar.OneWord.{stands_unique}
 use Rattle.wat_lex.proofs.inside.Confusing.{size-append}
-use Rattle.wat_lex.proofs.tokens.BlankedTexts.{spaces_white, spaces_size, chars_blanked, chars_text, size_before, text_before, text_behind, blanked_length, blanked_utf8}
-use Rattle.wat_lex.proofs.tokens.BlankedTokens.{CommentIn, opens_comment, comment_opens, token_before, tiling_behind, ending_behind}
+use Rattle.wat_lex.proofs.tokens.BlankedTexts.{white_size, chars_blanked, chars_text, size_before, text_before, text_behind, blanked_length, blanked_utf8}
+use Rattle.wat_lex.proofs.tokens.BlankedTokens.{over, CommentIn, opens_comment, comment_opens, token_before, tiling_behind, ending_behind}
 use Rattle.wat_lex.proofs.tokens.CutTexts.{token_rest}
 use Rattle.wat_lex.proofs.tokens.OneFault.{no_word_at_fault}
 use Rattle.wat_lex.proofs.tokens.OneTilings.{nothing_left}
@@ -130,46 +130,45 @@ white_behind s from to (t ∷ ts) e u b h g =
 white_token : ℕ → ℕ → Token
 white_token q at = record { kind = Whitespace; offset = q; len = at - q }
 
-white_stands : (s : Setting) (c : Token) (q to : ℕ) (ts : List Token) → CommentIn s c → IsCharBoundary s.text q → q ≤ c.offset → Each is_whitespace (chars (drop q (take c.offset s.text)))
-    → (k : White s (c.offset + c.len) to ts) → TokenAt (with_blanks s c) q (white_token q k.at)
+white_stands : (s : Setting) (c : Token) (white : List ℕ) (q to : ℕ) (ts : List Token) → CommentIn s c white → IsCharBoundary s.text q → q ≤ c.offset → Each is_whitespace (chars (drop q (take c.offset s.text)))
+    → (k : White s (c.offset + c.len) to ts) → TokenAt (over s c white) q (white_token q k.at)
 unfolding white_token
-white_stands s c q to ts here b l p k =
+white_stands s c white q to ts here b l p k =
     let m = chars (drop q (take c.offset s.text)) in
-    let n = replicate c.len space in
     let r = chars (drop k.at s.text) in
     let fits = here.last.0 in
-    let long : size (m ++ (n ++ k.word)) ≡ k.at - q =
-    omega (arith, size-append m (n ++ k.word), size-append n k.word, spaces_size c.len, size_before s.text c fits here.utf8 here.first here.last q b l, k.place, l) in
+    let long : size (m ++ (white ++ k.word)) ≡ k.at - q =
+    omega (arith, size-append m (white ++ k.word), size-append white k.word, white_size white here.blanks.blank, here.blanks.long, size_before s.text c fits here.utf8 here.first q b l, k.place, l) in
     record {
       offset = refl;
-      word = m ++ (n ++ k.word);
+      word = m ++ (white ++ k.word);
       rest = r;
       stands = record {
-        cut = chars_blanked s.text c fits here.utf8 here.first here.last q b l ∙ ap (λ x. m ++ (n ++ x)) k.there ∙ ap (λ x. m ++ x) (sym (append_assoc n k.word r)) ∙ sym (append_assoc m (n ++ k.word) r);
-        word = (λ e. let z = ap size e in let some = here.some in omega (arith, z, long, k.place, l, some), each_append is_whitespace m (n ++ k.word) p (each_append is_whitespace n k.word (spaces_white c.len) k.passes));
+        cut = chars_blanked s.text c white fits here.blanks here.utf8 here.first here.last q b l ∙ ap (λ x. m ++ (white ++ x)) k.there ∙ ap (λ x. m ++ x) (sym (append_assoc white k.word r)) ∙ sym (append_assoc m (white ++ k.word) r);
+        word = (λ e. let z = ap size e in let some = here.some in omega (arith, z, long, k.place, l, some), each_append is_whitespace m (white ++ k.word) p (each_append is_whitespace white k.word here.blanks.blank k.passes));
         ends = k.stops;
       };
       len = sym long;
     }
 
--- the raw tokens from q on, as they stand in the text with spaces
-record Rejoined (s : Setting) (c : Token) (q to : ℕ) (ts : List Token) : Type 0 where
+-- the raw tokens from q on, as they stand in the text with white bytes
+record Rejoined (s : Setting) (c : Token) (white : List ℕ) (q to : ℕ) (ts : List Token) : Type 0 where
   tokens : List Token
-  spaced : Spaced s.text c ts tokens
-  tiling : Tiling (with_blanks s c) q to tokens
+  spaced : Spaced s.text (overwritten s.text c white) c ts tokens
+  tiling : Tiling (over s c white) q to tokens
 
-texts_behind : (s : Setting) (c : Token) (q to : ℕ) (ts : List Token) → CommentIn s c → c.offset + c.len ≤ q → Tiling s q to ts → All (λ t. token_text (blanked s.text c) t ≡ token_text s.text t) ts
-texts_behind s c q to [] here l h = All-nil (λ t. token_text (blanked s.text c) t ≡ token_text s.text t)
-texts_behind s c q to (t ∷ ts) here l h =
+texts_behind : (s : Setting) (c : Token) (white : List ℕ) (q to : ℕ) (ts : List Token) → CommentIn s c white → c.offset + c.len ≤ q → Tiling s q to ts → All (λ t. token_text (overwritten s.text c white) t ≡ token_text s.text t) ts
+texts_behind s c white q to [] here l h = All-nil (λ t. token_text (overwritten s.text c white) t ≡ token_text s.text t)
+texts_behind s c white q to (t ∷ ts) here l h =
     let o = h.0.offset in
-    All-cons (λ t. token_text (blanked s.text c) t ≡ token_text s.text t) t ts (text_behind s.text c here.last.0 t (omega (arith, o, l)))
-    (texts_behind s c (t.offset + t.len) to ts here (omega (arith, o, l)) h.1)
+    All-cons (λ t. token_text (overwritten s.text c white) t ≡ token_text s.text t) t ts (text_behind s.text c white here.last.0 here.blanks t (omega (arith, o, l)))
+    (texts_behind s c white (t.offset + t.len) to ts here (omega (arith, o, l)) h.1)
 
 -- the comment, with the white space beside it
-joined : (s : Setting) (c : Token) (q to : ℕ) (left behind ts : List Token) → CommentIn s c → IsCharBoundary s.text q → q ≤ c.offset → Each is_whitespace (chars (drop q (take c.offset s.text))) → AtMostOneSpace left
-    → (k : White s (c.offset + c.len) to behind) → ts ≡ (left ++ c ∷ k.right) ++ k.rest → Rejoined s c q to ts
+joined : (s : Setting) (c : Token) (white : List ℕ) (q to : ℕ) (left behind ts : List Token) → CommentIn s c white → IsCharBoundary s.text q → q ≤ c.offset → Each is_whitespace (chars (drop q (take c.offset s.text))) → AtMostOneSpace left
+    → (k : White s (c.offset + c.len) to behind) → ts ≡ (left ++ c ∷ k.right) ++ k.rest → Rejoined s c white q to ts
 unfolding white_token
-joined s c q to left behind ts here b l p a k was =
+joined s c white q to left behind ts here b l p a k was =
     let place = k.place in
     let e : k.at ≡ q + (k.at - q) = omega (arith, place, l) in
     let past : c.offset + c.len ≤ k.at = omega (arith, place) in
@@ -186,14 +185,14 @@ joined s c q to left behind ts here b l p a k was =
         beside_left = a;
         beside_right = k.beside;
         kind = refl;
-        texts_before = All-nil (λ t. token_text (blanked s.text c) t ≡ token_text s.text t);
-        texts_behind = texts_behind s c k.at to k.rest here past k.tiling;
+        texts_before = All-nil (λ t. token_text (overwritten s.text c white) t ≡ token_text s.text t);
+        texts_behind = texts_behind s c white k.at to k.rest here past k.tiling;
       };
-      tiling = (white_stands s c q to behind here b l p k, subst (λ x. Tiling (with_blanks s c) x to k.rest) e (tiling_behind s c k.at to k.rest here past k.tiling));
+      tiling = (white_stands s c white q to behind here b l p k, subst (λ x. Tiling (over s c white) x to k.rest) e (tiling_behind s c white k.at to k.rest here past k.tiling));
     }
 
-one_more : (s : Setting) (c : Token) (q to : ℕ) (t : Token) (ts : List Token) → CommentIn s c → t.offset + t.len ≤ c.offset → TokenAt (with_blanks s c) q t → Rejoined s c (t.offset + t.len) to ts → Rejoined s c q to (t ∷ ts)
-one_more s c q to t ts here l h r =
+one_more : (s : Setting) (c : Token) (white : List ℕ) (q to : ℕ) (t : Token) (ts : List Token) → CommentIn s c white → t.offset + t.len ≤ c.offset → TokenAt (over s c white) q t → Rejoined s c white (t.offset + t.len) to ts → Rejoined s c white q to (t ∷ ts)
+one_more s c white q to t ts here l h r =
     let g = r.spaced in
     record {
       tokens = t ∷ r.tokens;
@@ -208,7 +207,7 @@ one_more s c q to t ts here l h r =
         beside_left = g.beside_left;
         beside_right = g.beside_right;
         kind = g.kind;
-        texts_before = All-cons (λ t. token_text (blanked s.text c) t ≡ token_text s.text t) t g.before (text_before s.text c here.last.0 t l) g.texts_before;
+        texts_before = All-cons (λ t. token_text (overwritten s.text c white) t ≡ token_text s.text t) t g.before (text_before s.text c white here.last.0 here.blanks t l) g.texts_before;
         texts_behind = g.texts_behind;
       };
       tiling = (h, r.tiling);
@@ -219,16 +218,16 @@ reaches : (s : Setting) (p to : ℕ) (c : Token) (b r : List Token) → Tiling s
 reaches s p to c [] r h = let o = h.0.offset in omega (arith, o)
 reaches s p to c (t ∷ b) r h = let o = h.0.offset in omega (arith, o, reaches s (t.offset + t.len) to c b r h.1)
 
-module _ (s : Setting) (c : Token) (here : CommentIn s c) where
-  at_comment : (q to : ℕ) (r : List Token) (e : Option LexFault) → IsCharBoundary s.text q → Tiling s q to (c ∷ r) → EndsAt s to e → Rejoined s c q to (c ∷ r)
+module _ (s : Setting) (c : Token) (white : List ℕ) (here : CommentIn s c white) where
+  at_comment : (q to : ℕ) (r : List Token) (e : Option LexFault) → IsCharBoundary s.text q → Tiling s q to (c ∷ r) → EndsAt s to e → Rejoined s c white q to (c ∷ r)
   at_comment q to r e b h g =
       let o = h.0.offset in
       let k = white_behind s (c.offset + c.len) to r e here.utf8 here.last h.1 g in
       let none : chars (drop q (take c.offset s.text)) ≡ [] = nothing_left (take c.offset s.text) q (omega (arith, o, length-take-le c.offset s.text here.first.0)) in
-      joined s c q to [] r (c ∷ r) here b (omega (arith, o)) (subst (Each is_whitespace) (sym none) tt) tt k (ap (λ x. c ∷ x) k.cut)
+      joined s c white q to [] r (c ∷ r) here b (omega (arith, o)) (subst (Each is_whitespace) (sym none) tt) tt k (ap (λ x. c ∷ x) k.cut)
 
   -- white space directly before the comment
-  behind_white : (q to : ℕ) (t : Token) (r : List Token) (e : Option LexFault) → IsCharBoundary s.text q → Tiling s q to (t ∷ c ∷ r) → EndsAt s to e → t.kind ≡ Whitespace → Rejoined s c q to (t ∷ c ∷ r)
+  behind_white : (q to : ℕ) (t : Token) (r : List Token) (e : Option LexFault) → IsCharBoundary s.text q → Tiling s q to (t ∷ c ∷ r) → EndsAt s to e → t.kind ≡ Whitespace → Rejoined s c white q to (t ∷ c ∷ r)
   behind_white q to t r e b h g w =
       let o = h.0.offset in
       let n = h.1.0.offset in
@@ -237,31 +236,31 @@ module _ (s : Setting) (c : Token) (here : CommentIn s c) where
       let k = white_behind s (c.offset + c.len) to r e here.utf8 here.last h.1.1 g in
       let rest : h.0.rest ≡ x = sym (token_rest s q t here.utf8 b h.0) ∙ ap (λ y. chars (drop y s.text)) (sym n) in
       let word : chars (drop q (take c.offset s.text)) ≡ h.0.word =
-      append_cancel_right (chars (drop q (take c.offset s.text))) h.0.word x (sym (chars_text s.text c here.last.0 here.utf8 here.first here.last q b l) ∙ h.0.stands.cut ∙ ap (λ y. h.0.word ++ y) rest) in
-      let white : Word Whitespace h.0.word s.flags = subst (λ y. Word y h.0.word s.flags) w h.0.stands.word in
-      joined s c q to (t ∷ []) r (t ∷ c ∷ r) here b l (subst (Each is_whitespace) (sym word) white.1) w k (ap (λ y. t ∷ c ∷ y) k.cut)
+      append_cancel_right (chars (drop q (take c.offset s.text))) h.0.word x (sym (chars_text s.text c here.last.0 here.utf8 here.first q b l) ∙ h.0.stands.cut ∙ ap (λ y. h.0.word ++ y) rest) in
+      let space : Word Whitespace h.0.word s.flags = subst (λ y. Word y h.0.word s.flags) w h.0.stands.word in
+      joined s c white q to (t ∷ []) r (t ∷ c ∷ r) here b l (subst (Each is_whitespace) (sym word) space.1) w k (ap (λ y. t ∷ c ∷ y) k.cut)
 
-  rejoined : (q to : ℕ) (b r : List Token) (e : Option LexFault) → IsCharBoundary s.text q → Tiling s q to (b ++ c ∷ r) → EndsAt s to e → Rejoined s c q to (b ++ c ∷ r)
+  rejoined : (q to : ℕ) (b r : List Token) (e : Option LexFault) → IsCharBoundary s.text q → Tiling s q to (b ++ c ∷ r) → EndsAt s to e → Rejoined s c white q to (b ++ c ∷ r)
   rejoined q to [] r e at h g = at_comment q to r e at h g
   rejoined q to (t ∷ []) r e at h g =
       let n = h.1.0.offset in
       let next = behind s q t here.utf8 at h.0 in
       elim (white_or_not t.kind) [
         | inl w ↦ behind_white q to t r e at h g w
-        | inr w ↦ one_more s c q to t (c ∷ r) here (omega (arith, n)) (token_before s c q t here at h.0 (omega (arith, n)) (λ _. w)) (at_comment (t.offset + t.len) to r e next h.1 g)
+        | inr w ↦ one_more s c white q to t (c ∷ r) here (omega (arith, n)) (token_before s c white q t here at h.0 (omega (arith, n)) (λ _. w)) (at_comment (t.offset + t.len) to r e next h.1 g)
       ]
   rejoined q to (t ∷ u ∷ b) r e at h g =
       let o = h.1.0.offset in
       let some = token_some s (t.offset + t.len) u h.1.0 in
       let far = reaches s (u.offset + u.len) to c b r h.1.1 in
       let next = behind s q t here.utf8 at h.0 in
-      one_more s c q to t (u ∷ b ++ c ∷ r) here (omega (arith, o, far))
-      (token_before s c q t here at h.0 (omega (arith, o, far)) (λ k. absurd (omega (arith, k, o, some, far))))
+      one_more s c white q to t (u ∷ b ++ c ∷ r) here (omega (arith, o, far))
+      (token_before s c white q t here at h.0 (omega (arith, o, far)) (λ k. absurd (omega (arith, k, o, some, far))))
       (rejoined (t.offset + t.len) to (u ∷ b) r e next h.1 g)
 
 -- where the comment stands
-found : (s : Setting) (p to : ℕ) (c : Token) (b r : List Token) → IsUtf8 s.text → IsCharBoundary s.text p → IsComment c.kind → Tiling s p to (b ++ c ∷ r) → CommentIn s c
-found s p to c [] r u at i h =
+found : (s : Setting) (p to : ℕ) (c : Token) (white : List ℕ) (b r : List Token) → IsUtf8 s.text → IsCharBoundary s.text p → AreBlanksOf c white → IsComment c.kind → Tiling s p to (b ++ c ∷ r) → CommentIn s c white
+found s p to c white [] r u at a i h =
     let e = sym h.0.offset in
     let g = subst (λ x. TokenAt s x c) e h.0 in
     record {
@@ -270,8 +269,9 @@ found s p to c [] r u at i h =
       last = behind s p c u at h.0;
       opens = subst (Begins opens_comment) (sym g.stands.cut) (comment_opens c.kind g.word g.rest s.flags i g.stands.word);
       some = token_some s p c h.0;
+      blanks = a;
     }
-found s p to c (t ∷ b) r u at i h = found s (t.offset + t.len) to c b r u (behind s p t u at h.0) i h.1
+found s p to c white (t ∷ b) r u at a i h = found s (t.offset + t.len) to c white b r u (behind s p t u at h.0) a i h.1
 
 -- the tokens before an element, and those behind it
 split_at : (ts : List Token) (c : Token) (k : ℕ) → k < length ts → get_or ts k c ≡ c → (b r : List Token) × (ts ≡ b ++ c ∷ r)
@@ -288,28 +288,28 @@ past_comment s p to c [] r h = forward s (c.offset + c.len) to r h.1
 past_comment s p to c (t ∷ b) r h = past_comment s (t.offset + t.len) to c b r h.1
 
 -- where a comment among the raw tokens stands
-record Place (s : Setting) (p : ℕ) (c : Token) (raw : IsRawComment s p c) : Type 0 where
+record Place (s : Setting) (p : ℕ) (c : Token) (white : List ℕ) (raw : IsRawComment s p c) : Type 0 where
   before : List Token
   behind : List Token
   cut : raw.tokens ≡ before ++ c ∷ behind
   tiling : Tiling s p raw.tiling.to (before ++ c ∷ behind)
-  here : CommentIn s c
+  here : CommentIn s c white
 
-placed : (s : Setting) (p : ℕ) (c : Token) (raw : IsRawComment s p c) → IsUtf8 s.text → IsCharBoundary s.text p → Place s p c raw
-placed s p c raw u at =
+placed : (s : Setting) (p : ℕ) (c : Token) (white : List ℕ) (raw : IsRawComment s p c) → IsUtf8 s.text → IsCharBoundary s.text p → AreBlanksOf c white → Place s p c white raw
+placed s p c white raw u at a =
     let k = split_at raw.tokens c raw.among.0 raw.among.1 raw.among.2 in
     let tiling = subst (Tiling s p raw.tiling.to) k.2 raw.tiling.tiling in
-    record { before = k.0; behind = k.1; cut = k.2; tiling = tiling; here = found s p raw.tiling.to c k.0 k.1 u at raw.kind tiling }
+    record { before = k.0; behind = k.1; cut = k.2; tiling = tiling; here = found s p raw.tiling.to c white k.0 k.1 u at a raw.kind tiling }
 
 pub blanks_are_space : BlanksAreSpace
-blanks_are_space s p c u at raw =
-    let k = placed s p c raw u at in
+blanks_are_space s p c white u at a raw =
+    let k = placed s p c white raw u at a in
     let to = raw.tiling.to in
-    let r = rejoined s c k.here p to k.before k.behind raw.ending at k.tiling raw.tiling.ends in
-    let ends = ending_behind s c to raw.ending k.here (past_comment s p to c k.before k.behind k.tiling) raw.tiling.ends in
-    (r.tokens, record { to = to; tiling = r.tiling; ends = ends }, subst (λ x. Spaced s.text c x r.tokens) (sym k.cut) r.spaced)
+    let r = rejoined s c white k.here p to k.before k.behind raw.ending at k.tiling raw.tiling.ends in
+    let ends = ending_behind s c white to raw.ending k.here (past_comment s p to c k.before k.behind k.tiling) raw.tiling.ends in
+    (r.tokens, record { to = to; tiling = r.tiling; ends = ends }, subst (λ x. Spaced s.text (overwritten s.text c white) c x r.tokens) (sym k.cut) r.spaced)
 
 pub blanks_are_text : BlanksAreText
-blanks_are_text s p c u at raw =
-    let here = (placed s p c raw u at).here in
-    (blanked_length s.text c here.last.0, blanked_utf8 s.text c here.last.0 u here.first here.last)
+blanks_are_text s p c white u at a raw =
+    let here = (placed s p c white raw u at a).here in
+    (blanked_length s.text c white here.last.0 here.blanks, blanked_utf8 s.text c white here.last.0 here.blanks u here.first here.last)

@@ -1,14 +1,14 @@
--- The tokens of a text with spaces over a comment: those before it and behind it stand as they stood, and one white space token
+-- The tokens of a text with white bytes over a comment: those before it and behind it stand as they stood, and one white space token
 -- stands between them.
-use Rattle.std.proofs.Common.{◌≡◌, ◌≢◌, ◌≤◌, ◌<◌, ◌+◌, ℕ, List, [], ◌∷◌, ◌++◌, take, drop, refl, arith, ap, sym, ◌∙◌, subst, append_assoc, length-drop, inl, inr, Bool, ◌||◌}
-use Rattle.std.specs.Prelude.{Option, Some, None, ◌==◌}
+use Rattle.std.proofs.Common.{◌≡◌, ◌≢◌, ◌≤◌, ◌<◌, ◌+◌, ℕ, List, [], ◌∷◌, ◌++◌, take, drop, refl, arith, ap, sym, ◌∙◌, subst, append_assoc, length-drop, inl, inr, Bool, true, ◌||◌}
+use Rattle.std.specs.Prelude.{Option, Some, None, ◌==◌, IsTrue}
 use Rattle.std.specs.Str.{chars, IsUtf8, IsCharBoundary}
-use Rattle.std.proofs.lemmas.Bool.{both_ways, or_cases, eqb-true, false≢true}
+use Rattle.std.proofs.lemmas.Bool.{both_ways, or_cases, eqb-true}
 use Rattle.std.proofs.lemmas.List.{append_cancel_right, length-take-le}
-use Rattle.wat_lex.specs.grammar.Classes.{Begins, is_line_end, open_paren, semicolon}
+use Rattle.wat_lex.specs.grammar.Classes.{Begins, is_whitespace, is_line_end, open_paren, semicolon}
 use Rattle.wat_lex.specs.grammar.Comments.{BlockComment as Commented, opened, LineComment as CommentedLine, begun}
 use Rattle.wat_lex.specs.grammar.Words.{Word, MayFollow, WordStands}
-use Rattle.wat_lex.specs.tokens.Blanking.{space, with_blanks}
+use Rattle.wat_lex.specs.tokens.Blanking.{AreBlanksOf, overwritten, with_text}
 use Rattle.wat_lex.specs.tokens.Faults.{IsComment, Fault}
 use Rattle.wat_lex.specs.tokens.Setting.{Setting}
 use Rattle.wat_lex.specs.tokens.Tiling.{TokenAt, Tiling, EndsAt}
@@ -17,8 +17,10 @@ use Rattle.wat_lex.specs.declared.lexer.faults.LexFault.{LexFault}
 use Rattle.wat_lex.specs.declared.lexer.kinds.Token.{Token}
 use Rattle.wat_lex.specs.declared.lexer.kinds.TokenKind.{TokenKind}
 use Rattle.wat_lex.specs.declared.lexer.kinds.TokenKind.TheVariants.{LineComment, BlockComment, Whitespace, LParen, RParen, String, Id, Keyword, Annotation, Reserved, Integer, Float}
-use Rattle.wat_lex.proofs.tokens.BlankedTexts.{first_space, no_characters, drop_behind, blanked_length, chars_blanked, chars_text}
+use Rattle.wat_lex.proofs.grammar.OneWord.{whitespace_no_run}
+use Rattle.wat_lex.proofs.tokens.BlankedTexts.{first_white, no_characters, drop_behind, blanked_length, chars_blanked, chars_text}
 use Rattle.wat_lex.proofs.tokens.CutTexts.{token_rest, prefix_utf8}
+use Rattle.wat_lex.proofs.tokens.OneStringFault.{set_apart}
 use Rattle.wat_lex.proofs.tokens.RawLaws.{behind}
 
 -- a comment begins with one of these
@@ -48,20 +50,23 @@ no_line_before (c ∷ x) o (inr e) =
       | inr k ↦ both_ways (is_line_end c) (ap is_line_end (eqb-true c semicolon k)) e
     ]
 
--- What may be followed by a comment may be followed by a space, but for white space.
-follows_space : (k : TokenKind) (w x t : List ℕ) → k ≢ Whitespace → Begins opens_comment x → MayFollow k w x → MayFollow k w (space ∷ t)
-follows_space Whitespace w x t n o h = absurd (n refl)
-follows_space LineComment w x t n o h = absurd (no_line_before x o h)
-follows_space BlockComment w x t n o h = tt
-follows_space LParen w x t n o h = λ b. false≢true b
-follows_space RParen w x t n o h = tt
-follows_space Reserved w x t n o h = (λ e b. false≢true b, λ m b. false≢true b)
-follows_space String w x t n o h = λ b. false≢true b
-follows_space Id w x t n o h = λ b. false≢true b
-follows_space Keyword w x t n o h = λ b. false≢true b
-follows_space Annotation w x t n o h = λ b. false≢true b
-follows_space (Integer k) w x t n o h = λ b. false≢true b
-follows_space (Float k) w x t n o h = λ b. false≢true b
+white_no_semicolon : (c : ℕ) → is_whitespace c ≡ true → (c == semicolon) ≡ true → ⊥
+white_no_semicolon c = set_apart (λ d. d == semicolon) (32 ∷ 10 ∷ 13 ∷ 9 ∷ []) c (refl, (refl, (refl, (refl, tt))))
+
+-- What may be followed by a comment may be followed by white space, but for white space.
+follows_white : (k : TokenKind) (w x : List ℕ) (c : ℕ) (t : List ℕ) → IsTrue (is_whitespace c) → k ≢ Whitespace → Begins opens_comment x → MayFollow k w x → MayFollow k w (c ∷ t)
+follows_white Whitespace w x c t i n o h = absurd (n refl)
+follows_white LineComment w x c t i n o h = absurd (no_line_before x o h)
+follows_white BlockComment w x c t i n o h = tt
+follows_white LParen w x c t i n o h = λ b. white_no_semicolon c i b
+follows_white RParen w x c t i n o h = tt
+follows_white Reserved w x c t i n o h = (λ e b. white_no_semicolon c i b, λ m b. whitespace_no_run c i b)
+follows_white String w x c t i n o h = λ b. whitespace_no_run c i b
+follows_white Id w x c t i n o h = λ b. whitespace_no_run c i b
+follows_white Keyword w x c t i n o h = λ b. whitespace_no_run c i b
+follows_white Annotation w x c t i n o h = λ b. whitespace_no_run c i b
+follows_white (Integer k) w x c t i n o h = λ b. whitespace_no_run c i b
+follows_white (Float k) w x c t i n o h = λ b. whitespace_no_run c i b
 
 -- What may follow is told by the first character.
 follows_first : (k : TokenKind) (w : List ℕ) (d : ℕ) (m x y : List ℕ) → MayFollow k w (d ∷ m ++ x) → MayFollow k w (d ∷ m ++ y)
@@ -79,30 +84,37 @@ follows_first Annotation w d m x y h = h
 follows_first (Integer k) w d m x y h = h
 follows_first (Float k) w d m x y h = h
 
-follows_blanks : (k : TokenKind) (w m x t : List ℕ) → (m ≡ [] → k ≢ Whitespace) → Begins opens_comment x → MayFollow k w (m ++ x) → MayFollow k w (m ++ space ∷ t)
-follows_blanks k w [] x t n o h = follows_space k w x t (n refl) o h
-follows_blanks k w (d ∷ m) x t n o h = follows_first k w d m x (space ∷ t) h
+follows_blanks : (k : TokenKind) (w m x : List ℕ) (c : ℕ) (t : List ℕ) → IsTrue (is_whitespace c) → (m ≡ [] → k ≢ Whitespace) → Begins opens_comment x → MayFollow k w (m ++ x) → MayFollow k w (m ++ c ∷ t)
+follows_blanks k w [] x c t i n o h = follows_white k w x c t i (n refl) o h
+follows_blanks k w (d ∷ m) x c t i n o h = follows_first k w d m x (c ∷ t) h
 
--- a comment at its place in a text
-pub record CommentIn (s : Setting) (c : Token) : Type 0 where
+-- the text with these bytes over the comment, with the flags
+abbrev pub over : Setting → Token → List ℕ → Setting
+over s c white = with_text s (overwritten s.text c white)
+
+-- a comment at its place in a text, and white bytes as many as it has
+pub record CommentIn (s : Setting) (c : Token) (white : List ℕ) : Type 0 where
   pub utf8 : IsUtf8 s.text
   pub first : IsCharBoundary s.text c.offset
   pub last : IsCharBoundary s.text (c.offset + c.len)
   pub opens : Begins opens_comment (chars (drop c.offset s.text))
   pub some : 0 < c.len
+  pub blanks : AreBlanksOf c white
 
 -- a token before the comment stands as it stood, unless it is white space directly before it
-pub token_before : (s : Setting) (c : Token) (q : ℕ) (t : Token) → CommentIn s c → IsCharBoundary s.text q → TokenAt s q t → t.offset + t.len ≤ c.offset → (t.offset + t.len ≡ c.offset → t.kind ≢ Whitespace) → TokenAt (with_blanks s c) q t
-token_before s c q t here b h l n =
+pub token_before : (s : Setting) (c : Token) (white : List ℕ) (q : ℕ) (t : Token) → CommentIn s c white → IsCharBoundary s.text q → TokenAt s q t → t.offset + t.len ≤ c.offset → (t.offset + t.len ≡ c.offset → t.kind ≢ Whitespace) → TokenAt (over s c white) q t
+token_before s c white q t here b h l n =
     let p = t.offset + t.len in
     let fits = here.last.0 in
     let o = h.offset in
     let m = chars (drop p (take c.offset s.text)) in
     let x = chars (drop c.offset s.text) in
-    let y = first_space c.len (chars (drop (c.offset + c.len) s.text)) here.some in
+    let long = here.blanks.long in
+    let some = here.some in
+    let y = first_white white (chars (drop (c.offset + c.len) s.text)) here.blanks.blank (omega (arith, long, some)) in
     let pb = behind s q t here.utf8 b h in
-    let was = chars_text s.text c fits here.utf8 here.first here.last q b (omega (arith, l, o)) in
-    let rest : h.rest ≡ m ++ x = sym (token_rest s q t here.utf8 b h) ∙ chars_text s.text c fits here.utf8 here.first here.last p pb l in
+    let was = chars_text s.text c fits here.utf8 here.first q b (omega (arith, l, o)) in
+    let rest : h.rest ≡ m ++ x = sym (token_rest s q t here.utf8 b h) ∙ chars_text s.text c fits here.utf8 here.first p pb l in
     let word : chars (drop q (take c.offset s.text)) ≡ h.word ++ m =
     append_cancel_right (chars (drop q (take c.offset s.text))) (h.word ++ m) x (sym was ∙ h.stands.cut ∙ ap (λ z. h.word ++ z) rest ∙ sym (append_assoc h.word m x)) in
     let gone : m ≡ [] → p ≡ c.offset = λ e.
@@ -111,35 +123,35 @@ token_before s c q t here b h l n =
     record {
       offset = h.offset;
       word = h.word;
-      rest = m ++ space ∷ y.0;
+      rest = m ++ y.0 ∷ y.1;
       stands = record {
-        cut = chars_blanked s.text c fits here.utf8 here.first here.last q b (omega (arith, l, o)) ∙ ap (λ z. chars (drop q (take c.offset s.text)) ++ z) y.1 ∙ ap (λ z. z ++ space ∷ y.0) word ∙ append_assoc h.word m (space ∷ y.0);
+        cut = chars_blanked s.text c white fits here.blanks here.utf8 here.first here.last q b (omega (arith, l, o)) ∙ ap (λ z. chars (drop q (take c.offset s.text)) ++ z) y.2 ∙ ap (λ z. z ++ y.0 ∷ y.1) word ∙ append_assoc h.word m (y.0 ∷ y.1);
         word = h.stands.word;
-        ends = follows_blanks t.kind h.word m x y.0 (λ e. n (gone e)) here.opens (subst (MayFollow t.kind h.word) rest h.stands.ends);
+        ends = follows_blanks t.kind h.word m x y.0 y.1 y.3 (λ e. n (gone e)) here.opens (subst (MayFollow t.kind h.word) rest h.stands.ends);
       };
       len = h.len;
     }
 
 -- what stands behind the comment stands there as it stood
-pub token_behind : (s : Setting) (c : Token) (q : ℕ) (t : Token) → CommentIn s c → c.offset + c.len ≤ q → TokenAt s q t → TokenAt (with_blanks s c) q t
-token_behind s c q t here l h = record {
+pub token_behind : (s : Setting) (c : Token) (white : List ℕ) (q : ℕ) (t : Token) → CommentIn s c white → c.offset + c.len ≤ q → TokenAt s q t → TokenAt (over s c white) q t
+token_behind s c white q t here l h = record {
   offset = h.offset;
   word = h.word;
   rest = h.rest;
-  stands = subst (λ x. WordStands s.flags (chars x) t.kind h.word h.rest) (sym (drop_behind s.text c here.last.0 q l)) h.stands;
+  stands = subst (λ x. WordStands s.flags (chars x) t.kind h.word h.rest) (sym (drop_behind s.text c white here.last.0 here.blanks q l)) h.stands;
   len = h.len;
 }
 
-pub tiling_behind : (s : Setting) (c : Token) (q to : ℕ) (ts : List Token) → CommentIn s c → c.offset + c.len ≤ q → Tiling s q to ts → Tiling (with_blanks s c) q to ts
-tiling_behind s c q to [] here l h = h
-tiling_behind s c q to (t ∷ ts) here l h =
+pub tiling_behind : (s : Setting) (c : Token) (white : List ℕ) (q to : ℕ) (ts : List Token) → CommentIn s c white → c.offset + c.len ≤ q → Tiling s q to ts → Tiling (over s c white) q to ts
+tiling_behind s c white q to [] here l h = h
+tiling_behind s c white q to (t ∷ ts) here l h =
     let o = h.0.offset in
-    (token_behind s c q t here l h.0, tiling_behind s c (t.offset + t.len) to ts here (omega (arith, o, l)) h.1)
+    (token_behind s c white q t here l h.0, tiling_behind s c white (t.offset + t.len) to ts here (omega (arith, o, l)) h.1)
 
-pub ending_behind : (s : Setting) (c : Token) (q : ℕ) (e : Option LexFault) → CommentIn s c → c.offset + c.len ≤ q → EndsAt s q e → EndsAt (with_blanks s c) q e
-ending_behind s c q None here l h = h ∙ sym (blanked_length s.text c here.last.0)
-ending_behind s c q (Some f) here l h = record {
+pub ending_behind : (s : Setting) (c : Token) (white : List ℕ) (q : ℕ) (e : Option LexFault) → CommentIn s c white → c.offset + c.len ≤ q → EndsAt s q e → EndsAt (over s c white) q e
+ending_behind s c white q None here l h = h ∙ sym (blanked_length s.text c white here.last.0 here.blanks)
+ending_behind s c white q (Some f) here l h = record {
   at = h.at;
-  fault = subst (λ x. Fault s.flags (chars x) f.error h.at) (sym (drop_behind s.text c here.last.0 q l)) h.fault;
-  place = h.place ∙ sym (blanked_length s.text c here.last.0);
+  fault = subst (λ x. Fault s.flags (chars x) f.error h.at) (sym (drop_behind s.text c white here.last.0 here.blanks q l)) h.fault;
+  place = h.place ∙ sym (blanked_length s.text c white here.last.0 here.blanks);
 }

@@ -1,4 +1,4 @@
--- All that is shown of a text with spaces over a comment is what is shown of the text.
+-- All that is shown of a text with white bytes over a comment is what is shown of the text.
 use Rattle.std.proofs.Common.{◌≡◌, ◌-◌, ℕ, List, ◌∷◌, sym, subst, length, drop, Some, None, Ok, Err}
 use Rattle.std.specs.Prelude.{Option}
 use Rattle.std.specs.List.{AllByRecursion}

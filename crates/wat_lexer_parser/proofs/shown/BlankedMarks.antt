@@ -1,14 +1,14 @@
--- A text with spaces over a comment: outside the comment it has the same bytes, so other parentheses are marked as they were.
+-- A text with white bytes over a comment: outside the comment it has the same bytes, so other parentheses are marked as they were.
 use lib.Utf8.{encode, encodes}
-use Rattle.std.proofs.Common.{◌≡◌, ◌≢◌, ◌≤◌, ◌<◌, ◌+◌, ◌-◌, ℕ, zero, suc, List, [], ◌∷◌, ◌++◌, length, take, drop, replicate, refl, arith, ap, sym, ◌∙◌, subst, append_assoc, length-append, length-drop}
+use Rattle.std.proofs.Common.{◌≡◌, ◌≢◌, ◌≤◌, ◌<◌, ◌+◌, ◌-◌, ℕ, zero, suc, List, [], ◌∷◌, ◌++◌, length, take, drop, refl, arith, ap, sym, ◌∙◌, subst, append_assoc, length-append, length-drop}
 use Rattle.std.specs.Prelude.{slice_get}
-use Rattle.std.proofs.lemmas.List.{take-append-drop, drop-append-le, drop-drop, length-take-le, length-replicate}
+use Rattle.std.proofs.lemmas.List.{take-append-drop, drop-append-le, drop-drop, length-take-le}
 use Rattle.std.proofs.Math.Seq.{drop-append-add}
 use Rattle.std.proofs.lemmas.Str.{length-encode, len_utf8_bounds}
 use Rattle.wat_lex.specs.grammar.Classes.{size}
 use Rattle.wat_lex.specs.grammar.Runs.{Piece, Run, none, idchar, string}
 use Rattle.wat_lex.specs.grammar.Words.{Word}
-use Rattle.wat_lex.specs.tokens.Blanking.{space, blanked}
+use Rattle.wat_lex.specs.tokens.Blanking.{AreBlanksOf, overwritten}
 use Rattle.wat_lex.specs.tokens.Setting.{Setting}
 use Rattle.wat_lex.specs.tokens.Tiling.{TokenAt}
 use Rattle.wat_lex.specs.declared.lexer.settings.Settings.{Settings}
@@ -27,34 +27,34 @@ first_of : (m x y : List ℕ) → 0 < length m → slice_get (m ++ x) 0 ≡ slic
 first_of [] x y l = absurd (omega arith)
 first_of (c ∷ m) x y l = refl
 
-module _ (text : List ℕ) (t : Token) (fits : t.offset + t.len ≤ length text) where
-  byte_behind : (i : ℕ) → t.offset + t.len ≤ i → slice_get (blanked text t) i ≡ slice_get text i
+module _ (text : List ℕ) (t : Token) (white : List ℕ) (fits : t.offset + t.len ≤ length text) (blanks : AreBlanksOf t white) where
+  byte_behind : (i : ℕ) → t.offset + t.len ≤ i → slice_get (overwritten text t white) i ≡ slice_get text i
   byte_behind i l =
-      let prefix = take t.offset text ++ replicate t.len space in
+      let prefix = take t.offset text ++ white in
+      let some = blanks.long in
       let n = i - (t.offset + t.len) in
-      let long : length prefix ≡ t.offset + t.len = omega (arith, fits, length-append (take t.offset text) (replicate t.len space), length-take-le t.offset text (omega (arith, fits)), length-replicate t.len space) in
+      let long : length prefix ≡ t.offset + t.len = omega (arith, fits, some, length-append (take t.offset text) white, length-take-le t.offset text (omega (arith, fits))) in
       let k : i ≡ length prefix + n = omega (arith, long, l) in
       let m : (t.offset + t.len) + n ≡ i = omega (arith, l) in
-      let same : drop i (blanked text t) ≡ drop i text =
-      ap (λ x. drop x (blanked text t)) k ∙ drop-append-add prefix (drop (t.offset + t.len) text) n ∙ drop-drop n (t.offset + t.len) text ∙ ap (λ x. drop x text) m in
-      from_there (blanked text t) i ∙ ap (λ x. slice_get x 0) same ∙ sym (from_there text i)
+      let same : drop i (overwritten text t white) ≡ drop i text =
+      ap (λ x. drop x (overwritten text t white)) k ∙ drop-append-add prefix (drop (t.offset + t.len) text) n ∙ drop-drop n (t.offset + t.len) text ∙ ap (λ x. drop x text) m in
+      from_there (overwritten text t white) i ∙ ap (λ x. slice_get x 0) same ∙ sym (from_there text i)
 
-  byte_before : (i : ℕ) → i < t.offset → slice_get (blanked text t) i ≡ slice_get text i
+  byte_before : (i : ℕ) → i < t.offset → slice_get (overwritten text t white) i ≡ slice_get text i
   byte_before i l =
       let prefix = take t.offset text in
-      let spaces = replicate t.len space in
       let rest = drop (t.offset + t.len) text in
       let long = length-take-le t.offset text (omega (arith, fits)) in
       let m = drop i prefix in
       let some : 0 < length m = omega (arith, l, long, length-drop i prefix) in
-      let now : drop i (blanked text t) ≡ m ++ (spaces ++ rest) = ap (drop i) (append_assoc prefix spaces rest) ∙ drop-append-le i prefix (spaces ++ rest) (omega (arith, l, long)) in
+      let now : drop i (overwritten text t white) ≡ m ++ (white ++ rest) = ap (drop i) (append_assoc prefix white rest) ∙ drop-append-le i prefix (white ++ rest) (omega (arith, l, long)) in
       let was : drop i text ≡ m ++ drop t.offset text = ap (drop i) (sym (take-append-drop t.offset text)) ∙ drop-append-le i prefix (drop t.offset text) (omega (arith, l, long)) in
-      from_there (blanked text t) i ∙ ap (λ x. slice_get x 0) now ∙ first_of m (spaces ++ rest) (drop t.offset text) some ∙ sym (ap (λ x. slice_get x 0) was) ∙ sym (from_there text i)
+      from_there (overwritten text t white) i ∙ ap (λ x. slice_get x 0) now ∙ first_of m (white ++ rest) (drop t.offset text) some ∙ sym (ap (λ x. slice_get x 0) was) ∙ sym (from_there text i)
 
-  pub mark_behind : (u : Token) → t.offset + t.len ≤ u.offset → is_marked (blanked text t) u ≡ is_marked text u
+  pub mark_behind : (u : Token) → t.offset + t.len ≤ u.offset → is_marked (overwritten text t white) u ≡ is_marked text u
   mark_behind u l = ap is_mark (byte_behind (u.offset + 1) (omega (arith, l)))
 
-  pub mark_before : (u : Token) → u.offset + 1 < t.offset → is_marked (blanked text t) u ≡ is_marked text u
+  pub mark_before : (u : Token) → u.offset + 1 < t.offset → is_marked (overwritten text t white) u ≡ is_marked text u
   mark_before u l = ap is_mark (byte_before (u.offset + 1) l)
 
 run_some : (flags : Settings) (w : List ℕ) (ps : List Piece) → ps ≢ [] → Run flags w ps [] → w ≢ []

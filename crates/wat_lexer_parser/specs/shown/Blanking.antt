@@ -1,9 +1,9 @@
--- WebAssembly specification, text format, lexical format: white space, comments. A comment is white space, and so are spaces in its
--- place: what is shown of a text whose comment is overwritten with spaces.
+-- WebAssembly specification, text format, lexical format: white space, comments. A comment is white space, and so are spaces, tabs and
+-- line ends in its place: what is shown of a text whose comment is overwritten with such bytes.
 use Rattle.std.specs.Prelude.{◌≡◌, ◌↔◌, ℕ, List, Option}
 use Rattle.std.specs.List.{All}
 use Rattle.std.specs.Str.{IsUtf8}
-use Rattle.wat_lex.specs.tokens.Blanking.{IsRawComment, blanked}
+use Rattle.wat_lex.specs.tokens.Blanking.{IsRawComment, AreBlanksOf, overwritten}
 use Rattle.wat_lex.specs.tokens.ReadableTokens.{token_text}
 use Rattle.wat_lex.specs.tokens.Setting.{Setting, lenient}
 use Rattle.wat_lex.specs.tokens.Tiling.{MaximalTiling}
@@ -35,6 +35,6 @@ IsCommentOf text comment = IsRawComment (record { text = text; flags = lenient }
 abbrev pub ShowTheSameWhereRaw : Token → List ℕ → List ℕ → Type 0
 ShowTheSameWhereRaw comment text other = (flags : Settings) → IsRawComment (record { text = text; flags = flags }) 0 comment → ShowTheSame (record { text = text; flags = flags }) (record { text = other; flags = flags })
 
--- A comment that is overwritten with spaces changes nothing that is shown.
+-- A comment that is overwritten with white bytes changes nothing that is shown.
 abbrev pub BlankingShowsTheSame : Type 0
-BlankingShowsTheSame = (text : List ℕ) (comment : Token) → IsUtf8 text → ShowTheSameWhereRaw comment text (blanked text comment)
+BlankingShowsTheSame = (text : List ℕ) (comment : Token) (white : List ℕ) → IsUtf8 text → AreBlanksOf comment white → ShowTheSameWhereRaw comment text (overwritten text comment white)

@@ -1,6 +1,6 @@
-//! The three runs over a source that gives few bytes a call and fails at each call in turn, and to a
+//! The five runs over a source that gives few bytes a call and fails at each call in turn, and to a
 //! sink that fails. Where memory is wanting, each of them answers that and has written nothing.
-use crate::run::{RunError, run_list, run_play, run_sig};
+use crate::run::{RunError, run_blank, run_list, run_play, run_sig, run_types};
 use crate::tests::{OFF, Pieces, Room};
 use std::alloc::Global;
 use std::process::Abort;
@@ -16,18 +16,23 @@ const SHOWN: &str = "0..1 LParen\n1..3 Annotation\n4..7 String\n7..8 RParen\n9..
 
 const REPLIED: &str = "9..10 Keyword\n9..10 Keyword\nend\n";
 
-/// Which of the three runs.
+/// Which of the five runs.
 #[derive(Clone, Copy)]
 enum Kind {
     List,
     Sig,
     Play,
+    Blank,
+    Types,
 }
 
-const KINDS: [(Kind, &str); 3] = [
-    (Kind::List, LISTED),
-    (Kind::Sig, SHOWN),
-    (Kind::Play, REPLIED),
+/// Each kind with its text and what is written of it.
+const KINDS: [(Kind, &str, &str); 5] = [
+    (Kind::List, TEXT, LISTED),
+    (Kind::Sig, TEXT, SHOWN),
+    (Kind::Play, TEXT, REPLIED),
+    (Kind::Blank, TEXT, TEXT),
+    (Kind::Types, "(module)", "\0asm\x01\0\0\0"),
 ];
 
 /// A run of the kind. Its own words take memory too.
@@ -52,13 +57,15 @@ fn run(
             OFF,
             &[Call::Look, Call::Take, Call::Look],
         ),
+        Kind::Blank => run_blank(alloc, input, output, OFF).map(|_| ()),
+        Kind::Types => run_types(alloc, input, output).map(|_| ()),
     }
 }
 
-/// A source that gives so many bytes a call and fails behind so many calls.
-fn pieces(most: usize, fails_in: usize) -> Pieces<'static> {
+/// A source that gives so many bytes of a text a call and fails behind so many calls.
+fn pieces(text: &str, most: usize, fails_in: usize) -> Pieces<'_> {
     Pieces {
-        rest: TEXT.as_bytes(),
+        rest: text.as_bytes(),
         most,
         fails_in,
         failed: false,
@@ -79,22 +86,21 @@ fn room(alloc: Global, broken: bool) -> Result<Room, Fail> {
 fn read_fails(
     rt: &impl Abort,
     alloc: Global,
-    kind: Kind,
+    (kind, text, written): (Kind, &str, &str),
     (most, fails_in): (usize, usize),
-    lines: &str,
 ) -> Result<(), Fail> {
-    let mut input = pieces(most, fails_in);
+    let mut input = pieces(text, most, fails_in);
     let mut output = room(alloc, false)?;
     let answer = run(rt, kind, &mut input, &mut output);
     let held = output.held.as_slice();
     match answer {
-        Ok(()) => assert_eq!(rt; held, lines.as_bytes()),
+        Ok(()) => assert_eq!(rt; held, written.as_bytes()),
         Err(error) => {
             assert!(rt; error == RunError::Read || error == RunError::Memory);
             assert!(rt; held.is_empty());
         }
     }
-    let reads = TEXT.len().div_ceil(most.max(1)) + 1;
+    let reads = text.len().div_ceil(most.max(1)) + 1;
     assert!(rt; answer == Err(RunError::Memory) || (answer == Ok(())) == (fails_in >= reads));
     assert_eq!(rt; input.failed, answer == Err(RunError::Read));
     Ok(())
@@ -102,10 +108,10 @@ fn read_fails(
 
 #[test]
 fn each_read_fails_in_turn(rt: HostRuntime) -> Result<(), Fail> {
-    for (kind, lines) in KINDS {
+    for row in KINDS {
         for fails_in in 0..13 {
-            read_fails(&rt, rt.alloc(), kind, (1, fails_in), lines)?;
-            read_fails(&rt, rt.alloc(), kind, (4, fails_in), lines)?;
+            read_fails(&rt, rt.alloc(), row, (1, fails_in))?;
+            read_fails(&rt, rt.alloc(), row, (4, fails_in))?;
         }
     }
     Ok(())
@@ -113,9 +119,9 @@ fn each_read_fails_in_turn(rt: HostRuntime) -> Result<(), Fail> {
 
 #[test]
 fn the_write_fails(rt: HostRuntime) -> Result<(), Fail> {
-    for (kind, _) in KINDS {
+    for (kind, text, _) in KINDS {
         let mut output = room(rt.alloc(), true)?;
-        let answer = run(&rt, kind, &mut pieces(1, 99), &mut output);
+        let answer = run(&rt, kind, &mut pieces(text, 1, 99), &mut output);
         assert!(rt; answer == Err(RunError::Write) || answer == Err(RunError::Memory));
         assert_eq!(rt; output.failed, answer == Err(RunError::Write));
         assert!(rt; output.held.is_empty());

@@ -11,7 +11,7 @@ use std::str;
 use std::test::Fail;
 
 /// The status, and what is written and reported, as one text.
-fn responded(alloc: Global, words: &str, text: &str) -> Result<String, Fail> {
+pub(super) fn responded(alloc: Global, words: &str, text: &str) -> Result<String, Fail> {
     let mut input = Plain::new(text.as_bytes());
     let mut output = Plain::new(Vec::new(alloc));
     let words = words_of(alloc, words)?;

@@ -15,7 +15,10 @@ returns-in-Ok g c =
     let runs = rw c.deref.ensures.value at c.run_play.ensures in
     rw c.in-Play.is (ran (without_error c.run_play.result) Listed runs (rw c.in-Ok.is refl))
 
-pub returns : goal.returns
-returns g c =
+pub returns-in-Play : goal.returns-in-Play
+returns-in-Play g c =
     let runs = rw c.deref.ensures.value at c.run_play.ensures in
     rw c.in-Play.is (ran (without_error c.run_play.result) (Refused c.in-Err.error) runs (rw c.in-Err.is refl))
+
+pub returns : goal.returns
+returns g c = rw c.in-Blank.is (ran c.run_blank.result c.of_run-in-Blank.result c.run_blank.ensures c.of_run-in-Blank.ensures)

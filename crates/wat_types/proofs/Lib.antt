@@ -1,0 +1,7 @@
+mod StandardWords
+mod Looks
+mod Bytes
+mod Read
+mod Spelled
+mod Joins
+mod Answering

@@ -1,0 +1,52 @@
+use Rattle.std.proofs.Common.{◌≡◌, ◌∙◌, ◌≤◌, ◌^◌, ℕ, true, rules, refl, sym, subst, length, Some, Ok, Err}
+use Rattle.std.specs.Prelude.{Vec}
+use Rattle.std.specs.declared.alloc.Global.{Global}
+use Rattle.wat_lexer_parser.specs.parser.State.{Answers}
+use Rattle.wat_lexer_parser.specs.readings.Readings.{whole, whole_takes}
+use Rattle.wat_types.specs.Binary.{Fits, content, module_bytes}
+use Rattle.wat_types.specs.Compiling.{compiled, compiled_by, too_long}
+use Rattle.wat_types.specs.Meanings.{module_types}
+use Rattle.wat_types.specs.Signatures.{signatures}
+use Rattle.wat_types.specs.declared.text.Module.{Module}
+use Rattle.wat_types.proofs.Answering.{memory_alone, refused_so, compiled_fits, compiled_too_long, spelled_is_read, same_types}
+use Rattle.wat_types.proofs.compile_types.Goals as goal
+
+pub returns-in_err-module-clause-spelled : goal.returns-in_err-module-clause-spelled
+returns-in_err-module-clause-spelled c = λ fs h.
+    let s = c.in_ok-buffer.buffer in
+    let e = c.in_err-module.field-0.0 in
+    let reads = spelled_is_read c.reading_is_spelling.ensures.same s c.args.text.now fs c.utf8.text c.in_ok-buffer.ensures.read c.in_ok-buffer.ensures.setting h in
+    let answer = c.in_err-module.ensures.value s c.in_ok-buffer.ensures.read refl refl in
+    let result : c.from_residual-in_err-module.result ≡ Err e = search rules in
+    subst (λ r. Answers {T = Vec ℕ Global} true (λ bytes. bytes.items) (compiled fs) r) (sym result)
+    (memory_alone {T = Module} {U = Vec ℕ Global} (whole_takes module_types s) (λ m. signatures m.types.items) (λ bytes. bytes.items) (whole module_types s) (compiled fs) fs e reads answer)
+
+pub returns-in_err-module-clause-refused : goal.returns-in_err-module-clause-refused
+returns-in_err-module-clause-refused c = λ s r p t.
+    let e = c.in_err-module.field-0.0 in
+    let answer = c.in_err-module.ensures.value s r (p ∙ sym c.in_ok-buffer.ensures.setting) (t ∙ sym c.in_ok-buffer.ensures.track) in
+    let result : c.from_residual-in_err-module.result ≡ Err e = search rules in
+    subst (λ r. Answers {T = Vec ℕ Global} true (λ bytes. bytes.items) (compiled_by (whole module_types s)) r) (sym result)
+    (refused_so {T = Module} {U = Vec ℕ Global} (whole_takes module_types s) (λ m. signatures m.types.items) (λ bytes. bytes.items) (whole module_types s) e answer)
+
+pub returns-in-Ok-clause-spelled : goal.returns-in-Ok-clause-spelled
+returns-in-Ok-clause-spelled c = λ fs h.
+    let s = c.in_ok-buffer.buffer in
+    let reads = spelled_is_read c.reading_is_spelling.ensures.same s c.args.text.now fs c.utf8.text c.in_ok-buffer.ensures.read c.in_ok-buffer.ensures.setting h in
+    let answer = c.in_ok-module.ensures.value s c.in_ok-buffer.ensures.read refl refl in
+    let same = same_types (whole module_types s) fs (signatures c.in_ok-module.module.types.items) reads answer in
+    let types = signatures c.in_ok-module.module.types.items in
+    let fits : Fits types = search rules in
+    let bytes : c.in-Ok.bytes.items ≡ module_bytes types = search rules in
+    subst (λ fs. compiled fs ≡ Ok c.in-Ok.bytes.items) same (compiled_fits types c.in-Ok.bytes.items fits bytes)
+
+pub returns-clause-spelled : goal.returns-clause-spelled
+returns-clause-spelled c = λ fs h.
+    let s = c.in_ok-buffer.buffer in
+    let reads = spelled_is_read c.reading_is_spelling.ensures.same s c.args.text.now fs c.utf8.text c.in_ok-buffer.ensures.read c.in_ok-buffer.ensures.setting h in
+    let answer = c.in_ok-module.ensures.value s c.in_ok-buffer.ensures.read refl refl in
+    let same = same_types (whole module_types s) fs (signatures c.in_ok-module.module.types.items) reads answer in
+    let types = signatures c.in_ok-module.module.types.items in
+    let long : 2 ^ 32 ≤ length (content types) = search rules in
+    let is : c.new-in-Err-TooLong.result ≡ Some too_long = search rules in
+    subst (λ e. Answers {T = Vec ℕ Global} true (λ bytes. bytes.items) (compiled fs) (Err e)) (sym is) (subst (λ fs. compiled fs ≡ Err too_long) same (compiled_too_long types long))

@@ -1,0 +1,5 @@
+pub mod Signatures
+pub mod Grammar
+pub mod Binary
+pub mod Meanings
+pub mod Compiling

@@ -1,0 +1,280 @@
+//! How a text spells the types of a module.
+ghost use Rattle.std.specs.Prelude.{◌≤◌, map};
+ghost use Rattle.wat_lexer_parser.specs.readings.Reads.{IsKept, Reads, reading_at};
+ghost use Rattle.wat_lexer_parser.specs.readings.Readings.{mapped};
+ghost use Rattle.wat_types.specs.Meanings.{definitions, params, results, vals};
+ghost use Rattle.wat_types.specs.Signatures.{signature};
+
+use crate::types::{FuncType, ValType};
+use wat_lexer_parser::parser::{Parse, Parser};
+use wat_lexer_parser::token::Id;
+use wat_lexer_parser::{Error, kw};
+
+impl<'a> Parse<'a> for ValType {
+    ghost use Rattle.wat_types.specs.Meanings.{forward_val, val};
+    ghost use Rattle.wat_types.specs.declared.types.ValType.{ValType};
+
+    ghost Value = { ValType };
+
+    ghost value = { λ v. v };
+
+    ghost meaning = { val };
+
+    #[tactic(auto, unfolding(crate::specs::Meanings::val))]
+    fn parse(parser: &mut Parser<'a>) -> Result<ValType, Error> {
+        let mut lookahead = parser.lookahead1();
+        if lookahead.peek::<kw::i32>()? {
+            drop(lookahead);
+            return number_type::<kw::i32>(parser, ValType::I32);
+        }
+        if lookahead.peek::<kw::i64>()? {
+            drop(lookahead);
+            return number_type::<kw::i64>(parser, ValType::I64);
+        }
+        if lookahead.peek::<kw::f32>()? {
+            drop(lookahead);
+            return number_type::<kw::f32>(parser, ValType::F32);
+        }
+        if lookahead.peek::<kw::f64>()? {
+            drop(lookahead);
+            return number_type::<kw::f64>(parser, ValType::F64);
+        }
+        Err(lookahead.error())
+    }
+
+    ghost forward = { forward_val };
+}
+
+/// The number type that a keyword stands for, which is read.
+fn number_type<'a, K: Parse<'a>>(parser: &mut Parser<'a>, of: ValType) -> Result<ValType, Error>
+    ensures kept { IsKept parser.old parser.new }
+    ensures on { parser.old.place ≤ parser.new.place }
+    ensures reads { Reads (λ v. v) (reading_at (mapped (λ _. of) K.meaning) parser.old) result
+        parser.new.place }
+{
+    parser.parse::<K>()?;
+    Ok(of)
+}
+
+/// All number types before `)`.
+fn vals(parser: &mut Parser<'_>) -> Result<Vec<ValType>, Error>
+    ensures kept { IsKept parser.old parser.new }
+    ensures on { parser.old.place ≤ parser.new.place }
+    ensures reads { Reads (λ v. v.items) (reading_at vals parser.old) result parser.new.place }
+{
+    let mut types = Vec::new(parser.alloc());
+    while !parser.is_empty() {
+        types.push(parser.parse::<ValType>()?)?;
+    }
+    Ok(types)
+}
+
+/// What stands within the parentheses of a `param`.
+#[derive(Drop)]
+struct Param {
+    types: Vec<ValType>,
+}
+
+impl<'a> Parse<'a> for Param {
+    ghost use Rattle.std.specs.Prelude.{List};
+    ghost use Rattle.wat_types.specs.Meanings.{forward_param, param};
+    ghost use Rattle.wat_types.specs.declared.types.ValType.{ValType};
+
+    ghost Value = { List ValType };
+
+    ghost value = { λ p. p.types.items };
+
+    ghost meaning = { param };
+
+    #[tactic(auto, unfolding(crate::specs::Meanings::param))]
+    fn parse(parser: &mut Parser<'a>) -> Result<Param, Error> {
+        parser.parse::<kw::param>()?;
+        if parser.parse::<Option<Id<'a>>>()?.is_none() {
+            return Ok(Param {
+                types: vals(parser)?,
+            });
+        }
+        let mut types = Vec::new(parser.alloc());
+        types.push(parser.parse::<ValType>()?)?;
+        Ok(Param { types })
+    }
+
+    ghost forward = { forward_param };
+}
+
+/// What stands within the parentheses of a `result`.
+#[derive(Drop)]
+struct Returns {
+    types: Vec<ValType>,
+}
+
+impl<'a> Parse<'a> for Returns {
+    ghost use Rattle.std.specs.Prelude.{List};
+    ghost use Rattle.wat_types.specs.Meanings.{forward_returns, returns};
+    ghost use Rattle.wat_types.specs.declared.types.ValType.{ValType};
+
+    ghost Value = { List ValType };
+
+    ghost value = { λ r. r.types.items };
+
+    ghost meaning = { returns };
+
+    #[tactic(auto, unfolding(crate::specs::Meanings::returns))]
+    fn parse(parser: &mut Parser<'a>) -> Result<Returns, Error> {
+        parser.parse::<kw::result>()?;
+        Ok(Returns {
+            types: vals(parser)?,
+        })
+    }
+
+    ghost forward = { forward_returns };
+}
+
+/// The types of all `param`s.
+fn params(parser: &mut Parser<'_>) -> Result<Vec<ValType>, Error>
+    ensures kept { IsKept parser.old parser.new }
+    ensures on { parser.old.place ≤ parser.new.place }
+    ensures reads { Reads (λ v. v.items) (reading_at params parser.old) result parser.new.place }
+{
+    let mut types = Vec::new(parser.alloc());
+    while parser.peek2::<kw::param>()? {
+        let param = parser.parens_of::<Param>()?;
+        types.extend_from_slice(&param.types)?;
+    }
+    Ok(types)
+}
+
+/// The types of all `result`s.
+fn results(parser: &mut Parser<'_>) -> Result<Vec<ValType>, Error>
+    ensures kept { IsKept parser.old parser.new }
+    ensures on { parser.old.place ≤ parser.new.place }
+    ensures reads { Reads (λ v. v.items) (reading_at results parser.old) result parser.new.place }
+{
+    let mut types = Vec::new(parser.alloc());
+    while !parser.is_empty() {
+        let returns = parser.parens_of::<Returns>()?;
+        types.extend_from_slice(&returns.types)?;
+    }
+    Ok(types)
+}
+
+/// What stands within the parentheses of a `func`.
+impl<'a> Parse<'a> for FuncType {
+    ghost use Rattle.wat_types.specs.Meanings.{forward_func, func};
+    ghost use Rattle.wat_types.specs.Signatures.{Signature, signature};
+
+    ghost Value = { Signature };
+
+    ghost value = { signature };
+
+    ghost meaning = { func };
+
+    #[tactic(auto, unfolding(crate::specs::Meanings::func))]
+    fn parse(parser: &mut Parser<'a>) -> Result<FuncType, Error> {
+        parser.parse::<kw::func>()?;
+        let params = params(parser)?;
+        let results = results(parser)?;
+        Ok(FuncType { params, results })
+    }
+
+    ghost forward = { forward_func };
+}
+
+/// What stands within the parentheses of a `type`. Its identifier is read and dropped.
+#[derive(Drop)]
+struct Definition {
+    func: FuncType,
+}
+
+impl<'a> Parse<'a> for Definition {
+    ghost use Rattle.wat_types.specs.Meanings.{definition, forward_definition};
+    ghost use Rattle.wat_types.specs.Signatures.{Signature, signature};
+
+    ghost Value = { Signature };
+
+    ghost value = { λ d. signature d.func };
+
+    ghost meaning = { definition };
+
+    #[tactic(auto, unfolding(crate::specs::Meanings::definition))]
+    fn parse(parser: &mut Parser<'a>) -> Result<Definition, Error> {
+        parser.parse::<kw::type_>()?;
+        parser.parse::<Option<Id<'a>>>()?;
+        Ok(Definition {
+            func: parser.parens_of::<FuncType>()?,
+        })
+    }
+
+    ghost forward = { forward_definition };
+}
+
+/// All types before `)`.
+fn definitions(parser: &mut Parser<'_>) -> Result<Vec<FuncType>, Error>
+    ensures kept { IsKept parser.old parser.new }
+    ensures on { parser.old.place ≤ parser.new.place }
+    ensures reads { Reads (λ v. map signature v.items) (reading_at definitions parser.old) result
+        parser.new.place }
+{
+    let mut types = Vec::new(parser.alloc());
+    while !parser.is_empty() {
+        let definition = parser.parens_of::<Definition>()?;
+        types.push(definition.func)?;
+    }
+    Ok(types)
+}
+
+/// What stands within the parentheses of a module.
+#[derive(Drop)]
+struct Fields {
+    types: Vec<FuncType>,
+}
+
+impl<'a> Parse<'a> for Fields {
+    ghost use Rattle.std.specs.Prelude.{List, map};
+    ghost use Rattle.wat_types.specs.Meanings.{fields, forward_fields};
+    ghost use Rattle.wat_types.specs.Signatures.{Signature, signature};
+
+    ghost Value = { List Signature };
+
+    ghost value = { λ f. map signature f.types.items };
+
+    ghost meaning = { fields };
+
+    #[tactic(auto, unfolding(crate::specs::Meanings::fields))]
+    fn parse(parser: &mut Parser<'a>) -> Result<Fields, Error> {
+        parser.parse::<kw::module>()?;
+        Ok(Fields {
+            types: definitions(parser)?,
+        })
+    }
+
+    ghost forward = { forward_fields };
+}
+
+/// A module that holds nothing but function types.
+#[derive(Drop)]
+pub(crate) struct Module {
+    pub(crate) types: Vec<FuncType>,
+}
+
+impl<'a> Parse<'a> for Module {
+    ghost use Rattle.std.specs.Prelude.{List, map};
+    ghost use Rattle.wat_lexer_parser.specs.lemmas.ReadingLaws.{forward_group};
+    ghost use Rattle.wat_types.specs.Meanings.{fields, forward_fields, module_types};
+    ghost use Rattle.wat_types.specs.Signatures.{Signature, signature};
+
+    ghost Value = { List Signature };
+
+    ghost value = { λ m. map signature m.types.items };
+
+    ghost meaning = { module_types };
+
+    fn parse(parser: &mut Parser<'a>) -> Result<Module, Error> {
+        let fields = parser.parens_of::<Fields>()?;
+        Ok(Module {
+            types: fields.types,
+        })
+    }
+
+    ghost forward = { forward_group fields forward_fields };
+}

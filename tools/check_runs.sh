@@ -1,0 +1,105 @@
+#!/usr/bin/env bash
+# Runs the program with each request for memory refused, each read of standard input and each write on standard output failed, and these of
+# one byte each, and prints how many runs there were. A run gives its whole answer, or the line and status 2 of what failed; then nothing stands on standard output, but
+# for the bytes before a failed write.
+#
+# usage: tools/check_runs.sh [PROGRAM]
+set -eu
+cd "$(dirname "$0")/.."
+program=${1:-$(tools/build.sh wat_tokens)}
+room=$(mktemp -d)
+trap 'rm -rf "$room"' EXIT
+compiler=${CC:-cc}
+command -v "$compiler" > /dev/null || compiler=$(dirname "$(rt doc)")/toolchain/bin/clang
+"$compiler" -O1 -fPIC -shared -nostdlib -o "$room/refuse.so" tools/refuse_requests.c
+runs=0 faults=0
+
+# run VARIABLE=N..: a run of the words on the text, in the files output, errors and status of the room, and what was counted in counts
+run() {
+    local status=0
+    env "$@" LD_PRELOAD="$room/refuse.so" TELL=9 "$program" "${words[@]}" < "$room/text" > "$room/output" 2> "$room/errors" 9> "$room/counts" \
+        || status=$?
+    echo "$status" > "$room/status"
+    runs=$((runs + 1))
+}
+
+# is_whole: whether the run gave its whole answer
+is_whole() {
+    cmp -s "$room/output" "$room/whole_output" && cmp -s "$room/errors" "$room/whole_errors" && cmp -s "$room/status" "$room/whole_status"
+}
+
+# failed_with MESSAGE BYTES: whether the run ended with this line and status 2 behind so many bytes of its lines
+failed_with() {
+    [ "$(cat "$room/status")" = 2 ] && [ "$(cat "$room/errors")" = "wat_tokens: $1" ] \
+        && head -c "$2" "$room/whole_output" | cmp -s - "$room/output"
+}
+
+fault() {
+    echo "check_runs.sh: $*: status $(cat "$room/status"), $(head -1 "$room/errors")"
+    faults=$((faults + 1))
+}
+
+# count: how many requests, reads and writes the last run had
+count() {
+    # shellcheck disable=SC1091
+    . "$room/counts"
+    [ "$requests" -gt 0 ] && [ "$reads" -gt 0 ] || fault "${words[*]}: nothing is counted"
+}
+
+# refuse_each VARIABLE=N..: refuses each request for memory alone, and each with all behind it, in such a run
+refuse_each() {
+    local n
+    for ((n = 1; n <= requests; n++)); do
+        run "$@" "REFUSE_AT=$n"
+        is_whole || failed_with 'out of memory' 0 || fault "${words[*]}, $*, request $n refused"
+        run "$@" "REFUSE_FROM=$n"
+        failed_with 'out of memory' 0 || fault "${words[*]}, $*, requests from $n on refused"
+    done
+}
+
+# fail_each VARIABLE COUNT MESSAGE BYTES: fails each of so many reads or writes of one byte, alone and with each request for memory refused
+fail_each() {
+    local n m
+    for ((n = 1; n <= $2; n++)); do
+        run MOST=1 "$1=$n"
+        failed_with "$3" $(($4 * (n - 1))) || fault "${words[*]}, $1=$n"
+        for ((m = 1; m <= requests; m++)); do
+            run MOST=1 "$1=$n" "REFUSE_AT=$m"
+            failed_with "$3" $(($4 * (n - 1))) || failed_with 'out of memory' 0 || fault "${words[*]}, $1=$n, request $m refused"
+        done
+    done
+}
+
+# check STATUS TEXT WORD..: all of these runs of the words on the text, which end with this status where nothing fails
+check() {
+    local requests=0 reads=0 writes=0 status=$1
+    printf %s "$2" > "$room/text"
+    shift 2
+    words=("$@")
+    run MOST=0
+    [ "$(cat "$room/status")" = "$status" ] || fault "${words[*]} does not end with $status"
+    for file in output errors status; do
+        mv "$room/$file" "$room/whole_$file"
+    done
+    count
+    refuse_each MOST=0
+    run MOST=1
+    is_whole || fault "${words[*]}, a byte a call"
+    count
+    refuse_each MOST=1
+    fail_each FAIL_READ "$reads" 'read failed' 0
+    fail_each FAIL_WRITE "$writes" 'write failed' 1
+    printf '%-28s %8d %6d %6d\n' "${words[*]:-(no words)}" "$requests" "$reads" "$writes"
+}
+
+printf '%-28s %8s %6s %6s\n' words requests reads writes
+check 0 '(@a "x") b'
+check 1 'x (;'
+check 0 '(@a "x") b' sig a
+check 1 'x (@a 1' sig
+check 0 'a (; b ;)' blank
+check 0 '(module (type (func (param i32) (result i64))))' types
+check 1 '(module (func))' types
+check 0 '(@a) x' play look reg=a take parens=1
+echo "check_runs.sh: $runs runs, each with its whole answer or the line of what failed; $faults faults"
+[ "$faults" = 0 ]
