@@ -1,3 +1,4 @@
 -- Lemmas on places.
 pub mod Tails
 pub mod Comments
+pub mod TakenSpans

@@ -1,8 +1,9 @@
 -- A word of decimal digits alone is an integer.
-use Rattle.std.proofs.Common.{◌≡◌, ◌≢◌, ◌+◌, ℕ, List, [], ◌∷◌, length, refl, arith, ap, sym, ◌∙◌, subst, Bool, true, false, cond, ◌||◌, inl, inr}
+use Rattle.std.proofs.Common.{◌≡◌, ◌≢◌, ◌≤◌, ◌+◌, ◌-◌, ℕ, zero, suc, List, [], ◌∷◌, length, take, drop, refl, arith, ap, sym, ◌∙◌, subst, Bool, true, false, cond, ◌||◌, inl, inr}
 use Rattle.std.specs.Prelude.{◌==◌}
 use Rattle.std.specs.Char.{is_ascii_digit}
 use Rattle.std.specs.List.{prefix_len}
+use Rattle.std.proofs.lemmas.List.{drop-take, length-take-le}
 use Rattle.std.proofs.lemmas.Bool.{cases_Bool, both_ways, eqb-true, or_cases, ne_eqb}
 use Rattle.wat_lex.specs.grammar.Numbers.{Digits, last, next, unsigned, has_underscores}
 
@@ -42,3 +43,48 @@ digits_no_underscore (c ∷ w) e =
           let same : unsigned (c ∷ w) ≡ c ∷ w = ap (λ b. cond b w (c ∷ w)) h in
           no_underscore (c ∷ w) (subst (λ x. prefix_len is_ascii_digit x ≡ length x) same e)
     ]
+
+pub unsigned_is_shorter : (w : List ℕ) → length (unsigned w) ≤ length w
+unsigned_is_shorter [] = omega arith
+unsigned_is_shorter (c ∷ w) =
+    elim (cases_Bool (c == 43 || c == 45)) [
+      | inl h ↦ omega (arith, ap (λ b. length (cond b w (c ∷ w))) h)
+      | inr h ↦ omega (arith, ap (λ b. length (cond b w (c ∷ w))) h)
+    ]
+
+-- what is without its sign is the word's end
+pub unsigned_is_end : (w : List ℕ) → unsigned w ≡ drop (length w - length (unsigned w)) w
+unsigned_is_end [] = refl
+unsigned_is_end (c ∷ w) =
+    elim (cases_Bool (c == 43 || c == 45)) [
+      | inl h ↦
+          let behind : unsigned (c ∷ w) ≡ w = ap (λ b. cond b w (c ∷ w)) h in
+          let one : length (c ∷ w) - length (unsigned (c ∷ w)) ≡ 1 = omega (arith, ap length behind) in
+          behind ∙ sym (ap (λ k. drop k (c ∷ w)) one)
+      | inr h ↦
+          let same : unsigned (c ∷ w) ≡ c ∷ w = ap (λ b. cond b w (c ∷ w)) h in
+          let none : length (c ∷ w) - length (unsigned (c ∷ w)) ≡ 0 = omega (arith, ap length same) in
+          same ∙ sym (ap (λ k. drop k (c ∷ w)) none)
+    ]
+
+-- as many as pass at the start all pass
+pub taken_pass : (p : ℕ → Bool) (k : ℕ) (xs : List ℕ) → k ≤ prefix_len p xs → prefix_len p (take k xs) ≡ length (take k xs)
+taken_pass p zero xs h = refl
+taken_pass p (suc k) [] h = refl
+taken_pass p (suc k) (x ∷ xs) h =
+    elim (cases_Bool (p x)) [
+      | inl e ↦
+          let rest = taken_pass p k xs (omega (arith, h, ap (λ b. cond b (1 + prefix_len p xs) 0) e)) in
+          omega (arith, rest, ap (λ b. cond b (1 + prefix_len p (take k xs)) 0) e)
+      | inr e ↦ absurd (omega (arith, h, ap (λ b. cond b (1 + prefix_len p xs) 0) e))
+    ]
+
+-- what is without its sign of the word of so many bytes is of digits where as many digits stand there
+pub digits_of_word : (text : List ℕ) (len n : ℕ) → len ≤ length text → n ≡ length (unsigned (take len text)) → n ≤ len → n ≤ prefix_len is_ascii_digit (drop (len - n) text) → prefix_len is_ascii_digit (unsigned (take len text)) ≡ length (unsigned (take len text))
+digits_of_word text len n within e fits h =
+    let w = take len text in
+    let first : length w - length (unsigned w) ≡ len - n = omega (arith, e, length-take-le len text within) in
+    let parts : len - n + n ≡ len = omega arith in
+    let there : unsigned w ≡ take n (drop (len - n) text) =
+    unsigned_is_end w ∙ ap (λ k. drop k w) first ∙ ap (λ k. drop (len - n) (take k text)) (sym parts) ∙ drop-take (len - n) n text in
+    subst (λ x. prefix_len is_ascii_digit x ≡ length x) (sym there) (taken_pass is_ascii_digit n (drop (len - n) text) h)

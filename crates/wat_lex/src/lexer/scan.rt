@@ -133,7 +133,7 @@ pub fn kind_of(text: &[u8], outline: Outline) -> TokenKind
     ensures { HasKind outline.shape (take outline.len text.now) result }
 {
     match outline.shape {
-        Shape::Word => word_kind(&text[..outline.len]),
+        Shape::Word => word_kind(text, outline.len),
         shape => plain_kind(shape),
     }
 }

@@ -84,6 +84,22 @@ impl<'p, 'a> Cursor<'p, 'a> {
         parser.span_from(self.at)
     }
 
+    /// The current span, where a token was taken to come to this cursor.
+    #[tactic(auto, using(crate::proofs::places::TakenSpans::taken_token, crate::proofs::places::TakenSpans::taken_span))]
+    pub(crate) fn span_before(self, next: Self) -> Span
+        requires on { self.at < next.at }
+        requires taken { (t : Token)
+            × (seen_from self.parser.now self.at ≡ Ok (Some (t, next.at))) }
+        ensures { result ≡ current_span self.entry.parser.now.source self.entry.at
+            self.entry.parser.now.names }
+    {
+        let reading = self.parser.reading();
+        match reading.token_at(next.at - 1) {
+            Some(token) => Span::from_offset(token.offset),
+            None => Span::from_offset(0),
+        }
+    }
+
     /// An error at the current span.
     pub fn error(&self, message: &str) -> Error
         ensures { IsUnlessMemory result (report_here self.now.parser.now.source self.now.at
@@ -375,6 +391,8 @@ impl<'p, 'a> Cursor<'p, 'a> {
         ensures parser { IfOk result (λ found. IfSome found (λ v.
             v.1.parser ≡ self.entry.parser)) }
         ensures on { IfOk result (λ found. IfSome found (λ v. self.entry.at < v.1.at)) }
+        ensures taken { IfOk result (λ found. IfSome found (λ v. (t : Token)
+            × (seen_from self.entry.parser.now self.entry.at ≡ Ok (Some (t, v.1.at))))) }
     {
         match self.look()? {
             Some((token, at)) => match token.kind {

@@ -1,6 +1,7 @@
 //! Integers. Those with a sign take the words of all bits too, as `0xff` for -1 in eight bits.
 ghost use Rattle.std.specs.Prelude.{◌≡◌, ◌≤◌, ◌<◌, ◌+◌, ◌^◌, ◌≤ℤ◌, ◌<ℤ◌, ℕ, ℤ};
-ghost use Rattle.std.specs.Prelude.{IfOk, IfSome, MatchOption, codes, length, pos, neg_ℤ, true, false};
+ghost use Rattle.std.specs.Prelude.{IfOk, IfSome, MatchOption, Some, codes, length, pos, neg_ℤ, true};
+ghost use Rattle.std.specs.Prelude.{false};
 ghost use Rattle.std.specs.Str.Parse.{IsNumeral, digits_value, without_leading_sign};
 ghost use Rattle.wat_lex.specs.values.NumberValues.{integer_base, integer_digits};
 ghost use Rattle.wat_lexer_parser.specs.parser.Takers.{as_integer, number_of};
@@ -26,17 +27,22 @@ fn unsigned_digits(digits: &str) -> &str
     }
 }
 
-/// The number that so few decimal digits write that it fits.
-fn decimal(digits: &[u8]) -> u64
+/// The number that so few decimal digits write that it fits, None where a byte is no digit. A loop
+/// that may end early is not unrolled, and words of digits are too short for that.
+fn decimal(digits: &[u8]) -> Option<u64>
     requires few { length digits.now ≤ 19 }
     requires numeral { IsNumeral 10 digits.now }
-    ensures { result ≡ digits_value 10 digits.now }
+    ensures { result ≡ Some (digits_value 10 digits.now) }
 {
     let mut value = 0;
-    for digit in digits {
-        value = value * 10 + u64::from(*digit - b'0');
+    for byte in digits {
+        let digit = byte.wrapping_sub(b'0');
+        if digit > 9 {
+            return None;
+        }
+        value = value * 10 + u64::from(digit);
     }
-    value
+    Some(value)
 }
 
 /// The number that an integer's digits write, None where it is 2^64 at least.
@@ -48,7 +54,7 @@ fn magnitude(word: &Integer<'_>) -> Option<u64>
     let (digits, base) = word.val();
     let rest = unsigned_digits(digits);
     if base == 10 && rest.len() < 20 {
-        return Some(decimal(rest.as_bytes()));
+        return decimal(rest.as_bytes());
     }
     match u64::from_str_radix(rest, base) {
         Ok(n) => Some(n),
@@ -91,7 +97,7 @@ fn unsigned<'p, 'a>(
         return Err(cursor.error(expected));
     };
     match unsigned_value(&word, most) {
-        Some(value) => Ok(((value, cursor.cur_span()), next)),
+        Some(value) => Ok(((value, cursor.span_before(next)), next)),
         None => Err(cursor.error(out_of_range)),
     }
 }
@@ -187,7 +193,7 @@ fn signed<'p, 'a>(
         return Err(cursor.error(expected));
     };
     match signed_value(&word, half) {
-        Some(value) => Ok(((value, cursor.cur_span()), next)),
+        Some(value) => Ok(((value, cursor.span_before(next)), next)),
         None => Err(cursor.error(out_of_range)),
     }
 }

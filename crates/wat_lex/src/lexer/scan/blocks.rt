@@ -1,5 +1,6 @@
 //! Tests of 16 bytes at once.
 ghost use Rattle.std.specs.Prelude.{◌≡◌, ◌≤◌, ◌+◌, length};
+ghost use Rattle.std.specs.Char.{is_ascii_digit};
 ghost use Rattle.std.specs.Simd.Lanes.{chunk};
 ghost use Rattle.wat_lex.specs.grammar.Classes.{is_idchar, is_whitespace};
 ghost use Rattle.wat_lex.specs.inside.Blocks.{failures, is_plain_in_line, other_than_semicolon};
@@ -11,6 +12,12 @@ const IDCHARS_BY_LOW: [u8; 16] = [30, 31, 30, 31, 31, 31, 31, 31, 30, 30, 31, 5,
 
 /// By a byte's high four bits.
 const IDCHARS_BY_HIGH: [u8; 16] = [0, 0, 1, 2, 4, 8, 4, 16, 0, 0, 0, 0, 0, 0, 0, 0];
+
+/// By a byte's low four bits. A decimal digit has a bit in common with `DIGITS_BY_HIGH`.
+const DIGITS_BY_LOW: [u8; 16] = [1, 1, 1, 1, 1, 1, 1, 1, 1, 1, 0, 0, 0, 0, 0, 0];
+
+/// By a byte's high four bits.
+const DIGITS_BY_HIGH: [u8; 16] = [0, 0, 0, 1, 0, 0, 0, 0, 0, 0, 0, 0, 0, 0, 0, 0];
 
 /// By a byte's low four bits: the one byte of whitespace that ends so, or a byte that does not.
 const WHITESPACE_BY_LOW: [u8; 16] = [32, 0, 0, 0, 0, 0, 0, 0, 0, 9, 10, 0, 0, 13, 0, 0];
@@ -35,6 +42,16 @@ pub fn other_than_idchars(block: u8x16) -> u64
 {
     let low = u8x16::from_array(IDCHARS_BY_LOW).swizzle_dyn(block & u8x16::splat(15));
     let high = u8x16::from_array(IDCHARS_BY_HIGH).swizzle_dyn(block >> u8x16::splat(4));
+    (low & high).simd_eq(u8x16::splat(0)).to_bitmask()
+}
+
+/// A bit for each byte that is no decimal digit, the lowest for the first.
+#[inline(always)]
+pub fn other_than_digits(block: u8x16) -> u64
+    ensures { result ≡ failures is_ascii_digit block }
+{
+    let low = u8x16::from_array(DIGITS_BY_LOW).swizzle_dyn(block & u8x16::splat(15));
+    let high = u8x16::from_array(DIGITS_BY_HIGH).swizzle_dyn(block >> u8x16::splat(4));
     (low & high).simd_eq(u8x16::splat(0)).to_bitmask()
 }
 

@@ -1,10 +1,13 @@
 //! Classes of bytes and characters.
 ghost use Rattle.std.specs.Prelude.{◌≡◌};
+ghost use Rattle.std.specs.Char.{is_ascii_digit};
 ghost use Rattle.std.specs.List.{prefix_len};
 ghost use Rattle.wat_lex.specs.grammar.Classes.{is_whitespace, is_idchar, is_hex};
 ghost use Rattle.wat_lex.specs.grammar.Classes.{is_run_char, is_confusing};
 
-use crate::lexer::scan::blocks::{block_at, other_than_idchars, other_than_whitespace};
+use crate::lexer::scan::blocks::{
+    block_at, other_than_digits, other_than_idchars, other_than_whitespace,
+};
 
 const RUN_CHAR: u8 = 1;
 
@@ -144,4 +147,30 @@ pub fn idchar_len(text: &[u8]) -> usize
         [first, ..] if !is_idchar(*first) => 0,
         _ => idchar_len_by_block(text),
     }
+}
+
+fn digit_len_by_byte(text: &[u8]) -> usize
+    ensures { result ≡ prefix_len is_ascii_digit text.now }
+{
+    let mut i = 0;
+    while i < text.len() && text[i].is_ascii_digit() {
+        i += 1;
+    }
+    i
+}
+
+/// How many decimal digits stand at the start.
+#[inline]
+pub fn digit_len(text: &[u8]) -> usize
+    ensures { result ≡ prefix_len is_ascii_digit text.now }
+{
+    let mut i = 0;
+    while text.len() - i >= 16 {
+        let others = other_than_digits(block_at(text, i));
+        if others != 0 {
+            return i + others.trailing_zeros() as usize;
+        }
+        i += 16;
+    }
+    i + digit_len_by_byte(&text[i..])
 }

@@ -1,8 +1,6 @@
 //! The words of numbers.
-ghost use Rattle.std.specs.Prelude.{◌≡◌, ◌≢◌, ◌↔◌, ◌++◌, ℕ, List, [], MatchOption, IfSome, IfNone};
-ghost use Rattle.std.specs.Prelude.{IsTrue, codes};
-ghost use Rattle.std.specs.Char.{is_ascii_digit};
-ghost use Rattle.std.specs.List.{prefix_len};
+ghost use Rattle.std.specs.Prelude.{◌≡◌, ◌≢◌, ◌↔◌, ◌≤◌, ◌++◌, ℕ, List, [], MatchOption, IfSome, IfNone};
+ghost use Rattle.std.specs.Prelude.{IsTrue, codes, length, take};
 ghost use Rattle.wat_lex.specs.declared.lexer.kinds.TokenKind.{TokenKind};
 ghost use Rattle.wat_lex.specs.grammar.Numbers.{is_digit, is_exponent_letter, sign_of, unsigned};
 ghost use Rattle.wat_lex.specs.grammar.Numbers.{is_negative, has_underscores, Digits, Exponent};
@@ -11,7 +9,7 @@ ghost use Rattle.wat_lex.specs.inside.ScannedNumbers.{LongestDigits, NoDigits, O
 ghost use Rattle.wat_lex.specs.inside.ScannedNumbers.{NoIntegralPart};
 
 use crate::lexer::kinds::{FloatKind, IntegerKind, Sign, TokenKind};
-use crate::lexer::scan::classes::is_hex_digit;
+use crate::lexer::scan::classes::{digit_len, is_hex_digit};
 
 fn is_digit(b: u8, hex: bool) -> bool
     ensures { result ≡ is_digit hex b }
@@ -179,23 +177,16 @@ fn digits_kind(word: &[u8]) -> Option<TokenKind>
     kind_by_rest(word, hex, rest)
 }
 
-/// How many decimal digits stand at the start.
-fn decimal_len(text: &[u8]) -> usize
-    ensures { result ≡ prefix_len is_ascii_digit text.now }
+/// The kind of the word of so many bytes at the start, where that is of decimal digits alone, with a
+/// sign or none; most numbers by far are so.
+#[inline(always)]
+pub fn plain_integer(text: &[u8], len: usize) -> Option<TokenKind>
+    requires { len ≤ length text.now }
+    ensures { IfSome result (λ kind. Number (take len text.now) kind) }
 {
-    let mut i = 0;
-    while i < text.len() && text[i].is_ascii_digit() {
-        i += 1;
-    }
-    i
-}
-
-/// The kind of a word of decimal digits alone, with a sign or none; most numbers by far are so.
-pub fn plain_integer(word: &[u8]) -> Option<TokenKind>
-    ensures { IfSome result (λ kind. Number word.now kind) }
-{
-    let number = unsigned(word);
-    if number.is_empty() || decimal_len(number) != number.len() {
+    let word = &text[..len];
+    let number = unsigned(word).len();
+    if number == 0 || digit_len(&text[len - number..]) < number {
         return None;
     }
     Some(TokenKind::Integer(IntegerKind {

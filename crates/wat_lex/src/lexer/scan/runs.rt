@@ -1,5 +1,6 @@
 //! Runs of idchars and strings.
-ghost use Rattle.std.specs.Prelude.{◌≡◌, ◌<◌, ◌+◌, ◌^◌, true, length, slice_index, IfOk, IfErr};
+ghost use Rattle.std.specs.Prelude.{◌≡◌, ◌<◌, ◌≤◌, ◌+◌, ◌^◌, true, length, take, slice_index};
+ghost use Rattle.std.specs.Prelude.{IfOk, IfErr};
 ghost use Rattle.std.specs.List.{prefix_len};
 ghost use Rattle.wat_lex.specs.inside.ScannedLexemes.{Refused};
 ghost use Rattle.wat_lex.specs.inside.Outlines.{Outlined, IsShapeOfRun};
@@ -124,14 +125,16 @@ fn kind_by_first(word: &[u8]) -> TokenKind
     }
 }
 
-/// The kind of a word of idchars.
+/// The kind of the word of so many idchars at the start.
 #[inline(always)]
-pub fn word_kind(word: &[u8]) -> TokenKind
-    ensures { WordKind word.now result }
+pub fn word_kind(text: &[u8], len: usize) -> TokenKind
+    requires { len ≤ length text.now }
+    ensures { WordKind (take len text.now) result }
 {
-    if let Some(kind) = plain_integer(word) {
+    if let Some(kind) = plain_integer(text, len) {
         return kind;
     }
+    let word = &text[..len];
     match classify(word) {
         Some(kind) => kind,
         None => kind_by_first(word),
