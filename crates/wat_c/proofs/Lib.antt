@@ -1,4 +1,5 @@
 mod Answering
 mod Filling
 mod Parts
+mod Printing
 mod Texts

@@ -3,7 +3,7 @@ use Rattle.std.specs.Prelude.{◌≡◌, ◌++◌, nat_le, ℕ, List, length, dr
 use Rattle.wat_c.specs.Rows.{fault_code}
 use Rattle.wat_c.specs.declared.answers.Answer.{Answer}
 use Rattle.wat_c.specs.declared.answers.Refusal.{Refusal}
-use Rattle.wat_c.specs.declared.answers.Refusal.TheVariants.{Other, Memory, NoPart, Fault}
+use Rattle.wat_c.specs.declared.answers.Refusal.TheVariants.{Other, Memory, Absent, Fault}
 
 -- the bytes and what is behind them, where the buffer has room for all of them; otherwise the buffer as it was
 abbrev pub put : List ℕ → List ℕ → List ℕ
@@ -12,7 +12,7 @@ put bytes old = if nat_le (length bytes) (length old) then bytes ++ drop (length
 abbrev pub status_of : Refusal → ℕ
 status_of Other = 1
 status_of Memory = 2
-status_of NoPart = 3
+status_of Absent = 3
 status_of (Fault e) = fault_code e
 
 -- how many bytes there are, or why there are none

@@ -17,6 +17,7 @@ use Rattle.wat_lex.specs.values.IntegerFacts.{kind_hex}
 use Rattle.wat_lex.specs.values.Names.{Name, NameFault, HasNone, HasNoEscape}
 use Rattle.wat_lex.specs.values.NumberValues.{number_text, is_integer_rewritten, is_float_rewritten, IsFloatOf}
 use Rattle.wat_lex.specs.values.WordValues.{empty_name}
+use Rattle.wat_lex.specs.declared.lexer.faults.LexError.{LexError}
 use Rattle.wat_lex.specs.declared.lexer.faults.LexFault.{LexFault}
 use Rattle.wat_lex.specs.declared.lexer.kinds.FloatKind.{FloatKind}
 use Rattle.wat_lex.specs.declared.lexer.kinds.IntegerKind.{IntegerKind}
@@ -26,7 +27,7 @@ use Rattle.wat_lex.specs.declared.lexer.kinds.TokenKind.TheVariants as kind
 use Rattle.wat_lex.specs.declared.lexer.read.numbers.Float.{Float}
 use Rattle.wat_lex.specs.declared.lexer.read.numbers.Float.TheVariants as value
 use Rattle.wat_c.specs.declared.answers.Refusal.{Refusal}
-use Rattle.wat_c.specs.declared.answers.Refusal.TheVariants.{Other, Memory, NoPart, Fault}
+use Rattle.wat_c.specs.declared.answers.Refusal.TheVariants.{Other, Memory, Absent, Fault}
 
 abbrev pub IsString : TokenKind → Type 0
 IsString k = k ≡ kind.String
@@ -109,7 +110,7 @@ part_of part float =
 -- a part of a floating-point number, or that it has none; want of memory only where reading the number writes a text anew
 abbrev pub ReadsFloat : ℕ → List ℕ → Token → Result (List ℕ) Refusal → Type 0
 ReadsFloat part text t (Ok bytes) = (float : Float) × IsFloatToken text t float × (part_of part float ≡ Some bytes)
-ReadsFloat part text t (Err NoPart) = (float : Float) × IsFloatToken text t float × (part_of part float ≡ None)
+ReadsFloat part text t (Err Absent) = (float : Float) × IsFloatToken text t float × (part_of part float ≡ None)
 ReadsFloat part text t (Err Memory) = (k : FloatKind) × (t.kind ≡ kind.Float k) × (is_float_rewritten k ≡ true)
 ReadsFloat part text t (Err refusal) = ⊥
 
@@ -119,11 +120,9 @@ pub record FloatAt (s : Setting) (p : ℕ) (float : Float) : Type 0 where
   pub stands : TokenAt s p token
   pub cut : IsFloatToken s.text token float
 
--- a fault stands at the place, and this is what it prints
-pub record FaultShown (s : Setting) (p : ℕ) (text : List ℕ) : Type 0 where
-  pub fault : LexFault
-  pub stands : FaultAt s p fault
-  pub shown : text ≡ rendered s.text (message fault.error) fault.offset
+-- what a fault of a text prints
+abbrev pub shown_fault : List ℕ → LexFault → List ℕ
+shown_fault text f = rendered text (message f.error) f.offset
 
 -- a token or the text's end stands at the place
 pub record NoFault (s : Setting) (p : ℕ) : Type 0 where
@@ -132,6 +131,13 @@ pub record NoFault (s : Setting) (p : ℕ) : Type 0 where
 
 -- what the fault at the place prints, or that there is none
 abbrev pub FindsFault : Setting → ℕ → Result (List ℕ) Refusal → Type 0
-FindsFault s p (Ok bytes) = FaultShown s p bytes
+FindsFault s p (Ok bytes) = (f : LexFault) × FaultAt s p f × (bytes ≡ shown_fault s.text f)
 FindsFault s p (Err Other) = NoFault s p
 FindsFault s p (Err refusal) = ⊥
+
+-- what is wrong with a name, as it is printed, or that nothing is; want of memory only where an escape stands in it
+abbrev pub ReadsNameFault : List ℕ → Token → Result (List ℕ) Refusal → Type 0
+ReadsNameFault text t (Ok bytes) = (e : LexError) × NameFault (empty_name t.kind) (word_of text t) e × (bytes ≡ shown_fault text (record { offset = t.offset; error = e }))
+ReadsNameFault text t (Err Absent) = (name : List ℕ) × Name (word_of text t) name × IsUtf8 name × (name ≢ [])
+ReadsNameFault text t (Err Memory) = HasNoEscape (word_of text t) → ⊥
+ReadsNameFault text t (Err refusal) = ⊥

@@ -12,8 +12,8 @@ pub struct Answer {
     /// How many bytes it has. They were written where the buffer has room for all of them.
     pub needed: usize,
     /// 0 where there was something, otherwise why not: 1 where no such token or fault stands there, 2
-    /// for want of memory, 3 where the number has no such part, or the number of the fault of a
-    /// name.
+    /// for want of memory, 3 where the number has no such part or the name no fault, or else
+    /// the number of what is wrong with the name.
     pub status: u32,
 }
 
@@ -24,8 +24,8 @@ pub enum Refusal {
     Other,
     /// A request for memory was refused.
     Memory,
-    /// The number has no such part.
-    NoPart,
+    /// The number has no such part, or the name no fault.
+    Absent,
     /// What is wrong with the name.
     Fault(LexError),
 }
@@ -37,7 +37,7 @@ impl Refusal {
         match self {
             Refusal::Other => 1,
             Refusal::Memory => 2,
-            Refusal::NoPart => 3,
+            Refusal::Absent => 3,
             Refusal::Fault(error) => fault_code(error),
         }
     }

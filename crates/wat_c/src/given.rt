@@ -91,7 +91,7 @@ pub fn give_float(
     match float_at(alloc, text, pos, settings) {
         Ok(float) => match part_of(&float, part) {
             Some(digits) => give(digits.as_bytes(), out),
-            None => Refusal::NoPart.answer(),
+            None => Refusal::Absent.answer(),
         },
         Err(refusal) => refusal.answer(),
     }

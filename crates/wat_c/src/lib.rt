@@ -14,6 +14,7 @@ ghost use Rattle.wat_c.specs.declared.rows.Found.{Found as FoundRow};
 pub mod answers;
 mod fill;
 mod given;
+mod print;
 mod readings;
 pub mod rows;
 
@@ -47,7 +48,7 @@ pub extern "C" fn wat_is_place(text: &[u8], pos: usize) -> bool
 /// A line and a column, both from 0.
 #[repr(C)]
 #[derive(Clone, Copy, Debug, PartialEq)]
-pub struct LineColumn {
+pub struct Position {
     /// How many line feeds stand before the place.
     pub line: usize,
     /// How many bytes stand before it in its line.
@@ -57,14 +58,14 @@ pub struct LineColumn {
 /// Line and column of a byte of the text. Past its end the line is the number of lines, and the
 /// column 0.
 #[unsafe(no_mangle)]
-pub extern "C" fn wat_line_column(text: &[u8], offset: usize) -> LineColumn
+pub extern "C" fn wat_line_column(text: &[u8], offset: usize) -> Position
     requires { IsUtf8 text.now }
     ensures line { result.line ≡ (line_and_column text.now offset).0 }
     ensures column { result.column ≡ (line_and_column text.now offset).1 }
 {
     let text = unsafe { str::from_utf8_unchecked(text) };
     let (line, column) = Span::from_offset(offset).linecol_in(text);
-    LineColumn { line, column }
+    Position { line, column }
 }
 
 /// What stands at a byte of the text: a token, the text's end, or a fault.

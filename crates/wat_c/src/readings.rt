@@ -106,7 +106,7 @@ pub fn float_at<'a>(
     requires boundary { IsCharBoundary text.now pos }
     ensures found { IfOk result (FloatAt (record { text = text.now; flags = settings }) pos) }
     ensures refused { IfErr result (λ refusal.
-        (refusal ≢ Refusal.NoPart) × ((part : ℕ) → Finds IsFloat (ReadsFloat part)
+        (refusal ≢ Refusal.Absent) × ((part : ℕ) → Finds IsFloat (ReadsFloat part)
         (record { text = text.now; flags = settings }) pos (Err refusal))) }
 {
     let Ok(Some(token)) = lexer_of(text, settings).scan(pos) else {

@@ -1,7 +1,7 @@
 use Rattle.std.proofs.Common.{sym}
 use Rattle.wat_lex.specs.tokens.Setting.{Setting}
 use Rattle.wat_c.specs.Readings.{Finds, IsFloat, ReadsFloat}
-use Rattle.wat_c.specs.declared.answers.Refusal.TheVariants.{NoPart}
+use Rattle.wat_c.specs.declared.answers.Refusal.TheVariants.{Absent}
 use Rattle.wat_c.proofs.Answering.{given, refused}
 use Rattle.wat_c.proofs.Parts.{part_found, part_missing}
 use Rattle.wat_c.proofs.given.give_float.Goals as goal
@@ -15,7 +15,7 @@ returns-in-Some c =
 pub returns-in-Ok : goal.returns-in-Ok
 returns-in-Ok c =
     let setting : Setting = record { text = c.args.text.now; flags = c.args.settings } in
-    refused (Finds IsFloat (ReadsFloat c.args.part) setting c.args.pos) c.args.out.now NoPart c.answer.result
+    refused (Finds IsFloat (ReadsFloat c.args.part) setting c.args.pos) c.args.out.now Absent c.answer.result
     (part_missing setting c.args.pos c.args.part c.in-Ok.float c.in-Ok.ensures.found (sym c.in-None.ensures)) c.answer.ensures
 
 pub returns : goal.returns
