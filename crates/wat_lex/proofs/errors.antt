@@ -1,3 +1,6 @@
 -- Lemmas on positions and on the line that an error shows.
 pub mod Positions
 pub mod Rendering
+pub mod ShownLines
+pub mod ShownBytes
+pub mod Widths

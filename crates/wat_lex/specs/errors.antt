@@ -4,3 +4,4 @@ pub mod Positions
 pub mod Rendering
 pub mod Errors
 pub mod ErrorView
+pub mod ShownView

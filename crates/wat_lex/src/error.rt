@@ -15,10 +15,13 @@ use std::alloc::{AllocError, AllocFailed, Global};
 use std::marker::Model;
 use std::{fmt, mem};
 
+mod rendered;
+mod shown;
 #[cfg(test)]
 mod tests;
 mod text;
 
+pub use rendered::Rendered;
 use text::Text;
 
 /// What went wrong, and where: a fault of the text, a message, or an out-of-memory error.

@@ -2,23 +2,15 @@
 use Rattle.std.proofs.Common.{◌≡◌, ℕ, zero, suc, Bor, ap₂, ◌+◌, ◌-◌, ◌^◌, ◌≤◌, arith, append_assoc, List, [], ◌∷◌, ◌++◌, refl, ap, sym, ◌∙◌, true, false}
 use Rattle.std.specs.Option.{option_map}
 use Rattle.std.specs.Str.Lines.{lines}
-use Rattle.std.specs.Prelude.{◌==◌, ◌&&◌, Option, Some, None, unwrap_or, slice_get, flat_map, encode_utf8, encode_utf8_all, codes, replicate, length, if◌then◌else◌}
+use Rattle.std.specs.Prelude.{◌==◌, ◌&&◌, Option, Some, None, unwrap_or, slice_get, encode_utf8, codes, replicate, length, if◌then◌else◌}
 use Rattle.std.specs.Fmt.{decimal, format_spec, styled_decimal, styled_text, padded, padded_integral, char_count, take_chars}
 use Rattle.std.specs.List.{repeat}
-use Rattle.std.proofs.lemmas.Grind.{flat_map-append}
 use Rattle.std.proofs.lemmas.Bool.{ne_eqb, lt-leb}
 use Rattle.std.proofs.lemmas.List.{append-nil}
-use Rattle.std.proofs.lemmas.Str.{encodes-append}
 use lib.Utf8.{encode}
 use Rattle.wat_lex.specs.grammar.Classes.{is_confusing}
 use Rattle.wat_lex.specs.errors.Positions.{line_and_column}
 use Rattle.wat_lex.specs.errors.Rendering.{Excerpt, excerpt, shown, shown_line, columns, shown_place, right_in}
-
-pub shown_one : (prefix : List ℕ) (c : ℕ) (more s t : List ℕ) → s ≡ encode_utf8_all (flat_map shown prefix) → t ≡ s ++ encode_utf8_all more → more ≡ shown c → t ≡ encode_utf8_all (flat_map shown (prefix ++ c ∷ []))
-shown_one prefix c more s t h e k =
-    let last : flat_map shown (c ∷ []) ≡ shown c = append-nil (shown c) in
-    e ∙ ap (λ x. x ++ encode_utf8_all more) h ∙ sym (encodes-append (flat_map shown prefix) more)
-    ∙ ap (λ x. encode_utf8_all (flat_map shown prefix ++ x)) (k ∙ sym last) ∙ ap encode_utf8_all (sym (flat_map-append shown prefix (c ∷ [])))
 
 pub shown_tab : (c : ℕ) → c ≡ 9 → codes "    " ≡ shown c
 shown_tab c h = sym (ap shown h)

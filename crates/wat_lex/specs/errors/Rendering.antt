@@ -1,5 +1,5 @@
 -- How an error shows the line of a text that it is about. No part of the standard.
-use Rattle.std.specs.Prelude.{ℕ, false, ◌==◌, ◌&&◌, nat_le, nat_lt, ◌+◌, ◌-◌, List, [], ◌∷◌, ◌++◌, codes, length, take, replicate, flat_map, slice_get, slice_index, unwrap_or, encode_utf8_all, if◌then◌else◌}
+use Rattle.std.specs.Prelude.{ℕ, Bool, false, ◌==◌, ◌&&◌, nat_le, nat_lt, ◌+◌, ◌-◌, List, [], ◌∷◌, ◌++◌, codes, length, take, replicate, flat_map, slice_get, slice_index, unwrap_or, encode_utf8_all, if◌then◌else◌}
 use Rattle.std.specs.Fmt.{decimal, is_char_start}
 use Rattle.std.specs.Str.{chars}
 use Rattle.std.specs.Str.Lines.{lines}
@@ -21,9 +21,13 @@ shown c = if c == 9 then codes "    " else if is_confusing c then [] else c ∷ 
 abbrev pub shown_line : List ℕ → List ℕ
 shown_line line = encode_utf8_all (flat_map shown (chars line))
 
+-- the first n bytes are there, and do not end inside a character
+abbrev pub is_boundary : List ℕ → ℕ → Bool
+is_boundary text n = nat_le n (length text) && is_char_start (slice_index text n)
+
 -- the columns that the first n bytes take; n itself where they are not there, or end inside a character
 abbrev pub columns : List ℕ → ℕ → ℕ
-columns text n = if nat_le n (length text) && is_char_start (slice_index text n) then str_width false (chars (take n text)) else n
+columns text n = if is_boundary text n then str_width false (chars (take n text)) else n
 
 -- The line that the byte stands in is without its line feed, or carriage return and line feed. It is empty where the byte
 -- stands in no line. The column is measured on the line as it is shown, so a TAB before the byte, or a character that is

@@ -1,6 +1,6 @@
 //! Tests of errors.
 use super::*;
-use crate::lexer::Lexer;
+use crate::lexer::{LexFault, Lexer};
 use std::process::Abort;
 use std::test::Fail;
 
@@ -215,6 +215,51 @@ fn faults_of_texts_print_their_line(rt: HostRuntime) -> Result<(), Fail> {
     let want = "invalid string escape 'q'\n     --> <anon>:1:9\n      \
          |\n    1 | \"\\q\"\n      |         ^";
     assert_eq!(rt; got.as_str(), want);
+    Ok(())
+}
+
+// What is dropped between two characters does not keep them from taking their columns as one.
+#[test]
+fn faults_print_without_memory(rt: HostRuntime) -> Result<(), Fail> {
+    let rows = [
+        (
+            "\t(;",
+            1,
+            "unterminated block comment\n     --> <anon>:1:2\n      |\n    1 |     (;\n      |  ^",
+        ),
+        (
+            "b\n\ta",
+            5,
+            "unterminated block comment\n     --> <anon>:3:1\n      |\n    3 | \n      | ^",
+        ),
+        (
+            "\u{1f1e6}\u{202a}\u{1f1e7}(;",
+            8,
+            "unterminated block comment\n     --> <anon>:1:3\n      \
+             |\n    1 | \u{1f1e6}\u{1f1e7}(;\n      |   ^",
+        ),
+        (
+            "漢\u{202e}\r\n",
+            1,
+            "unterminated block comment\n     --> <anon>:1:2\n      |\n    1 | 漢\n      |  ^",
+        ),
+        (
+            "",
+            9,
+            "unterminated block comment\n     --> <anon>:1:1\n      |\n    1 | \n      | ^",
+        ),
+    ];
+    for (text, offset, want) in rows.as_slice() {
+        let error = LexError::DanglingBlockComment;
+        let fault = LexFault {
+            offset: *offset,
+            error,
+        };
+        let rendered = Rendered::new(text, fault).to_string(rt.alloc())?;
+        assert_eq!(rt; rendered.as_str(), *want);
+        let error = known(Error::lex(rt.alloc(), Span::from_offset(*offset), text, error))?;
+        assert_eq!(rt; error.to_string(rt.alloc())?.as_str(), *want);
+    }
     Ok(())
 }
 

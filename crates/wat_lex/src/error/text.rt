@@ -1,65 +1,91 @@
-//! What an error keeps of the text that it is about.
-ghost use Rattle.std.specs.Prelude.{◌≡◌, ◌≤◌, ◌*◌, ◌⊎◌, IfOk, length, string_bytes};
+//! The line of a text that an error is about.
+ghost use Rattle.std.specs.Prelude.{◌≡◌, IfOk};
 ghost use Rattle.wat_lex.specs.errors.ErrorView.{excerpt_of};
-ghost use Rattle.wat_lex.specs.errors.Rendering.{excerpt, shown_line, columns};
+ghost use Rattle.wat_lex.specs.errors.Rendering.{excerpt};
 
-use crate::lexer::is_confusing;
+use crate::error::shown::{Line, columns};
 use crate::token::Span;
 use std::alloc::{AllocError, Global};
 use std::fmt;
-use unicode_width::UnicodeWidthStr;
+use std::marker::Model;
 
 /// The last column that is marked below its line.
 const LAST_MARKED: usize = 500;
 
-/// The line of a text that an error is about, and its place.
+/// The line of a text that an error is about, and its place. It prints both, with a marker under
+/// the column.
+#[derive(Drop)]
+pub struct Excerpt<'a> {
+    line: usize,
+    column: usize,
+    source: Line<'a>,
+}
+
+impl<'a> Model for Excerpt<'a> {
+    ghost use Rattle.wat_lex.specs.errors.Rendering.{Excerpt, shown_line};
+
+    ghost Value = { Excerpt };
+
+    ghost view = { λ e. record {
+      line = e.line;
+      column = e.column;
+      snippet = shown_line e.source.0.now;
+    } };
+}
+
+impl<'a> Excerpt<'a> {
+    pub fn new(contents: &'a str, span: Span) -> Excerpt<'a>
+        ensures { result ≡ excerpt contents.now span }
+    {
+        let (line, column) = span.linecol_in(contents);
+        let source = contents.lines().nth(line).unwrap_or("");
+        let column = columns(source, column);
+        Excerpt {
+            line: line + 1,
+            column: column + 1,
+            source: Line(source),
+        }
+    }
+}
+
+/// An excerpt that owns its line.
 #[derive(Debug, Drop)]
 pub struct Text {
     line: usize,
     column: usize,
-    snippet: String,
-}
-
-/// A line as it is shown.
-fn shown(alloc: Global, line: &str) -> Result<String, AllocError>
-    ensures { IfOk result (λ snippet. string_bytes snippet ≡ shown_line line.now) }
-{
-    let mut snippet = String::new(alloc);
-    for c in line.chars() {
-        if c == '\t' {
-            snippet.push_str("    ")?;
-        } else if !is_confusing(c) {
-            snippet.push(c)?;
-        }
-    }
-    Ok(snippet)
-}
-
-/// The columns that the first bytes of a line take,
-/// or their number where they are not there or end inside a character.
-fn columns(line: &str, bytes: usize) -> usize
-    ensures columns { result ≡ columns line.now bytes }
-    ensures bound { (result ≤ bytes) ⊎ (result ≤ 2 * length line.now) }
-{
-    if line.is_char_boundary(bytes) {
-        line[..bytes].width()
-    } else {
-        bytes
-    }
+    source: String,
 }
 
 impl Text {
     pub fn new(alloc: Global, contents: &str, span: Span) -> Result<Text, AllocError>
         ensures { IfOk result (λ text. excerpt_of text ≡ excerpt contents.now span) }
     {
-        let (line, column) = span.linecol_in(contents);
-        let snippet = shown(alloc, contents.lines().nth(line).unwrap_or(""))?;
-        let column = columns(snippet.as_str(), column);
+        let excerpt = Excerpt::new(contents, span);
         Ok(Text {
-            line: line + 1,
-            column: column + 1,
-            snippet,
+            line: excerpt.line,
+            column: excerpt.column,
+            source: String::from_str(alloc, excerpt.source.0)?,
         })
+    }
+}
+
+impl fmt::Display for Excerpt<'_> {
+    ghost use Rattle.std.specs.Prelude.{Some};
+    ghost use Rattle.wat_lex.specs.errors.Rendering.{shown_place};
+
+    ghost output = { λ e. Some (shown_place e) };
+
+    fn fmt<W: fmt::Write>(&self, f: &mut fmt::Formatter<W>) -> fmt::Result {
+        let line = self.line;
+        let column = self.column;
+        if column > LAST_MARKED {
+            return write!(f, " at <anon>:{line}:{column}");
+        }
+        let snippet = self.source;
+        let marker = "^";
+        write!(f, "\n     --> <anon>:{line}:{column}\n      |")?;
+        write!(f, "\n {line:4} | {snippet}")?;
+        write!(f, "\n      | {marker:>column$}")
     }
 }
 
@@ -71,15 +97,11 @@ impl fmt::Display for Text {
     ghost output = { λ t. Some (shown_place (excerpt_of t)) };
 
     fn fmt<W: fmt::Write>(&self, f: &mut fmt::Formatter<W>) -> fmt::Result {
-        let line = self.line;
-        let column = self.column;
-        if column > LAST_MARKED {
-            return write!(f, " at <anon>:{line}:{column}");
-        }
-        let snippet = self.snippet.as_str();
-        let marker = "^";
-        write!(f, "\n     --> <anon>:{line}:{column}\n      |")?;
-        write!(f, "\n {line:4} | {snippet}")?;
-        write!(f, "\n      | {marker:>column$}")
+        let excerpt = Excerpt {
+            line: self.line,
+            column: self.column,
+            source: Line(self.source.as_str()),
+        };
+        write!(f, "{excerpt}")
     }
 }

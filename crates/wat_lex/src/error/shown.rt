@@ -1,0 +1,164 @@
+//! A line as it is shown.
+ghost use Rattle.std.specs.Prelude.{◌≡◌, ◌*◌, ◌^◌, ◌<◌, ◌≤◌, true, false, length, take, MatchOption};
+ghost use Rattle.std.specs.Prelude.{encode_utf8_all};
+ghost use Rattle.wat_lex.specs.errors.Rendering.{columns, shown, shown_line, is_boundary};
+
+use crate::lexer::is_confusing;
+use std::fmt;
+use std::marker::Model;
+use std::str::Chars;
+use unicode_width::char_iter_width;
+
+/// How many spaces a TAB is shown as.
+const TAB: usize = 4;
+
+/// A line, which prints as it is shown.
+#[derive(Clone, Copy)]
+pub struct Line<'a>(pub &'a str);
+
+/// The characters that are shown of a line. They come from either end.
+#[derive(Drop)]
+struct Shown<'a> {
+    /// The spaces that are still to come of a TAB before the characters.
+    front: usize,
+    chars: Chars<'a>,
+    /// The same of one behind them.
+    back: usize,
+}
+
+impl<'a> Model for Shown<'a> {
+    ghost use Rattle.std.specs.Prelude.{ℕ, List};
+    ghost use Rattle.wat_lex.specs.errors.ShownView.{shown_view};
+
+    ghost Value = { List ℕ };
+
+    ghost view = { shown_view };
+}
+
+impl<'a> Shown<'a> {
+    fn of(line: &'a str) -> Shown<'a>
+        ensures { encode_utf8_all result ≡ shown_line line.now }
+    {
+        Shown {
+            front: 0,
+            chars: line.chars(),
+            back: 0,
+        }
+    }
+}
+
+impl<'a> Iterator for Shown<'a> {
+    type Item = char;
+
+    ghost use Rattle.std.specs.Iterator.{YieldsFirst, item_count};
+
+    ghost next_gives = { YieldsFirst (λ left. left) };
+
+    ghost remaining = { item_count (λ left. left) };
+
+    fn next(&mut self) -> Option<char> {
+        // The proof takes from here that the characters left are a text.
+        let _ = self.chars.as_str();
+        if self.front > 0 {
+            self.front -= 1;
+            return Some(' ');
+        }
+        match self.chars.find(|c| !is_confusing(*c)) {
+            Some('\t') => self.front = TAB - 1,
+            Some(c) => return Some(c),
+            None if self.back > 0 => self.back -= 1,
+            None => return None,
+        }
+        Some(' ')
+    }
+}
+
+impl<'a> DoubleEndedIterator for Shown<'a> {
+    ghost use Rattle.std.specs.Iterator.{YieldsLast};
+
+    ghost next_back_gives = { YieldsLast (λ left. left) };
+
+    fn next_back(&mut self) -> Option<char> {
+        // The proof takes from here that the characters left are a text.
+        let _ = self.chars.as_str();
+        if self.back > 0 {
+            self.back -= 1;
+            return Some(' ');
+        }
+        match self.chars.rfind(|c| !is_confusing(*c)) {
+            Some('\t') => self.back = TAB - 1,
+            Some(c) => return Some(c),
+            None if self.front > 0 => self.front -= 1,
+            None => return None,
+        }
+        Some(' ')
+    }
+}
+
+impl fmt::Display for Line<'_> {
+    ghost use Rattle.std.specs.Prelude.{Some};
+    ghost use Rattle.wat_lex.specs.errors.Rendering.{shown_line};
+
+    ghost output = { λ l. Some (shown_line l.0.now) };
+
+    fn fmt<W: fmt::Write>(&self, f: &mut fmt::Formatter<W>) -> fmt::Result {
+        for c in Shown::of(self.0) {
+            f.write_char(c)?;
+        }
+        Ok(())
+    }
+}
+
+/// The columns that the first bytes of a line take as it is shown,
+/// or their number where they are not there or end inside a character.
+pub fn columns(line: &str, bytes: usize) -> usize
+    requires { bytes < 2 ^ 63 }
+    ensures columns { result ≡ columns (shown_line line.now) bytes }
+    ensures bound { result ≤ 2 * bytes }
+{
+    match front(line, bytes) {
+        Some(shown) => char_iter_width(shown),
+        None => bytes,
+    }
+}
+
+/// The characters of a line that are shown in its first bytes; none where so many bytes are not
+/// shown, or end inside a character.
+fn front(line: &str, bytes: usize) -> Option<Shown<'_>>
+    ensures { MatchOption result (is_boundary (shown_line line.now) bytes ≡ false)
+        (λ shown. (is_boundary (shown_line line.now) bytes ≡ true)
+        × (encode_utf8_all shown ≡ take bytes (shown_line line.now))) }
+{
+    let mut at = 0;
+    let mut missing = bytes;
+    'places: while let Some(c) = line[at..].chars().next() {
+        let len = shown_len(c);
+        if missing < len {
+            if missing > 0 && c != '\t' {
+                return None;
+            }
+            return Some(Shown {
+                front: 0,
+                chars: line[..at].chars(),
+                back: missing,
+            });
+        }
+        missing -= len;
+        at += c.len_utf8();
+    }
+    if missing > 0 {
+        return None;
+    }
+    Some(Shown::of(line))
+}
+
+/// How many bytes a character is shown in.
+fn shown_len(c: char) -> usize
+    ensures { result ≡ length (encode_utf8_all (shown c)) }
+{
+    match c {
+        '\t' => TAB,
+        c if is_confusing(c) => 0,
+        c => c.len_utf8(),
+    }
+}
