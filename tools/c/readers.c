@@ -8,7 +8,7 @@
 #include <stdlib.h>
 #include <string.h>
 
-enum { ROOM = 7, READERS = 8, UNTOUCHED = 0xA5 };
+enum { ROOM = 7, READERS = 9, UNTOUCHED = 0xA5 };
 
 static unsigned long long texts, tokens_seen, faults_seen, values_seen, wrong;
 static uint64_t seed = 88172645463325252u;
@@ -53,13 +53,15 @@ static struct wat_answer read_by(unsigned reader, struct setting s, size_t pos, 
     case 2:
         return wat_name(s.text, s.len, pos, s.allow, s.strict, out, room);
     case 3:
+        return wat_name_fault(s.text, s.len, pos, s.allow, s.strict, out, room);
+    case 4:
         return wat_integer(s.text, s.len, pos, s.allow, s.strict, out, room);
     default:
-        return wat_float(s.text, s.len, pos, s.allow, s.strict, reader - 4, out, room);
+        return wat_float(s.text, s.len, pos, s.allow, s.strict, reader - 5, out, room);
     }
 }
 
-/* The status that the reader has to answer where it has something to read; all others answer WAT_OTHER. */
+/* Whether the reader reads what stands there; all others answer WAT_OTHER. */
 static bool may_read(unsigned reader, struct wat_found found) {
     uint8_t code = found.token.kind.code;
     switch (reader) {
@@ -68,8 +70,9 @@ static bool may_read(unsigned reader, struct wat_found found) {
     case 1:
         return code == WAT_STRING;
     case 2:
-        return code == WAT_ID || code == WAT_ANNOTATION;
     case 3:
+        return code == WAT_ID || code == WAT_ANNOTATION;
+    case 4:
         return code == WAT_INTEGER;
     default:
         return code >= WAT_INF && code <= WAT_FLOAT;
@@ -84,6 +87,7 @@ static void read_value(unsigned reader, struct setting s, size_t pos) {
     size_t i;
     expect(given.needed == told.needed && given.status == told.status, "two answers differ", pos);
     expect(told.status == WAT_GIVEN || told.needed == 0, "a length without bytes", pos);
+    expect(told.status != WAT_OTHER && told.status != WAT_NO_MEMORY, "a token is not read", pos);
     if (told.needed > 0) {
         shorter = room_of(told.needed - 1);
         given = read_by(reader, s, pos, shorter, told.needed - 1);

@@ -1,5 +1,4 @@
 mod Answering
 mod Filling
 mod Parts
-mod Printing
 mod Texts

@@ -7,20 +7,19 @@ ghost use Rattle.std.specs.Str.{IsCharBoundary, IsUtf8};
 ghost use Rattle.wat_lex.specs.errors.Positions.{line_and_column};
 ghost use Rattle.wat_c.specs.Answers.{Answers};
 ghost use Rattle.wat_c.specs.Readings.{Finds, FindsFault, IsString, IsNamed, IsInteger, IsFloat};
-ghost use Rattle.wat_c.specs.Readings.{ReadsString, ReadsName, ReadsInteger, ReadsFloat};
+ghost use Rattle.wat_c.specs.Readings.{ReadsString, ReadsName, ReadsInteger, ReadsFloat, ReadsNameFault};
 ghost use Rattle.wat_c.specs.Rows.{FoundAt, Fills, setting};
 ghost use Rattle.wat_c.specs.declared.rows.Found.{Found as FoundRow};
 
 pub mod answers;
 mod fill;
 mod given;
-mod print;
 mod readings;
 pub mod rows;
 
 use answers::Answer;
 use fill::fill;
-use given::{give_float, give_integer, give_name, give_string};
+use given::{give_fault, give_float, give_integer, give_name, give_name_fault, give_string};
 use rows::{Filled, Found, TokenRow, found_row, lexer_of};
 use std::alloc::Global;
 use std::str;
@@ -184,4 +183,44 @@ pub extern "C" fn wat_float(
 {
     let text = unsafe { str::from_utf8_unchecked(text) };
     give_float(alloc, text, pos, Settings { allow, strict }, part, out)
+}
+
+/// What the fault at a byte of the text prints.
+#[unsafe(no_mangle)]
+pub extern "C" fn wat_fault(
+    alloc: Global,
+    text: &[u8],
+    pos: usize,
+    allow: bool,
+    strict: bool,
+    out: &mut [u8],
+) -> Answer
+    requires utf8 { IsUtf8 text.now }
+    requires short { length text.now < 2 ^ 32 }
+    requires boundary { IsCharBoundary text.now pos }
+    ensures { Answers (FindsFault (setting text.now allow strict) pos)
+        out.old out.new result }
+{
+    let text = unsafe { str::from_utf8_unchecked(text) };
+    give_fault(alloc, text, pos, Settings { allow, strict }, out)
+}
+
+/// What is wrong with the name of the identifier or annotation at a byte of the text, as it is printed.
+#[unsafe(no_mangle)]
+pub extern "C" fn wat_name_fault(
+    alloc: Global,
+    text: &[u8],
+    pos: usize,
+    allow: bool,
+    strict: bool,
+    out: &mut [u8],
+) -> Answer
+    requires utf8 { IsUtf8 text.now }
+    requires short { length text.now < 2 ^ 32 }
+    requires boundary { IsCharBoundary text.now pos }
+    ensures { Answers (Finds IsNamed ReadsNameFault (setting text.now allow strict) pos)
+        out.old out.new result }
+{
+    let text = unsafe { str::from_utf8_unchecked(text) };
+    give_name_fault(alloc, text, pos, Settings { allow, strict }, out)
 }

@@ -1,17 +1,19 @@
 //! What the readers find at a place.
-ghost use Rattle.std.specs.Prelude.{◌≡◌, ◌≢◌, ◌<◌, ◌^◌, ℕ, length, IfOk, IfErr, Ok, Err};
+ghost use Rattle.std.specs.Prelude.{◌≡◌, ◌≢◌, ◌<◌, ◌^◌, ℕ, length, IfOk, IfErr, Ok, Err, string_bytes};
 ghost use Rattle.std.specs.Cow.{cow_str_bytes, cow_slice_items};
 ghost use Rattle.wat_lex.specs.values.NumberValues.{integer_digits};
 ghost use Rattle.std.specs.Option.{option_map};
 ghost use Rattle.std.specs.Str.{IsCharBoundary};
 ghost use Rattle.wat_c.specs.Readings.{Finds, IsString, IsNamed, IsInteger, IsFloat};
 ghost use Rattle.wat_c.specs.Readings.{ReadsString, ReadsName, ReadsInteger, ReadsFloat, FloatAt, part_of};
+ghost use Rattle.wat_c.specs.Readings.{FindsFault, ReadsNameFault, shown_fault};
 
 use crate::answers::Refusal;
 use crate::rows::lexer_of;
 use std::alloc::{AllocError, Global};
 use std::borrow::{CowSlice, CowStr};
-use wat_lex::lexer::{Float, Integer, Settings, TokenKind};
+use wat_lex::error::Rendered;
+use wat_lex::lexer::{Float, Integer, LexFault, Settings, TokenKind};
 
 impl From<AllocError> for Refusal {
     ghost use Rattle.wat_c.specs.declared.answers.Refusal.TheVariants.{Memory};
@@ -129,4 +131,62 @@ pub fn part_of<'s>(float: &'s Float<'_>, part: u32) -> Option<&'s str>
         (3, Float::Nan { val, .. }) => val.as_ref().map(|digits| digits.as_str()),
         _ => None,
     }
+}
+
+/// What the fault at a place prints.
+pub fn fault_at(
+    alloc: Global,
+    text: &str,
+    pos: usize,
+    settings: Settings,
+) -> Result<String, Refusal>
+    requires short { length text.now < 2 ^ 32 }
+    requires boundary { IsCharBoundary text.now pos }
+    ensures found { IfOk result (λ shown. FindsFault
+        (record { text = text.now; flags = settings }) pos (Ok (string_bytes shown))) }
+    ensures refused { IfErr result (λ refusal. FindsFault
+        (record { text = text.now; flags = settings }) pos (Err refusal)) }
+{
+    match lexer_of(text, settings).scan(pos) {
+        Ok(_) => Err(Refusal::Other),
+        Err(fault) => Ok(shown(alloc, text, fault)?),
+    }
+}
+
+/// What is wrong with the name of the identifier or annotation at a place, as it is printed.
+pub fn name_fault_at(
+    alloc: Global,
+    text: &str,
+    pos: usize,
+    settings: Settings,
+) -> Result<String, Refusal>
+    requires short { length text.now < 2 ^ 32 }
+    requires boundary { IsCharBoundary text.now pos }
+    ensures found { IfOk result (λ shown. Finds IsNamed ReadsNameFault
+        (record { text = text.now; flags = settings }) pos (Ok (string_bytes shown))) }
+    ensures refused { IfErr result (λ refusal. Finds IsNamed ReadsNameFault
+        (record { text = text.now; flags = settings }) pos (Err refusal)) }
+{
+    let Ok(Some(token)) = lexer_of(text, settings).scan(pos) else {
+        return Err(Refusal::Other);
+    };
+    match token.kind {
+        TokenKind::Id | TokenKind::Annotation => {}
+        _ => return Err(Refusal::Other),
+    }
+    match token.name(alloc, text)? {
+        Ok(_) => Err(Refusal::Absent),
+        Err(error) => {
+            let offset = token.offset;
+            Ok(shown(alloc, text, LexFault { offset, error })?)
+        }
+    }
+}
+
+/// What a fault of a text prints.
+fn shown(alloc: Global, text: &str, fault: LexFault) -> Result<String, AllocError>
+    ensures { IfOk result (λ shown. string_bytes shown ≡ shown_fault text.now fault) }
+{
+    let rendered = Rendered::new(text, fault);
+    format!(in alloc; "{rendered}")
 }
