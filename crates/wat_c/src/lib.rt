@@ -16,6 +16,8 @@ mod fill;
 mod given;
 mod readings;
 pub mod rows;
+#[cfg(test)]
+mod tests;
 
 use answers::Answer;
 use fill::fill;
