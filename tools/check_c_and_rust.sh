@@ -1,25 +1,27 @@
 #!/usr/bin/env bash
-# What stands over the static library: the header as C99 and as C++, a C program that lists the stored texts, all functions on the stored texts and
-# mutants of them under the address and undefined-behaviour sanitizers, and the Rust crate with its tests and its example on the stored texts.
-# A step whose compiler is not on the machine is left out, and says so.
+# What stands over the static library: the header as C99 and as C++, a C program that lists the stored texts, all functions on the stored
+# texts and on mutants of them under the address and undefined-behaviour sanitizers, and the Rust crate with its tests, and its example on
+# the stored texts. A step whose compiler is not on the machine is left out, and says so.
 #
-# usage: tools/check_c_and_rust.sh [FOLDER [MUTANTS]]     FOLDER: with libwat_c.a, as tools/build_c.sh and the gate make it
+# usage: tools/check_c_and_rust.sh [MUTANTS]
 set -eu
 cd "$(dirname "$0")/.."
-folder=${1:-$(tools/build_c.sh)}
-mutants=${2:-1000}
+mutants=${1:-1000}
 room=$(mktemp -d)
 trap 'rm -rf "$room"' EXIT
 texts=crates/wat_tokens/agreement
-cp "$folder/libwat_c.a" "$(dirname "$(rt doc)")/c/liblibc_c.a" "$room/"
-archives=("$room/libwat_c.a" "$room/liblibc_c.a")
-strict=(-Wall -Wextra -Werror -pedantic -Iinclude)
+c=${CC:-cc}
+cpp=${CXX:-c++}
 
-left_out() {
-    echo "check_c_and_rust.sh: left out, as no $1 is here: $2"
+say() {
+    echo "check_c_and_rust.sh: $*"
 }
 
-# compare NAME PROGRAM: the program lists each stored text that needs no arguments as its .stdout says
+has() {
+    command -v "$1" > /dev/null
+}
+
+# compare NAME PROGRAM: the program lists each stored text that needs no words as it is stored
 compare() {
     local lists=0 text
     for text in "$texts"/*; do
@@ -31,40 +33,49 @@ compare() {
         cmp "$text.stdout" "$room/output"
         lists=$((lists + 1))
     done
-    echo "check_c_and_rust.sh: $1 lists $lists stored texts as they are stored"
+    say "$1 lists $lists stored texts as they are stored"
 }
 
-c=${CC:-cc}
-if command -v "$c" > /dev/null; then
-    printf '#include "wat.h"\n' > "$room/alone.c"
-    "$c" -std=c99 "${strict[@]}" -c -o "$room/alone.o" "$room/alone.c"
-    "$c" -std=c99 -O2 "${strict[@]}" -o "$room/list" tools/c/list.c "${archives[@]}"
-    compare tools/c/list.c "$room/list"
+# sanitizes: whether a program can be built and run under the sanitizers
+sanitizes() {
     printf 'int main(void) { return 0; }\n' > "$room/empty.c"
-    if "$c" -fsanitize=address,undefined -o "$room/empty" "$room/empty.c" 2> /dev/null; then
-        "$c" -std=c99 -g -O1 -fsanitize=address,undefined -fno-sanitize-recover=all "${strict[@]}" -o "$room/readers" tools/c/readers.c "${archives[@]}"
-        find "$texts" -type f ! -name '*.stdout' ! -name '*.args' -print0 | sort -z | xargs -0 "$room/readers" "$mutants"
-    else
-        left_out 'sanitizer' 'the functions on mutants'
-    fi
+    "$c" -fsanitize=address,undefined -o "$room/empty" "$room/empty.c" 2> /dev/null && "$room/empty" 2> /dev/null
+}
+
+if ! has "$c"; then
+    say "all is left out, as no C compiler $c is here"
+    exit 0
+fi
+folder=$(tools/build_c.sh)
+cp "$folder/libwat_c.a" "$folder/liblibc_c.a" "$room/"
+archives=("$room/libwat_c.a" "$room/liblibc_c.a")
+strict=(-Wall -Wextra -Werror -pedantic -Iinclude)
+
+printf '#include "wat.h"\n' > "$room/alone.c"
+"$c" -std=c99 "${strict[@]}" -c -o "$room/alone.o" "$room/alone.c"
+"$c" -std=c99 -O2 "${strict[@]}" -o "$room/list" tools/c/list.c "${archives[@]}"
+compare tools/c/list.c "$room/list"
+
+if sanitizes; then
+    "$c" -std=c99 -g -O1 -fsanitize=address,undefined -fno-sanitize-recover=all "${strict[@]}" -o "$room/readers" tools/c/readers.c "${archives[@]}"
+    find "$texts" -type f ! -name '*.stdout' ! -name '*.args' -print0 | sort -z | xargs -0 "$room/readers" "$mutants"
 else
-    left_out 'C compiler' 'the header as C99, the C programs'
+    say "the functions on mutants are left out, as $c has no sanitizers here"
 fi
 
-cpp=${CXX:-c++}
-if command -v "$cpp" > /dev/null; then
+if has "$cpp"; then
     printf '#include "wat.h"\nint main() { return wat_is_text(reinterpret_cast<const uint8_t *>("("), 1) ? 0 : 1; }\n' > "$room/alone.cc"
     "$cpp" -std=c++11 "${strict[@]}" -o "$room/alone" "$room/alone.cc" "${archives[@]}"
     "$room/alone"
-    echo 'check_c_and_rust.sh: the header is C++11'
+    say 'the header is C99 and C++11'
 else
-    left_out 'C++ compiler' 'the header as C++'
+    say "the header as C++ is left out, as no C++ compiler $cpp is here"
 fi
 
-if command -v cargo > /dev/null && command -v rustc > /dev/null; then
+if has cargo && has rustc; then
     export CARGO_TARGET_DIR="$room/target" WAT_C_FOLDER="$room"
     (cd rust/wat-lex && cargo test --offline --release --quiet && cargo build --offline --release --quiet --example list)
     compare 'the Rust crate' "$room/target/release/examples/list"
 else
-    left_out 'cargo or rustc' 'the Rust crate'
+    say 'the Rust crate is left out, as no cargo or no rustc is here'
 fi
