@@ -4,3 +4,4 @@ pub mod Names
 pub mod UniqueValues
 pub mod Annotations
 pub mod WordValues
+pub mod IntegerFacts

@@ -1,6 +1,7 @@
 //! Tokens and their kinds.
 ghost use Rattle.std.specs.Prelude.{◌≡◌};
 ghost use Rattle.wat_lex.specs.grammar.Numbers.{sign_token};
+ghost use Rattle.wat_lex.specs.values.IntegerFacts.{kind_sign, kind_has_underscores, kind_hex};
 
 /// A single token of a text.
 // The largest field stands first, so that a token has 16 bytes.
@@ -51,6 +52,29 @@ pub struct IntegerKind {
     pub(crate) sign: Sign,
     pub(crate) has_underscores: bool,
     pub(crate) hex: bool,
+}
+
+impl IntegerKind {
+    /// The sign that the integer begins with.
+    pub fn sign(self) -> Option<SignToken>
+        ensures { result ≡ kind_sign self }
+    {
+        self.sign.token()
+    }
+
+    /// Whether underscores stand between its digits.
+    pub fn has_underscores(self) -> bool
+        ensures { result ≡ kind_has_underscores self }
+    {
+        self.has_underscores
+    }
+
+    /// Whether its digits stand behind `0x`.
+    pub fn hex(self) -> bool
+        ensures { result ≡ kind_hex self }
+    {
+        self.hex
+    }
 }
 
 /// What the lexer knows of a floating-point number.

@@ -1,0 +1,4 @@
+mod Answering
+mod Filling
+mod Parts
+mod Texts

@@ -1,0 +1,139 @@
+//! What the readers find, into a caller's buffer.
+ghost use Rattle.std.specs.Prelude.{◌<◌, ◌^◌, length};
+ghost use Rattle.std.specs.Str.{IsCharBoundary};
+ghost use Rattle.wat_c.specs.Answers.{Answers};
+ghost use Rattle.wat_c.specs.Readings.{FindsFault, ReadsNameFault};
+ghost use Rattle.wat_c.specs.Readings.{Finds, IsString, IsNamed, IsInteger, IsFloat};
+ghost use Rattle.wat_c.specs.Readings.{ReadsString, ReadsName, ReadsInteger, ReadsFloat};
+
+use crate::answers::{Answer, Refusal, give};
+use crate::readings::{fault_at, float_at, integer_at, name_at, name_fault_at, part_of, string_at};
+use std::alloc::Global;
+use wat_lex::lexer::Settings;
+
+/// The value of the string at a place.
+#[tactic(auto, using(crate::proofs::Answering::given, crate::proofs::Answering::refused))]
+pub fn give_string(
+    alloc: Global,
+    text: &str,
+    pos: usize,
+    settings: Settings,
+    out: &mut [u8],
+) -> Answer
+    requires short { length text.now < 2 ^ 32 }
+    requires boundary { IsCharBoundary text.now pos }
+    ensures { Answers (Finds IsString ReadsString
+        (record { text = text.now; flags = settings }) pos) out.old out.new result }
+{
+    match string_at(alloc, text, pos, settings) {
+        Ok(value) => give(value.as_slice(), out),
+        Err(refusal) => refusal.answer(),
+    }
+}
+
+/// The name of the identifier or annotation at a place.
+#[tactic(auto, using(crate::proofs::Answering::given, crate::proofs::Answering::refused))]
+pub fn give_name(
+    alloc: Global,
+    text: &str,
+    pos: usize,
+    settings: Settings,
+    out: &mut [u8],
+) -> Answer
+    requires short { length text.now < 2 ^ 32 }
+    requires boundary { IsCharBoundary text.now pos }
+    ensures { Answers (Finds IsNamed ReadsName
+        (record { text = text.now; flags = settings }) pos) out.old out.new result }
+{
+    match name_at(alloc, text, pos, settings) {
+        Ok(name) => give(name.as_str().as_bytes(), out),
+        Err(refusal) => refusal.answer(),
+    }
+}
+
+/// The digits of the integer at a place, a `-` kept.
+#[tactic(auto, using(crate::proofs::Answering::given, crate::proofs::Answering::refused))]
+pub fn give_integer(
+    alloc: Global,
+    text: &str,
+    pos: usize,
+    settings: Settings,
+    out: &mut [u8],
+) -> Answer
+    requires short { length text.now < 2 ^ 32 }
+    requires boundary { IsCharBoundary text.now pos }
+    ensures { Answers (Finds IsInteger ReadsInteger
+        (record { text = text.now; flags = settings }) pos) out.old out.new result }
+{
+    match integer_at(alloc, text, pos, settings) {
+        Ok(integer) => {
+            let (digits, _) = integer.val();
+            give(digits.as_bytes(), out)
+        }
+        Err(refusal) => refusal.answer(),
+    }
+}
+
+/// A part of the floating-point number at a place, by its number.
+#[tactic(auto, using(crate::proofs::Answering::given, crate::proofs::Answering::refused))]
+pub fn give_float(
+    alloc: Global,
+    text: &str,
+    pos: usize,
+    settings: Settings,
+    part: u32,
+    out: &mut [u8],
+) -> Answer
+    requires short { length text.now < 2 ^ 32 }
+    requires boundary { IsCharBoundary text.now pos }
+    ensures { Answers (Finds IsFloat (ReadsFloat part)
+        (record { text = text.now; flags = settings }) pos) out.old out.new result }
+{
+    match float_at(alloc, text, pos, settings) {
+        Ok(float) => match part_of(&float, part) {
+            Some(digits) => give(digits.as_bytes(), out),
+            None => Refusal::Absent.answer(),
+        },
+        Err(refusal) => refusal.answer(),
+    }
+}
+
+/// What the fault at a place prints.
+#[tactic(auto, using(crate::proofs::Answering::given, crate::proofs::Answering::refused))]
+pub fn give_fault(
+    alloc: Global,
+    text: &str,
+    pos: usize,
+    settings: Settings,
+    out: &mut [u8],
+) -> Answer
+    requires short { length text.now < 2 ^ 32 }
+    requires boundary { IsCharBoundary text.now pos }
+    ensures { Answers (FindsFault
+        (record { text = text.now; flags = settings }) pos) out.old out.new result }
+{
+    match fault_at(alloc, text, pos, settings) {
+        Ok(shown) => give(shown.as_bytes(), out),
+        Err(refusal) => refusal.answer(),
+    }
+}
+
+/// What is wrong with the name of the identifier or annotation at a place, as it is printed.
+#[tactic(auto, using(crate::proofs::Answering::given, crate::proofs::Answering::refused))]
+pub fn give_name_fault(
+    alloc: Global,
+    text: &str,
+    pos: usize,
+    settings: Settings,
+    out: &mut [u8],
+) -> Answer
+    requires short { length text.now < 2 ^ 32 }
+    requires boundary { IsCharBoundary text.now pos }
+    ensures { Answers (Finds IsNamed ReadsNameFault
+        (record { text = text.now; flags = settings }) pos) out.old out.new result }
+{
+    match name_fault_at(alloc, text, pos, settings) {
+        Ok(shown) => give(shown.as_bytes(), out),
+        Err(refusal) => refusal.answer(),
+    }
+}

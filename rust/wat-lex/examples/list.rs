@@ -1,0 +1,51 @@
+//! Lists the raw tokens of standard input as `wat_tokens` does: a line for each token, and the fault on standard error with status 1.
+
+use std::io::{self, BufWriter, Read, Write};
+use std::process::ExitCode;
+use wat_lex::{Error, Lexer, TokenKind};
+
+fn name(kind: TokenKind) -> &'static str {
+    match kind {
+        TokenKind::LineComment => "LineComment",
+        TokenKind::BlockComment => "BlockComment",
+        TokenKind::Whitespace => "Whitespace",
+        TokenKind::LParen => "LParen",
+        TokenKind::RParen => "RParen",
+        TokenKind::String => "String",
+        TokenKind::Id => "Id",
+        TokenKind::Keyword => "Keyword",
+        TokenKind::Annotation => "Annotation",
+        TokenKind::Reserved => "Reserved",
+        TokenKind::Integer(_) => "Integer",
+        TokenKind::Float(_) => "Float",
+    }
+}
+
+/// Writes the list, and answers the error of the fault that ends it.
+fn list(text: &str, out: &mut impl Write) -> io::Result<Option<Error>> {
+    for token in Lexer::new(text).iter(0) {
+        match token {
+            Ok(token) => {
+                let end = token.offset + token.len as usize;
+                writeln!(out, "{}..{end} {}", token.offset, name(token.kind))?;
+            }
+            Err(error) => return Ok(Some(error)),
+        }
+    }
+    Ok(None)
+}
+
+fn main() -> io::Result<ExitCode> {
+    let mut text = String::new();
+    io::stdin().read_to_string(&mut text)?;
+    let mut out = BufWriter::new(io::stdout().lock());
+    let error = list(&text, &mut out)?;
+    out.flush()?;
+    Ok(match error {
+        Some(error) => {
+            eprintln!("{error}");
+            ExitCode::from(1)
+        }
+        None => ExitCode::SUCCESS,
+    })
+}

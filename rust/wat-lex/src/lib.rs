@@ -1,0 +1,35 @@
+//! The lexer of the WebAssembly text format, with the names of the crate `wast`.
+//!
+//! A [`Lexer`] cuts a text into tokens and accounts for every byte of it, white space and comments
+//! included. What it answers is proved: this crate is safe Rust over a static library whose functions
+//! are proved to meet their contracts, and its own code is small, tested, and not proved.
+//!
+//! ```
+//! use wat_lex::{Lexer, TokenKind};
+//!
+//! let text = "(module $m)";
+//! let lexer = Lexer::new(text);
+//! let kinds: Result<Vec<_>, _> = lexer.iter(0).map(|token| token.map(|t| t.kind)).collect();
+//! assert_eq!(
+//!     kinds.unwrap(),
+//!     [
+//!         TokenKind::LParen,
+//!         TokenKind::Keyword,
+//!         TokenKind::Whitespace,
+//!         TokenKind::Id,
+//!         TokenKind::RParen,
+//!     ]
+//! );
+//! ```
+#![warn(missing_docs)]
+
+mod error;
+mod library;
+mod lexer;
+mod number;
+mod token;
+
+pub use error::{Error, LexError, Span};
+pub use lexer::{Lexer, Tokens};
+pub use number::{Float, Integer};
+pub use token::{FloatKind, IntegerKind, SignToken, Token, TokenKind};

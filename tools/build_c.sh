@@ -1,0 +1,10 @@
+#!/usr/bin/env bash
+# Proves and builds the static library, and puts beside it the small C library of Rattle's kit, by which it asks for memory. Prints the
+# folder of both archives.
+#
+# usage: tools/build_c.sh
+set -eu
+cd "$(dirname "$0")/.."
+(cd crates/wat_c && rt lib > /dev/null)
+cp "$(dirname "$(rt doc)")/c/liblibc_c.a" crates/wat_c/out/
+echo crates/wat_c/out

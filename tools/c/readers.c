@@ -1,0 +1,220 @@
+/* Calls each function of wat.h at each token of texts and of mutants of them, with buffers of no room, of a byte too few and of just enough,
+ * and sees that the answers agree with each other. It is to be run under the address and undefined-behaviour sanitizers.
+ *
+ * usage: readers MUTANTS FILE.. */
+#include "wat.h"
+
+#include <stdio.h>
+#include <stdlib.h>
+#include <string.h>
+
+enum { ROOM = 7, READERS = 9, UNTOUCHED = 0xA5 };
+
+static unsigned long long texts, tokens_seen, faults_seen, values_seen, wrong;
+static uint64_t seed = 88172645463325252u;
+
+static uint64_t next_random(void) {
+    seed ^= seed << 13;
+    seed ^= seed >> 7;
+    seed ^= seed << 17;
+    return seed;
+}
+
+static void expect(bool holds, const char *what, size_t pos) {
+    if (!holds) {
+        fprintf(stderr, "readers: %s at %zu\n", what, pos);
+        wrong++;
+    }
+}
+
+static void *room_of(size_t bytes) {
+    void *room = malloc(bytes == 0 ? 1 : bytes);
+    if (room == NULL) {
+        fputs("readers: no memory\n", stderr);
+        exit(2);
+    }
+    memset(room, UNTOUCHED, bytes == 0 ? 1 : bytes);
+    return room;
+}
+
+/* A text, and the flags under which it is read. */
+struct setting {
+    const uint8_t *text;
+    size_t len;
+    bool allow, strict;
+};
+
+static struct wat_answer read_by(unsigned reader, struct setting s, size_t pos, uint8_t *out, size_t room) {
+    switch (reader) {
+    case 0:
+        return wat_fault(s.text, s.len, pos, s.allow, s.strict, out, room);
+    case 1:
+        return wat_string(s.text, s.len, pos, s.allow, s.strict, out, room);
+    case 2:
+        return wat_name(s.text, s.len, pos, s.allow, s.strict, out, room);
+    case 3:
+        return wat_name_fault(s.text, s.len, pos, s.allow, s.strict, out, room);
+    case 4:
+        return wat_integer(s.text, s.len, pos, s.allow, s.strict, out, room);
+    default:
+        return wat_float(s.text, s.len, pos, s.allow, s.strict, reader - 5, out, room);
+    }
+}
+
+/* Whether the reader reads what stands there; all others answer WAT_OTHER. */
+static bool may_read(unsigned reader, struct wat_found found) {
+    uint8_t code = found.token.kind.code;
+    switch (reader) {
+    case 0:
+        return found.fault != WAT_NO_FAULT;
+    case 1:
+        return code == WAT_STRING;
+    case 2:
+    case 3:
+        return code == WAT_ID || code == WAT_ANNOTATION;
+    case 4:
+        return code == WAT_INTEGER;
+    default:
+        return code >= WAT_INF && code <= WAT_FLOAT;
+    }
+}
+
+static void read_value(unsigned reader, struct setting s, size_t pos) {
+    uint8_t none = 0;
+    struct wat_answer told = read_by(reader, s, pos, &none, 0);
+    uint8_t *exact = room_of(told.needed), *shorter;
+    struct wat_answer given = read_by(reader, s, pos, exact, told.needed);
+    size_t i;
+    expect(given.needed == told.needed && given.status == told.status, "two answers differ", pos);
+    expect(told.status == WAT_GIVEN || told.needed == 0, "a length without bytes", pos);
+    expect(told.status != WAT_OTHER && told.status != WAT_NO_MEMORY, "a token is not read", pos);
+    if (told.needed > 0) {
+        shorter = room_of(told.needed - 1);
+        given = read_by(reader, s, pos, shorter, told.needed - 1);
+        expect(given.needed == told.needed && given.status == WAT_GIVEN, "a shorter buffer changes the answer", pos);
+        for (i = 0; i + 1 < told.needed; i++) {
+            expect(shorter[i] == UNTOUCHED, "a buffer that is too short has changed", pos);
+        }
+        free(shorter);
+        values_seen++;
+    }
+    free(exact);
+}
+
+/* What stands at a place, by every function. */
+static struct wat_found look(struct setting s, size_t pos) {
+    struct wat_found found = wat_scan(s.text, s.len, pos, s.allow, s.strict);
+    struct wat_position position = wat_line_column(s.text, s.len, pos);
+    unsigned reader;
+    expect(wat_is_place(s.text, s.len, pos), "a token does not end at a place", pos);
+    expect(position.line <= pos && position.column <= pos, "a line or column past the place", pos);
+    for (reader = 0; reader < READERS; reader++) {
+        uint8_t none = 0;
+        if (may_read(reader, found)) {
+            read_value(reader, s, pos);
+        } else {
+            expect(read_by(reader, s, pos, &none, 0).status == WAT_OTHER, "another reader reads a token", pos);
+        }
+    }
+    return found;
+}
+
+/* Reads a text by rows, and each row once more by itself. */
+static void read_text(struct setting s) {
+    struct wat_token *rows = room_of(ROOM * sizeof *rows);
+    struct wat_filled filled = {0, 0, WAT_FULL};
+    size_t at = 0, i;
+    while (filled.why == WAT_FULL) {
+        filled = wat_fill(s.text, s.len, at, s.allow, s.strict, rows, ROOM);
+        expect(filled.count <= ROOM && (filled.why == WAT_FULL) == (filled.count == ROOM), "the count of rows", at);
+        for (i = 0; i < filled.count; i++) {
+            struct wat_found found = look(s, at);
+            expect(rows[i].offset == at && rows[i].len > 0, "a row is not behind the last", at);
+            expect(found.token.offset == rows[i].offset && found.token.len == rows[i].len && found.token.kind.code == rows[i].kind.code &&
+                       found.token.kind.sign == rows[i].kind.sign && found.token.kind.has_underscores == rows[i].kind.has_underscores &&
+                       found.token.kind.hex == rows[i].kind.hex,
+                   "a row is not what stands there", at);
+            at += rows[i].len;
+            tokens_seen++;
+        }
+        expect(filled.at == at, "the rows do not end where they stop", at);
+    }
+    if (filled.why == WAT_END) {
+        expect(at == s.len && look(s, at).token.kind.code == WAT_NO_TOKEN, "the end is not the text's", at);
+    } else {
+        expect(look(s, at).fault == filled.why, "the fault is another", at);
+        faults_seen++;
+    }
+    free(rows);
+    texts++;
+}
+
+/* The bytes in a block of their own size, so that a read past them is seen. */
+static void read_bytes(const uint8_t *bytes, size_t len) {
+    uint8_t *text = room_of(len);
+    unsigned flags;
+    memcpy(text, bytes, len);
+    if (wat_is_text(text, len)) {
+        for (flags = 0; flags < 4; flags++) {
+            struct setting s = {NULL, 0, false, false};
+            s.text = text;
+            s.len = len;
+            s.allow = (flags & 1) != 0;
+            s.strict = (flags & 2) != 0;
+            read_text(s);
+        }
+    }
+    free(text);
+}
+
+/* Pieces of the format, which mutants are made with. */
+static const char *const pieces[] = {"(;",  ";)",     ";;", "\n",   "\"",        "\\",        "\\u{1_0}", "\\u{d800}", "\\61",
+                                     "$",   "$\"a\"", "@",  "@\"",  "0x",        "1_0",       "-0x1.8p-3", "nan:0x7f", "+inf",
+                                     "1e5", "_",      ",",  "\xe2\x80\xae", "\xc3\xa9", "\xf0\x9f\x98\x80", "\t",  "(@a)",  ""};
+
+/* A few bytes of the text are replaced, taken out, or stand behind another piece. */
+static void mutate(const uint8_t *bytes, size_t len) {
+    uint8_t *mutant = room_of(len + 64);
+    unsigned turns = 1 + (unsigned)(next_random() % 4);
+    memcpy(mutant, bytes, len);
+    while (turns-- > 0) {
+        const char *piece = pieces[next_random() % (sizeof pieces / sizeof *pieces)];
+        size_t added = strlen(piece), at = (size_t)(next_random() % (len + 1)), gone = (size_t)(next_random() % 3);
+        if (gone > len - at) {
+            gone = len - at;
+        }
+        memmove(mutant + at + added, mutant + at + gone, len - at - gone);
+        memcpy(mutant + at, piece, added);
+        len += added - gone;
+    }
+    read_bytes(mutant, len);
+    free(mutant);
+}
+
+static uint8_t *read_file(const char *name, size_t *len) {
+    FILE *file = fopen(name, "rb");
+    uint8_t *bytes = room_of(1 << 20);
+    if (file == NULL) {
+        fprintf(stderr, "readers: %s cannot be read\n", name);
+        exit(2);
+    }
+    *len = fread(bytes, 1, 1 << 20, file);
+    fclose(file);
+    return bytes;
+}
+
+int main(int argc, char **argv) {
+    unsigned long long mutants = argc > 1 ? strtoull(argv[1], NULL, 10) : 0, made;
+    int files = argc > 2 ? argc - 2 : 0, i;
+    for (i = 0; i < files; i++) {
+        size_t len = 0;
+        uint8_t *bytes = read_file(argv[i + 2], &len);
+        read_bytes(bytes, len);
+        for (made = (unsigned long long)i; made < mutants; made += (unsigned long long)files) {
+            mutate(bytes, len);
+        }
+        free(bytes);
+    }
+    printf("readers: %llu texts read, %llu tokens, %llu faults, %llu values; %llu wrong\n", texts, tokens_seen, faults_seen, values_seen, wrong);
+    return wrong == 0 && texts > 0 ? 0 : 1;
+}

@@ -1,0 +1,81 @@
+#!/usr/bin/env bash
+# What stands over the static library: the header as C99 and as C++, a C program that lists the stored texts, all functions on the stored
+# texts and on mutants of them under the address and undefined-behaviour sanitizers, and the Rust crate with its tests, and its example on
+# the stored texts. A step whose compiler is not on the machine is left out, and says so.
+#
+# usage: tools/check_c_and_rust.sh [MUTANTS]
+set -eu
+cd "$(dirname "$0")/.."
+mutants=${1:-1000}
+room=$(mktemp -d)
+trap 'rm -rf "$room"' EXIT
+texts=crates/wat_tokens/agreement
+c=${CC:-cc}
+cpp=${CXX:-c++}
+
+say() {
+    echo "check_c_and_rust.sh: $*"
+}
+
+has() {
+    command -v "$1" > /dev/null
+}
+
+# compare NAME PROGRAM: the program lists each stored text that needs no words as it is stored
+compare() {
+    local lists=0 text
+    for text in "$texts"/*; do
+        case $text in
+            *.stdout | *.args) continue ;;
+        esac
+        [ -e "$text.args" ] && continue
+        "$2" < "$text" > "$room/output" 2> "$room/errors" || true
+        cmp "$text.stdout" "$room/output"
+        lists=$((lists + 1))
+    done
+    say "$1 lists $lists stored texts as they are stored"
+}
+
+# sanitizes: whether a program can be built and run under the sanitizers
+sanitizes() {
+    printf 'int main(void) { return 0; }\n' > "$room/empty.c"
+    "$c" -fsanitize=address,undefined -o "$room/empty" "$room/empty.c" 2> /dev/null && "$room/empty" 2> /dev/null
+}
+
+if ! has "$c"; then
+    say "all is left out, as no C compiler $c is here"
+    exit 0
+fi
+folder=$(tools/build_c.sh)
+cp "$folder/libwat_c.a" "$folder/liblibc_c.a" "$room/"
+archives=("$room/libwat_c.a" "$room/liblibc_c.a")
+strict=(-Wall -Wextra -Werror -pedantic -Iinclude)
+
+printf '#include "wat.h"\n' > "$room/alone.c"
+"$c" -std=c99 "${strict[@]}" -c -o "$room/alone.o" "$room/alone.c"
+"$c" -std=c99 -O2 "${strict[@]}" -o "$room/list" tools/c/list.c "${archives[@]}"
+compare tools/c/list.c "$room/list"
+
+if sanitizes; then
+    "$c" -std=c99 -g -O1 -fsanitize=address,undefined -fno-sanitize-recover=all "${strict[@]}" -o "$room/readers" tools/c/readers.c "${archives[@]}"
+    find "$texts" -type f ! -name '*.stdout' ! -name '*.args' -print0 | sort -z | xargs -0 "$room/readers" "$mutants"
+else
+    say "the functions on mutants are left out, as $c has no sanitizers here"
+fi
+
+if has "$cpp"; then
+    printf '#include "wat.h"\nint main() { return wat_is_text(reinterpret_cast<const uint8_t *>("("), 1) ? 0 : 1; }\n' > "$room/alone.cc"
+    "$cpp" -std=c++11 "${strict[@]}" -o "$room/alone" "$room/alone.cc" "${archives[@]}"
+    "$room/alone"
+    say 'the header is C99 and C++11'
+else
+    say "the header as C++ is left out, as no C++ compiler $cpp is here"
+fi
+
+if has cargo && has rustc; then
+    export CARGO_TARGET_DIR="$room/target" WAT_C_FOLDER="$room"
+    (cd rust/wat-lex && cargo test --offline --release --quiet && cargo build --offline --release --quiet --example list)
+    compare 'the Rust crate' "$room/target/release/examples/list"
+else
+    say 'the Rust crate is left out, as no cargo or no rustc is here'
+fi
