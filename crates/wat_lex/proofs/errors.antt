@@ -4,3 +4,5 @@ pub mod Rendering
 pub mod ShownLines
 pub mod ShownBytes
 pub mod Widths
+pub mod Laying
+pub mod Digits

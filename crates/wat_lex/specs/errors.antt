@@ -5,3 +5,5 @@ pub mod Rendering
 pub mod Errors
 pub mod ErrorView
 pub mod ShownView
+pub mod PieceTexts
+pub mod LaidPieces

@@ -15,6 +15,7 @@ use std::alloc::{AllocError, AllocFailed, Global};
 use std::marker::Model;
 use std::{fmt, mem};
 
+pub(crate) mod pieces;
 mod rendered;
 mod shown;
 #[cfg(test)]

@@ -2,7 +2,7 @@
 use Rattle.std.specs.Prelude.{◌≡◌, ℕ, List, Option, Some, None, IsSome, codes, ◌++◌}
 use Rattle.std.specs.Fmt.{decimal}
 use Rattle.wat_lex.specs.errors.Messages.{message}
-use Rattle.wat_lex.specs.errors.Rendering.{Excerpt, excerpt, shown_place}
+use Rattle.wat_lex.specs.errors.Rendering.{Excerpt, excerpt, shown_place, rendered}
 use Rattle.wat_lex.specs.declared.lexer.faults.LexError.{LexError}
 use Rattle.wat_lex.specs.declared.lexer.faults.LexFault.{LexFault}
 
@@ -24,6 +24,10 @@ report_in text offset cause = record { offset = offset; cause = cause; excerpt =
 -- the report of a lexical fault of a text
 abbrev pub lexical : List ℕ → LexFault → Report
 lexical text f = report_in text f.offset (Lexical f.error)
+
+-- what the error of a fault of a text prints
+abbrev pub rendered_fault : List ℕ × LexFault → List ℕ
+rendered_fault (text, f) = rendered text (message f.error) f.offset
 
 -- something of a text is kept, or the error is the out-of-memory one, which keeps none
 abbrev pub HasText : Option Report → Type 0

@@ -1,5 +1,5 @@
 -- How an error shows the line of a text that it is about. No part of the standard.
-use Rattle.std.specs.Prelude.{ℕ, Bool, false, ◌==◌, ◌&&◌, nat_le, nat_lt, ◌+◌, ◌-◌, List, [], ◌∷◌, ◌++◌, codes, length, take, replicate, flat_map, slice_get, slice_index, unwrap_or, encode_utf8_all, if◌then◌else◌}
+use Rattle.std.specs.Prelude.{ℕ, Bool, false, ◌==◌, ◌&&◌, nat_le, nat_lt, ◌+◌, ◌-◌, List, [], ◌∷◌, ◌++◌, codes, length, take, drop, replicate, flat_map, slice_get, slice_index, unwrap_or, encode_utf8_all, if◌then◌else◌}
 use Rattle.std.specs.Fmt.{decimal, is_char_start}
 use Rattle.std.specs.Str.{chars}
 use Rattle.std.specs.Str.Lines.{lines}
@@ -55,3 +55,7 @@ shown_place e =
 -- the message of an error about a byte of a text, its place, and the line with a marker
 abbrev pub rendered : List ℕ → List ℕ → ℕ → List ℕ
 rendered text message offset = message ++ shown_place (excerpt text offset)
+
+-- a text over the bytes that were there, as much of it as there is room for
+abbrev pub laid_over : List ℕ → List ℕ → List ℕ
+laid_over text before = take (length before) text ++ drop (length text) before

@@ -1,6 +1,9 @@
 //! A fault in its text.
-ghost use Rattle.std.specs.Prelude.{◌≡◌};
+ghost use Rattle.std.specs.Prelude.{◌≡◌, length, min};
+ghost use Rattle.wat_lex.specs.errors.Errors.{rendered_fault};
+ghost use Rattle.wat_lex.specs.errors.Rendering.{excerpt, laid_over};
 
+use crate::error::pieces::lay_all;
 use crate::error::text::Excerpt;
 use crate::lexer::LexFault;
 use crate::token::Span;
@@ -30,17 +33,31 @@ impl<'a> Rendered<'a> {
     {
         Rendered { text, fault }
     }
+
+    /// Writes what it prints into bytes, as much of it as there is room for, and answers how many
+    /// bytes that is. Where that is less than the room it is all.
+    pub fn write_to(&self, out: &mut [u8]) -> usize
+        ensures bytes { out.new ≡ laid_over (rendered_fault self.now) out.old }
+        ensures count { result ≡ min (length (rendered_fault self.now)) (length out.old) }
+    {
+        let at = lay_all(&self.fault.error.pieces(), out, 0);
+        lay_all(&self.excerpt().pieces(), out, at)
+    }
+
+    fn excerpt(&self) -> Excerpt<'a>
+        ensures { result ≡ excerpt self.now.0 self.now.1.offset }
+    {
+        Excerpt::new(self.text, Span::from_offset(self.fault.offset))
+    }
 }
 
 impl fmt::Display for Rendered<'_> {
     ghost use Rattle.std.specs.Prelude.{Some};
-    ghost use Rattle.wat_lex.specs.errors.Messages.{message};
-    ghost use Rattle.wat_lex.specs.errors.Rendering.{rendered};
+    ghost use Rattle.wat_lex.specs.errors.Errors.{rendered_fault};
 
-    ghost output = { λ r. Some (rendered r.0 (message r.1.error) r.1.offset) };
+    ghost output = { λ r. Some (rendered_fault r) };
 
     fn fmt<W: fmt::Write>(&self, f: &mut fmt::Formatter<W>) -> fmt::Result {
-        let excerpt = Excerpt::new(self.text, Span::from_offset(self.fault.offset));
-        write!(f, "{}{excerpt}", self.fault.error)
+        write!(f, "{}{}", self.fault.error, self.excerpt())
     }
 }

@@ -18,7 +18,7 @@ pub struct Line<'a>(pub &'a str);
 
 /// The characters that are shown of a line. They come from either end.
 #[derive(Drop)]
-struct Shown<'a> {
+pub struct Shown<'a> {
     /// The spaces that are still to come of a TAB before the characters.
     front: usize,
     chars: Chars<'a>,
@@ -36,7 +36,7 @@ impl<'a> Model for Shown<'a> {
 }
 
 impl<'a> Shown<'a> {
-    fn of(line: &'a str) -> Shown<'a>
+    pub fn of(line: &'a str) -> Shown<'a>
         ensures { encode_utf8_all result ≡ shown_line line.now }
     {
         Shown {

@@ -255,10 +255,49 @@ fn faults_print_without_memory(rt: HostRuntime) -> Result<(), Fail> {
             offset: *offset,
             error,
         };
-        let rendered = Rendered::new(text, fault).to_string(rt.alloc())?;
-        assert_eq!(rt; rendered.as_str(), *want);
+        let rendered = Rendered::new(text, fault);
+        assert_eq!(rt; rendered.to_string(rt.alloc())?.as_str(), *want);
+        let mut bytes = [7; 128];
+        let count = rendered.write_to(&mut bytes);
+        assert_eq!(rt; &bytes[..count], want.as_bytes());
+        assert!(rt; bytes[count..].iter().all(|b| *b == 7));
+        let mut few = [7; 30];
+        assert_eq!(rt; rendered.write_to(&mut few), 30);
+        assert_eq!(rt; few.as_slice(), &want.as_bytes()[..30]);
         let error = known(Error::lex(rt.alloc(), Span::from_offset(*offset), text, error))?;
         assert_eq!(rt; error.to_string(rt.alloc())?.as_str(), *want);
+    }
+    Ok(())
+}
+
+#[test]
+fn messages_are_written_without_memory(rt: HostRuntime) -> Result<(), Fail> {
+    let errors = [
+        LexError::Unexpected('é'),
+        LexError::InvalidStringElement('\n'),
+        LexError::InvalidHexDigit('\\'),
+        LexError::Expected {
+            wanted: '{',
+            found: '\u{10ffff}',
+        },
+        LexError::InvalidUnicodeValue(0x11_ABCD),
+        LexError::ConfusingUnicode('\u{202e}'),
+        LexError::EmptyId,
+    ];
+    let mut text = String::new(rt.alloc());
+    for _ in 0..1233 {
+        text.push('\n')?;
+    }
+    for error in errors {
+        let fault = LexFault {
+            offset: 1233,
+            error,
+        };
+        let rendered = Rendered::new(text.as_str(), fault);
+        let mut bytes = [7; 128];
+        let count = rendered.write_to(&mut bytes);
+        let want = rendered.to_string(rt.alloc())?;
+        assert_eq!(rt; &bytes[..count], want.as_bytes());
     }
     Ok(())
 }

@@ -1,8 +1,10 @@
 //! The line of a text that an error is about.
-ghost use Rattle.std.specs.Prelude.{◌≡◌, IfOk};
+ghost use Rattle.std.specs.Prelude.{◌≡◌, IfOk, flat_map};
 ghost use Rattle.wat_lex.specs.errors.ErrorView.{excerpt_of};
-ghost use Rattle.wat_lex.specs.errors.Rendering.{excerpt};
+ghost use Rattle.wat_lex.specs.errors.PieceTexts.{piece_text};
+ghost use Rattle.wat_lex.specs.errors.Rendering.{excerpt, shown_place};
 
+use crate::error::pieces::{Piece, print};
 use crate::error::shown::{Line, columns};
 use crate::token::Span;
 use std::alloc::{AllocError, Global};
@@ -69,6 +71,34 @@ impl Text {
     }
 }
 
+impl<'a> Excerpt<'a> {
+    /// The place, and the line with a marker under the column, in pieces.
+    pub fn pieces(&self) -> [Piece<'a>; 10]
+        ensures { flat_map piece_text result ≡ shown_place self.now }
+    {
+        let line = Piece::Decimal(self.line);
+        let column = Piece::Decimal(self.column);
+        let colon = Piece::Text(":");
+        if self.column > LAST_MARKED {
+            let none = Piece::Text("");
+            let at = Piece::Text(" at <anon>:");
+            return [at, line, colon, column, none, none, none, none, none, none];
+        }
+        [
+            Piece::Text("\n     --> <anon>:"),
+            line,
+            colon,
+            column,
+            Piece::Text("\n      |\n "),
+            Piece::LineNumber(self.line),
+            Piece::Text(" | "),
+            Piece::Line(self.source),
+            Piece::Text("\n      | "),
+            Piece::Marker(self.column),
+        ]
+    }
+}
+
 impl fmt::Display for Excerpt<'_> {
     ghost use Rattle.std.specs.Prelude.{Some};
     ghost use Rattle.wat_lex.specs.errors.Rendering.{shown_place};
@@ -76,16 +106,7 @@ impl fmt::Display for Excerpt<'_> {
     ghost output = { λ e. Some (shown_place e) };
 
     fn fmt<W: fmt::Write>(&self, f: &mut fmt::Formatter<W>) -> fmt::Result {
-        let line = self.line;
-        let column = self.column;
-        if column > LAST_MARKED {
-            return write!(f, " at <anon>:{line}:{column}");
-        }
-        let snippet = self.source;
-        let marker = "^";
-        write!(f, "\n     --> <anon>:{line}:{column}\n      |")?;
-        write!(f, "\n {line:4} | {snippet}")?;
-        write!(f, "\n      | {marker:>column$}")
+        print(&self.pieces(), f)
     }
 }
 

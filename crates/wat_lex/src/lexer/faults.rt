@@ -1,5 +1,10 @@
 //! Faults of a text.
+ghost use Rattle.std.specs.Prelude.{◌≡◌, ◌++◌, flat_map, codes};
+ghost use Rattle.wat_lex.specs.errors.Messages.{lower_hex, message, shown_char};
+ghost use Rattle.wat_lex.specs.errors.PieceTexts.{piece_text};
+ghost use Rattle.wat_lex.specs.declared.lexer.faults.LexError.TheVariants.{Expected};
 
+use crate::error::pieces::{Piece, print};
 use std::fmt;
 
 /// What is wrong with a text.
@@ -52,46 +57,102 @@ pub struct LexFault {
     pub error: LexError,
 }
 
-/// A character as a message shows it.
-#[derive(Clone, Copy)]
-struct ShownChar(char);
-
-impl fmt::Display for ShownChar {
-    ghost use Rattle.std.specs.Prelude.{Some};
-    ghost use Rattle.wat_lex.specs.errors.Messages.{shown_char};
-
-    ghost output = { λ c. Some (shown_char c.0) };
-
-    fn fmt<W: fmt::Write>(&self, f: &mut fmt::Formatter<W>) -> fmt::Result {
-        let c = self.0;
-        match c {
-            '\t' => write!(f, "\\t"),
-            '\r' => write!(f, "\\r"),
-            '\n' => write!(f, "\\n"),
-            '\\' => write!(f, "\\\\"),
-            '\'' => write!(f, "\\'"),
-            '\x20'..='\x7e' => write!(f, "{c}"),
-            _ => {
-                let code = u32::from(c);
-                write!(f, "\\u{{{code:x}}}")
-            }
+impl LexError {
+    /// The message, in pieces.
+    pub(crate) fn pieces(&self) -> [Piece<'static>; 9]
+        ensures { flat_map piece_text result ≡ message self.now }
+    {
+        match *self {
+            LexError::DanglingBlockComment => plain("unterminated block comment"),
+            LexError::Unexpected(c) => about("unexpected character '", c),
+            LexError::InvalidStringElement(c) => about("invalid character in string '", c),
+            LexError::InvalidStringEscape(c) => about("invalid string escape '", c),
+            LexError::InvalidHexDigit(c) => about("invalid hex digit '", c),
+            LexError::InvalidDigit(c) => about("invalid decimal digit '", c),
+            LexError::Expected { wanted, found } => other(wanted, found),
+            LexError::UnexpectedEof => plain("unexpected end-of-file"),
+            LexError::NumberTooBig => plain("number is too big to parse"),
+            LexError::InvalidUnicodeValue(n) => number("invalid unicode scalar value 0x", n, ""),
+            LexError::LoneUnderscore => plain("bare underscore in numeric literal"),
+            LexError::ConfusingUnicode(c) => number(
+                "likely-confusing unicode character found '\\u{",
+                u32::from(c),
+                "}'",
+            ),
+            LexError::InvalidUtf8Id => plain("malformed UTF-8 encoding of string-based id"),
+            LexError::EmptyId => plain("empty identifier"),
+            LexError::EmptyAnnotation => plain("empty annotation id"),
         }
     }
 }
 
-/// A character as a message shows it, in quotes.
-#[derive(Clone, Copy)]
-struct QuotedChar(char);
+/// A message that is always the same.
+fn plain(text: &'static str) -> [Piece<'static>; 9]
+    ensures { flat_map piece_text result ≡ text.now }
+{
+    let none = Piece::Text("");
+    let text = Piece::Text(text);
+    [text, none, none, none, none, none, none, none, none]
+}
 
-impl fmt::Display for QuotedChar {
-    ghost use Rattle.std.specs.Prelude.{Some};
-    ghost use Rattle.wat_lex.specs.errors.Messages.{quoted_char};
+/// A message about a character, up to its quote.
+fn about(text: &'static str, c: char) -> [Piece<'static>; 9]
+    ensures { flat_map piece_text result ≡ text.now ++ (shown_char c ++ codes "'") }
+{
+    let none = Piece::Text("");
+    let (a, b, c) = shown_char(c);
+    let end = Piece::Text("'");
+    [Piece::Text(text), a, b, c, end, none, none, none, none]
+}
 
-    ghost output = { λ c. Some (quoted_char c.0) };
+/// The message about another character than the one that is needed.
+fn other(wanted: char, found: char) -> [Piece<'static>; 9]
+    ensures { flat_map piece_text result ≡ message (Expected wanted found) }
+{
+    let (a, b, c) = shown_char(wanted);
+    let (d, e, f) = shown_char(found);
+    let first = Piece::Text("expected '");
+    let between = Piece::Text("' but found '");
+    let end = Piece::Text("'");
+    [first, a, b, c, between, d, e, f, end]
+}
 
-    fn fmt<W: fmt::Write>(&self, f: &mut fmt::Formatter<W>) -> fmt::Result {
-        let shown = ShownChar(self.0);
-        write!(f, "'{shown}'")
+/// A message about a number.
+fn number(text: &'static str, number: u32, end: &'static str) -> [Piece<'static>; 9]
+    ensures { flat_map piece_text result ≡ text.now ++ (lower_hex number ++ end.now) }
+{
+    let none = Piece::Text("");
+    let number = Piece::Hexadecimal(number);
+    let end = Piece::Text(end);
+    [
+        Piece::Text(text),
+        number,
+        end,
+        none,
+        none,
+        none,
+        none,
+        none,
+        none,
+    ]
+}
+
+/// A character as a message shows it.
+fn shown_char(c: char) -> (Piece<'static>, Piece<'static>, Piece<'static>)
+    ensures { piece_text result.0 ++ (piece_text result.1 ++ piece_text result.2) ≡ shown_char c }
+{
+    let none = Piece::Text("");
+    match c {
+        '\t' => (Piece::Text("\\t"), none, none),
+        '\r' => (Piece::Text("\\r"), none, none),
+        '\n' => (Piece::Text("\\n"), none, none),
+        '\\' => (Piece::Text("\\\\"), none, none),
+        '\'' => (Piece::Text("\\'"), none, none),
+        '\x20'..='\x7e' => (Piece::Character(c), none, none),
+        _ => {
+            let code = Piece::Hexadecimal(u32::from(c));
+            (Piece::Text("\\u{"), code, Piece::Text("}"))
+        }
     }
 }
 
@@ -102,37 +163,6 @@ impl fmt::Display for LexError {
     ghost output = { λ e. Some (message e) };
 
     fn fmt<W: fmt::Write>(&self, f: &mut fmt::Formatter<W>) -> fmt::Result {
-        match *self {
-            LexError::DanglingBlockComment => write!(f, "unterminated block comment"),
-            LexError::Unexpected(c) => write!(f, "unexpected character {}", QuotedChar(c)),
-            LexError::InvalidStringElement(c) => {
-                write!(f, "invalid character in string {}", QuotedChar(c))
-            }
-            LexError::InvalidStringEscape(c) => write!(
-                f,
-                "invalid string escape {}",
-                QuotedChar(c)
-            ),
-            LexError::InvalidHexDigit(c) => write!(f, "invalid hex digit {}", QuotedChar(c)),
-            LexError::InvalidDigit(c) => write!(f, "invalid decimal digit {}", QuotedChar(c)),
-            LexError::Expected { wanted, found } => {
-                write!(f, "expected {}", QuotedChar(wanted))?;
-                write!(f, " but found {}", QuotedChar(found))
-            }
-            LexError::UnexpectedEof => write!(f, "unexpected end-of-file"),
-            LexError::NumberTooBig => write!(f, "number is too big to parse"),
-            LexError::InvalidUnicodeValue(n) => write!(f, "invalid unicode scalar value 0x{n:x}"),
-            LexError::LoneUnderscore => write!(f, "bare underscore in numeric literal"),
-            LexError::ConfusingUnicode(c) => {
-                let code = u32::from(c);
-                write!(
-                    f,
-                    "likely-confusing unicode character found '\\u{{{code:x}}}'"
-                )
-            }
-            LexError::InvalidUtf8Id => write!(f, "malformed UTF-8 encoding of string-based id"),
-            LexError::EmptyId => write!(f, "empty identifier"),
-            LexError::EmptyAnnotation => write!(f, "empty annotation id"),
-        }
+        print(&self.pieces(), f)
     }
 }

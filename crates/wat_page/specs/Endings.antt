@@ -1,0 +1,43 @@
+-- What a page is told of an ending, in numbers. No part of the standard.
+use Rattle.std.specs.Prelude.{ℕ, ◌+◌, List, [], length, min}
+use Rattle.wat_lex.specs.errors.Messages.{message}
+use Rattle.wat_lex.specs.errors.Positions.{line_and_column}
+use Rattle.wat_lex.specs.errors.Rendering.{rendered}
+use Rattle.wat_lex.specs.declared.lexer.kinds.Token.{Token}
+use Rattle.wat_lex.specs.declared.lexer.kinds.TokenKind.{TokenKind}
+use Rattle.wat_lex.specs.declared.lexer.kinds.TokenKind.TheVariants.{LineComment, BlockComment, Whitespace, LParen, RParen, String, Id, Keyword, Annotation, Reserved, Integer, Float}
+use Rattle.wat_page.specs.declared.report.Ending.{Ending}
+use Rattle.wat_page.specs.declared.report.Ending.TheVariants.{Whole, Faulty, Full, NotUtf8, TooLong}
+use Rattle.wat_page.specs.declared.report.Report.{Report}
+use Rattle.wat_page.specs.declared.rows.Row.{Row}
+
+abbrev pub kind_number : TokenKind → ℕ
+kind_number LineComment = 0
+kind_number BlockComment = 1
+kind_number Whitespace = 2
+kind_number LParen = 3
+kind_number RParen = 4
+kind_number String = 5
+kind_number Id = 6
+kind_number Keyword = 7
+kind_number Annotation = 8
+kind_number Reserved = 9
+kind_number (Integer k) = 10
+kind_number (Float k) = 11
+
+abbrev pub row_of : Token → Row
+row_of t = record { end = t.offset + t.len; kind = kind_number t.kind }
+
+-- what is rendered of an ending
+abbrev pub told : List ℕ → Ending → List ℕ
+told text (Faulty f) = rendered text (message f.error) f.offset
+told text _ = []
+
+-- what a page is told of so many rows and their ending, where there is room for so many bytes of a message
+abbrev pub report_of : List ℕ → ℕ → ℕ → Ending → Report
+report_of text room n Whole = record { ending = 0; rows = n; offset = 0; line = 0; column = 0; message = 0 }
+report_of text room n (Faulty f) = let place = line_and_column text f.offset in
+    record { ending = 1; rows = n; offset = f.offset; line = place.0; column = place.1; message = min (length (told text (Faulty f))) room }
+report_of text room n Full = record { ending = 2; rows = n; offset = 0; line = 0; column = 0; message = 0 }
+report_of text room n (NotUtf8 at) = record { ending = 3; rows = n; offset = at; line = 0; column = 0; message = 0 }
+report_of text room n TooLong = record { ending = 4; rows = n; offset = 0; line = 0; column = 0; message = 0 }

@@ -1,0 +1,71 @@
+//! The rows of a text's raw tokens.
+ghost use Rattle.std.specs.Prelude.{◌≡◌, ◌<◌, ◌^◌, ◌+◌};
+ghost use Rattle.wat_page.specs.Endings.{kind_number, row_of};
+ghost use Rattle.wat_page.specs.Reports.{Filled};
+
+use crate::report::Ending;
+use wat_lex::lexer::{Lexer, Token, TokenKind};
+
+/// A raw token, as the page sees it. It begins where the row before it ends, and the first at 0.
+#[repr(C)]
+#[derive(Clone, Copy, Debug, PartialEq, Eq)]
+pub struct Row {
+    /// Where the token ends, in bytes from the text's start.
+    pub end: u32,
+    /// The place of its kind in [`TokenKind`], from 0.
+    pub kind: u32,
+}
+
+fn kind_number(kind: TokenKind) -> u32
+    ensures { result ≡ kind_number kind }
+{
+    match kind {
+        TokenKind::LineComment => 0,
+        TokenKind::BlockComment => 1,
+        TokenKind::Whitespace => 2,
+        TokenKind::LParen => 3,
+        TokenKind::RParen => 4,
+        TokenKind::String => 5,
+        TokenKind::Id => 6,
+        TokenKind::Keyword => 7,
+        TokenKind::Annotation => 8,
+        TokenKind::Reserved => 9,
+        TokenKind::Integer(_) => 10,
+        TokenKind::Float(_) => 11,
+    }
+}
+
+fn row_of(token: Token) -> Row
+    requires { token.offset + token.len < 2 ^ 32 }
+    ensures { result ≡ row_of token }
+{
+    Row {
+        end: token.offset as u32 + token.len,
+        kind: kind_number(token.kind),
+    }
+}
+
+/// Writes a row for each raw token up to the text's end, its first fault or the last row,
+/// and answers how many, and how they end.
+pub fn fill(lexer: &Lexer, rows: &mut [Row]) -> (usize, Ending)
+    ensures { Filled lexer.now rows.old rows.new result.0 result.1 }
+{
+    // The proof takes from here that the text is UTF-8.
+    let _ = lexer.input();
+    let mut count = 0;
+    let mut pos = 0;
+    'tokens: loop {
+        match lexer.scan(pos) {
+            Ok(Some(token)) => {
+                if count == rows.len() {
+                    return (count, Ending::Full);
+                }
+                rows[count] = row_of(token);
+                count += 1;
+                pos = token.offset + token.len as usize;
+            }
+            Ok(None) => return (count, Ending::Whole),
+            Err(fault) => return (count, Ending::Faulty(fault)),
+        }
+    }
+}
