@@ -133,7 +133,10 @@ impl Error {
 
     /// What is wrong, as a text without its place.
     pub fn message(&self) -> &str {
-        let end = self.shown.find("\n     --> ").or_else(|| self.shown.rfind(" at <anon>:"));
+        let end = self
+            .shown
+            .find("\n     --> ")
+            .or_else(|| self.shown.rfind(" at <anon>:"));
         &self.shown[..end.unwrap_or(self.shown.len())]
     }
 }
