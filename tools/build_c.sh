@@ -5,6 +5,9 @@
 # usage: tools/build_c.sh
 set -eu
 cd "$(dirname "$0")/.."
-(cd crates/wat_c && rt lib > /dev/null)
+if ! said=$(cd crates/wat_c && rt lib); then
+    echo "$said" >&2
+    exit 1
+fi
 cp "$(dirname "$(rt doc)")/c/liblibc_c.a" crates/wat_c/out/
 echo crates/wat_c/out

@@ -12,7 +12,10 @@ fn main() {
         let path = folder.join(archive);
         println!("cargo::rerun-if-changed={}", path.display());
         if !path.is_file() {
-            eprintln!("wat-lex: no {}: make it by tools/build_c.sh, or name its folder in WAT_C_FOLDER", path.display());
+            eprintln!(
+                "wat-lex: no {}: make it by tools/build_c.sh, or name its folder in WAT_C_FOLDER",
+                path.display()
+            );
             process::exit(1);
         }
     }
@@ -23,6 +26,8 @@ fn main() {
 
 /// Where `tools/build_c.sh` puts the archives.
 fn default_folder() -> PathBuf {
-    let package = env::var_os("CARGO_MANIFEST_DIR").map(PathBuf::from).unwrap_or_default();
+    let package = env::var_os("CARGO_MANIFEST_DIR")
+        .map(PathBuf::from)
+        .unwrap_or_default();
     package.join("../../crates/wat_c/out")
 }

@@ -107,6 +107,8 @@ impl<'a> Lexer<'a> {
     }
 
     /// The token at a byte of the text, None at its end, or the fault there.
+    // What it answers is large, and need not be built in memory where it is looked at at once.
+    #[inline(always)]
     pub fn scan(&self, pos: usize) -> Result<Option<Token>, LexFault>
         requires { IsCharBoundary self.now.text pos }
         ensures token { IfOk result (λ found. IfSome found (TokenAt self.now pos)) }

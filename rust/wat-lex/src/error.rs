@@ -109,7 +109,11 @@ fn character(code: u32) -> char {
 
 /// What is wrong with a text, and where. It prints its message and place, and the line with a marker under the column.
 #[derive(Clone, Debug, PartialEq, Eq)]
-pub struct Error {
+pub struct Error(Box<Located>);
+
+// An error stands beside the token in what `parse` and `iter` give, so it is one word.
+#[derive(Clone, Debug, PartialEq, Eq)]
+struct Located {
     span: Span,
     error: LexError,
     shown: String,
@@ -118,29 +122,32 @@ pub struct Error {
 impl Error {
     pub(crate) fn new(span: Span, error: LexError, shown: Vec<u8>) -> Error {
         let shown = String::from_utf8(shown).expect("what a fault prints is UTF-8");
-        Error { span, error, shown }
+        Error(Box::new(Located { span, error, shown }))
     }
 
     /// Where the error is.
     pub fn span(&self) -> Span {
-        self.span
+        self.0.span
     }
 
     /// What is wrong.
     pub fn lex_error(&self) -> &LexError {
-        &self.error
+        &self.0.error
     }
 
     /// What is wrong, as a text without its place.
     pub fn message(&self) -> &str {
-        let end = self.shown.find("\n     --> ").or_else(|| self.shown.rfind(" at <anon>:"));
-        &self.shown[..end.unwrap_or(self.shown.len())]
+        let shown = &self.0.shown;
+        let end = shown
+            .find("\n     --> ")
+            .or_else(|| shown.rfind(" at <anon>:"));
+        &shown[..end.unwrap_or(shown.len())]
     }
 }
 
 impl fmt::Display for Error {
     fn fmt(&self, f: &mut fmt::Formatter<'_>) -> fmt::Result {
-        f.write_str(&self.shown)
+        f.write_str(&self.0.shown)
     }
 }
 

@@ -99,8 +99,14 @@ impl<'a> Lexer<'a> {
     #[cold]
     fn error(&self, place: Place<'a>) -> Error {
         let found = place.scan(self.settings);
-        let shown = place.fault(self.settings).expect("a fault stands at the place");
-        Error::new(Span::from_offset(found.token.offset), LexError::of_text(found), shown)
+        let shown = place
+            .fault(self.settings)
+            .expect("a fault stands at the place");
+        Error::new(
+            Span::from_offset(found.token.offset),
+            LexError::of_text(found),
+            shown,
+        )
     }
 }
 
@@ -124,7 +130,11 @@ impl Tokens<'_, '_> {
         self.next = 0;
         if self.why == FULL {
             self.rows.resize(ROWS, Row::default());
-            let filled = self.lexer.text.place(self.at).fill(self.lexer.settings, &mut self.rows);
+            let filled = self
+                .lexer
+                .text
+                .place(self.at)
+                .fill(self.lexer.settings, &mut self.rows);
             self.rows.truncate(filled.count);
             (self.at, self.why) = (filled.at, filled.why);
             if !self.rows.is_empty() {

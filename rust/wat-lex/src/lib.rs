@@ -24,8 +24,8 @@
 #![warn(missing_docs)]
 
 mod error;
-mod library;
 mod lexer;
+mod library;
 mod number;
 mod token;
 

@@ -89,13 +89,70 @@ type Reader = unsafe extern "C" fn(*const u8, usize, usize, bool, bool, *mut u8,
 
 unsafe extern "C" {
     fn wat_scan(text: *const u8, len: usize, pos: usize, allow: bool, strict: bool) -> Found;
-    fn wat_fill(text: *const u8, len: usize, pos: usize, allow: bool, strict: bool, out: *mut Row, room: usize) -> Filled;
-    fn wat_fault(text: *const u8, len: usize, pos: usize, allow: bool, strict: bool, out: *mut u8, room: usize) -> Answer;
-    fn wat_string(text: *const u8, len: usize, pos: usize, allow: bool, strict: bool, out: *mut u8, room: usize) -> Answer;
-    fn wat_name(text: *const u8, len: usize, pos: usize, allow: bool, strict: bool, out: *mut u8, room: usize) -> Answer;
-    fn wat_name_fault(text: *const u8, len: usize, pos: usize, allow: bool, strict: bool, out: *mut u8, room: usize) -> Answer;
-    fn wat_integer(text: *const u8, len: usize, pos: usize, allow: bool, strict: bool, out: *mut u8, room: usize) -> Answer;
-    fn wat_float(text: *const u8, len: usize, pos: usize, allow: bool, strict: bool, part: u32, out: *mut u8, room: usize) -> Answer;
+    fn wat_fill(
+        text: *const u8,
+        len: usize,
+        pos: usize,
+        allow: bool,
+        strict: bool,
+        out: *mut Row,
+        room: usize,
+    ) -> Filled;
+    fn wat_fault(
+        text: *const u8,
+        len: usize,
+        pos: usize,
+        allow: bool,
+        strict: bool,
+        out: *mut u8,
+        room: usize,
+    ) -> Answer;
+    fn wat_string(
+        text: *const u8,
+        len: usize,
+        pos: usize,
+        allow: bool,
+        strict: bool,
+        out: *mut u8,
+        room: usize,
+    ) -> Answer;
+    fn wat_name(
+        text: *const u8,
+        len: usize,
+        pos: usize,
+        allow: bool,
+        strict: bool,
+        out: *mut u8,
+        room: usize,
+    ) -> Answer;
+    fn wat_name_fault(
+        text: *const u8,
+        len: usize,
+        pos: usize,
+        allow: bool,
+        strict: bool,
+        out: *mut u8,
+        room: usize,
+    ) -> Answer;
+    fn wat_integer(
+        text: *const u8,
+        len: usize,
+        pos: usize,
+        allow: bool,
+        strict: bool,
+        out: *mut u8,
+        room: usize,
+    ) -> Answer;
+    fn wat_float(
+        text: *const u8,
+        len: usize,
+        pos: usize,
+        allow: bool,
+        strict: bool,
+        part: u32,
+        out: *mut u8,
+        room: usize,
+    ) -> Answer;
     fn wat_line_column(text: *const u8, len: usize, offset: usize) -> Position;
 }
 
@@ -107,7 +164,10 @@ pub struct Text<'a>(&'a str);
 impl<'a> Text<'a> {
     /// Panics where the text is longer.
     pub fn new(text: &'a str) -> Text<'a> {
-        assert!(u32::try_from(text.len()).is_ok(), "a text of more than u32::MAX bytes");
+        assert!(
+            u32::try_from(text.len()).is_ok(),
+            "a text of more than u32::MAX bytes"
+        );
         Text(text)
     }
 
@@ -117,7 +177,10 @@ impl<'a> Text<'a> {
 
     /// A place of the text. Panics where it is none.
     pub fn place(self, pos: usize) -> Place<'a> {
-        assert!(self.0.is_char_boundary(pos), "{pos} is no place of the text");
+        assert!(
+            self.0.is_char_boundary(pos),
+            "{pos} is no place of the text"
+        );
         Place { text: self, pos }
     }
 }
@@ -145,7 +208,15 @@ impl<'a> Place<'a> {
     pub fn scan(self, settings: Settings) -> Found {
         let text = self.text.0;
         // SAFETY: the text is UTF-8, as each `&str`; `Text::new` tested its length, and `Text::place` the place.
-        unsafe { wat_scan(text.as_ptr(), text.len(), self.pos, settings.allow, settings.strict) }
+        unsafe {
+            wat_scan(
+                text.as_ptr(),
+                text.len(),
+                self.pos,
+                settings.allow,
+                settings.strict,
+            )
+        }
     }
 
     /// Fills the rows with the tokens from there on.
@@ -153,7 +224,17 @@ impl<'a> Place<'a> {
         let text = self.text.0;
         let (out, room) = (rows.as_mut_ptr(), rows.len());
         // SAFETY: as for `scan`; and the rows are behind a `&mut`, so they have values and are no part of the text.
-        unsafe { wat_fill(text.as_ptr(), text.len(), self.pos, settings.allow, settings.strict, out, room) }
+        unsafe {
+            wat_fill(
+                text.as_ptr(),
+                text.len(),
+                self.pos,
+                settings.allow,
+                settings.strict,
+                out,
+                room,
+            )
+        }
     }
 
     /// What the fault there prints.
@@ -193,7 +274,19 @@ impl<'a> Place<'a> {
         let Settings { allow, strict } = Settings::LENIENT;
         let (out, room) = (buffer.as_mut_ptr(), buffer.len());
         // SAFETY: as for `answer`; each number is allowed for the part.
-        unsafe { wat_float(text.as_ptr(), text.len(), self.pos, allow, strict, part as u32, out, room) }.needed()
+        unsafe {
+            wat_float(
+                text.as_ptr(),
+                text.len(),
+                self.pos,
+                allow,
+                strict,
+                part as u32,
+                out,
+                room,
+            )
+        }
+        .needed()
     }
 
     /// The bytes that the reader finds: the plain ones where it finds as many, since all that makes them others, an
@@ -212,13 +305,29 @@ impl<'a> Place<'a> {
     }
 
     /// How many bytes the reader finds. They are in the buffer where it has room for them.
-    fn answer(self, reader: Reader, settings: Settings, buffer: &mut [u8]) -> Result<usize, Refusal> {
+    fn answer(
+        self,
+        reader: Reader,
+        settings: Settings,
+        buffer: &mut [u8],
+    ) -> Result<usize, Refusal> {
         let text = self.text.0;
         let Settings { allow, strict } = settings;
         let (out, room) = (buffer.as_mut_ptr(), buffer.len());
         // SAFETY: the text is UTF-8, as each `&str`; `Text::new` tested its length, and `Text::place` the place; the buffer is
         // behind a `&mut`, so it has values and is no part of the text.
-        unsafe { reader(text.as_ptr(), text.len(), self.pos, allow, strict, out, room) }.needed()
+        unsafe {
+            reader(
+                text.as_ptr(),
+                text.len(),
+                self.pos,
+                allow,
+                strict,
+                out,
+                room,
+            )
+        }
+        .needed()
     }
 }
 

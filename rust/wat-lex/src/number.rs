@@ -59,7 +59,10 @@ impl<'a> Float<'a> {
     pub(crate) fn at(place: Place<'a>, kind: FloatKind) -> Float<'a> {
         match kind {
             FloatKind::Inf { negative } => Float::Inf { negative },
-            FloatKind::Nan { negative } => Float::Nan { val: None, negative },
+            FloatKind::Nan { negative } => Float::Nan {
+                val: None,
+                negative,
+            },
             FloatKind::NanVal { negative, .. } => Float::Nan {
                 val: Some(whole(place, Part::Payload)),
                 negative,

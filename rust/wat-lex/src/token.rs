@@ -152,7 +152,9 @@ impl Token {
     pub fn string<'a>(&self, s: &'a str) -> Cow<'a, [u8]> {
         let src = self.src(s);
         let plain = src.get(1..src.len() - 1).unwrap_or("");
-        self.place(s).string(plain.as_bytes()).unwrap_or_else(|_| no_token("string"))
+        self.place(s)
+            .string(plain.as_bytes())
+            .unwrap_or_else(|_| no_token("string"))
     }
 
     /// The name of an identifier, borrowed where no escape stands in it.
@@ -185,7 +187,10 @@ impl Token {
 
     fn name<'a>(&self, s: &'a str) -> Result<Cow<'a, str>, Error> {
         let behind = &self.src(s)[1..];
-        let plain = behind.strip_prefix('"').and_then(|name| name.strip_suffix('"')).unwrap_or(behind);
+        let plain = behind
+            .strip_prefix('"')
+            .and_then(|name| name.strip_suffix('"'))
+            .unwrap_or(behind);
         match self.place(s).name(plain.as_bytes()) {
             Ok(name) => Ok(text_of(name)),
             Err(Refusal::Wrong(fault)) => Err(self.name_error(s, fault)),
@@ -194,8 +199,15 @@ impl Token {
     }
 
     fn name_error(&self, s: &str, fault: u32) -> Error {
-        let shown = self.place(s).name_fault().unwrap_or_else(|_| no_token("wrong name"));
-        Error::new(Span::from_offset(self.offset), LexError::of_name(fault), shown)
+        let shown = self
+            .place(s)
+            .name_fault()
+            .unwrap_or_else(|_| no_token("wrong name"));
+        Error::new(
+            Span::from_offset(self.offset),
+            LexError::of_name(fault),
+            shown,
+        )
     }
 
     /// What an integer token reads as.
@@ -206,7 +218,10 @@ impl Token {
     pub fn integer<'a>(&self, s: &'a str, kind: IntegerKind) -> Integer<'a> {
         let src = self.src(s);
         let plain = src.strip_prefix('+').unwrap_or(src);
-        let digits = self.place(s).integer(plain.as_bytes()).unwrap_or_else(|_| no_token("integer"));
+        let digits = self
+            .place(s)
+            .integer(plain.as_bytes())
+            .unwrap_or_else(|_| no_token("integer"));
         Integer::new(kind.sign, text_of(digits), kind.hex)
     }
 
@@ -229,7 +244,9 @@ impl Token {
 pub(crate) fn text_of(bytes: Cow<'_, [u8]>) -> Cow<'_, str> {
     match bytes {
         Cow::Borrowed(bytes) => str::from_utf8(bytes).map(Cow::Borrowed),
-        Cow::Owned(bytes) => String::from_utf8(bytes).map(Cow::Owned).map_err(|e| e.utf8_error()),
+        Cow::Owned(bytes) => String::from_utf8(bytes)
+            .map(Cow::Owned)
+            .map_err(|e| e.utf8_error()),
     }
     .expect("a name or a number is UTF-8")
 }

@@ -1,0 +1,65 @@
+//! Measures the lexer over the text of standard input: the best of some passes, by `iter` and by `parse`.
+//!
+//! usage: speed [PASSES]
+
+use std::hint::black_box;
+use std::io::{self, Read};
+use std::time::{Duration, Instant};
+use wat_lex::{Lexer, TokenKind};
+
+/// A number for each kind, so that a pass has to look at it.
+fn weight(kind: TokenKind) -> u64 {
+    match kind {
+        TokenKind::LineComment => 1,
+        TokenKind::BlockComment => 2,
+        TokenKind::Whitespace => 3,
+        TokenKind::LParen => 5,
+        TokenKind::RParen => 7,
+        TokenKind::String => 11,
+        TokenKind::Id => 13,
+        TokenKind::Keyword => 17,
+        TokenKind::Annotation => 19,
+        TokenKind::Reserved => 23,
+        TokenKind::Integer(_) => 29,
+        TokenKind::Float(_) => 31,
+    }
+}
+
+#[inline(never)]
+fn by_iter(text: &str) -> u64 {
+    let lexer = Lexer::new(text);
+    lexer
+        .iter(0)
+        .map_while(Result::ok)
+        .map(|token| weight(token.kind))
+        .sum()
+}
+
+#[inline(never)]
+fn by_parse(text: &str) -> u64 {
+    let (lexer, mut pos, mut sum) = (Lexer::new(text), 0, 0);
+    while let Ok(Some(token)) = lexer.parse(&mut pos) {
+        sum += weight(token.kind);
+    }
+    sum
+}
+
+fn main() -> io::Result<()> {
+    let passes = std::env::args()
+        .nth(1)
+        .and_then(|word| word.parse().ok())
+        .unwrap_or(5);
+    let mut text = String::new();
+    io::stdin().read_to_string(&mut text)?;
+    for (name, pass) in [("iter", by_iter as fn(&str) -> u64), ("parse", by_parse)] {
+        let (mut best, mut sum) = (Duration::MAX, 0);
+        for _ in 0..passes {
+            let start = Instant::now();
+            sum = black_box(pass(black_box(&text)));
+            best = best.min(start.elapsed());
+        }
+        let speed = text.len() as f64 / best.as_secs_f64() / 1e6;
+        println!("{name:5} {speed:7.1} MB/s: {sum} from {} bytes", text.len());
+    }
+    Ok(())
+}

@@ -1,0 +1,152 @@
+//! The stored texts, each with the list of its tokens that a program over the crate `wast` prints; and texts at the limits.
+
+use std::fmt::Write;
+use std::fs;
+use std::path::{Path, PathBuf};
+use wat_lex::{Lexer, Token, TokenKind};
+
+fn name(kind: TokenKind) -> &'static str {
+    match kind {
+        TokenKind::LineComment => "LineComment",
+        TokenKind::BlockComment => "BlockComment",
+        TokenKind::Whitespace => "Whitespace",
+        TokenKind::LParen => "LParen",
+        TokenKind::RParen => "RParen",
+        TokenKind::String => "String",
+        TokenKind::Id => "Id",
+        TokenKind::Keyword => "Keyword",
+        TokenKind::Annotation => "Annotation",
+        TokenKind::Reserved => "Reserved",
+        TokenKind::Integer(_) => "Integer",
+        TokenKind::Float(_) => "Float",
+    }
+}
+
+fn list(lexer: &Lexer<'_>) -> String {
+    let mut lines = String::new();
+    for token in lexer.iter(0).map_while(Result::ok) {
+        let end = token.offset + token.len as usize;
+        writeln!(lines, "{}..{end} {}", token.offset, name(token.kind)).unwrap();
+    }
+    lines
+}
+
+/// `iter` and `parse` give the same, and the readers read each token, none of them a text of another kind.
+fn read_each(lexer: &Lexer<'_>) {
+    let (text, mut pos) = (lexer.input(), 0);
+    for item in lexer.iter(0) {
+        assert_eq!(
+            lexer.annotation(pos).ok().flatten(),
+            lexer
+                .clone()
+                .parse(&mut { pos })
+                .ok()
+                .flatten()
+                .filter(is_annotation)
+        );
+        let before = pos;
+        assert_eq!(
+            item,
+            lexer.parse(&mut pos).map(|token| token.expect("a token"))
+        );
+        let Ok(token) = item else {
+            assert_eq!(pos, before);
+            return;
+        };
+        assert_eq!(
+            (token.offset, token.offset + token.len as usize),
+            (before, pos)
+        );
+        read(&token, text);
+    }
+    assert_eq!(lexer.parse(&mut pos), Ok(None));
+    assert_eq!(pos, text.len());
+}
+
+fn is_annotation(token: &Token) -> bool {
+    token.kind == TokenKind::Annotation
+}
+
+fn read(token: &Token, text: &str) {
+    let src = token.src(text);
+    match token.kind {
+        TokenKind::String => assert!(token.string(text).len() <= src.len() - 2),
+        TokenKind::Id => {
+            assert!(token.id(text).is_ok_and(|name| !name.is_empty()) || token.id(text).is_err())
+        }
+        TokenKind::Annotation => assert!(
+            token.annotation(text).is_ok_and(|name| !name.is_empty())
+                || token.annotation(text).is_err()
+        ),
+        TokenKind::Integer(kind) => {
+            let integer = token.integer(text, kind);
+            let (digits, base) = integer.val();
+            let plain = src.replace('_', "").replacen('+', "", 1).replacen(
+                "0x",
+                "",
+                if base == 16 { 1 } else { 0 },
+            );
+            assert_eq!((digits, integer.sign()), (plain.as_str(), kind.sign()));
+        }
+        TokenKind::Float(kind) => drop(token.float(text, kind)),
+        _ => assert_eq!((token.keyword(text), token.reserved(text)), (src, src)),
+    }
+}
+
+fn with_ending(path: &Path, ending: &str) -> PathBuf {
+    let mut name = path.as_os_str().to_owned();
+    name.push(ending);
+    name.into()
+}
+
+#[test]
+fn stored_texts_are_listed_as_they_are_stored() {
+    let folder = Path::new(env!("CARGO_MANIFEST_DIR")).join("../../crates/wat_tokens/agreement");
+    let mut listed = 0;
+    for entry in fs::read_dir(folder).unwrap() {
+        let path = entry.unwrap().path();
+        if path
+            .extension()
+            .is_some_and(|extension| extension == "stdout" || extension == "args")
+        {
+            continue;
+        }
+        let words = fs::read_to_string(with_ending(&path, ".args")).unwrap_or_default();
+        let allow = match words.trim() {
+            "" => false,
+            "--allow-confusing" => true,
+            _ => continue,
+        };
+        let text = fs::read_to_string(&path).unwrap();
+        let mut lexer = Lexer::new(&text);
+        lexer.allow_confusing_unicode(allow);
+        assert_eq!(
+            list(&lexer),
+            fs::read_to_string(with_ending(&path, ".stdout")).unwrap(),
+            "{}",
+            path.display()
+        );
+        read_each(&lexer);
+        listed += 1;
+    }
+    assert!(listed >= 240, "{listed}");
+}
+
+#[test]
+fn rows_end_at_any_count() {
+    for tokens in [0, 1, 1023, 1024, 1025, 2047, 2048, 2049, 5000] {
+        let text = "(".repeat(tokens);
+        assert_eq!(Lexer::new(&text).iter(0).count(), tokens);
+        let text = text + "\"";
+        let items: Vec<_> = Lexer::new(&text).iter(0).collect();
+        assert_eq!(items.len(), tokens + 1);
+        assert_eq!(
+            items[tokens].as_ref().unwrap_err().span().offset(),
+            text.len()
+        );
+    }
+    let lexer = Lexer::new("\"");
+    let mut ended = lexer.iter(0);
+    assert!(ended.next().is_some_and(|item| item.is_err()));
+    assert!(ended.next().is_none() && ended.next().is_none());
+}

@@ -1,0 +1,242 @@
+//! What the readers answer, with values from outside.
+
+use std::borrow::Cow;
+use wat_lex::{Error, Float, FloatKind, LexError, Lexer, SignToken, Span, Token, TokenKind};
+
+fn first(text: &str) -> Token {
+    Lexer::new(text).parse(&mut 0).unwrap().unwrap()
+}
+
+fn fault(text: &str) -> Error {
+    Lexer::new(text).iter(0).find_map(Result::err).unwrap()
+}
+
+#[test]
+fn strings() {
+    let read = |text| first(text).string(text);
+    assert!(matches!(read("\"\""), Cow::Borrowed(b"")));
+    assert!(matches!(read("\"ab\""), Cow::Borrowed(b"ab")));
+    assert!(matches!(read("\"\u{e9}\""), Cow::Borrowed(b"\xc3\xa9")));
+    assert_eq!(
+        &*read("\"a\\n\\62\\u{1_0ffff}\""),
+        &b"a\nb\xf4\x8f\xbf\xbf"[..]
+    );
+    assert!(matches!(read("\"\\ff\""), Cow::Owned(bytes) if bytes == [0xff]));
+}
+
+#[test]
+fn names() {
+    assert!(matches!(first("$x").id("$x"), Ok(Cow::Borrowed("x"))));
+    assert!(matches!(
+        first("$\"a b\"").id("$\"a b\""),
+        Ok(Cow::Borrowed("a b"))
+    ));
+    assert!(
+        matches!(first("@\"\\61\"").annotation("@\"\\61\""), Ok(Cow::Owned(name)) if name == "a")
+    );
+    for (text, error) in [
+        (" $", LexError::EmptyId),
+        (" $\"\"", LexError::EmptyId),
+        (" $\"\\ff\"", LexError::InvalidUtf8Id),
+    ] {
+        let token = Lexer::new(text).parse(&mut 1).unwrap().unwrap();
+        let wrong = token.id(text).unwrap_err();
+        assert_eq!(
+            (wrong.lex_error(), wrong.span()),
+            (&error, Span::from_offset(1))
+        );
+        assert!(
+            wrong.to_string().contains("\n     --> <anon>:1:2\n"),
+            "{wrong}"
+        );
+    }
+    let empty = first("@").annotation("@").unwrap_err();
+    assert_eq!(
+        empty.to_string(),
+        "empty annotation id\n     --> <anon>:1:1\n      |\n    1 | @\n      | ^"
+    );
+}
+
+#[test]
+fn integers() {
+    for (text, digits, base, sign) in [
+        ("0", "0", 10, None),
+        ("+1", "1", 10, Some(SignToken::Plus)),
+        ("-1_0", "-10", 10, Some(SignToken::Minus)),
+        ("-0x1_F", "-1F", 16, Some(SignToken::Minus)),
+    ] {
+        let TokenKind::Integer(kind) = first(text).kind else {
+            panic!("{text}")
+        };
+        let integer = first(text).integer(text, kind);
+        assert_eq!((integer.val(), integer.sign()), ((digits, base), sign));
+        assert_eq!(
+            (kind.hex(), kind.has_underscores(), kind.sign()),
+            (base == 16, text.contains('_'), sign)
+        );
+    }
+}
+
+#[test]
+fn floats() {
+    let read = |text| match first(text).kind {
+        TokenKind::Float(kind) => first(text).float(text, kind),
+        kind => panic!("{kind:?}"),
+    };
+    let value = |hex,
+                 integral: &'static str,
+                 fractional: Option<&'static str>,
+                 exponent: Option<&'static str>| Float::Val {
+        hex,
+        integral: integral.into(),
+        fractional: fractional.map(Cow::from),
+        exponent: exponent.map(Cow::from),
+    };
+    assert_eq!(read("-1_0.5e+7"), value(false, "-10", Some("5"), Some("7")));
+    assert_eq!(read("0x1.P-1_0"), value(true, "1", None, Some("-10")));
+    assert_eq!(read("1e5"), value(false, "1", None, Some("5")));
+    assert_eq!(read("-inf"), Float::Inf { negative: true });
+    assert_eq!(
+        read("nan"),
+        Float::Nan {
+            val: None,
+            negative: false
+        }
+    );
+    assert_eq!(
+        read("-nan:0x7_f"),
+        Float::Nan {
+            val: Some("7f".into()),
+            negative: true
+        }
+    );
+    assert_eq!(
+        first("1.5_0").kind,
+        TokenKind::Float(FloatKind::Normal {
+            has_underscores: true,
+            hex: false
+        })
+    );
+}
+
+#[test]
+fn faults() {
+    for (text, error, offset, message) in [
+        (
+            "(;",
+            LexError::DanglingBlockComment,
+            0,
+            "unterminated block comment",
+        ),
+        (
+            "a\u{80}",
+            LexError::Unexpected('\u{80}'),
+            1,
+            "unexpected character '\\u{80}'",
+        ),
+        (
+            "\"\t\"",
+            LexError::InvalidStringElement('\t'),
+            1,
+            "invalid character in string '\\t'",
+        ),
+        (
+            "\"\\z\"",
+            LexError::InvalidStringEscape('z'),
+            2,
+            "invalid string escape 'z'",
+        ),
+        (
+            "\"\\0g\"",
+            LexError::InvalidHexDigit('g'),
+            3,
+            "invalid hex digit 'g'",
+        ),
+        (
+            "\"\\u(\"",
+            LexError::Expected {
+                wanted: '{',
+                found: '(',
+            },
+            3,
+            "expected '{' but found '('",
+        ),
+        ("\"", LexError::UnexpectedEof, 1, "unexpected end-of-file"),
+        (
+            "\"\\u{fffffffff}\"",
+            LexError::NumberTooBig,
+            12,
+            "number is too big to parse",
+        ),
+        (
+            "\"\\u{d800}\"",
+            LexError::InvalidUnicodeValue(0xd800),
+            7,
+            "invalid unicode scalar value 0xd800",
+        ),
+        (
+            "\"\\u{1_}\"",
+            LexError::LoneUnderscore,
+            5,
+            "bare underscore in numeric literal",
+        ),
+        (
+            ";;\u{202e}",
+            LexError::ConfusingUnicode('\u{202e}'),
+            2,
+            "likely-confusing unicode character found '\\u{202e}'",
+        ),
+    ] {
+        let found = fault(text);
+        assert_eq!(
+            (found.lex_error(), found.message()),
+            (&error, message),
+            "{text}"
+        );
+        assert!(found.to_string().starts_with(message));
+        assert_eq!(found.span().offset(), offset, "{text}");
+    }
+    let long = "a".repeat(600) + "\u{80}";
+    assert_eq!(
+        fault(&long).to_string(),
+        "unexpected character '\\u{80}' at <anon>:1:601"
+    );
+    assert_eq!(fault(&long).message(), "unexpected character '\\u{80}'");
+    let error: Box<dyn std::error::Error> = fault(" \n  \"").into();
+    assert_eq!(
+        error.to_string(),
+        "unexpected end-of-file\n     --> <anon>:2:4\n      |\n    2 |   \"\n      |    ^"
+    );
+}
+
+#[test]
+fn settings() {
+    let confusing = ";;\u{202e}";
+    assert!(
+        Lexer::new(confusing)
+            .allow_confusing_unicode(true)
+            .parse(&mut 0)
+            .is_ok()
+    );
+    let doubled = "\"\\u{1__0}\"";
+    assert!(Lexer::new(doubled).parse(&mut 0).is_ok());
+    let mut lexer = Lexer::new(doubled);
+    let error = lexer.strict_underscores(true).parse(&mut 0).unwrap_err();
+    assert_eq!(
+        (error.lex_error(), error.span().linecol_in(doubled)),
+        (&LexError::LoneUnderscore, (0, 6))
+    );
+    let token = Lexer::new(doubled).parse(&mut 0).unwrap().unwrap();
+    assert_eq!(*token.string(doubled), [0x10]);
+}
+
+#[test]
+fn places() {
+    assert_eq!(Lexer::new("").parse(&mut 0), Ok(None));
+    assert_eq!(Lexer::new("a").parse(&mut 1), Ok(None));
+    assert!(std::panic::catch_unwind(|| Lexer::new("\u{80}").parse(&mut 1)).is_err());
+    assert!(std::panic::catch_unwind(|| Lexer::new("a").iter(2).count()).is_err());
+    assert!(std::panic::catch_unwind(|| first("\"\\n\"").string("abcd")).is_err());
+    assert!(std::panic::catch_unwind(|| first("(").string("(")).is_err());
+    assert_eq!(Span::from_offset(9).linecol_in("a\nb"), (2, 0));
+}
