@@ -60,11 +60,12 @@ fn a_fault(rt: HostRuntime) {
     assert_eq!(rt; (report.offset, report.line, report.column), (3, 1, 1));
     let told =
         "unexpected character '\\u{e9}'\n     --> <anon>:2:2\n      |\n    2 |  é\n      |  ^";
-    assert_eq!(rt; &message[..report.message], told.as_bytes());
+    assert_eq!(rt; report.message, told.len());
+    assert!(rt; message.starts_with(told.as_bytes()));
     let mut few = [7; 28];
     let report = read("é".as_bytes(), &mut [], &mut few);
     assert_eq!(rt; (report.ending, report.message), (1, 28));
-    assert_eq!(rt; few.as_slice(), &told.as_bytes()[..28]);
+    assert!(rt; told.as_bytes().starts_with(&few));
 }
 
 #[test]

@@ -1,0 +1,339 @@
+// The page: a text, its colours and its tokens, and one cursor in all three.
+import { KINDS, isSupported, load } from './lexer.js';
+import { Lines, Sight } from './lines.js';
+
+// In bytes: a longer text is shown, and not edited; of a line, and of a token in the list, no more than these are drawn.
+const EDITABLE = 1 << 20;
+const LONGEST = 2000;
+const LISTED = 120;
+const SAMPLE = `(module
+  ;; adds two numbers
+  (func $add (export "add") (param $a i32) (param i32) (result i32)
+    local.get $a
+    local.get 1
+    i32.add)
+  (@custom "x" (; a (; nested ;) comment ;))
+  (data "caf\\u{e9} \\00" [ ] 0x1.8p3 -1_000)
+  (data "no \\q escape"))
+`;
+const $ = (id) => document.getElementById(id);
+const encoder = new TextEncoder();
+const decoder = new TextDecoder('utf-8', { ignoreBOM: true });
+const textOf = (from, to) => decoder.decode(bytes.subarray(from, to));
+
+let read, view, list;
+let bytes = new Uint8Array(), lines = new Lines(bytes), found, message = [], cursor = 0;
+// The line end that the text area's own stands for, or null where the text area is not in use.
+let lineEnd = '\n';
+
+// ---- tokens
+
+const endOf = (i) => found.rows[2 * i];
+const startOf = (i) => (i > 0 ? endOf(i - 1) : 0);
+const kindOf = (i) => KINDS[found.rows[2 * i + 1]];
+
+// The token that a byte belongs to, or how many there are.
+function tokenAt(offset) {
+  let low = 0, high = found.count;
+  while (low < high) {
+    const middle = (low + high) >>> 1;
+    if (endOf(middle) > offset) high = middle; else low = middle + 1;
+  }
+  return low;
+}
+
+const heldToken = () => Math.min(tokenAt(cursor), found.count - 1);
+
+// The parenthesis behind or before the cursor, and the one that it belongs to.
+function pair() {
+  const isParen = (i) => i < found.count && (kindOf(i) === 'LParen' || kindOf(i) === 'RParen');
+  const behind = tokenAt(cursor), before = tokenAt(cursor - 1);
+  const here = isParen(behind) && startOf(behind) === cursor ? behind : cursor > 0 && isParen(before) && endOf(before) === cursor ? before : -1;
+  if (here < 0) return [];
+  const step = kindOf(here) === 'LParen' ? 1 : -1;
+  let depth = 0;
+  for (let i = here; i >= 0 && i < found.count; i += step) {
+    const kind = found.rows[2 * i + 1];
+    if (kind === 3) depth += 1;
+    if (kind === 4) depth -= 1;
+    if (depth === 0) return [here, i];
+  }
+  return [here];
+}
+
+// ---- drawing
+
+function element(name, className, text = '') {
+  const it = document.createElement(name);
+  it.className = className;
+  it.textContent = text;
+  return it;
+}
+
+function caret() {
+  const it = element('span', 'caret');
+  it.setAttribute('aria-hidden', 'true');
+  return it;
+}
+
+function put(parent, className, from, to) {
+  if (from >= to) return;
+  if (cursor === from) parent.append(caret());
+  const cut = cursor > from && cursor < to ? cursor : to;
+  const it = element('span', className, textOf(from, cut));
+  it.dataset.from = from;
+  parent.append(it);
+  if (cut < to) put(parent, className, cut, to);
+}
+
+// The character that the fault is reported at. A mark stands for a line end, and for the text's end.
+function putFault(parent, to) {
+  const at = found.offset;
+  const end = Math.min(lines.on(at + 1), to);
+  if (cursor === at && at < to) parent.append(caret());
+  const it = element('span', 'fault', textOf(at, end));
+  it.id = 'fault';
+  it.dataset.from = at;
+  if (at === bytes.length) it.dataset.mark = '▏';
+  else if (bytes[at] === 10 || bytes[at] === 13) it.dataset.mark = '↵';
+  parent.append(it);
+  return end;
+}
+
+function drawLine(line, matched) {
+  const parent = element('div', 'line');
+  let at = lines.start(line);
+  let to = lines.end(line);
+  if (to - at > LONGEST) {
+    // The part about the cursor is drawn.
+    const middle = cursor >= at && cursor < to ? cursor : found.ending === 'faulty' && found.line === line ? found.offset : at;
+    const from = lines.back(Math.max(at, Math.min(middle - LONGEST / 2, to - LONGEST)));
+    if (from > at) parent.append('…');
+    at = from;
+    to = lines.on(Math.min(to, at + LONGEST));
+  }
+  const held = heldToken();
+  for (let i = tokenAt(at); i < found.count && at < to; i += 1) {
+    const end = Math.min(endOf(i), to);
+    const marks = matched.includes(i) ? (matched.length > 1 ? ' match' : ' alone') : i === held ? ' held' : '';
+    put(parent, kindOf(i) + marks, at, end);
+    at = end;
+  }
+  if (found.ending === 'faulty' && found.line === line && found.offset >= at && (found.offset < to || to === bytes.length)) {
+    put(parent, 'unread', at, found.offset);
+    at = putFault(parent, to);
+  }
+  put(parent, 'unread', at, to);
+  if (cursor === bytes.length && to === bytes.length) parent.append(caret());
+  if (to < lines.end(line)) parent.append('…\n');
+  return parent;
+}
+
+// The lines of the text, with those of the message behind the fault's.
+function drawView(first, last) {
+  const matched = pair();
+  const drawn = [];
+  const after = message.length > 0 ? found.line : lines.count;
+  for (let i = first; i < last; i += 1) {
+    if (i <= after) drawn.push(drawLine(i, matched));
+    else if (i <= after + message.length) drawn.push(element('div', 'line message', message[i - after - 1].slice(0, 2 * LONGEST)));
+    else drawn.push(drawLine(i - message.length, matched));
+  }
+  return drawn;
+}
+
+const visible = (text) => text.replace(/\r/g, '␍').replace(/\n/g, '↵').replace(/\t/g, '⇥');
+
+function drawList(first, last) {
+  const held = heldToken();
+  const drawn = [];
+  for (let i = first; i < last; i += 1) {
+    const option = element('div', '');
+    option.setAttribute('role', 'option');
+    option.id = `token-${i}`;
+    option.setAttribute('aria-selected', i === held);
+    option.setAttribute('aria-setsize', found.count);
+    option.setAttribute('aria-posinset', i + 1);
+    const start = startOf(i), end = endOf(i);
+    const text = visible(textOf(start, lines.on(Math.min(end, start + LISTED))));
+    option.append(element('span', 'place', `${start}..${end}`), element('span', `kind ${kindOf(i)}`, kindOf(i)), element('span', 'token', text));
+    drawn.push(option);
+  }
+  return drawn;
+}
+
+// ---- the cursor
+
+const itemOf = (line) => (message.length > 0 && line > found.line ? line + message.length : line);
+
+function moveTo(offset, from) {
+  cursor = lines.back(offset);
+  view.reveal(itemOf(lines.at(cursor)));
+  view.redraw();
+  const held = heldToken();
+  if (held >= 0) {
+    list.reveal(held);
+    list.box.setAttribute('aria-activedescendant', `token-${held}`);
+  } else list.box.removeAttribute('aria-activedescendant');
+  list.redraw();
+  if (from !== 'text' && lineEnd) {
+    const before = textOf(0, cursor);
+    const place = (lineEnd === '\n' ? before : before.replaceAll(lineEnd, '\n')).length;
+    $('text').setSelectionRange(place, place);
+  }
+}
+
+function onViewKey(event) {
+  const line = lines.at(cursor);
+  const column = cursor - lines.start(line);
+  const page = Math.max(1, Math.floor(view.box.clientHeight / Sight.HEIGHT) - 1);
+  const last = (of) => (of + 1 < lines.count ? lines.end(of) - 1 : bytes.length);
+  const upOrDown = (by) => {
+    const to = Math.max(0, Math.min(lines.count - 1, line + by));
+    return Math.min(lines.start(to) + column, last(to));
+  };
+  const places = {
+    ArrowLeft: () => lines.back(cursor - 1),
+    ArrowRight: () => lines.on(cursor + 1),
+    ArrowUp: () => upOrDown(-1),
+    ArrowDown: () => upOrDown(1),
+    PageUp: () => upOrDown(-page),
+    PageDown: () => upOrDown(page),
+    Home: () => (event.ctrlKey ? 0 : lines.start(line)),
+    End: () => (event.ctrlKey ? bytes.length : last(line)),
+  };
+  if (!(event.key in places)) return;
+  event.preventDefault();
+  moveTo(places[event.key](), 'view');
+}
+
+function onViewClick(event) {
+  const spot = document.caretPositionFromPoint
+    ? document.caretPositionFromPoint(event.clientX, event.clientY)
+    : document.caretRangeFromPoint(event.clientX, event.clientY);
+  const node = spot?.offsetNode ?? spot?.startContainer;
+  const span = (node?.nodeType === Node.TEXT_NODE ? node.parentElement : node)?.closest?.('[data-from]');
+  if (!span) return;
+  const within = spot.offset ?? spot.startOffset;
+  moveTo(Number(span.dataset.from) + encoder.encode(span.textContent.slice(0, within)).length, 'view');
+}
+
+function onListKey(event) {
+  const held = heldToken();
+  const page = Math.max(1, Math.floor(list.box.clientHeight / Sight.HEIGHT) - 1);
+  const places = { ArrowUp: held - 1, ArrowDown: held + 1, PageUp: held - page, PageDown: held + page, Home: 0, End: found.count - 1 };
+  if (!(event.key in places) || found.count === 0) return;
+  event.preventDefault();
+  moveTo(startOf(Math.max(0, Math.min(found.count - 1, places[event.key]))), 'list');
+}
+
+function onListClick(event) {
+  const option = event.target.closest('[role=option]');
+  if (option) moveTo(startOf(Number(option.id.slice('token-'.length))), 'list');
+}
+
+// ---- the text
+
+function tell() {
+  const told = $('told');
+  told.className = found.ending === 'whole' ? '' : 'fault';
+  const size = `${found.count.toLocaleString('en')} tokens, ${bytes.length.toLocaleString('en')} bytes`;
+  if (found.ending === 'whole') told.textContent = `${size}.`;
+  else if (found.ending === 'faulty') told.textContent = `Line ${found.line + 1}: ${message[0]}. ${size}.`;
+  else if (found.ending === 'not UTF-8') told.textContent = `The text is not UTF-8 from byte ${found.offset} on.`;
+  else told.textContent = `The text is ${found.ending}.`;
+  document.body.dataset.ending = found.ending;
+}
+
+// Reads a text whole, and draws what is in sight of it.
+function show(given, at = cursor) {
+  const start = performance.now();
+  bytes = given;
+  found = read(bytes, { allow: $('allow').checked, strict: $('strict').checked });
+  message = found.ending === 'faulty' ? found.message.split('\n') : [];
+  lines = new Lines(bytes);
+  cursor = lines.back(at);
+  view.set(lines.count + message.length);
+  list.set(found.count);
+  tell();
+  const held = heldToken();
+  if (held >= 0) list.box.setAttribute('aria-activedescendant', `token-${held}`); else list.box.removeAttribute('aria-activedescendant');
+  view.redraw();
+  list.redraw();
+  performance.measure('show', { start });
+}
+
+// The one line end of a text that a text area can stand for, or null.
+function lineEndOf(text) {
+  const returns = text.split('\r').length - 1;
+  if (returns === 0) return '\n';
+  const feeds = text.split('\n').length - 1;
+  return returns === feeds && text.split('\r\n').length - 1 === feeds ? '\r\n' : null;
+}
+
+// A text from elsewhere. It may be edited where the text area can hold it as it is.
+function open(given) {
+  show(given, 0);
+  const isShort = given.length <= EDITABLE;
+  const isText = found.ending !== 'not UTF-8';
+  const text = isShort && isText ? decoder.decode(given) : '';
+  lineEnd = isShort && isText ? lineEndOf(text) : null;
+  $('text').hidden = !lineEnd;
+  $('text').value = lineEnd ? text : '';
+  $('note').hidden = Boolean(lineEnd);
+  $('note').textContent = !isText ? 'Only a text in UTF-8 can be edited here.' : !isShort ? 'A text of more than a megabyte is shown, and not edited.' : 'A text with line ends of two kinds is shown, and not edited.';
+  if (found.ending === 'faulty') moveTo(found.offset, 'file');
+}
+
+function onInput() {
+  const value = $('text').value;
+  const before = value.slice(0, $('text').selectionEnd);
+  const whole = (text) => encoder.encode(lineEnd === '\r\n' ? text.replaceAll('\n', lineEnd) : text);
+  show(whole(value), whole(before).length);
+  view.reveal(itemOf(lines.at(cursor)));
+  const held = heldToken();
+  if (held >= 0) list.reveal(held);
+}
+
+function onSelect() {
+  if (document.activeElement !== $('text') || !lineEnd) return;
+  const before = $('text').value.slice(0, $('text').selectionEnd);
+  moveTo(encoder.encode(lineEnd === '\r\n' ? before.replaceAll('\n', lineEnd) : before).length, 'text');
+}
+
+async function openFile(file) {
+  if (file) open(new Uint8Array(await file.arrayBuffer()));
+}
+
+async function start() {
+  if (!isSupported()) {
+    $('told').className = 'fault';
+    $('told').textContent = 'This browser has no 64-bit WebAssembly memory, which the lexer needs.';
+    for (const id of ['file', 'allow', 'strict', 'text']) $(id).disabled = true;
+    return;
+  }
+  read = await load();
+  view = new Sight($('view'), drawView);
+  list = new Sight($('list'), drawList);
+  $('text').addEventListener('input', onInput);
+  document.addEventListener('selectionchange', onSelect);
+  for (const id of ['allow', 'strict']) $(id).addEventListener('change', () => show(bytes));
+  $('file').addEventListener('change', () => openFile($('file').files[0]));
+  document.addEventListener('dragover', (event) => event.preventDefault());
+  document.addEventListener('drop', (event) => {
+    event.preventDefault();
+    openFile(event.dataTransfer.files[0]);
+  });
+  view.box.addEventListener('keydown', onViewKey);
+  view.box.addEventListener('click', onViewClick);
+  list.box.addEventListener('keydown', onListKey);
+  list.box.addEventListener('click', onListClick);
+  new ResizeObserver(() => { view.redraw(); list.redraw(); }).observe(document.body);
+  open(encoder.encode(SAMPLE));
+  document.body.dataset.ready = 'yes';
+}
+
+start().catch((error) => {
+  $('told').className = 'fault';
+  $('told').textContent = `The lexer could not be loaded: ${error}`;
+});

@@ -1,0 +1,36 @@
+#!/usr/bin/env python3
+"""Writes the page of a folder as one file, which a browser also opens from a disk: style, scripts and module stand in it.
+
+usage: single.py FOLDER > wat.html
+"""
+import base64
+import pathlib
+import re
+import sys
+
+folder = pathlib.Path(sys.argv[1])
+SCRIPTS = ["lexer.js", "lines.js", "page.js"]
+
+
+def read(name):
+    return (folder / name).read_text(encoding="utf-8")
+
+
+def replaced(text, old, new):
+    if text.count(old) != 1:
+        sys.exit(f"single.py: {old!r} stands in the page {text.count(old)} times, and not once")
+    return text.replace(old, new)
+
+
+module = base64.b64encode((folder / "wat_page.wasm").read_bytes()).decode()
+script = "".join(read(name) for name in SCRIPTS)
+script = re.sub(r"^import .*\n", "", script, flags=re.M)
+script = re.sub(r"^export ", "", script, flags=re.M)
+script = replaced(
+    script,
+    "fetch('wat_page.wasm').then((answer) => answer.arrayBuffer())",
+    f"Uint8Array.from(atob('{module}'), (it) => it.charCodeAt(0))",
+)
+page = replaced(read("index.html"), '<link rel="stylesheet" href="style.css">', f"<style>\n{read('style.css')}</style>")
+page = replaced(page, '<script type="module" src="page.js"></script>', f'<script type="module">\n{script}</script>')
+sys.stdout.write(page)
