@@ -1,5 +1,5 @@
-//! Measures the lexer over the text of standard input, by `scan`, `parse` and `iter`. As
-//! the three stand in one program, none is inlined in its loop; alone it may be, and faster.
+//! Measures the lexer over the text of standard input, by `scan`, `parse` and `iter`. `scan` is
+//! inlined in its loop.
 #![tactic(auto)]
 
 ghost use Rattle.std.specs.Prelude.{◌≡◌, ◌⊎◌, ◌<◌, ◌≤◌, ◌^◌, length, IfOk, IfErr};
