@@ -4,9 +4,10 @@ const LINE_FEED = 10;
 export class Lines {
   constructor(bytes) {
     this.bytes = bytes;
-    let starts = new Uint32Array(1024);
+    let starts = new Uint32Array(1 + (bytes.length >>> 4));
     let count = 1;
-    for (let at = bytes.indexOf(LINE_FEED); at >= 0; at = bytes.indexOf(LINE_FEED, at + 1)) {
+    for (let at = 0; at < bytes.length; at += 1) {
+      if (bytes[at] !== LINE_FEED) continue;
       if (count === starts.length) {
         const more = new Uint32Array(2 * count);
         more.set(starts);
@@ -48,7 +49,8 @@ export class Lines {
   }
 }
 
-// The items in sight of a box that scrolls, however many there are: `draw` makes those from one to another.
+// The items in sight of a box that scrolls, however many there are: `draw` makes those from one to another. Where the box
+// stands and how high it is are kept here, since asking the browser would make it lay out the page at once.
 export class Sight {
   static HEIGHT = 20;
   static MOST = 8_000_000;
@@ -59,33 +61,46 @@ export class Sight {
     this.seen = box.querySelector('.seen');
     this.draw = draw;
     this.count = 0;
-    box.addEventListener('scroll', () => this.redraw());
+    this.top = 0;
+    this.height = box.clientHeight;
+    box.addEventListener('scroll', () => {
+      if (box.scrollTop === this.top) return;
+      this.top = box.scrollTop;
+      this.redraw();
+    });
+    new ResizeObserver(() => {
+      this.height = box.clientHeight;
+      this.redraw();
+    }).observe(box);
   }
 
   // How far the items move for a pixel of the box.
   get scale() {
-    const free = this.all.clientHeight - this.box.clientHeight;
-    return free > 0 ? Math.max(1, (this.count * Sight.HEIGHT - this.box.clientHeight) / free) : 1;
+    const free = Math.min(this.count * Sight.HEIGHT, Sight.MOST) - this.height;
+    return free > 0 ? Math.max(1, (this.count * Sight.HEIGHT - this.height) / free) : 1;
   }
 
   set(count) {
     this.count = count;
-    this.all.style.height = `${Math.min(count * Sight.HEIGHT, Sight.MOST)}px`;
+    const height = Math.min(count * Sight.HEIGHT, Sight.MOST);
+    this.all.style.height = `${height}px`;
+    this.top = Math.max(0, Math.min(this.top, height - this.height));
   }
 
   redraw() {
-    const top = this.box.scrollTop * this.scale;
+    const top = this.top * this.scale;
     const first = Math.max(0, Math.floor(top / Sight.HEIGHT) - 2);
-    const last = Math.min(this.count, Math.ceil((top + this.box.clientHeight) / Sight.HEIGHT) + 2);
-    this.seen.style.top = `${this.box.scrollTop - (top - first * Sight.HEIGHT)}px`;
+    const last = Math.min(this.count, Math.ceil((top + this.height) / Sight.HEIGHT) + 2);
+    this.seen.style.top = `${this.top - (top - first * Sight.HEIGHT)}px`;
     this.seen.replaceChildren(...this.draw(first, last));
   }
 
   // Scrolls until an item is in sight.
   reveal(item) {
-    const top = this.box.scrollTop * this.scale;
+    const top = this.top * this.scale;
     const low = item * Sight.HEIGHT, high = low + Sight.HEIGHT;
-    if (low < top) this.box.scrollTop = low / this.scale;
-    else if (high > top + this.box.clientHeight) this.box.scrollTop = (high - this.box.clientHeight) / this.scale + 1;
+    if (low >= top && high <= top + this.height) return;
+    this.box.scrollTop = low < top ? low / this.scale : (high - this.height) / this.scale + 1;
+    this.top = this.box.scrollTop;
   }
 }

@@ -186,7 +186,7 @@ function moveTo(offset, from) {
 function onViewKey(event) {
   const line = lines.at(cursor);
   const column = cursor - lines.start(line);
-  const page = Math.max(1, Math.floor(view.box.clientHeight / Sight.HEIGHT) - 1);
+  const page = Math.max(1, Math.floor(view.height / Sight.HEIGHT) - 1);
   const last = (of) => (of + 1 < lines.count ? lines.end(of) - 1 : bytes.length);
   const upOrDown = (by) => {
     const to = Math.max(0, Math.min(lines.count - 1, line + by));
@@ -220,7 +220,7 @@ function onViewClick(event) {
 
 function onListKey(event) {
   const held = heldToken();
-  const page = Math.max(1, Math.floor(list.box.clientHeight / Sight.HEIGHT) - 1);
+  const page = Math.max(1, Math.floor(list.height / Sight.HEIGHT) - 1);
   const places = { ArrowUp: held - 1, ArrowDown: held + 1, PageUp: held - page, PageDown: held + page, Home: 0, End: found.count - 1 };
   if (!(event.key in places) || found.count === 0) return;
   event.preventDefault();
@@ -328,7 +328,6 @@ async function start() {
   view.box.addEventListener('click', onViewClick);
   list.box.addEventListener('keydown', onListKey);
   list.box.addEventListener('click', onListClick);
-  new ResizeObserver(() => { view.redraw(); list.redraw(); }).observe(document.body);
   open(encoder.encode(SAMPLE));
   document.body.dataset.ready = 'yes';
 }
