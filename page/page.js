@@ -236,7 +236,7 @@ function onListClick(event) {
 
 function tell() {
   const told = $('told');
-  told.className = found.ending === 'whole' ? '' : 'fault';
+  told.className = found.ending === 'whole' ? '' : 'wrong';
   const size = `${found.count.toLocaleString('en')} tokens, ${bytes.length.toLocaleString('en')} bytes`;
   if (found.ending === 'whole') told.textContent = `${size}.`;
   else if (found.ending === 'faulty') told.textContent = `Line ${found.line + 1}: ${message[0]}. ${size}.`;
@@ -245,13 +245,12 @@ function tell() {
   document.body.dataset.ending = found.ending;
 }
 
-// Reads a text whole, and draws what is in sight of it.
-function show(given, at = cursor) {
-  const start = performance.now();
+// Reads a text whole, and draws what is in sight of it. What a change of the text costs is measured from its start.
+function show(given, at = cursor, start = performance.now()) {
+  if (given !== lines.bytes) lines = new Lines(given);
   bytes = given;
   found = read(bytes, { allow: $('allow').checked, strict: $('strict').checked });
   message = found.ending === 'faulty' ? found.message.split('\n') : [];
-  lines = new Lines(bytes);
   cursor = lines.back(at);
   view.set(lines.count + message.length);
   list.set(found.count);
@@ -285,11 +284,17 @@ function open(given) {
   if (found.ending === 'faulty') moveTo(found.offset, 'file');
 }
 
+const encoded = (text) => encoder.encode(lineEnd === '\r\n' ? text.replaceAll('\n', lineEnd) : text);
+
 function onInput() {
+  const start = performance.now();
   const value = $('text').value;
-  const before = value.slice(0, $('text').selectionEnd);
-  const whole = (text) => encoder.encode(lineEnd === '\r\n' ? text.replaceAll('\n', lineEnd) : text);
-  show(whole(value), whole(before).length);
+  const before = encoded(value.slice(0, $('text').selectionEnd));
+  const behind = encoded(value.slice($('text').selectionEnd));
+  const whole = new Uint8Array(before.length + behind.length);
+  whole.set(before);
+  whole.set(behind, before.length);
+  show(whole, before.length, start);
   view.reveal(itemOf(lines.at(cursor)));
   const held = heldToken();
   if (held >= 0) list.reveal(held);
@@ -297,8 +302,7 @@ function onInput() {
 
 function onSelect() {
   if (document.activeElement !== $('text') || !lineEnd) return;
-  const before = $('text').value.slice(0, $('text').selectionEnd);
-  moveTo(encoder.encode(lineEnd === '\r\n' ? before.replaceAll('\n', lineEnd) : before).length, 'text');
+  moveTo(encoded($('text').value.slice(0, $('text').selectionEnd)).length, 'text');
 }
 
 async function openFile(file) {
@@ -307,7 +311,7 @@ async function openFile(file) {
 
 async function start() {
   if (!isSupported()) {
-    $('told').className = 'fault';
+    $('told').className = 'wrong';
     $('told').textContent = 'This browser has no 64-bit WebAssembly memory, which the lexer needs.';
     for (const id of ['file', 'allow', 'strict', 'text']) $(id).disabled = true;
     return;
@@ -333,6 +337,6 @@ async function start() {
 }
 
 start().catch((error) => {
-  $('told').className = 'fault';
+  $('told').className = 'wrong';
   $('told').textContent = `The lexer could not be loaded: ${error}`;
 });
