@@ -119,6 +119,9 @@ async function droppedTexts() {
   assert.equal(await ask("document.querySelector('#text').hidden"), false);
   await ask("{ const it = document.querySelector('#text'); it.value += 'c'; it.dispatchEvent(new Event('input')); }");
   assert.equal((await ask(SHOWN)).text, '(a)\r\n\t(b "\u{1f600}")\r\nc');
+  await ask("{ const given = new DataTransfer(); given.items.add(new File(['(dropped)'], 'a.wat')); document.dispatchEvent(new DragEvent('drop', { dataTransfer: given, bubbles: true, cancelable: true })); }");
+  for (let i = 0; i < 100 && (await ask(SHOWN)).text !== '(dropped)'; i += 1) await pause(10);
+  assert.equal((await ask(SHOWN)).text, '(dropped)');
   page = await drop('a\rb\n');
   assert.deepEqual([page.text, await ask("document.querySelector('#text').hidden")], ['a\rb\n', true]);
   page = await drop(Buffer.from([40, 255]));
@@ -175,6 +178,11 @@ async function theCursor() {
   const spot = await ask("(() => { const it = [...document.querySelectorAll('#seen .Id')][0].getBoundingClientRect(); return [it.left + 2, it.top + 8]; })()");
   for (const kind of ['mousePressed', 'mouseReleased']) await send('Input.dispatchMouseEvent', { type: kind, x: spot[0], y: spot[1], button: 'left', clickCount: 1 });
   assert.equal((await ask(SHOWN)).held, '3..5');
+  await type(`;; ${'x'.repeat(5000)}\ny`);
+  await ask("document.querySelector('#view').focus()");
+  await key('End');
+  page = await ask(SHOWN);
+  assert.deepEqual([page.held, page.pieces[0][1].length < 2100, await ask("document.querySelector('#view').scrollLeft > 0")], ['5003..5004', true, true]);
   await ask("document.querySelector('#file').focus()");
   const reached = [];
   for (let i = 0; i < 6; i += 1) {

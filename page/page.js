@@ -42,7 +42,11 @@ function tokenAt(offset) {
   return low;
 }
 
-const heldToken = () => Math.min(tokenAt(cursor), found.count - 1);
+// The token at the cursor, the last one where the text ends with it, or -1.
+function heldToken() {
+  const at = tokenAt(cursor);
+  return at < found.count ? at : found.ending === 'whole' && cursor === bytes.length ? found.count - 1 : -1;
+}
 
 // The parenthesis behind or before the cursor, and the one that it belongs to.
 function pair() {
@@ -166,15 +170,28 @@ function drawList(first, last) {
 
 const itemOf = (line) => (message.length > 0 && line > found.line ? line + message.length : line);
 
+// Has the list stand at the cursor's token, or the nearest one.
+function follow() {
+  const held = heldToken();
+  if (found.count > 0) list.reveal(Math.min(tokenAt(cursor), found.count - 1));
+  if (held >= 0) list.box.setAttribute('aria-activedescendant', `token-${held}`);
+  else list.box.removeAttribute('aria-activedescendant');
+}
+
+// Scrolls sideways until the cursor is in sight.
+function revealColumn() {
+  const left = view.seen.querySelector('.caret')?.offsetLeft;
+  if (left === undefined) return;
+  const { box } = view;
+  if (left < box.scrollLeft + 16 || left > box.scrollLeft + box.clientWidth - 16) box.scrollLeft = Math.max(0, left - box.clientWidth / 2);
+}
+
 function moveTo(offset, from) {
   cursor = lines.back(offset);
   view.reveal(itemOf(lines.at(cursor)));
   view.redraw();
-  const held = heldToken();
-  if (held >= 0) {
-    list.reveal(held);
-    list.box.setAttribute('aria-activedescendant', `token-${held}`);
-  } else list.box.removeAttribute('aria-activedescendant');
+  revealColumn();
+  follow();
   list.redraw();
   if (from !== 'text' && lineEnd) {
     const before = textOf(0, cursor);
@@ -212,14 +229,17 @@ function onViewClick(event) {
     ? document.caretPositionFromPoint(event.clientX, event.clientY)
     : document.caretRangeFromPoint(event.clientX, event.clientY);
   const node = spot?.offsetNode ?? spot?.startContainer;
-  const span = (node?.nodeType === Node.TEXT_NODE ? node.parentElement : node)?.closest?.('[data-from]');
-  if (!span) return;
-  const within = spot.offset ?? spot.startOffset;
-  moveTo(Number(span.dataset.from) + encoder.encode(span.textContent.slice(0, within)).length, 'view');
+  const at = node?.nodeType === Node.TEXT_NODE ? node.parentElement : node;
+  const span = at?.closest?.('[data-from]');
+  // Beside a line it is the line's end.
+  const last = [...(at?.closest?.('.line')?.querySelectorAll('[data-from]') ?? [])].at(-1);
+  if (!span && !last) return;
+  const before = span ? span.textContent.slice(0, spot.offset ?? spot.startOffset) : last.textContent.replace(/\r?\n$/, '');
+  moveTo(Number((span ?? last).dataset.from) + encoder.encode(before).length, 'view');
 }
 
 function onListKey(event) {
-  const held = heldToken();
+  const held = Math.min(tokenAt(cursor), found.count);
   const page = Math.max(1, Math.floor(list.height / Sight.HEIGHT) - 1);
   const places = { ArrowUp: held - 1, ArrowDown: held + 1, PageUp: held - page, PageDown: held + page, Home: 0, End: found.count - 1 };
   if (!(event.key in places) || found.count === 0) return;
@@ -255,8 +275,8 @@ function show(given, at = cursor, start = performance.now()) {
   view.set(lines.count + message.length);
   list.set(found.count);
   tell();
-  const held = heldToken();
-  if (held >= 0) list.box.setAttribute('aria-activedescendant', `token-${held}`); else list.box.removeAttribute('aria-activedescendant');
+  view.reveal(itemOf(lines.at(cursor)));
+  follow();
   view.redraw();
   list.redraw();
   performance.measure('show', { start });
@@ -295,9 +315,6 @@ function onInput() {
   whole.set(before);
   whole.set(behind, before.length);
   show(whole, before.length, start);
-  view.reveal(itemOf(lines.at(cursor)));
-  const held = heldToken();
-  if (held >= 0) list.reveal(held);
 }
 
 function onSelect() {
@@ -306,7 +323,13 @@ function onSelect() {
 }
 
 async function openFile(file) {
-  if (file) open(new Uint8Array(await file.arrayBuffer()));
+  if (!file) return;
+  try {
+    open(new Uint8Array(await file.arrayBuffer()));
+  } catch (error) {
+    $('told').className = 'wrong';
+    $('told').textContent = `The file could not be read: ${error}`;
+  }
 }
 
 async function start() {
