@@ -42,7 +42,11 @@ function tokenAt(offset) {
   return low;
 }
 
-const heldToken = () => Math.min(tokenAt(cursor), found.count - 1);
+// The token at the cursor, the last one where the text ends with it, or -1.
+function heldToken() {
+  const at = tokenAt(cursor);
+  return at < found.count ? at : found.ending === 'whole' && cursor === bytes.length ? found.count - 1 : -1;
+}
 
 // The parenthesis behind or before the cursor, and the one that it belongs to.
 function pair() {
@@ -166,15 +170,28 @@ function drawList(first, last) {
 
 const itemOf = (line) => (message.length > 0 && line > found.line ? line + message.length : line);
 
+// Has the list stand at the cursor's token, or the nearest one.
+function follow() {
+  const held = heldToken();
+  if (found.count > 0) list.reveal(Math.min(tokenAt(cursor), found.count - 1));
+  if (held >= 0) list.box.setAttribute('aria-activedescendant', `token-${held}`);
+  else list.box.removeAttribute('aria-activedescendant');
+}
+
+// Scrolls sideways until the cursor is in sight.
+function revealColumn() {
+  const left = view.seen.querySelector('.caret')?.offsetLeft;
+  if (left === undefined) return;
+  const { box } = view;
+  if (left < box.scrollLeft + 16 || left > box.scrollLeft + box.clientWidth - 16) box.scrollLeft = Math.max(0, left - box.clientWidth / 2);
+}
+
 function moveTo(offset, from) {
   cursor = lines.back(offset);
   view.reveal(itemOf(lines.at(cursor)));
   view.redraw();
-  const held = heldToken();
-  if (held >= 0) {
-    list.reveal(held);
-    list.box.setAttribute('aria-activedescendant', `token-${held}`);
-  } else list.box.removeAttribute('aria-activedescendant');
+  revealColumn();
+  follow();
   list.redraw();
   if (from !== 'text' && lineEnd) {
     const before = textOf(0, cursor);
@@ -186,7 +203,7 @@ function moveTo(offset, from) {
 function onViewKey(event) {
   const line = lines.at(cursor);
   const column = cursor - lines.start(line);
-  const page = Math.max(1, Math.floor(view.box.clientHeight / Sight.HEIGHT) - 1);
+  const page = Math.max(1, Math.floor(view.height / Sight.HEIGHT) - 1);
   const last = (of) => (of + 1 < lines.count ? lines.end(of) - 1 : bytes.length);
   const upOrDown = (by) => {
     const to = Math.max(0, Math.min(lines.count - 1, line + by));
@@ -212,15 +229,18 @@ function onViewClick(event) {
     ? document.caretPositionFromPoint(event.clientX, event.clientY)
     : document.caretRangeFromPoint(event.clientX, event.clientY);
   const node = spot?.offsetNode ?? spot?.startContainer;
-  const span = (node?.nodeType === Node.TEXT_NODE ? node.parentElement : node)?.closest?.('[data-from]');
-  if (!span) return;
-  const within = spot.offset ?? spot.startOffset;
-  moveTo(Number(span.dataset.from) + encoder.encode(span.textContent.slice(0, within)).length, 'view');
+  const at = node?.nodeType === Node.TEXT_NODE ? node.parentElement : node;
+  const span = at?.closest?.('[data-from]');
+  // Beside a line it is the line's end.
+  const last = [...(at?.closest?.('.line')?.querySelectorAll('[data-from]') ?? [])].at(-1);
+  if (!span && !last) return;
+  const before = span ? span.textContent.slice(0, spot.offset ?? spot.startOffset) : last.textContent.replace(/\r?\n$/, '');
+  moveTo(Number((span ?? last).dataset.from) + encoder.encode(before).length, 'view');
 }
 
 function onListKey(event) {
-  const held = heldToken();
-  const page = Math.max(1, Math.floor(list.box.clientHeight / Sight.HEIGHT) - 1);
+  const held = Math.min(tokenAt(cursor), found.count);
+  const page = Math.max(1, Math.floor(list.height / Sight.HEIGHT) - 1);
   const places = { ArrowUp: held - 1, ArrowDown: held + 1, PageUp: held - page, PageDown: held + page, Home: 0, End: found.count - 1 };
   if (!(event.key in places) || found.count === 0) return;
   event.preventDefault();
@@ -236,7 +256,7 @@ function onListClick(event) {
 
 function tell() {
   const told = $('told');
-  told.className = found.ending === 'whole' ? '' : 'fault';
+  told.className = found.ending === 'whole' ? '' : 'wrong';
   const size = `${found.count.toLocaleString('en')} tokens, ${bytes.length.toLocaleString('en')} bytes`;
   if (found.ending === 'whole') told.textContent = `${size}.`;
   else if (found.ending === 'faulty') told.textContent = `Line ${found.line + 1}: ${message[0]}. ${size}.`;
@@ -245,19 +265,18 @@ function tell() {
   document.body.dataset.ending = found.ending;
 }
 
-// Reads a text whole, and draws what is in sight of it.
-function show(given, at = cursor) {
-  const start = performance.now();
+// Reads a text whole, and draws what is in sight of it. What a change of the text costs is measured from its start.
+function show(given, at = cursor, start = performance.now()) {
+  if (given !== lines.bytes) lines = new Lines(given);
   bytes = given;
   found = read(bytes, { allow: $('allow').checked, strict: $('strict').checked });
   message = found.ending === 'faulty' ? found.message.split('\n') : [];
-  lines = new Lines(bytes);
   cursor = lines.back(at);
   view.set(lines.count + message.length);
   list.set(found.count);
   tell();
-  const held = heldToken();
-  if (held >= 0) list.box.setAttribute('aria-activedescendant', `token-${held}`); else list.box.removeAttribute('aria-activedescendant');
+  view.reveal(itemOf(lines.at(cursor)));
+  follow();
   view.redraw();
   list.redraw();
   performance.measure('show', { start });
@@ -285,29 +304,37 @@ function open(given) {
   if (found.ending === 'faulty') moveTo(found.offset, 'file');
 }
 
+const encoded = (text) => encoder.encode(lineEnd === '\r\n' ? text.replaceAll('\n', lineEnd) : text);
+
 function onInput() {
+  const start = performance.now();
   const value = $('text').value;
-  const before = value.slice(0, $('text').selectionEnd);
-  const whole = (text) => encoder.encode(lineEnd === '\r\n' ? text.replaceAll('\n', lineEnd) : text);
-  show(whole(value), whole(before).length);
-  view.reveal(itemOf(lines.at(cursor)));
-  const held = heldToken();
-  if (held >= 0) list.reveal(held);
+  const before = encoded(value.slice(0, $('text').selectionEnd));
+  const behind = encoded(value.slice($('text').selectionEnd));
+  const whole = new Uint8Array(before.length + behind.length);
+  whole.set(before);
+  whole.set(behind, before.length);
+  show(whole, before.length, start);
 }
 
 function onSelect() {
   if (document.activeElement !== $('text') || !lineEnd) return;
-  const before = $('text').value.slice(0, $('text').selectionEnd);
-  moveTo(encoder.encode(lineEnd === '\r\n' ? before.replaceAll('\n', lineEnd) : before).length, 'text');
+  moveTo(encoded($('text').value.slice(0, $('text').selectionEnd)).length, 'text');
 }
 
 async function openFile(file) {
-  if (file) open(new Uint8Array(await file.arrayBuffer()));
+  if (!file) return;
+  try {
+    open(new Uint8Array(await file.arrayBuffer()));
+  } catch (error) {
+    $('told').className = 'wrong';
+    $('told').textContent = `The file could not be read: ${error}`;
+  }
 }
 
 async function start() {
   if (!isSupported()) {
-    $('told').className = 'fault';
+    $('told').className = 'wrong';
     $('told').textContent = 'This browser has no 64-bit WebAssembly memory, which the lexer needs.';
     for (const id of ['file', 'allow', 'strict', 'text']) $(id).disabled = true;
     return;
@@ -328,12 +355,11 @@ async function start() {
   view.box.addEventListener('click', onViewClick);
   list.box.addEventListener('keydown', onListKey);
   list.box.addEventListener('click', onListClick);
-  new ResizeObserver(() => { view.redraw(); list.redraw(); }).observe(document.body);
   open(encoder.encode(SAMPLE));
   document.body.dataset.ready = 'yes';
 }
 
 start().catch((error) => {
-  $('told').className = 'fault';
+  $('told').className = 'wrong';
   $('told').textContent = `The lexer could not be loaded: ${error}`;
 });
