@@ -1,16 +1,14 @@
 -- Annotations directly behind a parenthesis, noted a token at a time.
-use Rattle.std.proofs.Common.{◌≡◌, ◌⊎◌, ◌<◌, ◌≤◌, ◌+◌, ◌-◌, ◌*◌, ◌^◌, ◌++◌, ℕ, zero, suc, Bool, true, false, List, [], ◌∷◌, length, refl, sym, ap, ◌∙◌, subst, arith, inl, inr, get_or, Some, None, Err}
+use Rattle.std.proofs.Common.{◌≡◌, ◌⊎◌, ◌<◌, ◌≤◌, ◌+◌, ◌-◌, ◌*◌, ◌^◌, ◌++◌, ℕ, zero, suc, Bool, true, false, List, [], ◌∷◌, length, refl, sym, ap, ◌∙◌, subst, arith, inl, inr, get_or, Some, None}
 use Rattle.std.specs.Prelude.{Option, slice_get, ◌&&◌}
 use Rattle.std.proofs.lemmas.Bool.{cases_lt}
 use Rattle.std.proofs.lemmas.List.{get_or_append_left, get_or_push, length_push}
 use Rattle.std.proofs.lemmas.Option.{slice_get_within}
 use Rattle.wat_lex.specs.tokens.ReadableTokens.{IsTokenOf, word_of}
-use Rattle.wat_lex.specs.values.WordValues.{name_value}
-use Rattle.wat_lex.specs.declared.lexer.faults.LexError.TheVariants.{EmptyAnnotation}
 use Rattle.wat_lex.specs.declared.lexer.kinds.TokenKind.{TokenKind}
 use Rattle.wat_lex.specs.declared.lexer.kinds.TokenKind.TheVariants.{LineComment, BlockComment, Whitespace, LParen, RParen, String, Id, Keyword, Annotation, Reserved, Integer, Float}
 use Rattle.wat_lex.specs.declared.lexer.kinds.Token.{Token}
-use Rattle.wat_lexer_parser.specs.inside.Table.{NameOrFault, HeadAt, Headed, Started, Noted, Readable, block, is_head, is_annotation}
+use Rattle.wat_lexer_parser.specs.inside.Table.{NameOrFault, NotedName, OneMoreName, HeadAt, Headed, Started, Noted, Readable, block, is_head, is_annotation}
 use Rattle.wat_lexer_parser.specs.groups.Sorts.{is_open}
 
 pub slice_left : {A : Type 0} (ts us : List A) (i : ℕ) (t : A) → slice_get ts i ≡ Some t → slice_get (ts ++ us) i ≡ Some t
@@ -89,7 +87,7 @@ head_from (Some t) u e = let h = split (is_open t.kind) (is_annotation u.kind) e
     split true y f = (refl, f)
     split false y f = cc
 
-head_kept : (text : List ℕ) (ts : List Token) (u : Token) (i : ℕ) (x : NameOrFault) → HeadAt text ts i x → HeadAt text (ts ++ u ∷ []) i x
+head_kept : (text : List ℕ) (ts : List Token) (u : Token) (i : ℕ) (x : Option NameOrFault) → HeadAt text ts i x → HeadAt text (ts ++ u ∷ []) i x
 head_kept text ts u i x h = record {
   paren = h.paren;
   word = h.word;
@@ -101,7 +99,7 @@ head_kept text ts u i x h = record {
 }
 
 -- a head stands before the last token
-pub head_below : (text : List ℕ) (ts : List Token) (i : ℕ) (x : NameOrFault) → HeadAt text ts i x → i + 1 < length ts
+pub head_below : (text : List ℕ) (ts : List Token) (i : ℕ) (x : Option NameOrFault) → HeadAt text ts i x → i + 1 < length ts
 head_below text ts i x h = slice_get_within ts (i + 1) h.word h.next
 
 readable_more : (text : List ℕ) (ts : List Token) (t : Token) → Readable text ts → IsTokenOf text t → t.offset + t.len < 2 ^ 32 → Readable text (ts ++ t ∷ [])
@@ -109,10 +107,10 @@ readable_more text [] t h k l = ((k, l), tt)
 readable_more text (u ∷ ts) t h k l = (h.0, readable_more text ts t h.1 k l)
 
 -- A token that is no head.
-headed_plain : (text : List ℕ) (ts : List Token) (u : Token) (opens : List ℕ) (names : List NameOrFault) → is_head (slice_get ts (length ts - 1)) u ≡ false → Headed text ts opens names → Headed text (ts ++ u ∷ []) opens names
+headed_plain : (text : List ℕ) (ts : List Token) (u : Token) (opens : List ℕ) (names : List (Option NameOrFault)) → is_head (slice_get ts (length ts - 1)) u ≡ false → Headed text ts opens names → Headed text (ts ++ u ∷ []) opens names
 headed_plain text ts u opens names e h = record {
   long = h.long;
-  each = λ g l. head_kept text ts u (get_or opens g 0) (get_or names g (Err EmptyAnnotation)) (h.each g l);
+  each = λ g l. head_kept text ts u (get_or opens g 0) (get_or names g None) (h.each g l);
   all = λ i t v a b o p. elim (slice_back ts u (i + 1) v b) [
     | inl k ↦ elim (slice_back ts u i t a) [
       | inl j ↦ h.all i t v j k o p
@@ -130,11 +128,10 @@ headed_plain text ts u opens names e h = record {
 }
 
 -- A head.
-headed_more : (text : List ℕ) (ts : List Token) (u : Token) (opens : List ℕ) (names : List NameOrFault) → 0 < length ts → Head (slice_get ts (length ts - 1)) u → Headed text ts opens names
-    → Headed text (ts ++ u ∷ []) (opens ++ (length ts - 1) ∷ []) (names ++ name_value EmptyAnnotation (word_of text u) ∷ [])
-headed_more text ts u opens names n d h =
+headed_more : (text : List ℕ) (ts : List Token) (u : Token) (opens : List ℕ) (names : List (Option NameOrFault)) (x : Option NameOrFault) → NotedName (word_of text u) x → 0 < length ts → Head (slice_get ts (length ts - 1)) u → Headed text ts opens names
+    → Headed text (ts ++ u ∷ []) (opens ++ (length ts - 1) ∷ []) (names ++ x ∷ [])
+headed_more text ts u opens names x y n d h =
     let p = length ts - 1 in
-    let x = name_value EmptyAnnotation (word_of text u) in
     let lo : length (opens ++ p ∷ []) ≡ length opens + 1 = length_push opens p in
     let ln : length (names ++ x ∷ []) ≡ length names + 1 = length_push names x in
     let s : p + 1 ≡ length ts = omega arith in
@@ -145,20 +142,20 @@ headed_more text ts u opens names n d h =
       next = ap (slice_get (ts ++ u ∷ [])) s ∙ slice_pushed ts u;
       is_open = d.opens;
       is_annotation = d.annotation;
-      name = refl;
+      name = y;
     } in
     record {
       long = omega (arith, h.long);
       each = λ g l. elim (cases_lt g (length opens)) [
         | inl k ↦
             let a = get_or_append_left opens (p ∷ []) 0 g k in
-            let b = get_or_append_left names (x ∷ []) (Err EmptyAnnotation) g (omega (arith, h.long)) in
-            subst (λ y. HeadAt text (ts ++ u ∷ []) y (get_or (names ++ x ∷ []) g (Err EmptyAnnotation))) (sym a)
-            (subst (HeadAt text (ts ++ u ∷ []) (get_or opens g 0)) (sym b) (head_kept text ts u (get_or opens g 0) (get_or names g (Err EmptyAnnotation)) (h.each g k)))
+            let b = get_or_append_left names (x ∷ []) None g (omega (arith, h.long)) in
+            subst (λ y. HeadAt text (ts ++ u ∷ []) y (get_or (names ++ x ∷ []) g None)) (sym a)
+            (subst (HeadAt text (ts ++ u ∷ []) (get_or opens g 0)) (sym b) (head_kept text ts u (get_or opens g 0) (get_or names g None) (h.each g k)))
         | inr k ↦
             let a = get_or_push opens p 0 g (omega arith) in
-            let b = get_or_push names x (Err EmptyAnnotation) g (omega (arith, h.long)) in
-            subst (λ y. HeadAt text (ts ++ u ∷ []) y (get_or (names ++ x ∷ []) g (Err EmptyAnnotation))) (sym a) (subst (HeadAt text (ts ++ u ∷ []) p) (sym b) made)
+            let b = get_or_push names x None g (omega (arith, h.long)) in
+            subst (λ y. HeadAt text (ts ++ u ∷ []) y (get_or (names ++ x ∷ []) g None)) (sym a) (subst (HeadAt text (ts ++ u ∷ []) p) (sym b) made)
       ];
       all = λ i t v a b o q. elim (slice_back ts u (i + 1) v b) [
         | inl k ↦ elim (slice_back ts u i t a) [
@@ -169,7 +166,7 @@ headed_more text ts u opens names n d h =
       ];
       sorted = λ g f l m. elim (cases_lt f (length opens)) [
         | inl k ↦ omega (arith, get_or_append_left opens (p ∷ []) 0 g (omega arith), get_or_append_left opens (p ∷ []) 0 f k, h.sorted g f l k)
-        | inr k ↦ let j : g < length opens = omega arith in omega (arith, get_or_append_left opens (p ∷ []) 0 g j, get_or_push opens p 0 f (omega arith), head_below text ts (get_or opens g 0) (get_or names g (Err EmptyAnnotation)) (h.each g j))
+        | inr k ↦ let j : g < length opens = omega arith in omega (arith, get_or_append_left opens (p ∷ []) 0 g j, get_or_push opens p 0 f (omega arith), head_below text ts (get_or opens g 0) (get_or names g None) (h.each g j))
       ];
     }
 
@@ -186,12 +183,12 @@ started_more opens starts p l h =
       ];
     }
 
-pub noted_below : (text : List ℕ) (ts : List Token) (opens : List ℕ) (names : List NameOrFault) (starts : List ℕ) → Noted text ts opens names starts → (g : ℕ) → g < length opens → get_or opens g 0 < length ts
-noted_below text ts opens names starts h g l = omega (arith, head_below text ts (get_or opens g 0) (get_or names g (Err EmptyAnnotation)) (h.headed.each g l))
+pub noted_below : (text : List ℕ) (ts : List Token) (opens : List ℕ) (names : List (Option NameOrFault)) (starts : List ℕ) → Noted text ts opens names starts → (g : ℕ) → g < length opens → get_or opens g 0 < length ts
+noted_below text ts opens names starts h g l = omega (arith, head_below text ts (get_or opens g 0) (get_or names g None) (h.headed.each g l))
 
 -- A token more, with the starts that it left.
 
-pub noted_plain : (text : List ℕ) (ts us : List Token) (opens opens2 starts starts2 : List ℕ) (names names2 : List NameOrFault) (u : Token) → Noted text ts opens names starts → IsTokenOf text u → u.offset + u.len < 2 ^ 32 → us ≡ ts ++ u ∷ []
+pub noted_plain : (text : List ℕ) (ts us : List Token) (opens opens2 starts starts2 : List ℕ) (names names2 : List (Option NameOrFault)) (u : Token) → Noted text ts opens names starts → IsTokenOf text u → u.offset + u.len < 2 ^ 32 → us ≡ ts ++ u ∷ []
     → Started opens2 starts2 → length us ≤ block * length starts2 → is_head (slice_get ts (length ts - 1)) u ≡ false → opens2 ≡ opens → names2 ≡ names → Noted text us opens2 names2 starts2
 noted_plain text ts us opens opens2 starts starts2 names names2 u h r l e k f n a b = record {
   readable = subst (Readable text) (sym e) (readable_more text ts u h.readable r l);
@@ -200,8 +197,8 @@ noted_plain text ts us opens opens2 starts starts2 names names2 u h r l e k f n 
   full = f;
 }
 
-pub noted_more : (text : List ℕ) (ts us : List Token) (opens opens2 opens3 starts starts2 : List ℕ) (names names3 : List NameOrFault) (u : Token) → Noted text ts opens names starts → IsTokenOf text u → u.offset + u.len < 2 ^ 32 → us ≡ ts ++ u ∷ []
-    → Started opens2 starts2 → length us ≤ block * length starts2 → is_head (slice_get ts (length ts - 1)) u ≡ true → opens2 ≡ opens → opens3 ≡ opens2 ++ (length us - 2) ∷ [] → names3 ≡ names ++ name_value EmptyAnnotation (word_of text u) ∷ [] → Noted text us opens3 names3 starts2
+pub noted_more : (text : List ℕ) (ts us : List Token) (opens opens2 opens3 starts starts2 : List ℕ) (names names3 : List (Option NameOrFault)) (u : Token) → Noted text ts opens names starts → IsTokenOf text u → u.offset + u.len < 2 ^ 32 → us ≡ ts ++ u ∷ []
+    → Started opens2 starts2 → length us ≤ block * length starts2 → is_head (slice_get ts (length ts - 1)) u ≡ true → opens2 ≡ opens → opens3 ≡ opens2 ++ (length us - 2) ∷ [] → OneMoreName (word_of text u) names names3 → Noted text us opens3 names3 starts2
 noted_more text ts us opens opens2 opens3 starts starts2 names names3 u h r l e k f n g a b =
     let d = head_from (slice_get ts (length ts - 1)) u n in
     let w : length ts - 1 < length ts = slice_get_within ts (length ts - 1) d.paren d.is in
@@ -209,7 +206,7 @@ noted_more text ts us opens opens2 opens3 starts starts2 names names3 u h r l e 
     let c : opens3 ≡ opens ++ (length ts - 1) ∷ [] = a ∙ ap (λ x. x ++ (length us - 2) ∷ []) g ∙ ap (λ x. opens ++ x ∷ []) (omega arith) in
     record {
       readable = subst (Readable text) (sym e) (readable_more text ts u h.readable r l);
-      headed = subst (λ x. Headed text x opens3 names3) (sym e) (subst (λ y. Headed text (ts ++ u ∷ []) y names3) (sym c) (subst (Headed text (ts ++ u ∷ []) (opens ++ (length ts - 1) ∷ [])) (sym b) (headed_more text ts u opens names (omega arith) d h.headed)));
+      headed = subst (λ x. Headed text x opens3 names3) (sym e) (subst (λ y. Headed text (ts ++ u ∷ []) y names3) (sym c) (subst (Headed text (ts ++ u ∷ []) (opens ++ (length ts - 1) ∷ [])) (sym b.1) (headed_more text ts u opens names b.0 b.2 (omega arith) d h.headed)));
       started = subst (λ y. Started y starts2) (sym c) (started_more opens starts2 (length ts - 1) (omega arith) (subst (λ y. Started y starts2) g k));
       full = f;
     }

@@ -1,8 +1,9 @@
 -- What the table of a buffer holds beside the raw tokens: of each annotation that stands directly behind a parenthesis its name, and
 -- where its group is closed.
-use Rattle.std.specs.Prelude.{◌≡◌, ◌<◌, ◌≤◌, ◌^◌, ◌+◌, ◌*◌, ◌&&◌, ℕ, Bool, true, false, List, [], ◌∷◌, length, drop, Option, Some, None, Result, Err, MatchOption, slice_get, slice_set as set, get_or, ◌⊎◌}
+use Rattle.std.specs.Prelude.{◌≡◌, ◌<◌, ◌≤◌, ◌^◌, ◌+◌, ◌++◌, ◌*◌, ◌&&◌, ℕ, Bool, true, false, List, [], ◌∷◌, length, drop, Option, Some, None, Result, MatchOption, slice_get, slice_set as set, get_or, ◌⊎◌}
 use Rattle.wat_lex.specs.tokens.ReadableTokens.{IsTokenOf, word_of}
 use Rattle.wat_lex.specs.values.WordValues.{name_value}
+use Rattle.wat_lex.specs.values.Names.{HasNoEscape}
 use Rattle.wat_lex.specs.declared.lexer.faults.LexError.{LexError}
 use Rattle.wat_lex.specs.declared.lexer.faults.LexError.TheVariants.{EmptyAnnotation}
 use Rattle.wat_lex.specs.declared.lexer.kinds.TokenKind.{TokenKind}
@@ -16,24 +17,33 @@ use Rattle.wat_lexer_parser.specs.places.Source.{Source, IsRead}
 abbrev pub NameOrFault : Type 0
 NameOrFault = Result (List ℕ) LexError
 
--- at the place a parenthesis opens, and the annotation directly behind it has this name
-pub record HeadAt (text : List ℕ) (ts : List Token) (i : ℕ) (x : NameOrFault) : Type 0 where
+-- What is noted of the word of an annotation: nothing where its name is a part of the text, else its name, or what is wrong with it.
+abbrev pub NotedName : List ℕ → Option NameOrFault → Type 0
+NotedName w None = HasNoEscape w
+NotedName w (Some x) = x ≡ name_value EmptyAnnotation w
+
+-- these names, and what is noted of one more word
+abbrev pub OneMoreName : List ℕ → List (Option NameOrFault) → List (Option NameOrFault) → Type 0
+OneMoreName w old new = (x : Option NameOrFault) × (new ≡ old ++ x ∷ []) × NotedName w x
+
+-- at the place a parenthesis opens, and this is noted of the annotation directly behind it
+pub record HeadAt (text : List ℕ) (ts : List Token) (i : ℕ) (x : Option NameOrFault) : Type 0 where
   pub paren : Token
   pub word : Token
   pub opens : slice_get ts i ≡ Some paren
   pub next : slice_get ts (i + 1) ≡ Some word
   pub is_open : paren.kind ≡ LParen
   pub is_annotation : word.kind ≡ Annotation
-  pub name : x ≡ name_value EmptyAnnotation (word_of text word)
+  pub name : NotedName (word_of text word) x
 
 -- the places grow
 abbrev pub Sorted : List ℕ → Type 0
 Sorted opens = (g h : ℕ) → g < h → h < length opens → get_or opens g 0 < get_or opens h 0
 
 -- the places of all such parentheses, with the names
-pub record Headed (text : List ℕ) (ts : List Token) (opens : List ℕ) (names : List NameOrFault) : Type 0 where
+pub record Headed (text : List ℕ) (ts : List Token) (opens : List ℕ) (names : List (Option NameOrFault)) : Type 0 where
   pub long : length names ≡ length opens
-  pub each : (g : ℕ) → g < length opens → HeadAt text ts (get_or opens g 0) (get_or names g (Err EmptyAnnotation))
+  pub each : (g : ℕ) → g < length opens → HeadAt text ts (get_or opens g 0) (get_or names g None)
   pub all : (i : ℕ) (t u : Token) → slice_get ts i ≡ Some t → slice_get ts (i + 1) ≡ Some u → t.kind ≡ LParen → u.kind ≡ Annotation → (g : ℕ) × (g < length opens) × (get_or opens g 0 ≡ i)
   pub sorted : Sorted opens
 
@@ -100,14 +110,14 @@ Readable text [] = Unit {0}
 Readable text (t ∷ ts) = (IsTokenOf text t × (t.offset + t.len < 2 ^ 32)) × Readable text ts
 
 -- annotations are noted among these tokens, which may be read
-pub record Noted (text : List ℕ) (ts : List Token) (opens : List ℕ) (names : List NameOrFault) (starts : List ℕ) : Type 0 where
+pub record Noted (text : List ℕ) (ts : List Token) (opens : List ℕ) (names : List (Option NameOrFault)) (starts : List ℕ) : Type 0 where
   pub readable : Readable text ts
   pub headed : Headed text ts opens names
   pub started : Started opens starts
   pub full : length ts ≤ block * length starts
 
 -- the table of a text
-pub record IsTable (s : Source) (opens : List ℕ) (names : List NameOrFault) (starts : List ℕ) (closes : List (Option ℕ)) : Type 0 where
+pub record IsTable (s : Source) (opens : List ℕ) (names : List (Option NameOrFault)) (starts : List ℕ) (closes : List (Option ℕ)) : Type 0 where
   pub read : IsRead s
   pub noted : Noted s.setting.text s.tokens opens names starts
   pub paired : Paired s.tokens opens closes

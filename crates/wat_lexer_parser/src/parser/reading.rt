@@ -1,17 +1,19 @@
 //! A text and its table, as parsers read them.
-ghost use Rattle.std.specs.Prelude.{◌≡◌, ◌<◌, ◌≤◌, ◌^◌, ◌+◌, false, length, drop, map, not, Some};
+ghost use Rattle.std.specs.Prelude.{◌≡◌, ◌<◌, ◌≤◌, ◌^◌, ◌+◌, false, length, drop, map, not, Some, Ok};
 ghost use Rattle.std.specs.Prelude.{slice_get};
 ghost use Rattle.std.specs.List.{list_any};
 ghost use Rattle.std.specs.Prelude.{IfOk, IfErr, IfSome};
 ghost use Rattle.std.specs.Str.{IsUtf8};
 ghost use Rattle.wat_lex.specs.errors.Errors.{IsUnlessMemory};
-ghost use Rattle.wat_lex.specs.tokens.ReadableTokens.{IsTokenOf};
+ghost use Rattle.wat_lex.specs.tokens.ReadableTokens.{IsTokenOf, word_of};
+ghost use Rattle.wat_lex.specs.values.Names.{HasNoEscape};
 ghost use Rattle.wat_lex.specs.declared.lexer.kinds.Token.{Token};
-ghost use Rattle.wat_lex.specs.declared.lexer.kinds.TokenKind.TheVariants.{LParen};
+ghost use Rattle.wat_lex.specs.declared.lexer.kinds.TokenKind.TheVariants.{Annotation, LParen};
 ghost use Rattle.wat_lexer_parser.specs.declared.parser.fault.FaultKind.TheVariants.{Lex};
+ghost use Rattle.wat_lexer_parser.specs.declared.parser.fault.Step.TheVariants.{Refuse};
 ghost use Rattle.wat_lexer_parser.specs.groups.Sorts.{is_blank, is_comment, is_marked, is_space};
 ghost use Rattle.wat_lexer_parser.specs.inside.Table.{HeadsAnnotation, IsTable, Pair};
-ghost use Rattle.wat_lexer_parser.specs.inside.TableNames.{name_view};
+ghost use Rattle.wat_lexer_parser.specs.inside.TableNames.{name_view, written_view};
 ghost use Rattle.wat_lexer_parser.specs.parser.State.{message_at, report_of};
 ghost use Rattle.wat_lexer_parser.specs.places.Places.{offset_at, current_span, empty_of};
 ghost use Rattle.wat_lexer_parser.specs.places.Places.{comment_at, past_space, is_meaningful};
@@ -173,21 +175,33 @@ fn is_comment(kind: TokenKind) -> bool
 }
 
 /// What an annotation of this name means for the parenthesis before it.
-fn step_by(name: &Result<String, LexError>, token: Token, names: &Names) -> Step
-    ensures { result ≡ step_named names.now token (Some (name_view name.now)) }
+fn step_by(name: &str, token: Token, names: &Names) -> Step
+    ensures { result ≡ step_named names.now token (Some (Ok name.now)) }
+{
+    if names.is_registered(name) {
+        Step::Take
+    } else {
+        Step::Skip
+    }
+}
+
+/// What an annotation means whose name is at fault.
+fn step_refused(error: LexError, token: Token) -> Step
+    ensures { result ≡ Refuse (record { offset = token.offset; kind = Lex error }) }
+{
+    Step::Refuse(Fault {
+        offset: token.offset,
+        kind: FaultKind::Lex(error),
+    })
+}
+
+/// What an annotation means whose name is noted.
+fn step_written(name: &Result<String, LexError>, token: Token, names: &Names) -> Step
+    ensures { result ≡ step_named names.now token (Some (written_view name.now)) }
 {
     match name {
-        Ok(name) => {
-            if names.is_registered(name.as_str()) {
-                Step::Take
-            } else {
-                Step::Skip
-            }
-        }
-        Err(error) => Step::Refuse(Fault {
-            offset: token.offset,
-            kind: FaultKind::Lex(*error),
-        }),
+        Ok(name) => step_by(name.as_str(), token, names),
+        Err(error) => step_refused(*error, token),
     }
 }
 
@@ -222,13 +236,33 @@ impl<'a> Reading<'a> {
         }
     }
 
+    /// What the name of an annotation means that is a part of the text.
+    fn step_in_text(&self, token: Token, names: &Names) -> Step
+        requires token { IsTokenOf self.now.setting.text token }
+        requires kind { token.kind ≡ Annotation }
+        requires plain { HasNoEscape (word_of self.now.setting.text token) }
+        ensures { result ≡ step_named names.now token (name_at self.now.setting.text token) }
+    {
+        match token.name(self.alloc, self.text()) {
+            Ok(Ok(name)) => step_by(name.as_str(), token, names),
+            Ok(Err(error)) => step_refused(error, token),
+            Err(_) => unreachable!(),
+        }
+    }
+
     /// What the name of an annotation means for the parenthesis before it, which stands at a place.
+    // It stays a call, so that a look at any other token is small.
+    #[inline(never)]
     fn step_named(&self, place: usize, token: Token, names: &Names) -> Step
-        requires { HeadsAnnotation self.now.tokens place token }
+        requires head { HeadsAnnotation self.now.tokens place token }
+        requires token { IsTokenOf self.now.setting.text token }
         ensures { result ≡ step_named names.now token (name_at self.now.setting.text token) }
     {
         match find(&self.table.opens, &self.table.starts, place) {
-            Some(i) => step_by(&self.table.names[i], token, names),
+            Some(i) => match &self.table.names[i] {
+                Some(name) => step_written(name, token, names),
+                None => self.step_in_text(token, names),
+            },
             None => Step::Take,
         }
     }
@@ -257,6 +291,7 @@ impl<'a> Reading<'a> {
             Some(next) => match next.kind {
                 TokenKind::Annotation => {
                     if self.is_marked(token) {
+                        self.is_readable(place + 1, next);
                         self.step_named(place, next, names)
                     } else {
                         Step::Take

@@ -3,15 +3,14 @@ ghost use Rattle.std.specs.Prelude.{◌≡◌, ◌<◌, ◌≤◌, ◌+◌, ◌-
 ghost use Rattle.std.specs.Prelude.{IfOk, OnOk, None, slice_get, get_or};
 ghost use Rattle.wat_lex.specs.tokens.ReadableTokens.{IsTokenOf, word_of};
 ghost use Rattle.wat_lex.specs.tokens.Tiling.{MaximalTiling};
-ghost use Rattle.wat_lex.specs.values.WordValues.{name_value};
-ghost use Rattle.wat_lex.specs.declared.lexer.faults.LexError.TheVariants.{EmptyAnnotation};
 ghost use Rattle.wat_lex.specs.declared.lexer.kinds.TokenKind.TheVariants.{Annotation};
-ghost use Rattle.wat_lexer_parser.specs.inside.Table.{block, is_head, Found, Noted, Paired};
-ghost use Rattle.wat_lexer_parser.specs.inside.Table.{ClosesOne, FirstFrom, Opening};
+ghost use Rattle.wat_lexer_parser.specs.inside.Table.{block, is_head, Found, Noted, NotedName};
+ghost use Rattle.wat_lexer_parser.specs.inside.Table.{ClosesOne, FirstFrom, OneMoreName, Opening, Paired};
 ghost use Rattle.wat_lexer_parser.specs.inside.Table.{Sorted, Started};
 ghost use Rattle.wat_lexer_parser.specs.inside.TableNames.{name_view};
 
 use std::alloc::{AllocError, Global};
+use std::borrow::CowStr;
 use wat_lex::lexer::{LexError, LexFault, Lexer, Token, TokenKind};
 
 /// How many tokens have one entry among the starts.
@@ -28,8 +27,9 @@ pub struct Table {
     pub fault: Option<LexFault>,
     /// The places of these parentheses.
     pub opens: Vec<usize>,
-    /// The names of these annotations, or what is wrong with them.
-    pub names: Vec<Result<String, LexError>>,
+    /// The names of these annotations, or what is wrong with them, where they are no part of the
+    /// text.
+    pub names: Vec<Option<Box<Result<String, LexError>>>>,
     /// For each block of tokens, how many of these parentheses stand before it.
     pub starts: Vec<usize>,
     /// Where the groups of these annotations are closed.
@@ -47,6 +47,25 @@ fn is_head(before: &[Token], token: Token) -> bool
         },
         _ => false,
     }
+}
+
+/// The name of an annotation, or what is wrong with it, where it is no part of the text. One that is
+/// part of it takes no memory, now and when it is read again.
+fn noted_name(
+    alloc: Global,
+    text: &str,
+    token: &Token,
+) -> Result<Option<Box<Result<String, LexError>>>, AllocError>
+    requires token { IsTokenOf text.now token.now }
+    requires kind { token.now.kind ≡ Annotation }
+    ensures { IfOk result (λ name. NotedName (word_of text.now token.now) (name_view name)) }
+{
+    let name = match token.name(alloc, text)? {
+        Ok(CowStr::Borrowed(_)) => return Ok(None),
+        Ok(CowStr::Owned(name)) => Ok(name),
+        Err(error) => Err(error),
+    };
+    Ok(Some(Box::new(alloc, name)?))
 }
 
 impl Table {
@@ -91,6 +110,8 @@ impl Table {
     }
 
     /// Notes that the last two tokens are a parenthesis and an annotation.
+    // It stays a call, so that the loop over all tokens is small.
+    #[inline(never)]
     fn note(&mut self, alloc: Global, text: &str, token: &Token) -> Result<(), AllocError>
         requires token { IsTokenOf text.now token.now }
         requires kind { token.now.kind ≡ Annotation }
@@ -99,17 +120,13 @@ impl Table {
             (self.new.opens.items
             ≡ self.old.opens.items ++ (length self.old.tokens.items - 2) ∷ []) }
         ensures names { OnOk result
-            (map name_view self.new.names.items
-            ≡ map name_view self.old.names.items
-            ++ name_value EmptyAnnotation (word_of text.now token.now) ∷ []) }
+            (OneMoreName (word_of text.now token.now)
+            (map name_view self.old.names.items) (map name_view self.new.names.items)) }
         ensures tokens { self.new.tokens ≡ self.old.tokens }
         ensures starts { self.new.starts ≡ self.old.starts }
         ensures fault { self.new.fault ≡ self.old.fault }
     {
-        let name = match token.name(alloc, text)? {
-            Ok(name) => Ok(name.into_owned(alloc)?),
-            Err(error) => Err(error),
-        };
+        let name = noted_name(alloc, text, token)?;
         self.opens.push(self.tokens.len() - 2)?;
         self.names.push(name)?;
         Ok(())
