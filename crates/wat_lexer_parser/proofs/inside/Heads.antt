@@ -87,6 +87,15 @@ head_from (Some t) u e = let h = split (is_open t.kind) (is_annotation u.kind) e
     split true y f = (refl, f)
     split false y f = cc
 
+-- what is no annotation is no head
+pub no_head : (last : Option Token) (u : Token) → is_annotation u.kind ≡ false → is_head last u ≡ false
+no_head None u e = refl
+no_head (Some t) u e = neither (is_open t.kind) (is_annotation u.kind) e
+  where
+    neither : (x y : Bool) → y ≡ false → (x && y) ≡ false
+    neither true y f = f
+    neither false y f = refl
+
 head_kept : (text : List ℕ) (ts : List Token) (u : Token) (i : ℕ) (x : Option NameOrFault) → HeadAt text ts i x → HeadAt text (ts ++ u ∷ []) i x
 head_kept text ts u i x h = record {
   paren = h.paren;

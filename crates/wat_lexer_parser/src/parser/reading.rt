@@ -20,7 +20,7 @@ ghost use Rattle.wat_lexer_parser.specs.places.Places.{comment_at, past_space, i
 ghost use Rattle.wat_lexer_parser.specs.places.Source.{IsRead};
 ghost use Rattle.wat_lexer_parser.specs.shown.Shown.{ended, left_open};
 ghost use Rattle.wat_lexer_parser.specs.shown.Showing.{name_at, placed, shown, step_kind};
-ghost use Rattle.wat_lexer_parser.specs.shown.Showing.{step_named, step_of};
+ghost use Rattle.wat_lexer_parser.specs.shown.Showing.{step_named, step_next, step_of};
 
 use crate::parser::fault::{Fault, FaultKind, Step};
 use crate::parser::names::Names;
@@ -250,14 +250,19 @@ impl<'a> Reading<'a> {
         }
     }
 
-    /// What the name of an annotation means for the parenthesis before it, which stands at a place.
+    /// What the name of the annotation means whose parenthesis stands at a place.
     // It stays a call, so that a look at any other token is small.
     #[inline(never)]
-    fn step_named(&self, place: usize, token: Token, names: &Names) -> Step
-        requires head { HeadsAnnotation self.now.tokens place token }
-        requires token { IsTokenOf self.now.setting.text token }
-        ensures { result ≡ step_named names.now token (name_at self.now.setting.text token) }
+    fn step_named(&self, place: usize, names: &Names) -> Step
+        requires within { place < 2 ^ 63 }
+        requires head { (u : Token) × HeadsAnnotation self.now.tokens place u }
+        ensures { result ≡ step_next self.now.setting.text names.now
+            (slice_get self.now.tokens (place + 1)) }
     {
+        let Some(token) = self.token_at(place + 1) else {
+            return Step::Finish;
+        };
+        self.is_readable(place + 1, token);
         match find(&self.table.opens, &self.table.starts, place) {
             Some(i) => match &self.table.names[i] {
                 Some(name) => step_written(name, token, names),
@@ -291,8 +296,7 @@ impl<'a> Reading<'a> {
             Some(next) => match next.kind {
                 TokenKind::Annotation => {
                     if self.is_marked(token) {
-                        self.is_readable(place + 1, next);
-                        self.step_named(place, next, names)
+                        self.step_named(place, names)
                     } else {
                         Step::Take
                     }

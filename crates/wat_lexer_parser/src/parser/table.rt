@@ -4,7 +4,7 @@ ghost use Rattle.std.specs.Prelude.{IfOk, OnOk, None, slice_get, get_or};
 ghost use Rattle.wat_lex.specs.tokens.ReadableTokens.{IsTokenOf, word_of};
 ghost use Rattle.wat_lex.specs.tokens.Tiling.{MaximalTiling};
 ghost use Rattle.wat_lex.specs.declared.lexer.kinds.TokenKind.TheVariants.{Annotation};
-ghost use Rattle.wat_lexer_parser.specs.inside.Table.{block, is_head, Found, Noted, NotedName};
+ghost use Rattle.wat_lexer_parser.specs.inside.Table.{block, is_annotation, is_head, Found, Noted, NotedName};
 ghost use Rattle.wat_lexer_parser.specs.inside.Table.{ClosesOne, FirstFrom, OneMoreName, Opening, Paired};
 ghost use Rattle.wat_lexer_parser.specs.inside.Table.{Sorted, Started};
 ghost use Rattle.wat_lexer_parser.specs.inside.TableNames.{name_view};
@@ -36,16 +36,19 @@ pub struct Table {
     pub closes: Vec<Option<usize>>,
 }
 
+fn is_annotation(kind: TokenKind) -> bool
+    ensures { result ≡ is_annotation kind }
+{
+    matches!(kind, TokenKind::Annotation)
+}
+
 /// Whether a token is an annotation, and the last one before it a parenthesis that opens.
 fn is_head(before: &[Token], token: Token) -> bool
     ensures { result ≡ is_head (slice_get before.now (length before.now - 1)) token }
 {
-    match token.kind {
-        TokenKind::Annotation => match before.last() {
-            Some(last) => matches!(last.kind, TokenKind::LParen),
-            None => false,
-        },
-        _ => false,
+    match before.last() {
+        Some(last) => matches!(last.kind, TokenKind::LParen) && is_annotation(token.kind),
+        None => false,
     }
 }
 
@@ -110,8 +113,6 @@ impl Table {
     }
 
     /// Notes that the last two tokens are a parenthesis and an annotation.
-    // It stays a call, so that the loop over all tokens is small.
-    #[inline(never)]
     fn note(&mut self, alloc: Global, text: &str, token: &Token) -> Result<(), AllocError>
         requires token { IsTokenOf text.now token.now }
         requires kind { token.now.kind ≡ Annotation }
@@ -135,6 +136,30 @@ impl Table {
     /// Adds a token, and notes it where it is an annotation directly behind a parenthesis.
     fn add(&mut self, alloc: Global, text: &str, token: Token) -> Result<(), AllocError>
         requires token { IsTokenOf text.now token }
+        requires short { token.offset + token.len < 2 ^ 32 }
+        requires noted { Noted text.now self.old.tokens.items self.old.opens.items
+            (map name_view self.old.names.items) self.old.starts.items }
+        ensures tokens { OnOk result
+            (self.new.tokens.items ≡ self.old.tokens.items ++ token ∷ []) }
+        ensures noted { OnOk result (
+            Noted text.now self.new.tokens.items self.new.opens.items
+            (map name_view self.new.names.items) self.new.starts.items) }
+        ensures fault { self.new.fault ≡ self.old.fault }
+    {
+        if is_annotation(token.kind) {
+            self.add_annotation(alloc, text, token)?;
+        } else {
+            self.push(token)?;
+        }
+        Ok(())
+    }
+
+    /// Adds an annotation, and notes it where it stands directly behind a parenthesis.
+    // It stays a call, so that the loop over all tokens is small.
+    #[inline(never)]
+    fn add_annotation(&mut self, alloc: Global, text: &str, token: Token) -> Result<(), AllocError>
+        requires token { IsTokenOf text.now token }
+        requires kind { token.kind ≡ Annotation }
         requires short { token.offset + token.len < 2 ^ 32 }
         requires noted { Noted text.now self.old.tokens.items self.old.opens.items
             (map name_view self.old.names.items) self.old.starts.items }
