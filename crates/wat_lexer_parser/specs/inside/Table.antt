@@ -58,7 +58,7 @@ is_head (Some t) u = is_open t.kind && is_annotation u.kind
 
 -- how many tokens have one start
 abbrev pub block : ℕ
-block = 32
+block = 64
 
 -- for each block of places how many of these places lie before it
 pub record Started (opens starts : List ℕ) : Type 0 where

@@ -14,7 +14,7 @@ use std::borrow::CowStr;
 use wat_lex::lexer::{LexError, LexFault, Lexer, Token, TokenKind};
 
 /// How many tokens have one entry among the starts.
-const BLOCK: usize = 32;
+const BLOCK: usize = 64;
 
 /// How many bytes a token is likely to have. Room that stays unused is given back.
 const LIKELY: usize = 2;
