@@ -24,7 +24,7 @@ fn answer(rt: &impl Abort, alloc: Global, reader: Reader, text: &str, out: &mut 
     assert!(rt; text.len() < 1000 && text.is_char_boundary(0));
     let text = text.as_bytes();
     match reader {
-        Reader::Fault => wat_fault(alloc, text, 0, false, false, out),
+        Reader::Fault => wat_fault(text, 0, false, false, out),
         Reader::Text => wat_string(alloc, text, 0, false, false, out),
         Reader::Name => wat_name(alloc, text, 0, false, false, out),
         Reader::NameFault => wat_name_fault(alloc, text, 0, false, false, out),

@@ -332,8 +332,7 @@ impl<'a> Place<'a> {
 }
 
 impl Answer {
-    /// How many bytes there are. The memory that a reader asks for is never more than its token has bytes, or else a few
-    /// lines; where that is refused the process ends, as Rust's own collections do.
+    /// How many bytes there are. Where the reader was refused memory the process ends, as Rust's own collections do.
     fn needed(self) -> Result<usize, Refusal> {
         match self.status {
             GIVEN => Ok(self.needed),
