@@ -147,6 +147,9 @@ bool wat_is_place(const uint8_t *text, size_t len, size_t pos);
 /* The token at a place, or the text's end, or the fault. */
 struct wat_found wat_scan(const uint8_t *text, size_t len, size_t pos, bool allow, bool strict);
 
+/* The token of what `wat_scan` answers there, which small registers take: its length is 0 where the text ends there or has a fault. */
+struct wat_token wat_token_at(const uint8_t *text, size_t len, size_t pos, bool allow, bool strict);
+
 /* The tokens from a place on, end to end, up to the text's end or the first fault, or as many as there is room for. What lies behind
  * them in the buffer stays. Where the room is just filled by the last token of the text the answer is `WAT_FULL`, and that of the next
  * call `WAT_END`. */

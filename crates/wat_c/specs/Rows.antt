@@ -111,6 +111,12 @@ pub record FoundAt (s : Setting) (p : ℕ) (row : Found) : Type 0 where
   pub stands : AnswerAt s p answer
   pub told : row ≡ found_row p answer
 
+-- the row is the token of what is told of the byte p
+pub record TokenFoundAt (s : Setting) (p : ℕ) (row : TokenRow) : Type 0 where
+  pub all : Found
+  pub found : FoundAt s p all
+  pub token : row ≡ all.token
+
 -- why no row follows these, the last of which ends at the place: 0 for the text's end, 1 where there is room for no more, otherwise
 -- the number of the fault
 pub data Stops (s : Setting) (at room count : ℕ) : ℕ → Type 0 where

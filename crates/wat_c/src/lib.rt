@@ -8,7 +8,7 @@ ghost use Rattle.wat_lex.specs.errors.Positions.{line_and_column};
 ghost use Rattle.wat_c.specs.Answers.{Answers, OneAnswer};
 ghost use Rattle.wat_c.specs.Readings.{Finds, FindsFault, IsString, IsNamed, IsInteger, IsFloat};
 ghost use Rattle.wat_c.specs.Readings.{ReadsString, ReadsName, ReadsInteger, ReadsFloat, ReadsNameFault};
-ghost use Rattle.wat_c.specs.Rows.{FoundAt, Fills, OneFill, setting};
+ghost use Rattle.wat_c.specs.Rows.{FoundAt, TokenFoundAt, Fills, OneFill, setting};
 ghost use Rattle.wat_c.specs.declared.rows.Found.{Found as FoundRow};
 
 pub mod answers;
@@ -84,6 +84,21 @@ pub extern "C" fn wat_scan(text: &[u8], pos: usize, allow: bool, strict: bool) -
     found_row(pos, lexer_of(text, Settings { allow, strict }).scan(pos))
 }
 
+/// The token of what `wat_scan` answers, which C is handed in registers. Its length is 0 where the
+/// text ends or has a fault.
+#[unsafe(no_mangle)]
+pub extern "C" fn wat_token_at(text: &[u8], pos: usize, allow: bool, strict: bool) -> TokenRow
+    requires utf8 { IsUtf8 text.now }
+    requires short { length text.now < 2 ^ 32 }
+    requires boundary { IsCharBoundary text.now pos }
+    ensures found { TokenFoundAt (setting text.now allow strict) pos result }
+    ensures one { (row : FoundRow) →
+        FoundAt (setting text.now allow strict) pos row → row.token ≡ result }
+{
+    let text = unsafe { str::from_utf8_unchecked(text) };
+    found_row(pos, lexer_of(text, Settings { allow, strict }).scan(pos)).token
+}
+
 /// Fills rows with the tokens from a byte of the text on, up to its end or its first fault, or as
 /// many as there is room for. The rows behind them stay.
 #[unsafe(no_mangle)]
@@ -124,7 +139,8 @@ pub extern "C" fn wat_string(
     requires boundary { IsCharBoundary text.now pos }
     ensures found { Answers (Finds IsString ReadsString (setting text.now allow strict) pos)
         out.old out.new result }
-    ensures one { OneAnswer (Finds IsString ReadsString (setting text.now allow strict) pos) out.old }
+    ensures one { OneAnswer
+        (Finds IsString ReadsString (setting text.now allow strict) pos) out.old }
 {
     one_answer();
     let text = unsafe { str::from_utf8_unchecked(text) };
@@ -146,7 +162,8 @@ pub extern "C" fn wat_name(
     requires boundary { IsCharBoundary text.now pos }
     ensures found { Answers (Finds IsNamed ReadsName (setting text.now allow strict) pos)
         out.old out.new result }
-    ensures one { OneAnswer (Finds IsNamed ReadsName (setting text.now allow strict) pos) out.old }
+    ensures one { OneAnswer
+        (Finds IsNamed ReadsName (setting text.now allow strict) pos) out.old }
 {
     one_answer();
     let text = unsafe { str::from_utf8_unchecked(text) };
@@ -168,7 +185,8 @@ pub extern "C" fn wat_integer(
     requires boundary { IsCharBoundary text.now pos }
     ensures found { Answers (Finds IsInteger ReadsInteger (setting text.now allow strict) pos)
         out.old out.new result }
-    ensures one { OneAnswer (Finds IsInteger ReadsInteger (setting text.now allow strict) pos) out.old }
+    ensures one { OneAnswer
+        (Finds IsInteger ReadsInteger (setting text.now allow strict) pos) out.old }
 {
     one_answer();
     let text = unsafe { str::from_utf8_unchecked(text) };
@@ -192,7 +210,8 @@ pub extern "C" fn wat_float(
     requires boundary { IsCharBoundary text.now pos }
     ensures found { Answers (Finds IsFloat (ReadsFloat part) (setting text.now allow strict) pos)
         out.old out.new result }
-    ensures one { OneAnswer (Finds IsFloat (ReadsFloat part) (setting text.now allow strict) pos) out.old }
+    ensures one { OneAnswer
+        (Finds IsFloat (ReadsFloat part) (setting text.now allow strict) pos) out.old }
 {
     one_answer();
     let text = unsafe { str::from_utf8_unchecked(text) };
@@ -237,7 +256,8 @@ pub extern "C" fn wat_name_fault(
     requires boundary { IsCharBoundary text.now pos }
     ensures found { Answers (Finds IsNamed ReadsNameFault (setting text.now allow strict) pos)
         out.old out.new result }
-    ensures one { OneAnswer (Finds IsNamed ReadsNameFault (setting text.now allow strict) pos) out.old }
+    ensures one { OneAnswer
+        (Finds IsNamed ReadsNameFault (setting text.now allow strict) pos) out.old }
 {
     one_answer();
     let text = unsafe { str::from_utf8_unchecked(text) };
