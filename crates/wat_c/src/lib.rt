@@ -96,7 +96,8 @@ pub extern "C" fn wat_token_at(text: &[u8], pos: usize, allow: bool, strict: boo
         FoundAt (setting text.now allow strict) pos row → row.token ≡ result }
 {
     let text = unsafe { str::from_utf8_unchecked(text) };
-    found_row(pos, lexer_of(text, Settings { allow, strict }).scan(pos)).token
+    let lexer = lexer_of(text, Settings { allow, strict });
+    found_row(pos, lexer.scan(pos)).token
 }
 
 /// Fills rows with the tokens from a byte of the text on, up to its end or its first fault, or as
