@@ -147,13 +147,15 @@ bool wat_is_place(const uint8_t *text, size_t len, size_t pos);
 /* The token at a place, or the text's end, or the fault. */
 struct wat_found wat_scan(const uint8_t *text, size_t len, size_t pos, bool allow, bool strict);
 
+/* The token of what `wat_scan` answers there, which small registers take: its length is 0 where the text ends there or has a fault. */
+struct wat_token wat_token_at(const uint8_t *text, size_t len, size_t pos, bool allow, bool strict);
+
 /* The tokens from a place on, end to end, up to the text's end or the first fault, or as many as there is room for. What lies behind
  * them in the buffer stays. Where the room is just filled by the last token of the text the answer is `WAT_FULL`, and that of the next
  * call `WAT_END`. */
 struct wat_filled wat_fill(const uint8_t *text, size_t len, size_t pos, bool allow, bool strict, struct wat_token *out, size_t room);
 
-/* What the fault at a place prints: its message, line and column, and the line with a marker under the column. Want of memory only where
- * there is a fault. */
+/* What the fault at a place prints: its message, line and column, and the line with a marker under the column. It takes no memory. */
 struct wat_answer wat_fault(const uint8_t *text, size_t len, size_t pos, bool allow, bool strict, uint8_t *out, size_t room);
 
 /* The bytes of the string at a place. Want of memory only where an escape stands in it. */
@@ -164,7 +166,7 @@ struct wat_answer wat_string(const uint8_t *text, size_t len, size_t pos, bool a
 struct wat_answer wat_name(const uint8_t *text, size_t len, size_t pos, bool allow, bool strict, uint8_t *out, size_t room);
 
 /* What is wrong with the name of the identifier or annotation at a place, printed as `wat_fault` prints a fault; `WAT_ABSENT` where the name is
- * right. Want of memory only where an escape stands in it or it is wrong. */
+ * right. Want of memory only where an escape stands in it. */
 struct wat_answer wat_name_fault(const uint8_t *text, size_t len, size_t pos, bool allow, bool strict, uint8_t *out, size_t room);
 
 /* The digits of the integer at a place, without `+`, underscores and `0x`, a `-` kept. Want of memory only where underscores or `0x`

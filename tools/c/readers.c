@@ -101,12 +101,19 @@ static void read_value(unsigned reader, struct setting s, size_t pos) {
     free(exact);
 }
 
+static bool are_same(struct wat_token a, struct wat_token b) {
+    return a.offset == b.offset && a.len == b.len && a.kind.code == b.kind.code && a.kind.sign == b.kind.sign &&
+           a.kind.has_underscores == b.kind.has_underscores && a.kind.hex == b.kind.hex;
+}
+
 /* What stands at a place, by every function. */
 static struct wat_found look(struct setting s, size_t pos) {
     struct wat_found found = wat_scan(s.text, s.len, pos, s.allow, s.strict);
+    struct wat_token token = wat_token_at(s.text, s.len, pos, s.allow, s.strict);
     struct wat_position position = wat_line_column(s.text, s.len, pos);
     unsigned reader;
     expect(wat_is_place(s.text, s.len, pos), "a token does not end at a place", pos);
+    expect(are_same(found.token, token), "the token alone is another", pos);
     expect(position.line <= pos && position.column <= pos, "a line or column past the place", pos);
     for (reader = 0; reader < READERS; reader++) {
         uint8_t none = 0;
@@ -130,10 +137,7 @@ static void read_text(struct setting s) {
         for (i = 0; i < filled.count; i++) {
             struct wat_found found = look(s, at);
             expect(rows[i].offset == at && rows[i].len > 0, "a row is not behind the last", at);
-            expect(found.token.offset == rows[i].offset && found.token.len == rows[i].len && found.token.kind.code == rows[i].kind.code &&
-                       found.token.kind.sign == rows[i].kind.sign && found.token.kind.has_underscores == rows[i].kind.has_underscores &&
-                       found.token.kind.hex == rows[i].kind.hex,
-                   "a row is not what stands there", at);
+            expect(are_same(found.token, rows[i]), "a row is not what stands there", at);
             at += rows[i].len;
             tokens_seen++;
         }

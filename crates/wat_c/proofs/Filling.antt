@@ -2,7 +2,7 @@
 use Rattle.std.proofs.Common.{◌≡◌, ◌≤◌, ◌<◌, ◌+◌, ◌++◌, ℕ, List, [], ◌∷◌, length, take, drop, refl, arith, ap, sym, ◌∙◌, subst, slice_set}
 use Rattle.std.specs.Prelude.{map}
 use Rattle.std.specs.Str.{IsCharBoundary}
-use Rattle.std.proofs.lemmas.List.{map-append, take_more_set, drop-set-lt, length-set, drop-drop}
+use Rattle.std.proofs.lemmas.List.{length-map, length-take, map-append, take_more_set, drop-set-lt, length-set, drop-drop}
 use Rattle.wat_lex.specs.tokens.Setting.{Setting}
 use Rattle.wat_lex.specs.tokens.Tiling.{TokenAt, Tiling}
 use Rattle.wat_lex.specs.declared.lexer.kinds.Token.{Token}
@@ -41,4 +41,4 @@ pub listed_start : (s : Setting) (from : ℕ) (old : List TokenRow) → IsCharBo
 listed_start s from old b = record { tokens = []; tiling = refl; rows = refl; boundary = b; bound = omega arith; rest = refl }
 
 pub listed_fills : (s : Setting) (from at room : ℕ) (old out : List TokenRow) (count why : ℕ) → Listed s from at old out count → Stops s at room count why → Fills s from room (take count out) (record { count = count; at = at; why = why })
-listed_fills s from at room old out count why h stops = record { tokens = h.tokens; tiling = h.tiling; rows_are = h.rows; stops = stops }
+listed_fills s from at room old out count why h stops = record { tokens = h.tokens; tiling = h.tiling; rows_are = h.rows; count = omega (arith, ap length h.rows, length-take count out, length-map h.tokens token_row, h.bound); stops = stops }

@@ -1,4 +1,6 @@
 mod Answering
 mod Filling
+mod OneFill
+mod OneFinding
 mod Parts
 mod Texts

@@ -1,5 +1,5 @@
 -- What a reader answers to C, and what the caller's buffer has afterwards. No part of the standard.
-use Rattle.std.specs.Prelude.{◌≡◌, ◌++◌, nat_le, ℕ, List, length, drop, Result, Ok, Err, if◌then◌else◌}
+use Rattle.std.specs.Prelude.{◌≡◌, ◌≢◌, ◌++◌, nat_le, ℕ, List, length, drop, Result, Ok, Err, if◌then◌else◌}
 use Rattle.wat_c.specs.Rows.{fault_code}
 use Rattle.wat_c.specs.declared.answers.Answer.{Answer}
 use Rattle.wat_c.specs.declared.answers.Refusal.{Refusal}
@@ -30,3 +30,8 @@ pub record Answers (Reads : Result (List ℕ) Refusal → Type 0) (old new : Lis
   pub reads : Reads found
   pub told : answer ≡ answer_of found
   pub left : new ≡ left_of old found
+
+-- any two answers to what is found, neither want of memory, are the same: length, status and what the buffer then has
+unfoldable pub OneAnswer : (Result (List ℕ) Refusal → Type 0) → List ℕ → Type 0
+OneAnswer Reads old = (new other : List ℕ) (answer told : Answer) → Answers Reads old new answer → Answers Reads old other told
+    → answer.status ≢ status_of Memory → told.status ≢ status_of Memory → (answer ≡ told) × (new ≡ other)

@@ -129,16 +129,15 @@ pub record NoFault (s : Setting) (p : ℕ) : Type 0 where
   pub found : Option Token
   pub stands : AnswerAt s p (Ok found)
 
--- what the fault at the place prints, or that there is none; want of memory only where there is one
+-- what the fault at the place prints, or that there is none
 abbrev pub FindsFault : Setting → ℕ → Result (List ℕ) Refusal → Type 0
 FindsFault s p (Ok bytes) = (f : LexFault) × FaultAt s p f × (bytes ≡ shown_fault s.text f)
 FindsFault s p (Err Other) = NoFault s p
-FindsFault s p (Err Memory) = (f : LexFault) × FaultAt s p f
 FindsFault s p (Err refusal) = ⊥
 
--- what is wrong with a name, as it is printed, or that nothing is; want of memory only where an escape stands in it or its name is wrong
+-- what is wrong with a name, as it is printed, or that nothing is; want of memory only where an escape stands in it
 abbrev pub ReadsNameFault : List ℕ → Token → Result (List ℕ) Refusal → Type 0
 ReadsNameFault text t (Ok bytes) = (e : LexError) × NameFault (empty_name t.kind) (word_of text t) e × (bytes ≡ shown_fault text (record { offset = t.offset; error = e }))
 ReadsNameFault text t (Err Absent) = (name : List ℕ) × Name (word_of text t) name × IsUtf8 name × (name ≢ [])
-ReadsNameFault text t (Err Memory) = HasNoEscape (word_of text t) → (e : LexError) × NameFault (empty_name t.kind) (word_of text t) e
+ReadsNameFault text t (Err Memory) = HasNoEscape (word_of text t) → ⊥
 ReadsNameFault text t (Err refusal) = ⊥

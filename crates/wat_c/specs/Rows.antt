@@ -111,6 +111,12 @@ pub record FoundAt (s : Setting) (p : ℕ) (row : Found) : Type 0 where
   pub stands : AnswerAt s p answer
   pub told : row ≡ found_row p answer
 
+-- the row is the token of what is told of the byte p
+pub record TokenFoundAt (s : Setting) (p : ℕ) (row : TokenRow) : Type 0 where
+  pub all : Found
+  pub found : FoundAt s p all
+  pub token : row ≡ all.token
+
 -- why no row follows these, the last of which ends at the place: 0 for the text's end, 1 where there is room for no more, otherwise
 -- the number of the fault
 pub data Stops (s : Setting) (at room count : ℕ) : ℕ → Type 0 where
@@ -118,9 +124,14 @@ pub data Stops (s : Setting) (at room count : ℕ) : ℕ → Type 0 where
   full : count ≡ room → Stops s at room count 1
   faulty : (f : LexFault) (code : ℕ) → count < room → FaultAt s at f → code ≡ fault_code f.error → Stops s at room count code
 
--- The rows are those of the tokens that lie end to end from a place, up to a boundary where it stops.
+-- The rows are those of the tokens that lie end to end from a place, up to a boundary where it stops, as many as it says.
 pub record Fills (s : Setting) (from room : ℕ) (rows : List TokenRow) (filled : Filled) : Type 0 where
   pub tokens : List Token
   pub tiling : Tiling s from filled.at tokens
   pub rows_are : rows ≡ map token_row tokens
+  pub count : filled.count ≡ length tokens
   pub stops : Stops s filled.at room filled.count filled.why
+
+-- any two lists of rows from a place, with where they stop and why, are the same
+unfoldable pub OneFill : Setting → ℕ → ℕ → Type 0
+OneFill s from room = (rows others : List TokenRow) (filled other : Filled) → Fills s from room rows filled → Fills s from room others other → (rows ≡ others) × (filled ≡ other)

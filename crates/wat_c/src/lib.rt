@@ -2,18 +2,19 @@
 //! C owes, and what each function answers to C, stands in `include/wat.h`.
 #![tactic(auto)]
 
-ghost use Rattle.std.specs.Prelude.{◌≡◌, ◌≤◌, ◌<◌, ◌^◌, ◌↔◌, IsTrue, length, take, drop};
+ghost use Rattle.std.specs.Prelude.{◌≡◌, ◌≢◌, ◌≤◌, ◌<◌, ◌^◌, ◌↔◌, IsTrue, length, take, drop};
 ghost use Rattle.std.specs.Str.{IsCharBoundary, IsUtf8};
 ghost use Rattle.wat_lex.specs.errors.Positions.{line_and_column};
-ghost use Rattle.wat_c.specs.Answers.{Answers};
+ghost use Rattle.wat_c.specs.Answers.{Answers, OneAnswer};
 ghost use Rattle.wat_c.specs.Readings.{Finds, FindsFault, IsString, IsNamed, IsInteger, IsFloat};
 ghost use Rattle.wat_c.specs.Readings.{ReadsString, ReadsName, ReadsInteger, ReadsFloat, ReadsNameFault};
-ghost use Rattle.wat_c.specs.Rows.{FoundAt, Fills, setting};
+ghost use Rattle.wat_c.specs.Rows.{FoundAt, TokenFoundAt, Fills, OneFill, setting};
 ghost use Rattle.wat_c.specs.declared.rows.Found.{Found as FoundRow};
 
 pub mod answers;
 mod fill;
 mod given;
+mod laws;
 mod readings;
 pub mod rows;
 #[cfg(test)]
@@ -22,6 +23,7 @@ mod tests;
 use answers::Answer;
 use fill::fill;
 use given::{give_fault, give_float, give_integer, give_name, give_name_fault, give_string};
+use laws::{one_answer, one_fill};
 use rows::{Filled, Found, TokenRow, found_row, lexer_of};
 use std::alloc::Global;
 use std::str;
@@ -82,6 +84,22 @@ pub extern "C" fn wat_scan(text: &[u8], pos: usize, allow: bool, strict: bool) -
     found_row(pos, lexer_of(text, Settings { allow, strict }).scan(pos))
 }
 
+/// The token of what `wat_scan` answers, which C is handed in registers. Its length is 0 where the
+/// text ends or has a fault.
+#[unsafe(no_mangle)]
+pub extern "C" fn wat_token_at(text: &[u8], pos: usize, allow: bool, strict: bool) -> TokenRow
+    requires utf8 { IsUtf8 text.now }
+    requires short { length text.now < 2 ^ 32 }
+    requires boundary { IsCharBoundary text.now pos }
+    ensures found { TokenFoundAt (setting text.now allow strict) pos result }
+    ensures one { (row : FoundRow) →
+        FoundAt (setting text.now allow strict) pos row → row.token ≡ result }
+{
+    let text = unsafe { str::from_utf8_unchecked(text) };
+    let lexer = lexer_of(text, Settings { allow, strict });
+    found_row(pos, lexer.scan(pos)).token
+}
+
 /// Fills rows with the tokens from a byte of the text on, up to its end or its first fault, or as
 /// many as there is room for. The rows behind them stay.
 #[unsafe(no_mangle)]
@@ -100,7 +118,9 @@ pub extern "C" fn wat_fill(
     ensures boundary { IsCharBoundary text.now result.at }
     ensures count { result.count ≤ length out.old }
     ensures rest { drop result.count out.new ≡ drop result.count out.old }
+    ensures one { OneFill (setting text.now allow strict) pos (length out.old) }
 {
+    one_fill();
     let text = unsafe { str::from_utf8_unchecked(text) };
     fill(text, pos, Settings { allow, strict }, out)
 }
@@ -118,9 +138,12 @@ pub extern "C" fn wat_string(
     requires utf8 { IsUtf8 text.now }
     requires short { length text.now < 2 ^ 32 }
     requires boundary { IsCharBoundary text.now pos }
-    ensures { Answers (Finds IsString ReadsString (setting text.now allow strict) pos)
+    ensures found { Answers (Finds IsString ReadsString (setting text.now allow strict) pos)
         out.old out.new result }
+    ensures one { OneAnswer
+        (Finds IsString ReadsString (setting text.now allow strict) pos) out.old }
 {
+    one_answer();
     let text = unsafe { str::from_utf8_unchecked(text) };
     give_string(alloc, text, pos, Settings { allow, strict }, out)
 }
@@ -138,9 +161,12 @@ pub extern "C" fn wat_name(
     requires utf8 { IsUtf8 text.now }
     requires short { length text.now < 2 ^ 32 }
     requires boundary { IsCharBoundary text.now pos }
-    ensures { Answers (Finds IsNamed ReadsName (setting text.now allow strict) pos)
+    ensures found { Answers (Finds IsNamed ReadsName (setting text.now allow strict) pos)
         out.old out.new result }
+    ensures one { OneAnswer
+        (Finds IsNamed ReadsName (setting text.now allow strict) pos) out.old }
 {
+    one_answer();
     let text = unsafe { str::from_utf8_unchecked(text) };
     give_name(alloc, text, pos, Settings { allow, strict }, out)
 }
@@ -158,9 +184,12 @@ pub extern "C" fn wat_integer(
     requires utf8 { IsUtf8 text.now }
     requires short { length text.now < 2 ^ 32 }
     requires boundary { IsCharBoundary text.now pos }
-    ensures { Answers (Finds IsInteger ReadsInteger (setting text.now allow strict) pos)
+    ensures found { Answers (Finds IsInteger ReadsInteger (setting text.now allow strict) pos)
         out.old out.new result }
+    ensures one { OneAnswer
+        (Finds IsInteger ReadsInteger (setting text.now allow strict) pos) out.old }
 {
+    one_answer();
     let text = unsafe { str::from_utf8_unchecked(text) };
     give_integer(alloc, text, pos, Settings { allow, strict }, out)
 }
@@ -180,17 +209,20 @@ pub extern "C" fn wat_float(
     requires utf8 { IsUtf8 text.now }
     requires short { length text.now < 2 ^ 32 }
     requires boundary { IsCharBoundary text.now pos }
-    ensures { Answers (Finds IsFloat (ReadsFloat part) (setting text.now allow strict) pos)
+    ensures found { Answers (Finds IsFloat (ReadsFloat part) (setting text.now allow strict) pos)
         out.old out.new result }
+    ensures one { OneAnswer
+        (Finds IsFloat (ReadsFloat part) (setting text.now allow strict) pos) out.old }
 {
+    one_answer();
     let text = unsafe { str::from_utf8_unchecked(text) };
     give_float(alloc, text, pos, Settings { allow, strict }, part, out)
 }
 
 /// What the fault at a byte of the text prints.
+#[tactic(auto, using(crate::proofs::Answering::fault_free))]
 #[unsafe(no_mangle)]
 pub extern "C" fn wat_fault(
-    alloc: Global,
     text: &[u8],
     pos: usize,
     allow: bool,
@@ -200,11 +232,14 @@ pub extern "C" fn wat_fault(
     requires utf8 { IsUtf8 text.now }
     requires short { length text.now < 2 ^ 32 }
     requires boundary { IsCharBoundary text.now pos }
-    ensures { Answers (FindsFault (setting text.now allow strict) pos)
+    ensures found { Answers (FindsFault (setting text.now allow strict) pos)
         out.old out.new result }
+    ensures one { OneAnswer (FindsFault (setting text.now allow strict) pos) out.old }
+    ensures free { result.status ≢ 2 }
 {
+    one_answer();
     let text = unsafe { str::from_utf8_unchecked(text) };
-    give_fault(alloc, text, pos, Settings { allow, strict }, out)
+    give_fault(text, pos, Settings { allow, strict }, out)
 }
 
 /// What is wrong with the name of the identifier or annotation at a byte of the text, as it is printed.
@@ -220,9 +255,12 @@ pub extern "C" fn wat_name_fault(
     requires utf8 { IsUtf8 text.now }
     requires short { length text.now < 2 ^ 32 }
     requires boundary { IsCharBoundary text.now pos }
-    ensures { Answers (Finds IsNamed ReadsNameFault (setting text.now allow strict) pos)
+    ensures found { Answers (Finds IsNamed ReadsNameFault (setting text.now allow strict) pos)
         out.old out.new result }
+    ensures one { OneAnswer
+        (Finds IsNamed ReadsNameFault (setting text.now allow strict) pos) out.old }
 {
+    one_answer();
     let text = unsafe { str::from_utf8_unchecked(text) };
     give_name_fault(alloc, text, pos, Settings { allow, strict }, out)
 }

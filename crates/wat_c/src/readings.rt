@@ -1,5 +1,5 @@
 //! What the readers find at a place.
-ghost use Rattle.std.specs.Prelude.{◌≡◌, ◌≢◌, ◌<◌, ◌^◌, ℕ, length, IfOk, IfErr, Ok, Err, string_bytes};
+ghost use Rattle.std.specs.Prelude.{◌≡◌, ◌≢◌, ◌<◌, ◌^◌, ℕ, length, IfOk, IfErr, Ok, Err};
 ghost use Rattle.std.specs.Cow.{cow_str_bytes, cow_slice_items};
 ghost use Rattle.wat_lex.specs.values.NumberValues.{integer_digits};
 ghost use Rattle.std.specs.Option.{option_map};
@@ -12,7 +12,6 @@ use crate::answers::Refusal;
 use crate::rows::lexer_of;
 use std::alloc::{AllocError, Global};
 use std::borrow::{CowSlice, CowStr};
-use wat_lex::error::Rendered;
 use wat_lex::lexer::{Float, Integer, LexFault, Settings, TokenKind};
 
 impl From<AllocError> for Refusal {
@@ -133,37 +132,32 @@ pub fn part_of<'s>(float: &'s Float<'_>, part: u32) -> Option<&'s str>
     }
 }
 
-/// What the fault at a place prints.
-pub fn fault_at(
-    alloc: Global,
-    text: &str,
-    pos: usize,
-    settings: Settings,
-) -> Result<String, Refusal>
+/// The fault at a place.
+pub fn fault_at(text: &str, pos: usize, settings: Settings) -> Result<LexFault, Refusal>
     requires short { length text.now < 2 ^ 32 }
     requires boundary { IsCharBoundary text.now pos }
-    ensures found { IfOk result (λ shown. FindsFault
-        (record { text = text.now; flags = settings }) pos (Ok (string_bytes shown))) }
+    ensures found { IfOk result (λ fault. FindsFault
+        (record { text = text.now; flags = settings }) pos (Ok (shown_fault text.now fault))) }
     ensures refused { IfErr result (λ refusal. FindsFault
         (record { text = text.now; flags = settings }) pos (Err refusal)) }
 {
     match lexer_of(text, settings).scan(pos) {
         Ok(_) => Err(Refusal::Other),
-        Err(fault) => Ok(shown(alloc, text, fault)?),
+        Err(fault) => Ok(fault),
     }
 }
 
-/// What is wrong with the name of the identifier or annotation at a place, as it is printed.
+/// The fault that is wrong with the name of the identifier or annotation at a place.
 pub fn name_fault_at(
     alloc: Global,
     text: &str,
     pos: usize,
     settings: Settings,
-) -> Result<String, Refusal>
+) -> Result<LexFault, Refusal>
     requires short { length text.now < 2 ^ 32 }
     requires boundary { IsCharBoundary text.now pos }
-    ensures found { IfOk result (λ shown. Finds IsNamed ReadsNameFault
-        (record { text = text.now; flags = settings }) pos (Ok (string_bytes shown))) }
+    ensures found { IfOk result (λ fault. Finds IsNamed ReadsNameFault
+        (record { text = text.now; flags = settings }) pos (Ok (shown_fault text.now fault))) }
     ensures refused { IfErr result (λ refusal. Finds IsNamed ReadsNameFault
         (record { text = text.now; flags = settings }) pos (Err refusal)) }
 {
@@ -178,15 +172,7 @@ pub fn name_fault_at(
         Ok(_) => Err(Refusal::Absent),
         Err(error) => {
             let offset = token.offset;
-            Ok(shown(alloc, text, LexFault { offset, error })?)
+            Ok(LexFault { offset, error })
         }
     }
-}
-
-/// What a fault of a text prints.
-fn shown(alloc: Global, text: &str, fault: LexFault) -> Result<String, AllocError>
-    ensures { IfOk result (λ shown. string_bytes shown ≡ shown_fault text.now fault) }
-{
-    let rendered = Rendered::new(text, fault);
-    format!(in alloc; "{rendered}")
 }

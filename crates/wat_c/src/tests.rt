@@ -3,6 +3,7 @@ use crate::rows::KindRow;
 use crate::{
     Answer, Filled, Found, Position, TokenRow, wat_fault, wat_fill, wat_float, wat_integer,
     wat_is_place, wat_is_text, wat_line_column, wat_name, wat_name_fault, wat_scan, wat_string,
+    wat_token_at,
 };
 use std::alloc::Global;
 use std::process::Abort;
@@ -24,7 +25,7 @@ fn answer(rt: &impl Abort, alloc: Global, reader: Reader, text: &str, out: &mut 
     assert!(rt; text.len() < 1000 && text.is_char_boundary(0));
     let text = text.as_bytes();
     match reader {
-        Reader::Fault => wat_fault(alloc, text, 0, false, false, out),
+        Reader::Fault => wat_fault(text, 0, false, false, out),
         Reader::Text => wat_string(alloc, text, 0, false, false, out),
         Reader::Name => wat_name(alloc, text, 0, false, false, out),
         Reader::NameFault => wat_name_fault(alloc, text, 0, false, false, out),
@@ -148,6 +149,8 @@ fn rows_and_where_they_stop(rt: HostRuntime) {
         wanted: 0,
     };
     assert_eq!(rt; wat_scan(text, 3, false, false), fault);
+    assert_eq!(rt; wat_token_at(text, 3, false, false), fault.token);
+    assert_eq!(rt; wat_token_at(text, 0, false, false), row(0, 1, 4));
     assert_eq!(rt; wat_line_column(text, 3), Position { line: 0, column: 3 });
     assert!(rt; wat_is_place(text, 5) && !wat_is_place(text, 4));
     assert!(rt; wat_is_text(text) && !wat_is_text(&[0xFF]));

@@ -6,3 +6,4 @@ pub mod ShownBytes
 pub mod Widths
 pub mod Laying
 pub mod Digits
+pub mod Lengths

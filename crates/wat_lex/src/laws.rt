@@ -7,6 +7,7 @@ ghost use Rattle.wat_lex.specs.tokens.EverySetting.{TokensOfMoves, TokensAreRead
 ghost use Rattle.wat_lex.specs.tokens.EverySetting.{TokensEndAtBoundaries, WordsOfTokens};
 ghost use Rattle.wat_lex.specs.tokens.EverySetting.{NamesAreThere};
 ghost use Rattle.wat_lex.specs.tokens.EverySetting.{NamesAreOne, NamesAreValues, StringsAreValues};
+ghost use Rattle.wat_lex.specs.tokens.EverySetting.{CutsAreOne};
 
 /// At each character boundary exactly one thing stands: a token, the text's end, or a fault.
 pub fn one_answer()
@@ -59,4 +60,9 @@ pub fn names()
 /// The word of a string has one value, and `string_value` is it.
 pub fn strings()
     ensures { StringsAreValues }
+{}
+
+/// The word of a floating-point number is cut into its parts in one way.
+pub fn floats()
+    ensures { CutsAreOne }
 {}

@@ -2,24 +2,7 @@
 
 use std::io::{self, BufWriter, Read, Write};
 use std::process::ExitCode;
-use wat_lex::{Error, Lexer, TokenKind};
-
-fn name(kind: TokenKind) -> &'static str {
-    match kind {
-        TokenKind::LineComment => "LineComment",
-        TokenKind::BlockComment => "BlockComment",
-        TokenKind::Whitespace => "Whitespace",
-        TokenKind::LParen => "LParen",
-        TokenKind::RParen => "RParen",
-        TokenKind::String => "String",
-        TokenKind::Id => "Id",
-        TokenKind::Keyword => "Keyword",
-        TokenKind::Annotation => "Annotation",
-        TokenKind::Reserved => "Reserved",
-        TokenKind::Integer(_) => "Integer",
-        TokenKind::Float(_) => "Float",
-    }
-}
+use wat_lex::{Error, Lexer};
 
 /// Writes the list, and answers the error of the fault that ends it.
 fn list(text: &str, out: &mut impl Write) -> io::Result<Option<Error>> {
@@ -27,7 +10,7 @@ fn list(text: &str, out: &mut impl Write) -> io::Result<Option<Error>> {
         match token {
             Ok(token) => {
                 let end = token.offset + token.len as usize;
-                writeln!(out, "{}..{end} {}", token.offset, name(token.kind))?;
+                writeln!(out, "{}..{end} {}", token.offset, token.kind.name())?;
             }
             Err(error) => return Ok(Some(error)),
         }

@@ -52,17 +52,14 @@ impl<'a> Lexer<'a> {
     /// # Panics
     ///
     /// Where no character begins at the byte, and the text does not end there.
+    #[inline]
     pub fn parse(&self, pos: &mut usize) -> Result<Option<Token>, Error> {
-        let place = self.text.place(*pos);
-        let found = place.scan(self.settings);
-        if found.fault != 0 {
-            return Err(self.error(place));
+        let row = self.text.place(*pos).token(self.settings);
+        if row.len == 0 {
+            return self.ending(*pos);
         }
-        if found.token.len == 0 {
-            return Ok(None);
-        }
-        *pos += found.token.len as usize;
-        Ok(Some(Token::from_row(found.token)))
+        *pos += row.len as usize;
+        Ok(Some(Token::from_row(row)))
     }
 
     /// The tokens from a byte of the text on, up to its end or its first fault.
@@ -93,6 +90,15 @@ impl<'a> Lexer<'a> {
         }
         let token = self.parse(&mut pos)?;
         Ok(token.filter(|token| token.kind == TokenKind::Annotation))
+    }
+
+    /// The text's end or the fault at a place where no token stands.
+    #[cold]
+    fn ending(&self, pos: usize) -> Result<Option<Token>, Error> {
+        if pos == self.input().len() {
+            return Ok(None);
+        }
+        Err(self.error(self.text.place(pos)))
     }
 
     /// The error of the fault at a place, where there is one.

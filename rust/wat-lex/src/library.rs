@@ -89,6 +89,7 @@ type Reader = unsafe extern "C" fn(*const u8, usize, usize, bool, bool, *mut u8,
 
 unsafe extern "C" {
     fn wat_scan(text: *const u8, len: usize, pos: usize, allow: bool, strict: bool) -> Found;
+    fn wat_token_at(text: *const u8, len: usize, pos: usize, allow: bool, strict: bool) -> Row;
     fn wat_fill(
         text: *const u8,
         len: usize,
@@ -176,6 +177,7 @@ impl<'a> Text<'a> {
     }
 
     /// A place of the text. Panics where it is none.
+    #[inline]
     pub fn place(self, pos: usize) -> Place<'a> {
         assert!(
             self.0.is_char_boundary(pos),
@@ -210,6 +212,22 @@ impl<'a> Place<'a> {
         // SAFETY: the text is UTF-8, as each `&str`; `Text::new` tested its length, and `Text::place` the place.
         unsafe {
             wat_scan(
+                text.as_ptr(),
+                text.len(),
+                self.pos,
+                settings.allow,
+                settings.strict,
+            )
+        }
+    }
+
+    /// The token there; its length is 0 where the text ends there or has a fault.
+    #[inline]
+    pub fn token(self, settings: Settings) -> Row {
+        let text = self.text.0;
+        // SAFETY: as for `scan`.
+        unsafe {
+            wat_token_at(
                 text.as_ptr(),
                 text.len(),
                 self.pos,
@@ -332,8 +350,7 @@ impl<'a> Place<'a> {
 }
 
 impl Answer {
-    /// How many bytes there are. The memory that a reader asks for is never more than its token has bytes, or else a few
-    /// lines; where that is refused the process ends, as Rust's own collections do.
+    /// How many bytes there are. Where the reader was refused memory the process ends, as Rust's own collections do.
     fn needed(self) -> Result<usize, Refusal> {
         match self.status {
             GIVEN => Ok(self.needed),

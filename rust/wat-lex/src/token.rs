@@ -257,6 +257,24 @@ pub(crate) fn no_token(what: &str) -> ! {
 }
 
 impl TokenKind {
+    /// The kind's name, without what it says of a number.
+    pub fn name(self) -> &'static str {
+        match self {
+            TokenKind::LineComment => "LineComment",
+            TokenKind::BlockComment => "BlockComment",
+            TokenKind::Whitespace => "Whitespace",
+            TokenKind::LParen => "LParen",
+            TokenKind::RParen => "RParen",
+            TokenKind::String => "String",
+            TokenKind::Id => "Id",
+            TokenKind::Keyword => "Keyword",
+            TokenKind::Annotation => "Annotation",
+            TokenKind::Reserved => "Reserved",
+            TokenKind::Integer(_) => "Integer",
+            TokenKind::Float(_) => "Float",
+        }
+    }
+
     #[inline]
     fn from_row(kind: Kind) -> TokenKind {
         match kind.code {

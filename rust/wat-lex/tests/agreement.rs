@@ -5,28 +5,11 @@ use std::fs;
 use std::path::{Path, PathBuf};
 use wat_lex::{Lexer, Token, TokenKind};
 
-fn name(kind: TokenKind) -> &'static str {
-    match kind {
-        TokenKind::LineComment => "LineComment",
-        TokenKind::BlockComment => "BlockComment",
-        TokenKind::Whitespace => "Whitespace",
-        TokenKind::LParen => "LParen",
-        TokenKind::RParen => "RParen",
-        TokenKind::String => "String",
-        TokenKind::Id => "Id",
-        TokenKind::Keyword => "Keyword",
-        TokenKind::Annotation => "Annotation",
-        TokenKind::Reserved => "Reserved",
-        TokenKind::Integer(_) => "Integer",
-        TokenKind::Float(_) => "Float",
-    }
-}
-
 fn list(lexer: &Lexer<'_>) -> String {
     let mut lines = String::new();
     for token in lexer.iter(0).map_while(Result::ok) {
         let end = token.offset + token.len as usize;
-        writeln!(lines, "{}..{end} {}", token.offset, name(token.kind)).unwrap();
+        writeln!(lines, "{}..{end} {}", token.offset, token.kind.name()).unwrap();
     }
     lines
 }

@@ -1,5 +1,5 @@
 -- What is shown of a line, character by character.
-use Rattle.std.proofs.Common.{◌≡◌, ℕ, zero, suc, Bor, ap₂, ◌+◌, ◌-◌, ◌^◌, ◌≤◌, arith, append_assoc, List, [], ◌∷◌, ◌++◌, refl, ap, sym, ◌∙◌, true, false}
+use Rattle.std.proofs.Common.{◌≡◌, ℕ, zero, suc, Bor, ap₂, ◌+◌, ◌-◌, ◌^◌, ◌<◌, ◌≤◌, le-leb, arith, append_assoc, List, [], ◌∷◌, ◌++◌, refl, ap, sym, ◌∙◌, true, false}
 use Rattle.std.specs.Option.{option_map}
 use Rattle.std.specs.Str.Lines.{lines}
 use Rattle.std.specs.Prelude.{◌==◌, ◌&&◌, Option, Some, None, unwrap_or, slice_get, encode_utf8, codes, replicate, length, if◌then◌else◌}
@@ -56,11 +56,17 @@ marker (suc n) =
 pub styled_marker : (s : _) (column : ℕ) → s ≡ format_spec 32 3 0 column (2 ^ 64 - 1) → styled_text s (codes "^") ≡ right_in column (codes "^")
 styled_marker s column e = ap (λ x. styled_text x (codes "^")) e ∙ marker column
 
-shown_near : (e : Excerpt) → e.column ≤ 500 → shown_place e ≡ codes "\n     --> " ++ (codes "<anon>:" ++ decimal e.line ++ codes ":" ++ decimal e.column) ++ codes "\n      |" ++ codes "\n " ++ right_in 4 (decimal e.line) ++ codes " | " ++ e.snippet ++ codes "\n      | " ++ right_in e.column (codes "^")
+pub shown_near : (e : Excerpt) → e.column ≤ 500 → shown_place e ≡ codes "\n     --> " ++ (codes "<anon>:" ++ decimal e.line ++ codes ":" ++ decimal e.column) ++ codes "\n      |" ++ codes "\n " ++ right_in 4 (decimal e.line) ++ codes " | " ++ e.snippet ++ codes "\n      | " ++ right_in e.column (codes "^")
 shown_near e l =
     let place = codes "<anon>:" ++ decimal e.line ++ codes ":" ++ decimal e.column in
     ap (λ b. if b then codes " at " ++ place else codes "\n     --> " ++ place ++ codes "\n      |" ++ codes "\n " ++ right_in 4 (decimal e.line) ++ codes " | " ++ e.snippet ++ codes "\n      | " ++ right_in e.column (codes "^"))
     (lt-leb 501 e.column (omega (arith, l)))
+
+pub shown_far : (e : Excerpt) → 500 < e.column → shown_place e ≡ codes " at " ++ (codes "<anon>:" ++ decimal e.line ++ codes ":" ++ decimal e.column)
+shown_far e l =
+    let place = codes "<anon>:" ++ decimal e.line ++ codes ":" ++ decimal e.column in
+    ap (λ b. if b then codes " at " ++ place else codes "\n     --> " ++ place ++ codes "\n      |" ++ codes "\n " ++ right_in 4 (decimal e.line) ++ codes " | " ++ e.snippet ++ codes "\n      | " ++ right_in e.column (codes "^"))
+    (le-leb 501 e.column l)
 
 joined : (h d x c r q l p s o m : List ℕ) → (h ++ (d ++ (x ++ (c ++ r)))) ++ ((q ++ (l ++ (p ++ s))) ++ (o ++ m)) ≡ h ++ d ++ x ++ c ++ r ++ q ++ l ++ p ++ s ++ o ++ m
 joined h d x c r q l p s o m = simp append_assoc

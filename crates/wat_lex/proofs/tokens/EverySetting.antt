@@ -1,7 +1,7 @@
 -- The laws of the definitions for every text and setting, from what is proved of words, tilings and names.
 use Rattle.std.proofs.Common.{ℕ, [], ◌∷◌, ◌∙◌, refl, sym, subst, inl, inr}
 use Rattle.std.specs.Prelude.{Some, None, Ok, Err, Option, Result}
-use Rattle.wat_lex.specs.tokens.EverySetting.{SomethingStands, OneThingStands, EachPlaceIsTiled, TilingsAreOne, TokensOfCuts, TokensOfMoves, TokensAreReadable, TokensEndAtBoundaries, WordsOfTokens, NamesAreThere, NamesAreOne, NamesAreValues, StringsAreValues}
+use Rattle.wat_lex.specs.tokens.EverySetting.{SomethingStands, OneThingStands, EachPlaceIsTiled, TilingsAreOne, TokensOfCuts, TokensOfMoves, TokensAreReadable, TokensEndAtBoundaries, WordsOfTokens, NamesAreThere, NamesAreOne, NamesAreValues, StringsAreValues, CutsAreOne}
 use Rattle.wat_lex.specs.tokens.Faults.{FaultAt}
 use Rattle.wat_lex.specs.tokens.Setting.{Setting}
 use Rattle.wat_lex.specs.tokens.UniqueTilings.{SomeTiling, AnswerAt}
@@ -11,7 +11,7 @@ use Rattle.wat_lex.specs.declared.lexer.faults.LexFault.{LexFault}
 use Rattle.wat_lex.proofs.tokens.CutTexts as cut_texts
 use Rattle.wat_lex.proofs.tokens.RawLaws.{behind}
 use Rattle.wat_lex.proofs.tokens.MovedTexts as moved_texts
-use Rattle.wat_lex.proofs.values.OneValues.{one_name, one_value}
+use Rattle.wat_lex.proofs.values.OneValues.{one_name, one_value, one_cut}
 use Rattle.wat_lex.proofs.tokens.OneTilings.{one_tiling, stands_one}
 use Rattle.wat_lex.proofs.values.SomeValues.{name_of, value_of}
 use Rattle.wat_lex.proofs.tokens.SomeTilings.{some_tiling}
@@ -62,3 +62,6 @@ names_are_values = record { good = λ empty w name h u n. name_good empty w name
 
 pub strings_are_values : StringsAreValues
 strings_are_values = record { some = λ w h. value_of String w refl h; one = one_value; value = string_value_is }
+
+pub cuts_are_one : CutsAreOne
+cuts_are_one w = one_cut w

@@ -1,9 +1,9 @@
--- WebAssembly specification, text format, lexical format: tokens; values: strings, identifiers. The laws of the definitions, for each
--- text of UTF-8 and both flags. Each is one statement that a crate above can cite.
+-- WebAssembly specification, text format, lexical format: tokens; values: strings, identifiers, floating-point. The laws of the
+-- definitions, for each text of UTF-8 and both flags. Each is one statement that a crate above can cite.
 use Rattle.std.specs.Prelude.{◌≡◌, ◌≢◌, ◌+◌, ◌⊎◌, ℕ, List, [], Option, Result, Ok, Err}
 use Rattle.std.specs.Str.{IsUtf8, IsCharBoundary}
 use Rattle.wat_lex.specs.values.Names.{Name, NameFault}
-use Rattle.wat_lex.specs.values.UniqueValues.{SomeName, OneName, SomeValue, OneValue}
+use Rattle.wat_lex.specs.values.UniqueValues.{SomeName, OneName, SomeValue, OneValue, OneCut}
 use Rattle.wat_lex.specs.tokens.CutsAndMoves.{Cuts, Moves}
 use Rattle.wat_lex.specs.tokens.ReadableTokens.{IsTokenOf, word_of}
 use Rattle.wat_lex.specs.tokens.Setting.{Setting, lenient}
@@ -74,3 +74,7 @@ pub record StringsAreValues : Type 0 where
   pub some : (w : List ℕ) → Word String w lenient → SomeValue w
   pub one : (w : List ℕ) → OneValue w
   pub value : (flags : Settings) (w v : List ℕ) → StringWord flags w v → string_value w ≡ v
+
+-- each word is cut into the parts of a floating-point number in one way at most
+abbrev pub CutsAreOne : Type 0
+CutsAreOne = (w : List ℕ) → OneCut w

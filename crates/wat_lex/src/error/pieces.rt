@@ -1,5 +1,5 @@
 //! What is printed, in pieces: for a formatter, or laid into bytes.
-ghost use Rattle.std.specs.Prelude.{◌≡◌, ◌≤◌, ◌⊎◌, false, flat_map, length, replicate};
+ghost use Rattle.std.specs.Prelude.{◌≡◌, ◌≤◌, ◌<◌, ◌^◌, ◌⊎◌, false, flat_map, length, replicate};
 ghost use Rattle.std.specs.Fmt.{digits, WritesOnOk};
 ghost use Rattle.wat_lex.specs.errors.LaidPieces.{LaysMore};
 ghost use Rattle.wat_lex.specs.errors.PieceTexts.{piece_text};
@@ -46,6 +46,18 @@ pub fn lay_all(pieces: &[Piece], out: &mut [u8], at: usize) -> usize
     at
 }
 
+/// How many bytes pieces have.
+pub fn length_of(pieces: &[Piece]) -> usize
+    requires { length (flat_map piece_text pieces.now) < 2 ^ 64 }
+    ensures { result ≡ length (flat_map piece_text pieces.now) }
+{
+    let mut length = 0;
+    for piece in pieces {
+        length += piece.length();
+    }
+    length
+}
+
 impl fmt::Display for Piece<'_> {
     ghost use Rattle.std.specs.Prelude.{Some};
     ghost use Rattle.wat_lex.specs.errors.PieceTexts.{piece_text};
@@ -67,6 +79,21 @@ impl fmt::Display for Piece<'_> {
 }
 
 impl Piece<'_> {
+    fn length(&self) -> usize
+        requires { length (piece_text self.now) < 2 ^ 64 }
+        ensures { result ≡ length (piece_text self.now) }
+    {
+        match *self {
+            Piece::Text(text) => text.len(),
+            Piece::Character(c) => c.len_utf8(),
+            Piece::Decimal(number) => digits(number, 10, &mut [0; 20]).len(),
+            Piece::Hexadecimal(number) => digits(number as usize, 16, &mut [0; 20]).len(),
+            Piece::LineNumber(number) => digits(number, 10, &mut [0; 20]).len().max(4),
+            Piece::Line(line) => line_length(line),
+            Piece::Marker(column) => column.max(1),
+        }
+    }
+
     fn lay(&self, out: &mut [u8], at: usize) -> usize
         requires { at ≤ length out.old }
         ensures { LaysMore out.old at (piece_text self.now) out.new result }
@@ -124,6 +151,18 @@ fn lay_line(line: Line, out: &mut [u8], at: usize) -> usize
         at = lay(c.encode_utf8(&mut [0; 4]), out, at);
     }
     at
+}
+
+/// How many bytes a line is shown in.
+fn line_length(line: Line) -> usize
+    requires { length (shown_line line.0.now) < 2 ^ 64 }
+    ensures { result ≡ length (shown_line line.entry.0.now) }
+{
+    let mut length = 0;
+    for c in Shown::of(line.0) {
+        length += c.len_utf8();
+    }
+    length
 }
 
 /// The digits of a number in base 10 or 16, at the end of the room for them.

@@ -1,9 +1,9 @@
 //! A fault in its text.
-ghost use Rattle.std.specs.Prelude.{◌≡◌, length, min};
+ghost use Rattle.std.specs.Prelude.{◌≡◌, ◌<◌, ◌^◌, length, min};
 ghost use Rattle.wat_lex.specs.errors.Errors.{rendered_fault};
 ghost use Rattle.wat_lex.specs.errors.Rendering.{excerpt, laid_over};
 
-use crate::error::pieces::lay_all;
+use crate::error::pieces::{lay_all, length_of};
 use crate::error::text::Excerpt;
 use crate::lexer::LexFault;
 use crate::token::Span;
@@ -32,6 +32,14 @@ impl<'a> Rendered<'a> {
         ensures { result ≡ (text.now, fault) }
     {
         Rendered { text, fault }
+    }
+
+    /// How many bytes it prints.
+    pub fn length(&self) -> usize
+        requires { length self.now.0 < 2 ^ 32 }
+        ensures { result ≡ length (rendered_fault self.now) }
+    {
+        length_of(&self.fault.error.pieces()) + length_of(&self.excerpt().pieces())
     }
 
     /// Writes what it prints into bytes, as much of it as there is room for, and answers how many
