@@ -23,7 +23,7 @@ mod tests;
 
 pub use faults::{LexError, LexFault};
 pub use kinds::{FloatKind, IntegerKind, SignToken, Token, TokenKind};
-use kinds::{Outline, Shape};
+use kinds::{Outline, Shape, Stride};
 pub use read::numbers::{Float, Integer};
 pub(crate) use scan::classes::is_confusing;
 use scan::{first_fault, first_outline, kind_of};
@@ -124,11 +124,29 @@ impl<'a> Lexer<'a> {
             IsCharBoundary self.now.text (pos + t.len))) }
         ensures short { IfOk result (λ found. IfSome found (λ t. t.offset + t.len < 2 ^ 32)) }
     {
-        let outline = self.outline(pos);
+        let outline = self.outline(pos, Stride::Block);
         match outline.shape {
             Shape::End => Ok(None),
             Shape::Fault => Err(self.fault(pos)),
-            _ => Ok(Some(self.token(pos, outline))),
+            _ => Ok(Some(self.token(pos, outline, Stride::Block))),
+        }
+    }
+
+    /// What [`Lexer::scan`] answers, found a byte at a time: for a target that has no vectors.
+    #[inline(always)]
+    pub fn scan_by_byte(&self, pos: usize) -> Result<Option<Token>, LexFault>
+        requires { IsCharBoundary self.now.text pos }
+        ensures answer { AnswerAt self.now pos result }
+        ensures some { IfOk result (λ found. IfSome found (λ t. 0 < t.len)) }
+        ensures boundary { IfOk result (λ found. IfSome found (λ t.
+            IsCharBoundary self.now.text (pos + t.len))) }
+        ensures short { IfOk result (λ found. IfSome found (λ t. t.offset + t.len < 2 ^ 32)) }
+    {
+        let outline = self.outline(pos, Stride::Byte);
+        match outline.shape {
+            Shape::End => Ok(None),
+            Shape::Fault => Err(self.fault(pos)),
+            _ => Ok(Some(self.token(pos, outline, Stride::Byte))),
         }
     }
 
@@ -147,12 +165,12 @@ impl<'a> Lexer<'a> {
         ensures boundary { IsCharBoundary self.now.text pos.new }
     {
         let start = *pos;
-        let outline = self.outline(start);
+        let outline = self.outline(start, Stride::Block);
         match outline.shape {
             Shape::End => Ok(None),
             Shape::Fault => Err(self.error_at(alloc, start)),
             _ => {
-                let token = self.token(start, outline);
+                let token = self.token(start, outline, Stride::Block);
                 *pos = start + token.len as usize;
                 Ok(Some(token))
             }
@@ -165,16 +183,16 @@ impl<'a> Lexer<'a> {
 
     /// What stands at a byte of the text.
     #[inline(always)]
-    fn outline(&self, pos: usize) -> Outline
+    fn outline(&self, pos: usize, stride: Stride) -> Outline
         requires { IsCharBoundary self.now.text pos }
         ensures { Outlined self.now.flags (drop pos self.now.text) result }
     {
-        first_outline(&self.input[pos..], self.settings)
+        first_outline(&self.input[pos..], self.settings, stride)
     }
 
     /// The token of the outline of what stands at a byte of the text.
     #[inline(always)]
-    fn token(&self, pos: usize, outline: Outline) -> Token
+    fn token(&self, pos: usize, outline: Outline, stride: Stride) -> Token
         requires start { IsCharBoundary self.now.text pos }
         requires outline { Outlined self.now.flags (drop pos self.now.text) outline }
         requires no_end { outline.shape ≢ shape.End }
@@ -187,7 +205,7 @@ impl<'a> Lexer<'a> {
         ensures short { result.offset + result.len < 2 ^ 32 }
     {
         Token {
-            kind: kind_of(&self.input.as_bytes()[pos..], outline),
+            kind: kind_of(&self.input.as_bytes()[pos..], outline, stride),
             offset: pos,
             len: outline.len as u32,
         }
@@ -304,7 +322,7 @@ impl<'l, 'a> Iterator for Tokens<'l, 'a> {
             return None;
         }
         let start = self.pos;
-        let outline = self.lexer.outline(start);
+        let outline = self.lexer.outline(start, Stride::Block);
         match outline.shape {
             Shape::End => {
                 self.done = true;
@@ -315,7 +333,7 @@ impl<'l, 'a> Iterator for Tokens<'l, 'a> {
                 Some(Err(self.lexer.error_at(self.alloc, start)))
             }
             _ => {
-                let token = self.lexer.token(start, outline);
+                let token = self.lexer.token(start, outline, Stride::Block);
                 self.pos = start + token.len as usize;
                 Some(Ok(token))
             }

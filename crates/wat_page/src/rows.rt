@@ -55,7 +55,7 @@ pub fn fill(lexer: &Lexer, rows: &mut [Row]) -> (usize, Ending)
     let mut count = 0;
     let mut pos = 0;
     'tokens: loop {
-        match lexer.scan(pos) {
+        match lexer.scan_by_byte(pos) {
             Ok(Some(token)) => {
                 if count == rows.len() {
                     return (count, Ending::Full);

@@ -165,6 +165,14 @@ pub enum Shape {
     Fault,
 }
 
+/// How many bytes are looked at in one step: a block's, or one, which is faster where the target has
+/// no vectors.
+#[derive(Clone, Copy, PartialEq, Eq)]
+pub enum Stride {
+    Byte,
+    Block,
+}
+
 /// The shape of what stands at the start of a text, and its length in bytes, 0 at the end and at a
 /// fault.
 #[derive(Clone, Copy)]

@@ -8,8 +8,8 @@ ghost use Rattle.wat_lex.specs.declared.lexer.scan.starts.Start.TheVariants.{Idc
 ghost use Rattle.wat_lex.specs.declared.lexer.settings.Settings.{Settings};
 
 use crate::lexer::faults::{LexError, LexFault};
-use crate::lexer::kinds::{Outline, Shape, TokenKind};
-use crate::lexer::scan::classes::{idchar_len, idchar_len_by_block, is_run_char, whitespace_len};
+use crate::lexer::kinds::{Outline, Shape, Stride, TokenKind};
+use crate::lexer::scan::classes::{idchar_len, idchar_len_of_word, is_run_char, whitespace_len};
 use crate::lexer::scan::comments::{block_comment, block_outline, line_comment, line_outline};
 use crate::lexer::scan::runs::{run, run_outline, word_kind};
 use crate::lexer::scan::starts::{Start, start_of};
@@ -67,13 +67,13 @@ fn semicolon(text: &str, flags: Settings) -> Outline
 
 /// The outline of a text that begins with an idchar; a word that begins so has this shape.
 #[inline(always)]
-fn idchars(text: &str, shape: Shape, flags: Settings) -> Outline
+fn idchars(text: &str, shape: Shape, flags: Settings, stride: Stride) -> Outline
     requires some { 0 < length text.now }
     requires first { Begun (slice_index text.now 0) (Idchar shape) }
     ensures { Outlined flags text.now result }
 {
     let bytes = text.as_bytes();
-    let len = idchar_len_by_block(bytes);
+    let len = idchar_len_of_word(bytes, stride);
     if byte_at(bytes, len) == b'"' {
         return run_outline(text, len, flags);
     }
@@ -82,7 +82,7 @@ fn idchars(text: &str, shape: Shape, flags: Settings) -> Outline
 
 /// The outline of what stands at the start.
 #[inline(always)]
-pub fn first_outline(text: &str, flags: Settings) -> Outline
+pub fn first_outline(text: &str, flags: Settings, stride: Stride) -> Outline
     ensures { Outlined flags text.now result }
 {
     let bytes = text.as_bytes();
@@ -90,13 +90,13 @@ pub fn first_outline(text: &str, flags: Settings) -> Outline
         return outline(Shape::End, 0);
     }
     match start_of(byte_at(bytes, 0)) {
-        Start::Whitespace => outline(Shape::Whitespace, 1 + whitespace_len(&bytes[1..])),
+        Start::Whitespace => outline(Shape::Whitespace, 1 + whitespace_len(&bytes[1..], stride)),
         Start::OpenParen => opened(text, flags),
         Start::CloseParen => outline(Shape::RParen, 1),
         Start::Semicolon => semicolon(text, flags),
         Start::Punctuation => outline(Shape::Reserved, 1),
         Start::Quote => run_outline(text, 0, flags),
-        Start::Idchar(shape) => idchars(text, shape, flags),
+        Start::Idchar(shape) => idchars(text, shape, flags, stride),
         Start::Other => outline(Shape::Fault, 0),
     }
 }
@@ -126,14 +126,14 @@ fn plain_kind(shape: Shape) -> TokenKind
 
 /// The kind that an outline of the text's start stands for.
 #[inline(always)]
-pub fn kind_of(text: &[u8], outline: Outline) -> TokenKind
+pub fn kind_of(text: &[u8], outline: Outline, stride: Stride) -> TokenKind
     requires fits { outline.len ≤ length text.now }
     requires no_end { outline.shape ≢ End }
     requires no_fault { outline.shape ≢ Fault }
     ensures { HasKind outline.shape (take outline.len text.now) result }
 {
     match outline.shape {
-        Shape::Word => word_kind(text, outline.len),
+        Shape::Word => word_kind(text, outline.len, stride),
         shape => plain_kind(shape),
     }
 }

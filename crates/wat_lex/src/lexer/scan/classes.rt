@@ -5,6 +5,7 @@ ghost use Rattle.std.specs.List.{prefix_len};
 ghost use Rattle.wat_lex.specs.grammar.Classes.{is_whitespace, is_idchar, is_hex};
 ghost use Rattle.wat_lex.specs.grammar.Classes.{is_run_char, is_confusing};
 
+use crate::lexer::kinds::Stride;
 use crate::lexer::scan::blocks::{
     block_at, other_than_digits, other_than_idchars, other_than_whitespace,
 };
@@ -102,13 +103,16 @@ fn whitespace_len_by_block(text: &[u8]) -> usize
 
 /// How many bytes of whitespace stand at the start of what follows a first one. Mostly there are
 /// none.
-#[inline]
-pub fn whitespace_len(text: &[u8]) -> usize
+#[inline(always)]
+pub fn whitespace_len(text: &[u8], stride: Stride) -> usize
     ensures { result ≡ prefix_len is_whitespace text.now }
 {
     match text {
         [next, ..] if !is_whitespace(*next) => 0,
-        _ => whitespace_len_by_block(text),
+        _ => match stride {
+            Stride::Byte => whitespace_len_by_byte(text),
+            Stride::Block => whitespace_len_by_block(text),
+        },
     }
 }
 
@@ -122,9 +126,8 @@ fn idchar_len_by_byte(text: &[u8]) -> usize
     i
 }
 
-/// How many idchars stand at the start. Mostly there are some.
 #[inline]
-pub fn idchar_len_by_block(text: &[u8]) -> usize
+fn idchar_len_by_block(text: &[u8]) -> usize
     ensures { result ≡ prefix_len is_idchar text.now }
 {
     let mut i = 0;
@@ -136,6 +139,17 @@ pub fn idchar_len_by_block(text: &[u8]) -> usize
         i += 16;
     }
     i + idchar_len_by_byte(&text[i..])
+}
+
+/// How many idchars stand at the start. Mostly there are some.
+#[inline(always)]
+pub fn idchar_len_of_word(text: &[u8], stride: Stride) -> usize
+    ensures { result ≡ prefix_len is_idchar text.now }
+{
+    match stride {
+        Stride::Byte => idchar_len_by_byte(text),
+        Stride::Block => idchar_len_by_block(text),
+    }
 }
 
 /// How many idchars stand at the start. Around a string it is mostly none.
@@ -159,9 +173,8 @@ fn digit_len_by_byte(text: &[u8]) -> usize
     i
 }
 
-/// How many decimal digits stand at the start.
 #[inline]
-pub fn digit_len(text: &[u8]) -> usize
+fn digit_len_by_block(text: &[u8]) -> usize
     ensures { result ≡ prefix_len is_ascii_digit text.now }
 {
     let mut i = 0;
@@ -173,4 +186,15 @@ pub fn digit_len(text: &[u8]) -> usize
         i += 16;
     }
     i + digit_len_by_byte(&text[i..])
+}
+
+/// How many decimal digits stand at the start.
+#[inline(always)]
+pub fn digit_len(text: &[u8], stride: Stride) -> usize
+    ensures { result ≡ prefix_len is_ascii_digit text.now }
+{
+    match stride {
+        Stride::Byte => digit_len_by_byte(text),
+        Stride::Block => digit_len_by_block(text),
+    }
 }

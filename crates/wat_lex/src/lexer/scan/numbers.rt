@@ -8,7 +8,7 @@ ghost use Rattle.wat_lex.specs.grammar.Numbers.{Tail, Payload, Number};
 ghost use Rattle.wat_lex.specs.inside.ScannedNumbers.{LongestDigits, NoDigits, OnlyIntegralPart};
 ghost use Rattle.wat_lex.specs.inside.ScannedNumbers.{NoIntegralPart};
 
-use crate::lexer::kinds::{FloatKind, IntegerKind, Sign, TokenKind};
+use crate::lexer::kinds::{FloatKind, IntegerKind, Sign, Stride, TokenKind};
 use crate::lexer::scan::classes::{digit_len, is_hex_digit};
 
 fn is_digit(b: u8, hex: bool) -> bool
@@ -180,13 +180,13 @@ fn digits_kind(word: &[u8]) -> Option<TokenKind>
 /// The kind of the word of so many bytes at the start, where that is of decimal digits alone, with a
 /// sign or none; most numbers by far are so.
 #[inline(always)]
-pub fn plain_integer(text: &[u8], len: usize) -> Option<TokenKind>
+pub fn plain_integer(text: &[u8], len: usize, stride: Stride) -> Option<TokenKind>
     requires { len ≤ length text.now }
     ensures { IfSome result (λ kind. Number (take len text.now) kind) }
 {
     let word = &text[..len];
     let number = unsigned(word).len();
-    if number == 0 || digit_len(&text[len - number..]) < number {
+    if number == 0 || digit_len(&text[len - number..], stride) < number {
         return None;
     }
     Some(TokenKind::Integer(IntegerKind {

@@ -9,7 +9,7 @@ ghost use Rattle.wat_lex.specs.grammar.Runs.{WordKind, kind_by_first, named_kind
 ghost use Rattle.wat_lex.specs.grammar.Classes.{is_idchar, is_run_char};
 
 use crate::lexer::faults::LexFault;
-use crate::lexer::kinds::{Outline, Shape, TokenKind};
+use crate::lexer::kinds::{Outline, Shape, Stride, TokenKind};
 use crate::lexer::scan::classes::idchar_len;
 use crate::lexer::scan::numbers::{classify, plain_integer};
 use crate::lexer::scan::strings::string_len;
@@ -127,11 +127,11 @@ fn kind_by_first(word: &[u8]) -> TokenKind
 
 /// The kind of the word of so many idchars at the start.
 #[inline(always)]
-pub fn word_kind(text: &[u8], len: usize) -> TokenKind
+pub fn word_kind(text: &[u8], len: usize, stride: Stride) -> TokenKind
     requires { len ≤ length text.now }
     ensures { WordKind (take len text.now) result }
 {
-    if let Some(kind) = plain_integer(text, len) {
+    if let Some(kind) = plain_integer(text, len, stride) {
         return kind;
     }
     let word = &text[..len];

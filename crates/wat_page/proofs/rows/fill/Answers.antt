@@ -7,7 +7,7 @@ tokens-init c = filling_none c.args.lexer.now c.args.rows.now c.input.ensures.ut
 
 pub tokens-preserved : goal.tokens-preserved
 tokens-preserved c =
-    let token = rw c.in-Ok-Some.field-0-is at c.in-Ok-Some.ensures.token in
+    let token = rw c.in-Ok-Some.field-0-is at c.in-Ok-Some.ensures.answer in
     let boundary = rw c.in-Ok-Some.field-0-is at c.in-Ok-Some.ensures.boundary in
     let room : c.tokens.count < length c.tokens.rows = omega (arith, c.tokens.invariant.fits, c.tokens.auto.rows, c.if-count-rows.false) in
     subst (λ r. Filling c.args.lexer.now c.args.rows.now (slice_set c.tokens.rows c.tokens.count r) (c.tokens.count + 1) (c.in-Ok-Some.token.offset + c.in-Ok-Some.token.len)) (sym c.row_of.ensures)

@@ -6,7 +6,7 @@ use Rattle.wat_lex.proofs.lexer.scan.idchars.Goals as goal
 
 pub returns : goal.returns
 returns c =
-    let n = c.idchar_len_by_block-len.result in
+    let n = c.idchar_len_of_word-len.result in
     rw c.outline.ensures (outlined_idchars c.args.flags c.args.text.now c.args.shape n c.utf8.text c.requires.some c.requires.first
-    (c.idchar_len_by_block-len.ensures ∙ ap (prefix_len is_idchar) c.as_bytes-bytes.ensures.value)
+    (c.idchar_len_of_word-len.ensures ∙ ap (prefix_len is_idchar) c.as_bytes-bytes.ensures.value)
     (λ k. c.if-byte_at-eq34.false (c.byte_at.ensures ∙ ap (λ t. get_or t n 0) c.as_bytes-bytes.ensures.value ∙ k)))

@@ -4,7 +4,7 @@ use Rattle.std.proofs.lemmas.List.Sums.{prefix_len-le-length}
 use Rattle.std.specs.Char.{is_ascii_digit}
 use Rattle.wat_lex.specs.inside.Blocks.{failures}
 use Rattle.wat_lex.proofs.inside.Blocks.{goes_on, ends_at}
-use Rattle.wat_lex.proofs.lexer.scan.classes.digit_len.Goals as goal
+use Rattle.wat_lex.proofs.lexer.scan.classes.digit_len_by_block.Goals as goal
 
 pub returns-then-others-ne0 : goal.returns-then-others-ne0
 returns-then-others-ne0 c =
