@@ -147,7 +147,7 @@ bool wat_is_place(const uint8_t *text, size_t len, size_t pos);
 /* The token at a place, or the text's end, or the fault. */
 struct wat_found wat_scan(const uint8_t *text, size_t len, size_t pos, bool allow, bool strict);
 
-/* The token of what `wat_scan` answers there, which small registers take: its length is 0 where the text ends there or has a fault. */
+/* The token of what `wat_scan` answers there, small enough for two registers. Its length is 0 where the text ends there or has a fault. */
 struct wat_token wat_token_at(const uint8_t *text, size_t len, size_t pos, bool allow, bool strict);
 
 /* The tokens from a place on, end to end, up to the text's end or the first fault, or as many as there is room for. What lies behind
