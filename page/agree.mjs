@@ -9,12 +9,17 @@ import { KINDS, lexer } from './lexer.js';
 const program = process.argv[2];
 if (!program) throw new Error('usage: node --experimental-wasm-memory64 agree.mjs PROGRAM');
 const here = (name) => fileURLToPath(new URL(name, import.meta.url));
-const read = lexer(new WebAssembly.Instance(new WebAssembly.Module(readFileSync(here('out/wat_page.wasm')))));
+const { room, read } = lexer(new WebAssembly.Instance(new WebAssembly.Module(readFileSync(here('out/wat_page.wasm')))));
 const FLAGS = { '--allow-confusing': 'allow', '--strict-underscores': 'strict' };
+
+function readWhole(bytes, flags) {
+  room(bytes.length).set(bytes);
+  return read(bytes.length, flags);
+}
 
 // What the program would print, on both streams.
 function listOf(bytes, flags) {
-  const found = read(bytes, flags);
+  const found = readWhole(bytes, flags);
   const rows = [];
   let at = 0;
   for (let i = 0; i < found.count; i += 1) {
@@ -59,7 +64,7 @@ for (const strict of [false, true]) {
   const times = [];
   for (let i = 0; i < 9; i += 1) {
     const start = performance.now();
-    read(text, { strict });
+    readWhole(text, { strict });
     times.push(performance.now() - start);
   }
   console.log(`generated text of ${text.length} bytes: ${Math.min(...times).toFixed(1)} ms at best of ${times.length}`);

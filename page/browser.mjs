@@ -72,6 +72,9 @@ const SHOWN = `({
   matched: [...document.querySelectorAll('.match')].map((it) => Number(it.dataset.from)),
 })`;
 
+// The token that the list stands at once the text area's cursor is at a place.
+const heldAt = (place) => ask(`{ const it = document.querySelector('#text'); it.focus(); it.setSelectionRange(${place}, ${place}); document.dispatchEvent(new Event('selectionchange')); } ${SHOWN}`).then((page) => page.held);
+
 const type = (text) => ask(`{ const it = document.querySelector('#text'); it.value = ${JSON.stringify(text)}; it.setSelectionRange(0, 0); it.dispatchEvent(new Event('input')); } ${SHOWN}`);
 
 async function drop(bytes) {
@@ -119,6 +122,7 @@ async function droppedTexts() {
   assert.equal(await ask("document.querySelector('#text').hidden"), false);
   await ask("{ const it = document.querySelector('#text'); it.value += 'c'; it.dispatchEvent(new Event('input')); }");
   assert.equal((await ask(SHOWN)).text, '(a)\r\n\t(b "\u{1f600}")\r\nc');
+  assert.deepEqual([await heldAt(3), await heldAt(4), await heldAt(11), await heldAt(12), await heldAt(14)], ['3..6', '3..6', '9..15', '15..16', '18..19']);
   await ask("{ const given = new DataTransfer(); given.items.add(new File(['(dropped)'], 'a.wat')); document.dispatchEvent(new DragEvent('drop', { dataTransfer: given, bubbles: true, cancelable: true })); }");
   for (let i = 0; i < 100 && (await ask(SHOWN)).text !== '(dropped)'; i += 1) await pause(10);
   assert.equal((await ask(SHOWN)).text, '(dropped)');
@@ -157,9 +161,12 @@ async function droppedTexts() {
 
 // The cursor of the text, of the colours and of the list is one; all by the keyboard.
 async function theCursor() {
+  await type('"\u{e9}" x');
+  assert.equal(await heldAt(4), '5..6');
+  await ask("{ const it = document.querySelector('#text'); it.setRangeText('\u{1f600}', 1, 2, 'end'); it.dispatchEvent(new Event('input')); }");
+  assert.equal((await ask(SHOWN)).held, '0..6');
   await type('(a $b)\n(c "d")');
-  await ask("{ const it = document.querySelector('#text'); it.focus(); it.setSelectionRange(3, 3); document.dispatchEvent(new Event('selectionchange')); }");
-  assert.equal((await ask(SHOWN)).held, '3..5');
+  assert.equal(await heldAt(3), '3..5');
   await ask("document.querySelector('#view').focus()");
   await key('ArrowDown');
   let page = await ask(SHOWN);

@@ -1,5 +1,5 @@
 // The page: a text, its colours and its tokens, and one cursor in all three.
-import { KINDS, isSupported, load } from './lexer.js';
+import { KINDS, decoder, isSupported, load } from './lexer.js';
 import { Lines, Sight } from './lines.js';
 
 // In bytes: a longer text is shown, and not edited; of a line, and of a token in the list, no more than these are drawn.
@@ -18,11 +18,10 @@ const SAMPLE = `(module
 `;
 const $ = (id) => document.getElementById(id);
 const encoder = new TextEncoder();
-const decoder = new TextDecoder('utf-8', { ignoreBOM: true });
 const textOf = (from, to) => decoder.decode(bytes.subarray(from, to));
 
-let read, view, list;
-let bytes = new Uint8Array(), lines = new Lines(bytes), found, message = [], cursor = 0;
+let reader, view, list;
+let bytes, lines, found, message = [], cursor = 0;
 // The line end that the text area's own stands for, or null where the text area is not in use.
 let lineEnd = '\n';
 
@@ -265,13 +264,14 @@ function tell() {
   document.body.dataset.ending = found.ending;
 }
 
-// Reads a text whole, and draws what is in sight of it. What a change of the text costs is measured from its start.
-function show(given, at = cursor, start = performance.now()) {
-  if (given !== lines.bytes) lines = new Lines(given);
-  bytes = given;
-  found = read(bytes, { allow: $('allow').checked, strict: $('strict').checked });
+// Reads the text of so many bytes in the reader's memory whole, and draws what is in sight of it. What a change of the text costs is
+// measured from its start.
+function show(length, place = () => cursor, start = performance.now()) {
+  found = reader.read(length, { allow: $('allow').checked, strict: $('strict').checked });
+  bytes = found.bytes;
+  lines = new Lines(bytes);
   message = found.ending === 'faulty' ? found.message.split('\n') : [];
-  cursor = lines.back(at);
+  cursor = lines.back(place());
   view.set(lines.count + message.length);
   list.set(found.count);
   tell();
@@ -292,7 +292,9 @@ function lineEndOf(text) {
 
 // A text from elsewhere. It may be edited where the text area can hold it as it is.
 function open(given) {
-  show(given, 0);
+  const start = performance.now();
+  reader.room(given.length).set(given);
+  show(given.length, () => 0, start);
   const isShort = given.length <= EDITABLE;
   const isText = found.ending !== 'not UTF-8';
   const text = isShort && isText ? decoder.decode(given) : '';
@@ -304,22 +306,29 @@ function open(given) {
   if (found.ending === 'faulty') moveTo(found.offset, 'file');
 }
 
-const encoded = (text) => encoder.encode(lineEnd === '\r\n' ? text.replaceAll('\n', lineEnd) : text);
+// The byte that the text area's place of so many UTF-16 units stands for. A line end is one unit there, CR LF as well.
+function byteAt(units) {
+  let at = 0;
+  for (let left = units; left > 0 && at < bytes.length;) {
+    const first = bytes[at];
+    if (first !== 13) left -= first < 0xf0 ? 1 : 2;
+    at += first < 0x80 ? 1 : first < 0xe0 ? 2 : first < 0xf0 ? 3 : 4;
+  }
+  return at;
+}
 
 function onInput() {
   const start = performance.now();
-  const value = $('text').value;
-  const before = encoded(value.slice(0, $('text').selectionEnd));
-  const behind = encoded(value.slice($('text').selectionEnd));
-  const whole = new Uint8Array(before.length + behind.length);
-  whole.set(before);
-  whole.set(behind, before.length);
-  show(whole, before.length, start);
+  const { value, selectionEnd } = $('text');
+  const text = lineEnd === '\r\n' ? value.replaceAll('\n', lineEnd) : value;
+  // A UTF-16 unit has three bytes at most.
+  const { written } = encoder.encodeInto(text, reader.room(3 * text.length));
+  show(written, () => byteAt(selectionEnd), start);
 }
 
 function onSelect() {
   if (document.activeElement !== $('text') || !lineEnd) return;
-  moveTo(encoded($('text').value.slice(0, $('text').selectionEnd)).length, 'text');
+  moveTo(byteAt($('text').selectionEnd), 'text');
 }
 
 async function openFile(file) {
@@ -327,6 +336,7 @@ async function openFile(file) {
   try {
     open(new Uint8Array(await file.arrayBuffer()));
   } catch (error) {
+    open(new Uint8Array());
     $('told').className = 'wrong';
     $('told').textContent = `The file could not be read: ${error}`;
   }
@@ -339,12 +349,12 @@ async function start() {
     for (const id of ['file', 'allow', 'strict', 'text']) $(id).disabled = true;
     return;
   }
-  read = await load();
+  reader = await load();
   view = new Sight($('view'), drawView);
   list = new Sight($('list'), drawList);
   $('text').addEventListener('input', onInput);
   document.addEventListener('selectionchange', onSelect);
-  for (const id of ['allow', 'strict']) $(id).addEventListener('change', () => show(bytes));
+  for (const id of ['allow', 'strict']) $(id).addEventListener('change', () => show(bytes.length));
   $('file').addEventListener('change', () => openFile($('file').files[0]));
   document.addEventListener('dragover', (event) => event.preventDefault());
   document.addEventListener('drop', (event) => {
