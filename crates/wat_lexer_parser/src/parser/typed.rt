@@ -2,13 +2,11 @@
 ghost use Rattle.std.specs.Prelude.{◌≡◌, ◌≤◌, [], OnErr};
 ghost use Rattle.wat_lexer_parser.specs.readings.Readings.{group, pair, under};
 ghost use Rattle.wat_lexer_parser.specs.readings.Reads.{IsKept, Reads, reading_at};
-ghost use Rattle.wat_lexer_parser.specs.readings.Types.{an_index, item, reference};
 ghost use Rattle.wat_lexer_parser.specs.readings.Types.{under_standard};
 
 use crate::parser::{Lookahead1, Parse, Parser};
 use std::marker::PhantomData;
 use wat_lex::error::Error;
-use wat_lex::token::Index;
 use wat_words::{StdAnnotation, Word};
 
 /// What is read where annotations of a name are shown.
@@ -36,6 +34,33 @@ impl<'a, N: Word, T: Parse<'a>> Parse<'a> for Under<N, T> {
     }
 
     ghost forward = { forward_under N.text T.meaning T.forward };
+}
+
+/// One type behind another.
+#[derive(Drop)]
+struct Pair<T, U> {
+    first: T,
+    second: U,
+}
+
+impl<'a, T: Parse<'a>, U: Parse<'a>> Parse<'a> for Pair<T, U> {
+    ghost use Rattle.wat_lexer_parser.specs.lemmas.ReadingLaws.{forward_pair};
+    ghost use Rattle.wat_lexer_parser.specs.readings.Readings.{pair};
+
+    ghost Value = { T.Value × U.Value };
+
+    ghost value = { λ p. (T.value p.first, U.value p.second) };
+
+    ghost meaning = { pair T.meaning U.meaning };
+
+    fn parse(parser: &mut Parser<'a>) -> Result<Pair<T, U>, Error> {
+        Ok(Pair {
+            first: parser.parse::<T>()?,
+            second: parser.parse::<U>()?,
+        })
+    }
+
+    ghost forward = { forward_pair T.meaning U.meaning T.forward U.forward };
 }
 
 impl<'a> Parser<'a> {
@@ -114,44 +139,15 @@ impl<'a> Parser<'a> {
         Ok(value.value.value.value.value.value)
     }
 
-    /// Reads a kind and an index in a group, as [`parens_of`](Parser::parens_of) does.
-    pub(crate) fn parens_of_item<K: Parse<'a>>(&mut self) -> Result<(K, Index<'a>), Error>
+    /// Reads two types in a group, as [`parens_of`](Parser::parens_of) does.
+    pub(crate) fn parens_of_two<T: Parse<'a>, U: Parse<'a>>(&mut self) -> Result<(T, U), Error>
         ensures kept { IsKept self.old self.new }
         ensures on { self.old.place ≤ self.new.place }
-        ensures reads { Reads (λ v. (K.value v.0, reference v.1))
-            (reading_at (item K.meaning) self.old) result self.new.place }
+        ensures reads { Reads (λ v. (T.value v.0, U.value v.1))
+            (reading_at (group (pair T.meaning U.meaning)) self.old) result self.new.place }
     {
-        let place = self.place;
-        let depth = self.depth;
-        self.reading.is_read();
-        self.open()?;
-        self.depth += 1;
-        let result = self.item::<K>();
-        self.depth = depth;
-        match result {
-            Ok(item) => match self.close() {
-                Ok(()) => Ok(item),
-                Err(e) => {
-                    self.place = place;
-                    Err(e)
-                }
-            },
-            Err(e) => {
-                self.place = place;
-                Err(e)
-            }
-        }
-    }
-
-    fn item<K: Parse<'a>>(&mut self) -> Result<(K, Index<'a>), Error>
-        ensures kept { IsKept self.old self.new }
-        ensures on { self.old.place ≤ self.new.place }
-        ensures reads { Reads (λ v. (K.value v.0, reference v.1))
-            (reading_at (pair K.meaning an_index) self.old) result self.new.place }
-    {
-        let kind = self.parse::<K>()?;
-        let idx = self.parse::<Index<'a>>()?;
-        Ok((kind, idx))
+        let both = self.parens_of::<Pair<T, U>>()?;
+        Ok((both.first, both.second))
     }
 
     /// A look at several types, one of which is expected at the place.

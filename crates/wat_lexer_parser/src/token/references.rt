@@ -124,7 +124,7 @@ impl<'a, K: Parse<'a>> Parse<'a> for ItemRef<'a, K> {
     ghost meaning = { item K.meaning };
 
     fn parse(parser: &mut Parser<'a>) -> Result<ItemRef<'a, K>, Error> {
-        let (kind, idx) = parser.parens_of_item::<K>()?;
+        let (kind, idx) = parser.parens_of_two::<K, Index<'a>>()?;
         Ok(ItemRef { kind, idx })
     }
 
