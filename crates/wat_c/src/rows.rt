@@ -1,9 +1,6 @@
 //! What C sees of a token, of the text's end and of a fault.
-ghost use Rattle.std.specs.Prelude.{◌≡◌, ◌≢◌, ◌<◌, ◌^◌, ◌+◌, length};
+ghost use Rattle.std.specs.Prelude.{◌≡◌, ◌<◌, ◌≤◌, ◌^◌, ◌+◌, length};
 ghost use Rattle.std.specs.Str.{IsCharBoundary};
-ghost use Rattle.wat_lex.specs.declared.lexer.kinds.FloatKind.{FloatKind};
-ghost use Rattle.wat_lex.specs.declared.lexer.kinds.IntegerKind.{IntegerKind};
-ghost use Rattle.wat_lex.specs.declared.lexer.kinds.TokenKind.TheVariants.{Integer, Float};
 ghost use Rattle.wat_c.specs.Rows.{float_row, kind_row, sign_code, minus_code, plain, token_row};
 ghost use Rattle.wat_c.specs.Rows.{place_row, fault_code, fault_found, fault_wanted, found_row};
 
@@ -123,12 +120,10 @@ fn float_row(kind: FloatKind) -> KindRow
     }
 }
 
-/// A kind of no number, from 0 on: its tag, so that a compiler needs no table.
-fn plain_tag(kind: TokenKind) -> u8
-    requires no_integer { (k : IntegerKind) → kind ≢ Integer k }
-    requires no_float { (k : FloatKind) → kind ≢ Float k }
-    ensures small { result < 10 }
-    ensures row { kind_row kind ≡ plain (1 + result) }
+/// A kind's place in the order of the kinds: its tag, so that a compiler needs no table.
+fn kind_tag(kind: TokenKind) -> u8
+    ensures plain { result < 10 → kind_row kind ≡ plain (1 + result) }
+    ensures number { 10 ≤ result → 10 < (kind_row kind).code }
 {
     match kind {
         TokenKind::LineComment => 0,
@@ -141,11 +136,14 @@ fn plain_tag(kind: TokenKind) -> u8
         TokenKind::Keyword => 7,
         TokenKind::Annotation => 8,
         TokenKind::Reserved => 9,
-        TokenKind::Integer(_) | TokenKind::Float(_) => unreachable!(),
+        TokenKind::Integer(_) => 10,
+        TokenKind::Float(_) => 11,
     }
 }
 
-fn kind_row(kind: TokenKind) -> KindRow
+/// The row of a number's kind.
+fn number_row(kind: TokenKind) -> KindRow
+    requires { 10 < (kind_row kind).code }
     ensures { result ≡ kind_row kind }
 {
     match kind {
@@ -156,7 +154,18 @@ fn kind_row(kind: TokenKind) -> KindRow
             hex: kind.hex(),
         },
         TokenKind::Float(kind) => float_row(kind),
-        kind => plain(1 + plain_tag(kind)),
+        _ => unreachable!(),
+    }
+}
+
+fn kind_row(kind: TokenKind) -> KindRow
+    ensures { result ≡ kind_row kind }
+{
+    let tag = kind_tag(kind);
+    if tag < 10 {
+        plain(1 + tag)
+    } else {
+        number_row(kind)
     }
 }
 
