@@ -1,5 +1,5 @@
 //! What C sees of a token, of the text's end and of a fault.
-ghost use Rattle.std.specs.Prelude.{◌≡◌, ◌<◌, ◌^◌, length};
+ghost use Rattle.std.specs.Prelude.{◌≡◌, ◌<◌, ◌≤◌, ◌^◌, ◌+◌, length};
 ghost use Rattle.std.specs.Str.{IsCharBoundary};
 ghost use Rattle.wat_c.specs.Rows.{float_row, kind_row, sign_code, minus_code, plain, token_row};
 ghost use Rattle.wat_c.specs.Rows.{place_row, fault_code, fault_found, fault_wanted, found_row};
@@ -120,20 +120,33 @@ fn float_row(kind: FloatKind) -> KindRow
     }
 }
 
-fn kind_row(kind: TokenKind) -> KindRow
+/// A kind's place in the order of the kinds: its tag, so that a compiler needs no table.
+fn kind_tag(kind: TokenKind) -> u8
+    ensures plain { result < 10 → kind_row kind ≡ plain (1 + result) }
+    ensures number { 10 ≤ result → 10 < (kind_row kind).code }
+{
+    match kind {
+        TokenKind::LineComment => 0,
+        TokenKind::BlockComment => 1,
+        TokenKind::Whitespace => 2,
+        TokenKind::LParen => 3,
+        TokenKind::RParen => 4,
+        TokenKind::String => 5,
+        TokenKind::Id => 6,
+        TokenKind::Keyword => 7,
+        TokenKind::Annotation => 8,
+        TokenKind::Reserved => 9,
+        TokenKind::Integer(_) => 10,
+        TokenKind::Float(_) => 11,
+    }
+}
+
+/// The row of a number's kind.
+fn number_row(kind: TokenKind) -> KindRow
+    requires { 10 < (kind_row kind).code }
     ensures { result ≡ kind_row kind }
 {
     match kind {
-        TokenKind::LineComment => plain(1),
-        TokenKind::BlockComment => plain(2),
-        TokenKind::Whitespace => plain(3),
-        TokenKind::LParen => plain(4),
-        TokenKind::RParen => plain(5),
-        TokenKind::String => plain(6),
-        TokenKind::Id => plain(7),
-        TokenKind::Keyword => plain(8),
-        TokenKind::Annotation => plain(9),
-        TokenKind::Reserved => plain(10),
         TokenKind::Integer(kind) => KindRow {
             code: 11,
             sign: sign_code(kind.sign()),
@@ -141,6 +154,18 @@ fn kind_row(kind: TokenKind) -> KindRow
             hex: kind.hex(),
         },
         TokenKind::Float(kind) => float_row(kind),
+        _ => unreachable!(),
+    }
+}
+
+fn kind_row(kind: TokenKind) -> KindRow
+    ensures { result ≡ kind_row kind }
+{
+    let tag = kind_tag(kind);
+    if tag < 10 {
+        plain(1 + tag)
+    } else {
+        number_row(kind)
     }
 }
 

@@ -56,7 +56,8 @@ impl<'a> Lexer<'a> {
     pub fn parse(&self, pos: &mut usize) -> Result<Option<Token>, Error> {
         let row = self.text.place(*pos).token(self.settings);
         if row.len == 0 {
-            return self.ending(*pos);
+            self.ending(*pos)?;
+            return Ok(None);
         }
         *pos += row.len as usize;
         Ok(Some(Token::from_row(row)))
@@ -92,11 +93,11 @@ impl<'a> Lexer<'a> {
         Ok(token.filter(|token| token.kind == TokenKind::Annotation))
     }
 
-    /// The text's end or the fault at a place where no token stands.
+    /// The text's end or the fault at a place where no token stands. What it answers is one word.
     #[cold]
-    fn ending(&self, pos: usize) -> Result<Option<Token>, Error> {
+    fn ending(&self, pos: usize) -> Result<(), Error> {
         if pos == self.input().len() {
-            return Ok(None);
+            return Ok(());
         }
         Err(self.error(self.text.place(pos)))
     }

@@ -179,12 +179,27 @@ impl<'a> Text<'a> {
     /// A place of the text. Panics where it is none.
     #[inline]
     pub fn place(self, pos: usize) -> Place<'a> {
-        assert!(
-            self.0.is_char_boundary(pos),
-            "{pos} is no place of the text"
-        );
+        if !self.is_place(pos) {
+            no_place(pos);
+        }
         Place { text: self, pos }
     }
+
+    /// What `str::is_char_boundary` answers. The start of a text with bytes needs no look of its own: no text begins with a byte
+    /// that continues a character.
+    #[inline]
+    fn is_place(self, pos: usize) -> bool {
+        match self.0.as_bytes().get(pos) {
+            Some(byte) => !(0x80..0xc0).contains(byte),
+            None => pos == self.0.len(),
+        }
+    }
+}
+
+#[cold]
+#[inline(never)]
+fn no_place(pos: usize) -> ! {
+    panic!("{pos} is no place of the text")
 }
 
 /// A place of a text: its end, or where a character begins.
