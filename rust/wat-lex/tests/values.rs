@@ -231,6 +231,24 @@ fn settings() {
 }
 
 #[test]
+fn places_are_those_of_str() {
+    for text in [
+        "",
+        "a",
+        "\u{80}",
+        "(\u{7ff}\u{800})",
+        "\u{ffff}a\u{10000}",
+        "\u{10ffff}",
+    ] {
+        for pos in (0..text.len() + 3).chain([usize::MAX]) {
+            let parse = || Lexer::new(text).parse(&mut { pos }).is_ok();
+            let passes = std::panic::catch_unwind(parse).is_ok();
+            assert_eq!(passes, text.is_char_boundary(pos), "{text:?} at {pos}");
+        }
+    }
+}
+
+#[test]
 fn places() {
     assert_eq!(Lexer::new("").parse(&mut 0), Ok(None));
     assert_eq!(Lexer::new("a").parse(&mut 1), Ok(None));
