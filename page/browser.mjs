@@ -123,9 +123,20 @@ async function droppedTexts() {
   await ask("{ const it = document.querySelector('#text'); it.value += 'c'; it.dispatchEvent(new Event('input')); }");
   assert.equal((await ask(SHOWN)).text, '(a)\r\n\t(b "\u{1f600}")\r\nc');
   assert.deepEqual([await heldAt(3), await heldAt(4), await heldAt(11), await heldAt(12), await heldAt(14)], ['3..6', '3..6', '9..15', '15..16', '18..19']);
-  await ask("{ const given = new DataTransfer(); given.items.add(new File(['(dropped)'], 'a.wat')); document.dispatchEvent(new DragEvent('drop', { dataTransfer: given, bubbles: true, cancelable: true })); }");
-  for (let i = 0; i < 100 && (await ask(SHOWN)).text !== '(dropped)'; i += 1) await pause(10);
-  assert.equal((await ask(SHOWN)).text, '(dropped)');
+  const dropped = async (size) => {
+    await ask(`{ const given = new DataTransfer(); given.items.add(new File(['(dropped)'.repeat(${size})], 'a.wat')); document.dispatchEvent(new DragEvent('drop', { dataTransfer: given, bubbles: true, cancelable: true })); }`);
+    await pause(200);
+    return ask(SHOWN);
+  };
+  assert.equal((await dropped(1)).text, '(dropped)');
+  // A file that cannot be read leaves the text; one that there is no memory for leaves none.
+  for (const [refused, size, text] of [['Blob.prototype.arrayBuffer', 2, '(dropped)'], ['WebAssembly.Memory.prototype.grow', 1e6, '']]) {
+    await ask(`window.kept = ${refused}; ${refused} = () => { throw new RangeError('refused'); };`);
+    page = await dropped(size);
+    assert.deepEqual([page.told, page.text], ['The file could not be read: RangeError: refused', text]);
+    await ask(`${refused} = window.kept;`);
+  }
+  assert.equal((await dropped(1)).text, '(dropped)');
   page = await drop('a\rb\n');
   assert.deepEqual([page.text, await ask("document.querySelector('#text').hidden")], ['a\rb\n', true]);
   page = await drop(Buffer.from([40, 255]));

@@ -333,10 +333,13 @@ function onSelect() {
 
 async function openFile(file) {
   if (!file) return;
+  let given;
   try {
-    open(new Uint8Array(await file.arrayBuffer()));
+    given = new Uint8Array(await file.arrayBuffer());
+    open(given);
   } catch (error) {
-    open(new Uint8Array());
+    // A text that there is no memory for may lie where the one before it lay.
+    if (given) open(new Uint8Array());
     $('told').className = 'wrong';
     $('told').textContent = `The file could not be read: ${error}`;
   }
