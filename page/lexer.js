@@ -70,8 +70,8 @@ export function lexer(instance) {
   return { room, read };
 }
 
-// Reads a line until an engine has had enough of the module to compile it for speed, which takes some milliseconds, so that the first
-// long text need not wait for slow code.
+// Reads half a megabyte, which takes some milliseconds, so that an engine compiles the module for speed before the first long text
+// comes.
 function warmUp({ room, read }) {
   const bytes = new TextEncoder().encode('  (func $add (param $a i32) (result i32) local.get 0 i32.const -0x1 i32.add) ;; "b"\n'.repeat(3000));
   for (let i = 0; i < 2; i += 1) {
