@@ -1,6 +1,7 @@
 // The proved lexer, as a function of a text's bytes. All memory is laid out here, behind the module's own: the text, the report,
 // the rows and the message. The module allocates nothing.
-export const KINDS = ['LineComment', 'BlockComment', 'Whitespace', 'LParen', 'RParen', 'String', 'Id', 'Keyword', 'Annotation', 'Reserved', 'Integer', 'Float'];
+// The words of the kinds, at the numbers that the module tells: 0 is none, 12 to 15 are the kinds of floats.
+export const KINDS = [null, 'LineComment', 'BlockComment', 'Whitespace', 'LParen', 'RParen', 'String', 'Id', 'Keyword', 'Annotation', 'Reserved', 'Integer', 'Float', 'Float', 'Float', 'Float'];
 export const ENDINGS = ['whole', 'faulty', 'full', 'not UTF-8', 'too long'];
 
 const PAGE = 65536;
@@ -26,7 +27,7 @@ function grow(memory, end) {
 }
 
 // A text is written into the memory that `room` gives, and read there. What `read` says of it has two numbers for each token in
-// `rows`, its end and the place of its kind in KINDS; a token begins where the one before it ends, and the first at 0. What either
+// `rows`, its end and the number of its kind; a token begins where the one before it ends, and the first at 0. What either
 // gives holds until the next call of one of them.
 export function lexer(instance) {
   const { memory, wat_page_read, __heap_base } = instance.exports;

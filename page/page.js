@@ -57,8 +57,8 @@ function pair() {
   let depth = 0;
   for (let i = here; i >= 0 && i < found.count; i += step) {
     const kind = found.rows[2 * i + 1];
-    if (kind === 3) depth += 1;
-    if (kind === 4) depth -= 1;
+    if (kind === 4) depth += 1;
+    if (kind === 5) depth -= 1;
     if (depth === 0) return [here, i];
   }
   return [here];

@@ -17,7 +17,7 @@ refused Reads old refusal answer reads told = record { found = Err refusal; read
 free_of : (s : Setting) (p : ℕ) (found : Result (List ℕ) Refusal) → FindsFault s p found → (answer_of found).status ≢ 2
 free_of s p (Ok bytes) h e = absurd (omega (arith, e))
 free_of s p (Err Other) h e = absurd (omega (arith, e))
-free_of s p (Err Memory) h e = h
+free_of s p (Err (Memory refused)) h e = h
 free_of s p (Err Absent) h e = h
 free_of s p (Err (Fault f)) h e = h
 

@@ -1,6 +1,6 @@
 -- What a reader finds at a place is one thing, want of memory apart.
 use Rattle.std.proofs.Common.{◌≡◌, ◌≢◌, ◌⊎◌, ℕ, List, [], refl, true≢false, ap, sym, ◌∙◌, subst, inl, inr}
-use Rattle.std.specs.Prelude.{Bool, false, ◌||◌, ◌==◌, if◌then◌else◌, Option, Some, None, Result, Ok, Err, IfOk, IfSome, IsSome, unwrap_or}
+use Rattle.std.specs.Prelude.{Bool, false, ◌||◌, ◌==◌, if◌then◌else◌, Option, Some, None, Result, Ok, Err, IfOk, IfSome, IsSome, alloc_error, unwrap_or}
 use Rattle.std.specs.Option.{option_map}
 use Rattle.std.specs.Cow.{cow_str_bytes}
 use Rattle.std.specs.declared.borrow.CowStr.{CowStr}
@@ -32,9 +32,9 @@ Finding = Result (List ℕ) Refusal
 
 -- any two findings are the same, but for want of memory
 abbrev One : (Finding → Type 0) → Type 0
-One Reads = (a b : Finding) → Reads a → Reads b → a ≢ Err Memory → b ≢ Err Memory → a ≡ b
+One Reads = (a b : Finding) → Reads a → Reads b → a ≢ Err (Memory alloc_error) → b ≢ Err (Memory alloc_error) → a ≡ b
 
-found_memory : (answer : Answer) (found : Finding) → answer ≡ answer_of found → answer.status ≢ status_of Memory → found ≢ Err Memory
+found_memory : (answer : Answer) (found : Finding) → answer ≡ answer_of found → answer.status ≢ status_of (Memory alloc_error) → found ≢ Err (Memory alloc_error)
 found_memory answer found told n e = n (ap (λ a. a.status) told ∙ ap (λ f. (answer_of f).status) e)
 
 pub one_answer : (Reads : Finding → Type 0) (old : List ℕ) → One Reads → OneAnswer Reads old
@@ -49,7 +49,7 @@ one_answer Reads old one new other answer told h k n m =
 split : (Is : TokenKind → Type 0) (Reads : List ℕ → Token → Finding → Type 0) (s : Setting) (p : ℕ) (a : Finding) → Finds Is Reads s p a → ((a ≡ Err Other) × OtherAt Is s p) ⊎ ReadAt Is Reads s p a
 split Is Reads s p (Ok bytes) h = inr h
 split Is Reads s p (Err Other) h = inl (refl, h)
-split Is Reads s p (Err Memory) h = inr h
+split Is Reads s p (Err (Memory refused)) h = inr h
 split Is Reads s p (Err Absent) h = inr h
 split Is Reads s p (Err (Fault e)) h = inr h
 
@@ -68,7 +68,7 @@ module _ (stands : OneThingStands) (Is : TokenKind → Type 0) (Reads : List ℕ
   apart : (b : Finding) → OtherAt Is s p → ReadAt Is Reads s p b → ⊥
   apart b h k = subst (λ r. IfOk r (λ found. IfSome found (λ t. Is t.kind → ⊥))) (stands s p h.answer (Ok (Some k.token)) h.stands k.stands) h.other k.kind
 
-  both : (a b : Finding) → ReadAt Is Reads s p a → ReadAt Is Reads s p b → a ≢ Err Memory → b ≢ Err Memory → a ≡ b
+  both : (a b : Finding) → ReadAt Is Reads s p a → ReadAt Is Reads s p b → a ≢ Err (Memory alloc_error) → b ≢ Err (Memory alloc_error) → a ≡ b
   both a b h k n m =
       let same = some_token k.token h.token (stands s p (Ok (Some k.token)) (Ok (Some h.token)) k.stands h.stands) in
       one h.token h.kind a b h.reads (subst (λ t. Reads s.text t b) same k.reads) n m
@@ -84,8 +84,8 @@ module _ (stands : OneThingStands) (Is : TokenKind → Type 0) (Reads : List ℕ
 
 pub one_string : ((w : List ℕ) → OneValue w) → (text : List ℕ) (t : Token) → One (ReadsString text t)
 one_string one text t (Ok a) (Ok b) h k n m = ap Ok (one (word_of text t) a b h k)
-one_string one text t (Err Memory) b h k n m = absurd (n refl)
-one_string one text t (Ok a) (Err Memory) h k n m = absurd (m refl)
+one_string one text t (Err (Memory refused)) b h k n m = absurd (n refl)
+one_string one text t (Ok a) (Err (Memory refused)) h k n m = absurd (m refl)
 one_string one text t (Ok a) (Err Other) h k n m = absurd k
 one_string one text t (Ok a) (Err Absent) h k n m = absurd k
 one_string one text t (Ok a) (Err (Fault e)) h k n m = absurd k
@@ -98,11 +98,11 @@ one_name one text t (Ok a) (Ok b) h k n m = ap Ok ((one (empty_name t.kind) (wor
 one_name one text t (Err (Fault e)) (Err (Fault f)) h k n m = ap (λ e. Err (Fault e)) ((one (empty_name t.kind) (word_of text t)).fault e f h k)
 one_name one text t (Ok a) (Err (Fault f)) h k n m = absurd ((one (empty_name t.kind) (word_of text t)).good a f h.0 h.1 h.2 k)
 one_name one text t (Err (Fault e)) (Ok b) h k n m = absurd ((one (empty_name t.kind) (word_of text t)).good b e k.0 k.1 k.2 h)
-one_name one text t (Err Memory) b h k n m = absurd (n refl)
-one_name one text t (Ok a) (Err Memory) h k n m = absurd (m refl)
+one_name one text t (Err (Memory refused)) b h k n m = absurd (n refl)
+one_name one text t (Ok a) (Err (Memory refused)) h k n m = absurd (m refl)
 one_name one text t (Ok a) (Err Other) h k n m = absurd k
 one_name one text t (Ok a) (Err Absent) h k n m = absurd k
-one_name one text t (Err (Fault e)) (Err Memory) h k n m = absurd (m refl)
+one_name one text t (Err (Fault e)) (Err (Memory refused)) h k n m = absurd (m refl)
 one_name one text t (Err (Fault e)) (Err Other) h k n m = absurd k
 one_name one text t (Err (Fault e)) (Err Absent) h k n m = absurd k
 one_name one text t (Err Other) b h k n m = absurd h
@@ -115,11 +115,11 @@ one_name_fault one text t (Ok a) (Ok b) h k n m =
 one_name_fault one text t (Err Absent) (Err Absent) h k n m = refl
 one_name_fault one text t (Ok a) (Err Absent) h k n m = absurd ((one (empty_name t.kind) (word_of text t)).good k.0 h.0 k.1 k.2 k.3 h.1)
 one_name_fault one text t (Err Absent) (Ok b) h k n m = absurd ((one (empty_name t.kind) (word_of text t)).good h.0 k.0 h.1 h.2 h.3 k.1)
-one_name_fault one text t (Err Memory) b h k n m = absurd (n refl)
-one_name_fault one text t (Ok a) (Err Memory) h k n m = absurd (m refl)
+one_name_fault one text t (Err (Memory refused)) b h k n m = absurd (n refl)
+one_name_fault one text t (Ok a) (Err (Memory refused)) h k n m = absurd (m refl)
 one_name_fault one text t (Ok a) (Err Other) h k n m = absurd k
 one_name_fault one text t (Ok a) (Err (Fault f)) h k n m = absurd k
-one_name_fault one text t (Err Absent) (Err Memory) h k n m = absurd (m refl)
+one_name_fault one text t (Err Absent) (Err (Memory refused)) h k n m = absurd (m refl)
 one_name_fault one text t (Err Absent) (Err Other) h k n m = absurd k
 one_name_fault one text t (Err Absent) (Err (Fault f)) h k n m = absurd k
 one_name_fault one text t (Err Other) b h k n m = absurd h
@@ -133,8 +133,8 @@ pub one_integer : (text : List ℕ) (t : Token) → One (ReadsInteger text t)
 one_integer text t (Ok a) (Ok b) h k n m =
     let same : h.0 ≡ k.0 = ap (integer_kind h.0) (sym h.1 ∙ k.1) in
     ap Ok (h.2 ∙ ap (λ i. number_text i.hex (word_of text t)) same ∙ sym k.2)
-one_integer text t (Err Memory) b h k n m = absurd (n refl)
-one_integer text t (Ok a) (Err Memory) h k n m = absurd (m refl)
+one_integer text t (Err (Memory refused)) b h k n m = absurd (n refl)
+one_integer text t (Ok a) (Err (Memory refused)) h k n m = absurd (m refl)
 one_integer text t (Ok a) (Err Other) h k n m = absurd k
 one_integer text t (Ok a) (Err Absent) h k n m = absurd k
 one_integer text t (Ok a) (Err (Fault e)) h k n m = absurd k
@@ -226,11 +226,11 @@ one_float one part text t (Ok a) (Ok b) h k n m = ap (λ o. Ok (unwrap_or o []))
 one_float one part text t (Err Absent) (Err Absent) h k n m = refl
 one_float one part text t (Ok a) (Err Absent) h k n m = absurd (some_none a (sym h.2 ∙ same_part one part text t h.0 k.0 h.1 k.1 ∙ k.2))
 one_float one part text t (Err Absent) (Ok b) h k n m = absurd (some_none b (sym k.2 ∙ same_part one part text t k.0 h.0 k.1 h.1 ∙ h.2))
-one_float one part text t (Err Memory) b h k n m = absurd (n refl)
-one_float one part text t (Ok a) (Err Memory) h k n m = absurd (m refl)
+one_float one part text t (Err (Memory refused)) b h k n m = absurd (n refl)
+one_float one part text t (Ok a) (Err (Memory refused)) h k n m = absurd (m refl)
 one_float one part text t (Ok a) (Err Other) h k n m = absurd k
 one_float one part text t (Ok a) (Err (Fault e)) h k n m = absurd k
-one_float one part text t (Err Absent) (Err Memory) h k n m = absurd (m refl)
+one_float one part text t (Err Absent) (Err (Memory refused)) h k n m = absurd (m refl)
 one_float one part text t (Err Absent) (Err Other) h k n m = absurd k
 one_float one part text t (Err Absent) (Err (Fault e)) h k n m = absurd k
 one_float one part text t (Err Other) b h k n m = absurd h
@@ -252,12 +252,12 @@ one_fault stands s p (Ok a) (Ok b) h k n m = ap Ok (h.2 ∙ ap (shown_fault s.te
 one_fault stands s p (Err Other) (Err Other) h k n m = refl
 one_fault stands s p (Ok a) (Err Other) h k n m = absurd (no_fault s p h.0 stands h.1 k)
 one_fault stands s p (Err Other) (Ok b) h k n m = absurd (no_fault s p k.0 stands k.1 h)
-one_fault stands s p (Ok a) (Err Memory) h k n m = absurd k
+one_fault stands s p (Ok a) (Err (Memory refused)) h k n m = absurd k
 one_fault stands s p (Ok a) (Err Absent) h k n m = absurd k
 one_fault stands s p (Ok a) (Err (Fault e)) h k n m = absurd k
-one_fault stands s p (Err Other) (Err Memory) h k n m = absurd k
+one_fault stands s p (Err Other) (Err (Memory refused)) h k n m = absurd k
 one_fault stands s p (Err Other) (Err Absent) h k n m = absurd k
 one_fault stands s p (Err Other) (Err (Fault e)) h k n m = absurd k
-one_fault stands s p (Err Memory) b h k n m = absurd h
+one_fault stands s p (Err (Memory refused)) b h k n m = absurd h
 one_fault stands s p (Err Absent) b h k n m = absurd h
 one_fault stands s p (Err (Fault e)) b h k n m = absurd h

@@ -1,5 +1,5 @@
 -- What a reader answers to C, and what the caller's buffer has afterwards. No part of the standard.
-use Rattle.std.specs.Prelude.{◌≡◌, ◌≢◌, ◌++◌, nat_le, ℕ, List, length, drop, Result, Ok, Err, if◌then◌else◌}
+use Rattle.std.specs.Prelude.{◌≡◌, ◌≢◌, ◌++◌, nat_le, ℕ, List, length, drop, Result, Ok, Err, alloc_error, if◌then◌else◌}
 use Rattle.wat_c.specs.Rows.{fault_code}
 use Rattle.wat_c.specs.declared.answers.Answer.{Answer}
 use Rattle.wat_c.specs.declared.answers.Refusal.{Refusal}
@@ -11,7 +11,7 @@ put bytes old = if nat_le (length bytes) (length old) then bytes ++ drop (length
 
 abbrev pub status_of : Refusal → ℕ
 status_of Other = 1
-status_of Memory = 2
+status_of (Memory refused) = 2
 status_of Absent = 3
 status_of (Fault e) = fault_code e
 
@@ -34,4 +34,4 @@ pub record Answers (Reads : Result (List ℕ) Refusal → Type 0) (old new : Lis
 -- any two answers to what is found, neither want of memory, are the same: length, status and what the buffer then has
 unfoldable pub OneAnswer : (Result (List ℕ) Refusal → Type 0) → List ℕ → Type 0
 OneAnswer Reads old = (new other : List ℕ) (answer told : Answer) → Answers Reads old new answer → Answers Reads old other told
-    → answer.status ≢ status_of Memory → told.status ≢ status_of Memory → (answer ≡ told) × (new ≡ other)
+    → answer.status ≢ status_of (Memory alloc_error) → told.status ≢ status_of (Memory alloc_error) → (answer ≡ told) × (new ≡ other)

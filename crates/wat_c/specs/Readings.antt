@@ -62,20 +62,20 @@ Finds Is Reads s p found = ReadAt Is Reads s p found
 -- a string's value; want of memory only where an escape stands in it
 abbrev pub ReadsString : List ℕ → Token → Result (List ℕ) Refusal → Type 0
 ReadsString text t (Ok bytes) = StringWord lenient (word_of text t) bytes
-ReadsString text t (Err Memory) = HasNone backslash (word_of text t) → ⊥
+ReadsString text t (Err (Memory refused)) = HasNone backslash (word_of text t) → ⊥
 ReadsString text t (Err refusal) = ⊥
 
 -- a name, which is UTF-8 and not empty, or what is wrong with it; want of memory only where an escape stands in it
 abbrev pub ReadsName : List ℕ → Token → Result (List ℕ) Refusal → Type 0
 ReadsName text t (Ok bytes) = Name (word_of text t) bytes × IsUtf8 bytes × (bytes ≢ [])
 ReadsName text t (Err (Fault e)) = NameFault (empty_name t.kind) (word_of text t) e
-ReadsName text t (Err Memory) = HasNoEscape (word_of text t) → ⊥
+ReadsName text t (Err (Memory refused)) = HasNoEscape (word_of text t) → ⊥
 ReadsName text t (Err refusal) = ⊥
 
 -- an integer's digits without `+`, underscores and `0x`, a `-` kept; want of memory only where it has underscores or `0x`
 abbrev pub ReadsInteger : List ℕ → Token → Result (List ℕ) Refusal → Type 0
 ReadsInteger text t (Ok bytes) = (k : IntegerKind) × (t.kind ≡ kind.Integer k) × (bytes ≡ number_text (kind_hex k) (word_of text t))
-ReadsInteger text t (Err Memory) = (k : IntegerKind) × (t.kind ≡ kind.Integer k) × (is_integer_rewritten k ≡ true)
+ReadsInteger text t (Err (Memory refused)) = (k : IntegerKind) × (t.kind ≡ kind.Integer k) × (is_integer_rewritten k ≡ true)
 ReadsInteger text t (Err refusal) = ⊥
 
 abbrev pub integral_part : Float → Option (List ℕ)
@@ -111,7 +111,7 @@ part_of part float =
 abbrev pub ReadsFloat : ℕ → List ℕ → Token → Result (List ℕ) Refusal → Type 0
 ReadsFloat part text t (Ok bytes) = (float : Float) × IsFloatToken text t float × (part_of part float ≡ Some bytes)
 ReadsFloat part text t (Err Absent) = (float : Float) × IsFloatToken text t float × (part_of part float ≡ None)
-ReadsFloat part text t (Err Memory) = (k : FloatKind) × (t.kind ≡ kind.Float k) × (is_float_rewritten k ≡ true)
+ReadsFloat part text t (Err (Memory refused)) = (k : FloatKind) × (t.kind ≡ kind.Float k) × (is_float_rewritten k ≡ true)
 ReadsFloat part text t (Err refusal) = ⊥
 
 -- a floating-point number stands at the place, and is cut into these parts
@@ -139,5 +139,5 @@ FindsFault s p (Err refusal) = ⊥
 abbrev pub ReadsNameFault : List ℕ → Token → Result (List ℕ) Refusal → Type 0
 ReadsNameFault text t (Ok bytes) = (e : LexError) × NameFault (empty_name t.kind) (word_of text t) e × (bytes ≡ shown_fault text (record { offset = t.offset; error = e }))
 ReadsNameFault text t (Err Absent) = (name : List ℕ) × Name (word_of text t) name × IsUtf8 name × (name ≢ [])
-ReadsNameFault text t (Err Memory) = HasNoEscape (word_of text t) → ⊥
+ReadsNameFault text t (Err (Memory refused)) = HasNoEscape (word_of text t) → ⊥
 ReadsNameFault text t (Err refusal) = ⊥

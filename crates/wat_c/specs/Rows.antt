@@ -4,6 +4,7 @@ use Rattle.wat_lex.specs.tokens.Faults.{FaultAt}
 use Rattle.wat_lex.specs.tokens.Setting.{Setting}
 use Rattle.wat_lex.specs.tokens.Tiling.{Tiling}
 use Rattle.wat_lex.specs.tokens.UniqueTilings.{AnswerAt}
+use Rattle.wat_lex.specs.values.KindNumbers.{kind_number}
 use Rattle.wat_lex.specs.values.IntegerFacts.{kind_sign, kind_has_underscores, kind_hex}
 use Rattle.wat_lex.specs.declared.lexer.faults.LexError.{LexError}
 use Rattle.wat_lex.specs.declared.lexer.faults.LexError.TheVariants as fault
@@ -37,24 +38,24 @@ abbrev pub plain : ℕ → KindRow
 plain code = record { code = code; sign = 0; has_underscores = false; hex = false }
 
 abbrev pub float_row : FloatKind → KindRow
-float_row (Inf n) = record { code = 12; sign = minus_code n; has_underscores = false; hex = false }
-float_row (Nan n) = record { code = 13; sign = minus_code n; has_underscores = false; hex = false }
-float_row (NanVal n u) = record { code = 14; sign = minus_code n; has_underscores = u; hex = false }
-float_row (Normal u h) = record { code = 15; sign = 0; has_underscores = u; hex = h }
+float_row (Inf n) = record { code = kind_number (Float (Inf n)); sign = minus_code n; has_underscores = false; hex = false }
+float_row (Nan n) = record { code = kind_number (Float (Nan n)); sign = minus_code n; has_underscores = false; hex = false }
+float_row (NanVal n u) = record { code = kind_number (Float (NanVal n u)); sign = minus_code n; has_underscores = u; hex = false }
+float_row (Normal u h) = record { code = kind_number (Float (Normal u h)); sign = 0; has_underscores = u; hex = h }
 
 -- a kind's number, and what the kind says of a number token
 abbrev pub kind_row : TokenKind → KindRow
-kind_row LineComment = plain 1
-kind_row BlockComment = plain 2
-kind_row Whitespace = plain 3
-kind_row LParen = plain 4
-kind_row RParen = plain 5
-kind_row String = plain 6
-kind_row Id = plain 7
-kind_row Keyword = plain 8
-kind_row Annotation = plain 9
-kind_row Reserved = plain 10
-kind_row (Integer k) = record { code = 11; sign = sign_code (kind_sign k); has_underscores = kind_has_underscores k; hex = kind_hex k }
+kind_row LineComment = plain (kind_number LineComment)
+kind_row BlockComment = plain (kind_number BlockComment)
+kind_row Whitespace = plain (kind_number Whitespace)
+kind_row LParen = plain (kind_number LParen)
+kind_row RParen = plain (kind_number RParen)
+kind_row String = plain (kind_number String)
+kind_row Id = plain (kind_number Id)
+kind_row Keyword = plain (kind_number Keyword)
+kind_row Annotation = plain (kind_number Annotation)
+kind_row Reserved = plain (kind_number Reserved)
+kind_row (Integer k) = record { code = kind_number (Integer k); sign = sign_code (kind_sign k); has_underscores = kind_has_underscores k; hex = kind_hex k }
 kind_row (Float k) = float_row k
 
 abbrev pub token_row : Token → TokenRow

@@ -3,6 +3,7 @@ ghost use Rattle.std.specs.Prelude.{◌≡◌, length, Ok, Err};
 ghost use Rattle.wat_c.specs.Answers.{answer_of, left_of, put, status_of};
 
 use crate::rows::fault_code;
+use std::alloc::AllocError;
 use wat_lex::lexer::LexError;
 
 /// Whether there was something to read, and how many bytes it has.
@@ -22,8 +23,8 @@ pub struct Answer {
 pub enum Refusal {
     /// No such token or fault stands there.
     Other,
-    /// A request for memory was refused.
-    Memory,
+    /// A request for memory was refused, by this refusal.
+    Memory(AllocError),
     /// The number has no such part, or the name no fault.
     Absent,
     /// What is wrong with the name.
@@ -36,7 +37,7 @@ impl Refusal {
     {
         match self {
             Refusal::Other => 1,
-            Refusal::Memory => 2,
+            Refusal::Memory(_) => 2,
             Refusal::Absent => 3,
             Refusal::Fault(error) => fault_code(error),
         }

@@ -17,10 +17,10 @@ use wat_lex::lexer::{Float, Integer, LexFault, Settings, TokenKind};
 impl From<AllocError> for Refusal {
     ghost use Rattle.wat_c.specs.declared.answers.Refusal.TheVariants.{Memory};
 
-    ghost from_gives = { λ _ r. r ≡ Memory };
+    ghost from_gives = { λ refused r. r ≡ Memory refused };
 
-    fn from(_e: AllocError) -> Refusal {
-        Refusal::Memory
+    fn from(refused: AllocError) -> Refusal {
+        Refusal::Memory(refused)
     }
 }
 

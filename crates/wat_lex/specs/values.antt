@@ -5,3 +5,4 @@ pub mod UniqueValues
 pub mod Annotations
 pub mod WordValues
 pub mod IntegerFacts
+pub mod KindNumbers

@@ -1,5 +1,5 @@
 //! Errors.
-ghost use Rattle.std.specs.Prelude.{◌≡◌, ◌↔◌, Some, None, IsTrue, IsNone, IsOk, IfOk, OnOk};
+ghost use Rattle.std.specs.Prelude.{◌≡◌, ◌↔◌, Some, None, IsTrue, IsNone, IsSome, IsOk, IfOk, OnOk};
 ghost use Rattle.std.specs.Prelude.{OnErr, IfSome, string_bytes};
 ghost use Rattle.std.specs.Option.{option_copied};
 ghost use Rattle.wat_lex.specs.errors.ErrorView.{cause_of};
@@ -38,7 +38,8 @@ pub struct Error {
 // one box. A message without a text is not: `Error::new` can't be refused.
 #[derive(Debug, Drop)]
 enum Kind {
-    Memory,
+    /// A request for memory was refused, by this refusal.
+    Memory(AllocError),
     /// A message without a text.
     Plain { span: Span, message: String },
     /// A lexical error or a message, with its text.
@@ -113,7 +114,7 @@ impl Error {
             Ok(located) => Error {
                 kind: Kind::InText(located),
             },
-            Err(_) => Error::out_of_memory(),
+            Err(refused) => Error::from(refused),
         }
     }
 
@@ -135,18 +136,29 @@ impl Error {
         Ok(())
     }
 
-    /// The error that stands for a refused request for memory.
+    /// The error that stands for a refused request for memory, for callers who have no refusal in
+    /// hand. Where there is one, `?` and [`From`] make the error of it.
     pub fn out_of_memory() -> Error
         ensures { result ≡ None }
     {
-        Error { kind: Kind::Memory }
+        Error::from(AllocError)
     }
 
     /// Whether a request for memory was refused.
     pub fn is_out_of_memory(&self) -> bool
         ensures { IsTrue result ↔ IsNone self.now }
     {
-        matches!(&self.kind, Kind::Memory)
+        matches!(&self.kind, Kind::Memory(_))
+    }
+
+    /// The refusal of a request for memory, where the error is one.
+    pub fn alloc_error(&self) -> Option<AllocError>
+        ensures { IsSome result ↔ IsNone self.now }
+    {
+        match &self.kind {
+            Kind::Memory(refused) => Some(*refused),
+            Kind::Plain { .. } | Kind::InText(_) => None,
+        }
     }
 
     /// Where the error is; the text's start for an out-of-memory error.
@@ -154,7 +166,7 @@ impl Error {
         ensures { result ≡ offset_of self.now }
     {
         match &self.kind {
-            Kind::Memory => Span { offset: 0 },
+            Kind::Memory(_) => Span { offset: 0 },
             Kind::Plain { span, .. } => *span,
             Kind::InText(located) => located.span,
         }
@@ -178,7 +190,7 @@ impl Error {
         ensures { IfOk result (λ text. string_bytes text ≡ message_of self.now) }
     {
         match &self.kind {
-            Kind::Memory => String::from_str(alloc, "out of memory"),
+            Kind::Memory(_) => String::from_str(alloc, "out of memory"),
             Kind::Plain { message, .. } => message.clone(),
             Kind::InText(located) => format!(in alloc; "{}", located.reason),
         }
@@ -205,16 +217,18 @@ impl Located {
 impl From<AllocError> for Error {
     ghost from_gives = { λ _ e. e ≡ None };
 
-    fn from(_e: AllocError) -> Error {
-        Error::out_of_memory()
+    fn from(refused: AllocError) -> Error {
+        Error {
+            kind: Kind::Memory(refused),
+        }
     }
 }
 
 impl<T: Drop> From<AllocFailed<T>> for Error {
     ghost from_gives = { λ _ e. e ≡ None };
 
-    fn from(_e: AllocFailed<T>) -> Error {
-        Error::out_of_memory()
+    fn from(failed: AllocFailed<T>) -> Error {
+        Error::from(AllocError::from(failed))
     }
 }
 
@@ -226,7 +240,7 @@ impl fmt::Display for Error {
 
     fn fmt<W: fmt::Write>(&self, f: &mut fmt::Formatter<W>) -> fmt::Result {
         match &self.kind {
-            Kind::Memory => write!(f, "out of memory"),
+            Kind::Memory(_) => write!(f, "out of memory"),
             Kind::Plain { span, message } => write!(f, "{message} at byte offset {}", span.offset),
             Kind::InText(located) => write!(f, "{}{}", located.reason, located.text),
         }

@@ -1,11 +1,11 @@
 //! Identifiers that a program makes, each of which differs from all that a text spells.
 
 ghost use Rattle.std.specs.Prelude.{◌≡◌, ◌≢◌, ◌+◌, ◌↔◌, false, None, Some, IsErr, IsErrOf, IsOk};
-ghost use Rattle.std.specs.Prelude.{IfErr, IfNone, IfOk, IfSome, OnErr, OnOk};
+ghost use Rattle.std.specs.Prelude.{IfErr, IfNone, IfOk, IfSome, OnErr, OnOk, alloc_error};
 ghost use Rattle.wat_lex.specs.identifiers.Identifiers.{IsFresh, generated};
 
 use crate::token::{Id, Span};
-use std::alloc::Global;
+use std::alloc::{AllocError, Global};
 use std::marker::Model;
 
 /// A counter of the identifiers that a program has made, the generation of the newest one.
@@ -31,8 +31,19 @@ pub struct GensymFull;
 pub enum FillError {
     /// The counter is at its last value, `u32::MAX`.
     Full,
-    /// There is no memory for a copy.
-    Memory,
+    /// The request for a copy's memory was refused, by this refusal.
+    Memory(AllocError),
+}
+
+impl From<AllocError> for FillError {
+    ghost use Rattle.std.specs.Prelude.{◌≡◌};
+    ghost use Rattle.wat_lex.specs.declared.gensym.FillError.TheVariants.{Memory};
+
+    ghost from_gives = { λ refused error. error ≡ Memory refused };
+
+    fn from(refused: AllocError) -> FillError {
+        FillError::Memory(refused)
+    }
 }
 
 impl Gensym {
@@ -80,7 +91,7 @@ impl Gensym {
         // A slot that holds an identifier keeps it, and only the copy can find no memory.
         ensures held { IfSome slot.old (λ id. (slot.new ≡ Some id) × (self.new ≡ self.old)) }
         ensures copied { IfSome slot.old (λ id. IfOk result (λ copy. copy ≡ id)) }
-        ensures refused { IfSome slot.old (λ _. IfErr result (λ e. e ≡ FillError.Memory)) }
+        ensures refused { IfSome slot.old (λ _. IfErr result (λ e. e ≡ FillError.Memory alloc_error)) }
         ensures free { IfSome slot.old (λ id. id.owned ≡ false → IsOk result) }
 
         // An empty one is filled as `generate` makes identifiers, unless the counter is at its last
@@ -89,13 +100,13 @@ impl Gensym {
         ensures filled { IfNone slot.old (IfOk result (λ id. slot.new ≡ Some id)) }
         ensures counts { IfNone slot.old (OnOk result (self.new ≡ self.old + 1)) }
         ensures full { IsErrOf result FillError.Full ↔ ((slot.old ≡ None) × (self.old ≡ u32.MAX)) }
-        ensures no_memory { IfNone slot.old (result ≢ Err FillError.Memory) }
+        ensures no_memory { IfNone slot.old (result ≢ Err (FillError.Memory alloc_error)) }
         ensures fresh { IfNone slot.old (IfOk result (IsFresh self.old)) }
 
         ensures err { OnErr result ((slot.new ≡ slot.old) × (self.new ≡ self.old)) }
     {
         if let Some(id) = slot {
-            return id.clone(alloc).map_err(|_| FillError::Memory);
+            return Ok(id.clone(alloc)?);
         }
         let id = self.generate(span).map_err(|_| FillError::Full)?;
         *slot = Some(id);
@@ -161,7 +172,7 @@ mod tests {
         let mut slot = Some(Id::from_cow(name, span));
         match gensym.fill(alloc, span, &mut slot) {
             Ok(copy) => assert!(rt; copy == Id::new("x", span)),
-            Err(error) => assert_eq!(rt; error, FillError::Memory),
+            Err(error) => assert!(rt; matches!(error, FillError::Memory(_))),
         }
         assert!(rt; slot == Some(Id::new("x", span)));
         assert_eq!(rt; gensym.generation, 7);

@@ -1,6 +1,7 @@
 //! The parser.
 ghost use Rattle.std.specs.Prelude.{◌≡◌, ◌≤◌, ◌<◌, ◌+◌, false, not, length, Ok};
 ghost use Rattle.std.specs.Prelude.{IfOk, IfErr, IfSome, OnOk, OnErr};
+ghost use Rattle.std.specs.FinMap as map;
 ghost use Rattle.wat_lex.specs.tokens.ReadableTokens.{IsTokenOf};
 ghost use Rattle.wat_lex.specs.errors.Errors.{IsUnlessMemory};
 ghost use Rattle.wat_lexer_parser.specs.names.RegisteredNames.{no_names, is_registered};
@@ -21,9 +22,9 @@ mod fault;
 mod lookahead;
 mod names;
 mod peek;
-mod reading;
 mod reads;
 mod table;
+mod table_ref;
 #[cfg(test)]
 mod tests;
 mod typed;
@@ -31,7 +32,7 @@ mod whole;
 
 use crate::parser::fault::Fault;
 use crate::parser::names::{Names, RegisterError};
-use crate::parser::reading::Reading;
+use crate::parser::table_ref::TableRef;
 pub use buffer::ParseBuffer;
 pub use calls::{Call, Reply, replay};
 pub use cursor::Cursor;
@@ -49,7 +50,7 @@ pub use whole::parse;
 /// A parser over a buffer: a place in its text, and the names of annotations that are registered.
 #[derive(Drop)]
 pub struct Parser<'a> {
-    reading: Reading<'a>,
+    table: TableRef<'a>,
     place: usize,
     depth: usize,
     names: Names,
@@ -65,50 +66,50 @@ impl<'a> Model for Parser<'a> {
     ghost coded = { state_code };
 
     ghost view = { λ p. record {
-      source = p.reading;
+      source = p.table;
       place = p.place;
       names = p.names;
       depth = p.depth;
     } };
 
-    ghost invariant = { λ p. (p.depth ≤ p.place) × (p.place ≤ length p.reading.tokens) };
+    ghost invariant = { λ p. (p.depth ≤ p.place) × (p.place ≤ length p.table.tokens) };
 }
 
 impl<'a> Parser<'a> {
-    pub(crate) fn new(reading: Reading<'a>) -> Parser<'a>
+    pub(crate) fn new(table: TableRef<'a>) -> Parser<'a>
         ensures { result ≡ record {
-          source = reading.entry;
+          source = table.entry;
           place = 0;
           names = no_names;
           depth = 0;
         } }
     {
-        let alloc = reading.alloc();
+        let alloc = table.alloc();
         Parser {
-            reading,
+            table,
             place: 0,
             depth: 0,
             names: Names::new(alloc),
         }
     }
 
-    pub(crate) fn reading(&self) -> &Reading<'a>
+    pub(crate) fn table(&self) -> &TableRef<'a>
         ensures { result.now ≡ self.now.source }
     {
-        &self.reading
+        &self.table
     }
 
     /// The allocator of the buffer, for what a type holds that is read.
     pub fn alloc(&self) -> Global {
-        let reading = &self.reading;
-        reading.alloc()
+        let table = &self.table;
+        table.alloc()
     }
 
     pub(crate) fn text(&self) -> &'a str
         ensures { result.now ≡ self.now.source.setting.text }
     {
-        let reading = &self.reading;
-        reading.text()
+        let table = &self.table;
+        table.text()
     }
 
     pub(crate) fn place(&self) -> usize
@@ -126,16 +127,16 @@ impl<'a> Parser<'a> {
         ensures reader { IfOk result (λ found. IfSome found (λ v.
             IsTokenOf self.now.source.setting.text v.0)) }
     {
-        let reading = &self.reading;
-        reading.look(place, &self.names)
+        let table = &self.table;
+        table.look(place, &self.names)
     }
 
     /// The current span at a place.
     pub(crate) fn span_from(&self, place: usize) -> Span
         ensures { result ≡ current_span self.now.source place self.now.names }
     {
-        let reading = &self.reading;
-        Span::from_offset(reading.current_span(place, &self.names))
+        let table = &self.table;
+        Span::from_offset(table.current_span(place, &self.names))
     }
 
     /// Whether the end or `)` is shown, so that a list ends here; false at a fault.
@@ -144,10 +145,10 @@ impl<'a> Parser<'a> {
             empty_of (shown self.now.source self.now.place self.now.names) }
         ensures sound { IsSound self.now }
     {
-        let reading = &self.reading;
-        reading.is_read();
+        let table = &self.table;
+        table.is_read();
         self.names.are_positive();
-        reading.is_empty(self.place, &self.names)
+        table.is_empty(self.place, &self.names)
     }
 
     /// The current span: that of the token that is shown, the text's length at the end, or the
@@ -162,8 +163,8 @@ impl<'a> Parser<'a> {
     pub fn prev_span(&self) -> Span
         ensures { result ≡ offset_at self.now.source.tokens self.now.place }
     {
-        let reading = &self.reading;
-        Span::from_offset(reading.offset_at(self.place))
+        let table = &self.table;
+        Span::from_offset(table.offset_at(self.place))
     }
 
     /// How many groups of [`parens`](Parser::parens) are open.
@@ -185,8 +186,8 @@ impl<'a> Parser<'a> {
     pub fn error_at(&self, span: Span, message: &str) -> Error
         ensures { IsUnlessMemory result (message_at self.now.source span message.now) }
     {
-        let reading = &self.reading;
-        reading.error_at(span, message)
+        let table = &self.table;
+        table.error_at(span, message)
     }
 
     /// Refuses more than [`MAX_PARENS_DEPTH`] open groups.
@@ -203,16 +204,16 @@ impl<'a> Parser<'a> {
     pub fn has_meaningful_tokens(&self) -> bool
         ensures { result ≡ is_meaningful self.now.source }
     {
-        let reading = &self.reading;
-        reading.is_meaningful()
+        let table = &self.table;
+        table.is_meaningful()
     }
 
     /// What the buffer was told by [`ParseBuffer::track_instr_spans`].
     pub fn track_instr_spans(&self) -> bool
         ensures { result ≡ self.now.source.track }
     {
-        let reading = &self.reading;
-        reading.tracks()
+        let table = &self.table;
+        table.tracks()
     }
 
     /// Whether annotations of this name are shown.
@@ -236,7 +237,7 @@ impl<'a> Parser<'a> {
         match self.names.register(alloc, name) {
             Ok(()) => Ok(()),
             Err(RegisterError::TooOften) => Err(self.too_often()),
-            Err(RegisterError::OutOfMemory) => Err(Error::out_of_memory()),
+            Err(RegisterError::OutOfMemory(refused)) => Err(Error::from(refused)),
         }
     }
 
@@ -246,8 +247,18 @@ impl<'a> Parser<'a> {
     {
         match String::from_str(self.alloc(), "annotation registered too often") {
             Ok(message) => Error::new(self.prev_span(), message),
-            Err(_) => Error::out_of_memory(),
+            Err(refused) => Error::from(refused),
         }
+    }
+
+    /// Sets how often a name that is registered counts as registered, for a caller that restores what
+    /// it noted. It takes no memory.
+    pub fn set_registrations(&mut self, name: &str, times: usize)
+        requires there { 0 < count self.old.names name.now }
+        requires some { 0 < times }
+        ensures { self.new ≡ record self.old { names = map.insert self.old.names name.now times } }
+    {
+        self.names.set(name, times);
     }
 
     /// Takes back one registering of a name.
@@ -355,7 +366,7 @@ impl<'a> Parser<'a> {
     {
         let place = self.place;
         let depth = self.depth;
-        self.reading.is_read();
+        self.table.is_read();
         self.open()?;
         self.depth += 1;
         match f(self) {

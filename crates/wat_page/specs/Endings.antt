@@ -4,26 +4,11 @@ use Rattle.wat_lex.specs.errors.Messages.{message}
 use Rattle.wat_lex.specs.errors.Positions.{line_and_column}
 use Rattle.wat_lex.specs.errors.Rendering.{rendered}
 use Rattle.wat_lex.specs.declared.lexer.kinds.Token.{Token}
-use Rattle.wat_lex.specs.declared.lexer.kinds.TokenKind.{TokenKind}
-use Rattle.wat_lex.specs.declared.lexer.kinds.TokenKind.TheVariants.{LineComment, BlockComment, Whitespace, LParen, RParen, String, Id, Keyword, Annotation, Reserved, Integer, Float}
+use Rattle.wat_lex.specs.values.KindNumbers.{kind_number}
 use Rattle.wat_page.specs.declared.report.Ending.{Ending}
 use Rattle.wat_page.specs.declared.report.Ending.TheVariants.{Whole, Faulty, Full, NotUtf8, TooLong}
 use Rattle.wat_page.specs.declared.report.Report.{Report}
 use Rattle.wat_page.specs.declared.rows.Row.{Row}
-
-abbrev pub kind_number : TokenKind → ℕ
-kind_number LineComment = 0
-kind_number BlockComment = 1
-kind_number Whitespace = 2
-kind_number LParen = 3
-kind_number RParen = 4
-kind_number String = 5
-kind_number Id = 6
-kind_number Keyword = 7
-kind_number Annotation = 8
-kind_number Reserved = 9
-kind_number (Integer k) = 10
-kind_number (Float k) = 11
 
 abbrev pub row_of : Token → Row
 row_of t = record { end = t.offset + t.len; kind = kind_number t.kind }

@@ -1,10 +1,10 @@
 //! The rows of a text's raw tokens.
 ghost use Rattle.std.specs.Prelude.{◌≡◌, ◌<◌, ◌^◌, ◌+◌};
-ghost use Rattle.wat_page.specs.Endings.{kind_number, row_of};
+ghost use Rattle.wat_page.specs.Endings.{row_of};
 ghost use Rattle.wat_page.specs.Reports.{Filled};
 
 use crate::report::Ending;
-use wat_lex::lexer::{Lexer, Token, TokenKind};
+use wat_lex::lexer::{Lexer, Token};
 
 /// A raw token, as the page sees it. It begins where the row before it ends, and the first at 0.
 #[repr(C)]
@@ -12,27 +12,9 @@ use wat_lex::lexer::{Lexer, Token, TokenKind};
 pub struct Row {
     /// Where the token ends, in bytes from the text's start.
     pub end: u32,
-    /// The place of its kind in [`TokenKind`], from 0.
+    /// The number of its kind, 1 to 15, as [`TokenKind::number`](wat_lex::lexer::TokenKind::number)
+    /// tells it.
     pub kind: u32,
-}
-
-fn kind_number(kind: TokenKind) -> u32
-    ensures { result ≡ kind_number kind }
-{
-    match kind {
-        TokenKind::LineComment => 0,
-        TokenKind::BlockComment => 1,
-        TokenKind::Whitespace => 2,
-        TokenKind::LParen => 3,
-        TokenKind::RParen => 4,
-        TokenKind::String => 5,
-        TokenKind::Id => 6,
-        TokenKind::Keyword => 7,
-        TokenKind::Annotation => 8,
-        TokenKind::Reserved => 9,
-        TokenKind::Integer(_) => 10,
-        TokenKind::Float(_) => 11,
-    }
 }
 
 fn row_of(token: Token) -> Row
@@ -41,7 +23,7 @@ fn row_of(token: Token) -> Row
 {
     Row {
         end: token.offset as u32 + token.len,
-        kind: kind_number(token.kind),
+        kind: u32::from(token.kind.number()),
     }
 }
 

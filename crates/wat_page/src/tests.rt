@@ -35,7 +35,7 @@ fn a_text_to_its_end(rt: HostRuntime) {
     };
     assert_eq!(rt; report, plain);
     assert_eq!(rt; message, [7; 4]);
-    let ends = [(1, 3), (2, 7), (3, 2), (4, 10), (5, 4), (0, 99)];
+    let ends = [(1, 4), (2, 8), (3, 3), (4, 11), (5, 5), (0, 99)];
     for (row, (end, kind)) in rows.iter().zip(ends.iter()) {
         assert_eq!(rt; (row.end, row.kind), (*end, *kind));
     }

@@ -32,7 +32,7 @@ run_responds held old new prints (Some bytes) (Err Write) listed cut unwritten =
 run_responds held old new prints (Some bytes) (Err Read) listed cut unwritten = kept held old new Read (λ w. cc) unwritten
 run_responds held old new prints (Some bytes) (Err TooLong) listed cut unwritten = kept held old new TooLong (λ w. cc) unwritten
 run_responds held old new prints (Some bytes) (Err NotUtf8) listed cut unwritten = kept held old new NotUtf8 (λ w. cc) unwritten
-run_responds held old new prints (Some bytes) (Err Memory) listed cut unwritten = kept held old new Memory (λ w. cc) unwritten
+run_responds held old new prints (Some bytes) (Err (Memory refused)) listed cut unwritten = kept held old new (Memory refused) (λ w. cc) unwritten
 
 -- a run and its outcome
 pub ran : {S T : Type 0} {left : S → Option (List ℕ)} {read_failed has_ended : S → Bool} {held : T → Option (List ℕ)} {write_failed : T → Bool} {prints : Prints} {input input' : S} {output output' : T} (run : Result (Option (Option Report)) RunError) (outcome : Outcome)

@@ -1,5 +1,5 @@
 -- What a run of the program ends in: its exit status, and its report on standard error. No part of the standard.
-use Rattle.std.specs.Prelude.{◌≡◌, ℕ, Bool, List, [], ◌++◌, codes, String, Option, Some, None, IfSome, Result, Ok, Err}
+use Rattle.std.specs.Prelude.{◌≡◌, ℕ, Bool, List, [], ◌++◌, codes, String, Option, Some, None, IfSome, Result, Ok, Err, alloc_error}
 use Rattle.std.specs.Io.KnownBytes.{Keeps}
 use Rattle.std.specs.declared.alloc.Global.{Global}
 use Rattle.wat_lex.specs.errors.Errors.{Report, printed}
@@ -39,7 +39,7 @@ refusal Read = codes "wat_tokens: read failed"
 refusal TooLong = codes "wat_tokens: input is too long"
 refusal NotUtf8 = codes "wat_tokens: input is not UTF-8"
 refusal Write = codes "wat_tokens: write failed"
-refusal Memory = codes "wat_tokens: out of memory"
+refusal (Memory refused) = codes "wat_tokens: out of memory"
 
 abbrev pub usage : List ℕ
 usage = codes "usage: wat_tokens [--allow-confusing] [--strict-underscores] [sig NAME.. | play CALL.. | blank] | types"
@@ -59,7 +59,7 @@ Responds prints (Refused Write) old new = AppendsCut prints old new
 Responds prints (Refused Read) old new = Keeps old new
 Responds prints (Refused TooLong) old new = Keeps old new
 Responds prints (Refused NotUtf8) old new = Keeps old new
-Responds prints (Refused Memory) old new = Keeps old new
+Responds prints (Refused (Memory refused)) old new = Keeps old new
 Responds prints Usage old new = ⊥
 
 -- what a task prints
@@ -86,4 +86,4 @@ pub record Ran {S T : Type 0} (left : S → Option (List ℕ)) (read_failed has_
 pub data Responded {S T : Type 0} (left : S → Option (List ℕ)) (read_failed has_ended : S → Bool) (held : T → Option (List ℕ)) (write_failed : T → Bool) (words : List (String Global)) (input input' : S) (output output' : T) (outcome : Outcome) : Type 0 where
   ran : (command : Command) → Asks words command → Ran left read_failed has_ended held write_failed (command_prints command) input input' output output' outcome → Responded left read_failed has_ended held write_failed words input input' output output' outcome
   unasked : ((command : Command) → ¬ Asks words command) → outcome ≡ Usage → input' ≡ input → output' ≡ output → Responded left read_failed has_ended held write_failed words input input' output output' outcome
-  unread : AsksPlay words → outcome ≡ Refused Memory → input' ≡ input → output' ≡ output → Responded left read_failed has_ended held write_failed words input input' output output' outcome
+  unread : AsksPlay words → outcome ≡ Refused (Memory alloc_error) → input' ≡ input → output' ≡ output → Responded left read_failed has_ended held write_failed words input input' output output' outcome

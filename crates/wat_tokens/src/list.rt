@@ -1,11 +1,12 @@
 //! The list of a text's raw tokens.
 ghost use Rattle.std.specs.Prelude.{◌≡◌, ◌++◌, ◌+◌, ◌<◌, ◌≤◌, ◌^◌, codes, length, IfOk, OnOk};
-ghost use Rattle.std.specs.Prelude.{Some, slice_get};
+ghost use Rattle.std.specs.Prelude.{IsNone, Some, slice_get};
 ghost use Rattle.wat_lexer_parser.specs.places.Source.{IsRead};
 ghost use Rattle.wat_tokens.specs.Lists.{kind_name, line, token_lines, ListText};
 
 use crate::line::Line;
 use std::alloc::{AllocError, Global};
+use wat_lex::error::Error;
 use wat_lex::lexer::{LexFault, Lexer, Settings, Token, TokenKind};
 use wat_lexer_parser::parser::ParseBuffer;
 
@@ -52,6 +53,13 @@ pub(crate) fn push_line(lines: &mut Vec<u8>, token: &Token) -> Result<(), AllocE
     lines.extend_from_slice(line.as_bytes())
 }
 
+/// The refused request for memory that an error stands for which is no fault of the text.
+pub(crate) fn refusal_of(error: &Error) -> AllocError
+    requires { IsNone error.now }
+{
+    error.alloc_error().unwrap()
+}
+
 /// The buffer of a text that is read with these settings.
 pub(crate) fn buffer_of<'a>(
     alloc: Global,
@@ -67,7 +75,10 @@ pub(crate) fn buffer_of<'a>(
     lexer
         .allow_confusing_unicode(settings.allow)
         .strict_underscores(settings.strict);
-    ParseBuffer::new_with_lexer(alloc, lexer).map_err(|_| AllocError)
+    match ParseBuffer::new_with_lexer(alloc, lexer) {
+        Ok(buffer) => Ok(buffer),
+        Err(error) => Err(refusal_of(&error)),
+    }
 }
 
 /// A line for each token.

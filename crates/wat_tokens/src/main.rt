@@ -20,6 +20,7 @@ mod tests;
 use ends::Plain;
 use outcome::{Outcome, respond};
 use run::RunError;
+use std::alloc::AllocError;
 use std::process::ExitCode;
 use std::{env, io};
 pub use wat_lex::lexer::Settings;
@@ -33,14 +34,20 @@ fn words(rt: &HostRuntime) -> io::Result<Vec<String>> {
     Ok(words)
 }
 
+/// What a run ends in whose words can't be read. The standard library keeps only the kind of an
+/// error, so a refused request for memory is told by that.
+fn not_read(error: &io::Error) -> Outcome {
+    match error.kind() {
+        io::ErrorKind::OutOfMemory => Outcome::Refused(RunError::from(AllocError)),
+        _ => Outcome::Usage,
+    }
+}
+
 /// Writes of standard input on standard output what the words ask for.
 fn answer(rt: &HostRuntime) -> Outcome {
     let words = match words(rt) {
         Ok(words) => words,
-        Err(error) if error.kind() == io::ErrorKind::OutOfMemory => {
-            return Outcome::Refused(RunError::Memory);
-        }
-        Err(_) => return Outcome::Usage,
+        Err(error) => return not_read(&error),
     };
     let mut input = Plain::new(rt.stdin());
     let mut output = Plain::new(rt.stdout());

@@ -38,7 +38,7 @@ fn refusal(error: RunError) -> &'static str
         RunError::TooLong => "wat_tokens: input is too long",
         RunError::NotUtf8 => "wat_tokens: input is not UTF-8",
         RunError::Write => "wat_tokens: write failed",
-        RunError::Memory => "wat_tokens: out of memory",
+        RunError::Memory(_) => "wat_tokens: out of memory",
     }
 }
 
@@ -85,7 +85,7 @@ pub fn respond<R: Source, W: Sink>(
         }
         Ok(Some(Command::Types)) => Outcome::of_run(run_types(alloc, input, output)),
         Ok(None) => Outcome::Usage,
-        Err(_) => Outcome::Refused(RunError::Memory),
+        Err(refused) => Outcome::Refused(RunError::from(refused)),
     }
 }
 

@@ -1,5 +1,5 @@
 //! What is printed of bytes that may be no text.
-ghost use Rattle.std.specs.Prelude.{◌≡◌, ◌⊎◌, ◌↔◌, ◌<◌, ◌^◌, length, Some, IfOk, IfErr, IsErrOf};
+ghost use Rattle.std.specs.Prelude.{◌≡◌, ◌⊎◌, ◌↔◌, ◌<◌, ◌^◌, length, Some, IfOk, IfErr, IsErrOf, alloc_error};
 ghost use Rattle.std.specs.Option.{option_map};
 ghost use Rattle.std.specs.Str.{IsUtf8};
 ghost use Rattle.wat_lex.specs.errors.Errors.{lexical};
@@ -47,17 +47,17 @@ pub struct Output {
 fn error_of(alloc: Global, text: &str, fault: Option<LexFault>) -> Result<Option<Error>, RunError>
     ensures error { IfOk result (λ error.
         error ≡ option_map (λ f. Some (lexical text.now f)) fault) }
-    ensures refused { IfErr result (λ e. e ≡ RunError.Memory) }
+    ensures refused { IfErr result (λ e. e ≡ RunError.Memory alloc_error) }
 {
     let Some(fault) = fault else {
         return Ok(None);
     };
     let span = Span::from_offset(fault.offset);
     let error = Error::lex(alloc, span, text, fault.error);
-    if error.is_out_of_memory() {
-        return Err(RunError::Memory);
+    match error.alloc_error() {
+        Some(refused) => Err(RunError::from(refused)),
+        None => Ok(Some(error)),
     }
-    Ok(Some(error))
 }
 
 /// The lines of the raw tokens of a text, and the error of its fault.
@@ -65,7 +65,7 @@ fn print_raw(alloc: Global, text: &str, settings: Settings) -> Result<Output, Ru
     requires { length text.now < 2 ^ 32 }
     ensures listed { IfOk result (λ output.
         Lists settings text.now output.text.items output.error) }
-    ensures refused { IfErr result (λ e. e ≡ RunError.Memory) }
+    ensures refused { IfErr result (λ e. e ≡ RunError.Memory alloc_error) }
 {
     let listing = list(alloc, text, settings)?;
     let error = error_of(alloc, text, listing.fault)?;
@@ -80,7 +80,7 @@ fn print_blank(alloc: Global, text: &str, settings: Settings) -> Result<Output, 
     requires { length text.now < 2 ^ 32 }
     ensures blanked { IfOk result (λ output.
         Blanks settings text.now output.text.items output.error) }
-    ensures refused { IfErr result (λ e. e ≡ RunError.Memory) }
+    ensures refused { IfErr result (λ e. e ≡ RunError.Memory alloc_error) }
 {
     let blanking = blank(alloc, text, settings)?;
     let error = error_of(alloc, text, blanking.fault)?;
@@ -95,16 +95,18 @@ fn print_types(alloc: Global, text: &str) -> Result<Output, RunError>
     requires { length text.now < 2 ^ 32 }
     ensures compiled { IfOk result (λ output.
         Compiles text.now output.text.items output.error) }
-    ensures refused { IfErr result (λ e. e ≡ RunError.Memory) }
+    ensures refused { IfErr result (λ e. e ≡ RunError.Memory alloc_error) }
 {
     wat_lex::laws::one_tiling();
     match compile_types(alloc, text) {
         Ok(text) => Ok(Output { text, error: None }),
-        Err(error) if error.is_out_of_memory() => Err(RunError::Memory),
-        Err(error) => Ok(Output {
-            text: Vec::new(alloc),
-            error: Some(error),
-        }),
+        Err(error) => match error.alloc_error() {
+            Some(refused) => Err(RunError::from(refused)),
+            None => Ok(Output {
+                text: Vec::new(alloc),
+                error: Some(error),
+            }),
+        },
     }
 }
 
@@ -119,7 +121,7 @@ pub fn print(
     ensures printed { IfOk result (λ output.
         prints settings printing.entry bytes.now output.text.items output.error) }
     ensures not_utf8 { IsErrOf result RunError.NotUtf8 ↔ (¬ IsUtf8 bytes.now) }
-    ensures refused { IfErr result (λ e. (e ≡ RunError.NotUtf8) ⊎ (e ≡ RunError.Memory)) }
+    ensures refused { IfErr result (λ e. (e ≡ RunError.NotUtf8) ⊎ (e ≡ RunError.Memory alloc_error)) }
 {
     let Ok(text) = str::from_utf8(bytes) else {
         return Err(RunError::NotUtf8);

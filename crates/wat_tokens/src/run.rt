@@ -1,6 +1,6 @@
 //! From a source of bytes to what is printed on a sink.
 ghost use Rattle.std.specs.Prelude.{◌≡◌, ◌⊎◌, ◌↔◌, true, false, ◌<◌, ◌^◌, length};
-ghost use Rattle.std.specs.Prelude.{is_ok, IfOk, OnOk, IfErr, IfSome, IsErrOf};
+ghost use Rattle.std.specs.Prelude.{alloc_error, is_ok, IfOk, OnOk, IfErr, IfSome, IsErrOf};
 ghost use Rattle.std.specs.Str.{IsUtf8};
 ghost use Rattle.wat_tokens.specs.Blanks.{Blanks};
 ghost use Rattle.wat_tokens.specs.Compiles.{Compiles};
@@ -29,18 +29,18 @@ pub enum RunError {
     NotUtf8,
     /// The write failed.
     Write,
-    /// A request for memory was refused.
-    Memory,
+    /// A request for memory was refused, by this refusal.
+    Memory(AllocError),
 }
 
 impl From<AllocError> for RunError {
     ghost use Rattle.std.specs.Prelude.{◌≡◌};
     ghost use Rattle.wat_tokens.specs.declared.run.RunError.TheVariants.{Memory};
 
-    ghost from_gives = { λ _ e. e ≡ Memory };
+    ghost from_gives = { λ refused e. e ≡ Memory refused };
 
-    fn from(_e: AllocError) -> RunError {
-        RunError::Memory
+    fn from(refused: AllocError) -> RunError {
+        RunError::Memory(refused)
     }
 }
 
@@ -69,7 +69,7 @@ fn read_whole<R: Source>(alloc: Global, input: &mut R) -> Result<Vec<u8>, RunErr
         ReadsShort (R.left input.old) (R.left input.new) }
     ensures read { IsErrOf result RunError.Read ↔ (R.has_failed input.new ≡ true) }
     ensures refused { IfErr result (λ e.
-        (e ≡ RunError.Read) ⊎ ((e ≡ RunError.TooLong) ⊎ (e ≡ RunError.Memory))) }
+        (e ≡ RunError.Read) ⊎ ((e ≡ RunError.TooLong) ⊎ (e ≡ RunError.Memory alloc_error))) }
 {
     let mut bytes = Vec::new(alloc);
     let mut piece = [0u8; PIECE];

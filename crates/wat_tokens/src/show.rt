@@ -4,7 +4,7 @@ ghost use Rattle.std.specs.Str.{IsUtf8};
 ghost use Rattle.wat_lexer_parser.specs.places.Source.{IsRead};
 ghost use Rattle.wat_tokens.specs.Shows.{with_name, with_names, ShownFrom, ShownText};
 
-use crate::list::{buffer_of, push_line};
+use crate::list::{buffer_of, push_line, refusal_of};
 use std::alloc::{AllocError, Global};
 use wat_lex::error::Error;
 use wat_lex::lexer::Settings;
@@ -91,8 +91,11 @@ pub fn show(
 {
     let buffer = buffer_of(alloc, text, settings)?;
     let mut parser = buffer.parser();
-    register_all(&mut parser, names).map_err(|_| AllocError)?;
-    parser
-        .step(|cursor| lines_from(alloc, cursor))
-        .map_err(|_| AllocError)
+    if let Err(error) = register_all(&mut parser, names) {
+        return Err(refusal_of(&error));
+    }
+    match parser.step(|cursor| lines_from(alloc, cursor)) {
+        Ok(showing) => Ok(showing),
+        Err(error) => Err(refusal_of(&error)),
+    }
 }

@@ -14,7 +14,7 @@ use crate::options::{Command, Task, command_of};
 use crate::outcome::{Outcome, respond};
 use crate::play::reply_lines;
 use crate::run::{RunError, run_list};
-use std::alloc::Global;
+use std::alloc::{AllocError, Global};
 use std::io;
 use std::process::Abort;
 use std::test::Fail;
@@ -418,7 +418,7 @@ fn outcomes(rt: HostRuntime) -> Result<(), Fail> {
             "wat_tokens: write failed\n",
         ),
         (
-            Outcome::Refused(RunError::Memory),
+            Outcome::Refused(RunError::from(AllocError)),
             2,
             "wat_tokens: out of memory\n",
         ),

@@ -22,7 +22,7 @@ abbrev pub report_of : Located → Report
 report_of l = record { offset = l.span; cause = cause_of l.reason; excerpt = Some (excerpt_of l.text) }
 
 abbrev pub kind_view : Kind → Option Report
-kind_view Memory = None
+kind_view (Memory refused) = None
 kind_view (Plain span m) = Some (record { offset = span; cause = Custom (string_bytes m); excerpt = None })
 kind_view (InText located) = Some (report_of located.value)
 

@@ -2,6 +2,7 @@
 ghost use Rattle.std.specs.Prelude.{◌≡◌};
 ghost use Rattle.wat_lex.specs.grammar.Numbers.{sign_token};
 ghost use Rattle.wat_lex.specs.values.IntegerFacts.{kind_sign, kind_has_underscores, kind_hex};
+ghost use Rattle.wat_lex.specs.values.KindNumbers.{kind_number};
 
 /// A single token of a text.
 // The largest field stands first, so that a token has 16 bytes.
@@ -44,6 +45,33 @@ pub enum TokenKind {
     Integer(IntegerKind),
     /// A floating-point number.
     Float(FloatKind),
+}
+
+impl TokenKind {
+    /// The kind's number, 1 to 15, for programs that see a token as numbers: 11 for an integer, 12 to
+    /// 15 for the kinds of floats. The others have the place of their variant, counted from 1.
+    #[inline]
+    pub fn number(self) -> u8
+        ensures { result ≡ kind_number self }
+    {
+        match self {
+            TokenKind::LineComment => 1,
+            TokenKind::BlockComment => 2,
+            TokenKind::Whitespace => 3,
+            TokenKind::LParen => 4,
+            TokenKind::RParen => 5,
+            TokenKind::String => 6,
+            TokenKind::Id => 7,
+            TokenKind::Keyword => 8,
+            TokenKind::Annotation => 9,
+            TokenKind::Reserved => 10,
+            TokenKind::Integer(_) => 11,
+            TokenKind::Float(FloatKind::Inf { .. }) => 12,
+            TokenKind::Float(FloatKind::Nan { .. }) => 13,
+            TokenKind::Float(FloatKind::NanVal { .. }) => 14,
+            TokenKind::Float(FloatKind::Normal { .. }) => 15,
+        }
+    }
 }
 
 /// What the lexer knows of an integer.

@@ -7,7 +7,7 @@ use Rattle.wat_lexer_parser.specs.declared.parser.calls.Call.{Call}
 use Rattle.wat_lexer_parser.specs.declared.parser.calls.Call.TheVariants as call
 use Rattle.wat_lexer_parser.specs.declared.parser.calls.Reply.{Reply}
 use Rattle.wat_lexer_parser.specs.declared.parser.calls.Reply.TheVariants as reply
-use Rattle.wat_lexer_parser.specs.calls.Calls.{answer, replies, state_after, shown_reply, comment_reply, place_after, takes, close_reply, takes_reply, open_reply, group_reply}
+use Rattle.wat_lexer_parser.specs.calls.Calls.{answer, replies, state_after, shown_reply, comment_reply, place_after, after_taking, close_reply, taken_reply, open_reply, group_reply}
 use Rattle.wat_lexer_parser.specs.calls.CallLaws.{is_done, is_kept, kept_calls, kept_replies, NothingElse}
 use Rattle.wat_lexer_parser.specs.groups.Sorts.{is_open, is_close}
 use Rattle.wat_lexer_parser.specs.names.RegisteredNames.{most_often, Names, count, more, fewer, is_registered}
@@ -39,7 +39,7 @@ close_still s n p q (Ok (Some (t, r))) = closes (is_close t.kind) refl
     closes false f = rw f (λ e. refl)
 close_still s n p q (Err f) = λ e. refl
 
-takes_still : (s : Source) (n : Names) (p : ℕ) (a : Result ℕ Fault) → StaysRefused p (takes_reply s n p a)
+takes_still : (s : Source) (n : Names) (p : ℕ) (a : Result ℕ Fault) → StaysRefused p (taken_reply s n p a)
 takes_still s n p (Ok q) = close_still s n p q (shown s q n)
 takes_still s n p (Err f) = λ e. refl
 
@@ -48,7 +48,7 @@ open_still s n k p (Ok None) = λ e. refl
 open_still s n k p (Ok (Some (t, q))) = opens (is_open t.kind) refl
   where
     opens : (b : Bool) → is_open t.kind ≡ b → StaysRefused p (open_reply s n k p (Ok (Some (t, q))))
-    opens true f = rw f (takes_still s n p (takes s n k q))
+    opens true f = rw f (takes_still s n p (after_taking s n k q))
     opens false f = rw f (λ e. refl)
 open_still s n k p (Err f) = λ e. refl
 

@@ -17,7 +17,7 @@ use Rattle.wat_lex.specs.declared.lexer.kinds.Token.{Token}
 use Rattle.wat_lexer_parser.specs.declared.parser.fault.Step.TheVariants.{Pass, Take, Finish, Skip}
 use Rattle.wat_lexer_parser.specs.names.RegisteredNames.{Names, is_registered}
 use Rattle.wat_lexer_parser.specs.places.Source.{Source, IsRead}
-use Rattle.wat_lexer_parser.specs.shown.Shown.{IsNamed, IsMisnamed, Shown, none_left, blank, other, unmarked, none_follows, no_annotation, misnamed, registered, skipped, unclosed}
+use Rattle.wat_lexer_parser.specs.shown.Shown.{HasName, IsMisnamed, Shown, none_left, blank, other, unmarked, none_follows, no_annotation, misnamed, registered, skipped, unclosed}
 use Rattle.wat_lexer_parser.specs.shown.Showing.{Showing, shown_in, first}
 use Rattle.wat_lexer_parser.specs.groups.Sorts.{is_blank, is_marked}
 use Rattle.wat_lexer_parser.proofs.groups.Closing.{closed_from, group_from, closed_shorter}
@@ -82,7 +82,7 @@ opened known x z n t (u ∷ r) below h e f = elim (is_annotation u.kind) [
   | inr a ↦ subst (Shown x z n (t ∷ u ∷ r)) (sym (by_step x z n t (u ∷ r) Take (name_step x n t u None e f (no_name x u u.kind a)))) (no_annotation (e, f) a)
 ]
   where
-    skips : (v : List ℕ) → IsNamed x u v → is_registered n v ≡ false → Shown x z n (t ∷ u ∷ r) (shown_in x z n Showing (t ∷ u ∷ r))
+    skips : (v : List ℕ) → HasName x u v → is_registered n v ≡ false → Shown x z n (t ∷ u ∷ r) (shown_in x z n Showing (t ∷ u ∷ r))
     skips v g i =
         let k = by_step x z n t (u ∷ r) Skip (registered_step x n t u v false e f (named known.values x u v g) i) in
         elim (closes_or_not x z n t 0 (u ∷ r)) [
@@ -94,7 +94,7 @@ opened known x z n t (u ∷ r) below h e f = elim (is_annotation u.kind) [
           | inr l ↦ subst (Shown x z n (t ∷ u ∷ r)) (sym (k ∙ l.shows)) (unclosed (e, f) g i (λ m c. l.none m (m, closed_from (u ∷ r) m c, refl)))
         ]
 
-    by_good : (v : List ℕ) → IsNamed x u v → Shown x z n (t ∷ u ∷ r) (shown_in x z n Showing (t ∷ u ∷ r))
+    by_good : (v : List ℕ) → HasName x u v → Shown x z n (t ∷ u ∷ r) (shown_in x z n Showing (t ∷ u ∷ r))
     by_good v g = elim (cases_Bool (is_registered n v)) [
       | inl i ↦ subst (Shown x z n (t ∷ u ∷ r)) (sym (by_step x z n t (u ∷ r) Take (registered_step x n t u v true e f (named known.values x u v g) i))) (registered (e, f) g i)
       | inr i ↦ skips v g i

@@ -12,7 +12,7 @@ use Rattle.wat_lexer_parser.specs.declared.parser.fault.Step.{Step}
 use Rattle.wat_lexer_parser.specs.declared.parser.fault.Step.TheVariants.{Pass, Take, Finish, Skip}
 use Rattle.wat_lexer_parser.specs.groups.Groups.{Group}
 use Rattle.wat_lexer_parser.specs.names.RegisteredNames.{Names, is_registered}
-use Rattle.wat_lexer_parser.specs.shown.Shown.{Finding, IsNamed, IsMisnamed, Shown, none_left, blank, other, unmarked, none_follows, no_annotation, misnamed, registered, skipped, unclosed, left_open}
+use Rattle.wat_lexer_parser.specs.shown.Shown.{Finding, HasName, IsMisnamed, Shown, none_left, blank, other, unmarked, none_follows, no_annotation, misnamed, registered, skipped, unclosed, left_open}
 use Rattle.wat_lexer_parser.specs.shown.Showing.{Showing, Inside, shown_in, first, step_of, step_kind, step_next, step_named}
 use Rattle.wat_lexer_parser.specs.groups.Sorts.{is_blank, is_marked}
 use Rattle.wat_lexer_parser.specs.shown.Showing.{name_by, name_at}
@@ -52,7 +52,7 @@ other_step x n t u (Integer k) e f = refl
 other_step x n t u (Float k) e f = refl
 
 -- the function's name of an annotation is the grammar's
-pub named : NamesAreValues → (x : List ℕ) (u : Token) (v : List ℕ) → IsNamed x u v → name_at x u ≡ Some (Ok v)
+pub named : NamesAreValues → (x : List ℕ) (u : Token) (v : List ℕ) → HasName x u v → name_at x u ≡ Some (Ok v)
 named laws x u v h = ap (λ k. name_by k x u) h.kind ∙ ap (λ r. Some r) (laws.good EmptyAnnotation (word_of x u) v h.name h.utf8 h.some)
 
 pub misnamed_is : NamesAreValues → (x : List ℕ) (u : Token) (e : LexError) → IsMisnamed x u e → name_at x u ≡ Some (Err e)

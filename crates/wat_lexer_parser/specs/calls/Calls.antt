@@ -31,15 +31,15 @@ place_after (Ok None) p = p
 place_after (Ok (Some (t, q))) p = q
 place_after (Err f) p = p
 
-abbrev pub takes_by : (ℕ → Result ℕ Fault) → ℕ → Look → Result ℕ Fault
-takes_by f p (Ok None) = Ok p
-takes_by f p (Ok (Some (t, q))) = f q
-takes_by f p (Err e) = Err e
+abbrev pub after_taking_by : (ℕ → Result ℕ Fault) → ℕ → Look → Result ℕ Fault
+after_taking_by f p (Ok None) = Ok p
+after_taking_by f p (Ok (Some (t, q))) = f q
+after_taking_by f p (Err e) = Err e
 
 -- the place behind up to n shown tokens, or the fault that is shown before
-unfoldable pub takes : Source → Names → ℕ → ℕ → Result ℕ Fault
-takes s names zero p = Ok p
-takes s names (suc n) p = takes_by (λ q. takes s names n q) p (shown s p names)
+unfoldable pub after_taking : Source → Names → ℕ → ℕ → Result ℕ Fault
+after_taking s names zero p = Ok p
+after_taking s names (suc n) p = after_taking_by (λ q. after_taking s names n q) p (shown s p names)
 
 -- the reply to taking `)` at q, with the place behind it, or p where none is shown
 abbrev pub close_reply : Source → Names → ℕ → ℕ → Look → Reply × ℕ
@@ -47,13 +47,13 @@ close_reply s names p q (Ok None) = (reply.NotClosed (current_span s q names), p
 close_reply s names p q (Ok (Some (t, r))) = if is_close t.kind then (reply.Done, r) else (reply.NotClosed (current_span s q names), p)
 close_reply s names p q (Err f) = (fault_reply f, p)
 
-abbrev pub takes_reply : Source → Names → ℕ → Result ℕ Fault → Reply × ℕ
-takes_reply s names p (Ok q) = close_reply s names p q (shown s q names)
-takes_reply s names p (Err f) = (fault_reply f, p)
+abbrev pub taken_reply : Source → Names → ℕ → Result ℕ Fault → Reply × ℕ
+taken_reply s names p (Ok q) = close_reply s names p q (shown s q names)
+taken_reply s names p (Err f) = (fault_reply f, p)
 
 abbrev pub open_reply : Source → Names → ℕ → ℕ → Look → Reply × ℕ
 open_reply s names n p (Ok None) = (reply.NotOpen (current_span s p names), p)
-open_reply s names n p (Ok (Some (t, q))) = if is_open t.kind then takes_reply s names p (takes s names n q) else (reply.NotOpen (current_span s p names), p)
+open_reply s names n p (Ok (Some (t, q))) = if is_open t.kind then taken_reply s names p (after_taking s names n q) else (reply.NotOpen (current_span s p names), p)
 open_reply s names n p (Err f) = (fault_reply f, p)
 
 -- a group of up to n tokens: the reply, and the place behind it, or p where it is no such group

@@ -1,6 +1,6 @@
 -- WebAssembly specification, text format, lexical format: annotations, of which the standard lets a tool take those that it knows. The
 -- names that a parser has registered, each with a count above 0. Registering and counts are no part of the standard.
-use Rattle.std.specs.Prelude.{ℕ, Bool, ◌≢◌, ◌+◌, ◌-◌, List, nat_lt, cond, Some}
+use Rattle.std.specs.Prelude.{ℕ, Bool, ◌≢◌, ◌+◌, ◌-◌, ◌^◌, List, nat_lt, cond, Some}
 use Rattle.std.specs.FinMap as finmap
 use Rattle.std.specs.Cmp.Lexicographic.{slice_cmp}
 use Rattle.std.specs.Ordering.{nat_cmp}
@@ -22,7 +22,7 @@ is_registered names x = nat_lt 0 (count names x)
 
 -- the greatest count
 abbrev pub most_often : ℕ
-most_often = 18446744073709551615
+most_often = 2 ^ 64 - 1
 
 -- the names after one more
 abbrev pub more : Names → List ℕ → Names

@@ -31,7 +31,7 @@ left_open None t = Err (record { offset = t.offset + 1; kind = Unclosed })
 left_open (Some f) t = ended (Some f)
 
 -- the token is an annotation of this name
-pub record IsNamed (text : List ℕ) (t : Token) (x : List ℕ) : Type 0 where
+pub record HasName (text : List ℕ) (t : Token) (x : List ℕ) : Type 0 where
   pub kind : t.kind ≡ Annotation
   pub name : Name (word_of text t) x
   pub utf8 : IsUtf8 x
@@ -53,9 +53,9 @@ pub data Shown (text : List ℕ) (ending : Option LexFault) (names : Names) : Li
   none_follows : {t : Token} → IsMarked text t → Shown text ending names (t ∷ []) (ended ending)
   no_annotation : {t u : Token} {r : List Token} → IsMarked text t → u.kind ≢ Annotation → Shown text ending names (t ∷ u ∷ r) (Ok (Some (t, u ∷ r)))
   misnamed : {t u : Token} {r : List Token} {e : LexError} → IsMarked text t → IsMisnamed text u e → Shown text ending names (t ∷ u ∷ r) (Err (record { offset = u.offset; kind = Lex e }))
-  registered : {t u : Token} {r : List Token} {x : List ℕ} → IsMarked text t → IsNamed text u x → IsTrue (is_registered names x) → Shown text ending names (t ∷ u ∷ r) (Ok (Some (t, u ∷ r)))
-  skipped : {t u : Token} {r m : List Token} {x : List ℕ} {a : Finding} → IsMarked text t → IsNamed text u x → IsFalse (is_registered names x) → Group (u ∷ r) m → Shown text ending names m a
+  registered : {t u : Token} {r : List Token} {x : List ℕ} → IsMarked text t → HasName text u x → IsTrue (is_registered names x) → Shown text ending names (t ∷ u ∷ r) (Ok (Some (t, u ∷ r)))
+  skipped : {t u : Token} {r m : List Token} {x : List ℕ} {a : Finding} → IsMarked text t → HasName text u x → IsFalse (is_registered names x) → Group (u ∷ r) m → Shown text ending names m a
       → Shown text ending names (t ∷ u ∷ r) a
-  unclosed : {t u : Token} {r : List Token} {x : List ℕ} → IsMarked text t → IsNamed text u x → IsFalse (is_registered names x) → NoGroup (u ∷ r) → Shown text ending names (t ∷ u ∷ r) (left_open ending t)
+  unclosed : {t u : Token} {r : List Token} {x : List ℕ} → IsMarked text t → HasName text u x → IsFalse (is_registered names x) → NoGroup (u ∷ r) → Shown text ending names (t ∷ u ∷ r) (left_open ending t)
   unmarked : {t : Token} {r : List Token} → t.kind ≡ LParen → IsFalse (is_marked text t) → Shown text ending names (t ∷ r) (Ok (Some (t, r)))
   other : {t : Token} {r : List Token} → IsFalse (is_blank t.kind) → t.kind ≢ LParen → Shown text ending names (t ∷ r) (Ok (Some (t, r)))

@@ -4,8 +4,8 @@ ghost use Rattle.wat_lexer_parser.specs.names.RegisteredNames.{no_names};
 ghost use Rattle.wat_lexer_parser.specs.places.Source.{IsRead, Source};
 
 use crate::parser::Parser;
-use crate::parser::reading::Reading;
 use crate::parser::table::Table;
+use crate::parser::table_ref::TableRef;
 use std::alloc::Global;
 use std::marker::Model;
 use wat_lex::error::Error;
@@ -116,7 +116,7 @@ impl<'a> ParseBuffer<'a> {
         } }
         ensures read { IsRead self.now }
     {
-        Parser::new(self.reading())
+        Parser::new(self.table_ref())
     }
 
     /// The tokens are those of the text, which has no others.
@@ -126,15 +126,15 @@ impl<'a> ParseBuffer<'a> {
         ensures read { IsRead self.now }
     {
         wat_lex::laws::one_tiling();
-        let _reading = self.reading();
+        let _table = self.table_ref();
     }
 
     /// The buffer as its parsers read it.
-    fn reading(&self) -> Reading<'_>
+    fn table_ref(&self) -> TableRef<'_>
         ensures same { result ≡ self.now }
         ensures read { IsRead self.now }
     {
-        Reading::new(
+        TableRef::new(
             self.lexer.input(),
             self.lexer.settings(),
             self.track,

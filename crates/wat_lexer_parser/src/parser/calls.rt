@@ -5,7 +5,7 @@ ghost use Rattle.wat_lexer_parser.specs.calls.CallLaws.{NothingElse, AfterSome};
 ghost use Rattle.wat_lexer_parser.specs.calls.Calls.{answer, register, unregister, replies};
 ghost use Rattle.wat_lexer_parser.specs.calls.Calls.{state_after};
 ghost use Rattle.wat_lexer_parser.specs.calls.Calls.{fault_reply, shown_reply, comment_reply};
-ghost use Rattle.wat_lexer_parser.specs.calls.Calls.{place_after, takes, close_reply, group_reply};
+ghost use Rattle.wat_lexer_parser.specs.calls.Calls.{place_after, after_taking, close_reply, group_reply};
 ghost use Rattle.wat_lexer_parser.specs.places.Places.{comment_at};
 ghost use Rattle.wat_lexer_parser.specs.shown.Showing.{shown};
 
@@ -98,9 +98,9 @@ fn place_after(found: Found, place: usize) -> usize
 
 impl<'a> Parser<'a> {
     /// The place behind up to so many shown tokens.
-    fn takes(&self, place: usize, count: usize) -> Result<usize, Fault>
+    fn after_taking(&self, place: usize, count: usize) -> Result<usize, Fault>
         requires { place ≤ length self.now.source.tokens }
-        ensures value { result ≡ takes self.now.source self.now.names count place }
+        ensures value { result ≡ after_taking self.now.source self.now.names count place }
         ensures on { IfOk result (λ q. place ≤ q) }
         ensures within { IfOk result (λ q. q ≤ length self.now.source.tokens) }
     {
@@ -149,7 +149,7 @@ impl<'a> Parser<'a> {
         let place = self.place();
         match self.look(place) {
             Ok(Some((token, next))) => match token.kind {
-                TokenKind::LParen => match self.takes(next, count) {
+                TokenKind::LParen => match self.after_taking(next, count) {
                     Ok(at) => self.close_group(place, at),
                     Err(fault) => (fault_reply(fault), place),
                 },
@@ -174,8 +174,8 @@ impl<'a> Parser<'a> {
                 Ok(shown_reply(found))
             }
             Call::Comment => {
-                let reading = &self.reading;
-                let found = reading.comment_at(self.place);
+                let table = &self.table;
+                let found = table.comment_at(self.place);
                 self.place = place_after(found, self.place);
                 Ok(comment_reply(found))
             }
@@ -198,7 +198,7 @@ impl<'a> Parser<'a> {
         match self.names.register(alloc, name) {
             Ok(()) => Ok(Reply::Done),
             Err(RegisterError::TooOften) => Ok(Reply::TooOften),
-            Err(RegisterError::OutOfMemory) => Err(AllocError),
+            Err(RegisterError::OutOfMemory(refused)) => Err(refused),
         }
     }
 

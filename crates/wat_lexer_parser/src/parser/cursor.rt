@@ -70,7 +70,7 @@ impl<'p, 'a> Cursor<'p, 'a> {
         let parser = self.parser;
         match parser.look(self.at) {
             Ok(found) => Ok(found),
-            Err(fault) => Err(parser.reading().error_of(fault)),
+            Err(fault) => Err(parser.table().error_of(fault)),
         }
     }
 
@@ -93,8 +93,8 @@ impl<'p, 'a> Cursor<'p, 'a> {
         ensures { result ≡ current_span self.entry.parser.now.source self.entry.at
             self.entry.parser.now.names }
     {
-        let reading = self.parser.reading();
-        match reading.token_at(next.at - 1) {
+        let table = self.parser.table();
+        match table.token_at(next.at - 1) {
             Some(token) => Span::from_offset(token.offset),
             None => Span::from_offset(0),
         }
@@ -106,7 +106,7 @@ impl<'p, 'a> Cursor<'p, 'a> {
             self.now.parser.now.names message.now) }
     {
         let parser = self.parser;
-        parser.reading().error_at(self.cur_span(), message)
+        parser.table().error_at(self.cur_span(), message)
     }
 
     /// An error at the current span with a message of two parts.
@@ -117,7 +117,7 @@ impl<'p, 'a> Cursor<'p, 'a> {
         let parser = self.parser;
         match format!(in parser.alloc(); "{what}{word}") {
             Ok(message) => self.error(message.as_str()),
-            Err(_) => Error::out_of_memory(),
+            Err(refused) => Error::from(refused),
         }
     }
 
@@ -469,10 +469,10 @@ impl<'p, 'a> Cursor<'p, 'a> {
         ensures on { IfOk result (λ found. IfSome found (λ v. self.entry.at < v.1.at)) }
     {
         let parser = self.parser;
-        match parser.reading().comment_at(self.at) {
+        match parser.table().comment_at(self.at) {
             Ok(Some((token, at))) => Ok(Some((token.src(parser.text()), self.moved(at)))),
             Ok(None) => Ok(None),
-            Err(fault) => Err(parser.reading().error_of(fault)),
+            Err(fault) => Err(parser.table().error_of(fault)),
         }
     }
 }

@@ -73,7 +73,7 @@ impl<'p, 'a> Lookahead1<'p, 'a> {
         let parser = self.parser;
         match message(parser.alloc(), parser.is_empty(), &self.attempts) {
             Ok(message) => parser.error(message.as_str()),
-            Err(_) => Error::out_of_memory(),
+            Err(refused) => Error::from(refused),
         }
     }
 }

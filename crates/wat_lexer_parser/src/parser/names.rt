@@ -1,6 +1,6 @@
 //! The registered names.
 ghost use Rattle.std.specs.Prelude.{◌≡◌, ◌<◌, ◌+◌, ◌-◌, ◌^◌, IsSome, OnOk, OnErr, IsTrue, ◌↔◌};
-ghost use Rattle.std.specs.Prelude.{Some, is_some, IfErr, cond, nat_eq, false};
+ghost use Rattle.std.specs.Prelude.{Some, alloc_error, is_some, IfErr, cond, nat_eq, false};
 ghost use Rattle.std.specs.FinMap as map;
 ghost use Rattle.std.specs.String.{string_cmp, string_bytes};
 ghost use Rattle.std.specs.BTreeMap.{UpdatesBy, get_by_text};
@@ -43,17 +43,17 @@ impl Model for Names {
 #[derive(Clone, Copy, PartialEq, Eq)]
 pub enum RegisterError {
     TooOften,
-    OutOfMemory,
+    OutOfMemory(AllocError),
 }
 
 impl<T: Drop> From<AllocFailed<T>> for RegisterError {
-    ghost use Rattle.std.specs.Prelude.{◌≡◌};
+    ghost use Rattle.std.specs.Prelude.{◌≡◌, alloc_error};
     ghost use Rattle.wat_lexer_parser.specs.declared.parser.names.RegisterError.TheVariants.{OutOfMemory};
 
-    ghost from_gives = { λ _ e. e ≡ OutOfMemory };
+    ghost from_gives = { λ _ e. e ≡ OutOfMemory alloc_error };
 
-    fn from(_e: AllocFailed<T>) -> RegisterError {
-        RegisterError::OutOfMemory
+    fn from(failed: AllocFailed<T>) -> RegisterError {
+        RegisterError::OutOfMemory(AllocError::from(failed))
     }
 }
 
@@ -61,10 +61,10 @@ impl From<AllocError> for RegisterError {
     ghost use Rattle.std.specs.Prelude.{◌≡◌};
     ghost use Rattle.wat_lexer_parser.specs.declared.parser.names.RegisterError.TheVariants.{OutOfMemory};
 
-    ghost from_gives = { λ _ e. e ≡ OutOfMemory };
+    ghost from_gives = { λ refused e. e ≡ OutOfMemory refused };
 
-    fn from(_e: AllocError) -> RegisterError {
-        RegisterError::OutOfMemory
+    fn from(refused: AllocError) -> RegisterError {
+        RegisterError::OutOfMemory(refused)
     }
 }
 
@@ -111,7 +111,7 @@ impl Names {
     }
 
     /// Sets the count of a name that is registered.
-    fn set(&mut self, name: &str, times: usize)
+    pub fn set(&mut self, name: &str, times: usize)
         requires there { 0 < count self.old name.now }
         requires some { 0 < times }
         ensures { self.new ≡ map.insert self.old name.now times }
@@ -126,7 +126,7 @@ impl Names {
         ensures there { OnOk result (0 < count self.new name.now) }
         ensures undo { OnOk result (fewer self.new name.now ≡ self.old) }
         ensures often { IsErrOf result RegisterError.TooOften ↔ count self.old name.now ≡ usize.MAX }
-        ensures free { IsErrOf result RegisterError.OutOfMemory →
+        ensures free { IsErrOf result (RegisterError.OutOfMemory alloc_error) →
             is_registered self.old name.now ≡ false }
     {
         let count = self.count(name);

@@ -83,7 +83,7 @@ impl<'a> Parser<'a> {
     {
         let place = self.place;
         let depth = self.depth;
-        self.reading.is_read();
+        self.table.is_read();
         self.open()?;
         self.depth += 1;
         let result = self.parse::<T>();

@@ -41,6 +41,8 @@ impl<'a> NameAnnotation<'a> {
         ensures copy { IfOk result (λ copy.
             cow_str_bytes copy.name ≡ cow_str_bytes self.now.name) }
         ensures free { IsBorrowedStr self.now.name → IsOk result }
+        ensures borrowed { IsBorrowedStr self.now.name →
+            IfOk result (λ copy. IsBorrowedStr copy.name) }
     {
         let name = match &self.name {
             CowStr::Borrowed(name) => CowStr::Borrowed(*name),

@@ -96,12 +96,14 @@ fn read_fails(
     match answer {
         Ok(()) => assert_eq!(rt; held, written.as_bytes()),
         Err(error) => {
-            assert!(rt; error == RunError::Read || error == RunError::Memory);
+            assert!(rt; error == RunError::Read || matches!(error, RunError::Memory(_)));
             assert!(rt; held.is_empty());
         }
     }
     let reads = text.len().div_ceil(most.max(1)) + 1;
-    assert!(rt; answer == Err(RunError::Memory) || (answer == Ok(())) == (fails_in >= reads));
+    assert!(rt;
+        matches!(answer, Err(RunError::Memory(_))) || (answer == Ok(())) == (fails_in >= reads)
+    );
     assert_eq!(rt; input.failed, answer == Err(RunError::Read));
     Ok(())
 }
@@ -122,7 +124,7 @@ fn the_write_fails(rt: HostRuntime) -> Result<(), Fail> {
     for (kind, text, _) in KINDS {
         let mut output = room(rt.alloc(), true)?;
         let answer = run(&rt, kind, &mut pieces(text, 1, 99), &mut output);
-        assert!(rt; answer == Err(RunError::Write) || answer == Err(RunError::Memory));
+        assert!(rt; answer == Err(RunError::Write) || matches!(answer, Err(RunError::Memory(_))));
         assert_eq!(rt; output.failed, answer == Err(RunError::Write));
         assert!(rt; output.held.is_empty());
     }

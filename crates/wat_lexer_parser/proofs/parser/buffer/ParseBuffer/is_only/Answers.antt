@@ -14,6 +14,6 @@ same x y b c ts us e f h i j k = cc
 pub returns-clause-only : goal.returns-clause-only
 returns-clause-only c = λ s h e t.
     let own = c.args.self.now in
-    let read = subst (λ x. MaximalTiling x 0 own.tokens own.ending) (sym e) c.reading-reading.ensures.read in
+    let read = subst (λ x. MaximalTiling x 0 own.tokens own.ending) (sym e) c.table_ref-table.ensures.read in
     let one = c.one_tiling.ensures.one s.setting 0 s.tokens own.tokens s.ending own.ending h read in
     same s.setting own.setting s.track own.track s.tokens own.tokens s.ending own.ending e t one.0 one.1

@@ -5,7 +5,7 @@ use Rattle.wat_lexer_parser.specs.inside.Table.{Pair}
 use Rattle.wat_lexer_parser.specs.shown.Showing.{step_of}
 use Rattle.wat_lexer_parser.proofs.groups.Closing.{closed_from, group_from}
 use Rattle.wat_lexer_parser.proofs.shown.Looks.{shown_pass, shown_take, shown_finish, shown_refuse, shown_skip, shown_unclosed, shown_end, skip_heads}
-use Rattle.wat_lexer_parser.proofs.parser.reading.Reading.look.Goals as goal
+use Rattle.wat_lexer_parser.proofs.parser.table_ref.TableRef.look.Goals as goal
 
 pub loop-i-preserved-in-Pass : goal.loop-i-preserved-in-Pass
 loop-i-preserved-in-Pass c =

@@ -1,10 +1,10 @@
 use Rattle.std.proofs.Common.{◌≡◌, ◌≤◌, length}
-use Rattle.wat_lexer_parser.specs.calls.Calls.{takes}
-use Rattle.wat_lexer_parser.proofs.parser.Parser.takes.Given as goal
+use Rattle.wat_lexer_parser.specs.calls.Calls.{after_taking}
+use Rattle.wat_lexer_parser.proofs.parser.Parser.after_taking.Given as goal
 
 abbrev pub invariant-loop-left : goal.invariant-loop-left
 invariant-loop-left l = record {
-  same : takes l.self.source l.self.names l.count l.place ≡ takes l.self.source l.self.names l.left l.at;
+  same : after_taking l.self.source l.self.names l.count l.place ≡ after_taking l.self.source l.self.names l.left l.at;
   on : l.place ≤ l.at;
   within : l.at ≤ length l.self.source.tokens;
 }

@@ -1,6 +1,6 @@
 use Rattle.std.proofs.Common.{◌≡◌, ◌≤◌, ◌-◌, length}
 use Rattle.wat_lexer_parser.specs.shown.Showing.{shown}
-use Rattle.wat_lexer_parser.proofs.parser.reading.Reading.look.Given as goal
+use Rattle.wat_lexer_parser.proofs.parser.table_ref.TableRef.look.Given as goal
 
 abbrev pub invariant-loop-i : goal.invariant-loop-i
 invariant-loop-i l = record {

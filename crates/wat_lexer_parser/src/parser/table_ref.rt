@@ -36,7 +36,7 @@ use wat_lex::token::Span;
 /// It holds references at one lifetime, that of the loan, and no buffer: so a buffer that is a
 /// local variable can be lent to its parsers.
 #[derive(Drop)]
-pub struct Reading<'a> {
+pub struct TableRef<'a> {
     text: &'a str,
     settings: Settings,
     track: bool,
@@ -44,7 +44,7 @@ pub struct Reading<'a> {
     alloc: Global,
 }
 
-impl<'a> Model for Reading<'a> {
+impl<'a> Model for TableRef<'a> {
     ghost use Rattle.std.specs.Prelude.{map};
     ghost use Rattle.wat_lexer_parser.specs.inside.Table.{IsTable};
     ghost use Rattle.wat_lexer_parser.specs.inside.TableNames.{name_view};
@@ -74,14 +74,14 @@ impl<'a> Model for Reading<'a> {
         b.table.now.closes.items };
 }
 
-impl<'a> Reading<'a> {
+impl<'a> TableRef<'a> {
     pub fn new(
         text: &'a str,
         settings: Settings,
         track: bool,
         table: &'a Table,
         alloc: Global,
-    ) -> Reading<'a>
+    ) -> TableRef<'a>
         requires short { length text.now < 2 ^ 32 }
         requires table { IsTable
             (record {
@@ -99,7 +99,7 @@ impl<'a> Reading<'a> {
           ending = table.now.fault;
         } }
     {
-        Reading {
+        TableRef {
             text,
             settings,
             track,
@@ -206,7 +206,7 @@ fn step_written(name: &Result<String, LexError>, token: Token, names: &Names) ->
 }
 
 // A look, which takes no memory.
-impl<'a> Reading<'a> {
+impl<'a> TableRef<'a> {
     /// The raw token at a place.
     pub fn token_at(&self, place: usize) -> Option<Token>
         ensures value { result ≡ slice_get self.now.tokens place }
@@ -459,7 +459,7 @@ impl<'a> Reading<'a> {
 }
 
 // Errors about the text.
-impl<'a> Reading<'a> {
+impl<'a> TableRef<'a> {
     /// The error of a fault that is shown.
     #[cold]
     #[tactic(auto, unfolding(crate::specs::parser::State::report_of))]
@@ -471,7 +471,7 @@ impl<'a> Reading<'a> {
             FaultKind::Lex(error) => Error::lex(self.alloc, span, self.text(), error),
             FaultKind::Unclosed => match String::from_str(self.alloc, "unclosed annotation") {
                 Ok(message) => Error::new(span, message),
-                Err(_) => Error::out_of_memory(),
+                Err(refused) => Error::from(refused),
             },
         }
     }
@@ -483,7 +483,7 @@ impl<'a> Reading<'a> {
     {
         match String::from_str(self.alloc, message) {
             Ok(message) => Error::parse(self.alloc, span, self.text(), message),
-            Err(_) => Error::out_of_memory(),
+            Err(refused) => Error::from(refused),
         }
     }
 }

@@ -1,8 +1,8 @@
 use Rattle.std.proofs.Common.{◌≡◌, ◌<◌, ◌∙◌, sym, ap, arith, rules, Some, None, Ok, Err}
-use Rattle.wat_lexer_parser.specs.calls.Calls.{takes}
+use Rattle.wat_lexer_parser.specs.calls.Calls.{after_taking}
 use Rattle.wat_lexer_parser.specs.shown.Showing.{shown}
 use Rattle.wat_lexer_parser.proofs.calls.Takes.{takes_none, takes_token, takes_end, takes_fault}
-use Rattle.wat_lexer_parser.proofs.parser.Parser.takes.Goals as goal
+use Rattle.wat_lexer_parser.proofs.parser.Parser.after_taking.Goals as goal
 
 pub loop-left-preserved : goal.loop-left-preserved
 loop-left-preserved c =
@@ -35,4 +35,4 @@ returns-clause-value c =
     let a = c.args.self.now in
     let l = c.loop-left in
     let z : l.left ≡ 0 = omega (arith, c.loop-left-test.false) in
-    sym (l.invariant.same ∙ ap (λ k. takes a.source a.names k l.at) z ∙ takes_none a.source a.names l.at)
+    sym (l.invariant.same ∙ ap (λ k. after_taking a.source a.names k l.at) z ∙ takes_none a.source a.names l.at)
