@@ -26,8 +26,6 @@ mod peek;
 mod reads;
 mod table;
 mod table_ref;
-#[cfg(test)]
-mod tests;
 mod typed;
 mod whole;
 
