@@ -43,7 +43,9 @@ fault() {
 count() {
     # shellcheck disable=SC1091
     . "$room/counts"
-    [ "$requests" -gt 0 ] && [ "$reads" -gt 0 ] || fault "${words[*]}: nothing is counted"
+    if [ "$requests" = 0 ] || [ "$reads" = 0 ]; then
+        fault "${words[*]}: nothing is counted"
+    fi
 }
 
 # refuse_each VARIABLE=N..: refuses each request for memory alone, and each with all behind it, in such a run
@@ -101,6 +103,7 @@ check 0 'a (; b ;)' blank
 check 0 '(module (type (func (param i32) (result i64))))' types
 check 1 '(module (func))' types
 check 0 '(@a) x' play look reg=a take parens=1
+# shellcheck disable=SC2016
 check 0 '(module (func $foo))'
 check 0 ''
 check 0 '(@)' play look
