@@ -15,7 +15,7 @@ import sys
 import tempfile
 
 LEX, PARSER, TYPES = "wat_lex/src/", "wat_lexer_parser/src/", "wat_types/src/"
-ALLOC, ERROR, ENCODE = "Err(AllocError)", "Err(Error::out_of_memory())", "Err(EncodeError::Memory)"
+ALLOC, ERROR, ENCODE = "Err(AllocError)", "Err(Error::out_of_memory())", "Err(EncodeError::Memory(AllocError))"
 REPORT = "Error::out_of_memory()"
 ITEM = "if self.done { None } else { self.done = true; Some(Err(Error::out_of_memory())) }"
 CLONE = "    pub fn clone(&self, alloc: Global)"
@@ -35,7 +35,7 @@ TURNS = [
         (LEX + "error.rt", "    pub fn set_text(", 1, ALLOC, "error-set-text"),
         (LEX + "error.rt", "    pub fn message(", 1, ALLOC, "error-message"),
         (LEX + "token.rt", CLONE, 1, ALLOC, "id-clone"),
-        (LEX + "gensym.rt", "    pub fn fill<", 1, "Err(FillError::Memory)", "fill"),
+        (LEX + "gensym.rt", "    pub fn fill<", 1, "Err(FillError::Memory(AllocError))", "fill"),
         (LEX + "encode.rt", BYTES, 2, ENCODE, "encode-u8"),
         (LEX + "encode.rt", BYTES, 3, ENCODE, "encode-u32"),
         (LEX + "encode.rt", BYTES, 4, ENCODE, "encode-u64"),
