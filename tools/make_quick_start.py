@@ -1,29 +1,33 @@
 #!/usr/bin/env python3
-"""Writes the files of crates/wat_sums, and the laws of the words of readings, into docs/A-TYPE-OF-ONES-OWN.md.
+"""Writes the files of crates/wat_sums, and the laws of the words of readings, into docs/A-TYPE-OF-ONES-OWN.md, and lines of the examples
+from C and Rust into README.md.
 
 usage: tools/make_quick_start.py [--check]
 
-A file goes between `<!-- file PATH -->` and `<!-- end -->`. Between `<!-- laws -->` and `<!-- end -->` stands a table of words, each with
+A file, or some lines of it, goes between `<!-- file PATH [FIRST-LAST] -->` and `<!-- end -->`. Between `<!-- laws -->` and `<!-- end -->` stands a table of words, each with
 what it reads; its last two columns are the laws that the specs have of the word. With --check nothing is written, and the status is 1
-where the page differs from the files. It is also 1 where the table has a word that has no law, or lacks one that has.
+where a page differs from the files. It is also 1 where the table has a word that has no law, or lacks one that has.
 """
 import pathlib
 import re
 import sys
+import textwrap
 
 ROOT = pathlib.Path(__file__).resolve().parent.parent
-PAGE = ROOT / "docs/A-TYPE-OF-ONES-OWN.md"
+PAGES = ["README.md", "docs/A-TYPE-OF-ONES-OWN.md"]
 LAWS = ROOT / "crates/wat_lexer_parser/specs/lemmas"
-PART = re.compile(r"<!-- (file (?P<path>\S+)|laws) -->\n(?P<body>.*?)<!-- end -->\n", re.S)
+PART = re.compile(r"<!-- (file (?P<path>\S+)( (?P<first>\d+)-(?P<last>\d+))?|laws) -->\n(?P<body>.*?)<!-- end -->\n", re.S)
 LAW = re.compile(r"^pub (?P<name>(forward|advances)_\w+) : (.* → )?(?P<says>IsForward|Advances) \(?(?P<word>\w+)[^→\n]*$", re.M)
 ROW = re.compile(r"^\| `(?P<term>(?P<word>\w+)[^`]*)` \| (?P<reads>[^|]+) \|")
-LANGUAGES = {".rt": "rust", ".antt": "", ".edit": ""}
+LANGUAGES = {".rt": "rust", ".rs": "rust", ".c": "c", ".antt": "", ".edit": ""}
 
 
-def fenced(path):
-    """The file as a block of Markdown."""
-    text = (ROOT / path).read_text()
-    return f"```{LANGUAGES[pathlib.Path(path).suffix]}\n{text.rstrip()}\n```\n"
+def fenced(path, first, last):
+    """The file as a block of Markdown, or its lines from one to another."""
+    lines = (ROOT / path).read_text().rstrip().split("\n")
+    part = lines[int(first) - 1 : int(last)] if first else lines
+    text = textwrap.dedent("\n".join(part))
+    return f"```{LANGUAGES[pathlib.Path(path).suffix]}\n{text}\n```\n"
 
 
 def laws():
@@ -58,20 +62,22 @@ def table(body):
 def part(match):
     """A marked part of the page, with what stands in it now."""
     start = match[0].split("\n", 1)[0]
-    body = fenced(match["path"]) if match["path"] else table(match["body"])
+    body = fenced(match["path"], match["first"], match["last"]) if match["path"] else table(match["body"])
     return f"{start}\n{body}<!-- end -->\n"
 
 
 def main():
     if sys.argv[1:] not in ([], ["--check"]):
         sys.exit(__doc__.split("\n\n")[1])
-    old = PAGE.read_text()
-    new, parts = PART.subn(part, old)
-    if sys.argv[1:] == []:
-        PAGE.write_text(new)
-    elif new != old:
-        sys.exit(f"make_quick_start.py: {PAGE.relative_to(ROOT)} is not what the files make of it; run tools/make_quick_start.py")
-    print(f"make_quick_start.py: {parts} parts of {PAGE.relative_to(ROOT)}")
+    for name in PAGES:
+        page = ROOT / name
+        old = page.read_text()
+        new, parts = PART.subn(part, old)
+        if sys.argv[1:] == []:
+            page.write_text(new)
+        elif new != old:
+            sys.exit(f"make_quick_start.py: {name} is not what the files make of it; run tools/make_quick_start.py")
+        print(f"make_quick_start.py: {parts} parts of {name}")
 
 
 if __name__ == "__main__":
