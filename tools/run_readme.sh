@@ -50,8 +50,7 @@ for document in README.md docs/COMMAND-LINE.md; do
     rm -rf "$room/blocks"
     mkdir "$room/blocks"
     blocks "$clone/$document"
-    for block in "$room/blocks"/*.quick "$room/blocks"/*.slow; do
-        [ -e "$block" ] || continue
+    for block in "$room/blocks"/*.[qs]*; do
         if $quick && [ "${block##*.}" = slow ]; then
             left=$((left + 1))
             echo 'run_readme.sh: left out:'
