@@ -51,6 +51,7 @@ for document in README.md docs/COMMAND-LINE.md; do
     mkdir "$room/blocks"
     blocks "$clone/$document"
     for block in "$room/blocks"/*.[qs]*; do
+        [ -e "$block" ] || continue
         if $quick && [ "${block##*.}" = slow ]; then
             left=$((left + 1))
             echo 'run_readme.sh: left out:'
