@@ -4,7 +4,8 @@ from C and Rust into README.md.
 
 usage: tools/make_quick_start.py [--check]
 
-A file, or some lines of it, goes between `<!-- file PATH [FIRST-LAST] -->` and `<!-- end -->`. Between `<!-- laws -->` and `<!-- end -->` stands a table of words, each with
+A file, or some lines of it, goes between `<!-- file PATH [FIRST-LAST] -->` and `<!-- end -->`, and all files of a folder that are not empty,
+each behind its name, between `<!-- files FOLDER -->` and `<!-- end -->`. Between `<!-- laws -->` and `<!-- end -->` stands a table of words, each with
 what it reads; its last two columns are the laws that the specs have of the word. With --check nothing is written, and the status is 1
 where a page differs from the files. It is also 1 where the table has a word that has no law, or lacks one that has.
 """
@@ -16,18 +17,25 @@ import textwrap
 ROOT = pathlib.Path(__file__).resolve().parent.parent
 PAGES = ["README.md", "docs/A-TYPE-OF-ONES-OWN.md"]
 LAWS = ROOT / "crates/wat_lexer_parser/specs/lemmas"
-PART = re.compile(r"<!-- (file (?P<path>\S+)( (?P<first>\d+)-(?P<last>\d+))?|laws) -->\n(?P<body>.*?)<!-- end -->\n", re.S)
+PART = re.compile(r"<!-- (file (?P<path>\S+)( (?P<first>\d+)-(?P<last>\d+))?|files (?P<folder>\S+)|laws) -->\n(?P<body>.*?)<!-- end -->\n", re.S)
 LAW = re.compile(r"^pub (?P<name>(forward|advances)_\w+) : (.* → )?(?P<says>IsForward|Advances) \(?(?P<word>\w+)[^→\n]*$", re.M)
 ROW = re.compile(r"^\| `(?P<term>(?P<word>\w+)[^`]*)` \| (?P<reads>[^|]+) \|")
 LANGUAGES = {".rt": "rust", ".rs": "rust", ".c": "c", ".antt": "", ".edit": ""}
 
 
-def fenced(path, first, last):
+def fenced(path, first=None, last=None):
     """The file as a block of Markdown, or its lines from one to another."""
     lines = (ROOT / path).read_text().rstrip().split("\n")
     part = lines[int(first) - 1 : int(last)] if first else lines
     text = textwrap.dedent("\n".join(part))
     return f"```{LANGUAGES[pathlib.Path(path).suffix]}\n{text}\n```\n"
+
+
+def folder(path):
+    """All files of a folder, each behind its name."""
+    files = sorted(file for file in (ROOT / path).rglob("*") if file.is_file() and file.read_text().strip())
+    named = ((file.relative_to(ROOT / path).as_posix(), file.relative_to(ROOT)) for file in files)
+    return "\n".join(f"`{pathlib.Path(path).name}/{name}`:\n\n{fenced(file)}" for name, file in named)
 
 
 def laws():
@@ -62,7 +70,10 @@ def table(body):
 def part(match):
     """A marked part of the page, with what stands in it now."""
     start = match[0].split("\n", 1)[0]
-    body = fenced(match["path"], match["first"], match["last"]) if match["path"] else table(match["body"])
+    if match["path"]:
+        body = fenced(match["path"], match["first"], match["last"])
+    else:
+        body = folder(match["folder"]) if match["folder"] else table(match["body"])
     return f"{start}\n{body}<!-- end -->\n"
 
 

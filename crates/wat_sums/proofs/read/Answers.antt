@@ -6,7 +6,7 @@ use Rattle.wat_lexer_parser.specs.readings.Readings.{whole, whole_takes}
 use Rattle.wat_sums.specs.Sums.{sum}
 use Rattle.wat_sums.proofs.read.Goals as goal
 
--- the contract of `read` allows want of memory for every text
+-- memory may be wanting anywhere
 weaker : {V T : Type 0} (takes : Bool) (f : T → V) (m : Result V Report) (r : Result T (Option Report)) → Answers takes f m r → Answers true f m r
 weaker takes f m (Ok x) h = h
 weaker takes f m (Err None) h = search rules
