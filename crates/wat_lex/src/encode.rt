@@ -11,9 +11,6 @@ ghost use Rattle.wat_lex.specs.binary.Leb128.{low_bits_of, signed_leb128, unsign
 
 use std::alloc::{AllocError, AllocFailed};
 
-#[cfg(test)]
-mod tests;
-
 /// Why a value was not encoded.
 #[derive(Clone, Copy, Debug, PartialEq, Eq)]
 pub enum EncodeError {

@@ -18,8 +18,6 @@ use std::{fmt, mem};
 pub(crate) mod pieces;
 mod rendered;
 mod shown;
-#[cfg(test)]
-mod tests;
 mod text;
 
 pub use rendered::Rendered;

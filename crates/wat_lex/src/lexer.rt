@@ -18,8 +18,6 @@ mod kinds;
 mod read;
 mod scan;
 mod settings;
-#[cfg(test)]
-mod tests;
 
 pub use faults::{LexError, LexFault};
 pub use kinds::{FloatKind, IntegerKind, SignToken, Token, TokenKind};

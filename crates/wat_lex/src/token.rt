@@ -14,9 +14,6 @@ use std::fmt;
 use std::hash::{Hash, Hasher};
 use std::marker::Model;
 
-#[cfg(test)]
-mod tests;
-
 /// A place in a text, as an offset in bytes.
 #[derive(Copy, Clone, Debug, PartialOrd, Ord, PartialEq, Eq, Hash)]
 pub struct Span {

@@ -1,7 +1,8 @@
 //! The parser.
-ghost use Rattle.std.specs.Prelude.{◌≡◌, ◌≤◌, ◌<◌, ◌+◌, false, not, length, Ok};
+ghost use Rattle.std.specs.Prelude.{◌≡◌, ◌≤◌, ◌<◌, ◌+◌, ◌^◌, false, not, length, Ok};
 ghost use Rattle.std.specs.Prelude.{IfOk, IfErr, IfSome, OnOk, OnErr};
 ghost use Rattle.std.specs.FinMap as map;
+ghost use Rattle.std.specs.Str.{IsUtf8};
 ghost use Rattle.wat_lex.specs.tokens.ReadableTokens.{IsTokenOf};
 ghost use Rattle.wat_lex.specs.errors.Errors.{IsUnlessMemory};
 ghost use Rattle.wat_lexer_parser.specs.names.RegisteredNames.{no_names, is_registered};
@@ -25,8 +26,6 @@ mod peek;
 mod reads;
 mod table;
 mod table_ref;
-#[cfg(test)]
-mod tests;
 mod typed;
 mod whole;
 
@@ -139,15 +138,28 @@ impl<'a> Parser<'a> {
         Span::from_offset(table.current_span(place, &self.names))
     }
 
+    /// The state is sound, over a text of UTF-8 that is not too long.
+    pub(crate) fn is_sound(&self)
+        ensures sound { IsSound self.now }
+        ensures utf8 { IsUtf8 self.now.source.setting.text }
+        ensures short { length self.now.source.setting.text < 2 ^ 32 }
+    {
+        let table = &self.table;
+        table.is_read();
+        let _text = table.text();
+        self.names.are_positive();
+    }
+
     /// Whether the end or `)` is shown, so that a list ends here; false at a fault.
     pub fn is_empty(&self) -> bool
         ensures value { result ≡
             empty_of (shown self.now.source self.now.place self.now.names) }
         ensures sound { IsSound self.now }
+        ensures utf8 { IsUtf8 self.now.source.setting.text }
+        ensures short { length self.now.source.setting.text < 2 ^ 32 }
     {
+        self.is_sound();
         let table = &self.table;
-        table.is_read();
-        self.names.are_positive();
         table.is_empty(self.place, &self.names)
     }
 
@@ -280,7 +292,8 @@ impl<'a> Parser<'a> {
         requires may { (c : _) → c.parser.now ≡ self.old → c.at ≡ self.old.place → F.pre f c }
         requires same { (c : _) (t : T) (d : _) → c.parser.now ≡ self.old →
             c.at ≡ self.old.place → F.post f c (Ok (t, d)) →
-            (d.parser.now ≡ self.old) × (self.old.place ≤ d.at) }
+            (d.parser.now.source ≡ self.old.source) × (d.parser.now.names ≡ self.old.names)
+            × (self.old.place ≤ d.at) }
         ensures ok { IfOk result (λ t. (c : _) × (d : _) × (c.parser.now ≡ self.old)
             × (c.at ≡ self.old.place) × F.post f c (Ok (t, d))
             × (self.new ≡ record self.old { place = d.at })) }
@@ -353,7 +366,10 @@ impl<'a> Parser<'a> {
         requires may { (p : _) → p.now.source ≡ self.old.source →
             p.now.names ≡ self.old.names → p.now.depth ≡ self.old.depth + 1 →
             opened self.old.source self.old.place self.old.names ≡ Ok p.now.place → F.pre f p }
-        requires leaves { (p : _) (r : _) (q : _) → F.post f p r q →
+        requires leaves { (p : _) (r : _) (q : _) → p.now.source ≡ self.old.source →
+            p.now.names ≡ self.old.names → p.now.depth ≡ self.old.depth + 1 →
+            opened self.old.source self.old.place self.old.names ≡ Ok p.now.place →
+            F.post f p r q →
             (q.now.source ≡ p.now.source) × (q.now.depth ≡ p.now.depth) }
         ensures ok { IfOk result (λ t.
             ParensOk (FnOnceReturnsAtMut F.FnOnce f) self.old t self.new) }

@@ -23,6 +23,7 @@ pub enum Look {
     Keyword,
     Reserved,
     Comment,
+    CurSpan,
     Id,
     Annotation,
     String,
@@ -55,6 +56,7 @@ fn is_found(cursor: Cursor<'_, '_>, look: Look) -> Result<bool, Error> {
         Look::Keyword => Ok(cursor.keyword()?.is_some()),
         Look::Reserved => Ok(cursor.reserved()?.is_some()),
         Look::Comment => Ok(cursor.comment()?.is_some()),
+        Look::CurSpan => Ok(cursor.cur_span().offset() == 0),
         Look::Id => Ok(cursor.id()?.is_some()),
         Look::Annotation => Ok(cursor.annotation()?.is_some()),
         Look::String => Ok(cursor.string()?.is_some()),
@@ -76,6 +78,20 @@ fn looked(
     run.call_has_ended();
     let is_kept = parser.prev_span() == place && parser.parens_depth() == 0;
     run.ending(&result, expected).with_state(is_kept)
+}
+
+/// One call of a cursor, with a name registered.
+pub fn looked_under(
+    run: &mut Run<'_>,
+    text: &str,
+    name: &str,
+    look: Look,
+    expected: Expected<'_>,
+) -> Result<Ending, Error> {
+    let buffer = buffer_of(run.alloc(), text)?;
+    let mut parser = buffer.parser();
+    parser.register_annotation(name)?;
+    Ok(looked(run, &mut parser, look, expected))
 }
 
 pub fn looked_at(

@@ -1,6 +1,6 @@
 //! The calls that take no memory. Each of them answers in every run in which it is reached.
 use crate::buffers::buffer_of;
-use crate::cursors::{Look, looked_at};
+use crate::cursors::{Look, looked_at, looked_under};
 use crate::readers::read;
 use crate::run::{Ending, Expected, Run, short};
 use crate::types::{As, part_as, peeked, peeked_behind, whole_as};
@@ -23,7 +23,9 @@ pub fn rows(run: &mut Run<'_>) -> io::Result<()> {
     places(run)?;
     names(run)?;
     looks(run)?;
+    groups(run)?;
     takers(run)?;
+    others(run)?;
     whole_texts(run)?;
     parts(run)?;
     peeks(run)
@@ -264,10 +266,23 @@ fn buffer(run: &mut Run<'_>) -> Result<Ending, Error> {
     Ok(Ending::answer_where(is_right))
 }
 
+/// A buffer that is told to track spans.
+fn tracked(run: &mut Run<'_>) -> Result<Ending, Error> {
+    let mut buffer = buffer_of(run.alloc(), "x")?;
+    buffer.track_instr_spans(true);
+    let is_tracked = buffer.parser().track_instr_spans();
+    run.call_has_ended();
+    Ok(Ending::answer_where(is_tracked))
+}
+
 fn parsers(run: &mut Run<'_>) -> io::Result<()> {
     if run.is_asked("free-buffer") {
         let ended = buffer(run);
         run.report("free-buffer", ended)?;
+    }
+    if run.is_asked("free-track") {
+        let ended = tracked(run);
+        run.report("free-track", ended)?;
     }
     Ok(())
 }
@@ -343,10 +358,28 @@ fn looks(run: &mut Run<'_>) -> io::Result<()> {
         ("free-look-keyword", "x", Look::Keyword),
         ("free-look-reserved", ",", Look::Reserved),
         ("free-look-comment", " ;;c", Look::Comment),
+        ("free-look-cur-span", "x", Look::CurSpan),
     ];
     for (name, text, look) in rows {
         if run.is_asked(name) {
             let ended = looked_at(run, text, look, Expected::Value("true"));
+            run.report(name, ended)?;
+        }
+    }
+    Ok(())
+}
+
+/// Looks before a group whose name is written with an escape, and that is shown or skipped.
+fn groups(run: &mut Run<'_>) -> io::Result<()> {
+    let rows = [
+        ("free-peek-lparen-shown", "b", "true"),
+        ("free-peek-lparen-skipped", "a", "false"),
+    ];
+    for (name, registered, seen) in rows {
+        if run.is_asked(name) {
+            let text = "(@\"\\62\" c) d";
+            let expected = Expected::Value(seen);
+            let ended = looked_under(run, text, registered, Look::PeekLParen, expected);
             run.report(name, ended)?;
         }
     }
@@ -364,6 +397,39 @@ fn takers(run: &mut Run<'_>) -> io::Result<()> {
     for (name, text, look) in rows {
         if run.is_asked(name) {
             let ended = looked_at(run, text, look, Expected::Value("true"));
+            run.report(name, ended)?;
+        }
+    }
+    Ok(())
+}
+
+/// Looks and takers where another token is shown, or none.
+fn others(run: &mut Run<'_>) -> io::Result<()> {
+    let rows = [
+        ("free-other-token", "", Look::Token),
+        ("free-other-any", "", Look::Any),
+        ("free-other-peek-lparen", "x", Look::PeekLParen),
+        ("free-other-peek-rparen", "x", Look::PeekRParen),
+        ("free-other-peek-id", "x", Look::PeekId),
+        ("free-other-peek-reserved", "x", Look::PeekReserved),
+        ("free-other-peek-keyword", ",", Look::PeekKeyword),
+        ("free-other-peek-integer", "x", Look::PeekInteger),
+        ("free-other-peek-float", "x", Look::PeekFloat),
+        ("free-other-peek-string", "x", Look::PeekString),
+        ("free-other-lparen", "x", Look::LParen),
+        ("free-other-rparen", "x", Look::RParen),
+        ("free-other-keyword", ",", Look::Keyword),
+        ("free-other-reserved", "x", Look::Reserved),
+        ("free-other-comment", "x", Look::Comment),
+        ("free-other-id", "x", Look::Id),
+        ("free-other-annotation", "x", Look::Annotation),
+        ("free-other-string", "x", Look::String),
+        ("free-other-integer", "x", Look::Integer),
+        ("free-other-float", "x", Look::Float),
+    ];
+    for (name, text, look) in rows {
+        if run.is_asked(name) {
+            let ended = looked_at(run, text, look, Expected::Value("false"));
             run.report(name, ended)?;
         }
     }

@@ -1,8 +1,9 @@
 //! A cursor over what a parser shows.
-ghost use Rattle.std.specs.Prelude.{◌≡◌, ◌⊎◌, ◌↔◌, ◌≤◌, ◌<◌, ◌++◌, ℕ, IfOk, IfSome, length, false, Option};
+ghost use Rattle.std.specs.Prelude.{◌≡◌, ◌⊎◌, ◌↔◌, ◌≤◌, ◌<◌, ◌^◌, ◌++◌, ℕ, IfOk, IfSome, length, false, Option};
 ghost use Rattle.std.specs.Prelude.{Some, Ok};
 ghost use Rattle.std.specs.Cow.{cow_str_bytes, cow_slice_items, IsBorrowedSlice, IsBorrowedStr};
 ghost use Rattle.std.specs.Option.{option_map};
+ghost use Rattle.std.specs.Str.{IsUtf8};
 ghost use Rattle.std.specs.Str.Parse.{IsNumeral, without_leading_sign};
 ghost use Rattle.wat_lex.specs.errors.Errors.{IsUnlessMemory};
 ghost use Rattle.wat_lex.specs.grammar.Classes.{backslash};
@@ -15,7 +16,7 @@ ghost use Rattle.wat_lex.specs.declared.lexer.kinds.FloatKind.{FloatKind};
 ghost use Rattle.wat_lex.specs.declared.lexer.kinds.IntegerKind.{IntegerKind};
 ghost use Rattle.wat_lex.specs.declared.lexer.kinds.Token.{Token};
 ghost use Rattle.wat_lex.specs.declared.lexer.kinds.TokenKind.TheVariants as variant;
-ghost use Rattle.wat_lexer_parser.specs.parser.State.{Answers, report_here, seen_from};
+ghost use Rattle.wat_lexer_parser.specs.parser.State.{Answers, IsSound, report_here, seen_from};
 ghost use Rattle.wat_lexer_parser.specs.parser.Takers.{taken_from, sees_from, token_of};
 ghost use Rattle.wat_lexer_parser.specs.parser.Takers.{comment_from, may_take_from, name_or_report};
 ghost use Rattle.wat_lexer_parser.specs.parser.Takers.{as_open, as_close, as_keyword, as_reserved};
@@ -77,10 +78,14 @@ impl<'p, 'a> Cursor<'p, 'a> {
     /// The current span: that of the token that is shown, the text's length at the end, or the
     /// place itself where a fault is shown.
     pub fn cur_span(&self) -> Span
-        ensures { result ≡ current_span self.now.parser.now.source self.now.at
+        ensures value { result ≡ current_span self.now.parser.now.source self.now.at
             self.now.parser.now.names }
+        ensures sound { IsSound self.now.parser.now }
+        ensures utf8 { IsUtf8 self.now.parser.now.source.setting.text }
+        ensures short { length self.now.parser.now.source.setting.text < 2 ^ 32 }
     {
         let parser = self.parser;
+        parser.is_sound();
         parser.span_from(self.at)
     }
 

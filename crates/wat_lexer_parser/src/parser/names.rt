@@ -15,9 +15,6 @@ use std::alloc::{AllocError, AllocFailed, Global};
 use std::collections::BTreeMap;
 use std::marker::Model;
 
-#[cfg(test)]
-mod tests;
-
 #[derive(Drop)]
 pub struct Names {
     counts: BTreeMap<String, usize>,

@@ -1,10 +1,12 @@
 //! Tests of positions, identifiers and indices.
 ghost use Rattle.std.specs.Prelude.{IsTrue, ◌↔◌, ◌<◌};
 
-use super::*;
-use std::hash::DefaultHasher;
+use std::borrow::CowStr;
+use std::hash::{DefaultHasher, Hash, Hasher};
 use std::process::Abort;
 use std::test::Fail;
+use wat_lex::gensym::Gensym;
+use wat_lex::token::{Id, Index, Span};
 
 // What crates above know of the order of places.
 fn is_before(a: Span, b: Span) -> bool
@@ -67,9 +69,12 @@ fn identifiers_are_equal_whatever_their_spans(rt: HostRuntime) -> Result<(), Fai
     let owned = CowStr::Owned(String::from_str(alloc, "x")?);
     assert!(rt; are_alike(&x, &Id::from_cow(owned, far)));
     assert!(rt; x != Id::new("y", near));
-    assert!(rt; Id::new("gensym", near) != Id::gensym(near, 1));
-    assert!(rt; Id::gensym(near, 1) != Id::gensym(near, 2));
-    assert!(rt; are_alike(&Id::gensym(near, 1), &Id::gensym(far, 1)));
+    let mut gensym = Gensym::new();
+    let first = gensym.generate(near)?;
+    assert!(rt; Id::new("gensym", near) != first);
+    assert!(rt; first != gensym.generate(near)?);
+    gensym.reset();
+    assert!(rt; are_alike(&first, &gensym.generate(far)?));
     Ok(())
 }
 
@@ -121,7 +126,7 @@ fn debug_shows_a_name_or_a_generation(rt: HostRuntime) -> Result<(), Fail> {
     let ids = [
         Id::new("x", span),
         Id::new("a\"b", span),
-        Id::gensym(span, 1),
+        Gensym::new().generate(span)?,
     ];
     for (id, text) in ids
         .iter()

@@ -1,11 +1,11 @@
 //! Rows of numbers with what their readers answer, from outside.
 ghost use Rattle.wat_lex.specs.tokens.ReadableTokens.{IsTokenOf};
 
-use crate::lexer::{Float, Lexer, SignToken, Token, TokenKind};
 use std::alloc::Global;
 use std::borrow::CowStr;
 use std::process::Abort;
 use std::test::Fail;
+use wat_lex::lexer::{Float, Lexer, SignToken, Token, TokenKind};
 
 /// The first token of a text.
 fn first(rt: &impl Abort, alloc: Global, text: &str) -> Token

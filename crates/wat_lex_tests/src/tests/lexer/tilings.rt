@@ -1,8 +1,8 @@
 //! Rows of what a text can be read as in one way only: its prefixes, places inside its tokens, deep
 //! nesting and long lines.
-use crate::lexer::{LexError, LexFault, Lexer, Token, TokenKind};
 use std::process::Abort;
 use std::test::Fail;
+use wat_lex::lexer::{LexError, LexFault, Lexer, Token, TokenKind};
 
 const DEPTH: usize = 10_000;
 

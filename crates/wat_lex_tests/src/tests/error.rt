@@ -1,8 +1,10 @@
 //! Tests of errors.
-use super::*;
-use crate::lexer::{LexFault, Lexer};
+use std::alloc::Global;
 use std::process::Abort;
 use std::test::Fail;
+use wat_lex::error::{Error, Rendered};
+use wat_lex::lexer::{LexError, LexFault, Lexer};
+use wat_lex::token::Span;
 
 /// The error, unless it is out of memory.
 fn known(error: Error) -> Result<Error, Fail> {

@@ -1,10 +1,10 @@
 //! Rows of texts with what the lexer answers, from outside.
-use crate::error::Error;
-use crate::lexer::{LexError, Lexer, Settings, Token, TokenKind};
 use std::alloc::Global;
 use std::mem::size_of;
 use std::process::Abort;
 use std::test::Fail;
+use wat_lex::error::Error;
+use wat_lex::lexer::{LexError, Lexer, Settings, Token, TokenKind};
 
 const DENIED: Settings = Settings {
     allow: false,

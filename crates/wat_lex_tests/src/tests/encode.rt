@@ -1,8 +1,8 @@
 //! Tests of encodings, with bytes from outside.
-use super::*;
 use std::alloc::Global;
 use std::process::Abort;
 use std::test::Fail;
+use wat_lex::encode::{Encode, EncodeError, encode_slice, encode_str, slice_fits, str_fits};
 
 /// The bytes that a value adds to a buffer, through its bound.
 fn bytes_of<T: Encode>(alloc: Global, value: &T) -> Result<Vec<u8>, EncodeError> {

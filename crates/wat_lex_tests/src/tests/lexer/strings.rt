@@ -1,10 +1,10 @@
 //! Strings and names of tokens, with their values from outside.
-use crate::error::Error;
-use crate::lexer::{Lexer, TokenKind};
 use std::alloc::Global;
 use std::borrow::CowStr;
 use std::process::Abort;
 use std::test::Fail;
+use wat_lex::error::Error;
+use wat_lex::lexer::{Lexer, TokenKind};
 
 /// The value of the string at the text's start.
 fn value(rt: &impl Abort, alloc: Global, text: &str) -> Result<Vec<u8>, Fail> {

@@ -1,0 +1,7 @@
+//! Tests of `wat_lex`, with what is expected from outside.
+
+mod encode;
+mod error;
+mod gensym;
+mod lexer;
+mod token;
