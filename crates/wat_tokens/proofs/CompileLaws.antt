@@ -21,7 +21,7 @@ pub refused_text : {T E : Type 0} → EachPlaceIsTiled → (text : List ℕ) (f 
     → ((types : List Signature) → Spells text types → Answers {T = T} true f (compiled types) (Err error))
     → ((s : Source) → IsRead s → s.setting ≡ plain text → s.track ≡ false → Answers {T = T} true f (compiled_text s) (Err error))
     → memory ≡ None → (IsNone error → IsSome memory) → RefusedText text [] error
-refused_text tiled text f None None u spelled refused n some = absurd (some refl)
+refused_text tiled text f None None u spelled refused n some = absurd (let d : false ≡ true = some refl in cc)
 refused_text tiled text f None (Some wanting) u spelled refused n some = absurd (let d : Some wanting ≡ None = n in cc)
 refused_text tiled text f (Some refusal) memory u spelled refused n some =
     let tiling = tiled (plain text) 0 u (IsCharBoundary-start text u) in
