@@ -132,10 +132,10 @@ struct wat_answer {
     uint32_t status; /* a `wat_status`, or the `wat_fault_code` of a name; `needed` is 0 where it is not `WAT_GIVEN` */
 };
 
-/* A line and a column, both from 0. A line ends at a line feed, and a column is a number of bytes. */
+/* A line and a column, both from 0. A line ends at a line feed. This is not the column that `wat_fault` prints. */
 struct wat_position {
-    size_t line;
-    size_t column;
+    size_t line;   /* line feeds before the byte */
+    size_t column; /* bytes before it in its line */
 };
 
 /* Whether the bytes are a text: UTF-8, and at most `UINT32_MAX`. */
@@ -155,7 +155,8 @@ struct wat_token wat_token_at(const uint8_t *text, size_t len, size_t pos, bool 
  * call `WAT_END`. */
 struct wat_filled wat_fill(const uint8_t *text, size_t len, size_t pos, bool allow, bool strict, struct wat_token *out, size_t room);
 
-/* What the fault at a place prints: its message, line and column, and the line with a marker under the column. It takes no memory. */
+/* What the fault at a place prints: its message, its line and column, both from 1, and the line with a marker under the column. That column
+ * counts columns of a terminal, of which a character may take none, one or two, and not bytes. It takes no memory. */
 struct wat_answer wat_fault(const uint8_t *text, size_t len, size_t pos, bool allow, bool strict, uint8_t *out, size_t room);
 
 /* The bytes of the string at a place. Want of memory only where an escape stands in it. */
@@ -177,8 +178,8 @@ struct wat_answer wat_integer(const uint8_t *text, size_t len, size_t pos, bool 
  * stand in the number, or it is hexadecimal and no payload. */
 struct wat_answer wat_float(const uint8_t *text, size_t len, size_t pos, bool allow, bool strict, uint32_t part, uint8_t *out, size_t room);
 
-/* Line and column of a byte of the text, whether it is a place or not. Past the text's end the line is the number of lines, and the column
- * is 0. */
+/* Line and column of a byte of the text, whether it is a place or not; the column is the bytes before it in its line. Past the text's end the
+ * line is the number of lines, and the column is 0. */
 struct wat_position wat_line_column(const uint8_t *text, size_t len, size_t offset);
 
 #ifdef __cplusplus

@@ -196,6 +196,12 @@ async function theCursor() {
   const spot = await ask("(() => { const it = [...document.querySelectorAll('#seen .Id')][0].getBoundingClientRect(); return [it.left + 2, it.top + 8]; })()");
   for (const kind of ['mousePressed', 'mouseReleased']) await send('Input.dispatchMouseEvent', { type: kind, x: spot[0], y: spot[1], button: 'left', clickCount: 1 });
   assert.equal((await ask(SHOWN)).held, '3..5');
+  await type('x\n'.repeat(200));
+  await ask("document.querySelector('#view').focus()");
+  for (const [name, isScrolled] of [['Home', false], ['End', true]]) {
+    await key(name, { modifiers: 2 });
+    assert.deepEqual(await ask("[document.querySelectorAll('.caret').length, document.querySelector('#text').scrollTop > 0]"), [1, isScrolled], name);
+  }
   await type(`;; ${'x'.repeat(5000)}\ny`);
   await ask("document.querySelector('#view').focus()");
   await key('End');

@@ -127,7 +127,7 @@ function drawLine(line, matched) {
     at = putFault(parent, to);
   }
   put(parent, 'unread', at, to);
-  if (cursor === bytes.length && to === bytes.length) parent.append(caret());
+  if (cursor === bytes.length && to === bytes.length && line === lines.count - 1) parent.append(caret());
   if (to < lines.end(line)) parent.append('…\n');
   return parent;
 }
@@ -185,6 +185,13 @@ function revealColumn() {
   if (left < box.scrollLeft + 16 || left > box.scrollLeft + box.clientWidth - 16) box.scrollLeft = Math.max(0, left - box.clientWidth / 2);
 }
 
+// Scrolls the text area to the cursor's line, which its selection alone does not.
+function revealInText() {
+  const area = $('text');
+  const top = lines.at(cursor) * Sight.HEIGHT;
+  if (top < area.scrollTop || top + Sight.HEIGHT > area.scrollTop + area.clientHeight) area.scrollTop = top - area.clientHeight / 2;
+}
+
 function moveTo(offset, from) {
   cursor = lines.back(offset);
   view.reveal(itemOf(lines.at(cursor)));
@@ -196,6 +203,7 @@ function moveTo(offset, from) {
     const before = textOf(0, cursor);
     const place = (lineEnd === '\n' ? before : before.replaceAll(lineEnd, '\n')).length;
     $('text').setSelectionRange(place, place);
+    revealInText();
   }
 }
 

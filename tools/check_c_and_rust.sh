@@ -1,10 +1,10 @@
 #!/usr/bin/env bash
-# What stands over the static library: the header as C99 and as C++, a C program that lists the stored texts, all functions on the stored
-# texts and on mutants of them under the address and undefined-behaviour sanitizers, and the Rust crate with its tests, and its example on
-# the stored texts. A step whose compiler is not on the machine is left out, and says so.
+# What stands over the static library: the header as C99 and as C++, C programs that list the stored texts and their identifiers, all
+# functions on the stored texts and on mutants of them under the address and undefined-behaviour sanitizers, and the Rust crate with its
+# tests, and its examples on the stored texts. A step whose compiler is not on the machine is left out, and says so.
 #
 # usage: tools/check_c_and_rust.sh [MUTANTS]
-set -eu
+set -eu -o pipefail
 cd "$(dirname "$0")/.."
 mutants=${1:-1000}
 room=$(mktemp -d)
@@ -21,19 +21,42 @@ has() {
     command -v "$1" > /dev/null
 }
 
-# compare NAME PROGRAM: the program lists each stored text that needs no words as it is stored
-compare() {
-    local lists=0 text
+# stored: the stored texts that need no words
+stored() {
+    local text
     for text in "$texts"/*; do
         case $text in
             *.stdout | *.args) continue ;;
         esac
-        [ -e "$text.args" ] && continue
-        "$2" < "$text" > "$room/output" 2> "$room/errors" || true
-        cmp "$text.stdout" "$room/output"
-        lists=$((lists + 1))
+        [ -e "$text.args" ] || echo "$text"
     done
-    say "$1 lists $lists stored texts as they are stored"
+}
+
+# identifiers TEXT: each identifier of a stored text with its offset, by its stored list
+identifiers() {
+    local from to
+    sed -n 's/\.\.\(.*\) Id$/ \1/p' "$1.stdout" | while read -r from to; do
+        printf '%s ' "$from"
+        head -c "$to" "$1" | tail -c $((to - from))
+        echo
+    done
+}
+
+# compare NAME PROGRAM WANTED..: the program prints of each stored text what the command WANTED.. prints of its name
+compare() {
+    local compared=0 text name=$1 program=$2
+    shift 2
+    for text in $(stored); do
+        "$program" < "$text" > "$room/output" 2> "$room/errors" || true
+        "$@" "$text" | cmp - "$room/output"
+        compared=$((compared + 1))
+    done
+    say "$name prints what is wanted of $compared stored texts"
+}
+
+# list TEXT: the stored list
+list() {
+    cat "$1.stdout"
 }
 
 # sanitizes: whether a program can be built and run under the sanitizers
@@ -54,7 +77,9 @@ strict=(-Wall -Wextra -Werror -pedantic -Iinclude)
 printf '#include "wat.h"\n' > "$room/alone.c"
 "$c" -std=c99 "${strict[@]}" -c -o "$room/alone.o" "$room/alone.c"
 "$c" -std=c99 -O2 "${strict[@]}" -o "$room/list" tools/c/list.c "${archives[@]}"
-compare tools/c/list.c "$room/list"
+compare tools/c/list.c "$room/list" list
+"$c" -std=c99 -O2 "${strict[@]}" -o "$room/identifiers" tools/c/identifiers.c "${archives[@]}"
+compare tools/c/identifiers.c "$room/identifiers" identifiers
 
 if sanitizes; then
     "$c" -std=c99 -g -O1 -fsanitize=address,undefined -fno-sanitize-recover=all "${strict[@]}" -o "$room/readers" tools/c/readers.c "${archives[@]}"
@@ -74,8 +99,9 @@ fi
 
 if has cargo && has rustc; then
     export CARGO_TARGET_DIR="$room/target" WAT_C_FOLDER="$room"
-    (cd rust/wat-lex && cargo test --offline --release --quiet && cargo build --offline --release --quiet --example list)
-    compare 'the Rust crate' "$room/target/release/examples/list"
+    (cd rust/wat-lex && cargo test --offline --release --quiet && cargo build --offline --release --quiet --examples)
+    compare 'list of the Rust crate' "$room/target/release/examples/list" list
+    compare 'identifiers of the Rust crate' "$room/target/release/examples/identifiers" identifiers
 else
     say 'the Rust crate is left out, as no cargo or no rustc is here'
 fi

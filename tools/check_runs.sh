@@ -43,7 +43,9 @@ fault() {
 count() {
     # shellcheck disable=SC1091
     . "$room/counts"
-    [ "$requests" -gt 0 ] && [ "$reads" -gt 0 ] || fault "${words[*]}: nothing is counted"
+    if [ "$requests" = 0 ] || [ "$reads" = 0 ]; then
+        fault "${words[*]}: nothing is counted"
+    fi
 }
 
 # refuse_each VARIABLE=N..: refuses each request for memory alone, and each with all behind it, in such a run
@@ -101,5 +103,25 @@ check 0 'a (; b ;)' blank
 check 0 '(module (type (func (param i32) (result i64))))' types
 check 1 '(module (func))' types
 check 0 '(@a) x' play look reg=a take parens=1
+# shellcheck disable=SC2016
+check 0 '(module (func $foo))'
+check 0 ''
+check 0 '(@)' play look
+check 0 '(@"bad' play look
+check 0 '("bad' play look
+check 1 '(@a 1' sig
+check 0 '( @a)' sig
+check 0 'module (@name "m") x' play take look reg=name look unreg=name look unreg=name
+check 0 '(a b' play parens=1 look parens=2
+check 0 'x ;;c' play comment take comment look
+check 0 '(@a (@b) ) x' play reg=b look
+check 0 '(@b) x' play reg=b reg=b unreg=b look unreg=b look
+check 0 '(@) x' play reg= look
+check 0 '(@"b") x' play reg=b look
+check 0 '(@a (b' play reg=a parens=3 look unreg=a look
+check 0 'x (@b "' play take look reg=b look parens=1 look
+check 0 '(a) b' play parens=0 parens=1 parens=1 take take
+check 0 '(a (b) c)' play parens=9 parens=5 look
+check 2 $'a \377'
 echo "check_runs.sh: $runs runs, each with its whole answer or the line of what failed; $faults faults"
 [ "$faults" = 0 ]

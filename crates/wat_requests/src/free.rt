@@ -443,6 +443,7 @@ fn whole_texts(run: &mut Run<'_>) -> io::Result<()> {
         ("free-whole-groups", As::U32, "(@a (@)) 1", "1"),
         ("free-whole-signed", As::I32, "4294967295", "-1"),
         ("free-whole-optional", As::Optional, "", "None"),
+        ("free-whole-some", As::Optional, "12", "Some(12)"),
         ("free-whole-text", As::Text, "\"ab\"", "\"ab\""),
         ("free-whole-bytes", As::Bytes, "\"ab\"", "[97, 98]"),
         ("free-whole-id", As::Id, "$a", "\"a\""),

@@ -107,12 +107,29 @@ fn terms(parser: &mut Parser<'_>) -> Result<Vec<Term>, Error>
 /// The sum that a text spells: its terms exactly where the text is a sum, and else what is wrong.
 pub fn read(alloc: Global, text: &str) -> Result<Sum, Error>
     requires { length text.now < 2 ^ 32 }
-    ensures { (s : Source) → IsRead s → s.setting ≡ record {
+    ensures value { (s : Source) → IsRead s → s.setting ≡ record {
       text = text.now;
       flags = record { allow = false; strict = false };
     } → s.track ≡ false →
         Answers true (λ v. map (λ t. t.0) v.terms.items) (whole sum s) result }
+
+    // There are such raw tokens.
+    ensures some { (s : Source) × IsRead s × (s.setting ≡ record {
+      text = text.now;
+      flags = record { allow = false; strict = false };
+    }) × (s.track ≡ false) }
 {
+    has_tokens(text);
     let buffer = ParseBuffer::new(alloc, text)?;
     parse::<Sum>(&buffer)
+}
+
+/// A text has raw tokens.
+fn has_tokens(text: &str)
+    ensures { (s : Source) × IsRead s × (s.setting ≡ record {
+      text = text.now;
+      flags = record { allow = false; strict = false };
+    }) × (s.track ≡ false) }
+{
+    wat_lex::laws::one_tiling();
 }

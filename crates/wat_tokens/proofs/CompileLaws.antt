@@ -1,6 +1,6 @@
 -- What an error of compiling says of the text.
 use Rattle.std.proofs.Common.{◌≡◌, ◌∙◌, ◌^◌, ℕ, Bool, true, false, List, [], length, refl, sym, ap}
-use Rattle.std.specs.Prelude.{Option, Some, None, Ok, Err, IsNone, IsTrue, if◌then◌else◌}
+use Rattle.std.specs.Prelude.{Option, Some, None, Ok, Err, IsNone, IsSome, if◌then◌else◌}
 use Rattle.std.specs.Str.{IsUtf8}
 use Rattle.std.proofs.lemmas.Str.{IsCharBoundary-start}
 use Rattle.std.proofs.lemmas.Bool.Decides.{Decides-ltb}
@@ -17,12 +17,13 @@ compiled_fits : (types : List Signature) → Fits types → compiled types ≡ O
 compiled_fits types h = ap (λ b. if b then Ok (module_bytes types) else Err too_long) ((Decides-ltb (length (content types)) (2 ^ 32)).1 h)
 
 -- an error that is no want of memory is the refusal of the text
-pub refused_text : {T : Type 0} → EachPlaceIsTiled → (text : List ℕ) (f : T → List ℕ) (error : Option Report) (is_memory : Bool) → IsUtf8 text
+pub refused_text : {T E : Type 0} → EachPlaceIsTiled → (text : List ℕ) (f : T → List ℕ) (error : Option Report) (memory : Option E) → IsUtf8 text
     → ((types : List Signature) → Spells text types → Answers {T = T} true f (compiled types) (Err error))
     → ((s : Source) → IsRead s → s.setting ≡ plain text → s.track ≡ false → Answers {T = T} true f (compiled_text s) (Err error))
-    → is_memory ≡ false → (IsNone error → IsTrue is_memory) → RefusedText text [] error
-refused_text tiled text f None is_memory u spelled refused n memory = absurd (let d : false ≡ true = sym n ∙ memory refl in cc)
-refused_text tiled text f (Some refusal) is_memory u spelled refused n memory =
+    → memory ≡ None → (IsNone error → IsSome memory) → RefusedText text [] error
+refused_text tiled text f None None u spelled refused n some = absurd (let d : false ≡ true = some refl in cc)
+refused_text tiled text f None (Some wanting) u spelled refused n some = absurd (let d : Some wanting ≡ None = n in cc)
+refused_text tiled text f (Some refusal) memory u spelled refused n some =
     let tiling = tiled (plain text) 0 u (IsCharBoundary-start text u) in
     record {
       unspelled = λ types h fits. let k : Ok (module_bytes types) ≡ Err refusal = sym (compiled_fits types fits) ∙ spelled types h in cc;

@@ -393,6 +393,20 @@ fn each_write_ends_in_one_flush(rt: HostRuntime) {
 }
 
 #[test]
+fn an_empty_output_is_flushed(rt: HostRuntime) {
+    for flush_fails in [false, true] {
+        let mut input = Plain::new(b"".as_slice());
+        let mut output = Plain::new(counting_writer(rt.alloc(), 4, 9, flush_fails));
+        let result = run_list(rt.alloc(), &mut input, &mut output, OFF);
+        assert_eq!(rt; matches!(&result, Err(RunError::Write)), flush_fails);
+        assert_eq!(rt; matches!(&result, Ok(None)), !flush_fails);
+        assert_eq!(rt; output.failed(), flush_fails);
+        let writer = output.into_inner();
+        assert_eq!(rt; (writer.writes, writer.flushes), (0, 1));
+    }
+}
+
+#[test]
 fn outcomes(rt: HostRuntime) -> Result<(), Fail> {
     let message = String::from_str(rt.alloc(), "m")?;
     let rows = [

@@ -49,7 +49,11 @@ pub fn compile_types(alloc: Global, text: &str) -> Result<Vec<u8>, Error>
     // Any other refusal is that of what the parser's calls read.
     ensures refused { (s : Source) → IsRead s → s.setting ≡ plain text.now → s.track ≡ false →
         Answers true (λ bytes. bytes.items) (compiled_text s) result }
+
+    // There are such raw tokens.
+    ensures some { (s : Source) × IsRead s × (s.setting ≡ plain text.now) × (s.track ≡ false) }
 {
+    has_tokens(text);
     laws::reading_is_spelling();
     let buffer = ParseBuffer::new(alloc, text)?;
     let module = parse::<Module>(&buffer)?;
@@ -61,4 +65,11 @@ pub fn compile_types(alloc: Global, text: &str) -> Result<Vec<u8>, Error>
             Err(Error::new(Span::from_offset(0), message))
         }
     }
+}
+
+/// A text has raw tokens.
+fn has_tokens(text: &str)
+    ensures { (s : Source) × IsRead s × (s.setting ≡ plain text.now) × (s.track ≡ false) }
+{
+    wat_lex::laws::one_tiling();
 }

@@ -18,7 +18,8 @@ impl Span {
         self.offset
     }
 
-    /// Line and column of the place in a text, both from 0. A line ends at a line feed, and a column is a number of bytes.
+    /// Line and column of the place in a text, both from 0. A line ends at a line feed, and the column is the bytes before the place in its
+    /// line. An [`Error`] prints another column, that of a terminal.
     ///
     /// Past the text's end the line is the number of lines, and the column 0.
     pub fn linecol_in(&self, text: &str) -> (usize, usize) {
@@ -107,7 +108,9 @@ fn character(code: u32) -> char {
     char::from_u32(code).unwrap_or(char::REPLACEMENT_CHARACTER)
 }
 
-/// What is wrong with a text, and where. It prints its message and place, and the line with a marker under the column.
+/// What is wrong with a text, and where. It prints its message, its line and column, both from 1, and the line with a marker under the
+/// column. That column counts columns of a terminal, of which a character may take none, one or two;
+/// [`linecol_in`](Span::linecol_in) of its span counts bytes.
 #[derive(Clone, Debug, PartialEq, Eq)]
 pub struct Error(Box<Located>);
 

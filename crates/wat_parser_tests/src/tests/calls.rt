@@ -158,6 +158,11 @@ fn groups_in_parentheses(rt: HostRuntime) -> Result<(), Fail> {
             "parens=9 parens=5 look",
             "not closed 9, done, end, place 9",
         ),
+        (
+            "x (a b",
+            "take parens=1 look take",
+            "0..1 Keyword, not closed 5, 2..3 LParen, 2..3 LParen, place 3",
+        ),
         ("", "parens=0", "not open 0, place 0"),
         ("\"", "parens=0", "fault 1 unexpected end-of-file, place 0"),
     ];

@@ -38,7 +38,7 @@ fn refusal<T: Drop>(alloc: Global, answer: Result<T, Error>) -> Result<String, F
 
 #[test]
 fn steps_take_a_token_each(rt: HostRuntime) -> Result<(), Fail> {
-    let buffer = buffer(&rt, rt.alloc(), "1.5 2 $a \"b\" @c ")?;
+    let buffer = buffer(&rt, rt.alloc(), "1.5 2 $a \"b\" @c")?;
     let mut parser = buffer.parser();
     let float = parser.step(|cursor| cursor.float()?.ok_or_else(|| cursor.error("no float")))?;
     let integer = parser.step(|cursor| cursor.integer()?.ok_or_else(|| cursor.error("none")))?;

@@ -63,6 +63,7 @@ fn ends_and_spans(rt: HostRuntime) -> Result<(), Fail> {
         (" ;;c", true, 4),
         ("x)", false, 0),
         (" )", true, 1),
+        (" (@a) )", true, 6),
         (" (@a) x", false, 6),
         (" (@a", false, 0),
         (" \"", false, 0),
@@ -80,6 +81,7 @@ fn ends_and_spans(rt: HostRuntime) -> Result<(), Fail> {
 fn texts_with_meaning(rt: HostRuntime) -> Result<(), Fail> {
     let rows = [
         ("", false),
+        (";;c", false),
         (" ;;c", false),
         ("\"", true),
         ("x", true),

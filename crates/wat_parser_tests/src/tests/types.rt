@@ -5,6 +5,7 @@ use std::borrow::{CowSlice, CowStr};
 use std::fmt;
 use std::process::Abort;
 use std::test::Fail;
+use wat_lex::lexer::Lexer;
 use wat_lexer_parser::parser::{Parse, ParseBuffer, parse};
 use wat_lexer_parser::token::{Id, Index};
 
@@ -121,6 +122,53 @@ fn other_widths(rt: HostRuntime) -> Result<(), Fail> {
     is_read::<i16>(&rt, alloc, &buffer(&rt, alloc, "+0xffff")?, "-1")
 }
 
+/// A text that is one past what a width holds.
+fn is_past<'a, T: Parse<'a> + fmt::Debug>(
+    rt: &impl Abort,
+    alloc: Global,
+    buffer: &'a ParseBuffer<'a>,
+    name: &str,
+) -> Result<(), Fail> {
+    let refusal = format!(in alloc; "invalid {name} number: constant out of range at 0")?;
+    is_read::<T>(rt, alloc, buffer, refusal.as_str())
+}
+
+#[test]
+fn numbers_past_their_width(rt: HostRuntime) -> Result<(), Fail> {
+    let alloc = rt.alloc();
+    is_past::<u8>(&rt, alloc, &buffer(&rt, alloc, "256")?, "u8")?;
+    is_past::<i8>(&rt, alloc, &buffer(&rt, alloc, "-129")?, "i8")?;
+    is_past::<u64>(
+        &rt,
+        alloc,
+        &buffer(&rt, alloc, "18446744073709551616")?,
+        "u64",
+    )?;
+    is_past::<i64>(
+        &rt,
+        alloc,
+        &buffer(&rt, alloc, "-9223372036854775809")?,
+        "i64",
+    )?;
+    let least = "-9223372036854775808";
+    is_read::<i64>(&rt, alloc, &buffer(&rt, alloc, least)?, least)
+}
+
+#[test]
+fn the_settings_of_the_lexer_are_read(rt: HostRuntime) -> Result<(), Fail> {
+    let rows = [
+        (false, "7"),
+        (true, "bare underscore in numeric literal at 10"),
+    ];
+    for (strict, want) in rows {
+        let mut lexer = Lexer::new("(@a \"\\u{1__0}\") 7");
+        lexer.strict_underscores(strict);
+        let text = ParseBuffer::new_with_lexer(rt.alloc(), lexer)?;
+        is_read::<u32>(&rt, rt.alloc(), &text, want)?;
+    }
+    Ok(())
+}
+
 #[test]
 fn values_in_other_types(rt: HostRuntime) -> Result<(), Fail> {
     let alloc = rt.alloc();
@@ -177,6 +225,54 @@ fn indices_and_their_copies(rt: HostRuntime) -> Result<(), Fail> {
         Index::Id(id) => assert_eq!(rt; id.name(), "a"),
         Index::Num(..) => panic!(rt; "a number"),
     }
+    Ok(())
+}
+
+#[test]
+fn identifiers_as_indices(rt: HostRuntime) -> Result<(), Fail> {
+    let alloc = rt.alloc();
+    let text = buffer(&rt, alloc, "$a")?;
+    let index = parse::<Index>(&text)?;
+    for found in [&index, &index.clone(alloc)?] {
+        match found {
+            Index::Id(id) => assert_eq!(rt; (id.name(), id.span().offset()), ("a", 0)),
+            Index::Num(..) => panic!(rt; "a number"),
+        }
+    }
+    Ok(())
+}
+
+#[test]
+fn copies_keep_their_place(rt: HostRuntime) -> Result<(), Fail> {
+    let alloc = rt.alloc();
+    let text = buffer(&rt, alloc, " $\"\\62\" 12")?;
+    let mut parser = text.parser();
+    let id = parser.parse::<Id>()?;
+    let copy = id.clone(alloc)?;
+    assert_eq!(rt; (copy.name(), copy.span().offset()), ("b", 1));
+    assert_eq!(rt; copy.span(), id.span());
+    let number = parser.parse::<Index>()?;
+    assert_eq!(rt; number.span().offset(), 8);
+    assert_eq!(rt; number.clone(alloc)?.span(), number.span());
+    Ok(())
+}
+
+#[test]
+fn a_type_under_a_name_that_is_registered_too_often(rt: HostRuntime) -> Result<(), Fail> {
+    let text = buffer(&rt, rt.alloc(), "12")?;
+    let mut parser = text.parser();
+    parser.register_annotation("a")?;
+    assert!(&rt; parser.is_registered("a"));
+    parser.set_registrations("a", usize::MAX);
+    let Err(error) = parser.with_annotation::<u32>("a") else {
+        panic!(rt; "not refused");
+    };
+    assert_eq!(rt;
+        error.to_string(rt.alloc())?.as_str(),
+        "annotation registered too often at byte offset 0"
+    );
+    assert_eq!(rt; parser.prev_span().offset(), 0);
+    assert!(rt; parser.is_registered("a"));
     Ok(())
 }
 

@@ -4,6 +4,7 @@ use std::alloc::Global;
 use std::marker::PhantomData;
 use std::process::Abort;
 use std::test::Fail;
+use wat_lex::lexer::LexError;
 use wat_lexer_parser::parser::{Lookahead1, Parse, ParseBuffer, Parser, Peek, parse};
 use wat_lexer_parser::token::{
     AnnotationWord, Id, Index, ItemRef, Keyword, LParen, NameAnnotation, ReservedSymbol, Word,
@@ -649,6 +650,40 @@ fn words_that_are_refused(rt: HostRuntime) -> Result<(), Fail> {
     let whole = buffer(&rt, alloc, "<=>")?;
     let symbol = parse::<ReservedSymbol<Spaceship>>(&whole)?;
     assert_eq!(rt; symbol.span.offset(), 0);
+    Ok(())
+}
+
+#[test]
+fn reserved_symbols_are_seen(rt: HostRuntime) -> Result<(), Fail> {
+    let rows = [
+        ("<=> x", true),
+        ("<=", false),
+        ("<=>=", false),
+        ("x", false),
+        ("", false),
+    ];
+    for (text, want) in rows {
+        let buffer = buffer(&rt, rt.alloc(), text)?;
+        let seen = buffer.parser().peek::<ReservedSymbol<Spaceship>>()?;
+        assert_eq!(rt; seen, want, "{text}");
+    }
+    let fault = buffer(&rt, rt.alloc(), "\"")?;
+    let Err(error) = fault.parser().peek::<ReservedSymbol<Spaceship>>() else {
+        panic!(rt; "no fault");
+    };
+    assert_eq!(rt; error.lex_error().copied(), Some(LexError::UnexpectedEof));
+    assert_eq!(rt; <ReservedSymbol<Spaceship> as Peek>::display(), "`<=>`");
+    Ok(())
+}
+
+#[test]
+fn an_item_of_a_quoted_identifier(rt: HostRuntime) -> Result<(), Fail> {
+    let text = buffer(&rt, rt.alloc(), "(func $\"\\66 g\")")?;
+    let item = parse::<ItemRef<kw::func>>(&text)?;
+    match &item.idx {
+        Index::Id(id) => assert_eq!(rt; (id.name(), id.span().offset()), ("f g", 6)),
+        Index::Num(..) => panic!(rt; "a number"),
+    }
     Ok(())
 }
 

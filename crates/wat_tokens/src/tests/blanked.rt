@@ -44,12 +44,24 @@ fn nothing_is_written_of_a_text_with_a_fault(rt: HostRuntime) -> Result<(), Fail
          \x20   2 | (;\n      | ^\n";
     let underscore = "1\nbare underscore in numeric literal\n     --> <anon>:1:7\n      |\n\
          \x20   1 | \"\\u{1__0}\"\n      |       ^\n";
+    let underscore_of_both = "1\nbare underscore in numeric literal\n     --> <anon>:1:7\n      |\n\
+         \x20   1 | \"\\u{1__0}\";;\n      |       ^\n";
     let rows = [
         ("blank", "a ;;b\n(;", dangling),
         ("blank", ";;\u{202e}", confusing),
         ("--allow-confusing blank", ";;\u{202e}\nx", "0\n     \nx"),
         ("--strict-underscores blank", "\"\\u{1__0}\"", underscore),
         ("blank", "(;;)\"\\u{1__0}\"", "0\n    \"\\u{1__0}\""),
+        (
+            "--allow-confusing --strict-underscores blank",
+            "(;\u{202e};)\"\\u{1_0}\"",
+            "0\n       \"\\u{1_0}\"",
+        ),
+        (
+            "--allow-confusing --strict-underscores blank",
+            "\"\\u{1__0}\";;\u{202e}",
+            underscore_of_both,
+        ),
     ];
     for (words, text, want) in rows {
         let got = responded(rt.alloc(), words, text)?;

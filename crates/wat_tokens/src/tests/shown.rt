@@ -78,6 +78,12 @@ fn tokens_that_count(rt: HostRuntime) -> Result<(), Fail> {
             ";;\u{202e}\n7",
             "0\n6..7 Integer\n",
         ),
+        (
+            "--allow-confusing --strict-underscores sig",
+            ";;\u{202e}\n1 \"\\u{1__0}\"",
+            "1\n6..7 Integer\nbare underscore in numeric literal\n     --> <anon>:2:9\n      |\n\
+             \x20   2 | 1 \"\\u{1__0}\"\n      |         ^\n",
+        ),
     ];
     for (words, text, want) in rows {
         let got = responded(rt.alloc(), words, text)?;
@@ -171,6 +177,11 @@ fn settings_of_calls(rt: HostRuntime) -> Result<(), Fail> {
         strict.as_str(),
         "0\nfault 6 bare underscore in numeric literal\n"
     );
+    let both = "--strict-underscores --allow-confusing play comment look";
+    let replies = responded(rt.alloc(), both, "(;\u{202e};)\"\\u{1__0}\"")?;
+    let fault = "fault 13 bare underscore in numeric literal";
+    let want = format!(in rt.alloc(); "0\ncomment 0..7\n{fault}\n")?;
+    assert_eq!(rt; replies.as_str(), want.as_str());
     Ok(())
 }
 

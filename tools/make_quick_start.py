@@ -1,0 +1,95 @@
+#!/usr/bin/env python3
+"""Writes the files of crates/wat_sums, and the laws of the words of readings, into docs/A-TYPE-OF-ONES-OWN.md, and lines of the examples
+from C and Rust into README.md.
+
+usage: tools/make_quick_start.py [--check]
+
+A file, or some lines of it, goes between `<!-- file PATH [FIRST-LAST] -->` and `<!-- end -->`, and all files of a folder that are not empty,
+each behind its name, between `<!-- files FOLDER -->` and `<!-- end -->`. Between `<!-- laws -->` and `<!-- end -->` stands a table of words, each with
+what it reads; its last two columns are the laws that the specs have of the word. With --check nothing is written, and the status is 1
+where a page differs from the files. It is also 1 where the table has a word that has no law, or lacks one that has.
+"""
+import pathlib
+import re
+import sys
+import textwrap
+
+ROOT = pathlib.Path(__file__).resolve().parent.parent
+PAGES = ["README.md", "docs/A-TYPE-OF-ONES-OWN.md"]
+LAWS = ROOT / "crates/wat_lexer_parser/specs/lemmas"
+PART = re.compile(r"<!-- (file (?P<path>\S+)( (?P<first>\d+)-(?P<last>\d+))?|files (?P<folder>\S+)|laws) -->\n(?P<body>.*?)<!-- end -->\n", re.S)
+LAW = re.compile(r"^pub (?P<name>(forward|advances)_\w+) : (.* → )?(?P<says>IsForward|Advances) \(?(?P<word>\w+)[^→\n]*$", re.M)
+ROW = re.compile(r"^\| `(?P<term>(?P<word>\w+)[^`]*)` \| (?P<reads>[^|]+) \|")
+LANGUAGES = {".rt": "rust", ".rs": "rust", ".c": "c", ".antt": "", ".edit": ""}
+
+
+def fenced(path, first=None, last=None):
+    """The file as a block of Markdown, or its lines from one to another."""
+    lines = (ROOT / path).read_text().rstrip().split("\n")
+    part = lines[int(first) - 1 : int(last)] if first else lines
+    text = textwrap.dedent("\n".join(part))
+    return f"```{LANGUAGES[pathlib.Path(path).suffix]}\n{text}\n```\n"
+
+
+def folder(path):
+    """All files of a folder, each behind its name."""
+    files = sorted(file for file in (ROOT / path).rglob("*") if file.is_file() and file.read_text().strip())
+    named = ((file.relative_to(ROOT / path).as_posix(), file.relative_to(ROOT)) for file in files)
+    return "\n".join(f"`{pathlib.Path(path).name}/{name}`:\n\n{fenced(file)}" for name, file in named)
+
+
+def laws():
+    """The laws of each word: that of `IsForward`, and that of `Advances`."""
+    found = {}
+    for path in sorted(LAWS.glob("*.antt")):
+        for law in LAW.finditer(path.read_text()):
+            found.setdefault(law["word"], {})[law["says"]] = law["name"]
+    return found
+
+
+def row(line, found):
+    """A row of the table with the laws of its word."""
+    cells = ROW.match(line)
+    if not cells or cells["word"] not in found:
+        sys.exit(f"make_quick_start.py: a row without a law: {line}")
+    names = [found[cells["word"]].get(says) for says in ("IsForward", "Advances")]
+    forward, advances = (f"`{name}`" if name else "" for name in names)
+    return f"| `{cells['term']}` | {cells['reads']} | {forward} | {advances} |\n"
+
+
+def table(body):
+    """The table of words, with the laws that the specs have."""
+    head, lines = body.splitlines(keepends=True)[:2], body.splitlines()[2:]
+    found = laws()
+    missing = found.keys() - {ROW.match(line)["word"] for line in lines if ROW.match(line)}
+    if missing:
+        sys.exit(f"make_quick_start.py: the table lacks {', '.join(sorted(missing))}")
+    return "".join(head + [row(line, found) for line in lines])
+
+
+def part(match):
+    """A marked part of the page, with what stands in it now."""
+    start = match[0].split("\n", 1)[0]
+    if match["path"]:
+        body = fenced(match["path"], match["first"], match["last"])
+    else:
+        body = folder(match["folder"]) if match["folder"] else table(match["body"])
+    return f"{start}\n{body}<!-- end -->\n"
+
+
+def main():
+    if sys.argv[1:] not in ([], ["--check"]):
+        sys.exit(__doc__.split("\n\n")[1])
+    for name in PAGES:
+        page = ROOT / name
+        old = page.read_text()
+        new, parts = PART.subn(part, old)
+        if sys.argv[1:] == []:
+            page.write_text(new)
+        elif new != old:
+            sys.exit(f"make_quick_start.py: {name} is not what the files make of it; run tools/make_quick_start.py")
+        print(f"make_quick_start.py: {parts} parts of {name}")
+
+
+if __name__ == "__main__":
+    main()
