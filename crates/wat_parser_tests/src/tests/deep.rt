@@ -76,10 +76,15 @@ fn nested(parser: &mut Parser<'_>, count: usize) -> Result<(), Error>
     if count == 0 {
         return Ok(());
     }
-    parser.parens(|parser| {
-        parser.depth_check()?;
-        nested(parser, count - 1)
-    })
+    let left = count - 1;
+    parser.parens(
+        |parser: &mut Parser<'_>| -> Result<(), Error>
+            ensures { IsKept parser.old parser.new }
+        {
+            parser.depth_check()?;
+            nested(parser, left)
+        },
+    )
 }
 
 /// The text of so many groups in one another, behind a word.

@@ -228,17 +228,20 @@ fn indices_and_their_copies(rt: HostRuntime) -> Result<(), Fail> {
     Ok(())
 }
 
+/// An index is an identifier of this name, at the text's start.
+fn is_at_the_start(rt: &impl Abort, index: &Index<'_>, name: &str) {
+    match index {
+        Index::Id(id) => assert_eq!(rt; (id.name(), id.span().offset()), (name, 0)),
+        Index::Num(..) => panic!(rt; "a number"),
+    }
+}
+
 #[test]
 fn identifiers_as_indices(rt: HostRuntime) -> Result<(), Fail> {
-    let alloc = rt.alloc();
-    let text = buffer(&rt, alloc, "$a")?;
+    let text = buffer(&rt, rt.alloc(), "$a")?;
     let index = parse::<Index>(&text)?;
-    for found in [&index, &index.clone(alloc)?] {
-        match found {
-            Index::Id(id) => assert_eq!(rt; (id.name(), id.span().offset()), ("a", 0)),
-            Index::Num(..) => panic!(rt; "a number"),
-        }
-    }
+    is_at_the_start(&rt, &index, "a");
+    is_at_the_start(&rt, &index.clone(rt.alloc())?, "a");
     Ok(())
 }
 
