@@ -8,3 +8,5 @@ pub mod Marks
 pub mod BlankedMarks
 pub mod BlankedShown
 pub mod BlankBytes
+pub mod Counting
+pub mod CountingTokens

@@ -5,3 +5,4 @@ pub mod AllShown
 pub mod ShownLaws
 pub mod Blanking
 pub mod BlankTexts
+pub mod Counting

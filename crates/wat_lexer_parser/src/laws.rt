@@ -8,6 +8,7 @@ ghost use Rattle.wat_lexer_parser.specs.calls.CallLaws.{LooksAndRefusals};
 ghost use Rattle.wat_lexer_parser.specs.shown.Blanking.{BlankingShowsTheSame, IsCommentOf};
 ghost use Rattle.wat_lexer_parser.specs.shown.Blanking.{ShowTheSameWhereRaw};
 ghost use Rattle.wat_lexer_parser.specs.shown.BlankTexts.{BlankTextsShowTheSame};
+ghost use Rattle.wat_lexer_parser.specs.shown.Counting.{CountingShowsTheSame, PlainTokensAreShown};
 ghost use Rattle.wat_lexer_parser.specs.shown.ShownLaws.{TailsAreRaw, GroupIsOne};
 ghost use Rattle.wat_lexer_parser.specs.shown.ShownLaws.{SomethingShown, OneThingShown};
 ghost use Rattle.wat_lexer_parser.specs.shown.ShownLaws.{SomethingIsAllShown, AllShownIsOne};
@@ -54,6 +55,16 @@ pub fn all_shown()
     ensures looks { LooksAreAllShown }
 {
     shown();
+}
+
+/// What is shown of the tokens that count, which are neither white space nor comments, is what is
+/// shown of all raw tokens. So a caller may keep these alone. One that is no parenthesis with `@`
+/// directly behind it is shown where it stands, whatever names are registered.
+pub fn counting()
+    ensures same { CountingShowsTheSame }
+    ensures plain { PlainTokensAreShown }
+{
+    wat_lex::laws::tokens();
 }
 
 /// Looks and refused calls change nothing else.
