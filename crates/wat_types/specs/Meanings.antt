@@ -1,5 +1,6 @@
 -- WebAssembly specification, text format: types (number types, function types), modules (type definitions, modules). What the types of
--- this crate read, as the calls of their parsers go: each is one rule of the grammar, or what stands within its parentheses.
+-- this crate read, as the calls of their parsers go: each is one rule of the grammar, or what stands within its parentheses. Definitions end
+-- with `module_types`; what follows are their laws, with proofs, which a reader may skip.
 use Rattle.std.specs.Prelude.{ℕ, false, List, [], ◌∷◌, Option, Some, None}
 use Rattle.wat_lexer_parser.specs.lemmas.ManyLaws.{forward_many}
 use Rattle.wat_lexer_parser.specs.lemmas.ReadingLaws.{forward_and_then, forward_group, forward_optional, forward_refuse, forward_where_seen, advances_mapped, advances_refuse, advances_where_seen}

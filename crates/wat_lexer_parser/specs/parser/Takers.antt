@@ -1,6 +1,5 @@
 -- WebAssembly specification, text format, lexical format: tokens, comments, annotations; values: integers, floating-point, strings,
--- identifiers. What takers of one kind of token
--- answer of what is seen. Floats have their value by the relations of their words.
+-- identifiers. What takers of one kind of token answer of what is seen. Floats have their value by the relations of their words.
 use Rattle.std.specs.List.{list_any}
 use Rattle.std.specs.Str.Parse.{digits_value, without_leading_sign}
 use Rattle.std.specs.Prelude.{ℕ, Bool, true, false, ◌==◌, ◌&&◌, List, is_some, Option, Some, None, Result, Ok, Err}

@@ -14,7 +14,7 @@ abbrev pub end_of : Option Token → ℕ
 end_of None = 0
 end_of (Some t) = t.offset + t.len
 
--- the byte of a place: 0, or the end of the last token before it, where there is one
+-- the byte of a place: 0, or the end of the last token before it. Past the tokens it is 0 and means nothing; `IsSound` has no such place.
 abbrev pub offset_at : List Token → ℕ → ℕ
 offset_at ts zero = 0
 offset_at ts (suc p) = end_of (slice_get ts p)

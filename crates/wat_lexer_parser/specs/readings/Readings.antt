@@ -116,7 +116,8 @@ abbrev pub up_to : {V : Type 0} → ℕ → Reading V → Reading (List V)
 up_to zero m s p names d = value_at [] p false
 up_to (suc n) m s p names d = if empty_of (shown s p names) then value_at [] p false else also_first m (up_to n m) s p names d
 
--- all values before `)` or the end, in a list; each takes a token, of which there are so many
+-- all values before `)` or the end, in a list, where each takes a token (`Advances`): there are no more values than tokens. Of a reading that
+-- takes none it is one value more than there are tokens, and so means nothing.
 unfoldable pub many : {V : Type 0} → Reading V → Reading (List V)
 many m s p names d = up_to (suc (length s.tokens)) m s p names d
 
