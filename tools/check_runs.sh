@@ -12,7 +12,7 @@ trap 'rm -rf "$room"' EXIT
 compiler=${CC:-cc}
 command -v "$compiler" > /dev/null || compiler=$(dirname "$(rt doc)")/toolchain/bin/clang
 "$compiler" -O1 -fPIC -shared -nostdlib -o "$room/refuse.so" tools/refuse_requests.c
-runs=0 faults=0
+runs=0 faults=0 requests=0 reads=0 writes=0
 
 # run VARIABLE=N..: a run of the words on the text, in the files output, errors and status of the room, and what was counted in counts
 run() {
@@ -72,9 +72,9 @@ fail_each() {
     done
 }
 
-# check STATUS TEXT WORD..: all of these runs of the words on the text, which end with this status where nothing fails
-check() {
-    local requests=0 reads=0 writes=0 status=$1
+# refuse STATUS TEXT WORD..: runs the words on the text, which end with this status where nothing fails, and with each request refused
+refuse() {
+    local status=$1
     printf %s "$2" > "$room/text"
     shift 2
     words=("$@")
@@ -85,13 +85,28 @@ check() {
     done
     count
     refuse_each MOST=0
+}
+
+tell() {
+    printf '%-28s %8d %6s %6s\n' "${words[*]:-(no words)}" "$requests" "$1" "$2"
+}
+
+# requests STATUS TEXT WORD..: these runs, in a line of the table
+requests() {
+    refuse "$@"
+    tell - -
+}
+
+# check STATUS TEXT WORD..: these runs, and those of one byte a call, with each request refused and each read and write failed
+check() {
+    refuse "$@"
     run MOST=1
     is_whole || fault "${words[*]}, a byte a call"
     count
     refuse_each MOST=1
     fail_each FAIL_READ "$reads" 'read failed' 0
     fail_each FAIL_WRITE "$writes" 'write failed' 1
-    printf '%-28s %8d %6d %6d\n' "${words[*]:-(no words)}" "$requests" "$reads" "$writes"
+    tell "$reads" "$writes"
 }
 
 printf '%-28s %8s %6s %6s\n' words requests reads writes
@@ -104,24 +119,24 @@ check 0 '(module (type (func (param i32) (result i64))))' types
 check 1 '(module (func))' types
 check 0 '(@a) x' play look reg=a take parens=1
 # shellcheck disable=SC2016
-check 0 '(module (func $foo))'
+requests 0 '(module (func $foo))'
 check 0 ''
-check 0 '(@)' play look
-check 0 '(@"bad' play look
-check 0 '("bad' play look
-check 1 '(@a 1' sig
-check 0 '( @a)' sig
-check 0 'module (@name "m") x' play take look reg=name look unreg=name look unreg=name
-check 0 '(a b' play parens=1 look parens=2
-check 0 'x ;;c' play comment take comment look
-check 0 '(@a (@b) ) x' play reg=b look
-check 0 '(@b) x' play reg=b reg=b unreg=b look unreg=b look
-check 0 '(@) x' play reg= look
-check 0 '(@"b") x' play reg=b look
-check 0 '(@a (b' play reg=a parens=3 look unreg=a look
-check 0 'x (@b "' play take look reg=b look parens=1 look
-check 0 '(a) b' play parens=0 parens=1 parens=1 take take
-check 0 '(a (b) c)' play parens=9 parens=5 look
+requests 0 '(@)' play look
+requests 0 '(@"bad' play look
+requests 0 '("bad' play look
+requests 1 '(@a 1' sig
+requests 0 '( @a)' sig
+requests 0 'module (@name "m") x' play take look reg=name look unreg=name look unreg=name
+requests 0 '(a b' play parens=1 look parens=2
+requests 0 'x ;;c' play comment take comment look
+requests 0 '(@a (@b) ) x' play reg=b look
+requests 0 '(@b) x' play reg=b reg=b unreg=b look unreg=b look
+requests 0 '(@) x' play reg= look
+requests 0 '(@"b") x' play reg=b look
+requests 0 '(@a (b' play reg=a parens=3 look unreg=a look
+requests 0 'x (@b "' play take look reg=b look parens=1 look
+requests 0 '(a) b' play parens=0 parens=1 parens=1 take take
+requests 0 '(a (b) c)' play parens=9 parens=5 look
 check 2 $'a \377'
 echo "check_runs.sh: $runs runs, each with its whole answer or the line of what failed; $faults faults"
 [ "$faults" = 0 ]
