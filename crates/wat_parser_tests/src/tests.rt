@@ -12,8 +12,6 @@ mod deep;
 mod looks;
 mod shown;
 mod takers;
-mod types;
-mod words;
 
 /// The buffer of a text.
 fn buffer<'a>(rt: &impl Abort, alloc: Global, text: &'a str) -> Result<ParseBuffer<'a>, Fail> {
