@@ -1,6 +1,6 @@
 /* The lexer of the WebAssembly text format, for C99 and C++.
  *
- * Link libwat_c.a, and the small C library of Rattle's kit, by which it asks `malloc`, `realloc` and `free` for memory.
+ * Link libwat_parser_c.a, and the small C library of Rattle's kit, by which it asks `malloc`, `realloc` and `free` for memory.
  *
  * The functions are proved to answer what is said here of them; docs/FROM-C-AND-RUST.md says by which contracts. What follows is what
  * the caller owes. No function but the two tests looks at it, and where it is not so anything may happen.

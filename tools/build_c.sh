@@ -5,9 +5,9 @@
 # usage: tools/build_c.sh
 set -eu
 cd "$(dirname "$0")/.."
-if ! said=$(cd crates/wat_c && rt lib); then
+if ! said=$(cd crates/wat_parser_c && rt lib); then
     echo "$said" >&2
     exit 1
 fi
-cp "$(dirname "$(rt doc)")/c/liblibc_c.a" crates/wat_c/out/
-echo crates/wat_c/out
+cp "$(dirname "$(rt doc)")/c/liblibc_c.a" crates/wat_parser_c/out/
+echo crates/wat_parser_c/out

@@ -70,8 +70,8 @@ if ! has "$c"; then
     exit 0
 fi
 folder=$(tools/build_c.sh)
-cp "$folder/libwat_c.a" "$folder/liblibc_c.a" "$room/"
-archives=("$room/libwat_c.a" "$room/liblibc_c.a")
+cp "$folder/libwat_parser_c.a" "$folder/liblibc_c.a" "$room/"
+archives=("$room/libwat_parser_c.a" "$room/liblibc_c.a")
 strict=(-Wall -Wextra -Werror -pedantic -Iinclude)
 
 printf '#include "wat.h"\n' > "$room/alone.c"

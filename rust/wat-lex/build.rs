@@ -3,7 +3,7 @@
 use std::path::PathBuf;
 use std::{env, process};
 
-const ARCHIVES: [&str; 2] = ["libwat_c.a", "liblibc_c.a"];
+const ARCHIVES: [&str; 2] = ["libwat_parser_c.a", "liblibc_c.a"];
 
 fn main() {
     println!("cargo::rerun-if-env-changed=WAT_C_FOLDER");
@@ -20,7 +20,7 @@ fn main() {
         }
     }
     println!("cargo::rustc-link-search=native={}", folder.display());
-    println!("cargo::rustc-link-lib=static=wat_c");
+    println!("cargo::rustc-link-lib=static=wat_parser_c");
     println!("cargo::rustc-link-lib=static=libc_c");
 }
 
@@ -29,5 +29,5 @@ fn default_folder() -> PathBuf {
     let package = env::var_os("CARGO_MANIFEST_DIR")
         .map(PathBuf::from)
         .unwrap_or_default();
-    package.join("../../crates/wat_c/out")
+    package.join("../../crates/wat_parser_c/out")
 }

@@ -1,5 +1,5 @@
 //! The functions of the static library, made safe: each `requires` of an export is known from `&str`, or
-//! tested here before the call. The declarations fit `crates/wat_c/src`; nothing compares the two.
+//! tested here before the call. The declarations fit `crates/wat_parser_c/src`; nothing compares the two.
 
 use std::alloc::{Layout, handle_alloc_error};
 use std::borrow::Cow;

@@ -1,0 +1,36 @@
+//! What a reader answers at a place, and the rows from there, are one thing.
+ghost use Rattle.std.specs.Prelude.{ℕ, List};
+ghost use Rattle.wat_lex.specs.tokens.Setting.{Setting};
+ghost use Rattle.wat_parser_c.specs.Answers.{OneAnswer};
+ghost use Rattle.wat_parser_c.specs.Readings.{Finds, FindsFault, IsString, IsNamed, IsInteger, IsFloat};
+ghost use Rattle.wat_parser_c.specs.Readings.{ReadsString, ReadsName, ReadsInteger, ReadsFloat};
+ghost use Rattle.wat_parser_c.specs.Readings.{ReadsNameFault};
+ghost use Rattle.wat_parser_c.specs.Rows.{OneFill};
+
+/// Each reader has one answer at each place, want of memory apart. It does nothing: its contract is
+/// the law.
+pub fn one_answer()
+    ensures strings { (s : Setting) (p : ℕ) (old : List ℕ) →
+        OneAnswer (Finds IsString ReadsString s p) old }
+    ensures names { (s : Setting) (p : ℕ) (old : List ℕ) →
+        OneAnswer (Finds IsNamed ReadsName s p) old }
+    ensures name_faults { (s : Setting) (p : ℕ) (old : List ℕ) →
+        OneAnswer (Finds IsNamed ReadsNameFault s p) old }
+    ensures integers { (s : Setting) (p : ℕ) (old : List ℕ) →
+        OneAnswer (Finds IsInteger ReadsInteger s p) old }
+    ensures floats { (s : Setting) (p part : ℕ) (old : List ℕ) →
+        OneAnswer (Finds IsFloat (ReadsFloat part) s p) old }
+    ensures faults { (s : Setting) (p : ℕ) (old : List ℕ) → OneAnswer (FindsFault s p) old }
+{
+    wat_lex::laws::one_answer();
+    wat_lex::laws::strings();
+    wat_lex::laws::names();
+    wat_lex::laws::floats();
+}
+
+/// The rows from each place are the only ones. It does nothing: its contract is the law.
+pub fn one_fill()
+    ensures { (s : Setting) (from room : ℕ) → OneFill s from room }
+{
+    wat_lex::laws::one_answer();
+}
