@@ -1,8 +1,8 @@
 //! What C sees of a token, of the text's end and of a fault.
 ghost use Rattle.std.specs.Prelude.{◌≡◌, ◌<◌, ◌≤◌, ◌^◌, ◌+◌, length};
 ghost use Rattle.std.specs.Str.{IsCharBoundary};
-ghost use Rattle.wat_parser_c.specs.Rows.{float_row, kind_row, sign_code, minus_code, plain, token_row};
-ghost use Rattle.wat_parser_c.specs.Rows.{place_row, fault_code, fault_found, fault_wanted, found_row};
+ghost use Rattle.wat_rows.specs.Rows.{float_row, kind_row, sign_code, minus_code, plain, token_row};
+ghost use Rattle.wat_rows.specs.Rows.{place_row, fault_code, fault_found, fault_wanted, found_row};
 
 use wat_lex::lexer::{FloatKind, LexError, LexFault, Lexer, Settings, SignToken, Token, TokenKind};
 

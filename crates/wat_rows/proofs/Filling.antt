@@ -6,8 +6,8 @@ use Rattle.std.proofs.lemmas.List.{length-map, length-take, map-append, take_mor
 use Rattle.wat_lex.specs.tokens.Setting.{Setting}
 use Rattle.wat_lex.specs.tokens.Tiling.{TokenAt, Tiling}
 use Rattle.wat_lex.specs.declared.lexer.kinds.Token.{Token}
-use Rattle.wat_parser_c.specs.Rows.{token_row, Stops, Fills}
-use Rattle.wat_parser_c.specs.declared.rows.TokenRow.{TokenRow}
+use Rattle.wat_rows.specs.Rows.{token_row, Stops, Fills}
+use Rattle.wat_rows.specs.declared.rows.TokenRow.{TokenRow}
 
 -- the first rows are those of the tokens up to the place, and the others stay
 pub record Listed (s : Setting) (from at : ℕ) (old out : List TokenRow) (count : ℕ) : Type 0 where

@@ -16,10 +16,10 @@ use Rattle.wat_lex.specs.declared.lexer.kinds.SignToken.TheVariants.{Plus, Minus
 use Rattle.wat_lex.specs.declared.lexer.kinds.Token.{Token}
 use Rattle.wat_lex.specs.declared.lexer.kinds.TokenKind.{TokenKind}
 use Rattle.wat_lex.specs.declared.lexer.kinds.TokenKind.TheVariants.{LineComment, BlockComment, Whitespace, LParen, RParen, String, Id, Keyword, Annotation, Reserved, Integer, Float}
-use Rattle.wat_parser_c.specs.declared.rows.KindRow.{KindRow}
-use Rattle.wat_parser_c.specs.declared.rows.TokenRow.{TokenRow}
-use Rattle.wat_parser_c.specs.declared.rows.Found.{Found}
-use Rattle.wat_parser_c.specs.declared.rows.Filled.{Filled}
+use Rattle.wat_rows.specs.declared.rows.KindRow.{KindRow}
+use Rattle.wat_rows.specs.declared.rows.TokenRow.{TokenRow}
+use Rattle.wat_rows.specs.declared.rows.Found.{Found}
+use Rattle.wat_rows.specs.declared.rows.Filled.{Filled}
 
 -- a text under two flags, which C passes one by one
 abbrev pub setting : List ℕ → Bool → Bool → Setting

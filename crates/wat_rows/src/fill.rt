@@ -1,7 +1,7 @@
 //! Many tokens at once.
 ghost use Rattle.std.specs.Prelude.{◌≡◌, ◌≤◌, ◌<◌, ◌^◌, length, take, drop};
 ghost use Rattle.std.specs.Str.{IsCharBoundary};
-ghost use Rattle.wat_parser_c.specs.Rows.{Fills};
+ghost use Rattle.wat_rows.specs.Rows.{Fills};
 
 use crate::rows::{Filled, TokenRow, fault_code, lexer_of, token_row};
 use wat_lex::lexer::Settings;

@@ -1,6 +1,6 @@
 use Rattle.std.proofs.Common.{length, ◌-◌}
-use Rattle.wat_parser_c.proofs.Filling.{Listed}
-use Rattle.wat_parser_c.proofs.fill.fill.Given as goal
+use Rattle.wat_rows.proofs.Filling.{Listed}
+use Rattle.wat_rows.proofs.fill.fill.Given as goal
 
 abbrev pub invariant-rows : goal.invariant-rows
 invariant-rows l = Listed l.lexer l.pos l.at l.initial.out l.out l.count

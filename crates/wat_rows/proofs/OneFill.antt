@@ -6,8 +6,8 @@ use Rattle.wat_lex.specs.tokens.Setting.{Setting}
 use Rattle.wat_lex.specs.tokens.Tiling.{TokenAt, Tiling}
 use Rattle.wat_lex.specs.tokens.UniqueTilings.{AnswerAt}
 use Rattle.wat_lex.specs.declared.lexer.kinds.Token.{Token}
-use Rattle.wat_parser_c.specs.Rows.{Stops, Stops.ended, Stops.full, Stops.faulty, OneFill, token_row, fault_code}
-use Rattle.wat_parser_c.proofs.OneFinding.{Standing, some_token}
+use Rattle.wat_rows.specs.Rows.{Stops, Stops.ended, Stops.full, Stops.faulty, OneFill, token_row, fault_code}
+use Rattle.wat_rows.proofs.OneFinding.{Standing, some_token}
 
 -- the text's end or a fault
 abbrev IsEnd : Standing → Type 0

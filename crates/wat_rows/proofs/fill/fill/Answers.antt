@@ -1,8 +1,8 @@
 use Rattle.std.proofs.Common.{◌≡◌, ◌<◌, subst, arith, length, take}
 use Rattle.wat_lex.specs.tokens.Setting.{Setting}
-use Rattle.wat_parser_c.specs.Rows.{Fills, Stops.full, Stops.ended, Stops.faulty}
-use Rattle.wat_parser_c.proofs.Filling.{listed_more, listed_fills}
-use Rattle.wat_parser_c.proofs.fill.fill.Goals as goal
+use Rattle.wat_rows.specs.Rows.{Fills, Stops.full, Stops.ended, Stops.faulty}
+use Rattle.wat_rows.proofs.Filling.{listed_more, listed_fills}
+use Rattle.wat_rows.proofs.fill.fill.Goals as goal
 
 pub rows-preserved : goal.rows-preserved
 rows-preserved c =
