@@ -34,6 +34,13 @@
 extern "C" {
 #endif
 
+/* The version of this header, as a number (10000 times the first part, 100 times the second, and the third) and as text. */
+#define WAT_VERSION 100
+#define WAT_VERSION_TEXT "0.1.0"
+
+/* The version of the library that is linked, as `WAT_VERSION`. */
+uint32_t wat_version(void);
+
 /* The kinds of tokens. */
 enum wat_kind_code {
     WAT_NO_TOKEN = 0,
@@ -76,6 +83,21 @@ enum wat_fault_code {
     WAT_EMPTY_ID = 114,               /* a `$` with no name: `wat_name` alone */
     WAT_EMPTY_ANNOTATION = 115        /* a `@` with no name: `wat_name` alone */
 };
+
+/* The name of a kind, as `wat_tokens` prints it: the four kinds of floating-point numbers are all "Float". Empty where the number is no kind's. */
+static inline const char *wat_kind_name(uint8_t code) {
+    static const char *const names[] = {"",        "LineComment", "BlockComment", "Whitespace", "LParen", "RParen", "String", "Id",
+                                        "Keyword", "Annotation",  "Reserved",     "Integer",    "Float",  "Float",  "Float",  "Float"};
+    return code < sizeof names / sizeof *names ? names[code] : "";
+}
+
+/* The name of a fault, as wast's `LexError` has it. Empty where the number is no fault's. */
+static inline const char *wat_fault_name(uint32_t fault) {
+    static const char *const names[] = {"DanglingBlockComment", "Unexpected",    "InvalidStringElement", "InvalidStringEscape", "InvalidHexDigit",
+                                        "InvalidDigit",         "Expected",      "UnexpectedEof",        "NumberTooBig",        "InvalidUnicodeValue",
+                                        "LoneUnderscore",       "ConfusingUnicode", "InvalidUtf8Id",     "EmptyId",             "EmptyAnnotation"};
+    return fault > 100 && fault <= 100 + sizeof names / sizeof *names ? names[fault - 101] : "";
+}
 
 /* Why `wat_fill` stopped, where it is no fault. */
 enum wat_stop { WAT_END = 0, WAT_FULL = 1 };

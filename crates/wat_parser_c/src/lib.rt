@@ -15,6 +15,7 @@ pub mod answers;
 mod given;
 mod laws;
 mod readings;
+pub mod version;
 #[cfg(test)]
 mod tests;
 
