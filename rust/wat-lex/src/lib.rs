@@ -22,11 +22,14 @@
 //! );
 //! ```
 #![warn(missing_docs)]
+#![deny(unsafe_code)]
 
 mod error;
 mod lexer;
 mod library;
 mod number;
+#[doc(hidden)]
+pub mod rows;
 mod token;
 
 pub use error::{Error, LexError, Span};
