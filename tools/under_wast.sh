@@ -74,7 +74,7 @@ answers() {
 
 # different ONE OTHER KIND: how many answers of a kind differ
 different() {
-    diff <(grep "^$3" "$work/$1.answers") <(grep "^$3" "$work/$2.answers") | grep -c '^<' || true
+    diff -a <(grep -a "^$3" "$work/$1.answers") <(grep -a "^$3" "$work/$2.answers") | grep -ac '^<' || true
 }
 
 unpack theirs
@@ -112,7 +112,7 @@ done
 for pair in 'ours theirs' 'ours fresh' 'kept theirs'; do
     read -r one other <<< "$pair"
     for kind in plain allow mutant; do
-        say "$one and $other: $(different "$one" "$other" "$kind") of $(grep -c "^$kind" "$work/$other.answers") answers differ ($kind)"
+        say "$one and $other: $(different "$one" "$other" "$kind") of $(grep -ac "^$kind" "$work/$other.answers") answers differ ($kind)"
     done
 done
 cmp "$work/ours.answers" "$work/fresh.answers"
