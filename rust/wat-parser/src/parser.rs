@@ -404,7 +404,7 @@ impl<'a> Parser<'a> {
         self.buffer.track_instr_spans
     }
 
-    /// Calls the function with the names of [`annotation`](crate::annotation) registered.
+    /// Calls the function with the names of [`annotation`](mod@crate::annotation) registered.
     ///
     /// # Errors
     ///
