@@ -36,3 +36,8 @@ pub use error::{Error, LexError, Span};
 pub use lexer::{Lexer, Tokens};
 pub use number::{Float, Integer};
 pub use token::{FloatKind, IntegerKind, SignToken, Token, TokenKind};
+
+/// The examples of the README, as tests.
+#[cfg(doctest)]
+#[doc = include_str!("../README.md")]
+struct Readme;

@@ -251,7 +251,7 @@ pub enum Refusal {
     Other,
     /// The number has no such part.
     Absent,
-    /// The number of what is wrong with the name, or of the text's fault.
+    /// Another status of the reader's: what is wrong with the name, the text's fault, or a status of words and integers.
     Wrong(u32),
 }
 

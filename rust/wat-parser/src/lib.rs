@@ -63,3 +63,8 @@ pub mod parser;
 pub mod token;
 
 pub use error::Error;
+
+/// The examples of the README, as tests.
+#[cfg(doctest)]
+#[doc = include_str!("../README.md")]
+struct Readme;

@@ -337,7 +337,7 @@ impl<'a> Parser<'a> {
     #[inline]
     pub fn this_keyword(self, word: &str, expected: &'static str) -> Result<Span> {
         self.step(|cursor| match cursor.past_keyword(word)? {
-            Some(rest) => Ok((cursor.cur_span(), rest)),
+            Some(rest) => Ok((cursor.span(), rest)),
             None => Err(cursor.error(expected)),
         })
     }
@@ -346,7 +346,7 @@ impl<'a> Parser<'a> {
     #[doc(hidden)]
     pub fn this_reserved(self, word: &str, expected: &'static str) -> Result<Span> {
         self.step(|cursor| match cursor.reserved()? {
-            Some((taken, rest)) if taken == word => Ok((cursor.cur_span(), rest)),
+            Some((taken, rest)) if taken == word => Ok((cursor.span(), rest)),
             _ => Err(cursor.error(expected)),
         })
     }
@@ -355,7 +355,7 @@ impl<'a> Parser<'a> {
     #[doc(hidden)]
     pub fn this_annotation(self, name: &str, expected: &'static str) -> Result<Span> {
         self.step(|cursor| match cursor.annotation()? {
-            Some((taken, rest)) if taken == name => Ok((cursor.cur_span(), rest)),
+            Some((taken, rest)) if taken == name => Ok((cursor.span(), rest)),
             _ => Err(cursor.error(expected)),
         })
     }

@@ -84,7 +84,7 @@ impl fmt::Debug for Id<'_> {
 impl<'a> Parse<'a> for Id<'a> {
     fn parse(parser: Parser<'a>) -> Result<Self> {
         parser.step(|cursor| match cursor.id()? {
-            Some((name, rest)) => Ok((Id::new(name, cursor.cur_span()), rest)),
+            Some((name, rest)) => Ok((Id::new(name, cursor.span()), rest)),
             None => Err(cursor.error("expected an identifier")),
         })
     }
@@ -242,7 +242,7 @@ macro_rules! integers {
             impl<'a> Parse<'a> for ($integer, Span) {
                 fn parse(parser: Parser<'a>) -> Result<Self> {
                     parser.step(|cursor| match cursor.number($integer::BITS, $is_signed)? {
-                        Some((Some(value), rest)) => Ok(((value as $integer, cursor.cur_span()), rest)),
+                        Some((Some(value), rest)) => Ok(((value as $integer, cursor.span()), rest)),
                         Some((None, _)) => Err(cursor.error(concat!(
                             "invalid ",
                             stringify!($integer),

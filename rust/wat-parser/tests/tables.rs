@@ -419,8 +419,16 @@ fn refused_memory_is_an_error() {
     assert_eq!(error.to_string(), "out of memory at byte offset 0");
 }
 
+/// A buffer lends a shorter life than its text's.
+fn lent(buffer: &ParseBuffer<'static>) -> u32 {
+    parser::parse(buffer).unwrap()
+}
+
 #[test]
 fn errors() {
+    let buffer = ParseBuffer::new("7").unwrap();
+    assert_eq!(lent(&buffer), 7);
+
     let error = |text| parser::parse::<u32>(&ParseBuffer::new(text).unwrap()).unwrap_err();
     let mut wrong = error(" 1\n\t-x");
     assert_eq!(

@@ -111,6 +111,12 @@ impl<'a> Cursor<'a> {
 
     /// Where the token that is shown begins: the text's end where none is left, and the end of what was taken where a fault is shown.
     pub fn cur_span(&self) -> Span {
+        self.span()
+    }
+
+    /// [`cur_span`](Cursor::cur_span), for where each token counts.
+    #[inline(always)]
+    pub(crate) fn span(&self) -> Span {
         Span::from_offset(match self.shown() {
             Ok(Some(row)) => self.rows().get(row).map_or(0, Row::offset),
             Ok(None) => self.rows().text().len(),
