@@ -1,7 +1,7 @@
 #!/usr/bin/env bash
 # What stands over the static library: the header as C99 and as C++, C programs that list the stored texts and their identifiers, all
-# functions on the stored texts and on mutants of them under the address and undefined-behaviour sanitizers, and the Rust crate with its
-# tests, and its examples on the stored texts. A step whose compiler is not on the machine is left out, and says so.
+# functions on the stored texts and on mutants of them under the address and undefined-behaviour sanitizers, and the Rust crates with their
+# tests, their examples on the stored texts, and numbers as C reads them. A step whose compiler is not on the machine is left out, and says so.
 #
 # usage: tools/check_c_and_rust.sh [MUTANTS]
 set -eu -o pipefail
@@ -108,11 +108,25 @@ else
     say "the header as C++ is left out, as no C++ compiler $cpp is here"
 fi
 
-if has cargo && has rustc; then
-    export CARGO_TARGET_DIR="$room/target" WAT_C_FOLDER="$room"
-    (cd rust/wat-lex && cargo test --offline --release --quiet && cargo build --offline --release --quiet --examples)
-    compare 'list of the Rust crate' "$room/target/release/examples/list" list
-    compare 'identifiers of the Rust crate' "$room/target/release/examples/identifiers" identifiers
-else
-    say 'the Rust crate is left out, as no cargo or no rustc is here'
+if ! has cargo || ! has rustc; then
+    say 'the Rust crates are left out, as no cargo or no rustc is here'
+    exit 0
+fi
+export CARGO_TARGET_DIR="$room/target" WAT_C_FOLDER="$room"
+cd rust
+cargo test --offline --release --quiet
+cargo test --offline --release --quiet --package wat-parser --features kept
+cargo test --offline --release --quiet --package wat-parser --test tables -- --ignored a_text_of_4_gib
+(ulimit -v 1200000 && cargo test --offline --release --quiet --package wat-parser --test tables -- --ignored refused_memory)
+cargo build --offline --release --quiet --examples
+cd ..
+compare 'list of the Rust crate' "$room/target/release/examples/list" list
+compare 'identifiers of the Rust crate' "$room/target/release/examples/identifiers" identifiers
+"$c" -std=c99 -O2 -Wall -Wextra -Werror -pedantic -o "$room/floats" tools/c/floats.c
+say "as strtof and strtod: $("$room/floats" 200000 | "$room/target/release/examples/floats")"
+# Neither archive is needed to check and to document the crates.
+WAT_C_FOLDER=$room/none cargo doc --offline --quiet --no-deps --manifest-path rust/Cargo.toml 2> "$room/warnings"
+if grep -v '^warning: wat-lex@.*: no .*make it by tools/build_c.sh' "$room/warnings" | grep .; then
+    say 'the documentation of the Rust crates has warnings'
+    exit 1
 fi

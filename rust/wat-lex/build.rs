@@ -1,27 +1,33 @@
-//! Finds the static library and the small C library of Rattle's kit, by which it asks for memory.
+//! Finds the static library and the small C library of Rattle's kit, by which it asks for memory. Where they are missing the crate can
+//! be checked and documented, but no program can be linked.
 
+use std::env;
 use std::path::PathBuf;
-use std::{env, process};
 
-const ARCHIVES: [&str; 2] = ["libwat_parser_c.a", "liblibc_c.a"];
+const ARCHIVES: [&str; 2] = ["wat_parser_c", "libc_c"];
 
 fn main() {
     println!("cargo::rerun-if-env-changed=WAT_C_FOLDER");
     let folder = env::var_os("WAT_C_FOLDER").map_or_else(default_folder, PathBuf::from);
+    let mut missing = false;
     for archive in ARCHIVES {
-        let path = folder.join(archive);
+        let path = folder.join(format!("lib{archive}.a"));
         println!("cargo::rerun-if-changed={}", path.display());
         if !path.is_file() {
-            eprintln!(
-                "wat-lex: no {}: make it by tools/build_c.sh, or name its folder in WAT_C_FOLDER",
+            missing = true;
+            println!(
+                "cargo::warning=no {}: make it by tools/build_c.sh, or name its folder in WAT_C_FOLDER",
                 path.display()
             );
-            process::exit(1);
         }
     }
+    if missing {
+        return;
+    }
     println!("cargo::rustc-link-search=native={}", folder.display());
-    println!("cargo::rustc-link-lib=static=wat_parser_c");
-    println!("cargo::rustc-link-lib=static=libc_c");
+    for archive in ARCHIVES {
+        println!("cargo::rustc-link-lib=static={archive}");
+    }
 }
 
 /// Where `tools/build_c.sh` puts the archives.

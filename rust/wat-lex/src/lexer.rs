@@ -1,34 +1,31 @@
 use crate::error::{Error, LexError, Span};
-use crate::library::{END, FULL, Place, Row, Settings, Text};
-use crate::token::{Token, TokenKind};
+use crate::library::{END, FULL, INVALID_UTF8_ID, Place, Raw, Refusal, Settings, Text};
+use crate::token::{Token, TokenKind, no_token};
 use std::iter::FusedIterator;
+use std::str::Utf8Error;
 
 /// How many tokens are asked for at once.
-const ROWS: usize = 1024;
+const TOKENS: usize = 1024;
 
 /// A lexer over a text: it cuts the text into tokens, white space and comments, and accounts for every byte of it.
 #[derive(Clone, Debug)]
 pub struct Lexer<'a> {
-    text: Text<'a>,
+    input: &'a str,
     settings: Settings,
 }
 
 impl<'a> Lexer<'a> {
-    /// A lexer over a text, with both settings off.
-    ///
-    /// # Panics
-    ///
-    /// Where the text has more than `u32::MAX` bytes.
+    /// A lexer over a text, with both settings off. A text of more than `u32::MAX` bytes is refused by what reads of it.
     pub fn new(input: &'a str) -> Lexer<'a> {
         Lexer {
-            text: Text::new(input),
+            input,
             settings: Settings::default(),
         }
     }
 
     /// The text.
     pub fn input(&self) -> &'a str {
-        self.text.get()
+        self.input
     }
 
     /// Sets whether the nine characters that can make a text look other than it is may stand in comments and strings.
@@ -47,32 +44,32 @@ impl<'a> Lexer<'a> {
     ///
     /// # Errors
     ///
-    /// The error of the fault there. The byte stays.
+    /// The error of the fault there, or that the text has more than `u32::MAX` bytes. The byte stays.
     ///
     /// # Panics
     ///
     /// Where no character begins at the byte, and the text does not end there.
     #[inline]
     pub fn parse(&self, pos: &mut usize) -> Result<Option<Token>, Error> {
-        let row = self.text.place(*pos).token(self.settings);
-        if row.len == 0 {
-            self.ending(*pos)?;
+        let place = self.text()?.place(*pos);
+        let token = place.token(self.settings);
+        if token.len == 0 {
+            self.ending(place, *pos)?;
             return Ok(None);
         }
-        *pos += row.len as usize;
-        Ok(Some(Token::from_row(row)))
+        *pos += token.len as usize;
+        Ok(Some(Token::from_library(token)))
     }
 
-    /// The tokens from a byte of the text on, up to its end or its first fault.
+    /// The tokens from a byte of the text on, up to its end or its first fault. Of a text of more than `u32::MAX` bytes it gives that error.
     ///
     /// # Panics
     ///
-    /// Where no character begins at the byte, and the text does not end there.
+    /// It does where no character begins at the byte, and the text does not end there.
     pub fn iter(&self, pos: usize) -> Tokens<'_, 'a> {
-        self.text.place(pos);
         Tokens {
             lexer: self,
-            rows: Vec::new(),
+            tokens: Vec::new(),
             next: 0,
             at: pos,
             why: FULL,
@@ -93,67 +90,112 @@ impl<'a> Lexer<'a> {
         Ok(token.filter(|token| token.kind == TokenKind::Annotation))
     }
 
-    /// The text's end or the fault at a place where no token stands. What it answers is one word.
-    #[cold]
-    fn ending(&self, pos: usize) -> Result<(), Error> {
-        if pos == self.input().len() {
-            return Ok(());
-        }
-        Err(self.error(self.text.place(pos)))
+    pub(crate) fn settings(&self) -> Settings {
+        self.settings
     }
 
-    /// The error of the fault at a place, where there is one.
-    #[cold]
-    fn error(&self, place: Place<'a>) -> Error {
-        let found = place.scan(self.settings);
-        let shown = place
-            .fault(self.settings)
-            .expect("a fault stands at the place");
-        Error::new(
-            Span::from_offset(found.token.offset),
-            LexError::of_text(found),
-            shown,
-        )
+    #[inline]
+    fn text(&self) -> Result<Text<'a>, Error> {
+        Text::new(self.input).ok_or_else(too_long)
     }
+
+    /// The text's end or the fault at a place where no token stands. What it answers is one word.
+    #[cold]
+    fn ending(&self, place: Place<'a>, pos: usize) -> Result<(), Error> {
+        if pos == self.input.len() {
+            return Ok(());
+        }
+        Err(error_at(place, self.settings))
+    }
+}
+
+/// The error of the fault at a place, where there is one.
+#[cold]
+pub(crate) fn error_at(place: Place<'_>, settings: Settings) -> Error {
+    let found = place.scan(settings);
+    Error::lexical(
+        Span::from_offset(found.token.offset),
+        place.text(),
+        LexError::of_text(found),
+    )
+}
+
+/// The error of the name at fault of the identifier or annotation that begins at a byte.
+#[cold]
+pub(crate) fn wrong_name(text: Text<'_>, offset: usize, fault: u32) -> Error {
+    let error = match fault {
+        INVALID_UTF8_ID => LexError::InvalidUtf8Id(not_utf8(text.place(offset + 1))),
+        114 => LexError::EmptyId,
+        _ => LexError::EmptyAnnotation,
+    };
+    Error::lexical(Span::from_offset(offset), text, error)
+}
+
+/// What is not UTF-8 in the string at a place, behind a `$` or `@`. The library says only that it is not, so its bytes are read once more.
+fn not_utf8(string: Place<'_>) -> Utf8Error {
+    let bytes = string.string(&[]).unwrap_or_else(|_| no_token("string"));
+    str::from_utf8(&bytes).expect_err("the name is not UTF-8")
+}
+
+/// The comment at a byte of a text, past white space, and where it ends.
+pub(crate) fn comment_at(
+    text: Text<'_>,
+    offset: usize,
+    settings: Settings,
+) -> Result<Option<(&str, usize)>, Error> {
+    match text.place(offset).comment(settings) {
+        Ok((start, end)) => Ok(Some((&text.get()[start..end], end))),
+        Err(Refusal::Wrong(_)) => Err(behind_blanks(text, offset, settings)),
+        Err(_) => Ok(None),
+    }
+}
+
+/// The error of the fault at a byte of a text, or behind the white space there.
+#[cold]
+fn behind_blanks(text: Text<'_>, offset: usize, settings: Settings) -> Error {
+    let blanks = text.place(offset).token(settings).len as usize;
+    error_at(text.place(offset + blanks), settings)
+}
+
+#[cold]
+pub(crate) fn too_long() -> Error {
+    let message = format!("the text has more than {} bytes", u32::MAX);
+    Error::new(Span::from_offset(0), message)
 }
 
 /// The tokens from a place on. It ends for good after the first fault, or at the text's end.
 #[derive(Clone, Debug)]
 pub struct Tokens<'l, 'a> {
     lexer: &'l Lexer<'a>,
-    rows: Vec<Row>,
-    /// The first row that was not given.
+    tokens: Vec<Raw>,
+    /// The first token that was not given.
     next: usize,
-    /// Where the rows end.
+    /// Where the tokens end.
     at: usize,
     /// Why they end there.
     why: u32,
 }
 
 impl Tokens<'_, '_> {
-    /// More rows, or the ending, where all rows were given.
+    /// More tokens, or the ending, where all tokens were given.
     #[cold]
     fn more(&mut self) -> Option<Result<Token, Error>> {
-        self.next = 0;
-        if self.why == FULL {
-            self.rows.resize(ROWS, Row::default());
-            let filled = self
-                .lexer
-                .text
-                .place(self.at)
-                .fill(self.lexer.settings, &mut self.rows);
-            self.rows.truncate(filled.count);
-            (self.at, self.why) = (filled.at, filled.why);
-            if !self.rows.is_empty() {
-                return self.next();
-            }
-        }
-        self.rows.clear();
-        if self.why == END {
+        let why = std::mem::replace(&mut self.why, END);
+        if why == END {
             return None;
         }
-        self.why = END;
-        Some(Err(self.lexer.error(self.lexer.text.place(self.at))))
+        let place = match self.lexer.text() {
+            Ok(text) => text.place(self.at),
+            Err(error) => return Some(Err(error)),
+        };
+        if why != FULL {
+            return Some(Err(error_at(place, self.lexer.settings)));
+        }
+        self.tokens.resize(TOKENS, Raw::default());
+        let filled = place.fill(self.lexer.settings, &mut self.tokens);
+        self.tokens.truncate(filled.count);
+        (self.next, self.at, self.why) = (0, filled.at, filled.why);
+        self.next()
     }
 }
 
@@ -162,10 +204,10 @@ impl Iterator for Tokens<'_, '_> {
 
     #[inline]
     fn next(&mut self) -> Option<Result<Token, Error>> {
-        match self.rows.get(self.next) {
-            Some(row) => {
+        match self.tokens.get(self.next) {
+            Some(token) => {
                 self.next += 1;
-                Some(Ok(Token::from_row(*row)))
+                Some(Ok(Token::from_library(*token)))
             }
             None => self.more(),
         }

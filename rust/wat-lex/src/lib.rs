@@ -22,14 +22,22 @@
 //! );
 //! ```
 #![warn(missing_docs)]
+#![deny(unsafe_code)]
 
 mod error;
 mod lexer;
 mod library;
 mod number;
+#[doc(hidden)]
+pub mod rows;
 mod token;
 
 pub use error::{Error, LexError, Span};
 pub use lexer::{Lexer, Tokens};
 pub use number::{Float, Integer};
 pub use token::{FloatKind, IntegerKind, SignToken, Token, TokenKind};
+
+/// The examples of the README, as tests.
+#[cfg(doctest)]
+#[doc = include_str!("../README.md")]
+struct Readme;

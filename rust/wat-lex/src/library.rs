@@ -1,5 +1,11 @@
-//! The functions of the static library, made safe: each `requires` of an export is known from `&str`, or
-//! tested here before the call. The declarations fit `crates/wat_parser_c/src`; nothing compares the two.
+//! The functions of the static library, made safe: each `requires` of an export is known from `&str`, tested here before the call,
+//! or kept by a struct whose fields are private here. The declarations fit `crates/wat_parser_c/src`; nothing compares the two.
+//! This module and the one below it have all of the crate's `unsafe`.
+#![allow(unsafe_code)]
+
+mod rows;
+
+pub use rows::{Names, Row, Rows};
 
 use std::alloc::{Layout, handle_alloc_error};
 use std::borrow::Cow;
@@ -28,9 +34,10 @@ pub struct Kind {
     pub hex: bool,
 }
 
+/// A token, blanks among them.
 #[repr(C)]
 #[derive(Clone, Copy, Debug, Default, PartialEq, Eq)]
-pub struct Row {
+pub struct Raw {
     pub offset: usize,
     pub len: u32,
     pub kind: Kind,
@@ -39,7 +46,7 @@ pub struct Row {
 #[repr(C)]
 #[derive(Clone, Copy, Debug)]
 pub struct Found {
-    pub token: Row,
+    pub token: Raw,
     pub fault: u32,
     pub found: u32,
     pub wanted: u32,
@@ -62,12 +69,20 @@ struct Answer {
 
 #[repr(C)]
 #[derive(Clone, Copy, Debug)]
-pub struct Position {
-    pub line: usize,
-    pub column: usize,
+struct Word {
+    start: u32,
+    len: u32,
+    status: u32,
 }
 
-/// Why `fill` stopped, where it is no fault.
+#[repr(C)]
+#[derive(Clone, Copy, Debug)]
+struct Position {
+    line: usize,
+    column: usize,
+}
+
+/// Why a filling stopped, where it is no fault.
 pub const END: u32 = 0;
 pub const FULL: u32 = 1;
 
@@ -75,6 +90,9 @@ const GIVEN: u32 = 0;
 const OTHER: u32 = 1;
 const NO_MEMORY: u32 = 2;
 const ABSENT: u32 = 3;
+
+/// The fault of a quoted name that is not UTF-8.
+pub const INVALID_UTF8_ID: u32 = 113;
 
 /// A part of a floating-point number.
 #[derive(Clone, Copy, Debug)]
@@ -85,29 +103,21 @@ pub enum Part {
     Payload = 3,
 }
 
+/// A function that reads the token at a place.
 type Reader = unsafe extern "C" fn(*const u8, usize, usize, bool, bool, *mut u8, usize) -> Answer;
 
 unsafe extern "C" {
     fn wat_scan(text: *const u8, len: usize, pos: usize, allow: bool, strict: bool) -> Found;
-    fn wat_token_at(text: *const u8, len: usize, pos: usize, allow: bool, strict: bool) -> Row;
+    fn wat_token_at(text: *const u8, len: usize, pos: usize, allow: bool, strict: bool) -> Raw;
     fn wat_fill(
         text: *const u8,
         len: usize,
         pos: usize,
         allow: bool,
         strict: bool,
-        out: *mut Row,
+        out: *mut Raw,
         room: usize,
     ) -> Filled;
-    fn wat_fault(
-        text: *const u8,
-        len: usize,
-        pos: usize,
-        allow: bool,
-        strict: bool,
-        out: *mut u8,
-        room: usize,
-    ) -> Answer;
     fn wat_string(
         text: *const u8,
         len: usize,
@@ -118,15 +128,6 @@ unsafe extern "C" {
         room: usize,
     ) -> Answer;
     fn wat_name(
-        text: *const u8,
-        len: usize,
-        pos: usize,
-        allow: bool,
-        strict: bool,
-        out: *mut u8,
-        room: usize,
-    ) -> Answer;
-    fn wat_name_fault(
         text: *const u8,
         len: usize,
         pos: usize,
@@ -154,6 +155,19 @@ unsafe extern "C" {
         out: *mut u8,
         room: usize,
     ) -> Answer;
+    fn wat_comment(text: *const u8, len: usize, pos: usize, allow: bool, strict: bool) -> Word;
+    fn wat_print(
+        text: *const u8,
+        len: usize,
+        offset: usize,
+        message: *const u8,
+        message_len: usize,
+        file: *const u8,
+        file_len: usize,
+        out: *mut u8,
+        room: usize,
+    ) -> Answer;
+    fn wat_message(fault: u32, found: u32, wanted: u32, out: *mut u8, room: usize) -> Answer;
     fn wat_line_column(text: *const u8, len: usize, offset: usize) -> Position;
 }
 
@@ -163,15 +177,13 @@ unsafe extern "C" {
 pub struct Text<'a>(&'a str);
 
 impl<'a> Text<'a> {
-    /// Panics where the text is longer.
-    pub fn new(text: &'a str) -> Text<'a> {
-        assert!(
-            u32::try_from(text.len()).is_ok(),
-            "a text of more than u32::MAX bytes"
-        );
-        Text(text)
+    /// None where the text is longer.
+    #[inline]
+    pub fn new(text: &'a str) -> Option<Text<'a>> {
+        u32::try_from(text.len()).ok().map(|_| Text(text))
     }
 
+    #[inline]
     pub fn get(self) -> &'a str {
         self.0
     }
@@ -194,6 +206,29 @@ impl<'a> Text<'a> {
             None => pos == self.0.len(),
         }
     }
+
+    /// An error with this message at a byte, as it is printed of a file without a name.
+    pub fn print(self, offset: usize, message: &str) -> Vec<u8> {
+        // Room for most lines, so that most errors take one call.
+        let printed = read(message.len() + 512, |buffer| {
+            // SAFETY: texts and message are UTF-8, as each `&str`; `Text::new` tested the text's length; the buffer is behind a `&mut`, so it
+            // has values and is no part of them.
+            unsafe {
+                wat_print(
+                    self.0.as_ptr(),
+                    self.0.len(),
+                    offset,
+                    message.as_ptr(),
+                    message.len(),
+                    "".as_ptr(),
+                    0,
+                    buffer.as_mut_ptr(),
+                    buffer.len(),
+                )
+            }
+        });
+        printed.expect("each error is printed")
+    }
 }
 
 #[cold]
@@ -209,18 +244,22 @@ pub struct Place<'a> {
     pos: usize,
 }
 
-/// Why a reader gives no bytes.
+/// Why a reader gives nothing.
 #[derive(Clone, Copy, Debug, PartialEq, Eq)]
 pub enum Refusal {
-    /// No such token, or no fault, stands there.
+    /// No such token stands there.
     Other,
-    /// The number has no such part, or the name no fault.
+    /// The number has no such part.
     Absent,
-    /// The number of what is wrong with the name.
+    /// Another status of the reader's: what is wrong with the name, the text's fault, or a status of words and integers.
     Wrong(u32),
 }
 
 impl<'a> Place<'a> {
+    pub fn text(self) -> Text<'a> {
+        self.text
+    }
+
     /// What stands there.
     pub fn scan(self, settings: Settings) -> Found {
         let text = self.text.0;
@@ -238,7 +277,7 @@ impl<'a> Place<'a> {
 
     /// The token there; its length is 0 where the text ends there or has a fault.
     #[inline]
-    pub fn token(self, settings: Settings) -> Row {
+    pub fn token(self, settings: Settings) -> Raw {
         let text = self.text.0;
         // SAFETY: as for `scan`.
         unsafe {
@@ -252,11 +291,11 @@ impl<'a> Place<'a> {
         }
     }
 
-    /// Fills the rows with the tokens from there on.
-    pub fn fill(self, settings: Settings, rows: &mut [Row]) -> Filled {
+    /// Fills the tokens from there on.
+    pub fn fill(self, settings: Settings, tokens: &mut [Raw]) -> Filled {
         let text = self.text.0;
-        let (out, room) = (rows.as_mut_ptr(), rows.len());
-        // SAFETY: as for `scan`; and the rows are behind a `&mut`, so they have values and are no part of the text.
+        let (out, room) = (tokens.as_mut_ptr(), tokens.len());
+        // SAFETY: as for `scan`; and the tokens are behind a `&mut`, so they have values and are no part of the text.
         unsafe {
             wat_fill(
                 text.as_ptr(),
@@ -270,9 +309,22 @@ impl<'a> Place<'a> {
         }
     }
 
-    /// What the fault there prints.
-    pub fn fault(self, settings: Settings) -> Result<Vec<u8>, Refusal> {
-        self.read(wat_fault, settings)
+    /// Where the comment there begins and ends, past white space.
+    pub fn comment(self, settings: Settings) -> Result<(usize, usize), Refusal> {
+        let text = self.text.0;
+        // SAFETY: as for `scan`.
+        let word = unsafe {
+            wat_comment(
+                text.as_ptr(),
+                text.len(),
+                self.pos,
+                settings.allow,
+                settings.strict,
+            )
+        };
+        given(word.status)?;
+        let start = word.start as usize;
+        Ok((start, start + word.len as usize))
     }
 
     /// The value of the string there.
@@ -285,11 +337,6 @@ impl<'a> Place<'a> {
         self.read_or(wat_name, plain)
     }
 
-    /// What is wrong with the name there, as it is printed.
-    pub fn name_fault(self) -> Result<Vec<u8>, Refusal> {
-        self.read(wat_name_fault, Settings::LENIENT)
-    }
-
     /// The digits of the integer there.
     pub fn integer(self, plain: &'a [u8]) -> Result<Cow<'a, [u8]>, Refusal> {
         self.read_or(wat_integer, plain)
@@ -297,55 +344,38 @@ impl<'a> Place<'a> {
 
     /// A part of the floating-point number there.
     pub fn float(self, part: Part) -> Result<Vec<u8>, Refusal> {
-        let mut bytes = vec![0; self.float_answer(part, &mut [])?];
-        self.float_answer(part, &mut bytes)?;
-        Ok(bytes)
-    }
-
-    fn float_answer(self, part: Part, buffer: &mut [u8]) -> Result<usize, Refusal> {
         let text = self.text.0;
         let Settings { allow, strict } = Settings::LENIENT;
-        let (out, room) = (buffer.as_mut_ptr(), buffer.len());
-        // SAFETY: as for `answer`; each number is allowed for the part.
-        unsafe {
-            wat_float(
-                text.as_ptr(),
-                text.len(),
-                self.pos,
-                allow,
-                strict,
-                part as u32,
-                out,
-                room,
-            )
-        }
-        .needed()
+        read(0, |buffer| {
+            let (out, room) = (buffer.as_mut_ptr(), buffer.len());
+            // SAFETY: as for `answer`; each number is allowed for the part.
+            unsafe {
+                wat_float(
+                    text.as_ptr(),
+                    text.len(),
+                    self.pos,
+                    allow,
+                    strict,
+                    part as u32,
+                    out,
+                    room,
+                )
+            }
+        })
     }
 
     /// The bytes that the reader finds: the plain ones where it finds as many, since all that makes them others, an
     /// escape, an underscore or `0x`, makes them fewer.
     fn read_or(self, reader: Reader, plain: &'a [u8]) -> Result<Cow<'a, [u8]>, Refusal> {
-        if self.answer(reader, Settings::LENIENT, &mut [])? == plain.len() {
+        if self.answer(reader, &mut []).needed()? == plain.len() {
             return Ok(Cow::Borrowed(plain));
         }
-        self.read(reader, Settings::LENIENT).map(Cow::Owned)
+        read(plain.len(), |buffer| self.answer(reader, buffer)).map(Cow::Owned)
     }
 
-    fn read(self, reader: Reader, settings: Settings) -> Result<Vec<u8>, Refusal> {
-        let mut bytes = vec![0; self.answer(reader, settings, &mut [])?];
-        self.answer(reader, settings, &mut bytes)?;
-        Ok(bytes)
-    }
-
-    /// How many bytes the reader finds. They are in the buffer where it has room for them.
-    fn answer(
-        self,
-        reader: Reader,
-        settings: Settings,
-        buffer: &mut [u8],
-    ) -> Result<usize, Refusal> {
+    fn answer(self, reader: Reader, buffer: &mut [u8]) -> Answer {
         let text = self.text.0;
-        let Settings { allow, strict } = settings;
+        let Settings { allow, strict } = Settings::LENIENT;
         let (out, room) = (buffer.as_mut_ptr(), buffer.len());
         // SAFETY: the text is UTF-8, as each `&str`; `Text::new` tested its length, and `Text::place` the place; the buffer is
         // behind a `&mut`, so it has values and is no part of the text.
@@ -360,21 +390,48 @@ impl<'a> Place<'a> {
                 room,
             )
         }
-        .needed()
+    }
+}
+
+/// Nothing where the status says that something was found. Where the reader was refused memory the process ends, as Rust's own
+/// collections do.
+#[inline]
+fn given(status: u32) -> Result<(), Refusal> {
+    match status {
+        GIVEN => Ok(()),
+        OTHER => Err(Refusal::Other),
+        NO_MEMORY => handle_alloc_error(Layout::new::<u8>()),
+        ABSENT => Err(Refusal::Absent),
+        fault => Err(Refusal::Wrong(fault)),
     }
 }
 
 impl Answer {
-    /// How many bytes there are. Where the reader was refused memory the process ends, as Rust's own collections do.
+    /// How many bytes there are.
     fn needed(self) -> Result<usize, Refusal> {
-        match self.status {
-            GIVEN => Ok(self.needed),
-            OTHER => Err(Refusal::Other),
-            NO_MEMORY => handle_alloc_error(Layout::new::<u8>()),
-            ABSENT => Err(Refusal::Absent),
-            fault => Err(Refusal::Wrong(fault)),
-        }
+        given(self.status).map(|()| self.needed)
     }
+}
+
+/// The bytes that a reader writes, which are asked for once where they fit the guess.
+fn read(guess: usize, reader: impl Fn(&mut [u8]) -> Answer) -> Result<Vec<u8>, Refusal> {
+    let mut bytes = vec![0; guess];
+    let needed = reader(&mut bytes).needed()?;
+    bytes.resize(needed, 0);
+    if needed > guess {
+        reader(&mut bytes).needed()?;
+    }
+    Ok(bytes)
+}
+
+/// The message of a fault, by its numbers.
+pub fn message(fault: u32, found: u32, wanted: u32) -> Vec<u8> {
+    let message = read(64, |buffer| {
+        let (out, room) = (buffer.as_mut_ptr(), buffer.len());
+        // SAFETY: the buffer is behind a `&mut`, so it has values and nobody else looks at it.
+        unsafe { wat_message(fault, found, wanted, out, room) }
+    });
+    message.expect("each fault has a message")
 }
 
 /// Line and column of a byte of a text, both from 0.

@@ -1,4 +1,4 @@
-use crate::library::{Part, Place, Refusal};
+use crate::library::{Part, Refusal};
 use crate::token::{FloatKind, SignToken, no_token, text_of};
 use std::borrow::Cow;
 
@@ -55,8 +55,11 @@ pub enum Float<'a> {
 }
 
 impl<'a> Float<'a> {
-    /// The number of this kind at a place.
-    pub(crate) fn at(place: Place<'a>, kind: FloatKind) -> Float<'a> {
+    /// The number of this kind whose parts the reader gives.
+    pub(crate) fn of_kind(
+        kind: FloatKind,
+        read: impl Fn(Part) -> Result<Vec<u8>, Refusal>,
+    ) -> Float<'a> {
         match kind {
             FloatKind::Inf { negative } => Float::Inf { negative },
             FloatKind::Nan { negative } => Float::Nan {
@@ -64,21 +67,21 @@ impl<'a> Float<'a> {
                 negative,
             },
             FloatKind::NanVal { negative, .. } => Float::Nan {
-                val: Some(whole(place, Part::Payload)),
+                val: Some(whole(read(Part::Payload))),
                 negative,
             },
             FloatKind::Normal { hex, .. } => Float::Val {
                 hex,
-                integral: whole(place, Part::Integral),
-                fractional: part(place, Part::Fractional),
-                exponent: part(place, Part::Exponent),
+                integral: whole(read(Part::Integral)),
+                fractional: part(read(Part::Fractional)),
+                exponent: part(read(Part::Exponent)),
             },
         }
     }
 }
 
-fn part<'a>(place: Place<'_>, part: Part) -> Option<Cow<'a, str>> {
-    match place.float(part) {
+fn part<'a>(digits: Result<Vec<u8>, Refusal>) -> Option<Cow<'a, str>> {
+    match digits {
         Ok(digits) => Some(text_of(Cow::Owned(digits))),
         Err(Refusal::Absent) => None,
         Err(_) => no_token("float"),
@@ -86,6 +89,6 @@ fn part<'a>(place: Place<'_>, part: Part) -> Option<Cow<'a, str>> {
 }
 
 /// A part that each number of its kind has.
-fn whole<'a>(place: Place<'_>, which: Part) -> Cow<'a, str> {
-    part(place, which).unwrap_or_else(|| no_token("float of this kind"))
+fn whole<'a>(digits: Result<Vec<u8>, Refusal>) -> Cow<'a, str> {
+    part(digits).unwrap_or_else(|| no_token("float of this kind"))
 }

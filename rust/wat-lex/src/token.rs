@@ -1,5 +1,6 @@
-use crate::error::{Error, LexError, Span};
-use crate::library::{Kind, Place, Refusal, Row, Text};
+use crate::error::Error;
+use crate::lexer::wrong_name;
+use crate::library::{Kind, Place, Raw, Refusal, Text};
 use crate::number::{Float, Integer};
 use std::borrow::Cow;
 
@@ -107,13 +108,12 @@ pub enum SignToken {
 }
 
 impl Token {
-    /// The token that a row tells.
     #[inline]
-    pub(crate) fn from_row(row: Row) -> Token {
+    pub(crate) fn from_library(token: Raw) -> Token {
         Token {
-            kind: TokenKind::from_row(row.kind),
-            offset: row.offset,
-            len: row.len,
+            kind: TokenKind::from_library(token.kind),
+            offset: token.offset,
+            len: token.len,
         }
     }
 
@@ -193,21 +193,9 @@ impl Token {
             .unwrap_or(behind);
         match self.place(s).name(plain.as_bytes()) {
             Ok(name) => Ok(text_of(name)),
-            Err(Refusal::Wrong(fault)) => Err(self.name_error(s, fault)),
+            Err(Refusal::Wrong(fault)) => Err(wrong_name(text_at(s), self.offset, fault)),
             Err(_) => no_token("name"),
         }
-    }
-
-    fn name_error(&self, s: &str, fault: u32) -> Error {
-        let shown = self
-            .place(s)
-            .name_fault()
-            .unwrap_or_else(|_| no_token("wrong name"));
-        Error::new(
-            Span::from_offset(self.offset),
-            LexError::of_name(fault),
-            shown,
-        )
     }
 
     /// What an integer token reads as.
@@ -231,13 +219,19 @@ impl Token {
     ///
     /// Where the token is no floating-point number of this text, or not one of this kind.
     pub fn float<'a>(&self, s: &'a str, kind: FloatKind) -> Float<'a> {
-        Float::at(self.place(s), kind)
+        let place = self.place(s);
+        Float::of_kind(kind, |part| place.float(part))
     }
 
     /// Where the token begins. Panics where that is no place of the text.
     fn place<'a>(&self, s: &'a str) -> Place<'a> {
-        Text::new(s).place(self.offset)
+        text_at(s).place(self.offset)
     }
+}
+
+/// A text that tokens are of.
+fn text_at(s: &str) -> Text<'_> {
+    Text::new(s).expect("a text of a token has at most u32::MAX bytes")
 }
 
 /// What the library says is UTF-8, as a text.
@@ -276,7 +270,7 @@ impl TokenKind {
     }
 
     #[inline]
-    fn from_row(kind: Kind) -> TokenKind {
+    pub(crate) fn from_library(kind: Kind) -> TokenKind {
         match kind.code {
             1 => TokenKind::LineComment,
             2 => TokenKind::BlockComment,
@@ -288,15 +282,15 @@ impl TokenKind {
             8 => TokenKind::Keyword,
             9 => TokenKind::Annotation,
             10 => TokenKind::Reserved,
-            11 => TokenKind::Integer(IntegerKind::from_row(kind)),
-            _ => TokenKind::Float(FloatKind::from_row(kind)),
+            11 => TokenKind::Integer(IntegerKind::from_library(kind)),
+            _ => TokenKind::Float(FloatKind::from_library(kind)),
         }
     }
 }
 
 impl IntegerKind {
     #[inline]
-    fn from_row(kind: Kind) -> IntegerKind {
+    fn from_library(kind: Kind) -> IntegerKind {
         IntegerKind {
             sign: match kind.sign {
                 0 => None,
@@ -311,7 +305,7 @@ impl IntegerKind {
 
 impl FloatKind {
     #[inline]
-    fn from_row(kind: Kind) -> FloatKind {
+    fn from_library(kind: Kind) -> FloatKind {
         let (negative, has_underscores) = (kind.sign == 2, kind.has_underscores);
         match kind.code {
             12 => FloatKind::Inf { negative },

@@ -1,6 +1,9 @@
 //! What the readers answer, with values from outside.
 
 use std::borrow::Cow;
+use std::ffi::OsStr;
+use std::os::unix::ffi::OsStrExt;
+use std::path::Path;
 use wat_lex::{Error, Float, FloatKind, LexError, Lexer, SignToken, Span, Token, TokenKind};
 
 fn first(text: &str) -> Token {
@@ -34,16 +37,17 @@ fn names() {
     assert!(
         matches!(first("@\"\\61\"").annotation("@\"\\61\""), Ok(Cow::Owned(name)) if name == "a")
     );
+    let not_utf8 = String::from_utf8(vec![0xff]).unwrap_err().utf8_error();
     for (text, error) in [
         (" $", LexError::EmptyId),
         (" $\"\"", LexError::EmptyId),
-        (" $\"\\ff\"", LexError::InvalidUtf8Id),
+        (" $\"\\ff\"", LexError::InvalidUtf8Id(not_utf8)),
     ] {
         let token = Lexer::new(text).parse(&mut 1).unwrap().unwrap();
         let wrong = token.id(text).unwrap_err();
         assert_eq!(
             (wrong.lex_error(), wrong.span()),
-            (&error, Span::from_offset(1))
+            (Some(&error), Span::from_offset(1))
         );
         assert!(
             wrong.to_string().contains("\n     --> <anon>:1:2\n"),
@@ -190,9 +194,10 @@ fn faults() {
         let found = fault(text);
         assert_eq!(
             (found.lex_error(), found.message()),
-            (&error, message),
+            (Some(&error), message.to_string()),
             "{text}"
         );
+        assert_eq!(error.to_string(), message);
         assert!(found.to_string().starts_with(message));
         assert_eq!(found.span().offset(), offset, "{text}");
     }
@@ -206,6 +211,38 @@ fn faults() {
     assert_eq!(
         error.to_string(),
         "unexpected end-of-file\n     --> <anon>:2:4\n      |\n    2 |   \"\n      |    ^"
+    );
+}
+
+#[test]
+fn files() {
+    let named = |path: &[u8], text: Option<&str>| {
+        let mut error = Error::new(Span::from_offset(3), "an <anon> at <anon>:1".to_string());
+        error.set_path(Path::new(OsStr::from_bytes(path)));
+        if let Some(text) = text {
+            error.set_text(text);
+            error.set_text("later");
+        }
+        error.set_path(Path::new("later"));
+        error.to_string()
+    };
+    let message = "an <anon> at <anon>:1";
+    assert_eq!(named(b"f", None), format!("{message} at byte offset 3"));
+    assert_eq!(
+        named(b"a/\xc3\xa9.wat", Some("a\nbc")),
+        format!("{message}\n     --> a/\u{e9}.wat:2:2\n      |\n    2 | bc\n      |  ^")
+    );
+    assert_eq!(
+        named(b"\xff", Some("a\nbc")),
+        format!("{message}\n     --> <anon>:2:2\n      |\n    2 | bc\n      |  ^")
+    );
+    let mut long = Error::new(Span::from_offset(600), message.to_string());
+    long.set_text(&"a".repeat(700));
+    long.set_path(Path::new("f"));
+    assert_eq!(long.to_string(), format!("{message} at f:1:601"));
+    assert_eq!(
+        (long.message(), long.lex_error()),
+        (message.to_string(), None)
     );
 }
 
@@ -224,7 +261,7 @@ fn settings() {
     let error = lexer.strict_underscores(true).parse(&mut 0).unwrap_err();
     assert_eq!(
         (error.lex_error(), error.span().linecol_in(doubled)),
-        (&LexError::LoneUnderscore, (0, 6))
+        (Some(&LexError::LoneUnderscore), (0, 6))
     );
     let token = Lexer::new(doubled).parse(&mut 0).unwrap().unwrap();
     assert_eq!(*token.string(doubled), [0x10]);

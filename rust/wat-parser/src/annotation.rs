@@ -1,0 +1,7 @@
+//! The annotations that the text format of WebAssembly modules and components knows.
+
+annotation!(custom);
+annotation!(name);
+annotation!(producers);
+annotation!(dylink_0 = "dylink.0");
+annotation!(metadata_code_branch_hint = "metadata.code.branch_hint");

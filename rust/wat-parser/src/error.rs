@@ -1,0 +1,1 @@
+pub use wat_lex::Error;

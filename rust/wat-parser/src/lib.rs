@@ -1,0 +1,70 @@
+//! Parsers for formats that look like the WebAssembly text format, with the names of the lowest layer of the crate `wast`.
+//!
+//! The tokens, what a parser shows next, what words read as, and what errors print are answered by a static library whose functions are
+//! proved to meet their contracts; this crate is safe Rust over it, small, tested, and not proved.
+//!
+//! ```
+//! use wat_parser::parser::{self, Parse, ParseBuffer, Parser, Result};
+//! use wat_parser::token::{Id, Index};
+//! use wat_parser::{custom_keyword, kw};
+//!
+//! custom_keyword!(road);
+//!
+//! // road $name length (from $place) (to $place)
+//! struct Road<'a> {
+//!     name: Id<'a>,
+//!     length: u32,
+//!     ends: Vec<Index<'a>>,
+//! }
+//!
+//! impl<'a> Parse<'a> for Road<'a> {
+//!     fn parse(parser: Parser<'a>) -> Result<Self> {
+//!         parser.parse::<road>()?;
+//!         let (name, length) = (parser.parse()?, parser.parse()?);
+//!         let mut ends = Vec::new();
+//!         while !parser.is_empty() {
+//!             ends.push(parser.parens(|end| {
+//!                 end.parse::<kw::item>()?;
+//!                 end.parse()
+//!             })?);
+//!         }
+//!         Ok(Road { name, length, ends })
+//!     }
+//! }
+//!
+//! # fn main() -> Result<()> {
+//! let text = "road $a1 0x1_0 (item $here) (; two ends ;) (item 7)";
+//! let buffer = ParseBuffer::new(text)?;
+//! let read = parser::parse::<Road>(&buffer)?;
+//! assert_eq!((read.name.name(), read.length, read.ends.len()), ("a1", 16, 2));
+//!
+//! let buffer = ParseBuffer::new("road $a1 -1")?;
+//! let error = parser::parse::<Road>(&buffer).err().unwrap();
+//! assert_eq!(error.message(), "invalid u32 number: constant out of range");
+//! # Ok(())
+//! # }
+//! ```
+//!
+//! With the feature `kept` a token that was shown when the parser last moved stays shown, as in `wast`, whatever names are registered or taken
+//! back since. Without it what is shown goes by the names that are registered at the look.
+#![warn(missing_docs)]
+#![forbid(unsafe_code)]
+
+#[macro_use]
+mod macros;
+
+pub mod annotation;
+pub mod encode;
+mod error;
+pub mod gensym;
+pub mod kw;
+pub mod lexer;
+pub mod parser;
+pub mod token;
+
+pub use error::Error;
+
+/// The examples of the README, as tests.
+#[cfg(doctest)]
+#[doc = include_str!("../README.md")]
+struct Readme;

@@ -1,0 +1,363 @@
+//! Tokens that can be parsed: identifiers, indices, numbers, strings, parentheses.
+
+mod float;
+
+pub use float::{F32, F64};
+pub use wat_lex::Span;
+
+use crate::annotation;
+use crate::parser::{Cursor, Parse, Parser, Peek, Result};
+use std::fmt;
+use std::hash::{Hash, Hasher};
+
+/// An identifier: `$` and a name in a text, or one that [`gensym`](crate::gensym) made.
+///
+/// Two of them are equal where their names are, and both or neither are the same made one. Where they stand does not count.
+#[derive(Clone, Copy)]
+pub struct Id<'a> {
+    name: &'a str,
+    /// Which of the made ones it is, or 0 for one of a text.
+    generation: u32,
+    span: Span,
+}
+
+impl<'a> Id<'a> {
+    /// An identifier of a text, with its name without `$`.
+    pub fn new(name: &'a str, span: Span) -> Id<'a> {
+        Id {
+            name,
+            generation: 0,
+            span,
+        }
+    }
+
+    pub(crate) fn gensym(span: Span, generation: u32) -> Id<'a> {
+        Id {
+            name: "gensym",
+            generation,
+            span,
+        }
+    }
+
+    /// The name, without `$`.
+    pub fn name(&self) -> &'a str {
+        self.name
+    }
+
+    /// Where it begins.
+    pub fn span(&self) -> Span {
+        self.span
+    }
+
+    /// Whether it was made and stands in no text.
+    pub fn is_gensym(&self) -> bool {
+        self.generation != 0
+    }
+}
+
+impl PartialEq for Id<'_> {
+    fn eq(&self, other: &Id<'_>) -> bool {
+        (self.name, self.generation) == (other.name, other.generation)
+    }
+}
+
+impl Eq for Id<'_> {}
+
+impl Hash for Id<'_> {
+    fn hash<H: Hasher>(&self, state: &mut H) {
+        (self.name, self.generation).hash(state);
+    }
+}
+
+impl fmt::Debug for Id<'_> {
+    fn fmt(&self, f: &mut fmt::Formatter<'_>) -> fmt::Result {
+        if self.is_gensym() {
+            f.debug_struct("Id")
+                .field("generation", &self.generation)
+                .finish()
+        } else {
+            fmt::Debug::fmt(self.name, f)
+        }
+    }
+}
+
+impl<'a> Parse<'a> for Id<'a> {
+    fn parse(parser: Parser<'a>) -> Result<Self> {
+        parser.step(|cursor| match cursor.id()? {
+            Some((name, rest)) => Ok((Id::new(name, cursor.span()), rest)),
+            None => Err(cursor.error("expected an identifier")),
+        })
+    }
+}
+
+impl Peek for Id<'_> {
+    fn peek(cursor: Cursor<'_>) -> Result<bool> {
+        cursor.peek_id()
+    }
+
+    fn display() -> &'static str {
+        "an identifier"
+    }
+}
+
+/// What refers to an item: its number, or its identifier.
+///
+/// Two of them are equal where their numbers or identifiers are. Where they stand does not count.
+#[derive(Clone, Copy, Debug)]
+pub enum Index<'a> {
+    /// The number of the item among those of its kind, and where it stands.
+    Num(u32, Span),
+    /// The item's identifier.
+    Id(Id<'a>),
+}
+
+impl Index<'_> {
+    /// Where it begins.
+    pub fn span(&self) -> Span {
+        match self {
+            Index::Num(_, span) => *span,
+            Index::Id(id) => id.span(),
+        }
+    }
+
+    /// Whether it is a number.
+    pub fn is_resolved(&self) -> bool {
+        matches!(self, Index::Num(..))
+    }
+}
+
+impl PartialEq for Index<'_> {
+    fn eq(&self, other: &Index<'_>) -> bool {
+        match (self, other) {
+            (Index::Num(a, _), Index::Num(b, _)) => a == b,
+            (Index::Id(a), Index::Id(b)) => a == b,
+            _ => false,
+        }
+    }
+}
+
+impl Eq for Index<'_> {}
+
+impl Hash for Index<'_> {
+    fn hash<H: Hasher>(&self, state: &mut H) {
+        match self {
+            Index::Num(number, _) => (0u8, number).hash(state),
+            Index::Id(id) => (1u8, id).hash(state),
+        }
+    }
+}
+
+impl<'a> From<Id<'a>> for Index<'a> {
+    fn from(id: Id<'a>) -> Index<'a> {
+        Index::Id(id)
+    }
+}
+
+impl<'a> Parse<'a> for Index<'a> {
+    fn parse(parser: Parser<'a>) -> Result<Self> {
+        if parser.peek::<Id>()? {
+            return parser.parse().map(Index::Id);
+        }
+        if !parser.peek::<u32>()? {
+            return Err(parser.error("unexpected token, expected an index or an identifier"));
+        }
+        let (number, span) = parser.parse()?;
+        Ok(Index::Num(number, span))
+    }
+}
+
+impl Peek for Index<'_> {
+    fn peek(cursor: Cursor<'_>) -> Result<bool> {
+        Ok(cursor.peek_integer()? || cursor.peek_id()?)
+    }
+
+    fn display() -> &'static str {
+        "an index"
+    }
+}
+
+/// A group of a keyword and an index: `(func $f)`.
+#[derive(Clone, Debug)]
+pub struct ItemRef<'a, K> {
+    /// The keyword, which says of which kind the item is.
+    pub kind: K,
+    /// The item.
+    pub idx: Index<'a>,
+}
+
+impl<'a, K: Parse<'a>> Parse<'a> for ItemRef<'a, K> {
+    fn parse(parser: Parser<'a>) -> Result<Self> {
+        parser.parens(|group| {
+            Ok(ItemRef {
+                kind: group.parse()?,
+                idx: group.parse()?,
+            })
+        })
+    }
+}
+
+/// Seen by its `(` and the keyword.
+impl<K: Peek> Peek for ItemRef<'_, K> {
+    fn peek(cursor: Cursor<'_>) -> Result<bool> {
+        match cursor.lparen()? {
+            Some(inside) => K::peek(inside),
+            None => Ok(false),
+        }
+    }
+
+    fn display() -> &'static str {
+        "an item reference"
+    }
+}
+
+/// The name that an annotation gives an item: `@name "x"`.
+#[derive(Clone, Copy, Debug, PartialEq, Eq)]
+pub struct NameAnnotation<'a> {
+    /// The name.
+    pub name: &'a str,
+}
+
+impl<'a> Parse<'a> for NameAnnotation<'a> {
+    fn parse(parser: Parser<'a>) -> Result<Self> {
+        parser.parse::<annotation::name>()?;
+        let name = parser.parse()?;
+        Ok(NameAnnotation { name })
+    }
+}
+
+/// Read with its parentheses, where it is there and `name` is registered.
+impl<'a> Parse<'a> for Option<NameAnnotation<'a>> {
+    fn parse(parser: Parser<'a>) -> Result<Self> {
+        if parser.peek2::<annotation::name>()? {
+            parser.parens(NameAnnotation::parse).map(Some)
+        } else {
+            Ok(None)
+        }
+    }
+}
+
+macro_rules! integers {
+    ($($integer:ident is_signed: $is_signed:literal,)*) => {
+        $(
+            impl<'a> Parse<'a> for ($integer, Span) {
+                fn parse(parser: Parser<'a>) -> Result<Self> {
+                    parser.step(|cursor| match cursor.number($integer::BITS, $is_signed)? {
+                        Some((Some(value), rest)) => Ok(((value as $integer, cursor.span()), rest)),
+                        Some((None, _)) => Err(cursor.error(concat!(
+                            "invalid ",
+                            stringify!($integer),
+                            " number: constant out of range",
+                        ))),
+                        None => Err(cursor.error(concat!("expected a ", stringify!($integer)))),
+                    })
+                }
+            }
+
+            impl<'a> Parse<'a> for $integer {
+                fn parse(parser: Parser<'a>) -> Result<Self> {
+                    let (value, _) = parser.parse::<($integer, Span)>()?;
+                    Ok(value)
+                }
+            }
+
+            impl Peek for $integer {
+                fn peek(cursor: Cursor<'_>) -> Result<bool> {
+                    cursor.peek_integer()
+                }
+
+                fn display() -> &'static str {
+                    stringify!($integer)
+                }
+            }
+        )*
+    };
+}
+
+// A signed type takes what fits the unsigned one too, as its two's complement; an unsigned type takes no `-`, not even that of `-0`.
+integers! {
+    u8 is_signed: false,
+    u16 is_signed: false,
+    u32 is_signed: false,
+    u64 is_signed: false,
+    i8 is_signed: true,
+    i16 is_signed: true,
+    i32 is_signed: true,
+    i64 is_signed: true,
+}
+
+/// A string of any bytes.
+impl<'a> Parse<'a> for &'a [u8] {
+    fn parse(parser: Parser<'a>) -> Result<Self> {
+        parser.step(|cursor| match cursor.string()? {
+            Some(taken) => Ok(taken),
+            None => Err(cursor.error("expected a string")),
+        })
+    }
+}
+
+impl Peek for &[u8] {
+    fn peek(cursor: Cursor<'_>) -> Result<bool> {
+        cursor.peek_string()
+    }
+
+    fn display() -> &'static str {
+        "string"
+    }
+}
+
+/// A string that is UTF-8.
+impl<'a> Parse<'a> for &'a str {
+    fn parse(parser: Parser<'a>) -> Result<Self> {
+        let bytes: &[u8] = parser.parse()?;
+        std::str::from_utf8(bytes)
+            .map_err(|_| parser.error_at(parser.prev_span(), "malformed UTF-8 encoding"))
+    }
+}
+
+impl Peek for &str {
+    fn peek(cursor: Cursor<'_>) -> Result<bool> {
+        cursor.peek_string()
+    }
+
+    fn display() -> &'static str {
+        "string"
+    }
+}
+
+impl<'a> Parse<'a> for String {
+    fn parse(parser: Parser<'a>) -> Result<Self> {
+        parser.parse().map(str::to_owned)
+    }
+}
+
+/// A type to look for a `(` with.
+#[derive(Debug)]
+pub struct LParen {
+    _private: (),
+}
+
+impl Peek for LParen {
+    fn peek(cursor: Cursor<'_>) -> Result<bool> {
+        cursor.peek_lparen()
+    }
+
+    fn display() -> &'static str {
+        "left paren"
+    }
+}
+
+/// A type to look for a `)` with.
+#[derive(Debug)]
+pub struct RParen {
+    _private: (),
+}
+
+impl Peek for RParen {
+    fn peek(cursor: Cursor<'_>) -> Result<bool> {
+        cursor.peek_rparen()
+    }
+
+    fn display() -> &'static str {
+        "right paren"
+    }
+}

@@ -1,0 +1,77 @@
+/* Prints floating-point numbers, hexadecimal and decimal, each with the bits that `strtof` and `strtod` read, or `-` where they read
+ * infinity: a line for each. Many lie at midpoints, among the subnormal numbers, and about the greatest ones. In place of a hexadecimal one
+ * that is subnormal stands `?`: the GNU C library rounds some of them the wrong way (its bug 30220).
+ *
+ * usage: floats COUNT
+ */
+#include <inttypes.h>
+#include <math.h>
+#include <stdio.h>
+#include <stdlib.h>
+#include <string.h>
+
+static uint64_t state = 0x9e3779b97f4a7c15u;
+
+/* A number below another, the same on each run. */
+static uint64_t below(uint64_t bound) {
+    state ^= state << 13;
+    state ^= state >> 7;
+    state ^= state << 17;
+    return (state >> 11) % bound;
+}
+
+/* An exponent about an edge of one of the formats, or any. */
+static int exponent(int hex) {
+    static const int binary[] = {0, 127, -126, -149, 1023, -1022, -1074};
+    static const int decimal[] = {0, 38, -38, -45, 308, -308, -324};
+    int edge = (hex ? binary : decimal)[below(7)];
+    return edge + (int)below(hex ? 160 : 40) - (hex ? 80 : 20);
+}
+
+/* Digits, most of them the least or the greatest, so that they lie at midpoints. */
+static void put_digits(char *text, int hex, size_t count) {
+    size_t same = below(count + 1);
+    int digit = (int)below(3) == 0 ? (hex ? 15 : 9) : 0;
+    for (size_t at = 0; at < count; at++) {
+        int here = at < same ? digit : (int)below(hex ? 16 : 10);
+        text[at] = "0123456789abcdef"[here];
+    }
+    text[count] = 0;
+}
+
+static void put_number(char *text, size_t room) {
+    char integral[32], fractional[64];
+    int hex = (int)below(2);
+    put_digits(integral, hex, 1 + below(20));
+    put_digits(fractional, hex, below(40));
+    /* The point moves the exponent back to where the edge was. */
+    int moved = (int)strlen(integral) * (hex ? 4 : 1);
+    snprintf(text, room, "%s%s%s.%s%c%d", below(2) ? "-" : "", hex ? "0x" : "", integral, fractional, hex ? 'p' : 'e', exponent(hex) - moved);
+}
+
+/* Prints the bits of what was read. */
+static void print_bits(int hex, int class, uint64_t bits) {
+    if (class == FP_INFINITE) printf(" -");
+    else if (hex && class == FP_SUBNORMAL) printf(" ?");
+    else printf(" %" PRIx64, bits);
+}
+
+int main(int count, char **words) {
+    long numbers = count > 1 ? atol(words[1]) : 10000;
+    for (long number = 0; number < numbers; number++) {
+        char text[160];
+        put_number(text, sizeof text);
+        float single = strtof(text, NULL);
+        double twice = strtod(text, NULL);
+        uint32_t single_bits;
+        uint64_t double_bits;
+        memcpy(&single_bits, &single, sizeof single);
+        memcpy(&double_bits, &twice, sizeof twice);
+        int hex = strchr(text, 'x') != NULL;
+        printf("%s", text);
+        print_bits(hex, fpclassify(single), single_bits);
+        print_bits(hex, fpclassify(twice), double_bits);
+        printf("\n");
+    }
+    return 0;
+}

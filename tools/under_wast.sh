@@ -1,0 +1,124 @@
+#!/usr/bin/env bash
+# Builds the crate wast 222.0.0 whole over its own lowest layer, that of 263.0.0, and over this project's, without changing a line above, and
+# compares what the two answer of the same texts: bytes, trees with spans, errors as they are printed. Both are built once more: ours with the
+# feature `kept`, which keeps what was shown as wast does, and theirs so that it keeps nothing. Ours has to answer as theirs that keeps
+# nothing, and ours that keeps as theirs; the counts of what differs between ours and theirs are printed.
+#
+# The drivers are left as WORK/ours/target/release/driver and WORK/theirs/target/release/driver, and in WORK/kept and WORK/fresh.
+# FOLDER is one with workspace.sh, which unpacks wast 222.0.0 over the layer of 263.0.0, and with edge.sh, which writes texts at the edges.
+#
+# usage: [WAT_C_FOLDER=ARCHIVES] tools/under_wast.sh FOLDER WORK [MUTANTS]
+set -eu -o pipefail
+folder=$(cd "$1" && pwd)
+mkdir -p "$2"
+work=$(cd "$2" && pwd)
+mutants=${3:-20000}
+cd "$(dirname "$0")/.."
+project=$PWD
+WAT_C_FOLDER=$(cd "${WAT_C_FOLDER:-$(tools/build_c.sh)}" && pwd)
+export WAT_C_FOLDER
+layer=(encode error gensym lexer lib parser token)
+
+say() {
+    echo "under_wast.sh: $*"
+}
+
+# unpack NAME: a workspace of wast over its own lowest layer, as new; what was built of it before stays
+unpack() {
+    local target=$work/$1/target
+    [ ! -d "$target" ] || mv "$target" "$work/$1.target"
+    rm -rf "${work:?}/$1"
+    bash "$folder/workspace.sh" "$work/$1"
+    [ ! -d "$work/$1.target" ] || mv "$work/$1.target" "$target"
+}
+
+# ours NAME FEATURES: a workspace of wast over this project's lowest layer, with these features beside wast's own
+ours() {
+    unpack "$1"
+    local wast=$work/$1/wast module
+    for module in "${layer[@]}"; do
+        rm "$wast/src/$module.rs"
+    done
+    cp -r rust/wat-parser/src/. tools/under_wast/lib.rs "$wast/src/"
+    # The keywords that 222.0.0 has and 263.0.0 dropped.
+    sed -n 's/^+ *\(custom_keyword!.*\)/\1/p' "$folder/lib-263-to-222.diff" >> "$wast/src/kw.rs"
+    sed -i "s|^\[features\]|[dependencies.wat-lex]\npath = \"$project/rust/wat-lex\"\n\n[features]\nkept = []|; s|^default = \[|default = [$2|" "$wast/Cargo.toml"
+}
+
+# unchanged NAME: fails where a file above the lowest layer is another than wast's
+unchanged() {
+    local path changed=0 above=0
+    while IFS= read -r path; do
+        case " ${layer[*]} " in
+            *" ${path%.rs} "*) continue ;;
+        esac
+        above=$((above + 1))
+        cmp -s "$work/$1/upper/wast-222.0.0/src/$path" "$work/$1/wast/src/$path" || changed=$((changed + 1))
+    done < <(cd "$work/$1/upper/wast-222.0.0/src" && find . -name '*.rs' -printf '%P\n')
+    say "$1: $changed of $above files above the lowest layer changed"
+    [ "$changed" = 0 ]
+}
+
+# build NAME
+build() {
+    (cd "$work/$1" && cargo build --offline --release --quiet -p driver)
+}
+
+# answers NAME: what a driver answers of all texts, a line for each question
+answers() {
+    local driver=$work/$1/target/release/driver texts=("$work"/texts/*)
+    "$driver" files "${texts[@]}" | sed 's/^/plain\t/'
+    "$driver" files --allow "${texts[@]}" | sed 's/^/allow\t/'
+    "$driver" mutants "$each" "$work"/tests/* | sed 's/^/mutant\t/'
+}
+
+# different ONE OTHER KIND: how many answers of a kind differ
+different() {
+    diff -a <(grep -a "^$3" "$work/$1.answers") <(grep -a "^$3" "$work/$2.answers") | grep -ac '^<' || true
+}
+
+unpack theirs
+unpack fresh
+# The token that a look found before is looked for again.
+sed -i 's/^\( *\)Some(token) => Ok(Some(token)),$/\1Some(_) => self.parser.buf.advance_token(self.pos.offset),/' "$work/fresh/wast/src/parser.rs"
+ours ours ''
+ours kept '"kept", '
+unchanged ours
+unchanged kept
+for name in theirs fresh ours kept; do
+    build "$name"
+done
+(cd "$work/ours" && cargo test --offline --release -p wast) > "$work/tests.log" 2>&1 || {
+    tail -40 "$work/tests.log"
+    exit 1
+}
+say "tests of wast over ours: $(grep -Eo '[0-9]+ passed; [0-9]+ failed' "$work/tests.log" | tr '\n' ',')"
+
+rm -rf "$work/texts" "$work/tests"
+mkdir "$work/texts" "$work/tests"
+cp "$work"/theirs/wast/tests/parse-fail/*.wat "$work/tests/"
+cp "$work"/tests/* "$work/texts/"
+bash "$folder/edge.sh" "$work/texts"
+for text in crates/wat_tokens/agreement/*; do
+    case $text in
+        *.stdout | *.args) ;;
+        *) cp "$text" "$work/texts/" ;;
+    esac
+done
+# Some of the mutants are not UTF-8, and so are no texts.
+each=$((mutants * 5 / 4 / $(find "$work/tests" -type f | wc -l) + 1))
+for name in theirs fresh ours kept; do
+    answers "$name" > "$work/$name.answers"
+done
+for pair in 'ours theirs' 'ours fresh' 'kept theirs'; do
+    read -r one other <<< "$pair"
+    for kind in plain allow mutant; do
+        say "$one and $other: $(different "$one" "$other" "$kind") of $(grep -ac "^$kind" "$work/$other.answers") answers differ ($kind)"
+    done
+done
+cmp "$work/ours.answers" "$work/fresh.answers"
+cmp "$work/kept.answers" "$work/theirs.answers"
+if cmp -s "$work/ours.answers" "$work/theirs.answers"; then
+    say 'no answer shows that theirs keeps what was shown: the texts are not those that they should be'
+    exit 1
+fi
