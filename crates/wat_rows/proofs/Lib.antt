@@ -1,3 +1,5 @@
+mod Closing
 mod Counted
 mod Filling
+mod Linking
 mod OneFill

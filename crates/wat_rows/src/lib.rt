@@ -4,4 +4,5 @@
 pub mod counting;
 pub mod fill;
 pub mod laws;
+pub mod links;
 pub mod rows;
