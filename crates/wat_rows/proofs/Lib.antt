@@ -3,3 +3,4 @@ mod Counted
 mod Filling
 mod Linking
 mod OneFill
+mod Registering

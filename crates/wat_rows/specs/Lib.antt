@@ -1,3 +1,6 @@
 pub mod Counting
 pub mod Links
+pub mod Looks
+pub mod Places
 pub mod Rows
+pub mod inside
