@@ -1,6 +1,12 @@
 mod Closing
+mod CodedGroups
+mod Coding
 mod Counted
 mod Filling
+mod Fronts
+mod Lifting
 mod Linking
 mod OneFill
+mod RawPlaces
 mod Registering
+mod Told

@@ -5,6 +5,7 @@ use Rattle.std.proofs.lemmas.List.{drop_all, length-map}
 use Rattle.std.proofs.lemmas.Option.{slice_get_within}
 use Rattle.wat_rows.specs.Links.{opens, closes, codes_of, ClosedWithin, IsLink, LinkedFrom, without_link}
 use Rattle.wat_rows.specs.declared.counting.Row.{Row}
+use Rattle.wat_rows.proofs.Fronts.{front, none_past}
 use Rattle.wat_rows.proofs.Closing.{Closed, Closed.close, Closed.beyond, Closed.nested, Cut, at_nil, at_close, at_plain, at_open, closed_unique, closed_from, cut_from}
 
 -- what `IsLink` says, by the rest behind the group
@@ -42,12 +43,6 @@ link_to codes i (suc j) h =
     let n : length (drop (i + 1) codes) ≡ length h.1.within + 1 + length h.1.rest = omega (arith, ap length h.1.cut, length-append h.1.within (h.1.last ∷ h.1.rest)) in
     let m : suc j ≤ length codes = omega (arith, e, n, length-drop (i + 1) codes) in
     (omega (arith, e), m, subst (Closed (drop (i + 1) codes)) f (closed_from (drop (i + 1) codes) h.1.rest g))
-
-pub front : (xs : List ℕ) (i b : ℕ) → slice_get xs i ≡ Some b → drop i xs ≡ b ∷ drop (i + 1) xs
-front [] zero b e = cc
-front [] (suc i) b e = cc
-front (x ∷ xs) zero b e = let k : x ≡ b = cc in ap (λ y. y ∷ xs) k
-front (x ∷ xs) (suc i) b e = let k : suc i + 1 ≡ suc (i + 1) = omega arith in front xs i b e ∙ ap (λ n. b ∷ drop n (x ∷ xs)) (sym k)
 
 module _ (codes : List ℕ) (i : ℕ) where
   pub link_none : length codes ≤ i + 1 → IsLink codes i 0
@@ -94,11 +89,6 @@ code_at : (rows : List Row) (i : ℕ) (row : Row) → slice_get rows i ≡ Some 
 code_at [] i row e = cc
 code_at (r ∷ rows) zero row e = let k : r ≡ row = cc in ap (λ (x : Row). Some x.kind.code) k
 code_at (r ∷ rows) (suc i) row e = code_at rows i row e
-
-none_past : (rows : List Row) (i : ℕ) → slice_get rows i ≡ None → length rows ≤ i
-none_past [] i e = omega arith
-none_past (r ∷ rows) zero e = cc
-none_past (r ∷ rows) (suc i) e = omega (arith, none_past rows i e)
 
 codes_length : (rows : List Row) → length (codes_of rows) ≡ length rows
 codes_length rows = length-map rows (λ (row : Row). row.kind.code)
