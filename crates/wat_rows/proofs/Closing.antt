@@ -1,10 +1,7 @@
 -- Groups in parentheses, over the codes of rows: a code at a time.
-use Rattle.std.proofs.Common.{◌≡◌, ◌⊎◌, ◌≤◌, ◌<◌, ◌+◌, ◌-◌, ◌++◌, ℕ, zero, suc, List, [], ◌∷◌, true, false, length, drop, refl, arith, ap, sym, ◌∙◌, subst, inl, inr, append_assoc, length-append, length-drop, drop-drop, Some, None}
-use Rattle.std.specs.Prelude.{Bool, ◌||◌, ◌==◌, slice_get, IsTrue, IsFalse}
-use Rattle.std.proofs.lemmas.Bool.{cases_Bool, both_ways, eqb-true}
-use Rattle.std.proofs.lemmas.List.{drop_all}
-use Rattle.wat_rows.specs.Counting.{opens_at}
-use Rattle.wat_rows.specs.Links.{opens, closes, Balanced, Balanced.nothing, Balanced.plain, Balanced.group, ClosedWithin, IsLink}
+use Rattle.std.proofs.Common.{◌≡◌, ◌++◌, ℕ, List, [], ◌∷◌, true, false, refl, ap, sym, ◌∙◌, subst, append_assoc}
+use Rattle.std.proofs.lemmas.Bool.{both_ways, eqb-true}
+use Rattle.wat_rows.specs.Links.{opens, closes, Balanced, Balanced.nothing, Balanced.plain, Balanced.group}
 
 -- a group ends in the codes, and then comes the rest
 pub data Closed : List ℕ → List ℕ → Type 0 where

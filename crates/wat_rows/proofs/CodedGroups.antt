@@ -1,7 +1,7 @@
 -- Groups of tokens are groups of their codes.
-use Rattle.std.proofs.Common.{◌≡◌, ◌⊎◌, ◌+◌, ℕ, zero, suc, List, [], ◌∷◌, ◌++◌, true, false, refl, sym, ap, ◌∙◌, subst, inl, inr, arith, length, drop}
+use Rattle.std.proofs.Common.{◌≡◌, ◌+◌, ℕ, suc, List, [], ◌∷◌, ◌++◌, true, false, refl, sym, ap, ◌∙◌, subst, inl, inr, arith, length, drop}
 use Rattle.std.proofs.lemmas.Bool.{both_ways}
-use Rattle.std.proofs.lemmas.List.{map-append, length-map, length-append}
+use Rattle.std.proofs.lemmas.List.{map-append, length-map}
 use Rattle.wat_lex.specs.declared.lexer.kinds.Token.{Token}
 use Rattle.wat_lex.specs.declared.lexer.kinds.TokenKind.TheVariants.{LParen, RParen}
 use Rattle.wat_lexer_parser.specs.groups.Groups.{Group}
@@ -9,7 +9,7 @@ use Rattle.wat_lexer_parser.specs.groups.Groups.{Balanced as BalancedTokens, Bal
 use Rattle.wat_lexer_parser.specs.groups.Sorts.{is_paren}
 use Rattle.wat_rows.specs.Links.{opens, closes, Balanced, Balanced.nothing, Balanced.plain, Balanced.group, ClosedWithin}
 use Rattle.wat_rows.proofs.Closing.{close_opens_none}
-use Rattle.wat_rows.proofs.Coding.{code_of, code_by, codes, sort, Opening, Ending, Neither}
+use Rattle.wat_rows.proofs.Coding.{code_of, codes, sort, Neither}
 
 module _ (x : List ℕ) where
   open_code : (t : Token) → t.kind ≡ LParen → opens (code_of x t) ≡ true

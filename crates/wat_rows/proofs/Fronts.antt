@@ -1,5 +1,5 @@
 -- The first of the elements from a place on.
-use Rattle.std.proofs.Common.{◌≡◌, ◌≤◌, ◌+◌, ℕ, zero, suc, List, [], ◌∷◌, refl, sym, ap, ◌∙◌, arith, length, drop, Some, None}
+use Rattle.std.proofs.Common.{◌≡◌, ◌≤◌, ◌+◌, ℕ, zero, suc, List, [], ◌∷◌, sym, ap, ◌∙◌, arith, length, drop, Some, None}
 use Rattle.std.specs.Prelude.{slice_get}
 
 pub front : {A : Type 0} (xs : List A) (i : ℕ) (b : A) → slice_get xs i ≡ Some b → drop i xs ≡ b ∷ drop (i + 1) xs

@@ -6,6 +6,7 @@ mod Filling
 mod Fronts
 mod Lifting
 mod Linking
+mod Looking
 mod OneFill
 mod RawPlaces
 mod Registering

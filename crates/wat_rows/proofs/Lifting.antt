@@ -1,6 +1,6 @@
 -- What is shown of the tokens that count, with the place behind it among the raw tokens.
-use Rattle.std.proofs.Common.{◌≡◌, ◌≤◌, ◌<◌, ◌+◌, ◌-◌, ℕ, zero, suc, List, [], ◌∷◌, false, refl, sym, ap, ◌∙◌, subst, arith, length, drop, Some, None, Ok, Err}
-use Rattle.std.specs.Prelude.{Option, Result, slice_get}
+use Rattle.std.proofs.Common.{◌≡◌, ◌≤◌, ◌+◌, ◌-◌, ℕ, suc, List, ◌∷◌, false, refl, sym, ap, ◌∙◌, subst, arith, length, drop, Some, None, Ok, Err}
+use Rattle.std.specs.Prelude.{Option}
 use Rattle.std.specs.Str.{IsUtf8}
 use Rattle.wat_lex.specs.declared.lexer.faults.LexFault.{LexFault}
 use Rattle.wat_lex.specs.declared.lexer.kinds.Token.{Token}

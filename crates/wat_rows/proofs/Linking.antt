@@ -6,7 +6,7 @@ use Rattle.std.proofs.lemmas.Option.{slice_get_within}
 use Rattle.wat_rows.specs.Links.{opens, closes, codes_of, ClosedWithin, IsLink, LinkedFrom, without_link}
 use Rattle.wat_rows.specs.declared.counting.Row.{Row}
 use Rattle.wat_rows.proofs.Fronts.{front, none_past}
-use Rattle.wat_rows.proofs.Closing.{Closed, Closed.close, Closed.beyond, Closed.nested, Cut, at_nil, at_close, at_plain, at_open, closed_unique, closed_from, cut_from}
+use Rattle.wat_rows.proofs.Closing.{Closed, Closed.close, Closed.beyond, Closed.nested, Cut, at_nil, at_plain, at_open, closed_unique, closed_from, cut_from}
 
 -- what `IsLink` says, by the rest behind the group
 abbrev pub Link : List ℕ → ℕ → ℕ → Type 0

@@ -1,6 +1,6 @@
 -- WebAssembly specification, text format, lexical format: white space, comments, annotations. What a parser shows of a text under
 -- registered names, found in the rows of the text. Rows and how names are handed in are no part of the standard.
-use Rattle.std.specs.Prelude.{◌≡◌, ◌≤◌, ℕ, ◌+◌, ◌-◌, List, [], ◌∷◌, take, drop, length, nat_le, ◌&&◌, ◌==◌, if◌then◌else◌, slice_get, Option, Some, None, Result, Ok, Err}
+use Rattle.std.specs.Prelude.{◌≡◌, ◌≤◌, ℕ, ◌+◌, ◌-◌, List, [], ◌∷◌, take, drop, length, nat_le, ◌&&◌, if◌then◌else◌, slice_get, Some, None, Result, Ok, Err}
 use Rattle.wat_lex.specs.tokens.ReadableTokens.{word_of}
 use Rattle.wat_lex.specs.values.Names.{HasNoEscape}
 use Rattle.wat_lex.specs.declared.lexer.faults.LexError.{LexError}

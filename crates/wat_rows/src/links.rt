@@ -1,5 +1,5 @@
 //! Links of rows by the parentheses among them.
-ghost use Rattle.std.specs.Prelude.{◌≡◌, ◌<◌, ◌+◌, ◌-◌, ◌^◌, length, map, slice_get};
+ghost use Rattle.std.specs.Prelude.{◌≡◌, ◌<◌, ◌+◌, ◌-◌, ◌^◌, length, map, slice_get, IfSome};
 ghost use Rattle.wat_rows.specs.Links.{AreLinked, IsLink, LinkedFrom, closes, codes_of, opens, without_link};
 
 use crate::counting::Row;
@@ -20,7 +20,9 @@ fn closes(code: u8) -> bool
 
 /// The row of this number.
 pub fn row_at(rows: &[Row], number: usize) -> Option<Row>
-    ensures { result ≡ slice_get rows.now number }
+    ensures value { result ≡ slice_get rows.now number }
+    ensures within { IfSome result (λ _. number < length rows.now) }
+    ensures small { length rows.now < 2 ^ 63 }
 {
     rows.get(number).copied()
 }

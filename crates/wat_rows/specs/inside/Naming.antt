@@ -1,5 +1,5 @@
 -- WebAssembly specification, text format, lexical format: annotations. What the name of an annotation means to a look.
-use Rattle.std.specs.Prelude.{◌≡◌, ◌<◌, ◌-◌, ℕ, Bool, ◌&&◌, nat_le, List, length, take, drop, Result, Ok, Err, IsTrue, IsFalse, if◌then◌else◌, ◌==◌}
+use Rattle.std.specs.Prelude.{◌<◌, ◌-◌, ℕ, Bool, ◌&&◌, nat_le, List, length, take, drop, Result, Ok, Err, IsTrue, IsFalse, if◌then◌else◌, ◌==◌}
 use Rattle.std.specs.Str.{bytes_eq}
 use Rattle.wat_lex.specs.tokens.ReadableTokens.{word_of}
 use Rattle.wat_lex.specs.values.Names.{HasNoEscape}

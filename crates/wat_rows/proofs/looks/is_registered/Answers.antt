@@ -1,4 +1,4 @@
-use Rattle.std.proofs.Common.{◌≡◌, ◌∙◌, ◌<◌, ◌+◌, ℕ, sym, ap, arith, List, ◌∷◌, length, drop, get_or, true, false}
+use Rattle.std.proofs.Common.{◌≡◌, ◌∙◌, ◌+◌, ℕ, sym, ap, arith, List, ◌∷◌, drop, get_or, true, false}
 use Rattle.std.proofs.lemmas.List.{drop_more, drop_all}
 use Rattle.wat_lexer_parser.specs.names.RegisteredNames.{is_registered}
 use Rattle.wat_rows.specs.Looks.{names_between, registered}

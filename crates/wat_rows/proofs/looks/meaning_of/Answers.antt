@@ -1,13 +1,11 @@
-use Rattle.std.proofs.Common.{◌≡◌, ◌≢◌, ◌∙◌, ℕ, sym, ap, subst, rules, List, [], true, false, length}
+use Rattle.std.proofs.Common.{◌≡◌, ◌∙◌, sym, ap, subst, true, false}
 use Rattle.std.specs.Cow.{cow_str_bytes}
-use Rattle.std.specs.Str.{IsUtf8}
 use Rattle.wat_lex.specs.tokens.ReadableTokens.{word_of}
-use Rattle.wat_lex.specs.values.Names.{Name, NameFault}
+use Rattle.wat_lex.specs.values.Names.{NameFault}
 use Rattle.wat_lex.specs.values.WordValues.{empty_name}
 use Rattle.wat_lexer_parser.specs.names.RegisteredNames.{is_registered}
-use Rattle.wat_lexer_parser.specs.shown.Shown.{HasName, IsMisnamed}
 use Rattle.wat_rows.specs.Looks.{names_of}
-use Rattle.wat_rows.specs.inside.Naming.{NameMeans, NameMeans.registered, NameMeans.other, NameMeans.misnamed, NameMeans.memory}
+use Rattle.wat_rows.specs.inside.Naming.{NameMeans.registered, NameMeans.other, NameMeans.misnamed, NameMeans.memory}
 use Rattle.wat_rows.proofs.looks.meaning_of.Goals as goal
 
 pub returns-then-is_registered : goal.returns-then-is_registered
