@@ -30,7 +30,7 @@ counting_other t r e = ap (λ b. cond (not b) (t ∷ counting r) (counting r)) e
 pub counting_blank : (t : Token) (r : List Token) → is_blank t.kind ≡ true → counting (t ∷ r) ≡ counting r
 counting_blank t r e = ap (λ b. cond (not b) (t ∷ counting r) (counting r)) e
 
-counting_append : (ts us : List Token) → counting (ts ++ us) ≡ counting ts ++ counting us
+pub counting_append : (ts us : List Token) → counting (ts ++ us) ≡ counting ts ++ counting us
 counting_append ts us = filter-append (λ t. not (is_blank t.kind)) ts us
 
 ends_counting : (ts : List Token) (t : Token) → is_blank t.kind ≡ false → EndsCounting (ts ++ t ∷ [])

@@ -7,7 +7,9 @@ mod Fronts
 mod Lifting
 mod Linking
 mod Looking
+mod OneCounting
 mod OneFill
+mod Pieces
 mod RawPlaces
 mod Registering
 mod Told

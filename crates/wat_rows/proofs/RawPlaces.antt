@@ -39,7 +39,7 @@ drops (t ∷ ts) (suc n) = elim (cases_Bool (is_blank t.kind)) [
   | inr o ↦ ap (λ k. counting (drop k (t ∷ ts))) (at_other t ts n o) ∙ drops ts n ∙ ap (drop (suc n)) (sym (counting_other t ts o))
 ]
 
-counting_shorter : (t : Token) (ts : List Token) → length (counting ts) ≤ length (counting (t ∷ ts))
+pub counting_shorter : (t : Token) (ts : List Token) → length (counting ts) ≤ length (counting (t ∷ ts))
 counting_shorter t ts = elim (cases_Bool (is_blank t.kind)) [
   | inl b ↦ omega (arith, ap length (counting_blank t ts b))
   | inr o ↦ omega (arith, ap length (counting_other t ts o))
