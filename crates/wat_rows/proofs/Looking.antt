@@ -4,6 +4,7 @@ use Rattle.std.specs.Prelude.{Option, slice_get, IsTrue, IsFalse, ◌==◌, if�
 use Rattle.std.specs.Str.{IsUtf8}
 use Rattle.std.proofs.lemmas.List.{drop_all, drop-map}
 use Rattle.std.proofs.lemmas.Option.{slice_get_within}
+use Rattle.std.specs.declared.alloc.AllocError.{AllocError}
 use Rattle.wat_lex.specs.tokens.ReadableTokens.{word_of}
 use Rattle.wat_lex.specs.values.Names.{HasNoEscape}
 use Rattle.wat_lex.specs.declared.lexer.faults.LexError.{LexError}
@@ -55,11 +56,11 @@ is_refused x t n m (means_other h i) e = cc
 is_refused x t n m (means_misnamed {e = f} w) e = (f, w)
 is_refused x t n m (means_memory w) e = cc
 
-pub is_escaped : (x : List ℕ) (t : Token) (n : Names) (m : Named) → NameMeans x t n m → m ≡ named.OutOfMemory → HasNoEscape (word_of x t) → ⊥
-is_escaped x t n m (means_registered h i) e = cc
-is_escaped x t n m (means_other h i) e = cc
-is_escaped x t n m (means_misnamed w) e = cc
-is_escaped x t n m (means_memory w) e = w
+pub is_escaped : (x : List ℕ) (t : Token) (n : Names) (m : Named) (a : AllocError) → NameMeans x t n m → m ≡ named.Memory a → HasNoEscape (word_of x t) → ⊥
+is_escaped x t n m a (means_registered h i) e = cc
+is_escaped x t n m a (means_other h i) e = cc
+is_escaped x t n m a (means_misnamed w) e = cc
+is_escaped x t n m a (means_memory w) e = w
 
 -- no fault has the number 0
 numbered : (e : LexError) → (fault_code e == 0) ≡ false
@@ -172,8 +173,8 @@ module _ (some : SomethingShown) (one : OneThingShown) (same : CountingShowsTheS
               let a = Err (record { offset = at_word.token.offset; kind = Lex k.0 }) in
               misnamed at_word.there k.1 (shown_as a (two (λ r. a) (refuses marked k.1)))
 
-          pub answer_memory : m ≡ named.OutOfMemory → Looks s place n (Err not.OutOfMemory)
-          answer_memory e = memory (record {
+          pub answer_memory : (a : AllocError) → m ≡ named.Memory a → Looks s place n (Err (not.Memory a))
+          answer_memory a e = memory (record {
             number = number;
             paren = at_row.token;
             word = at_word.token;
@@ -182,7 +183,7 @@ module _ (some : SomethingShown) (one : OneThingShown) (same : CountingShowsTheS
             marked = marked;
             behind = at_word.there;
             annotation = sym (ap (λ (t : Token). t.kind) (annotation_told s.setting.text cs (number + 1) word at_word nine));
-            escape = is_escaped s.setting.text at_word.token n m means e;
+            escape = is_escaped s.setting.text at_word.token n m a means e;
             same = shown_lifted some one same s utf8 are.read n place ∙ ap (lifted s.tokens) to ∙ sym (shown_lifted some one same s utf8 are.read n number);
           })
 

@@ -1,6 +1,7 @@
 -- WebAssembly specification, text format, lexical format: white space, comments, annotations. What a parser shows of a text under
 -- registered names, found in the rows of the text. Rows and how names are handed in are no part of the standard.
 use Rattle.std.specs.Prelude.{◌≡◌, ◌≤◌, ℕ, ◌+◌, ◌-◌, List, [], ◌∷◌, take, drop, length, nat_le, ◌&&◌, if◌then◌else◌, slice_get, Some, None, Result, Ok, Err}
+use Rattle.std.specs.declared.alloc.AllocError.{AllocError}
 use Rattle.wat_lex.specs.tokens.ReadableTokens.{word_of}
 use Rattle.wat_lex.specs.values.Names.{HasNoEscape}
 use Rattle.wat_lex.specs.declared.lexer.faults.LexError.{LexError}
@@ -62,13 +63,13 @@ pub data Looks (s : Source) (count : ℕ) (names : Names) : Result ℕ NotShown 
   fault : {f : LexFault} → s.ending ≡ Some f → shown_behind s count names ≡ Err (record { offset = f.offset; kind = Lex f.error }) → Looks s count names (Err not.TextFault)
   unclosed : {number : ℕ} {t : Token} → s.ending ≡ None → IsNumber s number t → IsMarked s.setting.text t → shown_behind s count names ≡ Err (record { offset = t.offset + 1; kind = Unclosed }) → Looks s count names (Err (not.Unclosed number))
   misnamed : {number : ℕ} {t : Token} {e : LexError} → IsNumber s number t → IsMisnamed s.setting.text t e → shown_behind s count names ≡ Err (record { offset = t.offset; kind = Lex e }) → Looks s count names (Err (not.Misnamed number))
-  memory : MeetsEscape s count names → Looks s count names (Err not.OutOfMemory)
+  memory : {refused : AllocError} → MeetsEscape s count names → Looks s count names (Err (not.Memory refused))
 
 -- the answer in numbers, where there are so many rows
 abbrev pub look_row : ℕ → Result ℕ NotShown → LookRow
 look_row rows (Ok number) = record { row = number; status = 0 }
 look_row rows (Err not.TextEnd) = record { row = rows; status = 1 }
-look_row rows (Err not.OutOfMemory) = record { row = rows; status = 2 }
+look_row rows (Err (not.Memory refused)) = record { row = rows; status = 2 }
 look_row rows (Err not.TextFault) = record { row = rows; status = 3 }
 look_row rows (Err (not.Unclosed number)) = record { row = number; status = 4 }
 look_row rows (Err (not.Misnamed number)) = record { row = number; status = 5 }

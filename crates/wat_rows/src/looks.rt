@@ -10,7 +10,7 @@ ghost use Rattle.wat_rows.specs.Places.{AreRowsOf, RowsOf};
 
 use crate::counting::Row;
 use crate::links::row_at;
-use std::alloc::Global;
+use std::alloc::{AllocError, Global};
 use wat_lex::lexer::{Token, TokenKind};
 
 /// The number of the row that is shown, or that of the row at fault, or how many rows there are; and why no row is shown.
@@ -29,8 +29,8 @@ pub struct Look {
 pub enum NotShown {
     /// The text ends.
     TextEnd,
-    /// A request for memory was refused.
-    OutOfMemory,
+    /// A request for memory was refused, by this refusal.
+    Memory(AllocError),
     /// The text has a fault.
     TextFault,
     /// The text ends in the group of an annotation that is not registered, which this `(` opens.
@@ -45,7 +45,7 @@ enum Named {
     Registered,
     Other,
     Misnamed,
-    OutOfMemory,
+    Memory(AllocError),
 }
 
 /// Whether these bytes of the names are the name.
@@ -84,7 +84,7 @@ fn meaning_of(alloc: Global, text: &str, token: Token, names: &[u8], ends: &[usi
             }
         }
         Ok(Err(_)) => Named::Misnamed,
-        Err(_) => Named::OutOfMemory,
+        Err(refused) => Named::Memory(refused),
     }
 }
 
@@ -155,7 +155,7 @@ pub fn look_at(
         match meaning_of(alloc, text, annotation_of(word), names, ends) {
             Named::Registered => return Ok(number),
             Named::Misnamed => return Err(NotShown::Misnamed(number + 1)),
-            Named::OutOfMemory => return Err(NotShown::OutOfMemory),
+            Named::Memory(refused) => return Err(NotShown::Memory(refused)),
             Named::Other if row.link == 0 => return Err(not_closed(why, number)),
             Named::Other => number = row.link as usize,
         }
@@ -182,7 +182,7 @@ pub fn look_in_numbers(
     let (row, status) = match look_at(alloc, text, rows, why, place, names, ends) {
         Ok(number) => (number, 0),
         Err(NotShown::TextEnd) => (rows.len(), 1),
-        Err(NotShown::OutOfMemory) => (rows.len(), 2),
+        Err(NotShown::Memory(_)) => (rows.len(), 2),
         Err(NotShown::TextFault) => (rows.len(), 3),
         Err(NotShown::Unclosed(number)) => (number, 4),
         Err(NotShown::Misnamed(number)) => (number, 5),

@@ -1,6 +1,7 @@
 -- WebAssembly specification, text format, lexical format: annotations. What the name of an annotation means to a look.
 use Rattle.std.specs.Prelude.{◌<◌, ◌-◌, ℕ, Bool, ◌&&◌, nat_le, List, length, take, drop, Result, Ok, Err, IsTrue, IsFalse, if◌then◌else◌, ◌==◌}
 use Rattle.std.specs.Str.{bytes_eq}
+use Rattle.std.specs.declared.alloc.AllocError.{AllocError}
 use Rattle.wat_lex.specs.tokens.ReadableTokens.{word_of}
 use Rattle.wat_lex.specs.values.Names.{HasNoEscape}
 use Rattle.wat_lex.specs.declared.lexer.faults.LexError.{LexError}
@@ -19,7 +20,7 @@ pub data NameMeans (text : List ℕ) (t : Token) (names : Names) : Named → Typ
   registered : {x : List ℕ} → HasName text t x → IsTrue (is_registered names x) → NameMeans text t names named.Registered
   other : {x : List ℕ} → HasName text t x → IsFalse (is_registered names x) → NameMeans text t names named.Other
   misnamed : {e : LexError} → IsMisnamed text t e → NameMeans text t names named.Misnamed
-  memory : (HasNoEscape (word_of text t) → ⊥) → NameMeans text t names named.OutOfMemory
+  memory : {refused : AllocError} → (HasNoEscape (word_of text t) → ⊥) → NameMeans text t names (named.Memory refused)
 
 -- these bytes of the names are the name
 abbrev pub is_between : List ℕ → ℕ → ℕ → List ℕ → Bool
@@ -41,7 +42,7 @@ not_closed why number = if why == 0 then not.Unclosed number else not.TextFault
 abbrev pub IsWithin : ℕ → Result ℕ NotShown → Type 0
 IsWithin rows (Ok number) = number < rows
 IsWithin rows (Err not.TextEnd) = Unit {0}
-IsWithin rows (Err not.OutOfMemory) = Unit {0}
+IsWithin rows (Err (not.Memory refused)) = Unit {0}
 IsWithin rows (Err not.TextFault) = Unit {0}
 IsWithin rows (Err (not.Unclosed number)) = number < rows
 IsWithin rows (Err (not.Misnamed number)) = number < rows

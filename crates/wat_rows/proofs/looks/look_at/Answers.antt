@@ -78,8 +78,8 @@ returns-in-Misnamed-clause-looks c = λ s e are.
     answer_refused c.shown.ensures.some c.shown.ensures.one c.counting.ensures.same s utf8 c.args.rows.now c.args.why are n c.args.place c.rows.number c.rows.invariant.on (c.rows.invariant.same s e are)
     c.in-Some.row there code c.in-Some-row_at.word next nine c.meaning_of.result means c.in-Misnamed.is
 
-pub returns-in-OutOfMemory-clause-looks : goal.returns-in-OutOfMemory-clause-looks
-returns-in-OutOfMemory-clause-looks c = λ s e are.
+pub returns-in-Memory-clause-looks : goal.returns-in-Memory-clause-looks
+returns-in-Memory-clause-looks c = λ s e are.
     let n = names_of c.args.names.now c.args.ends.now in
     let utf8 : IsUtf8 s.setting.text = subst IsUtf8 (sym e) c.utf8.text in
     let there : slice_get c.args.rows.now c.rows.number ≡ Some c.in-Some.row = sym c.row_at.ensures.value ∙ c.in-Some.is in
@@ -89,7 +89,7 @@ returns-in-OutOfMemory-clause-looks c = λ s e are.
     let means : NameMeans s.setting.text (annotation_of c.in-Some-row_at.word) n c.meaning_of.result =
     subst (λ x. NameMeans x (annotation_of c.in-Some-row_at.word) n c.meaning_of.result) (sym e) (subst (λ t. NameMeans c.args.text.now t n c.meaning_of.result) c.annotation_of.ensures c.meaning_of.ensures) in
     answer_memory c.shown.ensures.some c.shown.ensures.one c.counting.ensures.same s utf8 c.args.rows.now c.args.why are n c.args.place c.rows.number c.rows.invariant.on (c.rows.invariant.same s e are)
-    c.in-Some.row there code c.in-Some-row_at.word next nine c.meaning_of.result means c.in-OutOfMemory.is
+    c.in-Some.row there code c.in-Some-row_at.word next nine c.meaning_of.result means c.in-Memory.refused c.in-Memory.is
 
 pub returns-in-Other-clause-looks : goal.returns-in-Other-clause-looks
 returns-in-Other-clause-looks c = λ s e are.
