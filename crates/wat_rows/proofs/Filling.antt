@@ -18,7 +18,7 @@ pub record Listed (s : Setting) (from at : ℕ) (old out : List TokenRow) (count
   pub bound : count ≤ length out
   pub rest : drop count out ≡ drop count old
 
-tiled_more : (s : Setting) (from to : ℕ) (ts : List Token) (t : Token) → Tiling s from to ts → TokenAt s to t → Tiling s from (t.offset + t.len) (ts ++ t ∷ [])
+pub tiled_more : (s : Setting) (from to : ℕ) (ts : List Token) (t : Token) → Tiling s from to ts → TokenAt s to t → Tiling s from (t.offset + t.len) (ts ++ t ∷ [])
 tiled_more s from to [] t h k = (subst (λ p. TokenAt s p t) (sym h) k, refl)
 tiled_more s from to (u ∷ ts) t h k = (h.0, tiled_more s (u.offset + u.len) to ts t h.1 k)
 

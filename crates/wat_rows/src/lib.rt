@@ -4,4 +4,6 @@
 pub mod counting;
 pub mod fill;
 pub mod laws;
+pub mod links;
+pub mod looks;
 pub mod rows;

@@ -62,7 +62,7 @@ pub struct Filled {
 }
 
 /// A kind of which no more is known.
-fn plain(code: u8) -> KindRow
+pub fn plain(code: u8) -> KindRow
     ensures { result ≡ plain code }
 {
     KindRow {
@@ -158,7 +158,8 @@ fn number_row(kind: TokenKind) -> KindRow
     }
 }
 
-fn kind_row(kind: TokenKind) -> KindRow
+/// A kind, and what it says of a number token.
+pub fn kind_row(kind: TokenKind) -> KindRow
     ensures { result ≡ kind_row kind }
 {
     let tag = kind_tag(kind);
@@ -169,6 +170,7 @@ fn kind_row(kind: TokenKind) -> KindRow
     }
 }
 
+/// The row of a token.
 pub fn token_row(token: Token) -> TokenRow
     ensures { result ≡ token_row token }
 {
