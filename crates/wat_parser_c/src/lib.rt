@@ -14,6 +14,7 @@ ghost use Rattle.wat_rows.specs.declared.rows.Found.{Found as FoundRow};
 pub mod answers;
 mod given;
 mod laws;
+pub mod looks;
 mod readings;
 pub mod version;
 #[cfg(test)]
