@@ -1,16 +1,18 @@
 //! Rows of the tokens that count, their links, and what is shown of them.
-ghost use Rattle.std.specs.Prelude.{◌≡◌, ◌≤◌, ◌<◌, ◌^◌, ◌-◌, length, take, drop, map};
+ghost use Rattle.std.specs.Prelude.{◌≡◌, ◌≤◌, ◌<◌, ◌^◌, ◌-◌, ℕ, length, take, drop, map};
 ghost use Rattle.std.specs.Str.{IsCharBoundary, IsUtf8};
+ghost use Rattle.wat_lexer_parser.specs.places.Places.{offset_at};
 ghost use Rattle.wat_lexer_parser.specs.places.Source.{Source};
 ghost use Rattle.wat_rows.specs.Counting.{FillsCounting, OneFillCounting};
 ghost use Rattle.wat_rows.specs.Links.{AreLinked, without_link};
 ghost use Rattle.wat_rows.specs.Looks.{LooksInNumbers, names_of};
-ghost use Rattle.wat_rows.specs.Places.{AreRowsOf, RowsOf};
+ghost use Rattle.wat_rows.specs.Places.{AreRowsOf, RowsOf, raw_place};
 ghost use Rattle.wat_rows.specs.Rows.{setting};
 
 use std::alloc::Global;
 use std::str;
 use wat_lex::lexer::Settings;
+use wat_rows::behind::offset_behind;
 use wat_rows::counting::{Row, fill_counting};
 use wat_rows::laws::one_fill_counting;
 use wat_rows::links::link;
@@ -74,4 +76,14 @@ pub extern "C" fn wat_shown(
 {
     let text = unsafe { str::from_utf8_unchecked(text) };
     look_in_numbers(alloc, text, rows, why, place, names, ends)
+}
+
+/// The byte at which a parser stands that has taken so many rows: where the last of them ends, or 0.
+#[unsafe(no_mangle)]
+pub extern "C" fn wat_behind(rows: &[Row], place: usize) -> usize
+    requires { place ≤ length rows.now }
+    ensures { (s : Source) (why : ℕ) → AreRowsOf s rows.now why →
+        result ≡ offset_at s.tokens (raw_place s.tokens place) }
+{
+    offset_behind(rows, place)
 }

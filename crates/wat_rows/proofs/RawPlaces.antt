@@ -9,6 +9,7 @@ use Rattle.wat_lex.specs.tokens.Setting.{Setting}
 use Rattle.wat_lex.specs.tokens.Tiling.{Tiling}
 use Rattle.wat_lex.specs.declared.lexer.kinds.Token.{Token}
 use Rattle.wat_lexer_parser.specs.groups.Sorts.{is_blank}
+use Rattle.wat_lexer_parser.specs.places.Places.{end_of, offset_at}
 use Rattle.wat_lexer_parser.specs.shown.Counting.{counting}
 use Rattle.wat_rows.specs.Places.{raw_place}
 use Rattle.wat_rows.proofs.Counted.{counting_blank, counting_other}
@@ -103,3 +104,34 @@ counts (u ∷ ts) n t e = elim (cases_Bool (is_blank u.kind)) [
     | suc m ↦ λ f. counts ts m t f
   ]) (sym (ap (λ r. slice_get r n) (counting_other u ts k)) ∙ e)
 ]
+
+none_place : (ts : List Token) → raw_place ts 0 ≡ 0
+none_place [] = at_end 0
+none_place (t ∷ ts) = at_none t ts
+
+pub record LastPlace (ts : List Token) (n : ℕ) (t : Token) : Type 0 where
+  pub place : ℕ
+  pub behind : raw_place ts (suc n) ≡ suc place
+  pub there : slice_get ts place ≡ Some t
+
+-- in front of the place behind so many tokens that count lies the last of them
+pub last_place : (ts : List Token) (n : ℕ) (t : Token) → slice_get (counting ts) n ≡ Some t → LastPlace ts n t
+last_place [] zero t e = cc
+last_place [] (suc n) t e = cc
+last_place (u ∷ ts) n t e = elim (cases_Bool (is_blank u.kind)) [
+  | inl k ↦
+      let h = last_place ts n t (sym (ap (λ r. slice_get r n) (counting_blank u ts k)) ∙ e) in
+      record { place = suc h.place; behind = at_blank u ts n k ∙ ap suc h.behind; there = h.there }
+  | inr k ↦ (elim n as (λ m. slice_get (u ∷ counting ts) m ≡ Some t → LastPlace (u ∷ ts) m t) [
+    | zero ↦ λ f. record { place = 0; behind = at_other u ts 0 k ∙ ap suc (none_place ts); there = f }
+    | suc m ↦ λ f.
+        let h = last_place ts m t f in
+        record { place = suc h.place; behind = at_other u ts (suc m) k ∙ ap suc h.behind; there = h.there }
+  ]) (sym (ap (λ r. slice_get r n) (counting_other u ts k)) ∙ e)
+]
+
+pub offset_of_none : (ts : List Token) → offset_at ts (raw_place ts 0) ≡ 0
+offset_of_none ts = ap (offset_at ts) (none_place ts)
+
+pub offset_of_last : (ts : List Token) (n : ℕ) (t : Token) → slice_get (counting ts) n ≡ Some t → offset_at ts (raw_place ts (suc n)) ≡ t.offset + t.len
+offset_of_last ts n t e = let h = last_place ts n t e in ap (offset_at ts) h.behind ∙ ap end_of h.there
