@@ -120,6 +120,14 @@ cargo test --offline --release --quiet --package wat-parser --test tables -- --i
 (ulimit -v 1200000 && cargo test --offline --release --quiet --package wat-parser --test tables -- --ignored refused_memory)
 cargo build --offline --release --quiet --examples
 cd ..
+if has valgrind; then
+    # Both crates over the library: each byte that is read has a value, and is one that may be read.
+    find "$room/target/release/deps" -type f -perm -u+x \( -name 'rows-*' -o -name 'tables-*' -o -name 'values-*' \) -print0 \
+        | xargs -0 -n 1 valgrind --quiet --error-exitcode=9 > "$room/valgrind" 2>&1 || { cat "$room/valgrind"; exit 1; }
+    say 'valgrind finds nothing in the tests of the Rust crates'
+else
+    say 'valgrind over the tests of the Rust crates is left out, as it is not here'
+fi
 compare 'list of the Rust crate' "$room/target/release/examples/list" list
 compare 'identifiers of the Rust crate' "$room/target/release/examples/identifiers" identifiers
 "$c" -std=c99 -O2 -Wall -Wextra -Werror -pedantic -o "$room/floats" tools/c/floats.c

@@ -5,7 +5,8 @@ use Rattle.std.proofs.lemmas.List.{map-append, length-map}
 use Rattle.wat_lex.specs.declared.lexer.kinds.Token.{Token}
 use Rattle.wat_lex.specs.declared.lexer.kinds.TokenKind.TheVariants.{LParen, RParen}
 use Rattle.wat_lexer_parser.specs.groups.Groups.{Group}
-use Rattle.wat_lexer_parser.specs.groups.Groups.{Balanced as BalancedTokens, Balanced.nothing as no_tokens, Balanced.plain as plain_token, Balanced.group as token_group}
+use Rattle.wat_lexer_parser.specs.groups.Groups.{Balanced as BalancedTokens, Balanced.nothing as no_tokens, Balanced.plain as plain_token}
+use Rattle.wat_lexer_parser.specs.groups.Groups.{Balanced.group as token_group}
 use Rattle.wat_lexer_parser.specs.groups.Sorts.{is_paren}
 use Rattle.wat_rows.specs.Links.{opens, closes, Balanced, Balanced.nothing, Balanced.plain, Balanced.group, ClosedWithin}
 use Rattle.wat_rows.proofs.Closing.{close_opens_none}
@@ -70,7 +71,8 @@ module _ (x : List ℕ) where
   codes_balanced ts no_tokens = nothing
   codes_balanced ts (plain_token {t = t} {b = b} e g) = let n = plain_code t e in plain n.no_opening n.no_closing (codes_balanced b g)
   codes_balanced ts (token_group o c {a = a} {b = b} eo ga ec gb e) =
-      group (code_of x o) (code_of x c) (open_code o eo) (codes_balanced a ga) (close_code c ec) (codes_balanced b gb) (ap (codes x) e ∙ map-append (code_of x) (o ∷ a) (c ∷ b))
+      group (code_of x o) (code_of x c) (open_code o eo) (codes_balanced a ga) (close_code c ec) (codes_balanced b gb) (ap (codes x) e
+      ∙ map-append (code_of x) (o ∷ a) (c ∷ b))
 
   -- the tokens are cut where their codes are
   pub record Parted (ts : List Token) (a b : List ℕ) : Type 0 where
@@ -87,7 +89,14 @@ module _ (x : List ℕ) where
       let h : code_of x t ≡ c = cc in
       let k : codes x ts ≡ a ++ b = cc in
       let p = part a b ts k in
-      record { front = t ∷ p.front; back = p.back; both = ap (λ r. t ∷ r) p.both; front_is = ap (λ d. d ∷ codes x p.front) h ∙ ap (λ r. c ∷ r) p.front_is; back_is = p.back_is }
+      record {
+        front = t ∷ p.front;
+        back = p.back;
+        both = ap (λ r. t ∷ r) p.both;
+        front_is = ap (λ d. d ∷ codes x p.front) h
+            ∙ ap (λ r. c ∷ r) p.front_is;
+        back_is = p.back_is;
+      }
 
   -- the first of these
   pub record Begun (ts : List Token) (c : ℕ) (b : List ℕ) : Type 0 where
@@ -109,13 +118,16 @@ module _ (x : List ℕ) where
   tokens_balanced s nothing (t ∷ ts) e = cc
   tokens_balanced s (plain {c = c} {b = b} o k g) ts e =
       let p = begin c b ts e in
-      subst BalancedTokens (sym p.both) (plain_token (code_plain p.first (ap opens p.first_is ∙ o) (ap closes p.first_is ∙ k)) (tokens_balanced b g p.behind p.behind_is))
+      subst BalancedTokens (sym p.both) (plain_token (code_plain p.first (ap opens p.first_is ∙ o) (ap closes p.first_is
+      ∙ k)) (tokens_balanced b g p.behind p.behind_is))
   tokens_balanced s (group o c {a = a} {b = b} eo ga ec gb f) ts e =
       let p = begin o (a ++ (c ∷ b)) ts (e ∙ f) in
       let q = part a (c ∷ b) p.behind p.behind_is in
       let r = begin c b q.back q.back_is in
       let cut : ts ≡ (p.first ∷ q.front) ++ (r.first ∷ r.behind) = p.both ∙ ap (λ y. p.first ∷ y) (q.both ∙ ap (λ y. q.front ++ y) r.both) in
-      token_group p.first r.first (code_open p.first (ap opens p.first_is ∙ eo)) (tokens_balanced a ga q.front q.front_is) (code_close r.first (ap closes r.first_is ∙ ec)) (tokens_balanced b gb r.behind r.behind_is) cut
+      token_group p.first r.first (code_open p.first (ap opens p.first_is
+      ∙ eo)) (tokens_balanced a ga q.front q.front_is) (code_close r.first (ap closes r.first_is
+      ∙ ec)) (tokens_balanced b gb r.behind r.behind_is) cut
 
   -- a group ends in the tokens where it ends in their codes
   pub codes_closed : (ts r : List Token) → (g : Group ts r) → ClosedWithin (codes x ts) (length g.within + 1)
@@ -131,7 +143,8 @@ module _ (x : List ℕ) where
 
   behind_front : (front : List Token) (t : Token) (behind : List Token) → drop (length front + 1) (front ++ (t ∷ behind)) ≡ behind
   behind_front [] t behind = refl
-  behind_front (u ∷ front) t behind = let e : length (u ∷ front) + 1 ≡ suc (length front + 1) = omega arith in ap (λ n. drop n ((u ∷ front) ++ (t ∷ behind))) e ∙ behind_front front t behind
+  behind_front (u ∷ front) t behind = let e : length (u ∷ front) + 1 ≡ suc (length front + 1) = omega arith in ap (λ n. drop n ((u ∷ front) ++
+      (t ∷ behind))) e ∙ behind_front front t behind
 
   pub tokens_closed : (ts : List Token) (n : ℕ) → ClosedWithin (codes x ts) n → Group ts (drop n ts)
   tokens_closed ts n h =
@@ -139,7 +152,8 @@ module _ (x : List ℕ) where
       let r = begin h.last h.rest q.back q.back_is in
       let cut : ts ≡ q.front ++ (r.first ∷ r.behind) = q.both ∙ ap (λ y. q.front ++ y) r.both in
       let long : n ≡ length q.front + 1 = omega (arith, h.count, ap length q.front_is, length-map q.front (code_of x)) in
-      let rest : r.behind ≡ drop n ts = sym (ap (drop n) cut ∙ ap (λ k. drop k (q.front ++ (r.first ∷ r.behind))) long ∙ behind_front q.front r.first r.behind) in
+      let rest : r.behind ≡ drop n ts = sym (ap (drop n) cut ∙ ap (λ k. drop k (q.front ++ (r.first ∷ r.behind))) long
+      ∙ behind_front q.front r.first r.behind) in
       record {
         within = q.front;
         last = r.first;

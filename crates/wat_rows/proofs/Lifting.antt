@@ -9,7 +9,8 @@ use Rattle.wat_lexer_parser.specs.lemmas.Behind.{behind_in, behind_place, same_t
 use Rattle.wat_lexer_parser.specs.names.RegisteredNames.{Names}
 use Rattle.wat_lexer_parser.specs.places.Source.{Source, IsRead}
 use Rattle.wat_lexer_parser.specs.shown.Counting.{CountingShowsTheSame, counting, counting_behind}
-use Rattle.wat_lexer_parser.specs.shown.Shown.{Finding, Shown, ended, left_open, none_left, blank, none_follows, no_annotation, misnamed, registered, skipped, unclosed, unmarked, other}
+use Rattle.wat_lexer_parser.specs.shown.Shown.{Finding, Shown, ended, left_open, none_left, blank, none_follows, no_annotation, misnamed, registered}
+use Rattle.wat_lexer_parser.specs.shown.Shown.{skipped, unclosed, unmarked, other}
 use Rattle.wat_lexer_parser.specs.shown.ShownLaws.{OneThingShown, SomethingShown}
 use Rattle.wat_lexer_parser.specs.shown.Showing.{Look, Showing, placed, shown, shown_in}
 use Rattle.wat_rows.specs.Places.{raw_place}
@@ -34,19 +35,23 @@ not_left None o t r e = cc
 not_left (Some f) o t r e = cc
 
 -- a token that is shown counts
-shown_counts : (x : List ℕ) (z : Option LexFault) (n : Names) (ts : List Token) (a : Finding) (t : Token) (r : List Token) → Shown x z n ts a → a ≡ Ok (Some (t, r)) → is_blank t.kind ≡ false
+shown_counts : (x : List ℕ) (z : Option LexFault) (n : Names) (ts : List Token) (a : Finding) (t : Token) (r : List Token) → Shown x z n ts a
+    → a ≡ Ok (Some (t, r)) → is_blank t.kind ≡ false
 shown_counts x z n ts a t r none_left e = absurd (not_ended z t r e)
 shown_counts x z n ts a t r (blank {r = q} b h) e = shown_counts x z n q a t r h e
 shown_counts x z n ts a t r (none_follows m) e = absurd (not_ended z t r e)
-shown_counts x z n ts a t r (no_annotation {t = o} {u = u} {r = q} m k) e = ap (λ (v : Token). is_blank v.kind) (sym (same_token o t (u ∷ q) r e).0) ∙ ap is_blank m.0
+shown_counts x z n ts a t r (no_annotation {t = o} {u = u} {r = q} m k) e = ap (λ (v : Token). is_blank v.kind) (sym (same_token o t
+    (u ∷ q) r e).0) ∙ ap is_blank m.0
 shown_counts x z n ts a t r (misnamed m w) e = cc
-shown_counts x z n ts a t r (registered {t = o} {u = u} {r = q} m w i) e = ap (λ (v : Token). is_blank v.kind) (sym (same_token o t (u ∷ q) r e).0) ∙ ap is_blank m.0
+shown_counts x z n ts a t r (registered {t = o} {u = u} {r = q} m w i) e = ap (λ (v : Token). is_blank v.kind) (sym (same_token o t (u ∷ q) r e).0)
+    ∙ ap is_blank m.0
 shown_counts x z n ts a t r (skipped {m = q} m w i g h) e = shown_counts x z n q a t r h e
 shown_counts x z n ts a t r (unclosed {t = o} m w i g) e = absurd (not_left z o t r e)
 shown_counts x z n ts a t r (unmarked {t = o} {r = q} k l) e = ap (λ (v : Token). is_blank v.kind) (sym (same_token o t q r e).0) ∙ ap is_blank k
 shown_counts x z n ts a t r (other {t = o} {r = q} b k) e = ap (λ (v : Token). is_blank v.kind) (sym (same_token o t q r e).0) ∙ b
 
-module _ (some : SomethingShown) (one : OneThingShown) (same : CountingShowsTheSame) (s : Source) (utf8 : IsUtf8 s.setting.text) (read : IsRead s) (n : Names) where
+module _ (some : SomethingShown) (one : OneThingShown) (same : CountingShowsTheSame) (s : Source) (utf8 : IsUtf8 s.setting.text) (read : IsRead s)
+    (n : Names) where
   abbrev raw_look : ℕ → Finding
   raw_look p = shown_in s.setting.text s.ending n Showing (drop (raw_place s.tokens p) s.tokens)
 
@@ -55,7 +60,8 @@ module _ (some : SomethingShown) (one : OneThingShown) (same : CountingShowsTheS
 
   in_counting : (p : ℕ) → Shown s.setting.text s.ending n (drop p (counting s.tokens)) (counting_behind (raw_look p))
   in_counting p =
-      subst (λ r. Shown s.setting.text s.ending n r (counting_behind (raw_look p))) (drops s.tokens p) (same s n (raw_place s.tokens p) (raw_look p) utf8 read (raw_shows p))
+      subst (λ r. Shown s.setting.text s.ending n r (counting_behind (raw_look p))) (drops s.tokens p) (same s n (raw_place s.tokens p)
+      (raw_look p) utf8 read (raw_shows p))
 
   of_counting : (p : ℕ) → counting_behind (raw_look p) ≡ look_in s n p
   of_counting p = one s.setting.text s.ending n (drop p (counting s.tokens)) (counting_behind (raw_look p)) (in_counting p)
@@ -73,8 +79,14 @@ module _ (some : SomethingShown) (one : OneThingShown) (same : CountingShowsTheS
       let last = to - 1 in
       let next : suc last ≡ to = omega (arith, b.forward) in
       let tail : drop (suc last) s.tokens ≡ r = ap (λ k. drop k s.tokens) next ∙ sym b.tail in
-      let shorter : length (counting r) ≤ length (counting s.tokens) = omega (arith, drop_shorter s.tokens (suc last), ap (λ k. length (counting k)) tail) in
-      let count : length (counting s.tokens) - length (counting r) + length (counting (drop (suc last) s.tokens)) ≡ length (counting s.tokens) = omega (arith, shorter, ap (λ k. length (counting k)) tail) in
+      let shorter : length (counting r) ≤ length (counting s.tokens) = omega (
+        arith,
+        drop_shorter s.tokens (suc last),
+        ap (λ k. length
+            (counting k)) tail,
+      ) in
+      let count : length (counting s.tokens) - length (counting r) + length (counting (drop (suc last) s.tokens)) ≡ length
+      (counting s.tokens) = omega (arith, shorter, ap (λ k. length (counting k)) tail) in
       let other = shown_counts s.setting.text s.ending n (drop from s.tokens) (raw_look p) t r (raw_shows p) e in
       let place = place_of s.tokens last t (length (counting s.tokens) - length (counting r)) b.there other count in
       ap (λ k. Ok (Some (t, k))) (sym (place ∙ next))

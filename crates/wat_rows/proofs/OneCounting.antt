@@ -9,7 +9,8 @@ use Rattle.wat_lex.specs.tokens.UniqueTilings.{AnswerAt}
 use Rattle.wat_lex.specs.declared.lexer.kinds.Token.{Token}
 use Rattle.wat_lexer_parser.specs.groups.Sorts.{is_blank}
 use Rattle.wat_lexer_parser.specs.shown.Counting.{counting}
-use Rattle.wat_rows.specs.Counting.{EndsCounting, OneFillCounting, StopsCounting, StopsCounting.ended, StopsCounting.full, StopsCounting.faulty, row_of}
+use Rattle.wat_rows.specs.Counting.{EndsCounting, OneFillCounting, StopsCounting, StopsCounting.ended, StopsCounting.full, StopsCounting.faulty}
+use Rattle.wat_rows.specs.Counting.{row_of}
 use Rattle.wat_rows.proofs.Counted.{counting_blank, counting_other}
 use Rattle.wat_rows.proofs.OneFill.{IsEnd, Standing, code_of, some_token}
 use Rattle.wat_rows.proofs.RawPlaces.{counting_shorter}
@@ -33,7 +34,8 @@ counting_front t ts = elim (cases_Bool (is_blank t.kind)) [
 module _ (stands : OneThingStands) (s : Setting) (room : ℕ) where
   -- there is no room for more behind the last token, which counts, or there is, and nothing more stands at the place
   abbrev Ending : ℕ → ℕ → ℕ → List Token → Type 0
-  Ending at count why ts = ((count ≡ room) × (why ≡ 1) × EndsCounting ts) ⊎ ((r : Standing) × (count < room) × IsEnd r × AnswerAt s at r × (why ≡ code_of r))
+  Ending at count why ts = ((count ≡ room) × (why ≡ 1) × EndsCounting ts) ⊎ ((r : Standing) × (count < room) × IsEnd r × AnswerAt s at r ×
+      (why ≡ code_of r))
 
   ending : (at count why : ℕ) (ts : List Token) → StopsCounting s at room count ts why → Ending at count why ts
   ending at count zero ts (ended l e) = inr (Ok None, l, tt, e, refl)
@@ -48,20 +50,24 @@ module _ (stands : OneThingStands) (s : Setting) (room : ℕ) where
   codes_one at end c d why other ts us p q (inl x) (inl y) = x.1 ∙ sym y.1
   codes_one at end c d why other ts us p q (inl x) (inr y) = absurd (omega (arith, x.0, y.1, q))
   codes_one at end c d why other ts us p q (inr x) (inl y) = absurd (omega (arith, x.1, y.0, q))
-  codes_one at end c d why other ts us p q (inr x) (inr y) = x.4 ∙ ap code_of (stands s end x.0 y.0 (subst (λ k. AnswerAt s k x.0) p x.3) y.3) ∙ sym y.4
+  codes_one at end c d why other ts us p q (inr x) (inr y) = x.4 ∙ ap code_of (stands s end x.0 y.0 (subst (λ k. AnswerAt s k x.0) p x.3) y.3)
+      ∙ sym y.4
 
   behind : (at count why : ℕ) (t : Token) (ts : List Token) → Ending at count why (t ∷ ts) → Ending at count why ts
   behind at count why t ts (inl x) = inl (x.0, x.1, ends_behind t ts x.2)
   behind at count why t ts (inr y) = inr y
 
   -- where one list stops, the other does not go on
-  no_more : (at end c d why other : ℕ) (t : Token) (ts : List Token) → d ≡ c + length (counting (t ∷ ts)) → TokenAt s at t → Ending at c why [] → Ending end d other (t ∷ ts) → ⊥
+  no_more : (at end c d why other : ℕ) (t : Token) (ts : List Token) → d ≡ c + length (counting (t ∷ ts)) → TokenAt s at t → Ending at c why []
+      → Ending end d other (t ∷ ts) → ⊥
   no_more at end c d why other t ts e h (inr x) y = subst IsEnd (stands s at x.0 (Ok (Some t)) x.3 h) x.2
   no_more at end c d why other t ts e h (inl x) (inl y) = omega (arith, x.0, y.0, e, one_counts t ts y.2)
   no_more at end c d why other t ts e h (inl x) (inr y) = omega (arith, x.0, y.1, e)
 
-  tilings_one : (from at end seen c d why other : ℕ) (ts us : List Token) → c ≡ seen + length (counting ts) → d ≡ seen + length (counting us) → Tiling s from at ts → Tiling s from end us → Ending at c why ts → Ending end d other us → (ts ≡ us) × (at ≡ end) × (why ≡ other)
-  tilings_one from at end seen c d why other [] [] e f h g x y = let same : at ≡ end = sym h ∙ g in (refl, same, codes_one at end c d why other [] [] same (e ∙ sym f) x y)
+  tilings_one : (from at end seen c d why other : ℕ) (ts us : List Token) → c ≡ seen + length (counting ts) → d ≡ seen + length (counting us)
+      → Tiling s from at ts → Tiling s from end us → Ending at c why ts → Ending end d other us → (ts ≡ us) × (at ≡ end) × (why ≡ other)
+  tilings_one from at end seen c d why other [] [] e f h g x y = let same : at ≡ end = sym h
+      ∙ g in (refl, same, codes_one at end c d why other [] [] same (e ∙ sym f) x y)
   tilings_one from at end seen c d why other [] (u ∷ us) e f h g x y =
       absurd (no_more from end c d why other u us (omega (arith, e, f)) g.0 (subst (λ p. Ending p c why []) (sym h) x) y)
   tilings_one from at end seen c d why other (t ∷ ts) [] e f h g x y =
@@ -71,7 +77,8 @@ module _ (stands : OneThingStands) (s : Setting) (room : ℕ) where
       let one = length (counting (t ∷ [])) in
       let a : c ≡ seen + one + length (counting ts) = omega (arith, e, counting_front t ts) in
       let b : d ≡ seen + one + length (counting us) = omega (arith, f, counting_front u us, ap (λ (v : Token). length (counting (v ∷ []))) k) in
-      let r = tilings_one (t.offset + t.len) at end (seen + one) c d why other ts us a b h.1 (subst (λ (z : Token). Tiling s (z.offset + z.len) end us) (sym k) g.1) (behind at c why t ts x) (behind end d other u us y) in
+      let r = tilings_one (t.offset + t.len) at end (seen + one) c d why other ts us a b h.1 (subst (λ (z : Token). Tiling s
+      (z.offset + z.len) end us) (sym k) g.1) (behind at c why t ts x) (behind end d other u us y) in
       let l = r.0 in
       let q : t ∷ ts ≡ u ∷ us = cc in
       (q, r.1, r.2)
@@ -81,7 +88,8 @@ module _ (stands : OneThingStands) (s : Setting) (room : ℕ) where
   one_fill_counting from rows others filled other h k =
       let a : filled.count ≡ 0 + length (counting h.tokens) = omega (arith, h.count) in
       let b : other.count ≡ 0 + length (counting k.tokens) = omega (arith, k.count) in
-      let same = tilings_one from filled.at other.at 0 filled.count other.count filled.why other.why h.tokens k.tokens a b h.tiling k.tiling (ending filled.at filled.count filled.why h.tokens h.stops) (ending other.at other.count other.why k.tokens k.stops) in
+      let same = tilings_one from filled.at other.at 0 filled.count other.count filled.why other.why h.tokens k.tokens a b h.tiling k.tiling
+      (ending filled.at filled.count filled.why h.tokens h.stops) (ending other.at other.count other.why k.tokens k.stops) in
       let count = h.count ∙ ap (λ ts. length (counting ts)) same.0 ∙ sym k.count in
       let at = same.1 in
       let why = same.2 in

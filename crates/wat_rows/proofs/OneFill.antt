@@ -53,15 +53,26 @@ module _ (stands : OneThingStands) (s : Setting) (room : ℕ) where
   no_more at count why t h l (inl x) = absurd (omega (arith, l, x.0))
   no_more at count why t h l (inr y) = subst IsEnd (stands s at y.0 (Ok (Some t)) y.3 h) y.2
 
-  tilings_one : (from at end seen why other : ℕ) (ts us : List Token) → Tiling s from at ts → Tiling s from end us → Ending at (seen + length ts) why → Ending end (seen + length us) other → (ts ≡ us) × (at ≡ end) × (why ≡ other)
-  tilings_one from at end seen why other [] [] h g x y = let same : at ≡ end = sym h ∙ g in (refl, same, codes_one end (seen + 0) why other (subst (λ p. Ending p (seen + 0) why) same x) y)
-  tilings_one from at end seen why other [] (u ∷ us) h g x y = absurd (no_more from (seen + 0) why u g.0 (omega (arith, within end (seen + length (u ∷ us)) other y)) (subst (λ p. Ending p (seen + 0) why) (sym h) x))
-  tilings_one from at end seen why other (t ∷ ts) [] h g x y = absurd (no_more from (seen + 0) other t h.0 (omega (arith, within at (seen + length (t ∷ ts)) why x)) (subst (λ p. Ending p (seen + 0) other) (sym g) y))
+  tilings_one : (from at end seen why other : ℕ) (ts us : List Token) → Tiling s from at ts → Tiling s from end us
+      → Ending at (seen + length ts) why → Ending end (seen + length us) other → (ts ≡ us) × (at ≡ end) × (why ≡ other)
+  tilings_one from at end seen why other [] [] h g x y = let same : at ≡ end = sym h
+      ∙ g in (refl, same, codes_one end (seen + 0) why other (subst (λ p. Ending p (seen + 0) why) same x) y)
+  tilings_one from at end seen why other [] (u ∷ us) h g x y = absurd (no_more from (seen + 0) why u g.0 (omega (
+    arith,
+    within end (seen + length
+        (u ∷ us)) other y,
+  )) (subst (λ p. Ending p (seen + 0) why) (sym h) x))
+  tilings_one from at end seen why other (t ∷ ts) [] h g x y = absurd (no_more from (seen + 0) other t h.0 (omega (
+    arith,
+    within at (seen + length
+        (t ∷ ts)) why x,
+  )) (subst (λ p. Ending p (seen + 0) other) (sym g) y))
   tilings_one from at end seen why other (t ∷ ts) (u ∷ us) h g x y =
       let k = some_token t u (stands s from (Ok (Some t)) (Ok (Some u)) h.0 g.0) in
       let m : seen + length (t ∷ ts) ≡ seen + 1 + length ts = omega arith in
       let n : seen + length (u ∷ us) ≡ seen + 1 + length us = omega arith in
-      let r = tilings_one (t.offset + t.len) at end (seen + 1) why other ts us h.1 (subst (λ (z : Token). Tiling s (z.offset + z.len) end us) (sym k) g.1)
+      let r = tilings_one (t.offset + t.len) at end (seen + 1) why other ts us h.1 (subst (λ (z : Token). Tiling s (z.offset + z.len) end us)
+      (sym k) g.1)
       (subst (λ c. Ending at c why) m x) (subst (λ c. Ending end c other) n y) in
       let l = r.0 in
       let q : t ∷ ts ≡ u ∷ us = cc in
@@ -73,7 +84,8 @@ module _ (stands : OneThingStands) (s : Setting) (room : ℕ) where
   pub one_fill : (from : ℕ) → OneFill s from room
   unfolding OneFill
   one_fill from rows others filled other h k =
-      let same = tilings_one from filled.at other.at 0 filled.why other.why h.tokens k.tokens h.tiling k.tiling (counted filled.at filled.count filled.why h.tokens h.count h.stops) (counted other.at other.count other.why k.tokens k.count k.stops) in
+      let same = tilings_one from filled.at other.at 0 filled.why other.why h.tokens k.tokens h.tiling k.tiling
+      (counted filled.at filled.count filled.why h.tokens h.count h.stops) (counted other.at other.count other.why k.tokens k.count k.stops) in
       let count = h.count ∙ ap length same.0 ∙ sym k.count in
       let at = same.1 in
       let why = same.2 in

@@ -63,7 +63,8 @@ read s from rows why (piece {rows = first} {others = others} {filled = filled} h
       ended = r.ended;
       told =
           ap (λ x. x ++ others) h.rows_are ∙ ap (λ x. map (row_of s.text 0) (counting h.tokens) ++ x) r.told
-          ∙ sym (map-append (row_of s.text 0) (counting h.tokens) (counting r.tokens)) ∙ ap (map (row_of s.text 0)) (sym (counting_append h.tokens r.tokens));
+          ∙ sym (map-append (row_of s.text 0) (counting h.tokens) (counting r.tokens))
+          ∙ ap (map (row_of s.text 0)) (sym (counting_append h.tokens r.tokens));
     }
 
 unlinked : (x : List ℕ) (ts : List Token) → map without_link (map (row_of x 0) ts) ≡ map (row_of x 0) ts
@@ -89,12 +90,17 @@ pub record Stands (s : Setting) (t : Token) : Type 0 where
   pub boundary : IsCharBoundary s.text t.offset
   pub stands : TokenAt s t.offset t
 
-stands : TokensEndAtBoundaries → (s : Setting) (from to : ℕ) (ts : List Token) (n : ℕ) (t : Token) → IsUtf8 s.text → IsCharBoundary s.text from → Tiling s from to ts → slice_get (counting ts) n ≡ Some t → Stands s t
+stands : TokensEndAtBoundaries → (s : Setting) (from to : ℕ) (ts : List Token) (n : ℕ) (t : Token) → IsUtf8 s.text → IsCharBoundary s.text from
+    → Tiling s from to ts → slice_get (counting ts) n ≡ Some t → Stands s t
 stands ends s from to [] zero t utf8 b h e = cc
 stands ends s from to [] (suc n) t utf8 b h e = cc
 stands ends s from to (u ∷ ts) n t utf8 b h e =
     let later = ends s from u utf8 b h.0 in
-    let here : Stands s u = record { boundary = subst (IsCharBoundary s.text) (sym h.0.offset) b; stands = subst (λ p. TokenAt s p u) (sym h.0.offset) h.0 } in
+    let here : Stands s u = record {
+      boundary = subst (IsCharBoundary s.text) (sym h.0.offset) b;
+      stands = subst (λ p. TokenAt s p u)
+          (sym h.0.offset) h.0;
+    } in
     elim (cases_Bool (is_blank u.kind)) [
       | inl k ↦ stands ends s (u.offset + u.len) to ts n t utf8 later h.1 (sym (ap (λ r. slice_get r n) (counting_blank u ts k)) ∙ e)
       | inr k ↦ (elim n as (λ m. slice_get (u ∷ counting ts) m ≡ Some t → Stands s t) [
@@ -112,7 +118,8 @@ rows_tell_tokens ends text rows why number row utf8 h e =
     let s = h.source in
     let k = tells s.setting.text rows (counting s.tokens) number row h.are.told e in
     let utf8_there : IsUtf8 s.setting.text = subst IsUtf8 (sym h.of_text) utf8 in
-    let at = stands ends s.setting 0 h.are.read.to s.tokens number k.token utf8_there (IsCharBoundary-start s.setting.text utf8_there) h.are.read.tiling k.there in
+    let at = stands ends s.setting 0 h.are.read.to s.tokens number k.token utf8_there
+    (IsCharBoundary-start s.setting.text utf8_there) h.are.read.tiling k.there in
     let offset : row.offset ≡ k.token.offset = ap (λ (r : Row). r.offset) k.told in
     subst (λ x. IsRow x row) h.of_text (record {
       flags = s.setting.flags;

@@ -1,5 +1,6 @@
 -- Raw tokens up to one that counts.
-use Rattle.std.proofs.Common.{◌≡◌, ◌≤◌, ◌<◌, ◌+◌, ℕ, zero, suc, List, [], ◌∷◌, true, false, refl, sym, ap, ◌∙◌, subst, inl, inr, arith, length, drop, Some}
+use Rattle.std.proofs.Common.{◌≡◌, ◌≤◌, ◌<◌, ◌+◌, ℕ, zero, suc, List, [], ◌∷◌, true, false, refl, sym, ap, ◌∙◌, subst, inl, inr, arith, length, drop}
+use Rattle.std.proofs.Common.{Some}
 use Rattle.std.specs.Prelude.{if◌then◌else◌, slice_get}
 use Rattle.std.specs.Str.{IsUtf8, IsCharBoundary}
 use Rattle.std.proofs.lemmas.Bool.{cases_Bool}
@@ -51,7 +52,8 @@ drop_shorter ts zero = omega arith
 drop_shorter [] (suc j) = omega arith
 drop_shorter (t ∷ ts) (suc j) = omega (arith, drop_shorter ts j, counting_shorter t ts)
 
-behind_shorter : (ts : List Token) (j : ℕ) (t : Token) → slice_get ts j ≡ Some t → is_blank t.kind ≡ false → length (counting (drop (suc j) ts)) < length (counting ts)
+behind_shorter : (ts : List Token) (j : ℕ) (t : Token) → slice_get ts j ≡ Some t → is_blank t.kind ≡ false
+    → length (counting (drop (suc j) ts)) < length (counting ts)
 behind_shorter [] zero t e o = cc
 behind_shorter [] (suc j) t e o = cc
 behind_shorter (u ∷ ts) zero t e o =
@@ -60,7 +62,8 @@ behind_shorter (u ∷ ts) zero t e o =
 behind_shorter (u ∷ ts) (suc j) t e o = omega (arith, behind_shorter ts j t e o, counting_shorter u ts)
 
 -- a place directly behind a token that counts is that of as many as count up to it
-pub place_of : (ts : List Token) (j : ℕ) (t : Token) (n : ℕ) → slice_get ts j ≡ Some t → is_blank t.kind ≡ false → n + length (counting (drop (suc j) ts)) ≡ length (counting ts) → raw_place ts n ≡ suc j
+pub place_of : (ts : List Token) (j : ℕ) (t : Token) (n : ℕ) → slice_get ts j ≡ Some t → is_blank t.kind ≡ false
+    → n + length (counting (drop (suc j) ts)) ≡ length (counting ts) → raw_place ts n ≡ suc j
 place_of [] zero t n e o h = cc
 place_of [] (suc j) t n e o h = cc
 place_of (u ∷ ts) j t zero e o h = absurd (omega (arith, h, behind_shorter (u ∷ ts) j t e o))
@@ -75,11 +78,17 @@ place_of (u ∷ ts) zero t (suc n) e o h =
     none_place (v ∷ vs) = at_none v vs
 place_of (u ∷ ts) (suc j) t (suc n) e o h = elim (cases_Bool (is_blank u.kind)) [
   | inl b ↦ at_blank u ts n b ∙ ap suc (place_of ts j t (suc n) e o (h ∙ ap length (counting_blank u ts b)))
-  | inr k ↦ let l : n + length (counting (drop (suc j) ts)) ≡ length (counting ts) = omega (arith, h, ap length (counting_other u ts k)) in at_other u ts n k ∙ ap suc (place_of ts j t n e o l)
+  | inr k ↦ let l : n + length (counting (drop (suc j) ts)) ≡ length (counting ts) = omega (
+    arith,
+    h,
+    ap length
+        (counting_other u ts k),
+  ) in at_other u ts n k ∙ ap suc (place_of ts j t n e o l)
 ]
 
 -- a token of a tiling that counts may be read
-pub readable : TokensAreReadable → TokensEndAtBoundaries → (s : Setting) (from to : ℕ) (ts : List Token) (n : ℕ) (t : Token) → IsUtf8 s.text → IsCharBoundary s.text from → Tiling s from to ts → slice_get (counting ts) n ≡ Some t
+pub readable : TokensAreReadable → TokensEndAtBoundaries → (s : Setting) (from to : ℕ) (ts : List Token) (n : ℕ) (t : Token) → IsUtf8 s.text
+    → IsCharBoundary s.text from → Tiling s from to ts → slice_get (counting ts) n ≡ Some t
     → IsTokenOf s.text t
 readable reads ends s from to [] zero t utf8 b h e = cc
 readable reads ends s from to [] (suc n) t utf8 b h e = cc

@@ -32,17 +32,23 @@ pub registered_none : (y : List ℕ) → is_registered no_names y ≡ false
 registered_none y = ap (λ o. nat_lt 0 (unwrap_or o 0)) (get-empty (slice_cmp nat_cmp) y)
 
 -- an end more
-between_more : (bytes ends : List ℕ) (start end : ℕ) (y : List ℕ) (b : Bool) → is_registered (registered (if b then take (end - start) (drop start bytes) ∷ names_between end bytes ends else names_between end bytes ends)) y
+between_more : (bytes ends : List ℕ) (start end : ℕ) (y : List ℕ) (b : Bool)
+    → is_registered (registered (if b then take (end - start) (drop start bytes) ∷ names_between end bytes ends else names_between end bytes ends)) y
     ≡ cond (b && bytes_eq (take (end - start) (drop start bytes)) y) true (is_registered (registered (names_between end bytes ends)) y)
 between_more bytes ends start end y true = registered_more (registered (names_between end bytes ends)) (take (end - start) (drop start bytes)) y
 between_more bytes ends start end y false = refl
 
-pub between_front : (bytes ends : List ℕ) (start end : ℕ) (y : List ℕ) → is_registered (registered (names_between start bytes (end ∷ ends))) y ≡ cond (is_between bytes start end y) true (is_registered (registered (names_between end bytes ends)) y)
+pub between_front : (bytes ends : List ℕ) (start end : ℕ) (y : List ℕ)
+    → is_registered (registered (names_between start bytes (end ∷ ends))) y ≡ cond (is_between bytes start end y) true (is_registered (registered
+    (names_between end bytes ends)) y)
 between_front bytes ends start end y = between_more bytes ends start end y (nat_le start end && nat_le end (length bytes))
 
 module _ (bytes ends rest : List ℕ) (start end : ℕ) (y : List ℕ) (front : rest ≡ end ∷ ends) where
   pub between_here : is_between bytes start end y ≡ true → is_registered (registered (names_between start bytes rest)) y ≡ true
-  between_here e = ap (λ r. is_registered (registered (names_between start bytes r)) y) front ∙ between_front bytes ends start end y ∙ ap (λ b. cond b true (is_registered (registered (names_between end bytes ends)) y)) e
+  between_here e = ap (λ r. is_registered (registered (names_between start bytes r)) y) front ∙ between_front bytes ends start end y
+      ∙ ap (λ b. cond b true (is_registered (registered (names_between end bytes ends)) y)) e
 
-  pub between_later : is_between bytes start end y ≡ false → is_registered (registered (names_between start bytes rest)) y ≡ is_registered (registered (names_between end bytes ends)) y
-  between_later e = ap (λ r. is_registered (registered (names_between start bytes r)) y) front ∙ between_front bytes ends start end y ∙ ap (λ b. cond b true (is_registered (registered (names_between end bytes ends)) y)) e
+  pub between_later : is_between bytes start end y ≡ false → is_registered (registered (names_between start bytes rest)) y ≡ is_registered
+      (registered (names_between end bytes ends)) y
+  between_later e = ap (λ r. is_registered (registered (names_between start bytes r)) y) front ∙ between_front bytes ends start end y
+      ∙ ap (λ b. cond b true (is_registered (registered (names_between end bytes ends)) y)) e

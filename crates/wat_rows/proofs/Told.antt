@@ -16,7 +16,8 @@ pub record Tells (x : List ℕ) (ts : List Token) (number : ℕ) (row : Row) : T
   pub there : slice_get ts number ≡ Some token
   pub told : without_link row ≡ row_of x 0 token
 
-pub tells : (x : List ℕ) (rows : List Row) (ts : List Token) (number : ℕ) (row : Row) → map without_link rows ≡ map (row_of x 0) ts → slice_get rows number ≡ Some row → Tells x ts number row
+pub tells : (x : List ℕ) (rows : List Row) (ts : List Token) (number : ℕ) (row : Row) → map without_link rows ≡ map (row_of x 0) ts
+    → slice_get rows number ≡ Some row → Tells x ts number row
 tells x [] ts zero row e h = cc
 tells x [] ts (suc n) row e h = cc
 tells x (r ∷ rows) [] n row e h = cc

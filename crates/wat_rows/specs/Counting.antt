@@ -60,4 +60,5 @@ pub record FillsCounting (s : Setting) (from room : ℕ) (rows : List Row) (fill
 -- any two lists of rows of tokens that count from a place, with where they stop and why, are the same
 unfoldable pub OneFillCounting : Setting → ℕ → ℕ → Type 0
 OneFillCounting s from room =
-    (rows others : List Row) (filled other : Filled) → FillsCounting s from room rows filled → FillsCounting s from room others other → (rows ≡ others) × (filled ≡ other)
+    (rows others : List Row) (filled other : Filled) → FillsCounting s from room rows filled → FillsCounting s from room others other
+    → (rows ≡ others) × (filled ≡ other)

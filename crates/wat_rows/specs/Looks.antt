@@ -1,6 +1,7 @@
 -- WebAssembly specification, text format, lexical format: white space, comments, annotations. What a parser shows of a text under
 -- registered names, found in the rows of the text. Rows and how names are handed in are no part of the standard.
-use Rattle.std.specs.Prelude.{◌≡◌, ◌≤◌, ℕ, ◌+◌, ◌-◌, List, [], ◌∷◌, take, drop, length, nat_le, ◌&&◌, if◌then◌else◌, slice_get, Some, None, Result, Ok, Err}
+use Rattle.std.specs.Prelude.{◌≡◌, ◌≤◌, ℕ, ◌+◌, ◌-◌, List, [], ◌∷◌, take, drop, length, nat_le, ◌&&◌, if◌then◌else◌, slice_get, Some, None, Result}
+use Rattle.std.specs.Prelude.{Ok, Err}
 use Rattle.std.specs.declared.alloc.AllocError.{AllocError}
 use Rattle.wat_lex.specs.tokens.ReadableTokens.{word_of}
 use Rattle.wat_lex.specs.values.Names.{HasNoEscape}
@@ -24,7 +25,9 @@ use Rattle.wat_rows.specs.declared.looks.NotShown.TheVariants as not
 abbrev pub names_between : ℕ → List ℕ → List ℕ → List (List ℕ)
 names_between start bytes [] = []
 names_between start bytes (end ∷ ends) =
-    if nat_le start end && nat_le end (length bytes) then take (end - start) (drop start bytes) ∷ names_between end bytes ends else names_between end bytes ends
+    if nat_le start end && nat_le end (length bytes)
+    then take (end - start) (drop start bytes) ∷ names_between end bytes ends
+    else names_between end bytes ends
 
 -- the names of a list, registered one after another
 abbrev pub registered : List (List ℕ) → Names
@@ -58,11 +61,15 @@ pub record MeetsEscape (s : Source) (count : ℕ) (names : Names) : Type 0 where
 
 -- what a look from the place behind so many tokens that count answers: the number of the token that is shown, or why there is none
 pub data Looks (s : Source) (count : ℕ) (names : Names) : Result ℕ NotShown → Type 0 where
-  token : {number : ℕ} {t : Token} → IsNumber s number t → shown_behind s count names ≡ Ok (Some (t, raw_place s.tokens (number + 1))) → Looks s count names (Ok number)
+  token : {number : ℕ} {t : Token} → IsNumber s number t → shown_behind s count names ≡ Ok (Some (t, raw_place s.tokens (number + 1)))
+      → Looks s count names (Ok number)
   end : s.ending ≡ None → shown_behind s count names ≡ Ok None → Looks s count names (Err not.TextEnd)
-  fault : {f : LexFault} → s.ending ≡ Some f → shown_behind s count names ≡ Err (record { offset = f.offset; kind = Lex f.error }) → Looks s count names (Err not.TextFault)
-  unclosed : {number : ℕ} {t : Token} → s.ending ≡ None → IsNumber s number t → IsMarked s.setting.text t → shown_behind s count names ≡ Err (record { offset = t.offset + 1; kind = Unclosed }) → Looks s count names (Err (not.Unclosed number))
-  misnamed : {number : ℕ} {t : Token} {e : LexError} → IsNumber s number t → IsMisnamed s.setting.text t e → shown_behind s count names ≡ Err (record { offset = t.offset; kind = Lex e }) → Looks s count names (Err (not.Misnamed number))
+  fault : {f : LexFault} → s.ending ≡ Some f → shown_behind s count names ≡ Err (record { offset = f.offset; kind = Lex f.error })
+      → Looks s count names (Err not.TextFault)
+  unclosed : {number : ℕ} {t : Token} → s.ending ≡ None → IsNumber s number t → IsMarked s.setting.text t
+      → shown_behind s count names ≡ Err (record { offset = t.offset + 1; kind = Unclosed }) → Looks s count names (Err (not.Unclosed number))
+  misnamed : {number : ℕ} {t : Token} {e : LexError} → IsNumber s number t → IsMisnamed s.setting.text t e
+      → shown_behind s count names ≡ Err (record { offset = t.offset; kind = Lex e }) → Looks s count names (Err (not.Misnamed number))
   memory : {refused : AllocError} → MeetsEscape s count names → Looks s count names (Err (not.Memory refused))
 
 -- the answer in numbers, where there are so many rows

@@ -15,7 +15,8 @@ use Rattle.wat_lex.specs.declared.lexer.kinds.SignToken.{SignToken}
 use Rattle.wat_lex.specs.declared.lexer.kinds.SignToken.TheVariants.{Plus, Minus}
 use Rattle.wat_lex.specs.declared.lexer.kinds.Token.{Token}
 use Rattle.wat_lex.specs.declared.lexer.kinds.TokenKind.{TokenKind}
-use Rattle.wat_lex.specs.declared.lexer.kinds.TokenKind.TheVariants.{LineComment, BlockComment, Whitespace, LParen, RParen, String, Id, Keyword, Annotation, Reserved, Integer, Float}
+use Rattle.wat_lex.specs.declared.lexer.kinds.TokenKind.TheVariants.{LineComment, BlockComment, Whitespace, LParen, RParen, String, Id, Keyword}
+use Rattle.wat_lex.specs.declared.lexer.kinds.TokenKind.TheVariants.{Annotation, Reserved, Integer, Float}
 use Rattle.wat_rows.specs.declared.rows.KindRow.{KindRow}
 use Rattle.wat_rows.specs.declared.rows.TokenRow.{TokenRow}
 use Rattle.wat_rows.specs.declared.rows.Found.{Found}
@@ -55,7 +56,12 @@ kind_row Id = plain (kind_number Id)
 kind_row Keyword = plain (kind_number Keyword)
 kind_row Annotation = plain (kind_number Annotation)
 kind_row Reserved = plain (kind_number Reserved)
-kind_row (Integer k) = record { code = kind_number (Integer k); sign = sign_code (kind_sign k); has_underscores = kind_has_underscores k; hex = kind_hex k }
+kind_row (Integer k) = record {
+  code = kind_number (Integer k);
+  sign = sign_code (kind_sign k);
+  has_underscores = kind_has_underscores k;
+  hex = kind_hex k;
+}
 kind_row (Float k) = float_row k
 
 abbrev pub token_row : Token → TokenRow
@@ -135,4 +141,5 @@ pub record Fills (s : Setting) (from room : ℕ) (rows : List TokenRow) (filled 
 
 -- any two lists of rows from a place, with where they stop and why, are the same
 unfoldable pub OneFill : Setting → ℕ → ℕ → Type 0
-OneFill s from room = (rows others : List TokenRow) (filled other : Filled) → Fills s from room rows filled → Fills s from room others other → (rows ≡ others) × (filled ≡ other)
+OneFill s from room = (rows others : List TokenRow) (filled other : Filled) → Fills s from room rows filled → Fills s from room others other
+    → (rows ≡ others) × (filled ≡ other)

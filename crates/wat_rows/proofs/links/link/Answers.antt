@@ -18,6 +18,7 @@ links-preserved c =
     let there = slice_get-get_or c.links.rows (c.links.number - 1) _ l in
     record {
       bound = omega (arith, l, length-set {A = Row});
-      linked = linked_more c.links.rows (c.links.number - 1) c.link_of.result _ there (subst (λ n. LinkedFrom n c.links.rows) e c.links.invariant.linked) c.link_of.ensures;
+      linked = linked_more c.links.rows (c.links.number - 1) c.link_of.result _ there (subst
+          (λ n. LinkedFrom n c.links.rows) e c.links.invariant.linked) c.link_of.ensures;
       kept = kept_more c.links.rows (c.links.number - 1) c.link_of.result _ there ∙ c.links.invariant.kept;
     }

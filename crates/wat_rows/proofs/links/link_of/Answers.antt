@@ -41,5 +41,7 @@ returns c =
     let there : slice_get c.args.rows.now (c.args.number + 1) ≡ Some c.in-Some.next = sym c.row_at.ensures.value ∙ c.in-Some.is in
     let o : opens c.in-Some.next.kind.code ≡ true = search (rules, c.opens.ensures, c.if-not-opens.false) in
     let z : c.in-Some.next.link ≢ 0 = λ e. absurd (omega (arith, e)) in
-    let l : c.in-Some.next.link - 1 < length c.args.rows.now = omega (arith, z, closed_inside c.args.rows.now c.args.number c.requires.linked c.in-Some.next there z) in
-    linked_open c.args.rows.now c.args.number c.requires.linked c.in-Some.next there _ o z (slice_get-get_or c.args.rows.now (c.in-Some.next.link - 1) _ l)
+    let l : c.in-Some.next.link - 1 < length c.args.rows.now = omega
+    (arith, z, closed_inside c.args.rows.now c.args.number c.requires.linked c.in-Some.next there z) in
+    linked_open c.args.rows.now c.args.number c.requires.linked c.in-Some.next there _ o z (slice_get-get_or c.args.rows.now
+    (c.in-Some.next.link - 1) _ l)

@@ -8,7 +8,8 @@ use Rattle.wat_rows.proofs.looks.look_at.Given as goal
 abbrev pub invariant-rows : goal.invariant-rows
 invariant-rows l = record {
   on : l.place ≤ l.number;
-  same : (s : Source) → s.setting.text ≡ l.text → AreRowsOf s l.rows l.why → look_in s (names_of l.names l.ends) l.place ≡ look_in s (names_of l.names l.ends) l.number;
+  same : (s : Source) → s.setting.text ≡ l.text → AreRowsOf s l.rows l.why
+      → look_in s (names_of l.names l.ends) l.place ≡ look_in s (names_of l.names l.ends) l.number;
 }
 
 abbrev pub decreases-rows : goal.decreases-rows

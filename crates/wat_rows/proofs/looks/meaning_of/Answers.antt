@@ -29,7 +29,11 @@ returns-in-Ok-Ok c =
 pub returns-in-Ok-Err : goal.returns-in-Ok-Err
 returns-in-Ok-Err c =
     let fault = rw c.in-Ok-Err.field-0-is at c.in-Ok-Err.ensures.fault in
-    misnamed (record { kind = c.requires.kind; fault = subst (λ e. NameFault e (word_of c.args.text.now c.args.token) c.in-Ok-Err.field-0-0) (ap empty_name c.requires.kind) fault })
+    misnamed (record {
+      kind = c.requires.kind;
+      fault = subst (λ e. NameFault e (word_of c.args.text.now c.args.token) c.in-Ok-Err.field-0-0)
+          (ap empty_name c.requires.kind) fault;
+    })
 
 pub returns : goal.returns
 returns c = memory (λ plain. let e : false ≡ true = c.in-Err.ensures.free plain in cc)
