@@ -1,4 +1,4 @@
-/* The lexer of the WebAssembly text format, for C99 and C++.
+/* The lexer of the WebAssembly text format and what is under a parser's calls, for C99 and C++.
  *
  * Link libwat_parser_c.a, and the small C library of Rattle's kit, by which it asks `malloc`, `realloc` and `free` for memory.
  *
@@ -15,7 +15,11 @@
  *      written, also where `room` is 0, and is not null. They are no part of the text, and nobody else looks at them during the call.
  *      They have values, whatever they are: clear a fresh buffer once.
  *   6. A `bool` is 0 or 1.
- *   7. `malloc`, `realloc` and `free` are of one allocator, and align a block to each power of two up to 16 that divides its size. No
+ *   7. Rows are those of the text that is passed with them: of one call of `wat_rows` from 0, or of several, each from where the one before
+ *      stopped, the last of which answered something else than `WAT_FULL`, all with the same settings and one behind the other; then linked by
+ *      `wat_links` where links are needed, and otherwise as they were written. `why` is what the last call answered. A row that is passed alone is
+ *      one of them. Nobody writes to them during the call.
+ *   8. `malloc`, `realloc` and `free` are of one allocator, and align a block to each power of two up to 16 that divides its size. No
  *      function is called from a signal handler, or from the forked child of a process with threads.
  *
  * The functions keep nothing between calls, so that threads may call them at the same time.
@@ -34,6 +38,13 @@
 extern "C" {
 #endif
 
+/* The version of this header, as a number (10000 times the first part, 100 times the second, and the third) and as text. */
+#define WAT_VERSION 100
+#define WAT_VERSION_TEXT "0.1.0"
+
+/* The version of the library that is linked, as `WAT_VERSION`. */
+uint32_t wat_version(void);
+
 /* The kinds of tokens. */
 enum wat_kind_code {
     WAT_NO_TOKEN = 0,
@@ -51,7 +62,8 @@ enum wat_kind_code {
     WAT_INF = 12,          /* `inf` */
     WAT_NAN = 13,          /* `nan` */
     WAT_NAN_PAYLOAD = 14,  /* `nan:0x` and a payload */
-    WAT_FLOAT = 15         /* digits with a fraction, an exponent, or both */
+    WAT_FLOAT = 15,        /* digits with a fraction, an exponent, or both */
+    WAT_OPENS_AT = 16      /* `(` with `@` directly behind it, in rows of `wat_rows` alone */
 };
 
 /* Signs of numbers. */
@@ -77,6 +89,21 @@ enum wat_fault_code {
     WAT_EMPTY_ANNOTATION = 115        /* a `@` with no name: `wat_name` alone */
 };
 
+/* The name of a kind, as `wat_tokens` prints it: the four kinds of floating-point numbers are all "Float". Empty where the number is no kind's. */
+static inline const char *wat_kind_name(uint8_t code) {
+    static const char *const names[] = {"",        "LineComment", "BlockComment", "Whitespace", "LParen", "RParen", "String", "Id",
+                                        "Keyword", "Annotation",  "Reserved",     "Integer",    "Float",  "Float",  "Float",  "Float"};
+    return code < sizeof names / sizeof *names ? names[code] : "";
+}
+
+/* The name of a fault, as wast's `LexError` has it. Empty where the number is no fault's. */
+static inline const char *wat_fault_name(uint32_t fault) {
+    static const char *const names[] = {"DanglingBlockComment", "Unexpected",    "InvalidStringElement", "InvalidStringEscape", "InvalidHexDigit",
+                                        "InvalidDigit",         "Expected",      "UnexpectedEof",        "NumberTooBig",        "InvalidUnicodeValue",
+                                        "LoneUnderscore",       "ConfusingUnicode", "InvalidUtf8Id",     "EmptyId",             "EmptyAnnotation"};
+    return fault > 100 && fault <= 100 + sizeof names / sizeof *names ? names[fault - 101] : "";
+}
+
 /* Why `wat_fill` stopped, where it is no fault. */
 enum wat_stop { WAT_END = 0, WAT_FULL = 1 };
 
@@ -85,7 +112,19 @@ enum wat_status {
     WAT_GIVEN = 0,
     WAT_OTHER = 1,     /* no such token, or no fault, stands at the place */
     WAT_NO_MEMORY = 2, /* a request for memory was refused */
-    WAT_ABSENT = 3     /* the number has no such part, or the name no fault */
+    WAT_ABSENT = 3,    /* the number has no such part, the name no fault, or there is no comment */
+    WAT_ESCAPED = 4,   /* an escape stands in the word, so that its value does not stand in the text */
+    WAT_OUT_OF_RANGE = 5 /* the integer has no such value */
+};
+
+/* What a look finds. */
+enum wat_look_status {
+    WAT_SHOWN = 0,
+    WAT_TEXT_END = 1,
+    WAT_LOOK_NO_MEMORY = 2, /* a request for memory was refused */
+    WAT_TEXT_FAULT = 3,     /* the fault behind the last row */
+    WAT_UNCLOSED = 4,       /* the text ends in the group of an annotation that is not registered */
+    WAT_MISNAMED = 5        /* an annotation's name is empty, or it is not UTF-8 */
 };
 
 /* The parts of a floating-point number. */
@@ -138,6 +177,34 @@ struct wat_position {
     size_t column; /* bytes before it in its line */
 };
 
+/* A token that counts, which is no white space and no comment: `len` bytes of the text from `offset` on. */
+struct wat_row {
+    uint32_t offset;
+    uint32_t len;
+    struct wat_kind kind;
+    uint32_t link; /* by `wat_links`: one more than the number of the row that closes the group which is open behind this row, or 0 where none does */
+};
+
+/* What a look finds, a `wat_look_status`: the row that is shown, the `(` that nothing closes, the annotation whose name is wrong; otherwise how
+ * many rows there are. */
+struct wat_look {
+    uint32_t row;
+    uint32_t status;
+};
+
+/* Where something stands in the text, and whether, a `wat_status` or a fault's number; start and length are 0 where it is not `WAT_GIVEN`. */
+struct wat_word {
+    uint32_t start;
+    uint32_t len;
+    uint32_t status;
+};
+
+/* An integer's value as two's complement, and whether it has one, a `wat_status`; 0 where it is not `WAT_GIVEN`. */
+struct wat_number {
+    uint64_t value;
+    uint32_t status;
+};
+
 /* Whether the bytes are a text: UTF-8, and at most `UINT32_MAX`. */
 bool wat_is_text(const uint8_t *text, size_t len);
 
@@ -181,6 +248,47 @@ struct wat_answer wat_float(const uint8_t *text, size_t len, size_t pos, bool al
 /* Line and column of a byte of the text, whether it is a place or not; the column is the bytes before it in its line. Past the text's end the
  * line is the number of lines, and the column is 0. */
 struct wat_position wat_line_column(const uint8_t *text, size_t len, size_t offset);
+
+/* The rows of the tokens that count from a place on, without links, up to the text's end or the first fault, or as many as there is room for. What
+ * lies behind them in the buffer stays. With `WAT_FULL`, `at` is where the next call goes on. */
+struct wat_filled wat_rows(const uint8_t *text, size_t len, size_t pos, bool allow, bool strict, struct wat_row *out, size_t room);
+
+/* Writes the link of each row. There are fewer than `UINT32_MAX` rows. */
+void wat_links(struct wat_row *rows, size_t count);
+
+/* The row that is shown from the row `place` on, with links, under the names that are registered, or why none is. The names stand end to end in
+ * `names`, and `ends` tells where each ends. A row of another code than `WAT_OPENS_AT` is shown at its place whatever the names are. Want of memory
+ * only where an escape stands in an annotation's name. */
+struct wat_look wat_shown(const uint8_t *text, size_t len, const struct wat_row *rows, size_t count, uint32_t why, size_t place,
+                          const uint8_t *names, size_t names_len, const size_t *ends, size_t names_count);
+
+/* The byte at which a parser stands that has taken the first `place` of the rows, of which there are as many: where the last of them ends, or 0. */
+size_t wat_behind(const struct wat_row *rows, size_t count, size_t place);
+
+/* The comment at a place of the text, past white space; `WAT_ABSENT` where there is none, or the number of the fault there. It takes no memory. */
+struct wat_word wat_comment(const uint8_t *text, size_t len, size_t pos, bool allow, bool strict);
+
+/* Where the value of a string, or the name of an identifier or annotation, stands in the text as it is; `WAT_ESCAPED` where an escape stands in
+ * it, or the fault's number of an empty name. It takes no memory. */
+struct wat_word wat_word(const uint8_t *text, size_t len, const struct wat_row *row);
+
+/* As `wat_string`, `wat_name`, `wat_integer` and `wat_float`, of a row in place of a place, so that nothing is scanned again. */
+struct wat_answer wat_string_of(const uint8_t *text, size_t len, const struct wat_row *row, uint8_t *out, size_t room);
+struct wat_answer wat_name_of(const uint8_t *text, size_t len, const struct wat_row *row, uint8_t *out, size_t room);
+struct wat_answer wat_digits_of(const uint8_t *text, size_t len, const struct wat_row *row, uint8_t *out, size_t room);
+struct wat_answer wat_float_of(const uint8_t *text, size_t len, const struct wat_row *row, uint32_t part, uint8_t *out, size_t room);
+
+/* The value of the integer of a row as one of 8, 16, 32 or 64 bits. With a sign it takes what fits without one too, below the power of two, as the
+ * text format does; without a sign it takes no `-` at all. It takes no memory. */
+struct wat_number wat_integer_of(const uint8_t *text, size_t len, const struct wat_row *row, uint32_t bits, bool is_signed);
+
+/* What an error prints whose message is given, at a byte of the text, with the name of a file or, where that is empty, `<anon>`: as `wat_fault`
+ * prints a fault. Want of memory only where there is a name. */
+struct wat_answer wat_print(const uint8_t *text, size_t len, size_t offset, const uint8_t *message, size_t message_len, const uint8_t *file,
+                            size_t file_len, uint8_t *out, size_t room);
+
+/* The message of a fault, by the three numbers of `wat_found`; `WAT_OTHER` where they are no fault. It takes no memory. */
+struct wat_answer wat_message(uint32_t fault, uint32_t found, uint32_t wanted, uint8_t *out, size_t room);
 
 #ifdef __cplusplus
 }

@@ -81,6 +81,17 @@ compare tools/c/list.c "$room/list" list
 "$c" -std=c99 -O2 "${strict[@]}" -o "$room/identifiers" tools/c/identifiers.c "${archives[@]}"
 compare tools/c/identifiers.c "$room/identifiers" identifiers
 
+if has make && has pkg-config; then
+    make -s install PREFIX="$room/installed"
+    flags=$(PKG_CONFIG_PATH="$room/installed/lib/pkgconfig" pkg-config --cflags --libs wat)
+    # (each flag is a word)
+    # shellcheck disable=SC2086
+    "$c" -std=c99 -O2 -o "$room/list" tools/c/list.c $flags
+    compare 'tools/c/list.c over the installed library' "$room/list" list
+else
+    say 'the installed library is left out, as no make or no pkg-config is here'
+fi
+
 if sanitizes; then
     "$c" -std=c99 -g -O1 -fsanitize=address,undefined -fno-sanitize-recover=all "${strict[@]}" -o "$room/readers" tools/c/readers.c "${archives[@]}"
     find "$texts" -type f ! -name '*.stdout' ! -name '*.args' -print0 | sort -z | xargs -0 "$room/readers" "$mutants"

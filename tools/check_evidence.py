@@ -15,7 +15,7 @@ import sys
 
 ROOT = pathlib.Path(__file__).resolve().parent.parent
 # Crates of tests, and the programs that refuse requests from outside.
-HARNESS = {"wat_lex_tests", "wat_parser_tests", "wat_type_tests", "wat_requests"}
+HARNESS = {"wat_command_tests", "wat_lex_tests", "wat_parser_tests", "wat_type_tests", "wat_requests"}
 
 # The places that may write one, each with why.
 MAY = {
@@ -28,7 +28,7 @@ MAY = {
 ROOMS = {
     ("wat_lexer_parser/src/parser/table.rt", "with_capacity(alloc, room)"),
     ("wat_lexer_parser/src/laws.rt", "with_capacity(alloc, text.len())"),
-    ("wat_tokens/src/blank.rt", "with_capacity(alloc, text.len())"),
+    ("wat_commands/src/blank.rt", "with_capacity(alloc, text.len())"),
 }
 
 # Where the name of the type stands as a type: in a list of type arguments, behind a colon or an arrow, in a `use`, as the payload of a

@@ -7,9 +7,6 @@
 
 enum { ROOM = 1024 };
 
-static const char *const names[] = {"",   "LineComment", "BlockComment", "Whitespace", "LParen",  "RParen", "String", "Id",
-                                    "Keyword", "Annotation", "Reserved", "Integer", "Float", "Float", "Float", "Float"};
-
 static int refuse(const char *why) {
     fprintf(stderr, "list: %s\n", why);
     return 2;
@@ -67,7 +64,7 @@ int main(void) {
     while (filled.why == WAT_FULL) {
         filled = wat_fill(text, len, filled.at, false, false, tokens, ROOM);
         for (i = 0; i < filled.count; i++) {
-            printf("%zu..%zu %s\n", tokens[i].offset, tokens[i].offset + tokens[i].len, names[tokens[i].kind.code]);
+            printf("%zu..%zu %s\n", tokens[i].offset, tokens[i].offset + tokens[i].len, wat_kind_name(tokens[i].kind.code));
         }
     }
     if (filled.why != WAT_END) {

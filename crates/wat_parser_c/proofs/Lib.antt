@@ -1,6 +1,4 @@
 mod Answering
-mod Filling
-mod OneFill
 mod OneFinding
 mod Parts
 mod Texts

@@ -1,6 +1,6 @@
 -- What a reader answers to C, and what the caller's buffer has afterwards. No part of the standard.
 use Rattle.std.specs.Prelude.{◌≡◌, ◌≢◌, ◌++◌, nat_le, ℕ, List, length, drop, Result, Ok, Err, alloc_error, if◌then◌else◌}
-use Rattle.wat_parser_c.specs.Rows.{fault_code}
+use Rattle.wat_rows.specs.Rows.{fault_code}
 use Rattle.wat_parser_c.specs.declared.answers.Answer.{Answer}
 use Rattle.wat_parser_c.specs.declared.answers.Refusal.{Refusal}
 use Rattle.wat_parser_c.specs.declared.answers.Refusal.TheVariants.{Other, Memory, Absent, Fault}

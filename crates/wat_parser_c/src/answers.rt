@@ -2,7 +2,7 @@
 ghost use Rattle.std.specs.Prelude.{◌≡◌, length, Ok, Err};
 ghost use Rattle.wat_parser_c.specs.Answers.{answer_of, left_of, put, status_of};
 
-use crate::rows::fault_code;
+use wat_rows::rows::fault_code;
 use std::alloc::AllocError;
 use wat_lex::lexer::LexError;
 

@@ -1,11 +1,10 @@
-//! What a reader answers at a place, and the rows from there, are one thing.
+//! What a reader answers at a place is one thing.
 ghost use Rattle.std.specs.Prelude.{ℕ, List};
 ghost use Rattle.wat_lex.specs.tokens.Setting.{Setting};
 ghost use Rattle.wat_parser_c.specs.Answers.{OneAnswer};
 ghost use Rattle.wat_parser_c.specs.Readings.{Finds, FindsFault, IsString, IsNamed, IsInteger, IsFloat};
 ghost use Rattle.wat_parser_c.specs.Readings.{ReadsString, ReadsName, ReadsInteger, ReadsFloat};
 ghost use Rattle.wat_parser_c.specs.Readings.{ReadsNameFault};
-ghost use Rattle.wat_parser_c.specs.Rows.{OneFill};
 
 /// Each reader has one answer at each place, want of memory apart. It does nothing: its contract is
 /// the law.
@@ -26,11 +25,4 @@ pub fn one_answer()
     wat_lex::laws::strings();
     wat_lex::laws::names();
     wat_lex::laws::floats();
-}
-
-/// The rows from each place are the only ones. It does nothing: its contract is the law.
-pub fn one_fill()
-    ensures { (s : Setting) (from room : ℕ) → OneFill s from room }
-{
-    wat_lex::laws::one_answer();
 }

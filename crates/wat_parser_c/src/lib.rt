@@ -8,27 +8,28 @@ ghost use Rattle.wat_lex.specs.errors.Positions.{line_and_column};
 ghost use Rattle.wat_parser_c.specs.Answers.{Answers, OneAnswer};
 ghost use Rattle.wat_parser_c.specs.Readings.{Finds, FindsFault, IsString, IsNamed, IsInteger, IsFloat};
 ghost use Rattle.wat_parser_c.specs.Readings.{ReadsString, ReadsName, ReadsInteger, ReadsFloat, ReadsNameFault};
-ghost use Rattle.wat_parser_c.specs.Rows.{FoundAt, TokenFoundAt, Fills, OneFill, setting};
-ghost use Rattle.wat_parser_c.specs.declared.rows.Found.{Found as FoundRow};
+ghost use Rattle.wat_rows.specs.Rows.{FoundAt, TokenFoundAt, Fills, OneFill, setting};
+ghost use Rattle.wat_rows.specs.declared.rows.Found.{Found as FoundRow};
 
 pub mod answers;
-mod fill;
 mod given;
 mod laws;
+pub mod looks;
 mod readings;
-pub mod rows;
+pub mod version;
 #[cfg(test)]
 mod tests;
 
 use answers::Answer;
-use fill::fill;
 use given::{give_fault, give_float, give_integer, give_name, give_name_fault, give_string};
-use laws::{one_answer, one_fill};
-use rows::{Filled, Found, TokenRow, found_row, lexer_of};
+use laws::one_answer;
 use std::alloc::Global;
 use std::str;
 use wat_lex::lexer::Settings;
 use wat_lex::token::Span;
+use wat_rows::fill::fill;
+use wat_rows::laws::one_fill;
+use wat_rows::rows::{Filled, Found, TokenRow, found_row, lexer_of};
 
 /// Whether the bytes are a text that the other functions take.
 #[unsafe(no_mangle)]

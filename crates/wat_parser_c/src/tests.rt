@@ -1,5 +1,5 @@
 //! Each function of the library once, with answers from outside.
-use crate::rows::KindRow;
+use wat_rows::rows::KindRow;
 use crate::{
     Answer, Filled, Found, Position, TokenRow, wat_fault, wat_fill, wat_float, wat_integer,
     wat_is_place, wat_is_text, wat_line_column, wat_name, wat_name_fault, wat_scan, wat_string,

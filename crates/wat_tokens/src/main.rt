@@ -3,27 +3,12 @@
 //! module that the text spells.
 #![tactic(auto)]
 
-pub mod blank;
-pub mod calls;
-pub mod ends;
-mod line;
-pub mod list;
-pub mod options;
-pub mod outcome;
-pub mod play;
-mod print;
-pub mod run;
-pub mod show;
-#[cfg(test)]
-mod tests;
-
-use ends::Plain;
-use outcome::{Outcome, respond};
-use run::RunError;
 use std::alloc::AllocError;
 use std::process::ExitCode;
 use std::{env, io};
-pub use wat_lex::lexer::Settings;
+use wat_commands::ends::Plain;
+use wat_commands::outcome::{Outcome, respond};
+use wat_commands::run::RunError;
 
 /// The words behind the program's name.
 fn words(rt: &HostRuntime) -> io::Result<Vec<String>> {

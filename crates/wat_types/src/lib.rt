@@ -15,8 +15,6 @@ ghost use Rattle.wat_types.specs.Signatures.{Signature};
 
 mod binary;
 pub mod laws;
-#[cfg(test)]
-mod tests;
 mod text;
 mod types;
 

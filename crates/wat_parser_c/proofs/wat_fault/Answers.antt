@@ -1,4 +1,4 @@
-use Rattle.wat_parser_c.specs.Rows.{setting}
+use Rattle.wat_rows.specs.Rows.{setting}
 use Rattle.wat_parser_c.proofs.wat_fault.Goals as goal
 
 pub returns-clause-one : goal.returns-clause-one

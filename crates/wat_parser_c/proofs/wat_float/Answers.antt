@@ -1,4 +1,4 @@
-use Rattle.wat_parser_c.specs.Rows.{setting}
+use Rattle.wat_rows.specs.Rows.{setting}
 use Rattle.wat_parser_c.proofs.wat_float.Goals as goal
 
 pub returns-clause-one : goal.returns-clause-one

@@ -1,0 +1,633 @@
+//! Texts with their lists, from outside, and readers, writers, sources and sinks that fail.
+ghost use Rattle.std.specs.Prelude.{Option, Some};
+
+mod blanked;
+mod compiled;
+mod cuts;
+mod refused;
+mod shown;
+
+use wat_commands::Settings;
+use wat_commands::calls::read_call;
+use wat_commands::ends::{Failed, Plain, Sink, Source};
+use wat_commands::options::{Command, Task, command_of};
+use wat_commands::outcome::{Outcome, respond};
+use wat_commands::play::reply_lines;
+use wat_commands::run::{RunError, run_list};
+use std::alloc::{AllocError, Global};
+use std::io;
+use std::process::Abort;
+use std::test::Fail;
+use wat_lex::error::Error;
+use wat_lex::lexer::{LexError, Token, TokenKind};
+use wat_lex::token::Span;
+use wat_lexer_parser::parser::{FaultKind, Reply};
+
+const OFF: Settings = Settings {
+    allow: false,
+    strict: false,
+};
+
+const MODULE: &str = "(module (func $foo))";
+
+const MODULE_LINES: &str =
+    "0..1 LParen\n1..7 Keyword\n7..8 Whitespace\n8..9 LParen\n9..13 Keyword\n\
+     13..14 Whitespace\n14..18 Id\n18..19 RParen\n19..20 RParen\n";
+
+/// A source that gives at most so many bytes a call, and fails at one of the calls.
+#[derive(Drop)]
+struct Pieces<'a> {
+    rest: &'a [u8],
+    most: usize,
+    fails_in: usize,
+    failed: bool,
+    ended: bool,
+}
+
+impl<'a> Source for Pieces<'a> {
+    ghost left = { λ s. Some s.rest.now };
+
+    ghost has_failed = { λ s. s.failed };
+
+    ghost has_ended = { λ s. s.ended };
+
+    fn read(&mut self, buffer: &mut [u8]) -> Result<usize, Failed> {
+        self.ended = false;
+        if self.fails_in == 0 {
+            self.failed = true;
+            return Err(Failed);
+        }
+        self.fails_in -= 1;
+        let count = self.most.max(1).min(self.rest.len()).min(buffer.len());
+        let (prefix, rest) = self.rest.split_at(count);
+        buffer[..count].copy_from_slice(prefix);
+        self.rest = rest;
+        self.ended = count == 0 && !buffer.is_empty();
+        Ok(count)
+    }
+
+    fn failed(&self) -> bool {
+        self.failed
+    }
+
+    fn ended(&self) -> bool {
+        self.ended
+    }
+}
+
+/// A sink that has room beforehand, or fails.
+#[derive(Drop)]
+struct Room {
+    held: Vec<u8>,
+    broken: bool,
+    failed: bool,
+}
+
+impl Sink for Room {
+    ghost held = { λ s. Some s.held.items };
+
+    ghost has_failed = { λ s. s.failed };
+
+    fn write_all(&mut self, bytes: &[u8]) -> Result<(), Failed> {
+        if self.broken || self.held.extend_from_slice(bytes).is_err() {
+            self.failed = true;
+            return Err(Failed);
+        }
+        Ok(())
+    }
+
+    fn failed(&self) -> bool {
+        self.failed
+    }
+}
+
+/// A reader that gives so many bytes a call, and fails at one call only. It counts the calls.
+#[derive(Drop)]
+struct FailsOnce<'a> {
+    rest: &'a [u8],
+    most: usize,
+    fails_at: usize,
+    calls: usize,
+}
+
+impl<'a> io::Read for FailsOnce<'a> {
+    fn read(&mut self, buffer: &mut [u8]) -> io::Result<usize> {
+        let call = self.calls;
+        self.calls = self.calls.saturating_add(1);
+        if call == self.fails_at {
+            return Err(io::ErrorKind::Interrupted.into());
+        }
+        let count = self.most.min(self.rest.len()).min(buffer.len());
+        let (prefix, rest) = self.rest.split_at(count);
+        buffer[..count].copy_from_slice(prefix);
+        self.rest = rest;
+        Ok(count)
+    }
+}
+
+/// A writer that takes so many bytes a call, and fails at one call only, or at each flush. It
+/// counts the calls.
+#[derive(Drop)]
+struct Counted {
+    held: Vec<u8>,
+    most: usize,
+    fails_at: usize,
+    writes: usize,
+    flush_fails: bool,
+    flushes: usize,
+}
+
+impl io::Write for Counted {
+    fn write(&mut self, bytes: &[u8]) -> io::Result<usize> {
+        let call = self.writes;
+        self.writes = self.writes.saturating_add(1);
+        let count = self.most.min(bytes.len());
+        if call == self.fails_at || self.held.extend_from_slice(&bytes[..count]).is_err() {
+            return Err(io::ErrorKind::Interrupted.into());
+        }
+        Ok(count)
+    }
+
+    fn flush(&mut self) -> io::Result<()> {
+        self.flushes = self.flushes.saturating_add(1);
+        if self.flush_fails {
+            return Err(io::ErrorKind::Interrupted.into());
+        }
+        Ok(())
+    }
+}
+
+/// A writer that fails at the given write, or at the flush.
+fn counting_writer(alloc: Global, most: usize, fails_at: usize, flush_fails: bool) -> Counted {
+    Counted {
+        held: Vec::new(alloc),
+        most,
+        fails_at,
+        writes: 0,
+        flush_fails,
+        flushes: 0,
+    }
+}
+
+#[test]
+fn lists(rt: HostRuntime) -> Result<(), Fail> {
+    let rows = [
+        ("", "", ""),
+        (MODULE, MODULE_LINES, ""),
+        (
+            ",[;x",
+            "0..1 Reserved\n1..2 Reserved\n2..3 Reserved\n3..4 Keyword\n",
+            "",
+        ),
+        (
+            "1 é",
+            "0..1 Integer\n1..2 Whitespace\n",
+            "unexpected character '\\u{e9}'\n\
+             \x20    --> <anon>:1:3\n      |\n    1 | 1 é\n      |   ^",
+        ),
+        (
+            "a\"b",
+            "",
+            "unexpected end-of-file\n     --> <anon>:1:4\n      |\n    1 | a\"b\n      |    ^",
+        ),
+        (
+            "x(;",
+            "0..1 Keyword\n",
+            "unterminated block comment\n     --> <anon>:1:2\n      |\n    1 | x(;\n      |  ^",
+        ),
+    ];
+    for (text, lines, fault) in rows {
+        let mut input = Plain::new(text.as_bytes());
+        let mut output = Plain::new(Vec::new(rt.alloc()));
+        let reported = match run_list(rt.alloc(), &mut input, &mut output, OFF).map_err(
+            |_| "the run is refused",
+        )? {
+            None => String::new(rt.alloc()),
+            Some(error) => error.to_string(rt.alloc())?,
+        };
+        assert_eq!(rt; reported.as_str(), fault, "{text}");
+        assert_eq!(rt; output.into_inner().as_slice(), lines.as_bytes(), "{text}");
+    }
+    Ok(())
+}
+
+#[test]
+fn settings(rt: HostRuntime) -> Result<(), Fail> {
+    let text = ";;\u{202e}\n\"\\u{1__0}\"";
+    let rows = [
+        (false, false, ""),
+        (
+            true,
+            false,
+            "0..5 LineComment\n5..6 Whitespace\n6..16 String\n",
+        ),
+        (false, true, ""),
+        (true, true, "0..5 LineComment\n5..6 Whitespace\n"),
+    ];
+    for (allow, strict, lines) in rows {
+        let mut input = Plain::new(text.as_bytes());
+        let mut output = Plain::new(Vec::new(rt.alloc()));
+        let fault = run_list(
+            rt.alloc(),
+            &mut input,
+            &mut output,
+            Settings { allow, strict },
+        )
+        .map_err(|_| "the run is refused")?;
+        assert_eq!(rt; fault.is_some(), !allow || strict);
+        assert_eq!(rt; output.into_inner().as_slice(), lines.as_bytes());
+    }
+    Ok(())
+}
+
+#[test]
+fn not_utf8(rt: HostRuntime) {
+    let mut input = Plain::new(b"\xff".as_slice());
+    let mut output = Plain::new(Vec::new(rt.alloc()));
+    let result = run_list(rt.alloc(), &mut input, &mut output, OFF);
+    assert!(rt; matches!(&result, Err(RunError::NotUtf8)));
+    assert!(rt; output.into_inner().is_empty());
+}
+
+/// Runs over a source in pieces whose read fails after so many.
+fn run_in_pieces(
+    rt: &impl Abort,
+    room: &mut Room,
+    most: usize,
+    fails_in: usize,
+) -> Option<RunError> {
+    let mut input = Pieces {
+        rest: MODULE.as_bytes(),
+        most,
+        fails_in,
+        failed: false,
+        ended: false,
+    };
+    assert!(rt; !room.failed);
+    let alloc = *room.held.allocator();
+    match run_list(alloc, &mut input, room, OFF) {
+        Ok(_) => None,
+        Err(error) => {
+            assert_eq!(rt; input.failed, error == RunError::Read);
+            Some(error)
+        }
+    }
+}
+
+#[test]
+fn reads_that_fail(rt: HostRuntime) -> Result<(), Fail> {
+    for most in 1..8 {
+        let reads = MODULE.len().div_ceil(most) + 1;
+        for fails_in in 0..reads + 1 {
+            let mut room = Room {
+                held: Vec::with_capacity(rt.alloc(), 200)?,
+                broken: false,
+                failed: false,
+            };
+            let error = run_in_pieces(&rt, &mut room, most, fails_in);
+            if fails_in < reads {
+                assert_eq!(rt; error, Some(RunError::Read));
+                assert!(rt; room.held.is_empty());
+            } else {
+                assert_eq!(rt; error, None);
+                assert_eq!(rt; room.held.as_slice(), MODULE_LINES.as_bytes());
+            }
+        }
+    }
+    Ok(())
+}
+
+#[test]
+fn a_write_that_fails(rt: HostRuntime) {
+    let mut room = Room {
+        held: Vec::new(rt.alloc()),
+        broken: true,
+        failed: false,
+    };
+    assert_eq!(rt;
+        run_in_pieces(&rt, &mut room, 4096, 99),
+        Some(RunError::Write)
+    );
+    assert!(rt; room.failed());
+}
+
+#[test]
+fn a_failed_read_is_not_tried_again(rt: HostRuntime) {
+    let mut input = Plain::new(FailsOnce {
+        rest: b"abcd",
+        most: 2,
+        fails_at: 1,
+        calls: 0,
+    });
+    let mut buffer = [0u8; 8];
+    assert_eq!(rt; input.read(&mut buffer), Ok(2));
+    assert_eq!(rt; input.read(&mut buffer), Err(Failed));
+    assert!(rt; input.failed() && !input.ended());
+    assert_eq!(rt; input.read(&mut buffer), Ok(2));
+    assert_eq!(rt; &buffer[..2], b"cd".as_slice());
+    assert_eq!(rt; input.read(&mut []), Ok(0));
+    assert!(rt; !input.ended());
+    assert_eq!(rt; input.read(&mut buffer), Ok(0));
+    assert!(rt; input.failed() && input.ended());
+    assert_eq!(rt; input.into_inner().calls, 5);
+}
+
+#[test]
+fn a_run_ends_at_a_failed_read(rt: HostRuntime) {
+    let mut input = Plain::new(FailsOnce {
+        rest: MODULE.as_bytes(),
+        most: 4,
+        fails_at: 2,
+        calls: 0,
+    });
+    let mut output = Plain::new(Vec::new(rt.alloc()));
+    let result = run_list(rt.alloc(), &mut input, &mut output, OFF);
+    assert!(rt; matches!(&result, Err(RunError::Read)));
+    let reader = input.into_inner();
+    assert_eq!(rt; (reader.calls, reader.rest.len()), (3, MODULE.len() - 8));
+    assert!(rt; output.into_inner().is_empty());
+}
+
+#[test]
+fn nothing_is_written_behind_a_failed_write(rt: HostRuntime) -> Result<(), Fail> {
+    for (most, fails_at, held, writes) in [
+        (1, 0, "", 1),
+        (1, 2, "ab", 3),
+        (2, 1, "ab", 2),
+        (0, 9, "", 1),
+    ] {
+        let mut output = Plain::new(counting_writer(rt.alloc(), most, fails_at, false));
+        assert_eq!(rt; output.write_all(b"abc"), Err(Failed));
+        assert!(rt; output.failed());
+        let writer = output.into_inner();
+        assert_eq!(rt; writer.held.as_slice(), held.as_bytes());
+        assert_eq!(rt; (writer.writes, writer.flushes), (writes, 0));
+    }
+    Ok(())
+}
+
+#[test]
+fn a_run_ends_at_a_failed_write(rt: HostRuntime) {
+    let mut input = Plain::new(MODULE.as_bytes());
+    let mut output = Plain::new(counting_writer(rt.alloc(), 4, 2, false));
+    let result = run_list(rt.alloc(), &mut input, &mut output, OFF);
+    assert!(rt; matches!(&result, Err(RunError::Write)));
+    let writer = output.into_inner();
+    assert_eq!(rt; writer.held.as_slice(), MODULE_LINES[..8].as_bytes());
+    assert_eq!(rt; (writer.writes, writer.flushes), (3, 0));
+}
+
+#[test]
+fn each_write_ends_in_one_flush(rt: HostRuntime) {
+    for flush_fails in [false, true] {
+        let mut input = Plain::new(b"x".as_slice());
+        let mut output = Plain::new(counting_writer(rt.alloc(), 4, 9, flush_fails));
+        let result = run_list(rt.alloc(), &mut input, &mut output, OFF);
+        assert_eq!(rt; matches!(&result, Err(RunError::Write)), flush_fails);
+        assert_eq!(rt; matches!(&result, Ok(None)), !flush_fails);
+        assert_eq!(rt; output.failed(), flush_fails);
+        let writer = output.into_inner();
+        assert_eq!(rt; writer.held.as_slice(), b"0..1 Keyword\n".as_slice());
+        assert_eq!(rt; (writer.writes, writer.flushes), (4, 1));
+    }
+}
+
+#[test]
+fn an_empty_output_is_flushed(rt: HostRuntime) {
+    for flush_fails in [false, true] {
+        let mut input = Plain::new(b"".as_slice());
+        let mut output = Plain::new(counting_writer(rt.alloc(), 4, 9, flush_fails));
+        let result = run_list(rt.alloc(), &mut input, &mut output, OFF);
+        assert_eq!(rt; matches!(&result, Err(RunError::Write)), flush_fails);
+        assert_eq!(rt; matches!(&result, Ok(None)), !flush_fails);
+        assert_eq!(rt; output.failed(), flush_fails);
+        let writer = output.into_inner();
+        assert_eq!(rt; (writer.writes, writer.flushes), (0, 1));
+    }
+}
+
+#[test]
+fn outcomes(rt: HostRuntime) -> Result<(), Fail> {
+    let message = String::from_str(rt.alloc(), "m")?;
+    let rows = [
+        (Outcome::of_run(Ok(None)), 0, ""),
+        (
+            Outcome::Refused(RunError::Read),
+            2,
+            "wat_tokens: read failed\n",
+        ),
+        (
+            Outcome::Refused(RunError::TooLong),
+            2,
+            "wat_tokens: input is too long\n",
+        ),
+        (
+            Outcome::Refused(RunError::NotUtf8),
+            2,
+            "wat_tokens: input is not UTF-8\n",
+        ),
+        (
+            Outcome::of_run(Err(RunError::Write)),
+            2,
+            "wat_tokens: write failed\n",
+        ),
+        (
+            Outcome::Refused(RunError::from(AllocError)),
+            2,
+            "wat_tokens: out of memory\n",
+        ),
+        (
+            Outcome::Usage,
+            2,
+            "usage: wat_tokens [--allow-confusing] [--strict-underscores] \
+             [sig NAME.. | play CALL.. | blank] | types\n",
+        ),
+        (
+            Outcome::of_run(Ok(Some(Error::new(Span::from_offset(3), message)))),
+            1,
+            "m at byte offset 3\n",
+        ),
+    ];
+    for (outcome, status, line) in rows {
+        let mut errors = Vec::new(rt.alloc());
+        outcome.report(&mut errors)?;
+        assert_eq!(rt; errors.as_slice(), line.as_bytes());
+        assert_eq!(rt; outcome.status(), status);
+    }
+    Ok(())
+}
+
+/// The words of a command line.
+fn words_of(alloc: Global, text: &str) -> Result<Vec<String>, Fail> {
+    let mut words = Vec::new(alloc);
+    for word in text.split_whitespace() {
+        words.push(String::from_str(alloc, word)?)?;
+    }
+    Ok(words)
+}
+
+/// A command as its words, the options and the task spelled out.
+fn spelled(alloc: Global, command: &Command<'_>) -> Result<String, Fail> {
+    let (settings, task) = match command {
+        Command::Tokens(settings, task) => (settings, task),
+        Command::Types => return Ok(String::from_str(alloc, "types")?),
+    };
+    let Settings { allow, strict } = *settings;
+    let mut text = format!(in alloc; "{allow} {strict}")?;
+    match task {
+        Task::List => text.push_str(" list")?,
+        Task::Sig(names) => {
+            for name in names.iter() {
+                write!(text, " <{name}>")?;
+            }
+        }
+        Task::Play(calls) => {
+            for call in calls.iter() {
+                write!(text, " {call:?}")?;
+            }
+        }
+        Task::Blank => text.push_str(" blank")?,
+    }
+    Ok(text)
+}
+
+#[test]
+fn words(rt: HostRuntime) -> Result<(), Fail> {
+    let rows = [
+        ("", "false false list"),
+        ("--allow-confusing", "true false list"),
+        ("--strict-underscores", "false true list"),
+        ("--allow-confusing --strict-underscores", "true true list"),
+        ("--strict-underscores --allow-confusing", "true true list"),
+        ("--allow-confusing --allow-confusing", ""),
+        ("sig", "false false"),
+        ("sig a play", "false false <a> <play>"),
+        ("sig --allow-confusing", "false false <--allow-confusing>"),
+        ("--allow-confusing sig a a", "true false <a> <a>"),
+        ("--strict-underscores --allow-confusing play", "true true"),
+        (
+            "play look take comment parens=12 reg=b unreg=",
+            "false false Look Take Comment Parens(12) Register(\"b\") Unregister(\"\")",
+        ),
+        ("blank", "false false blank"),
+        ("--allow-confusing blank", "true false blank"),
+        ("sig blank", "false false <blank>"),
+        ("blank x", ""),
+        ("blank --allow-confusing", ""),
+        ("play blank", ""),
+        ("types", "types"),
+        ("sig types", "false false <types>"),
+        ("--allow-confusing types", ""),
+        ("--strict-underscores types", ""),
+        ("types --allow-confusing", ""),
+        ("types types", ""),
+        ("blank types", ""),
+        ("Types", ""),
+        ("play look Look", ""),
+        ("play --allow-confusing", ""),
+        ("look", ""),
+        ("--help", ""),
+    ];
+    for (text, want) in rows {
+        let words = words_of(rt.alloc(), text)?;
+        let got = match command_of(rt.alloc(), &words)? {
+            Some(command) => spelled(rt.alloc(), &command)?,
+            None => String::new(rt.alloc()),
+        };
+        assert_eq!(rt; got.as_str(), want, "{text}");
+    }
+    Ok(())
+}
+
+#[test]
+fn calls(rt: HostRuntime) -> Result<(), Fail> {
+    let rows = [
+        ("look", "Some(Look)"),
+        ("take", "Some(Take)"),
+        ("comment", "Some(Comment)"),
+        ("reg=", "Some(Register(\"\"))"),
+        ("reg=a=b", "Some(Register(\"a=b\"))"),
+        ("unreg=reg", "Some(Unregister(\"reg\"))"),
+        ("parens=0", "Some(Parens(0))"),
+        ("parens=000000007", "Some(Parens(7))"),
+        ("parens=123456789", "Some(Parens(123456789))"),
+        ("parens=", "None"),
+        ("parens=1234567890", "None"),
+        ("parens=+1", "None"),
+        ("parens=-1", "None"),
+        ("parens=1a", "None"),
+        ("parens=١", "None"),
+        ("Look", "None"),
+        ("look ", "None"),
+        ("reg", "None"),
+        ("", "None"),
+    ];
+    for (word, want) in rows {
+        let call = read_call(rt.alloc(), word)?;
+        assert_eq!(rt;
+            format!(in rt.alloc(); "{call:?}")?.as_str(),
+            want,
+            "{word}"
+        );
+    }
+    Ok(())
+}
+
+#[test]
+fn replies(rt: HostRuntime) -> Result<(), Fail> {
+    let token = Token {
+        offset: 7,
+        kind: TokenKind::Whitespace,
+        len: u32::MAX,
+    };
+    let rows = [
+        Reply::Token(token),
+        Reply::End,
+        Reply::Fault(0, FaultKind::Lex(LexError::Unexpected('é'))),
+        Reply::Fault(12, FaultKind::Unclosed),
+        Reply::Comment(10, 5),
+        Reply::Comment(usize::MAX, u32::MAX),
+        Reply::Done,
+        Reply::Absent,
+        Reply::NotOpen(1),
+        Reply::NotClosed(23),
+        Reply::TooOften,
+    ];
+    let want = "7..4294967302 Whitespace\nend\nfault 0 unexpected character '\\u{e9}'\n\
+        fault 12 unclosed annotation\ncomment 10..15\n\
+        comment 18446744073709551615..18446744078004518910\ndone\nabsent\nnot open 1\n\
+        not closed 23\ntoo often\n";
+    assert_eq!(rt; reply_lines(rt.alloc(), &rows)?.as_slice(), want.as_bytes());
+    assert!(rt; reply_lines(rt.alloc(), &[])?.is_empty());
+    Ok(())
+}
+
+#[test]
+fn responses(rt: HostRuntime) -> Result<(), Fail> {
+    let rows = [
+        ("", 0, "0..10 String\n"),
+        ("--allow-confusing", 0, "0..10 String\n"),
+        ("--strict-underscores", 1, ""),
+        ("--strict-underscores --allow-confusing", 1, ""),
+        ("blank", 0, "\"\\u{1__0}\""),
+        ("--strict-underscores blank", 1, ""),
+        ("--allow-confusing --allow-confusing", 2, ""),
+        ("play looks", 2, ""),
+        ("blank blank", 2, ""),
+        ("types", 1, ""),
+        ("--allow-confusing types", 2, ""),
+    ];
+    for (words, status, lines) in rows {
+        let mut input = Plain::new(b"\"\\u{1__0}\"".as_slice());
+        let mut output = Plain::new(Vec::new(rt.alloc()));
+        let outcome = respond(
+            rt.alloc(),
+            &words_of(rt.alloc(), words)?,
+            &mut input,
+            &mut output,
+        );
+        assert_eq!(rt; outcome.status(), status, "{words}");
+        assert_eq!(rt; output.into_inner().as_slice(), lines.as_bytes());
+    }
+    Ok(())
+}

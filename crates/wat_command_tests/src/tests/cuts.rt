@@ -1,0 +1,180 @@
+//! Texts that are cut at each character: the lines of a prefix begin the lines of the whole text.
+use wat_commands::Settings;
+use wat_commands::ends::Plain;
+use wat_commands::run::run_list;
+use std::alloc::Global;
+use std::process::Abort;
+use std::str;
+use std::test::Fail;
+
+/// The list text of a text, and whether it has a fault.
+fn listed(alloc: Global, text: &str, settings: Settings) -> Result<(String, bool), Fail> {
+    let mut input = Plain::new(text.as_bytes());
+    let mut output = Plain::new(Vec::new(alloc));
+    let fault = run_list(alloc, &mut input, &mut output, settings).map_err(
+        |_| "the run is refused",
+    )?;
+    let lines = output.into_inner();
+    let shown = str::from_utf8(&lines).map_err(|_| "the lines are not UTF-8")?;
+    Ok((String::from_str(alloc, shown)?, fault.is_some()))
+}
+
+/// Cuts a text everywhere, and compares the lines of each prefix with those of the whole: all of
+/// them before a fault, all but the last before the end.
+fn cut(rt: &impl Abort, alloc: Global, text: &str, settings: Settings) -> Result<(), Fail> {
+    let (whole, _) = listed(alloc, text, settings)?;
+    for (end, _) in text.char_indices() {
+        assert!(rt; text.is_char_boundary(end));
+        let (prefix, is_faulty) = listed(alloc, &text[..end], settings)?;
+        let count = prefix.lines().count();
+        let sure = if is_faulty {
+            count
+        } else {
+            count.saturating_sub(1)
+        };
+        let mut expected = whole.lines();
+        for line in prefix.lines().take(sure) {
+            assert_eq!(rt; Some(line), expected.next(), "{text} {end}");
+        }
+    }
+    Ok(())
+}
+
+#[test]
+fn prefixes_begin_the_whole(rt: HostRuntime) -> Result<(), Fail> {
+    let texts = [
+        "(module (func $foo))",
+        "",
+        "(; (;;) ;)",
+        "(;)",
+        "(;;);;x\r\n$0^;;",
+        "1_ 1__0 1._5 1e 0x 0x1e5 1. inf nan:0x",
+        "\"x\"$ @a\"b\" $\"x\" $ @",
+        "\"\\u{110000}\"",
+        "\"\\u{100000000}\"",
+        "\"\\u{1_",
+        "\"\\u{0_f_3}\"",
+        "\"ab",
+        "\"a\n",
+        ";;\u{202e}",
+        "\"\\u{202e}\"",
+        "\"\u{202e}\"",
+        "(;\u{202e}",
+        "-1_2.1_1E+0_1",
+        "-0x10",
+        "+0x1_2.3_4P-5_6",
+        "(@a \")\" (; ) ;)) 7",
+        "(@a (@)) 1",
+        "(@)",
+        "(@a 1",
+        "(@\"bad",
+        "(\"bad",
+        "( @a)",
+        "module (@name \"m\") x",
+        "(a b",
+        "x ;;c",
+        "4294967295",
+        "4294967296",
+        "-2147483649",
+        "-0",
+        "\"\\ff\"",
+        "12 13",
+        "\t(;",
+        "\"é\" \"\\q\"",
+        "a\n",
+        "$\"\\ff\"",
+        "x",
+        ")",
+        "(func $f)",
+        "(func)",
+        "\"\\u{1_0}\"",
+        "\"\\u{1__0}\\n\\7f\\u{d800}\" x",
+        "(; (; x ;) ;;) ;;) y",
+        ";; a\r\n;;b\n;c;;",
+        "$\"a\" @\"b\"c $d\"e\" \"f\"\"g\"",
+        "-0x1_2.8p+3 1e5 +nan:0x7f inf 1_ 0x",
+        ",[]{};)(\t\n\r ",
+        "a é b",
+        "(;\u{2066};) ;;\u{206c}\nz",
+        "é@a",
+        "(;",
+        "(@name \"m\")",
+        "12",
+        "a",
+    ];
+    for text in texts {
+        for allow in [false, true] {
+            for strict in [false, true] {
+                cut(&rt, rt.alloc(), text, Settings { allow, strict })?;
+            }
+        }
+    }
+    Ok(())
+}
+
+/// 500 spaces, and then a comment that nothing closes.
+fn long_line(alloc: Global) -> Result<String, Fail> {
+    let mut text = " ".repeat(alloc, 500)?;
+    text.push_str("(;")?;
+    Ok(text)
+}
+
+#[test]
+fn prefixes_of_a_long_line_begin_it(rt: HostRuntime) -> Result<(), Fail> {
+    let text = long_line(rt.alloc())?;
+    for allow in [false, true] {
+        for strict in [false, true] {
+            cut(&rt, rt.alloc(), &text, Settings { allow, strict })?;
+        }
+    }
+    Ok(())
+}
+
+#[test]
+fn a_fault_on_a_long_line_is_shown_without_the_line(rt: HostRuntime) -> Result<(), Fail> {
+    let text = long_line(rt.alloc())?;
+    for allow in [false, true] {
+        for strict in [false, true] {
+            let mut input = Plain::new(text.as_bytes());
+            let mut output = Plain::new(Vec::new(rt.alloc()));
+            let settings = Settings { allow, strict };
+            let fault = run_list(rt.alloc(), &mut input, &mut output, settings)
+                .map_err(|_| "the run is refused")?
+                .ok_or("there is no fault")?;
+            let shown = fault.to_string(rt.alloc())?;
+            assert_eq!(rt;
+                shown.as_str(),
+                "unterminated block comment at <anon>:1:501"
+            );
+            assert_eq!(rt;
+                output.into_inner().as_slice(),
+                b"0..500 Whitespace\n".as_slice()
+            );
+        }
+    }
+    Ok(())
+}
+
+#[test]
+fn deep_nesting(rt: HostRuntime) -> Result<(), Fail> {
+    let settings = Settings {
+        allow: false,
+        strict: false,
+    };
+    let mut comment = "(;".repeat(rt.alloc(), 10_000)?;
+    comment.push_str(&";)".repeat(rt.alloc(), 9_999)?)?;
+    let (lines, is_faulty) = listed(rt.alloc(), &comment, settings)?;
+    assert_eq!(rt; (lines.as_str(), is_faulty), ("", true));
+    comment.push_str(";)")?;
+    let (lines, is_faulty) = listed(rt.alloc(), &comment, settings)?;
+    assert_eq!(rt;
+        (lines.as_str(), is_faulty),
+        ("0..40000 BlockComment\n", false)
+    );
+    let parens = "(".repeat(rt.alloc(), 10_000)?;
+    let (lines, is_faulty) = listed(rt.alloc(), &parens, settings)?;
+    assert!(rt; !is_faulty);
+    assert_eq!(rt; lines.lines().count(), 10_000);
+    assert!(rt; lines.lines().all(|line| line.ends_with(" LParen")));
+    Ok(())
+}

@@ -1,0 +1,24 @@
+use Rattle.std.proofs.Common.{refl}
+use Rattle.wat_commands.specs.Runs.{without_error}
+use Rattle.wat_commands.specs.declared.outcome.Outcome.TheVariants.{Listed, Refused}
+use Rattle.wat_commands.proofs.OutcomeLaws.{ran}
+use Rattle.wat_commands.proofs.outcome.carry_out.Goals as goal
+
+pub returns-in-List : goal.returns-in-List
+returns-in-List g c = rw c.in-List.is (ran c.run_list.result c.of_run.result c.run_list.ensures c.of_run.ensures)
+
+pub returns-in-Sig : goal.returns-in-Sig
+returns-in-Sig g c = rw c.in-Sig.is (ran c.run_sig.result c.of_run-in-Sig.result c.run_sig.ensures c.of_run-in-Sig.ensures)
+
+pub returns-in-Ok : goal.returns-in-Ok
+returns-in-Ok g c =
+    let runs = rw c.deref.ensures.value at c.run_play.ensures in
+    rw c.in-Play.is (ran (without_error c.run_play.result) Listed runs (rw c.in-Ok.is refl))
+
+pub returns-in-Play : goal.returns-in-Play
+returns-in-Play g c =
+    let runs = rw c.deref.ensures.value at c.run_play.ensures in
+    rw c.in-Play.is (ran (without_error c.run_play.result) (Refused c.in-Err.error) runs (rw c.in-Err.is refl))
+
+pub returns : goal.returns
+returns g c = rw c.in-Blank.is (ran c.run_blank.result c.of_run-in-Blank.result c.run_blank.ensures c.of_run-in-Blank.ensures)

@@ -1,0 +1,15 @@
+-- What callers see of a source over a reader, or a sink over a writer. No part of the standard.
+use Rattle.std.specs.Prelude.{Bool}
+use Rattle.wat_commands.specs.declared.ends.Plain.{Plain}
+
+-- the reader or writer
+abbrev pub plain_inner : {T : Type 0} → Plain T → T
+plain_inner p = p.inner
+
+-- a call has failed
+abbrev pub plain_failed : {T : Type 0} → Plain T → Bool
+plain_failed p = p.failed
+
+-- the last read gave the end
+abbrev pub plain_ended : {T : Type 0} → Plain T → Bool
+plain_ended p = p.ended

@@ -1,0 +1,39 @@
+-- What a run writes of the bytes that it has read: one of the texts that are printed of them, with the error that is reported. No
+-- part of the standard.
+use Rattle.std.specs.Prelude.{ℕ, List, Option}
+use Rattle.std.specs.Io.KnownBytes.{Appends}
+use Rattle.wat_lex.specs.errors.Errors.{Report}
+use Rattle.wat_lex.specs.declared.lexer.settings.Settings.{Settings}
+use Rattle.wat_commands.specs.Blanks.{Blanks}
+use Rattle.wat_commands.specs.Compiles.{Compiles}
+use Rattle.wat_commands.specs.Lists.{Lists}
+use Rattle.wat_commands.specs.Replies.{Plays}
+use Rattle.wat_commands.specs.Shows.{Shows}
+use Rattle.wat_commands.specs.Streams.{AppendsPrefix}
+use Rattle.wat_commands.specs.declared.print.Printing.{Printing}
+use Rattle.wat_commands.specs.declared.print.Printing.TheVariants as printing
+
+-- a text is printed of bytes, and an error is answered, if there is one
+abbrev pub Prints : Type 1
+Prints = List ℕ → List ℕ → Option (Option Report) → Type 0
+
+-- what is printed
+abbrev pub prints : Settings → Printing → Prints
+prints s printing.Raw = Lists s
+prints s (printing.Shown names) = Shows s names.now
+prints s (printing.Replies calls) = Plays s calls.now
+prints s printing.Blank = Blanks s
+prints s printing.Types = Compiles
+
+-- Known bytes grow by a text that is printed with this error.
+pub record AppendsText (prints : List ℕ → Option (Option Report) → Type 0) (error : Option (Option Report)) (old new : Option (List ℕ)) : Type 0 where
+  pub text : List ℕ
+  pub printed : prints text error
+  pub appended : Appends old new text
+
+-- Known bytes grow by a prefix of a text that is printed.
+pub record AppendsCut (prints : List ℕ → Option (Option Report) → Type 0) (old new : Option (List ℕ)) : Type 0 where
+  pub text : List ℕ
+  pub error : Option (Option Report)
+  pub printed : prints text error
+  pub appended : AppendsPrefix old new text

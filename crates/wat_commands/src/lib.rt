@@ -1,0 +1,18 @@
+//! The commands of `wat_tokens`, over any source and sink: what they read, write and end in. They
+//! list the raw tokens of a WebAssembly text, or those that count, or what a parser replies to calls;
+//! or write the text with its comments blanked, or the bytes of the module that the text spells.
+#![tactic(auto)]
+
+pub mod blank;
+pub mod calls;
+pub mod ends;
+mod line;
+pub mod list;
+pub mod options;
+pub mod outcome;
+pub mod play;
+mod print;
+pub mod run;
+pub mod show;
+
+pub use wat_lex::lexer::Settings;

@@ -1,0 +1,217 @@
+//! From a source of bytes to what is printed on a sink.
+ghost use Rattle.std.specs.Prelude.{◌≡◌, ◌⊎◌, ◌↔◌, true, false, ◌<◌, ◌^◌, length};
+ghost use Rattle.std.specs.Prelude.{alloc_error, is_ok, IfOk, OnOk, IfErr, IfSome, IsErrOf};
+ghost use Rattle.std.specs.Str.{IsUtf8};
+ghost use Rattle.wat_commands.specs.Blanks.{Blanks};
+ghost use Rattle.wat_commands.specs.Compiles.{Compiles};
+ghost use Rattle.wat_commands.specs.Inputs.{ReadsWhole, ReadsPast, ReadsShort, HasEnded};
+ghost use Rattle.wat_commands.specs.Lists.{Lists};
+ghost use Rattle.wat_commands.specs.Printed.{prints, AppendsText, AppendsCut};
+ghost use Rattle.wat_commands.specs.Replies.{Plays};
+ghost use Rattle.wat_commands.specs.Runs.{without_error, Runs};
+ghost use Rattle.wat_commands.specs.Shows.{Shows};
+
+use crate::ends::{Sink, Source};
+use crate::print::{Output, Printing, print};
+use std::alloc::{AllocError, Global};
+use wat_lex::error::Error;
+use wat_lex::lexer::Settings;
+use wat_lexer_parser::parser::Call;
+
+/// Why a run ended without what it prints.
+#[derive(Clone, Copy, Debug, PartialEq, Eq)]
+pub enum RunError {
+    /// A read failed.
+    Read,
+    /// The input has more than `u32::MAX` bytes.
+    TooLong,
+    /// The input is not UTF-8.
+    NotUtf8,
+    /// The write failed.
+    Write,
+    /// A request for memory was refused, by this refusal.
+    Memory(AllocError),
+}
+
+impl From<AllocError> for RunError {
+    ghost use Rattle.std.specs.Prelude.{◌≡◌};
+    ghost use Rattle.wat_commands.specs.declared.run.RunError.TheVariants.{Memory};
+
+    ghost from_gives = { λ refused e. e ≡ Memory refused };
+
+    fn from(refused: AllocError) -> RunError {
+        RunError::Memory(refused)
+    }
+}
+
+/// How many bytes the longest text has.
+const LONGEST: usize = u32::MAX as usize;
+
+/// How many bytes are read at a time.
+const PIECE: usize = 65_536;
+
+/// How the text of a module is read: as the standard has it.
+const STANDARD: Settings = Settings {
+    allow: false,
+    strict: false,
+};
+
+/// All that a source has left, or the refusal: it is read to its end, or to one byte past the
+/// longest text.
+fn read_whole<R: Source>(alloc: Global, input: &mut R) -> Result<Vec<u8>, RunError>
+    requires { R.has_failed input.old ≡ false }
+    ensures whole { IfOk result (λ bytes.
+        ReadsWhole (R.left input.old) (R.left input.new) bytes.items) }
+    ensures ended { R.has_ended input.new ≡ is_ok result }
+    ensures past { IsErrOf result RunError.TooLong →
+        ReadsPast (R.left input.old) (R.left input.new) }
+    ensures short { (IsErrOf result RunError.TooLong) ⊎
+        ReadsShort (R.left input.old) (R.left input.new) }
+    ensures read { IsErrOf result RunError.Read ↔ (R.has_failed input.new ≡ true) }
+    ensures refused { IfErr result (λ e.
+        (e ≡ RunError.Read) ⊎ ((e ≡ RunError.TooLong) ⊎ (e ≡ RunError.Memory alloc_error))) }
+{
+    let mut bytes = Vec::new(alloc);
+    let mut piece = [0u8; PIECE];
+    'pieces: loop {
+        let room = PIECE.min(LONGEST - bytes.len() + 1);
+        match input.read(&mut piece[..room]) {
+            Err(_) => return Err(RunError::Read),
+            Ok(0) => return Ok(bytes),
+            Ok(count) => {
+                if count > LONGEST - bytes.len() {
+                    return Err(RunError::TooLong);
+                }
+                bytes.extend_from_slice(&piece[..count])?;
+            }
+        }
+    }
+}
+
+/// Writes what is printed of all that the source has left, and answers the error of its fault.
+fn run<R: Source, W: Sink>(
+    alloc: Global,
+    input: &mut R,
+    output: &mut W,
+    settings: Settings,
+    printing: Printing<'_>,
+) -> Result<Option<Error>, RunError>
+    requires input { R.has_failed input.old ≡ false }
+    requires output { W.has_failed output.old ≡ false }
+    ensures written { IfOk result (λ error. IfSome (R.left input.old) (λ bytes.
+        AppendsText (prints settings printing.entry bytes) error
+        (W.held output.old) (W.held output.new))) }
+
+    // These come only once the source was read to its end.
+    ensures ended { OnOk result (HasEnded (R.left input.new) (R.has_ended input.new)) }
+    ensures not_utf8_ended { IsErrOf result RunError.NotUtf8 →
+        HasEnded (R.left input.new) (R.has_ended input.new) }
+    ensures write_ended { IsErrOf result RunError.Write →
+        HasEnded (R.left input.new) (R.has_ended input.new) }
+
+    // When each refusal but that of memory comes.
+    ensures read { IsErrOf result RunError.Read ↔ (R.has_failed input.new ≡ true) }
+    ensures short { (IsErrOf result RunError.TooLong) ⊎
+        ReadsShort (R.left input.old) (R.left input.new) }
+    ensures too_long { IfSome (R.left input.old) (λ _.
+        IsErrOf result RunError.TooLong ↔ ReadsPast (R.left input.old) (R.left input.new)) }
+    ensures not_utf8 { IfSome (R.left input.old) (λ bytes.
+        IsErrOf result RunError.NotUtf8 ↔ ((R.has_ended input.new ≡ true) × (¬ IsUtf8 bytes))) }
+    ensures write { IsErrOf result RunError.Write ↔ (W.has_failed output.new ≡ true) }
+
+    // A failed write has written a prefix of what is printed, and each other refusal nothing.
+    ensures cut { IsErrOf result RunError.Write → IfSome (R.left input.old) (λ bytes.
+        AppendsCut (prints settings printing.entry bytes)
+        (W.held output.old) (W.held output.new)) }
+    ensures unwritten { IfErr result (λ e. (e ≡ RunError.Write) ⊎ (output.new ≡ output.old)) }
+{
+    let bytes = read_whole(alloc, input)?;
+    let Output { text, error } = print(alloc, &bytes, settings, printing)?;
+    if output.write_all(&text).is_err() {
+        return Err(RunError::Write);
+    }
+    Ok(error)
+}
+
+/// Writes the list of the raw tokens of all that the source has left, up to the first fault, and
+/// answers that fault's error, which prints its line.
+pub fn run_list<R: Source, W: Sink>(
+    alloc: Global,
+    input: &mut R,
+    output: &mut W,
+    settings: Settings,
+) -> Result<Option<Error>, RunError>
+    requires input { R.has_failed input.old ≡ false }
+    requires output { W.has_failed output.old ≡ false }
+    ensures { Runs R.left R.has_failed R.has_ended W.held W.has_failed (Lists settings)
+        input.old input.new output.old output.new result }
+{
+    run(alloc, input, output, settings, Printing::Raw)
+}
+
+/// Writes the list of the tokens that count, those that a parser shows where these names are
+/// registered, up to the first fault, and answers that fault's error.
+pub fn run_sig<R: Source, W: Sink>(
+    alloc: Global,
+    input: &mut R,
+    output: &mut W,
+    settings: Settings,
+    names: &[String],
+) -> Result<Option<Error>, RunError>
+    requires input { R.has_failed input.old ≡ false }
+    requires output { W.has_failed output.old ≡ false }
+    ensures { Runs R.left R.has_failed R.has_ended W.held W.has_failed (Shows settings names.now)
+        input.old input.new output.old output.new result }
+{
+    run(alloc, input, output, settings, Printing::Shown(names))
+}
+
+/// Writes a parser's replies to calls from the start of the text.
+pub fn run_play<R: Source, W: Sink>(
+    alloc: Global,
+    input: &mut R,
+    output: &mut W,
+    settings: Settings,
+    calls: &[Call],
+) -> Result<(), RunError>
+    requires input { R.has_failed input.old ≡ false }
+    requires output { W.has_failed output.old ≡ false }
+    ensures { Runs R.left R.has_failed R.has_ended W.held W.has_failed (Plays settings calls.now)
+        input.old input.new output.old output.new (without_error result) }
+{
+    match run(alloc, input, output, settings, Printing::Replies(calls)) {
+        Ok(_) => Ok(()),
+        Err(error) => Err(error),
+    }
+}
+
+/// Writes all that the source has left with its comments blanked, spaces over all their bytes but the
+/// line ends. Where the text has a fault nothing is written, and the answer is that fault's error.
+pub fn run_blank<R: Source, W: Sink>(
+    alloc: Global,
+    input: &mut R,
+    output: &mut W,
+    settings: Settings,
+) -> Result<Option<Error>, RunError>
+    requires input { R.has_failed input.old ≡ false }
+    requires output { W.has_failed output.old ≡ false }
+    ensures { Runs R.left R.has_failed R.has_ended W.held W.has_failed (Blanks settings)
+        input.old input.new output.old output.new result }
+{
+    run(alloc, input, output, settings, Printing::Blank)
+}
+
+/// Writes the bytes of the module that all that the source has left spells. Where it is refused nothing
+/// is written, and the answer is the error of that refusal.
+pub fn run_types<R: Source, W: Sink>(
+    alloc: Global,
+    input: &mut R,
+    output: &mut W,
+) -> Result<Option<Error>, RunError>
+    requires input { R.has_failed input.old ≡ false }
+    requires output { W.has_failed output.old ≡ false }
+    ensures { Runs R.left R.has_failed R.has_ended W.held W.has_failed Compiles
+        input.old input.new output.old output.new result }
+{
+    run(alloc, input, output, STANDARD, Printing::Types)
+}

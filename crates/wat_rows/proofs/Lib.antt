@@ -1,0 +1,15 @@
+mod Closing
+mod CodedGroups
+mod Coding
+mod Counted
+mod Filling
+mod Fronts
+mod Lifting
+mod Linking
+mod Looking
+mod OneCounting
+mod OneFill
+mod Pieces
+mod RawPlaces
+mod Registering
+mod Told

@@ -1,0 +1,38 @@
+use Rattle.std.proofs.Common.{◌≡◌, ◌<◌, subst, arith, length, take}
+use Rattle.wat_lex.specs.tokens.Setting.{Setting}
+use Rattle.wat_rows.specs.Rows.{Fills, Stops.full, Stops.ended, Stops.faulty}
+use Rattle.wat_rows.proofs.Filling.{listed_more, listed_fills}
+use Rattle.wat_rows.proofs.fill.fill.Goals as goal
+
+pub rows-preserved : goal.rows-preserved
+rows-preserved c =
+    let token = rw c.in-Ok-Some.field-0-is at c.in-Ok-Some.ensures.token in
+    let boundary = rw c.in-Ok-Some.field-0-is at c.in-Ok-Some.ensures.boundary in
+    listed_more c.lexer_of-lexer.result c.args.pos c.rows.at c.args.out.now c.rows.out c.rows.count c.in-Ok-Some.token c.token_row.result
+    c.rows.invariant c.rows-test.true token boundary c.token_row.ensures
+
+pub returns-in-Ok-None-clause-rows : goal.returns-in-Ok-None-clause-rows
+returns-in-Ok-None-clause-rows c =
+    let end = rw c.in-Ok-None.field-0-is at c.in-Ok-None.ensures.end in
+    let fits : c.rows.count < length c.args.out.now = omega (arith, c.rows-test.true, c.rows.auto.out) in
+    subst (λ (s : Setting). Fills s c.args.pos (length c.args.out.now) (take c.rows.count c.rows.out)
+    (record { count = c.rows.count; at = c.rows.at; why = 0 })) c.lexer_of-lexer.ensures
+    (listed_fills c.lexer_of-lexer.result c.args.pos c.rows.at (length c.args.out.now) c.args.out.now c.rows.out c.rows.count 0 c.rows.invariant
+    (ended fits end))
+
+pub returns-in-Err-clause-rows : goal.returns-in-Err-clause-rows
+returns-in-Err-clause-rows c =
+    let fits : c.rows.count < length c.args.out.now = omega (arith, c.rows-test.true, c.rows.auto.out) in
+    subst (λ (s : Setting). Fills s c.args.pos (length c.args.out.now) (take c.rows.count c.rows.out)
+    (record { count = c.rows.count; at = c.rows.at; why = c.fault_code-why.result })) c.lexer_of-lexer.ensures
+    (listed_fills c.lexer_of-lexer.result c.args.pos c.rows.at
+    (length c.args.out.now) c.args.out.now c.rows.out c.rows.count c.fault_code-why.result c.rows.invariant
+    (faulty c.in-Err.fault c.fault_code-why.result fits c.in-Err.ensures.fault c.fault_code-why.ensures))
+
+pub returns-clause-rows : goal.returns-clause-rows
+returns-clause-rows c =
+    let all : c.rows.count ≡ length c.args.out.now = omega (arith, c.rows-test.false, c.rows.invariant.bound, c.rows.auto.out) in
+    subst (λ (s : Setting). Fills s c.args.pos (length c.args.out.now) (take c.rows.count c.rows.out)
+    (record { count = c.rows.count; at = c.rows.at; why = 1 })) c.lexer_of-lexer.ensures
+    (listed_fills c.lexer_of-lexer.result c.args.pos c.rows.at (length c.args.out.now) c.args.out.now c.rows.out c.rows.count 1 c.rows.invariant
+    (full all))

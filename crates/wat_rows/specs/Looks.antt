@@ -1,0 +1,87 @@
+-- WebAssembly specification, text format, lexical format: white space, comments, annotations. What a parser shows of a text under
+-- registered names, found in the rows of the text. Rows and how names are handed in are no part of the standard.
+use Rattle.std.specs.Prelude.{◌≡◌, ◌≤◌, ℕ, ◌+◌, ◌-◌, List, [], ◌∷◌, take, drop, length, nat_le, ◌&&◌, if◌then◌else◌, slice_get, Some, None, Result}
+use Rattle.std.specs.Prelude.{Ok, Err}
+use Rattle.std.specs.declared.alloc.AllocError.{AllocError}
+use Rattle.wat_lex.specs.tokens.ReadableTokens.{word_of}
+use Rattle.wat_lex.specs.values.Names.{HasNoEscape}
+use Rattle.wat_lex.specs.declared.lexer.faults.LexError.{LexError}
+use Rattle.wat_lex.specs.declared.lexer.faults.LexFault.{LexFault}
+use Rattle.wat_lex.specs.declared.lexer.kinds.Token.{Token}
+use Rattle.wat_lex.specs.declared.lexer.kinds.TokenKind.TheVariants.{Annotation}
+use Rattle.wat_lexer_parser.specs.declared.parser.fault.FaultKind.TheVariants.{Lex, Unclosed}
+use Rattle.wat_lexer_parser.specs.names.RegisteredNames.{Names, more, no_names}
+use Rattle.wat_lexer_parser.specs.places.Source.{Source}
+use Rattle.wat_lexer_parser.specs.shown.Counting.{counting}
+use Rattle.wat_lexer_parser.specs.shown.Shown.{IsMarked, IsMisnamed}
+use Rattle.wat_lexer_parser.specs.shown.Showing.{Look, shown}
+use Rattle.wat_rows.specs.Places.{raw_place}
+use Rattle.wat_rows.specs.declared.looks.Look.{Look as LookRow}
+use Rattle.wat_rows.specs.declared.looks.NotShown.{NotShown}
+use Rattle.wat_rows.specs.declared.looks.NotShown.TheVariants as not
+
+-- The names that end at these bytes, each beginning where the one before ends, the first at the byte that is given. Where an end lies
+-- before the name's beginning or past the bytes, there is no name.
+abbrev pub names_between : ℕ → List ℕ → List ℕ → List (List ℕ)
+names_between start bytes [] = []
+names_between start bytes (end ∷ ends) =
+    if nat_le start end && nat_le end (length bytes)
+    then take (end - start) (drop start bytes) ∷ names_between end bytes ends
+    else names_between end bytes ends
+
+-- the names of a list, registered one after another
+abbrev pub registered : List (List ℕ) → Names
+registered [] = no_names
+registered (x ∷ xs) = more (registered xs) x
+
+abbrev pub names_of : List ℕ → List ℕ → Names
+names_of bytes ends = registered (names_between 0 bytes ends)
+
+-- what is shown from the place behind so many tokens that count
+abbrev pub shown_behind : Source → ℕ → Names → Look
+shown_behind s count names = shown s (raw_place s.tokens count) names
+
+-- the token that counts of this number
+abbrev pub IsNumber : Source → ℕ → Token → Type 0
+IsNumber s number t = slice_get (counting s.tokens) number ≡ Some t
+
+-- From the place on an annotation is met directly behind a parenthesis in whose name an escape stands: what is shown from the place on is
+-- what is shown from that parenthesis on.
+pub record MeetsEscape (s : Source) (count : ℕ) (names : Names) : Type 0 where
+  pub number : ℕ
+  pub paren : Token
+  pub word : Token
+  pub on : count ≤ number
+  pub opens : IsNumber s number paren
+  pub marked : IsMarked s.setting.text paren
+  pub behind : IsNumber s (number + 1) word
+  pub annotation : word.kind ≡ Annotation
+  pub escape : HasNoEscape (word_of s.setting.text word) → ⊥
+  pub same : shown_behind s count names ≡ shown_behind s number names
+
+-- what a look from the place behind so many tokens that count answers: the number of the token that is shown, or why there is none
+pub data Looks (s : Source) (count : ℕ) (names : Names) : Result ℕ NotShown → Type 0 where
+  token : {number : ℕ} {t : Token} → IsNumber s number t → shown_behind s count names ≡ Ok (Some (t, raw_place s.tokens (number + 1)))
+      → Looks s count names (Ok number)
+  end : s.ending ≡ None → shown_behind s count names ≡ Ok None → Looks s count names (Err not.TextEnd)
+  fault : {f : LexFault} → s.ending ≡ Some f → shown_behind s count names ≡ Err (record { offset = f.offset; kind = Lex f.error })
+      → Looks s count names (Err not.TextFault)
+  unclosed : {number : ℕ} {t : Token} → s.ending ≡ None → IsNumber s number t → IsMarked s.setting.text t
+      → shown_behind s count names ≡ Err (record { offset = t.offset + 1; kind = Unclosed }) → Looks s count names (Err (not.Unclosed number))
+  misnamed : {number : ℕ} {t : Token} {e : LexError} → IsNumber s number t → IsMisnamed s.setting.text t e
+      → shown_behind s count names ≡ Err (record { offset = t.offset; kind = Lex e }) → Looks s count names (Err (not.Misnamed number))
+  memory : {refused : AllocError} → MeetsEscape s count names → Looks s count names (Err (not.Memory refused))
+
+-- the answer in numbers, where there are so many rows
+abbrev pub look_row : ℕ → Result ℕ NotShown → LookRow
+look_row rows (Ok number) = record { row = number; status = 0 }
+look_row rows (Err not.TextEnd) = record { row = rows; status = 1 }
+look_row rows (Err (not.Memory refused)) = record { row = rows; status = 2 }
+look_row rows (Err not.TextFault) = record { row = rows; status = 3 }
+look_row rows (Err (not.Unclosed number)) = record { row = number; status = 4 }
+look_row rows (Err (not.Misnamed number)) = record { row = number; status = 5 }
+
+pub record LooksInNumbers (s : Source) (rows count : ℕ) (names : Names) (look : LookRow) : Type 0 where
+  pub answer : Result ℕ NotShown
+  pub looks : Looks s count names answer
+  pub told : look ≡ look_row rows answer

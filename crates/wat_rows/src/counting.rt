@@ -1,0 +1,107 @@
+//! Rows of the tokens that count: of no white space and no comment.
+ghost use Rattle.std.specs.Prelude.{◌≡◌, ◌≤◌, ◌<◌, ◌^◌, ◌+◌, length, take, drop};
+ghost use Rattle.std.specs.Str.{IsCharBoundary};
+ghost use Rattle.wat_lexer_parser.specs.groups.Sorts.{is_blank, is_marked};
+ghost use Rattle.wat_rows.specs.Counting.{FillsCounting, kind_beside, row_of};
+
+use crate::rows::{Filled, KindRow, fault_code, kind_row, lexer_of, plain};
+use wat_lex::lexer::{Settings, Token, TokenKind};
+
+/// A token that counts, in 16 bytes.
+#[repr(C)]
+#[derive(Clone, Copy, Debug, PartialEq)]
+pub struct Row {
+    /// Where the token begins, in bytes from the text's start.
+    pub offset: u32,
+    /// How many bytes the token has.
+    pub len: u32,
+    /// Its kind as in the rows of all tokens, but that the code of a `(` with `@` directly behind it is 16.
+    pub kind: KindRow,
+    /// One more than the number of the row that closes the group which is open behind this row, or 0 where none does.
+    pub link: u32,
+}
+
+/// Whether tokens of the kind do not count.
+fn is_blank(kind: TokenKind) -> bool
+    ensures { result ≡ is_blank kind }
+{
+    match kind {
+        TokenKind::Whitespace | TokenKind::LineComment | TokenKind::BlockComment => true,
+        _ => false,
+    }
+}
+
+/// Whether the byte behind the token's first is `@`.
+fn is_marked(text: &str, token: Token) -> bool
+    requires { token.offset < 2 ^ 32 }
+    ensures { result ≡ is_marked text.now token }
+{
+    match text.as_bytes().get(token.offset + 1) {
+        Some(byte) => *byte == b'@',
+        None => false,
+    }
+}
+
+/// A token's kind, which tells a `(` with `@` directly behind it.
+fn kind_beside(text: &str, token: Token) -> KindRow
+    requires { token.offset < 2 ^ 32 }
+    ensures { result ≡ kind_beside text.now token token.kind }
+{
+    match token.kind {
+        TokenKind::LParen => {
+            if is_marked(text, token) {
+                plain(16)
+            } else {
+                kind_row(token.kind)
+            }
+        }
+        kind => kind_row(kind),
+    }
+}
+
+/// The row of a token, without a link.
+fn row_of(text: &str, token: Token) -> Row
+    requires { token.offset < 2 ^ 32 }
+    ensures { result ≡ row_of text.now 0 token }
+{
+    Row {
+        offset: token.offset as u32,
+        len: token.len,
+        kind: kind_beside(text, token),
+        link: 0,
+    }
+}
+
+/// Writes the rows of the tokens that count from a byte of the text on, as many as there are or as there is room for. What it reads ends
+/// where a call for further rows begins.
+pub fn fill_counting(text: &str, pos: usize, settings: Settings, out: &mut [Row]) -> Filled
+    requires short { length text.now < 2 ^ 32 }
+    requires boundary { IsCharBoundary text.now pos }
+    ensures rows { FillsCounting (record { text = text.now; flags = settings }) pos
+        (length out.old) (take result.count out.new) result }
+    ensures boundary { IsCharBoundary text.now result.at }
+    ensures count { result.count ≤ length out.old }
+    ensures rest { drop result.count out.new ≡ drop result.count out.old }
+{
+    let lexer = lexer_of(text, settings);
+    let mut at = pos;
+    let mut count = 0;
+    'rows: while count < out.len() {
+        match lexer.scan(at) {
+            Ok(Some(token)) => {
+                at = token.offset + token.len as usize;
+                if is_blank(token.kind) {
+                    continue 'rows;
+                }
+                out[count] = row_of(text, token);
+                count += 1;
+            }
+            Ok(None) => return Filled { count, at, why: 0 },
+            Err(fault) => {
+                let why = fault_code(fault.error);
+                return Filled { count, at, why };
+            }
+        }
+    }
+    Filled { count, at, why: 1 }
+}

@@ -1,0 +1,37 @@
+//! Many tokens at once.
+ghost use Rattle.std.specs.Prelude.{◌≡◌, ◌≤◌, ◌<◌, ◌^◌, length, take, drop};
+ghost use Rattle.std.specs.Str.{IsCharBoundary};
+ghost use Rattle.wat_rows.specs.Rows.{Fills};
+
+use crate::rows::{Filled, TokenRow, fault_code, lexer_of, token_row};
+use wat_lex::lexer::Settings;
+
+/// Writes the tokens from a byte of the text on, as many as there are or as there is room for.
+pub fn fill(text: &str, pos: usize, settings: Settings, out: &mut [TokenRow]) -> Filled
+    requires short { length text.now < 2 ^ 32 }
+    requires boundary { IsCharBoundary text.now pos }
+    ensures rows { Fills (record { text = text.now; flags = settings }) pos
+        (length out.old) (take result.count out.new) result }
+    ensures boundary { IsCharBoundary text.now result.at }
+    ensures count { result.count ≤ length out.old }
+    ensures rest { drop result.count out.new ≡ drop result.count out.old }
+{
+    let lexer = lexer_of(text, settings);
+    let mut at = pos;
+    let mut count = 0;
+    'rows: while count < out.len() {
+        match lexer.scan(at) {
+            Ok(Some(token)) => {
+                out[count] = token_row(token);
+                count += 1;
+                at = token.offset + token.len as usize;
+            }
+            Ok(None) => return Filled { count, at, why: 0 },
+            Err(fault) => {
+                let why = fault_code(fault.error);
+                return Filled { count, at, why };
+            }
+        }
+    }
+    Filled { count, at, why: 1 }
+}

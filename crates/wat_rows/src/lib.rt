@@ -1,0 +1,10 @@
+//! Rows of numbers for the tokens of a text, as the programs in C and Rust over `wat_parser_c` hold them.
+#![tactic(auto)]
+
+pub mod behind;
+pub mod counting;
+pub mod fill;
+pub mod laws;
+pub mod links;
+pub mod looks;
+pub mod rows;

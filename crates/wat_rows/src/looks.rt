@@ -1,0 +1,194 @@
+//! What is shown of a text under names that are registered, found in its rows.
+ghost use Rattle.std.specs.Prelude.{◌≡◌, ◌≤◌, ◌<◌, ◌+◌, ◌^◌, ◌⊎◌, length, Ok, Err, IfOk};
+ghost use Rattle.wat_lex.specs.tokens.ReadableTokens.{IsTokenOf};
+ghost use Rattle.wat_lex.specs.declared.lexer.kinds.TokenKind.TheVariants.{Annotation};
+ghost use Rattle.wat_lexer_parser.specs.names.RegisteredNames.{is_registered};
+ghost use Rattle.wat_lexer_parser.specs.places.Source.{Source};
+ghost use Rattle.wat_rows.specs.Looks.{Looks, LooksInNumbers, names_of};
+ghost use Rattle.wat_rows.specs.inside.Naming.{IsWithin, NameMeans, annotation_of, is_between, not_closed, not_shown};
+ghost use Rattle.wat_rows.specs.Places.{AreRowsOf, RowsOf};
+
+use crate::counting::Row;
+use crate::links::row_at;
+use std::alloc::{AllocError, Global};
+use wat_lex::lexer::{Token, TokenKind};
+
+/// The number of the row that is shown, or that of the row at fault, or how many rows there are; and why no row is shown.
+#[repr(C)]
+#[derive(Clone, Copy, Debug, PartialEq)]
+pub struct Look {
+    /// The row that is shown; the `(` that nothing closes; the annotation whose name is at fault; otherwise how many rows there are.
+    pub row: u32,
+    /// 0 where a row is shown, 1 at the text's end, 2 for want of memory, 3 at the text's fault, 4 where the group of an annotation that
+    /// is not registered is not closed, 5 where an annotation's name is at fault.
+    pub status: u32,
+}
+
+/// Why no row is shown.
+#[derive(Clone, Copy, Debug, PartialEq)]
+pub enum NotShown {
+    /// The text ends.
+    TextEnd,
+    /// A request for memory was refused, by this refusal.
+    Memory(AllocError),
+    /// The text has a fault.
+    TextFault,
+    /// The text ends in the group of an annotation that is not registered, which this `(` opens.
+    Unclosed(usize),
+    /// The name of this annotation is empty, or it is not UTF-8.
+    Misnamed(usize),
+}
+
+/// What the name of an annotation means.
+#[derive(Clone, Copy)]
+enum Named {
+    Registered,
+    Other,
+    Misnamed,
+    Memory(AllocError),
+}
+
+/// Whether these bytes of the names are the name.
+fn is_between(names: &[u8], start: usize, end: usize, name: &[u8]) -> bool
+    ensures { result ≡ is_between names.now start end name.now }
+{
+    start <= end && end <= names.len() && &names[start..end] == name
+}
+
+/// Whether the name stands between the ends.
+fn is_registered(name: &[u8], names: &[u8], ends: &[usize]) -> bool
+    ensures { result ≡ is_registered (names_of names.now ends.now) name.now }
+{
+    let mut start = 0;
+    for end in ends {
+        if is_between(names, start, *end, name) {
+            return true;
+        }
+        start = *end;
+    }
+    false
+}
+
+/// What the name of the annotation means.
+fn meaning_of(alloc: Global, text: &str, token: Token, names: &[u8], ends: &[usize]) -> Named
+    requires token { IsTokenOf text.now token }
+    requires kind { token.kind ≡ Annotation }
+    ensures { NameMeans text.now token (names_of names.now ends.now) result }
+{
+    match token.name(alloc, text) {
+        Ok(Ok(name)) => {
+            if is_registered(name.as_str().as_bytes(), names, ends) {
+                Named::Registered
+            } else {
+                Named::Other
+            }
+        }
+        Ok(Err(_)) => Named::Misnamed,
+        Err(refused) => Named::Memory(refused),
+    }
+}
+
+/// The token of an annotation's row.
+fn annotation_of(row: Row) -> Token
+    ensures { result ≡ annotation_of row }
+{
+    Token {
+        kind: TokenKind::Annotation,
+        offset: row.offset as usize,
+        len: row.len,
+    }
+}
+
+/// Why no row is shown where the rows end.
+fn not_shown(why: u32) -> NotShown
+    ensures { result ≡ not_shown why }
+{
+    if why == 0 {
+        NotShown::TextEnd
+    } else {
+        NotShown::TextFault
+    }
+}
+
+/// The same within the group that this row opens.
+fn not_closed(why: u32, number: usize) -> NotShown
+    ensures { result ≡ not_closed why number }
+{
+    if why == 0 {
+        NotShown::Unclosed(number)
+    } else {
+        NotShown::TextFault
+    }
+}
+
+/// The number of the row that is shown from the row of a number on, under the names that stand between the ends. `why` is 0 where the
+/// text ends behind the rows, otherwise the number of its fault. It takes memory only where an escape stands in an annotation's name.
+pub fn look_at(
+    alloc: Global,
+    text: &str,
+    rows: &[Row],
+    why: u32,
+    place: usize,
+    names: &[u8],
+    ends: &[usize],
+) -> Result<usize, NotShown>
+    requires short { length text.now < 2 ^ 32 }
+    requires rows { RowsOf text.now rows.now why }
+    ensures looks { (s : Source) → s.setting.text ≡ text.now → AreRowsOf s rows.now why →
+        Looks s place (names_of names.now ends.now) result }
+    ensures within { IsWithin (length rows.now) result }
+{
+    wat_lex::laws::tokens();
+    wat_lexer_parser::laws::shown();
+    wat_lexer_parser::laws::counting();
+    let mut number = place;
+    'rows: while let Some(row) = row_at(rows, number) {
+        if row.kind.code != 16 {
+            return Ok(number);
+        }
+        let Some(word) = row_at(rows, number + 1) else {
+            return Err(not_shown(why));
+        };
+        if word.kind.code != 9 {
+            return Ok(number);
+        }
+        match meaning_of(alloc, text, annotation_of(word), names, ends) {
+            Named::Registered => return Ok(number),
+            Named::Misnamed => return Err(NotShown::Misnamed(number + 1)),
+            Named::Memory(refused) => return Err(NotShown::Memory(refused)),
+            Named::Other if row.link == 0 => return Err(not_closed(why, number)),
+            Named::Other => number = row.link as usize,
+        }
+    }
+    Err(not_shown(why))
+}
+
+/// What [`look_at`] answers, in numbers.
+pub fn look_in_numbers(
+    alloc: Global,
+    text: &str,
+    rows: &[Row],
+    why: u32,
+    place: usize,
+    names: &[u8],
+    ends: &[usize],
+) -> Look
+    requires short { length text.now < 2 ^ 32 }
+    requires few { length rows.now < 2 ^ 32 }
+    requires rows { RowsOf text.now rows.now why }
+    ensures { (s : Source) → s.setting.text ≡ text.now → AreRowsOf s rows.now why →
+        LooksInNumbers s (length rows.now) place (names_of names.now ends.now) result }
+{
+    let (row, status) = match look_at(alloc, text, rows, why, place, names, ends) {
+        Ok(number) => (number, 0),
+        Err(NotShown::TextEnd) => (rows.len(), 1),
+        Err(NotShown::Memory(_)) => (rows.len(), 2),
+        Err(NotShown::TextFault) => (rows.len(), 3),
+        Err(NotShown::Unclosed(number)) => (number, 4),
+        Err(NotShown::Misnamed(number)) => (number, 5),
+    };
+    Look {
+        row: row as u32,
+        status,
+    }
+}
