@@ -108,6 +108,7 @@ else
     say "the header as C++ is left out, as no C++ compiler $cpp is here"
 fi
 
+tools/compare_declarations.py
 if ! has cargo || ! has rustc; then
     say 'the Rust crates are left out, as no cargo or no rustc is here'
     exit 0

@@ -42,7 +42,8 @@ ours() {
     cp -r rust/wat-parser/src/. tools/under_wast/lib.rs "$wast/src/"
     # The keywords that 222.0.0 has and 263.0.0 dropped.
     sed -n 's/^+ *\(custom_keyword!.*\)/\1/p' "$folder/lib-263-to-222.diff" >> "$wast/src/kw.rs"
-    sed -i "s|^\[features\]|[dependencies.wat-lex]\npath = \"$project/rust/wat-lex\"\n\n[features]\nkept = []|; s|^default = \[|default = [$2|" "$wast/Cargo.toml"
+    sed -i "s|^\[features\]|[dependencies.wat-lex]\npath = \"$project/rust/wat-lex\"\n\n[features]\nkept = []|" "$wast/Cargo.toml"
+    sed -i "s|^default = \[|default = [$2|" "$wast/Cargo.toml"
 }
 
 # unchanged NAME: fails where a file above the lowest layer is another than wast's

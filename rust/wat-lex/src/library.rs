@@ -1,5 +1,6 @@
 //! The functions of the static library, made safe: each `requires` of an export is known from `&str`, tested here before the call,
-//! or kept by a struct whose fields are private here. The declarations fit `crates/wat_parser_c/src`; nothing compares the two.
+//! or kept by a struct whose fields are private here. The declarations fit `include/wat.h`, with which `tools/compare_declarations.py` compares
+//! them, and `crates/wat_parser_c/src`, with which nothing does.
 //! This module and the one below it have all of the crate's `unsafe`.
 #![allow(unsafe_code)]
 

@@ -97,51 +97,49 @@ fn compare(lexer: &Lexer<'_>) -> usize {
         .filter(|number| !is_blank(&tokens.all[*number]))
         .collect();
     for (place, number) in counting.iter().enumerate() {
-        let (row, token) = (rows.get(place as u32).unwrap(), tokens.all[*number]);
-        assert_eq!(
-            (row.offset(), row.end()),
-            (token.offset, token.offset as u32 + token.len)
-        );
-        assert_eq!(
-            (rows.source(place as u32), row.is_lparen()),
-            (token.src(tokens.text), token.kind == TokenKind::LParen)
-        );
-        compare_values(&rows, place as u32, token);
+        compare_row(&rows, place as u32, tokens.all[*number]);
     }
     assert!(rows.get(counting.len() as u32).is_none());
     assert_eq!(
         rows.is_blank(),
         counting.is_empty() && tokens.fault.is_none()
     );
-    let mut looks = 0;
-    for count in 0..=NAMES.len() {
-        let mut names = Names::default();
-        for name in NAMES.iter().chain(&NAMES[..count]) {
-            names.add(name);
-        }
-        for name in &NAMES {
-            names.remove(name);
-        }
-        for place in 0..=counting.len() {
-            let from = if place == 0 {
-                0
-            } else {
-                counting[place - 1] + 1
-            };
-            let shown = rows
-                .shown(place as u32, &names)
-                .map_err(|error| error.to_string());
-            let offset = shown.map(|shown| shown.map(|row| rows.get(row).unwrap().offset()));
-            assert_eq!(
-                offset,
-                tokens.shown(from, &NAMES[..count]),
-                "{place} of {:?}",
-                tokens.text
-            );
-            looks += 1;
-        }
+    (0..=NAMES.len())
+        .map(|count| compare_looks(&rows, &tokens, &counting, count))
+        .sum()
+}
+
+/// A row is its token, and reads as it does.
+fn compare_row(rows: &Rows<'_>, place: u32, token: Token) {
+    let row = rows.get(place).unwrap();
+    assert_eq!(
+        (row.offset(), row.end()),
+        (token.offset, token.offset as u32 + token.len)
+    );
+    assert_eq!(
+        (rows.source(place), row.is_lparen()),
+        (token.src(rows.text()), token.kind == TokenKind::LParen)
+    );
+    compare_values(rows, place, token);
+}
+
+/// Looks at each place under so many of the names.
+fn compare_looks(rows: &Rows<'_>, tokens: &Tokens<'_>, counting: &[usize], count: usize) -> usize {
+    let mut names = Names::default();
+    for name in NAMES.iter().chain(&NAMES[..count]) {
+        names.add(name);
     }
-    looks
+    NAMES.iter().for_each(|name| names.remove(name));
+    for place in 0..=counting.len() {
+        let from = place.checked_sub(1).map_or(0, |last| counting[last] + 1);
+        let shown = rows
+            .shown(place as u32, &names)
+            .map(|shown| shown.map(|row| rows.get(row).unwrap().offset()))
+            .map_err(|error| error.to_string());
+        let wanted = tokens.shown(from, &NAMES[..count]);
+        assert_eq!(shown, wanted, "{place} of {:?}", tokens.text);
+    }
+    counting.len() + 1
 }
 
 /// What a row reads as is what its token reads as.

@@ -203,34 +203,38 @@ fn looks() {
         })?
     });
     assert_eq!(looks, r#"((true, false, true, false), "c", "<=>", "1")"#);
-    let wanted = [
-        ("", "unexpected end of input at 0"),
-        ("u", "unexpected token, expected `a` at 0"),
-        ("uu", "unexpected token, expected `a` or an identifier at 0"),
-        (
-            "uuu",
-            "unexpected token, expected one of: `a`, an identifier, u32 at 0",
-        ),
-    ];
-    custom_keyword!(a);
-    for (text, wanted) in wanted {
-        let text: &str = text;
-        let error = run!(text, |parser| {
-            let (count, mut look) = (
-                if parser.is_empty() {
-                    0
-                } else {
-                    parser.step(|at| Ok((at.keyword()?.unwrap().0.len(), at)))?
-                },
-                parser.lookahead1(),
-            );
-            let seen = count > 0 && look.peek::<a>()?
-                || count > 1 && look.peek::<Id>()?
-                || count > 2 && look.peek::<u32>()?;
+}
+
+custom_keyword!(a);
+
+#[test]
+fn lookaheads() {
+    // As many types are looked for as blanks stand before the token.
+    let looked_for = |text: &str| {
+        run!(text, |parser| {
+            let blanks = parser.cur_span().offset();
+            let mut look = parser.lookahead1();
+            let seen = blanks > 0 && look.peek::<a>()?
+                || blanks > 1 && look.peek::<Id>()?
+                || blanks > 2 && look.peek::<u32>()?;
             assert!(!seen && look.parser().peek::<a>().is_ok());
             Err::<(), _>(look.error())?
-        });
-        assert_eq!(error, wanted);
+        })
+    };
+    for (text, wanted) in [
+        ("", "unexpected end of input at 0"),
+        ("u", "unexpected token at 0"),
+        (" u", "unexpected token, expected `a` at 1"),
+        (
+            "  u",
+            "unexpected token, expected `a` or an identifier at 2",
+        ),
+        (
+            "   u",
+            "unexpected token, expected one of: `a`, an identifier, u32 at 3",
+        ),
+    ] {
+        assert_eq!(looked_for(text), wanted);
     }
 }
 
@@ -299,22 +303,26 @@ fn names() {
         shown
     });
     assert_eq!(behind, if cfg!(feature = "kept") { "12" } else { "2" });
-    assert_eq!(
-        run!("(@foo", |parser| parser.is_empty()),
-        "unclosed annotation at 1"
-    );
-    assert_eq!(
-        run!("(@foo \"", |parser| parser.is_empty()),
-        "unexpected end-of-file at 7"
-    );
-    assert_eq!(
-        run!("(@)", |parser| parser.is_empty()),
-        "empty annotation id at 1"
-    );
-    assert_eq!(
-        run!(r#"(@"\ff")"#, |parser| parser.is_empty()),
-        "malformed UTF-8 encoding of string-based id at 1"
-    );
+}
+
+#[test]
+fn annotations_at_fault() {
+    for (text, wanted) in [
+        ("(@foo", "unclosed annotation at 1"),
+        ("(@foo \"", "unexpected end-of-file at 7"),
+        ("(@)", "empty annotation id at 1"),
+        (
+            r#"(@"\ff")"#,
+            "malformed UTF-8 encoding of string-based id at 1",
+        ),
+    ] {
+        let text: &str = text;
+        assert_eq!(run!(text, |parser| parser.is_empty()), wanted);
+    }
+}
+
+#[test]
+fn name_annotations() {
     let name = |text: &str| {
         run!(text, |parser| parser.with_standard_annotations_registered(
             |parser| parser.parse::<Option<NameAnnotation>>()

@@ -216,7 +216,7 @@ impl<'a> Rows<'a> {
         let mut rows = Rows {
             text,
             settings: lexer.settings(),
-            rows: zeroed(text.0.len() / 8 + 16).ok_or_else(out_of_memory)?,
+            rows: zeroed(likely_count(text.0.len())).ok_or_else(out_of_memory)?,
             at: 0,
             why: FULL,
         };
@@ -520,6 +520,12 @@ impl<'a> Rows<'a> {
     pub fn comment(&self, offset: usize) -> Result<Option<(&'a str, usize)>, Error> {
         comment_at(self.text, offset, self.settings)
     }
+}
+
+/// How many rows a text of so many bytes may have: mostly enough, since its tokens with what is between them have four bytes or more in short
+/// texts, and nine or more in long ones. Room that is not used costs no memory but where it is small.
+fn likely_count(bytes: usize) -> usize {
+    bytes / 8 + bytes.min(1 << 16) / 8 + 16
 }
 
 /// Room for so many rows, at least one, of zeros, which the allocator has without writing them; None where it refuses.
