@@ -1,21 +1,31 @@
 -- The rows from a place, and where they stop and why, are the only ones.
 use Rattle.std.proofs.Common.{◌≡◌, ◌⊎◌, ◌<◌, ◌≤◌, ◌+◌, ℕ, zero, suc, List, [], ◌∷◌, length, refl, ap, sym, ◌∙◌, subst, arith, inl, inr}
-use Rattle.std.specs.Prelude.{Some, None, Ok, Err, map}
+use Rattle.std.specs.Prelude.{Option, Some, None, Result, Ok, Err, map}
 use Rattle.wat_lex.specs.tokens.EverySetting.{OneThingStands}
 use Rattle.wat_lex.specs.tokens.Setting.{Setting}
 use Rattle.wat_lex.specs.tokens.Tiling.{TokenAt, Tiling}
 use Rattle.wat_lex.specs.tokens.UniqueTilings.{AnswerAt}
+use Rattle.wat_lex.specs.declared.lexer.faults.LexFault.{LexFault}
 use Rattle.wat_lex.specs.declared.lexer.kinds.Token.{Token}
 use Rattle.wat_rows.specs.Rows.{Stops, Stops.ended, Stops.full, Stops.faulty, OneFill, token_row, fault_code}
-use Rattle.wat_rows.proofs.OneFinding.{Standing, some_token}
+
+-- what stands at a place
+abbrev pub Standing : Type 0
+Standing = Result (Option Token) LexFault
+
+abbrev pub token_stands : Token → Standing
+token_stands t = Ok (Some t)
+
+pub some_token : (t u : Token) → token_stands t ≡ token_stands u → t ≡ u
+some_token t u e = ap (λ r. elim r [ Ok (Some x) ↦ x | Ok None ↦ t | Err f ↦ t ]) e
 
 -- the text's end or a fault
-abbrev IsEnd : Standing → Type 0
+abbrev pub IsEnd : Standing → Type 0
 IsEnd (Ok None) = Unit {0}
 IsEnd (Ok (Some t)) = ⊥
 IsEnd (Err f) = Unit {0}
 
-abbrev code_of : Standing → ℕ
+abbrev pub code_of : Standing → ℕ
 code_of (Ok found) = 0
 code_of (Err f) = fault_code f.error
 

@@ -1,5 +1,6 @@
 -- WebAssembly specification, text format, lexical format: white space, comments. The tokens that count are the others, and a row tells one.
 use Rattle.std.specs.Prelude.{◌≡◌, ℕ, Bool, true, false, List, if◌then◌else◌}
+use Rattle.std.specs.Str.{IsCharBoundary}
 use Rattle.wat_lex.specs.tokens.Setting.{Setting}
 use Rattle.wat_lex.specs.tokens.Tiling.{TokenAt}
 use Rattle.wat_lex.specs.declared.lexer.kinds.Token.{Token}
@@ -27,6 +28,7 @@ row_of text link t = record { offset = t.offset; len = t.len; kind = kind_beside
 pub record IsRow (text : List ℕ) (row : Row) : Type 0 where
   pub flags : Settings
   pub token : Token
+  pub boundary : IsCharBoundary text row.offset
   pub stands : TokenAt (record { text = text; flags = flags }) row.offset token
   pub counts : is_blank token.kind ≡ false
   pub told : row ≡ row_of text row.link token
