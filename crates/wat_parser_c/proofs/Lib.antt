@@ -1,4 +1,5 @@
 mod Answering
 mod OneFinding
 mod Parts
+mod RowTokens
 mod Texts

@@ -1,2 +1,3 @@
 pub mod Answers
+pub mod ByRow
 pub mod Readings

@@ -12,6 +12,7 @@ ghost use Rattle.wat_rows.specs.Rows.{FoundAt, TokenFoundAt, Fills, OneFill, set
 ghost use Rattle.wat_rows.specs.declared.rows.Found.{Found as FoundRow};
 
 pub mod answers;
+pub mod by_row;
 mod given;
 mod laws;
 mod readings;
