@@ -1,5 +1,6 @@
 mod Answering
 mod OneFinding
+mod OneOfRow
 mod Parts
 mod RowTokens
 mod Texts

@@ -1,16 +1,22 @@
 //! What the readers find of the token that a row tells, which is not scanned again.
 ghost use Rattle.std.specs.Prelude.{◌≡◌, ◌≢◌, ◌<◌, ◌⊎◌, ℕ, IfOk, IfErr, IfSome, IfNone, Ok, Err};
+ghost use Rattle.std.specs.Prelude.{◌^◌, length};
+ghost use Rattle.std.specs.Str.{IsUtf8};
 ghost use Rattle.std.specs.Cow.{cow_str_bytes, cow_slice_items};
 ghost use Rattle.wat_lex.specs.values.KindNumbers.{kind_number};
 ghost use Rattle.wat_lex.specs.declared.lexer.kinds.TokenKind.TheVariants as token_kind;
+ghost use Rattle.wat_parser_c.specs.Answers.{Answers, OneAnswer};
 ghost use Rattle.wat_parser_c.specs.ByRow.{FindsOf, kind_of, token_of};
 ghost use Rattle.wat_parser_c.specs.Readings.{IsString, IsNamed, IsFloat, IsFloatToken};
 ghost use Rattle.wat_parser_c.specs.Readings.{ReadsString, ReadsName, ReadsFloat};
 ghost use Rattle.wat_rows.specs.Counting.{IsRow};
 
-use crate::answers::Refusal;
+use crate::answers::{Answer, Refusal, give};
+use crate::laws::one_answer_of_row;
+use crate::readings::part_of;
 use std::alloc::Global;
 use std::borrow::{CowSlice, CowStr};
+use std::str;
 use wat_lex::lexer::{Float, FloatKind, Token, TokenKind};
 use wat_rows::counting::Row;
 use wat_rows::rows::KindRow;
@@ -114,4 +120,85 @@ pub fn float_of<'a>(alloc: Global, text: &'a str, row: Row) -> Result<Float<'a>,
     };
     let token = token_of(row, TokenKind::Float(kind));
     Ok(token.float(alloc, text, kind)?)
+}
+
+#[tactic(auto, using(crate::proofs::Answering::given, crate::proofs::Answering::refused))]
+fn give_string(alloc: Global, text: &str, row: Row, out: &mut [u8]) -> Answer
+    requires { IsRow text.now row }
+    ensures { Answers (FindsOf IsString ReadsString text.now row) out.old out.new result }
+{
+    match string_of(alloc, text, row) {
+        Ok(value) => give(value.as_slice(), out),
+        Err(refusal) => refusal.answer(),
+    }
+}
+
+/// The value of a string's row.
+#[unsafe(no_mangle)]
+pub extern "C" fn wat_string_of(alloc: Global, text: &[u8], row: &Row, out: &mut [u8]) -> Answer
+    requires utf8 { IsUtf8 text.now }
+    requires short { length text.now < 2 ^ 32 }
+    requires told { IsRow text.now row.now }
+    ensures found { Answers (FindsOf IsString ReadsString text.now row.now)
+        out.old out.new result }
+    ensures one { OneAnswer (FindsOf IsString ReadsString text.now row.now) out.old }
+{
+    one_answer_of_row();
+    let text = unsafe { str::from_utf8_unchecked(text) };
+    give_string(alloc, text, *row, out)
+}
+
+#[tactic(auto, using(crate::proofs::Answering::given, crate::proofs::Answering::refused))]
+fn give_name(alloc: Global, text: &str, row: Row, out: &mut [u8]) -> Answer
+    requires { IsRow text.now row }
+    ensures { Answers (FindsOf IsNamed ReadsName text.now row) out.old out.new result }
+{
+    match name_of(alloc, text, row) {
+        Ok(name) => give(name.as_str().as_bytes(), out),
+        Err(refusal) => refusal.answer(),
+    }
+}
+
+/// The name of an identifier's or annotation's row.
+#[unsafe(no_mangle)]
+pub extern "C" fn wat_name_of(alloc: Global, text: &[u8], row: &Row, out: &mut [u8]) -> Answer
+    requires utf8 { IsUtf8 text.now }
+    requires short { length text.now < 2 ^ 32 }
+    requires told { IsRow text.now row.now }
+    ensures found { Answers (FindsOf IsNamed ReadsName text.now row.now)
+        out.old out.new result }
+    ensures one { OneAnswer (FindsOf IsNamed ReadsName text.now row.now) out.old }
+{
+    one_answer_of_row();
+    let text = unsafe { str::from_utf8_unchecked(text) };
+    give_name(alloc, text, *row, out)
+}
+
+#[tactic(auto, using(crate::proofs::Answering::given, crate::proofs::Answering::refused))]
+fn give_float(alloc: Global, text: &str, row: Row, part: u32, out: &mut [u8]) -> Answer
+    requires { IsRow text.now row }
+    ensures { Answers (FindsOf IsFloat (ReadsFloat part) text.now row) out.old out.new result }
+{
+    match float_of(alloc, text, row) {
+        Ok(float) => match part_of(&float, part) {
+            Some(digits) => give(digits.as_bytes(), out),
+            None => Refusal::Absent.answer(),
+        },
+        Err(refusal) => refusal.answer(),
+    }
+}
+
+/// A part of the floating-point number of a row, by its number as in `wat_float`.
+#[unsafe(no_mangle)]
+pub extern "C" fn wat_float_of(alloc: Global, text: &[u8], row: &Row, part: u32, out: &mut [u8]) -> Answer
+    requires utf8 { IsUtf8 text.now }
+    requires short { length text.now < 2 ^ 32 }
+    requires told { IsRow text.now row.now }
+    ensures found { Answers (FindsOf IsFloat (ReadsFloat part) text.now row.now)
+        out.old out.new result }
+    ensures one { OneAnswer (FindsOf IsFloat (ReadsFloat part) text.now row.now) out.old }
+{
+    one_answer_of_row();
+    let text = unsafe { str::from_utf8_unchecked(text) };
+    give_float(alloc, text, *row, part, out)
 }

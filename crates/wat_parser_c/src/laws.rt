@@ -1,7 +1,9 @@
 //! What a reader answers at a place is one thing.
 ghost use Rattle.std.specs.Prelude.{ℕ, List};
 ghost use Rattle.wat_lex.specs.tokens.Setting.{Setting};
+ghost use Rattle.wat_rows.specs.declared.counting.Row.{Row};
 ghost use Rattle.wat_parser_c.specs.Answers.{OneAnswer};
+ghost use Rattle.wat_parser_c.specs.ByRow.{FindsOf};
 ghost use Rattle.wat_parser_c.specs.Readings.{Finds, FindsFault, IsString, IsNamed, IsInteger, IsFloat};
 ghost use Rattle.wat_parser_c.specs.Readings.{ReadsString, ReadsName, ReadsInteger, ReadsFloat};
 ghost use Rattle.wat_parser_c.specs.Readings.{ReadsNameFault};
@@ -22,6 +24,22 @@ pub fn one_answer()
     ensures faults { (s : Setting) (p : ℕ) (old : List ℕ) → OneAnswer (FindsFault s p) old }
 {
     wat_lex::laws::one_answer();
+    wat_lex::laws::strings();
+    wat_lex::laws::names();
+    wat_lex::laws::floats();
+}
+
+/// And one of each row. It does nothing either.
+pub fn one_answer_of_row()
+    ensures strings { (text : List ℕ) (row : Row) (old : List ℕ) →
+        OneAnswer (FindsOf IsString ReadsString text row) old }
+    ensures names { (text : List ℕ) (row : Row) (old : List ℕ) →
+        OneAnswer (FindsOf IsNamed ReadsName text row) old }
+    ensures integers { (text : List ℕ) (row : Row) (old : List ℕ) →
+        OneAnswer (FindsOf IsInteger ReadsInteger text row) old }
+    ensures floats { (text : List ℕ) (row : Row) (part : ℕ) (old : List ℕ) →
+        OneAnswer (FindsOf IsFloat (ReadsFloat part) text row) old }
+{
     wat_lex::laws::strings();
     wat_lex::laws::names();
     wat_lex::laws::floats();
