@@ -4,3 +4,4 @@ mod OneOfRow
 mod Parts
 mod RowTokens
 mod Texts
+mod WordPlaces

@@ -1,3 +1,4 @@
 pub mod Answers
 pub mod ByRow
 pub mod Readings
+pub mod Words

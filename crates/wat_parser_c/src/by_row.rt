@@ -22,7 +22,7 @@ use wat_rows::counting::Row;
 use wat_rows::rows::KindRow;
 
 /// The token of a row that tells one of this kind.
-fn token_of(row: Row, kind: TokenKind) -> Token
+pub(crate) fn token_of(row: Row, kind: TokenKind) -> Token
     ensures { result ≡ record { offset = row.offset; len = row.len; kind = kind } }
 {
     Token {
@@ -53,7 +53,7 @@ pub fn string_of<'a>(
 }
 
 /// The kind of a name's row, by its code.
-fn name_kind(code: u8) -> Option<TokenKind>
+pub(crate) fn name_kind(code: u8) -> Option<TokenKind>
     ensures some { IfSome result (λ kind. IsNamed kind × (code ≡ kind_number kind)) }
     ensures none { IfNone result ((code ≢ 7) × (code ≢ 9)) }
 {

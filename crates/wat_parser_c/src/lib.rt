@@ -16,6 +16,7 @@ pub mod by_row;
 mod given;
 mod laws;
 mod readings;
+pub mod words;
 #[cfg(test)]
 mod tests;
 
