@@ -1,7 +1,9 @@
 mod Answering
 mod OneFinding
 mod OneOfRow
+mod OneWords
 mod Parts
 mod RowTokens
 mod Texts
+mod ToldWords
 mod WordPlaces

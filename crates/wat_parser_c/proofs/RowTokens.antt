@@ -3,7 +3,7 @@ use Rattle.std.proofs.Common.{◌≡◌, ◌≢◌, ◌<◌, ◌≤◌, ◌+◌,
 use Rattle.std.specs.Prelude.{◌==◌, if◌then◌else◌, Option, Some, None}
 use Rattle.std.specs.Str.{IsUtf8, IsCharBoundary}
 use Rattle.wat_lex.specs.grammar.Numbers.{sign_token}
-use Rattle.wat_lex.specs.tokens.EverySetting.{TokensAreReadable}
+use Rattle.wat_lex.specs.tokens.EverySetting.{TokensAreReadable, TokensEndAtBoundaries}
 use Rattle.wat_lex.specs.tokens.ReadableTokens.{IsTokenOf}
 use Rattle.wat_lex.specs.values.KindNumbers.{kind_number}
 use Rattle.wat_lex.specs.declared.lexer.kinds.FloatKind.{FloatKind}
@@ -141,3 +141,8 @@ not_float text row h out (f, e) = by f (code_of_row text row (kind.Float f) h e 
     by (NanVal n u) c (inr l) = absurd (omega (arith, c, l))
     by (Normal u x) c (inl l) = absurd (omega (arith, c, l))
     by (Normal u x) c (inr l) = absurd (omega (arith, c, l))
+
+pub row_ends : TokensEndAtBoundaries → (text : List ℕ) (row : Row) → IsUtf8 text → IsRow text row → row.offset + row.len ≤ length text
+row_ends ends text row u h =
+    let b = ends (record { text = text; flags = h.flags }) row.offset h.token u h.boundary h.stands in
+    (subst (λ t. IsCharBoundary text (t.offset + t.len)) (row_token text row h) b).0

@@ -252,3 +252,26 @@ quoted_at b c s v u sign e f h n =
 pub none_contains : (c : ℕ) (w : List ℕ) → HasNone c w → contains c w ≡ false
 none_contains c [] h = refl
 none_contains c (d ∷ w) h = ap (λ b. b || contains c w) h.0 ∙ none_contains c w h.1
+
+-- by the byte behind the sign
+pub bare_or : (b : List ℕ) → IsUtf8 b → NameBytes b → (get_or b 1 0 == 34) ≡ false → NameAt b 1 0 × (contains 34 (chars b) ≡ false)
+bare_or b u (bare_name c v s e q h n) k = (bare_at b c v u s e h n, none_contains 34 (chars b) h)
+bare_or b u (quoted_name c s sign ce be f) k = absurd (both_ways (get_or b 1 0 == 34) k (ap (λ x. get_or x 1 0 == 34) be))
+
+found_quote : (b : List ℕ) (c : ℕ) (s : List ℕ) → IsSign c → chars b ≡ c ∷ 34 ∷ s → contains 34 (chars b) ≡ true
+found_quote b c s sign e = ap (contains 34) e ∙ ap (λ x. x || true) (sign_no_quote c sign)
+
+sign_no_backslash : (c : ℕ) → IsSign c → (c == 92) ≡ false
+sign_no_backslash c (inl e) = ap (λ x. x == 92) e
+sign_no_backslash c (inr e) = ap (λ x. x == 92) e
+
+pub quoted_or : (b : List ℕ) → IsUtf8 b → NameBytes b → (get_or b 1 0 == 34) ≡ true → HasNone 92 (chars b) → NameAt b 2 1 × (contains 34 (chars b) ≡ true)
+quoted_or b u (bare_name c v s e q h n) k free = absurd (q (sym (ap (λ x. get_or x 1 0) e) ∙ eqb-true (get_or b 1 0) 34 k))
+quoted_or b u (quoted_name c s sign ce be f) k free =
+    let v = f (subst (HasNone 92) ce free).1.1 in
+    (quoted_at b c s v.0 u sign be v.1 free v.2, found_quote b c s sign ce)
+
+pub quoted_escape : (b : List ℕ) → NameBytes b → (get_or b 1 0 == 34) ≡ true → (HasNone 92 (chars b) → ⊥) → HasNoEscape (chars b) → ⊥
+quoted_escape b (bare_name c v s e q h n) k esc free = q (sym (ap (λ x. get_or x 1 0) e) ∙ eqb-true (get_or b 1 0) 34 k)
+quoted_escape b (quoted_name c s sign ce be f) k esc (inl h) = false≢true (sym (subst (HasNone 34) ce h).1.0)
+quoted_escape b (quoted_name c s sign ce be f) k esc (inr h) = esc h

@@ -1,12 +1,14 @@
 //! What a reader answers at a place is one thing.
 ghost use Rattle.std.specs.Prelude.{ℕ, List};
 ghost use Rattle.wat_lex.specs.tokens.Setting.{Setting};
+ghost use Rattle.wat_lex.specs.declared.lexer.kinds.Token.{Token};
 ghost use Rattle.wat_rows.specs.declared.counting.Row.{Row};
 ghost use Rattle.wat_parser_c.specs.Answers.{OneAnswer};
 ghost use Rattle.wat_parser_c.specs.ByRow.{FindsOf};
 ghost use Rattle.wat_parser_c.specs.Readings.{Finds, FindsFault, IsString, IsNamed, IsInteger, IsFloat};
 ghost use Rattle.wat_parser_c.specs.Readings.{ReadsString, ReadsName, ReadsInteger, ReadsFloat};
 ghost use Rattle.wat_parser_c.specs.Readings.{ReadsNameFault};
+ghost use Rattle.wat_parser_c.specs.Words.{OneWord};
 
 /// Each reader has one answer at each place, want of memory apart. It does nothing: its contract is
 /// the law.
@@ -43,4 +45,12 @@ pub fn one_answer_of_row()
     wat_lex::laws::strings();
     wat_lex::laws::names();
     wat_lex::laws::floats();
+}
+
+/// What is told of where a value stands is one thing. It does nothing either.
+pub fn one_word()
+    ensures { (text : List ℕ) (t : Token) → OneWord text t }
+{
+    wat_lex::laws::strings();
+    wat_lex::laws::names();
 }
