@@ -1,4 +1,6 @@
 mod Answering
+mod IntegerRows
+mod Magnitudes
 mod OneFinding
 mod OneOfRow
 mod OneWords

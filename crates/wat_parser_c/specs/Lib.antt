@@ -1,4 +1,5 @@
 pub mod Answers
 pub mod ByRow
+pub mod Numbers
 pub mod Readings
 pub mod Words

@@ -15,6 +15,7 @@ pub mod answers;
 pub mod by_row;
 mod given;
 mod laws;
+pub mod numbers;
 mod readings;
 pub mod words;
 #[cfg(test)]
