@@ -1,4 +1,5 @@
 mod Answering
+mod Bits
 mod IntegerRows
 mod Magnitudes
 mod OneFinding
@@ -9,3 +10,4 @@ mod RowTokens
 mod Texts
 mod ToldWords
 mod WordPlaces
+mod Writing

@@ -56,7 +56,10 @@ fn lead(kind: KindRow) -> usize
 fn digits<'a>(text: &'a str, row: Row) -> &'a [u8]
     requires told { IsRow text.now row }
     requires is { row.kind.code ≡ 11 }
-    ensures { result.now ≡ behind_prefix row.kind.hex (unsigned (word_of text.now (token_of row))) }
+    ensures digits { result.now
+        ≡ behind_prefix row.kind.hex (unsigned (word_of text.now (token_of row))) }
+    ensures read { ReadsInteger text.now (token_of row)
+        (Ok (signed_digits (row.kind.sign == 2) result.now)) }
 {
     wat_lex::laws::tokens();
     let start = row.offset as usize;
@@ -135,4 +138,118 @@ fn in_bits(minus: bool, magnitude: u64, half: u64, is_signed: bool) -> Option<u6
         return Some(0);
     }
     Some(most - (magnitude - 1))
+}
+
+/// An integer's row in so many bits.
+fn integer_of(text: &str, row: Row, bits: u32, is_signed: bool) -> Number
+    requires { IsRow text.now row }
+    ensures { result ≡ number_told bits is_signed
+        (as_integer text.now (token_of row) (kind_of row.kind)) }
+{
+    if row.kind.code != INTEGER {
+        return Number::refused(1);
+    }
+    let Some(half) = half_of(bits) else {
+        return Number::refused(5);
+    };
+    let Some(magnitude) = magnitude(digits(text, row), row.kind.hex) else {
+        return Number::refused(5);
+    };
+    match in_bits(row.kind.sign == 2, magnitude, half, is_signed) {
+        Some(value) => Number { value, status: 0 },
+        None => Number::refused(5),
+    }
+}
+
+/// The value of an integer's row in 8, 16, 32 or 64 bits, of a type with a sign or without.
+#[unsafe(no_mangle)]
+pub extern "C" fn wat_integer_of(text: &[u8], row: &Row, bits: u32, is_signed: bool) -> Number
+    requires utf8 { IsUtf8 text.now }
+    requires short { length text.now < 2 ^ 32 }
+    requires told { IsRow text.now row.now }
+    ensures { result ≡ number_told bits is_signed
+        (as_integer text.now (token_of row.now) (kind_of row.now.kind)) }
+{
+    let text = unsafe { str::from_utf8_unchecked(text) };
+    integer_of(text, *row, bits, is_signed)
+}
+
+/// How many digits there are, underscores apart.
+fn count(digits: &[u8]) -> usize
+    ensures count { result ≡ length (joined digits.now) }
+    ensures bound { result ≤ length digits.now }
+{
+    digits.iter().filter(|byte| **byte != b'_').count()
+}
+
+/// Writes digits without underscores from a place on.
+fn write_digits(digits: &[u8], out: &mut [u8], at: usize)
+    requires { at + length (joined digits.now) ≤ length out.old }
+    ensures { out.new ≡ take at out.old ++ joined digits.now
+        ++ drop (at + length (joined digits.now)) out.old }
+{
+    let mut at = at;
+    for byte in digits {
+        if *byte != b'_' {
+            out[at] = *byte;
+            at += 1;
+        }
+    }
+}
+
+/// Writes digits without underscores to the front, behind a `-` or not.
+fn write_signed(digits: &[u8], minus: bool, out: &mut [u8])
+    requires { length (signed_digits minus digits.now) ≤ length out.old }
+    ensures { out.new ≡ signed_digits minus digits.now
+        ++ drop (length (signed_digits minus digits.now)) out.old }
+{
+    if !minus {
+        return write_digits(digits, out, 0);
+    }
+    out[0] = b'-';
+    write_digits(digits, out, 1);
+}
+
+/// Writes digits without underscores to the front where they fit, behind a `-` or not.
+fn give_signed(digits: &[u8], minus: bool, out: &mut [u8]) -> Answer
+    ensures told { result ≡ answer_of (Ok (signed_digits minus digits.now)) }
+    ensures left { out.new ≡ left_of out.old (Ok (signed_digits minus digits.now)) }
+{
+    let needed = if minus {
+        count(digits) + 1
+    } else {
+        count(digits)
+    };
+    if needed <= out.len() {
+        write_signed(digits, minus, out);
+    }
+    Answer { needed, status: 0 }
+}
+
+/// The digits of an integer's row.
+fn give_digits(text: &str, row: Row, out: &mut [u8]) -> Answer
+    requires { IsRow text.now row }
+    ensures found { Answers (FindsOf IsInteger ReadsInteger text.now row) out.old out.new result }
+    ensures free { result.status ≢ 2 }
+{
+    if row.kind.code != INTEGER {
+        return Refusal::Other.answer();
+    }
+    give_signed(digits(text, row), row.kind.sign == 2, out)
+}
+
+/// The digits of an integer's row, a `-` kept. It takes no memory.
+#[unsafe(no_mangle)]
+pub extern "C" fn wat_digits_of(text: &[u8], row: &Row, out: &mut [u8]) -> Answer
+    requires utf8 { IsUtf8 text.now }
+    requires short { length text.now < 2 ^ 32 }
+    requires told { IsRow text.now row.now }
+    ensures found { Answers (FindsOf IsInteger ReadsInteger text.now row.now)
+        out.old out.new result }
+    ensures one { OneAnswer (FindsOf IsInteger ReadsInteger text.now row.now) out.old }
+    ensures free { result.status ≢ 2 }
+{
+    one_answer_of_row();
+    let text = unsafe { str::from_utf8_unchecked(text) };
+    give_digits(text, *row, out)
 }
