@@ -5,6 +5,8 @@ ghost use Rattle.wat_lex.specs.declared.lexer.kinds.Token.{Token};
 ghost use Rattle.wat_rows.specs.declared.counting.Row.{Row};
 ghost use Rattle.wat_parser_c.specs.Answers.{OneAnswer};
 ghost use Rattle.wat_parser_c.specs.ByRow.{FindsOf};
+ghost use Rattle.wat_parser_c.specs.CommentPlaces.{CommentsAreOne, CommentsAreParsers};
+ghost use Rattle.wat_parser_c.specs.FaultMessages.{FaultsAreTold};
 ghost use Rattle.wat_parser_c.specs.Readings.{Finds, FindsFault, IsString, IsNamed, IsInteger, IsFloat};
 ghost use Rattle.wat_parser_c.specs.Readings.{ReadsString, ReadsName, ReadsInteger, ReadsFloat};
 ghost use Rattle.wat_parser_c.specs.Readings.{ReadsNameFault};
@@ -53,4 +55,18 @@ pub fn one_word()
 {
     wat_lex::laws::strings();
     wat_lex::laws::names();
+}
+
+/// Each fault is that of its numbers. It does nothing either.
+pub fn faults_are_told()
+    ensures { FaultsAreTold }
+{}
+
+/// The comment that is told of a place is one thing, and the one that a parser finds there. It does
+/// nothing either.
+pub fn comments_are_parsers()
+    ensures one { CommentsAreOne }
+    ensures parsers { CommentsAreParsers }
+{
+    wat_lex::laws::one_answer();
 }

@@ -13,8 +13,10 @@ ghost use Rattle.wat_rows.specs.declared.rows.Found.{Found as FoundRow};
 
 pub mod answers;
 pub mod by_row;
+pub mod comments;
 mod given;
 mod laws;
+pub mod messages;
 pub mod numbers;
 mod readings;
 pub mod words;

@@ -36,7 +36,7 @@ pub struct Word {
 }
 
 impl Word {
-    fn refused(status: u32) -> Word
+    pub(crate) fn refused(status: u32) -> Word
         ensures { result ≡ no_word status }
     {
         Word {
