@@ -19,13 +19,12 @@ fn past_space(text: &str, pos: usize, settings: Settings) -> Result<Option<Token
     ensures short { IfOk result (λ found. IfSome found (λ t. t.offset + t.len < 2 ^ 32)) }
 {
     let lexer = lexer_of(text, settings);
-    let found = lexer.scan(pos);
-    match found {
+    match lexer.scan(pos) {
         Ok(Some(token)) => match token.kind {
             TokenKind::Whitespace => lexer.scan(token.offset + token.len as usize),
-            _ => found,
+            _ => Ok(Some(token)),
         },
-        _ => found,
+        found => found,
     }
 }
 
@@ -48,6 +47,17 @@ fn comment_told(found: Result<Option<Token>, LexFault>) -> Word
     }
 }
 
+/// Where the comment at a place stands, past white space.
+fn comment_at(text: &str, pos: usize, settings: Settings) -> Word
+    requires short { length text.now < 2 ^ 32 }
+    requires boundary { IsCharBoundary text.now pos }
+    ensures told { TellsComment (record { text = text.now; flags = settings }) pos result }
+    ensures parsers { IsParsersComment (record { text = text.now; flags = settings }) pos result }
+{
+    comments_are_parsers();
+    comment_told(past_space(text, pos, settings))
+}
+
 /// Where the comment at a place of the text stands, past white space.
 #[unsafe(no_mangle)]
 pub extern "C" fn wat_comment(text: &[u8], pos: usize, allow: bool, strict: bool) -> Word
@@ -60,5 +70,5 @@ pub extern "C" fn wat_comment(text: &[u8], pos: usize, allow: bool, strict: bool
 {
     comments_are_parsers();
     let text = unsafe { str::from_utf8_unchecked(text) };
-    comment_told(past_space(text, pos, Settings { allow, strict }))
+    comment_at(text, pos, Settings { allow, strict })
 }
