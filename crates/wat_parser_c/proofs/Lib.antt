@@ -1,4 +1,16 @@
 mod Answering
+mod Bits
+mod CommentLaws
+mod IntegerRows
+mod Magnitudes
+mod MessageBytes
 mod OneFinding
+mod OneOfRow
+mod OneWords
 mod Parts
+mod RowTokens
 mod Texts
+mod ToldFaults
+mod ToldWords
+mod WordPlaces
+mod Writing

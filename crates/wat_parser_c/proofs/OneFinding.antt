@@ -27,11 +27,11 @@ use Rattle.wat_parser_c.specs.declared.answers.Refusal.{Refusal}
 use Rattle.wat_parser_c.specs.declared.answers.Refusal.TheVariants.{Other, Memory, Absent, Fault}
 use Rattle.wat_parser_c.proofs.Texts.{bytes_of_text}
 
-abbrev Finding : Type 0
+abbrev pub Finding : Type 0
 Finding = Result (List ℕ) Refusal
 
 -- any two findings are the same, but for want of memory
-abbrev One : (Finding → Type 0) → Type 0
+abbrev pub One : (Finding → Type 0) → Type 0
 One Reads = (a b : Finding) → Reads a → Reads b → a ≢ Err (Memory alloc_error) → b ≢ Err (Memory alloc_error) → a ≡ b
 
 found_memory : (answer : Answer) (found : Finding) → answer ≡ answer_of found → answer.status ≢ status_of (Memory alloc_error) → found ≢ Err (Memory alloc_error)

@@ -1,2 +1,7 @@
 pub mod Answers
+pub mod ByRow
+pub mod CommentPlaces
+pub mod FaultMessages
+pub mod Numbers
 pub mod Readings
+pub mod Words

@@ -12,11 +12,16 @@ ghost use Rattle.wat_rows.specs.Rows.{FoundAt, TokenFoundAt, Fills, OneFill, set
 ghost use Rattle.wat_rows.specs.declared.rows.Found.{Found as FoundRow};
 
 pub mod answers;
+pub mod by_row;
+pub mod comments;
 mod given;
 mod laws;
 pub mod looks;
+pub mod messages;
+pub mod numbers;
 mod readings;
 pub mod version;
+pub mod words;
 #[cfg(test)]
 mod tests;
 

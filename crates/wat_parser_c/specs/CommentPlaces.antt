@@ -1,0 +1,54 @@
+-- WebAssembly specification, text format, lexical format: white space, comments. The comment at a byte of a text.
+use Rattle.std.specs.Prelude.{◌≡◌, ℕ, ◌+◌, ◌≤◌, true, false, List, length, Option, Some, None, Result, Ok, Err, IfOk, IfSome, if◌then◌else◌}
+use Rattle.wat_lex.specs.tokens.Setting.{Setting}
+use Rattle.wat_lex.specs.tokens.Tiling.{TokenAt}
+use Rattle.wat_lex.specs.tokens.UniqueTilings.{AnswerAt}
+use Rattle.wat_lex.specs.declared.lexer.faults.LexFault.{LexFault}
+use Rattle.wat_lex.specs.declared.lexer.kinds.Token.{Token}
+use Rattle.wat_lexer_parser.specs.groups.Sorts.{is_space, is_comment}
+use Rattle.wat_lexer_parser.specs.places.Places.{offset_at, comment_at}
+use Rattle.wat_lexer_parser.specs.places.Source.{Source, IsRead}
+use Rattle.wat_lexer_parser.specs.shown.Showing.{Look}
+use Rattle.wat_lexer_parser.specs.declared.parser.fault.Fault.{Fault}
+use Rattle.wat_lexer_parser.specs.declared.parser.fault.FaultKind.{FaultKind}
+use Rattle.wat_lexer_parser.specs.declared.parser.fault.FaultKind.TheVariants.{Lex, Unclosed}
+use Rattle.wat_rows.specs.Rows.{fault_code}
+use Rattle.wat_parser_c.specs.Words.{no_word}
+use Rattle.wat_parser_c.specs.declared.words.Word.{Word}
+
+-- what stands behind at most one white space token of a place
+pub data StandsPast (s : Setting) (p : ℕ) (answer : Result (Option Token) LexFault) : Type 0 where
+  here : AnswerAt s p answer → IfOk answer (λ found. IfSome found (λ t. is_space t.kind ≡ false)) → StandsPast s p answer
+  behind : (space : Token) → TokenAt s p space → is_space space.kind ≡ true → AnswerAt s (space.offset + space.len) answer → StandsPast s p answer
+
+abbrev pub comment_told : Result (Option Token) LexFault → Word
+comment_told (Ok None) = no_word 3
+comment_told (Ok (Some t)) = if is_comment t.kind then record { start = t.offset; len = t.len; status = 0 } else no_word 3
+comment_told (Err f) = no_word (fault_code f.error)
+
+-- the word is that of the comment there, or tells that none stands there, or the fault
+pub record TellsComment (s : Setting) (p : ℕ) (word : Word) : Type 0 where
+  pub answer : Result (Option Token) LexFault
+  pub past : StandsPast s p answer
+  pub told : word ≡ comment_told answer
+
+abbrev pub fault_kind_code : FaultKind → ℕ
+fault_kind_code (Lex e) = fault_code e
+fault_kind_code Unclosed = 3
+
+-- what a parser finds at a place, in the same words; it has no other fault there than the text's
+abbrev pub look_told : Look → Word
+look_told (Ok None) = no_word 3
+look_told (Ok (Some (t, q))) = record { start = t.offset; len = t.len; status = 0 }
+look_told (Err f) = no_word (fault_kind_code f.kind)
+
+-- the word is what every parser of the text finds at the place
+unfoldable pub IsParsersComment : Setting → ℕ → Word → Type 0
+IsParsersComment s p word = (source : Source) (place : ℕ) → IsRead source → source.setting ≡ s → place ≤ length source.tokens → offset_at source.tokens place ≡ p → word ≡ look_told (comment_at source place)
+
+-- what is told of a place is one thing, and the parser's
+unfoldable pub CommentsAreOne : Type 0
+CommentsAreOne = (s : Setting) (p : ℕ) (word other : Word) → TellsComment s p word → TellsComment s p other → word ≡ other
+
+unfoldable pub CommentsAreParsers : Type 0
+CommentsAreParsers = (s : Setting) (p : ℕ) (word : Word) → TellsComment s p word → IsParsersComment s p word

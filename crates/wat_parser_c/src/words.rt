@@ -1,0 +1,176 @@
+//! Where the values of strings and names stand in their text as it is.
+ghost use Rattle.std.specs.Prelude.{◌≡◌, ◌≤◌, ◌<◌, ◌^◌, ◌+◌, ◌-◌, ◌==◌, length, true, false, slice_index};
+ghost use Rattle.std.specs.Str.{chars, IsUtf8};
+ghost use Rattle.wat_lex.specs.grammar.Classes.{backslash};
+ghost use Rattle.wat_lex.specs.grammar.Words.{Word as Spells};
+ghost use Rattle.wat_lex.specs.tokens.ReadableTokens.{token_text};
+ghost use Rattle.wat_lex.specs.tokens.Setting.{lenient};
+ghost use Rattle.wat_lex.specs.values.Names.{HasNone};
+ghost use Rattle.wat_lex.specs.values.WordValues.{empty_name};
+ghost use Rattle.wat_lex.specs.declared.lexer.kinds.TokenKind.TheVariants as token_kind;
+ghost use Rattle.wat_parser_c.specs.ByRow.{kind_of, token_of};
+ghost use Rattle.wat_parser_c.specs.Readings.{IsNamed};
+ghost use Rattle.wat_parser_c.specs.Words.{TellsWord, OneWord, no_word};
+ghost use Rattle.wat_rows.specs.Counting.{IsRow};
+ghost use Rattle.wat_rows.specs.Rows.{fault_code};
+
+use crate::by_row::{name_kind, token_of};
+use crate::laws::one_word;
+use memchr::memchr;
+use std::str;
+use wat_lex::lexer::{LexError, TokenKind};
+use wat_rows::counting::Row;
+use wat_rows::rows::fault_code;
+
+/// Where the value of a word stands, or why it does not stand there.
+#[repr(C)]
+#[derive(Clone, Copy, Debug, PartialEq)]
+pub struct Word {
+    /// Where it begins, in bytes from the text's start.
+    pub start: u32,
+    /// How many bytes it has.
+    pub len: u32,
+    /// 0 where it stands there, otherwise why not, and the others are 0: 1 where the token has no
+    /// value, 4 where an escape stands in it, or the number of what is wrong with the name.
+    pub status: u32,
+}
+
+impl Word {
+    pub(crate) fn refused(status: u32) -> Word
+        ensures { result ≡ no_word status }
+    {
+        Word {
+            start: 0,
+            len: 0,
+            status,
+        }
+    }
+}
+
+/// Whether escapes can stand in a word: each begins with a backslash.
+fn has_backslash(word: &str) -> bool
+    ensures none { result ≡ false → HasNone backslash (chars word.now) }
+    ensures some { result ≡ true → HasNone backslash (chars word.now) → ⊥ }
+{
+    memchr(b'\\', word.as_bytes()).is_some()
+}
+
+/// The text of a row's token.
+fn source<'a>(text: &'a str, row: Row, kind: TokenKind) -> &'a str
+    requires told { IsRow text.now row }
+    requires is { kind_of row.kind ≡ kind }
+    ensures text { result.now ≡ token_text text.now (token_of row) }
+    ensures word { Spells kind (chars result.now) lenient }
+    ensures len { length result.now ≡ row.len }
+    ensures ends { row.offset + row.len ≤ length text.now }
+{
+    wat_lex::laws::tokens();
+    token_of(row, kind).src(text)
+}
+
+/// Where the value of a string's row stands.
+fn string_word(text: &str, row: Row) -> Word
+    requires short { length text.now < 2 ^ 32 }
+    requires told { IsRow text.now row }
+    requires is { kind_of row.kind ≡ token_kind.String }
+    ensures { TellsWord text.now (token_of row) result }
+{
+    wat_lex::laws::strings();
+    if has_backslash(source(text, row, TokenKind::String)) {
+        return Word::refused(4);
+    }
+    Word {
+        start: row.offset + 1,
+        len: row.len - 2,
+        status: 0,
+    }
+}
+
+/// Whether the name in a word is in quotes.
+fn is_quoted(word: &str) -> bool
+    ensures { result ≡ (slice_index word.now 1 == 34) }
+{
+    let bytes = word.as_bytes();
+    bytes.len() > 1 && bytes[1] == b'"'
+}
+
+/// The fault of an empty name, by the kind of its token.
+fn empty_name(kind: TokenKind) -> LexError
+    ensures { result ≡ empty_name kind }
+{
+    match kind {
+        TokenKind::Annotation => LexError::EmptyAnnotation,
+        _ => LexError::EmptyId,
+    }
+}
+
+/// What is told of a name that stands behind so many bytes of its word and before so many.
+fn name_within(row: Row, kind: TokenKind, before: u32, behind: u32) -> Word
+    requires fits { before + behind ≤ row.len }
+    requires ends { row.offset + row.len < 2 ^ 32 }
+    ensures empty { row.len ≡ before + behind → result ≡ no_word (fault_code (empty_name kind)) }
+    ensures some { before + behind < row.len → result ≡ record {
+        start = row.offset + before;
+        len = row.len - before - behind;
+        status = 0;
+    } }
+{
+    let len = row.len - before - behind;
+    if len == 0 {
+        return Word::refused(fault_code(empty_name(kind)));
+    }
+    Word {
+        start: row.offset + before,
+        len,
+        status: 0,
+    }
+}
+
+/// Where the name of a name's row stands.
+fn name_word(text: &str, row: Row, kind: TokenKind) -> Word
+    requires short { length text.now < 2 ^ 32 }
+    requires told { IsRow text.now row }
+    requires is { kind_of row.kind ≡ kind }
+    requires named { IsNamed kind }
+    ensures { TellsWord text.now (token_of row) result }
+{
+    wat_lex::laws::names();
+    let word = source(text, row, kind);
+    if !is_quoted(word) {
+        return name_within(row, kind, 1, 0);
+    }
+    if has_backslash(word) {
+        return Word::refused(4);
+    }
+    name_within(row, kind, 2, 1)
+}
+
+/// Where the value of a row's token stands.
+fn word_of(text: &str, row: Row) -> Word
+    requires short { length text.now < 2 ^ 32 }
+    requires told { IsRow text.now row }
+    ensures { TellsWord text.now (token_of row) result }
+{
+    if row.kind.code == TokenKind::String.number() {
+        return string_word(text, row);
+    }
+    match name_kind(row.kind.code) {
+        Some(kind) => name_word(text, row, kind),
+        None => Word::refused(1),
+    }
+}
+
+/// Where the value of a row's token stands in the text: of a string the bytes between its quotes, of
+/// an identifier or annotation its name.
+#[unsafe(no_mangle)]
+pub extern "C" fn wat_word(text: &[u8], row: &Row) -> Word
+    requires utf8 { IsUtf8 text.now }
+    requires short { length text.now < 2 ^ 32 }
+    requires told { IsRow text.now row.now }
+    ensures told { TellsWord text.now (token_of row.now) result }
+    ensures one { OneWord text.now (token_of row.now) }
+{
+    one_word();
+    let text = unsafe { str::from_utf8_unchecked(text) };
+    word_of(text, *row)
+}
