@@ -15,7 +15,7 @@ import sys
 
 ROOT = pathlib.Path(__file__).resolve().parent.parent
 # Crates of tests, and the programs that refuse requests from outside.
-HARNESS = {"wat_lex_tests", "wat_parser_tests", "wat_type_tests", "wat_requests"}
+HARNESS = {"wat_lex_tests", "wat_parser_tests", "wat_type_tests", "wat_requests", "wat_answers"}
 
 # The places that may write one, each with why.
 MAY = {
