@@ -36,12 +36,12 @@ fn tokens_of_iter_are_read(rt: HostRuntime) -> Result<(), Fail> {
 #[test]
 fn an_integer_that_is_read_twice_is_the_same(rt: HostRuntime) -> Result<(), Fail> {
     let text = "-0xa_b";
-    if let Ok(Some(token)) = Lexer::new(text).scan(0) {
-        if let TokenKind::Integer(kind) = token.kind {
-            let integer = token.integer(rt.alloc(), text, kind)?;
-            assert!(rt; integer == token.integer(rt.alloc(), text, kind)?);
-            return Ok(());
-        }
-    }
-    Err("no integer")?
+    let token = Lexer::new(text).scan(0).ok().flatten().ok_or("no token")?;
+    let TokenKind::Integer(kind) = token.kind else {
+        return Err("no integer")?;
+    };
+    let first = token.integer(rt.alloc(), text, kind)?;
+    let second = token.integer(rt.alloc(), text, kind)?;
+    assert!(rt; first == second);
+    Ok(())
 }
