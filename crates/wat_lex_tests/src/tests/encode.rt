@@ -22,60 +22,6 @@ fn is_too_long<T: Encode>(rt: &impl Abort, alloc: Global, value: &T) -> Result<(
 }
 
 #[test]
-fn unsigned_numbers_take_their_shortest_form(rt: HostRuntime) -> Result<(), Fail> {
-    let alloc = rt.alloc();
-    let vectors: [(u32, &[u8]); 4] = [
-        (0, &[0x00]),
-        (127, &[0x7f]),
-        (128, &[0x80, 0x01]),
-        (4294967295, &[0xff, 0xff, 0xff, 0xff, 0x0f]),
-    ];
-    for (number, bytes) in vectors {
-        assert_eq!(rt; bytes_of(alloc, &number)?.as_slice(), bytes, "{number}");
-        assert_eq!(rt;
-            bytes_of(alloc, &u64::from(number))?.as_slice(),
-            bytes,
-            "{number}"
-        );
-        assert_eq!(rt;
-            bytes_of(alloc, &(number as usize))?.as_slice(),
-            bytes,
-            "{number}"
-        );
-    }
-    let most: &[u8] = &[0xff, 0xff, 0xff, 0xff, 0xff, 0xff, 0xff, 0xff, 0xff, 0x01];
-    assert_eq!(rt; bytes_of(alloc, &18446744073709551615u64)?.as_slice(), most);
-    Ok(())
-}
-
-#[test]
-fn signed_numbers_take_their_shortest_form(rt: HostRuntime) -> Result<(), Fail> {
-    let alloc = rt.alloc();
-    let vectors: [(i32, &[u8]); 6] = [
-        (63, &[0x3f]),
-        (64, &[0xc0, 0x00]),
-        (-1, &[0x7f]),
-        (-64, &[0x40]),
-        (-65, &[0xbf, 0x7f]),
-        (-2147483648, &[0x80, 0x80, 0x80, 0x80, 0x78]),
-    ];
-    for (number, bytes) in vectors {
-        assert_eq!(rt; bytes_of(alloc, &number)?.as_slice(), bytes, "{number}");
-        assert_eq!(rt;
-            bytes_of(alloc, &i64::from(number))?.as_slice(),
-            bytes,
-            "{number}"
-        );
-    }
-    let least: &[u8] = &[0x80, 0x80, 0x80, 0x80, 0x80, 0x80, 0x80, 0x80, 0x80, 0x7f];
-    assert_eq!(rt;
-        bytes_of(alloc, &-9223372036854775808i64)?.as_slice(),
-        least
-    );
-    Ok(())
-}
-
-#[test]
 fn lists_and_texts_stand_behind_their_length(rt: HostRuntime) -> Result<(), Fail> {
     let alloc = rt.alloc();
     let list = vec![in alloc; 1u32, 300]?;

@@ -1,6 +1,6 @@
-//! Tests of the lexer and of the readers of tokens, with what is expected from outside.
+//! Tests of the lexer and of the readers of tokens that no row of a table can say.
 
-mod numbers;
+mod many;
+mod reads;
 mod strings;
-mod tilings;
 mod tokens;

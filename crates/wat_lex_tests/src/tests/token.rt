@@ -26,30 +26,6 @@ fn are_alike<T: Hash>(a: &T, b: &T) -> bool {
 }
 
 #[test]
-fn lines_and_columns(rt: HostRuntime) -> Result<(), Fail> {
-    let rows = [
-        ("a\n", 2, 1, 0),
-        ("a", 5, 1, 0),
-        ("a", 1, 0, 1),
-        ("", 0, 0, 0),
-        ("", 1, 0, 0),
-        ("a\r\n(;", 2, 0, 2),
-        ("a\r\n(;", 3, 1, 0),
-        ("\n\n", 1, 1, 0),
-        ("\n\n", 2, 2, 0),
-        ("\n\n", 3, 2, 0),
-        ("a\nb\n", 9, 2, 0),
-        ("a\nb", 9, 2, 0),
-        ("\"é\"\u{2028}b", 7, 0, 7),
-    ];
-    for (text, offset, line, column) in rows {
-        let got = Span::from_offset(offset).linecol_in(text);
-        assert_eq!(rt; got, (line, column), "{text}");
-    }
-    Ok(())
-}
-
-#[test]
 fn spans_are_their_offsets(rt: HostRuntime) {
     for (a, b) in [(0, 0), (0, 1), (1, 0), (7, usize::MAX)] {
         let (first, second) = (Span::from_offset(a), Span::from_offset(b));

@@ -8,10 +8,6 @@ use wat_lex::lexer::{Lexer, Token, TokenKind};
 use wat_lexer_parser::laws::blanked;
 use wat_lexer_parser::parser::ParseBuffer;
 
-/// A text, the number of a raw token that is a comment, the text with spaces there, and what both
-/// show.
-type Row = (&'static str, usize, &'static str, &'static str);
-
 /// The raw token of this number and the text with spaces over it; None where it is no comment.
 fn blank(
     rt: &impl Abort,
@@ -69,90 +65,6 @@ fn listed(alloc: Global, buffer: &ParseBuffer<'_>, name: &str) -> Result<String,
         }
     }
     Err("no end")?
-}
-
-/// Whether this is shown of a text.
-fn shows(
-    rt: &impl Abort,
-    alloc: Global,
-    text: &str,
-    allow: bool,
-    want: &str,
-) -> Result<bool, Fail> {
-    let buffer = buffer_of(rt, alloc, text, allow, false)?;
-    let got = listed(alloc, &buffer, "")?;
-    Ok(got.as_str() == want)
-}
-
-/// Whether a row holds.
-fn holds(rt: &impl Abort, alloc: Global, row: Row) -> Result<bool, Fail> {
-    let (text, number, other, want) = row;
-    let Some((_, got)) = blank(rt, alloc, text, number)? else {
-        return Ok(false);
-    };
-    let before = shows(rt, alloc, text, true, want)?;
-    let after = shows(rt, alloc, got.as_str(), true, want)?;
-    Ok(got.as_str() == other && before && after)
-}
-
-#[test]
-fn words_beside_a_comment_stay_apart(rt: HostRuntime) -> Result<(), Fail> {
-    let row = ("a(;;)b", 1, "a    b", "0..1 Keyword, 5..6 Keyword, ");
-    assert!(rt; holds(&rt, rt.alloc(), row)?);
-    Ok(())
-}
-
-#[test]
-fn a_comment_behind_a_parenthesis_keeps_it_shown(rt: HostRuntime) -> Result<(), Fail> {
-    let shown = "0..1 LParen, 5..7 Annotation, 7..8 RParen, ";
-    let row = ("((;;)@a)", 1, "(    @a)", shown);
-    assert!(rt; holds(&rt, rt.alloc(), row)?);
-    Ok(())
-}
-
-#[test]
-fn a_line_comment_joins_the_white_space_beside_it(rt: HostRuntime) -> Result<(), Fail> {
-    let row = ("(@a ;;)\n) x", 3, "(@a    \n) x", "10..11 Keyword, ");
-    assert!(rt; holds(&rt, rt.alloc(), row)?);
-    Ok(())
-}
-
-#[test]
-fn a_text_without_its_confusing_comment_has_no_fault(rt: HostRuntime) -> Result<(), Fail> {
-    let row = (";;\u{202e}\nx", 0, "     \nx", "6..7 Keyword, ");
-    assert!(rt; holds(&rt, rt.alloc(), row)?);
-    assert!(rt; shows(&rt, rt.alloc(), "     \nx", false, "6..7 Keyword, ")?);
-    Ok(())
-}
-
-#[test]
-fn a_group_that_nothing_closes_stays_open(rt: HostRuntime) -> Result<(), Fail> {
-    let row = ("(@a (;;)", 3, "(@a     ", "1 unclosed annotation");
-    assert!(rt; holds(&rt, rt.alloc(), row)?);
-    Ok(())
-}
-
-#[test]
-fn a_fault_behind_a_comment_stays(rt: HostRuntime) -> Result<(), Fail> {
-    let row = ("(;c;)\"a", 0, "     \"a", "7 unexpected end-of-file");
-    assert!(rt; holds(&rt, rt.alloc(), row)?);
-    Ok(())
-}
-
-#[test]
-fn comments_at_the_ends_of_lines_and_of_texts(rt: HostRuntime) -> Result<(), Fail> {
-    let rows = [
-        (";(;;);", 1, ";    ;", "0..1 Reserved, 5..6 Reserved, "),
-        ("a;;b\r\nc", 1, "a   \r\nc", "0..1 Keyword, 6..7 Keyword, "),
-        ("a;;b\nc", 1, "a   \nc", "0..1 Keyword, 5..6 Keyword, "),
-        ("a\t;;b", 2, "a\t   ", "0..1 Keyword, "),
-        ("(;(;;);)(;;)", 1, "(;(;;);)    ", ""),
-        ("(;(;;);)(;;)", 0, "        (;;)", ""),
-    ];
-    for row in rows {
-        assert!(rt; holds(&rt, rt.alloc(), row)?, "{}", row.0);
-    }
-    Ok(())
 }
 
 /// Texts, each with the number of its comments.

@@ -2,7 +2,7 @@ use Rattle.std.proofs.Common.{subst}
 use Rattle.std.specs.Prelude.{Some}
 use Rattle.wat_lex.specs.tokens.Raw.{token_steps}
 use Rattle.wat_lex.specs.tokens.ReadableTokens.{IsTokenOf}
-use Rattle.wat_lex_tests.proofs.tests.lexer.numbers.texts_and_names.Goals as goal
+use Rattle.wat_lex_tests.proofs.tests.lexer.reads.texts_and_names.Goals as goal
 
 pub src-requires : goal.src-requires
 src-requires g c =

@@ -1,0 +1,113 @@
+//! What the calls of a cursor answer.
+use crate::tokens::write_comma;
+use std::alloc::{AllocError, Global};
+use wat_lex::error::Error;
+use wat_lexer_parser::parser::Cursor;
+
+/// The kinds that are seen.
+pub fn seen(alloc: Global, cursor: Cursor<'_, '_>) -> Result<String, Error> {
+    let kinds = [
+        ("lparen", cursor.peek_lparen()?),
+        ("rparen", cursor.peek_rparen()?),
+        ("id", cursor.peek_id()?),
+        ("keyword", cursor.peek_keyword()?),
+        ("reserved", cursor.peek_reserved()?),
+        ("string", cursor.peek_string()?),
+        ("integer", cursor.peek_integer()?),
+        ("float", cursor.peek_float()?),
+    ];
+    let mut seen = String::new(alloc);
+    for (kind, is_seen) in kinds {
+        if is_seen {
+            write_comma(&mut seen)?;
+            seen.push_str(kind)?;
+        }
+    }
+    Ok(seen)
+}
+
+/// Writes what a taker took, and what is shown behind it.
+fn write_taken(
+    taken: &mut String,
+    kind: &str,
+    value: &str,
+    next: Cursor<'_, '_>,
+) -> Result<(), AllocError> {
+    write_comma(taken)?;
+    write!(taken, "{kind} {value}, then {}", next.cur_span().offset())
+}
+
+/// Writes what the takers of parentheses and words answer.
+fn write_words(taken: &mut String, cursor: Cursor<'_, '_>) -> Result<(), Error> {
+    if let Some(next) = cursor.lparen()? {
+        write_taken(taken, "lparen", "(", next)?;
+    }
+    if let Some(next) = cursor.rparen()? {
+        write_taken(taken, "rparen", ")", next)?;
+    }
+    if let Some((name, next)) = cursor.id()? {
+        write_taken(taken, "id", name.as_str(), next)?;
+    }
+    if let Some((name, next)) = cursor.annotation()? {
+        write_taken(taken, "annotation", name.as_str(), next)?;
+    }
+    if let Some((word, next)) = cursor.keyword()? {
+        write_taken(taken, "keyword", word, next)?;
+    }
+    if let Some((word, next)) = cursor.reserved()? {
+        write_taken(taken, "reserved", word, next)?;
+    }
+    Ok(())
+}
+
+/// Writes what the takers of strings and numbers answer.
+fn write_values(alloc: Global, taken: &mut String, cursor: Cursor<'_, '_>) -> Result<(), Error> {
+    if let Some((value, next)) = cursor.string()? {
+        let value = format!(in alloc; "{:?}", value.as_slice())?;
+        write_taken(taken, "string", value.as_str(), next)?;
+    }
+    if let Some((integer, next)) = cursor.integer()? {
+        let (digits, base) = integer.val();
+        let value = format!(in alloc; "{digits} {base} {:?}", integer.sign())?;
+        write_taken(taken, "integer", value.as_str(), next)?;
+    }
+    if let Some((float, next)) = cursor.float()? {
+        let value = format!(in alloc; "{float:?}")?;
+        write_taken(taken, "float", value.as_str(), next)?;
+    }
+    Ok(())
+}
+
+/// What each taker answers.
+pub fn taken(alloc: Global, cursor: Cursor<'_, '_>) -> Result<String, Error> {
+    let mut taken = String::new(alloc);
+    write_words(&mut taken, cursor)?;
+    write_values(alloc, &mut taken, cursor)?;
+    Ok(taken)
+}
+
+/// The identifier that is shown.
+pub fn id(alloc: Global, cursor: Cursor<'_, '_>) -> Result<String, Error> {
+    match cursor.id()? {
+        Some((name, _)) => Ok(format!(in alloc; "{name}")?),
+        None => Ok(String::from_str(alloc, "none")?),
+    }
+}
+
+/// The annotation that is shown.
+pub fn annotation(alloc: Global, cursor: Cursor<'_, '_>) -> Result<String, Error> {
+    match cursor.annotation()? {
+        Some((name, _)) => Ok(format!(in alloc; "{name}")?),
+        None => Ok(String::from_str(alloc, "none")?),
+    }
+}
+
+/// The comment that comes next, and where the tokens behind it begin.
+pub fn comment(alloc: Global, cursor: Cursor<'_, '_>) -> Result<String, Error> {
+    match cursor.comment()? {
+        Some((comment, next)) => {
+            Ok(format!(in alloc; "{comment} then {}", next.cur_span().offset())?)
+        }
+        None => Ok(String::from_str(alloc, "none")?),
+    }
+}

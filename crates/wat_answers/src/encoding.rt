@@ -1,0 +1,32 @@
+//! The bytes that numbers are written as.
+use crate::row::Row;
+use std::alloc::Global;
+use wat_lex::encode::{Encode, EncodeError};
+use wat_lex::error::Error;
+
+/// The bytes of a number; None where the text is none.
+fn bytes<T: Encode + Drop>(alloc: Global, number: Option<T>) -> Result<String, Error> {
+    let Some(number) = number else {
+        return Ok(String::from_str(alloc, "no number")?);
+    };
+    let mut bytes = Vec::new(alloc);
+    match number.encode(&mut bytes) {
+        Ok(()) => Ok(format!(in alloc; "{bytes:?}")?),
+        Err(EncodeError::TooLong) => Ok(String::from_str(alloc, "too long")?),
+        Err(EncodeError::Memory(refused)) => Err(Error::from(refused)),
+    }
+}
+
+/// What a call answers; None where none of these is asked.
+pub fn answer(alloc: Global, row: &Row<'_>) -> Result<Option<String>, Error> {
+    let text = row.text.as_str();
+    let answer = match row.call {
+        "encode-u32" => bytes(alloc, text.parse::<u32>().ok())?,
+        "encode-u64" => bytes(alloc, text.parse::<u64>().ok())?,
+        "encode-usize" => bytes(alloc, text.parse::<usize>().ok())?,
+        "encode-i32" => bytes(alloc, text.parse::<i32>().ok())?,
+        "encode-i64" => bytes(alloc, text.parse::<i64>().ok())?,
+        _ => return Ok(None),
+    };
+    Ok(Some(answer))
+}

@@ -1,0 +1,137 @@
+//! Calls of the lexer, and of the readers of its tokens.
+use crate::row::Row;
+use crate::tokens::{name, short, shown, write_comma, write_token};
+use std::alloc::{AllocError, Global};
+use wat_lex::error::Error;
+use wat_lex::lexer::{Lexer, Settings, TokenKind};
+
+const PLAIN: Settings = Settings {
+    allow: false,
+    strict: false,
+};
+
+const ALLOWING: Settings = Settings {
+    allow: true,
+    strict: false,
+};
+
+const STRICT: Settings = Settings {
+    allow: false,
+    strict: true,
+};
+
+/// All tokens but white space, and the fault behind them.
+fn tokens(alloc: Global, row: &Row<'_>, settings: Settings) -> Result<String, AllocError> {
+    let mut lexer = Lexer::new(short(&row.text));
+    lexer
+        .allow_confusing_unicode(settings.allow)
+        .strict_underscores(settings.strict);
+    let mut shown = String::new(alloc);
+    for item in lexer.iter(alloc, 0) {
+        match item {
+            Ok(token) if token.kind == TokenKind::Whitespace => {}
+            Ok(token) => write_token(&mut shown, token)?,
+            Err(error) => {
+                write_comma(&mut shown)?;
+                shown.push_str(&row.refusals.shown(alloc, &error)?)?;
+            }
+        }
+    }
+    Ok(shown)
+}
+
+/// The fault of a text.
+fn fault(alloc: Global, text: &str, settings: Settings) -> Result<String, Error> {
+    let mut lexer = Lexer::new(short(text));
+    lexer.allow_confusing_unicode(settings.allow);
+    for item in lexer.iter(alloc, 0) {
+        let _token = item?;
+    }
+    Ok(String::from_str(alloc, "no fault")?)
+}
+
+/// The kind and the text of the first token, and what the reader of its kind answers.
+fn first(alloc: Global, text: &str) -> Result<String, Error> {
+    let text = short(text);
+    let Some(token) = Lexer::new(text).parse(alloc, &mut 0)? else {
+        return Ok(String::new(alloc));
+    };
+    let kind = name(token.kind);
+    let source = token.src(text);
+    let shown = match token.kind {
+        TokenKind::Keyword => format!(in alloc; "{kind} {source:?} {:?}", token.keyword(text))?,
+        TokenKind::Reserved => format!(in alloc; "{kind} {source:?} {:?}", token.reserved(text))?,
+        _ => format!(in alloc; "{kind} {source:?}")?,
+    };
+    Ok(shown)
+}
+
+/// What stands at a byte of a text.
+fn scan(alloc: Global, text: &str, at: usize) -> Result<String, AllocError> {
+    let text = short(text);
+    if !text.is_char_boundary(at) {
+        return String::from_str(alloc, "no such byte");
+    }
+    match Lexer::new(text).scan(at) {
+        Ok(Some(token)) => shown(alloc, token),
+        Ok(None) => String::from_str(alloc, "end"),
+        Err(fault) => format!(in alloc; "{:?} at {}", fault.error, fault.offset),
+    }
+}
+
+/// The annotation that stands at a byte of a text.
+fn annotation(alloc: Global, text: &str, at: usize) -> Result<String, Error> {
+    let found = Lexer::new(short(text)).annotation(alloc, at)?;
+    Ok(match found {
+        Some(token) => shown(alloc, token)?,
+        None => String::from_str(alloc, "none")?,
+    })
+}
+
+/// The value of the word that stands at a byte of a text.
+fn read(alloc: Global, text: &str, at: usize, settings: Settings) -> Result<String, Error> {
+    let text = short(text);
+    if !text.is_char_boundary(at) {
+        return Ok(String::from_str(alloc, "no such byte")?);
+    }
+    let mut lexer = Lexer::new(text);
+    lexer.allow_confusing_unicode(settings.allow);
+    let mut pos = at;
+    let Some(token) = lexer.parse(alloc, &mut pos)? else {
+        return Ok(String::new(alloc));
+    };
+    let shown = match token.kind {
+        TokenKind::String => format!(in alloc; "String {:?}", token.string(alloc, text)?)?,
+        TokenKind::Id => format!(in alloc; "Id {:?}", token.id(alloc, text)?)?,
+        TokenKind::Annotation => {
+            format!(in alloc; "Annotation {:?}", token.annotation(alloc, text)?)?
+        }
+        TokenKind::Integer(kind) => {
+            let integer = token.integer(alloc, text, kind)?;
+            let (digits, base) = integer.val();
+            format!(in alloc; "Integer {:?} {digits:?} base {base}", integer.sign())?
+        }
+        TokenKind::Float(kind) => format!(in alloc; "Float {:?}", token.float(alloc, text, kind)?)?,
+        other => format!(in alloc; "{} without a value", name(other))?,
+    };
+    Ok(shown)
+}
+
+/// What a call answers; None where none of these is asked.
+pub fn answer(alloc: Global, row: &Row<'_>) -> Result<Option<String>, Error> {
+    let text = row.text.as_str();
+    let answer = match row.call {
+        "tokens" => tokens(alloc, row, PLAIN)?,
+        "tokens-allowing" => tokens(alloc, row, ALLOWING)?,
+        "tokens-strict" => tokens(alloc, row, STRICT)?,
+        "fault" => fault(alloc, text, PLAIN)?,
+        "fault-allowing" => fault(alloc, text, ALLOWING)?,
+        "first" => first(alloc, text)?,
+        "scan" => scan(alloc, text, row.at())?,
+        "annotation" => annotation(alloc, text, row.at())?,
+        "read" => read(alloc, text, row.at(), PLAIN)?,
+        "read-allowing" => read(alloc, text, row.at(), ALLOWING)?,
+        _ => return Ok(None),
+    };
+    Ok(Some(answer))
+}

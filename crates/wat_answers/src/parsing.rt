@@ -1,0 +1,133 @@
+//! Calls of a parser, and of the cursor at the start of a text.
+use crate::cursors::{annotation, comment, id, seen, taken};
+use crate::replaying::replies;
+use crate::row::Row;
+use crate::tokens::{short, write_comma, write_token};
+use std::alloc::{AllocError, Global};
+use wat_lex::error::Error;
+use wat_lex::lexer::{Lexer, Token, TokenKind};
+use wat_lexer_parser::laws;
+use wat_lexer_parser::parser::{ParseBuffer, Parser};
+use wat_lexer_parser::token::{LParen, RParen};
+
+/// Takes the token that is shown; None at the end.
+fn take(parser: &mut Parser<'_>) -> Result<Option<Token>, Error> {
+    parser.step(|cursor| match cursor.any()? {
+        Some((token, next)) => Ok((Some(token), next)),
+        None => Ok((None, cursor)),
+    })
+}
+
+/// The tokens that are shown where a name is registered or none, and the fault behind them.
+fn shown(alloc: Global, row: &Row<'_>, buffer: &ParseBuffer<'_>) -> Result<String, Error> {
+    let mut parser = buffer.parser();
+    if !row.with.is_empty() {
+        parser.register_annotation(row.with)?;
+    }
+    let mut shown = String::new(alloc);
+    for _ in 0..=row.text.len() {
+        match take(&mut parser) {
+            Ok(Some(token)) => write_token(&mut shown, token)?,
+            Ok(None) => return Ok(shown),
+            Err(error) => {
+                write_comma(&mut shown)?;
+                shown.push_str(&row.refusals.shown(alloc, &error)?)?;
+                return Ok(shown);
+            }
+        }
+    }
+    Ok(String::from_str(alloc, "no end")?)
+}
+
+/// The raw tokens, and the fault behind them.
+fn raw(alloc: Global, buffer: &ParseBuffer<'_>) -> Result<String, AllocError> {
+    let mut shown = String::new(alloc);
+    for token in buffer.raw().iter() {
+        write_token(&mut shown, *token)?;
+    }
+    if let Some(fault) = buffer.lex_fault() {
+        write_comma(&mut shown)?;
+        write!(shown, "{:?} at {}", fault.error, fault.offset)?;
+    }
+    Ok(shown)
+}
+
+/// The text with spaces over the raw token of this number, which has to be a comment.
+fn blanked(alloc: Global, row: &Row<'_>) -> Result<String, Error> {
+    let text = short(&row.text);
+    let mut lexer = Lexer::new(text);
+    lexer.allow_confusing_unicode(true);
+    let buffer = ParseBuffer::new_with_lexer(alloc, lexer)?;
+    let raw = buffer.raw();
+    let number = row.at();
+    if number < raw.len() {
+        let token = raw[number];
+        if let TokenKind::LineComment | TokenKind::BlockComment = token.kind {
+            return Ok(laws::blanked(alloc, text, &token)?);
+        }
+    }
+    Ok(String::from_str(alloc, "no comment")?)
+}
+
+/// Whether a peek sees what it looks for; None of a fault.
+fn sight(peek: Result<bool, Error>) -> Result<Option<bool>, Error> {
+    match peek {
+        Ok(is_seen) => Ok(Some(is_seen)),
+        Err(error) if error.is_out_of_memory() => Err(error),
+        Err(_) => Ok(None),
+    }
+}
+
+/// Which parenthesis two peeks see.
+fn side(left: Result<bool, Error>, right: Result<bool, Error>) -> Result<&'static str, Error> {
+    Ok(match (sight(left)?, sight(right)?) {
+        (Some(true), Some(false)) => "left",
+        (Some(false), Some(true)) => "right",
+        (Some(false), Some(false)) => "none",
+        (None, None) => "fault",
+        _ => "unclear",
+    })
+}
+
+/// Which parentheses are the first three tokens.
+fn peeks(alloc: Global, parser: &Parser<'_>) -> Result<String, Error> {
+    let first = side(parser.peek::<LParen>(), parser.peek::<RParen>())?;
+    let second = side(parser.peek2::<LParen>(), parser.peek2::<RParen>())?;
+    let third = side(parser.peek3::<LParen>(), parser.peek3::<RParen>())?;
+    Ok(format!(in alloc; "{first}, {second}, {third}")?)
+}
+
+/// What a call of the cursor answers; None where none of these is asked.
+fn at_cursor(alloc: Global, call: &str, parser: &mut Parser<'_>) -> Result<Option<String>, Error> {
+    let answer = match call {
+        "seen" => parser.step(|cursor| Ok((seen(alloc, cursor), cursor)))??,
+        "taken" => parser.step(|cursor| Ok((taken(alloc, cursor), cursor)))??,
+        "id" => parser.step(|cursor| Ok((id(alloc, cursor), cursor)))??,
+        "annotation-shown" => parser.step(|cursor| Ok((annotation(alloc, cursor), cursor)))??,
+        "comment" => parser.step(|cursor| Ok((comment(alloc, cursor), cursor)))??,
+        _ => return Ok(None),
+    };
+    Ok(Some(answer))
+}
+
+/// What a call answers; None where none of these is asked.
+pub fn answer(alloc: Global, row: &Row<'_>) -> Result<Option<String>, Error> {
+    let mut lexer = Lexer::new(short(&row.text));
+    lexer.allow_confusing_unicode(row.call == "shown-allowing");
+    let buffer = ParseBuffer::new_with_lexer(alloc, lexer)?;
+    let mut parser = buffer.parser();
+    let answer = match row.call {
+        "shown" | "shown-allowing" => shown(alloc, row, &buffer)?,
+        "raw" => raw(alloc, &buffer)?,
+        "blanked" => blanked(alloc, row)?,
+        "replay" => replies(alloc, &buffer, row.with)?,
+        "peeks" => peeks(alloc, &parser)?,
+        "end" => {
+            let offset = parser.cur_span().offset();
+            format!(in alloc; "{} at {offset}", parser.is_empty())?
+        }
+        "meaning" => format!(in alloc; "{}", parser.has_meaningful_tokens())?,
+        call => return at_cursor(alloc, call, &mut parser),
+    };
+    Ok(Some(answer))
+}
