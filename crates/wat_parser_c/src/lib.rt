@@ -19,9 +19,9 @@ mod laws;
 pub mod messages;
 pub mod numbers;
 mod readings;
-pub mod words;
 #[cfg(test)]
 mod tests;
+pub mod words;
 
 use answers::Answer;
 use given::{give_fault, give_float, give_integer, give_name, give_name_fault, give_string};
