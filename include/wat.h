@@ -21,6 +21,8 @@
  *      one of them. Nobody writes to them during the call.
  *   8. `malloc`, `realloc` and `free` are of one allocator, and align a block to each power of two up to 16 that divides its size. No
  *      function is called from a signal handler, or from the forked child of a process with threads.
+ *   8. `row` points to a row that tells a token of this text, neither white space nor a comment: its offset, its length and its kind as
+ *      they were found there, under whichever flags. It is not null, and nobody writes to it during the call. No function reads its link.
  *
  * The functions keep nothing between calls, so that threads may call them at the same time.
  *
@@ -63,7 +65,7 @@ enum wat_kind_code {
     WAT_NAN = 13,          /* `nan` */
     WAT_NAN_PAYLOAD = 14,  /* `nan:0x` and a payload */
     WAT_FLOAT = 15,        /* digits with a fraction, an exponent, or both */
-    WAT_OPENS_AT = 16      /* `(` with `@` directly behind it, in rows of `wat_rows` alone */
+    WAT_OPENS_AT = 16      /* of rows alone: `(` with `@` directly behind it, which is 4 elsewhere */
 };
 
 /* Signs of numbers. */
@@ -110,11 +112,11 @@ enum wat_stop { WAT_END = 0, WAT_FULL = 1 };
 /* Whether a reader found something, where it is no fault of a name. */
 enum wat_status {
     WAT_GIVEN = 0,
-    WAT_OTHER = 1,     /* no such token, or no fault, stands at the place */
-    WAT_NO_MEMORY = 2, /* a request for memory was refused */
-    WAT_ABSENT = 3,    /* the number has no such part, the name no fault, or there is no comment */
-    WAT_ESCAPED = 4,   /* an escape stands in the word, so that its value does not stand in the text */
-    WAT_OUT_OF_RANGE = 5 /* the integer has no such value */
+    WAT_OTHER = 1,       /* no such token, or no fault, stands at the place */
+    WAT_NO_MEMORY = 2,   /* a request for memory was refused */
+    WAT_ABSENT = 3,      /* the number has no such part, or the name no fault, or no comment stands there */
+    WAT_ESCAPED = 4,     /* an escape stands in the word, so that its value does not */
+    WAT_OUT_OF_RANGE = 5 /* the integer is not in so many bits */
 };
 
 /* What a look finds. */
@@ -150,6 +152,27 @@ struct wat_token {
     struct wat_kind kind;
 };
 
+/* A token that counts, which is neither white space nor a comment. */
+struct wat_row {
+    uint32_t offset;
+    uint32_t len;
+    struct wat_kind kind; /* as in `wat_token`, but for `WAT_OPENS_AT` */
+    uint32_t link; /* by `wat_links`: one more than the number of the row that closes the group which is open behind this row, or 0 where none does */
+};
+
+/* Where something stands in a text. */
+struct wat_word {
+    uint32_t start;
+    uint32_t len;
+    uint32_t status; /* a `wat_status`, or the `wat_fault_code` of a name or of the text; start and length are 0 where it is not `WAT_GIVEN` */
+};
+
+/* An integer of so many bits. */
+struct wat_number {
+    uint64_t value;  /* its two's complement, which is below 2 to the number of bits */
+    uint32_t status; /* a `wat_status`; the value is 0 where it is not `WAT_GIVEN` */
+};
+
 /* What stands at a place. */
 struct wat_found {
     struct wat_token token; /* otherwise kind and length are 0, and the offset is that of the text's end or of the fault */
@@ -177,31 +200,10 @@ struct wat_position {
     size_t column; /* bytes before it in its line */
 };
 
-/* A token that counts, which is no white space and no comment: `len` bytes of the text from `offset` on. */
-struct wat_row {
-    uint32_t offset;
-    uint32_t len;
-    struct wat_kind kind;
-    uint32_t link; /* by `wat_links`: one more than the number of the row that closes the group which is open behind this row, or 0 where none does */
-};
-
 /* What a look finds, a `wat_look_status`: the row that is shown, the `(` that nothing closes, the annotation whose name is wrong; otherwise how
  * many rows there are. */
 struct wat_look {
     uint32_t row;
-    uint32_t status;
-};
-
-/* Where something stands in the text, and whether, a `wat_status` or a fault's number; start and length are 0 where it is not `WAT_GIVEN`. */
-struct wat_word {
-    uint32_t start;
-    uint32_t len;
-    uint32_t status;
-};
-
-/* An integer's value as two's complement, and whether it has one, a `wat_status`; 0 where it is not `WAT_GIVEN`. */
-struct wat_number {
-    uint64_t value;
     uint32_t status;
 };
 
@@ -245,6 +247,31 @@ struct wat_answer wat_integer(const uint8_t *text, size_t len, size_t pos, bool 
  * stand in the number, or it is hexadecimal and no payload. */
 struct wat_answer wat_float(const uint8_t *text, size_t len, size_t pos, bool allow, bool strict, uint32_t part, uint8_t *out, size_t room);
 
+/* Where the value of a row's word stands in the text as it is: of a string the bytes between its quotes, of an identifier or annotation its name,
+ * without `$` or `@` and without quotes. `WAT_ESCAPED` where an escape stands in the string or in the quoted name, `WAT_EMPTY_ID` or
+ * `WAT_EMPTY_ANNOTATION` where the name is empty, `WAT_OTHER` where the row is no such token. It takes no memory. */
+struct wat_word wat_word(const uint8_t *text, size_t len, const struct wat_row *row);
+
+/* As `wat_string`, `wat_name`, `wat_integer` and `wat_float` answer of the place, of the row's token, which is not scanned again. `wat_digits_of`
+ * takes no memory; the others ask for it where those do. */
+struct wat_answer wat_string_of(const uint8_t *text, size_t len, const struct wat_row *row, uint8_t *out, size_t room);
+struct wat_answer wat_name_of(const uint8_t *text, size_t len, const struct wat_row *row, uint8_t *out, size_t room);
+struct wat_answer wat_digits_of(const uint8_t *text, size_t len, const struct wat_row *row, uint8_t *out, size_t room);
+struct wat_answer wat_float_of(const uint8_t *text, size_t len, const struct wat_row *row, uint32_t part, uint8_t *out, size_t room);
+
+/* The value of an integer's row in 8, 16, 32 or 64 bits. Without a sign it is below 2 to the number of bits, and no `-` stands before it, not even
+ * before 0. With a sign it is so too, or `-` and at most half as many. `WAT_OUT_OF_RANGE` for others, and for another number of bits;
+ * `WAT_OTHER` where the row is no integer. It takes no memory. */
+struct wat_number wat_integer_of(const uint8_t *text, size_t len, const struct wat_row *row, uint32_t bits, bool is_signed);
+
+/* The comment at a place: where it stands, all of its token, past white space. `WAT_ABSENT` where another token or the text's end stands there,
+ * or the text's fault there. It takes no memory. */
+struct wat_word wat_comment(const uint8_t *text, size_t len, size_t pos, bool allow, bool strict);
+
+/* The message of a fault, by the numbers of `wat_found`: its own, the character that it found, and the one that is needed. `WAT_OTHER` where no
+ * fault has the number, or it speaks of a character and that is none. It takes no memory. */
+struct wat_answer wat_message(uint32_t fault, uint32_t found, uint32_t wanted, uint8_t *out, size_t room);
+
 /* Line and column of a byte of the text, whether it is a place or not; the column is the bytes before it in its line. Past the text's end the
  * line is the number of lines, and the column is 0. */
 struct wat_position wat_line_column(const uint8_t *text, size_t len, size_t offset);
@@ -265,30 +292,10 @@ struct wat_look wat_shown(const uint8_t *text, size_t len, const struct wat_row 
 /* The byte at which a parser stands that has taken the first `place` of the rows, of which there are as many: where the last of them ends, or 0. */
 size_t wat_behind(const struct wat_row *rows, size_t count, size_t place);
 
-/* The comment at a place of the text, past white space; `WAT_ABSENT` where there is none, or the number of the fault there. It takes no memory. */
-struct wat_word wat_comment(const uint8_t *text, size_t len, size_t pos, bool allow, bool strict);
-
-/* Where the value of a string, or the name of an identifier or annotation, stands in the text as it is; `WAT_ESCAPED` where an escape stands in
- * it, or the fault's number of an empty name. It takes no memory. */
-struct wat_word wat_word(const uint8_t *text, size_t len, const struct wat_row *row);
-
-/* As `wat_string`, `wat_name`, `wat_integer` and `wat_float`, of a row in place of a place, so that nothing is scanned again. */
-struct wat_answer wat_string_of(const uint8_t *text, size_t len, const struct wat_row *row, uint8_t *out, size_t room);
-struct wat_answer wat_name_of(const uint8_t *text, size_t len, const struct wat_row *row, uint8_t *out, size_t room);
-struct wat_answer wat_digits_of(const uint8_t *text, size_t len, const struct wat_row *row, uint8_t *out, size_t room);
-struct wat_answer wat_float_of(const uint8_t *text, size_t len, const struct wat_row *row, uint32_t part, uint8_t *out, size_t room);
-
-/* The value of the integer of a row as one of 8, 16, 32 or 64 bits. With a sign it takes what fits without one too, below the power of two, as the
- * text format does; without a sign it takes no `-` at all. It takes no memory. */
-struct wat_number wat_integer_of(const uint8_t *text, size_t len, const struct wat_row *row, uint32_t bits, bool is_signed);
-
 /* What an error prints whose message is given, at a byte of the text, with the name of a file or, where that is empty, `<anon>`: as `wat_fault`
  * prints a fault. Want of memory only where there is a name. */
 struct wat_answer wat_print(const uint8_t *text, size_t len, size_t offset, const uint8_t *message, size_t message_len, const uint8_t *file,
                             size_t file_len, uint8_t *out, size_t room);
-
-/* The message of a fault, by the three numbers of `wat_found`; `WAT_OTHER` where they are no fault. It takes no memory. */
-struct wat_answer wat_message(uint32_t fault, uint32_t found, uint32_t wanted, uint8_t *out, size_t room);
 
 #ifdef __cplusplus
 }

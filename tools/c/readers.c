@@ -4,6 +4,7 @@
  * usage: readers MUTANTS FILE.. */
 #include "wat.h"
 
+#include <errno.h>
 #include <stdio.h>
 #include <stdlib.h>
 #include <string.h>
@@ -59,6 +60,142 @@ static struct wat_answer read_by(unsigned reader, struct setting s, size_t pos, 
     default:
         return wat_float(s.text, s.len, pos, s.allow, s.strict, reader - 5, out, room);
     }
+}
+
+/* The row of a token that counts. */
+static struct wat_row row_of(struct setting s, struct wat_token token) {
+    struct wat_row row = {0, 0, {0, 0, false, false}, 0};
+    row.offset = (uint32_t)token.offset;
+    row.len = token.len;
+    row.kind = token.kind;
+    if (token.kind.code == WAT_LPAREN && token.offset + 1 < s.len && s.text[token.offset + 1] == '@') {
+        row.kind.code = WAT_OPENS_AT;
+    }
+    return row;
+}
+
+/* The readers from 1 on, but for that of a name's fault, by row. */
+static struct wat_answer read_row(unsigned reader, struct setting s, const struct wat_row *row, uint8_t *out, size_t room) {
+    switch (reader) {
+    case 1:
+        return wat_string_of(s.text, s.len, row, out, room);
+    case 2:
+        return wat_name_of(s.text, s.len, row, out, room);
+    case 4:
+        return wat_digits_of(s.text, s.len, row, out, room);
+    default:
+        return wat_float_of(s.text, s.len, row, reader - 5, out, room);
+    }
+}
+
+/* What a reader answers by row is what it answers at the place. */
+static void compare_readers(unsigned reader, struct setting s, const struct wat_row *row) {
+    uint8_t none = 0;
+    struct wat_answer told = read_by(reader, s, row->offset, &none, 0);
+    uint8_t *at_place = room_of(told.needed), *by_row = room_of(told.needed);
+    struct wat_answer given = read_row(reader, s, row, by_row, told.needed);
+    read_by(reader, s, row->offset, at_place, told.needed);
+    expect(given.needed == told.needed && given.status == told.status, "a reader answers otherwise by row", row->offset);
+    expect(memcmp(at_place, by_row, told.needed) == 0, "a reader gives other bytes by row", row->offset);
+    free(at_place);
+    free(by_row);
+}
+
+/* Where a value stands is what the readers give, where no escape stands in it. */
+static void compare_word(struct setting s, const struct wat_row *row) {
+    unsigned reader = row->kind.code == WAT_STRING ? 1 : 2;
+    struct wat_word word = wat_word(s.text, s.len, row);
+    uint8_t *value = room_of(row->len);
+    struct wat_answer given = read_row(reader, s, row, value, row->len);
+    switch (word.status) {
+    case WAT_GIVEN:
+        expect(word.start > row->offset && word.len < row->len, "a word stands outside of its token", row->offset);
+        expect(given.status == WAT_GIVEN && given.needed == word.len, "a word has another length", row->offset);
+        expect(memcmp(value, s.text + word.start, word.len) == 0, "a word is no value", row->offset);
+        break;
+    case WAT_ESCAPED:
+        expect(memchr(s.text + row->offset, '\\', row->len) != NULL, "no escape stands in a word", row->offset);
+        break;
+    default:
+        expect(given.status == word.status, "a word has another fault", row->offset);
+    }
+    expect(word.status == WAT_GIVEN || (word.start == 0 && word.len == 0), "a place without a word", row->offset);
+    free(value);
+}
+
+/* An integer's values, by its digits in words of C. */
+static void compare_integer(struct setting s, const struct wat_row *row) {
+    static const uint32_t widths[] = {8, 16, 32, 64, 0, 7, 65};
+    char digits[80] = "";
+    struct wat_answer given = wat_digits_of(s.text, s.len, row, (uint8_t *)digits, sizeof digits - 1);
+    bool minus = row->kind.sign == WAT_MINUS, small;
+    unsigned long long most;
+    unsigned turn;
+    if (given.status != WAT_GIVEN || given.needed >= sizeof digits) {
+        return;
+    }
+    errno = 0;
+    most = strtoull(digits + (minus ? 1 : 0), NULL, row->kind.hex ? 16 : 10);
+    small = errno == 0;
+    for (turn = 0; turn < 2 * sizeof widths / sizeof *widths; turn++) {
+        uint32_t bits = widths[turn / 2];
+        bool is_signed = turn % 2 == 1, known = bits == 8 || bits == 16 || bits == 32 || bits == 64;
+        uint64_t all = known ? UINT64_MAX >> (64 - bits) : 0;
+        struct wat_number number = wat_integer_of(s.text, s.len, row, bits, is_signed);
+        bool fits = known && small && (minus ? is_signed && most <= all / 2 + 1 : most <= all);
+        expect(number.status == (fits ? WAT_GIVEN : WAT_OUT_OF_RANGE), "a range is another", row->offset);
+        expect(number.value == (!fits ? 0 : minus ? (0 - (uint64_t)most) & all : (uint64_t)most), "an integer is another", row->offset);
+    }
+}
+
+/* A row of a token, by every function. */
+static void look_by_row(struct setting s, struct wat_found found) {
+    struct wat_row row = row_of(s, found.token);
+    uint8_t code = found.token.kind.code, none = 0;
+    unsigned reader;
+    for (reader = 1; reader < READERS; reader++) {
+        if (reader != 3) {
+            compare_readers(reader, s, &row);
+        }
+    }
+    if (code == WAT_STRING || code == WAT_ID || code == WAT_ANNOTATION) {
+        compare_word(s, &row);
+    } else {
+        expect(wat_word(s.text, s.len, &row).status == WAT_OTHER, "a token without a value has one", row.offset);
+    }
+    if (code == WAT_INTEGER) {
+        compare_integer(s, &row);
+    } else {
+        expect(wat_integer_of(s.text, s.len, &row, 32, true).status == WAT_OTHER, "another token is an integer", row.offset);
+        expect(wat_digits_of(s.text, s.len, &row, &none, 0).status == WAT_OTHER, "another token has digits", row.offset);
+    }
+}
+
+/* The comment at a place is what stands there, or behind white space. */
+static void look_for_comment(struct setting s, size_t pos, struct wat_found found) {
+    struct wat_word word = wat_comment(s.text, s.len, pos, s.allow, s.strict);
+    if (found.token.kind.code == WAT_WHITESPACE) {
+        found = wat_scan(s.text, s.len, pos + found.token.len, s.allow, s.strict);
+    }
+    if (found.token.kind.code == WAT_LINE_COMMENT || found.token.kind.code == WAT_BLOCK_COMMENT) {
+        expect(word.status == WAT_GIVEN && word.start == found.token.offset && word.len == found.token.len, "a comment is another", pos);
+    } else {
+        expect(word.status == (found.fault == WAT_NO_FAULT ? (uint32_t)WAT_ABSENT : found.fault), "a comment where none stands", pos);
+    }
+}
+
+/* What a fault prints begins with its message. */
+static void read_message(struct setting s, size_t pos, struct wat_found found) {
+    uint8_t none = 0;
+    struct wat_answer told = wat_message(found.fault, found.found, found.wanted, &none, 0);
+    struct wat_answer shown = wat_fault(s.text, s.len, pos, s.allow, s.strict, &none, 0);
+    uint8_t *message = room_of(told.needed), *whole = room_of(shown.needed);
+    wat_message(found.fault, found.found, found.wanted, message, told.needed);
+    wat_fault(s.text, s.len, pos, s.allow, s.strict, whole, shown.needed);
+    expect(told.status == WAT_GIVEN && told.needed > 0 && told.needed < shown.needed, "a fault has no message", pos);
+    expect(told.needed < shown.needed && memcmp(message, whole, told.needed) == 0, "a message is another", pos);
+    free(message);
+    free(whole);
 }
 
 /* Whether the reader reads what stands there; all others answer WAT_OTHER. */
@@ -122,6 +259,12 @@ static struct wat_found look(struct setting s, size_t pos) {
         } else {
             expect(read_by(reader, s, pos, &none, 0).status == WAT_OTHER, "another reader reads a token", pos);
         }
+    }
+    look_for_comment(s, pos, found);
+    if (found.fault != WAT_NO_FAULT) {
+        read_message(s, pos, found);
+    } else if (found.token.kind.code > WAT_WHITESPACE) {
+        look_by_row(s, found);
     }
     return found;
 }

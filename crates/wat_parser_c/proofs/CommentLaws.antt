@@ -1,6 +1,6 @@
 -- The comment at a place is one thing, and the one that a parser finds there.
 use Rattle.std.proofs.Common.{◌≡◌, ◌≤◌, ◌+◌, ℕ, zero, suc, List, [], ◌∷◌, length, drop, refl, ap, sym, ◌∙◌, subst, arith, inl, inr, Bool, true, false}
-use Rattle.std.specs.Prelude.{Option, Some, None, Result, Ok, Err, IfOk, IfSome, if◌then◌else◌}
+use Rattle.std.specs.Prelude.{Option, Some, None, Ok, Err, IfOk, IfSome, if◌then◌else◌}
 use Rattle.std.proofs.lemmas.Bool.{both_ways, cases_Bool}
 use Rattle.wat_lex.specs.tokens.EverySetting.{OneThingStands}
 use Rattle.wat_lex.specs.tokens.Setting.{Setting}
@@ -11,7 +11,6 @@ use Rattle.wat_lex.specs.declared.lexer.kinds.Token.{Token}
 use Rattle.wat_lexer_parser.specs.groups.Sorts.{is_space, is_comment}
 use Rattle.wat_lexer_parser.specs.places.Places.{offset_at, past_space, comment_in, comment_at}
 use Rattle.wat_lexer_parser.specs.places.Source.{Source, IsRead}
-use Rattle.wat_lexer_parser.specs.shown.Shown.{Finding, ended}
 use Rattle.wat_lexer_parser.specs.shown.Showing.{placed}
 use Rattle.wat_parser_c.specs.CommentPlaces.{StandsPast, here, behind, TellsComment, comment_told, look_told, IsParsersComment, CommentsAreOne, CommentsAreParsers}
 use Rattle.wat_parser_c.specs.Words.{no_word}

@@ -1,24 +1,22 @@
 -- The words of integers' rows: their bytes are their characters, and the row tells what stands before their digits.
-use Rattle.std.proofs.Common.{◌≡◌, ◌≢◌, ◌<◌, ◌≤◌, ◌+◌, ◌-◌, ◌⊎◌, ℕ, zero, suc, List, [], ◌∷◌, ◌++◌, length, take, drop, refl, ap, sym, ◌∙◌, subst, arith, inl, inr, Bool, true, false, cond, length-append}
+use Rattle.std.proofs.Common.{◌≡◌, ◌<◌, ◌+◌, ◌-◌, ℕ, zero, suc, List, [], ◌∷◌, ◌++◌, length, take, drop, refl, ap, sym, ◌∙◌, subst, arith, inl, inr, Bool, true, false, cond}
 use Rattle.std.specs.Prelude.{◌==◌, ◌&&◌, ◌||◌, nat_le, if◌then◌else◌, Option, Some, None, MatchOption}
 use Rattle.std.specs.Option.{option_map}
-use Rattle.std.specs.Str.{chars, IsUtf8, IsAscii, IsCharBoundary}
+use Rattle.std.specs.Str.{IsUtf8, IsAscii}
 use Rattle.std.proofs.lemmas.Bool.{cases_Bool, eqb-true, or_cases}
 use Rattle.std.proofs.lemmas.Bool.Decides.{nat_tests}
 use Rattle.std.proofs.lemmas.List.{take_at, drop-drop, drop-take, length-drop}
 use Rattle.std.proofs.lemmas.Str.{encodes-chars, encodes-append, encodes-IsAscii, IsUtf8-drop}
-use lib.Utf8.{encode, encodes}
-use Rattle.wat_lex.specs.grammar.Numbers.{Number, Digits, last, next, parted, IntegralPart, decimal, hexadecimal, is_digit, unsigned, is_negative, sign_of, sign_token}
-use Rattle.wat_lex.specs.grammar.Runs.{Piece, Idchar, Quoted, Run, none, idchar, string, idchars, RunKind, RunWord, WordKind, named_kind, kind_by_first}
+use lib.Utf8.{encodes}
+use Rattle.wat_lex.specs.grammar.Numbers.{Number, Digits, last, next, parted, IntegralPart, decimal, hexadecimal, is_digit, unsigned, sign_of, sign_token}
+use Rattle.wat_lex.specs.grammar.Runs.{Piece, Idchar, Quoted, Run, none, idchar, string, idchars, RunKind, RunWord, WordKind}
 use Rattle.wat_lex.specs.grammar.Words.{Word}
 use Rattle.wat_lex.specs.tokens.EverySetting.{TokensAreReadable, WordsOfTokens}
-use Rattle.wat_lex.specs.tokens.ReadableTokens.{IsTokenOf, token_text, word_of}
+use Rattle.wat_lex.specs.tokens.ReadableTokens.{IsTokenOf, word_of}
 use Rattle.wat_lex.specs.tokens.Setting.{lenient}
 use Rattle.wat_lex.specs.values.NumberValues.{behind_prefix}
 use Rattle.wat_lex.specs.declared.lexer.kinds.IntegerKind.{IntegerKind}
-use Rattle.wat_lex.specs.declared.lexer.kinds.Sign.{Sign}
 use Rattle.wat_lex.specs.declared.lexer.kinds.Sign.TheVariants as sign
-use Rattle.wat_lex.specs.declared.lexer.kinds.TokenKind.{TokenKind}
 use Rattle.wat_lex.specs.declared.lexer.kinds.TokenKind.TheVariants.{Id, Keyword, Annotation, Reserved, String, Integer}
 use Rattle.wat_rows.specs.Counting.{IsRow, kind_beside}
 use Rattle.wat_rows.specs.Rows.{sign_code}

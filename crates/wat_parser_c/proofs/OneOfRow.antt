@@ -1,6 +1,6 @@
 -- What a reader finds of a row is one thing, want of memory apart.
-use Rattle.std.proofs.Common.{◌≡◌, ◌≢◌, ◌⊎◌, ℕ, List, refl, sym, ◌∙◌, inl, inr}
-use Rattle.std.specs.Prelude.{Ok, Err, alloc_error}
+use Rattle.std.proofs.Common.{◌≡◌, ◌⊎◌, ℕ, List, refl, sym, ◌∙◌, inl, inr}
+use Rattle.std.specs.Prelude.{Ok, Err}
 use Rattle.wat_lex.specs.declared.lexer.kinds.Token.{Token}
 use Rattle.wat_lex.specs.declared.lexer.kinds.TokenKind.{TokenKind}
 use Rattle.wat_rows.specs.declared.counting.Row.{Row}

@@ -1,6 +1,6 @@
 -- What is told of where a value stands is one thing.
-use Rattle.std.proofs.Common.{◌≡◌, ◌≢◌, ◌+◌, ℕ, List, refl, ap, sym, ◌∙◌, arith, take, drop}
-use Rattle.std.specs.Prelude.{Ok, Err, alloc_error}
+use Rattle.std.proofs.Common.{◌≡◌, ℕ, List, sym, ◌∙◌, arith, take, drop}
+use Rattle.std.specs.Prelude.{Ok, Err}
 use Rattle.wat_lex.specs.tokens.EverySetting.{NamesAreOne}
 use Rattle.wat_lex.specs.values.UniqueValues.{OneValue}
 use Rattle.wat_lex.specs.values.WordValues.{empty_name}
@@ -8,8 +8,7 @@ use Rattle.wat_lex.specs.declared.lexer.kinds.Token.{Token}
 use Rattle.wat_lex.specs.declared.lexer.kinds.TokenKind.{TokenKind}
 use Rattle.wat_lex.specs.declared.lexer.kinds.TokenKind.TheVariants as kind
 use Rattle.wat_parser_c.specs.Words.{ReadsValue, AsItIs, TellsWord, given, escaped, nameless, other, OneWord}
-use Rattle.wat_parser_c.specs.declared.answers.Refusal.{Refusal}
-use Rattle.wat_parser_c.specs.declared.answers.Refusal.TheVariants.{Fault, Memory}
+use Rattle.wat_parser_c.specs.declared.answers.Refusal.TheVariants.{Fault}
 use Rattle.wat_parser_c.specs.declared.words.Word.{Word}
 use Rattle.wat_parser_c.proofs.OneFinding.{One, one_string, one_name}
 

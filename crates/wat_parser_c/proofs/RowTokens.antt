@@ -1,6 +1,6 @@
 -- The token that a row of a text tells, and that it may be read.
 use Rattle.std.proofs.Common.{◌≡◌, ◌≢◌, ◌<◌, ◌≤◌, ◌+◌, ◌⊎◌, ℕ, List, length, refl, ap, sym, ◌∙◌, subst, arith, inl, inr, Bool, true, false}
-use Rattle.std.specs.Prelude.{◌==◌, if◌then◌else◌, Option, Some, None}
+use Rattle.std.specs.Prelude.{◌==◌, if◌then◌else◌}
 use Rattle.std.specs.Str.{IsUtf8, IsCharBoundary}
 use Rattle.wat_lex.specs.grammar.Numbers.{sign_token}
 use Rattle.wat_lex.specs.tokens.EverySetting.{TokensAreReadable, TokensEndAtBoundaries}
@@ -8,14 +8,13 @@ use Rattle.wat_lex.specs.tokens.ReadableTokens.{IsTokenOf}
 use Rattle.wat_lex.specs.values.KindNumbers.{kind_number}
 use Rattle.wat_lex.specs.declared.lexer.kinds.FloatKind.{FloatKind}
 use Rattle.wat_lex.specs.declared.lexer.kinds.FloatKind.TheVariants.{Inf, Nan, NanVal, Normal}
-use Rattle.wat_lex.specs.declared.lexer.kinds.IntegerKind.{IntegerKind}
 use Rattle.wat_lex.specs.declared.lexer.kinds.Sign.{Sign}
 use Rattle.wat_lex.specs.declared.lexer.kinds.Sign.TheVariants as sign
 use Rattle.wat_lex.specs.declared.lexer.kinds.Token.{Token}
 use Rattle.wat_lex.specs.declared.lexer.kinds.TokenKind.{TokenKind}
 use Rattle.wat_lex.specs.declared.lexer.kinds.TokenKind.TheVariants as kind
 use Rattle.wat_lexer_parser.specs.groups.Sorts.{is_marked}
-use Rattle.wat_rows.specs.Counting.{IsRow, kind_beside, opens_at, row_of}
+use Rattle.wat_rows.specs.Counting.{IsRow, kind_beside, opens_at}
 use Rattle.wat_rows.specs.Rows.{kind_row, plain, sign_code, minus_code}
 use Rattle.wat_rows.specs.declared.counting.Row.{Row}
 use Rattle.wat_rows.specs.declared.rows.KindRow.{KindRow}

@@ -1,5 +1,5 @@
 -- Each fault is that of its numbers.
-use Rattle.std.proofs.Common.{◌≡◌, ℕ, refl, ap, true}
+use Rattle.std.proofs.Common.{◌≡◌, ℕ, refl, ap}
 use Rattle.std.specs.Prelude.{Some, None, if◌then◌else◌}
 use Rattle.std.specs.Option.{option_map}
 use Rattle.wat_lex.specs.declared.lexer.faults.LexError.{LexError}

@@ -1,24 +1,22 @@
 -- What is told of the word of a string or a name, and that it is one thing.
-use Rattle.std.proofs.Common.{◌≡◌, ◌≢◌, ◌<◌, ◌≤◌, ◌+◌, ◌-◌, ◌⊎◌, ℕ, zero, suc, List, [], ◌∷◌, ◌++◌, length, take, drop, refl, ap, sym, ◌∙◌, subst, arith, inl, inr, Bool, true, false, length-append}
-use Rattle.std.specs.Prelude.{◌==◌, if◌then◌else◌, Result, Ok, Err}
+use Rattle.std.proofs.Common.{◌≡◌, ◌≢◌, ◌<◌, ◌≤◌, ◌+◌, ◌-◌, ℕ, zero, suc, List, [], ◌∷◌, length, take, drop, refl, ap, sym, ◌∙◌, subst, arith, inl, inr, Bool, true, false, length-append}
+use Rattle.std.specs.Prelude.{if◌then◌else◌, Result, Ok, Err}
 use Rattle.std.specs.Str.{chars, IsUtf8}
 use Rattle.std.proofs.lemmas.List.{drop-take, take-take, drop-drop, nil_from_length}
 use Rattle.wat_lex.specs.grammar.Strings.{StringWord}
 use Rattle.wat_lex.specs.grammar.Words.{Word as Spells}
-use Rattle.wat_lex.specs.tokens.EverySetting.{NamesAreOne, NamesAreThere, IsNameWord}
-use Rattle.wat_lex.specs.tokens.ReadableTokens.{word_of}
+use Rattle.wat_lex.specs.tokens.EverySetting.{NamesAreThere, IsNameWord}
 use Rattle.wat_lex.specs.tokens.Setting.{lenient}
-use Rattle.wat_lex.specs.values.Names.{Name, NameFault, no_name, HasNone, HasNoEscape}
-use Rattle.wat_lex.specs.values.UniqueValues.{OneValue}
+use Rattle.wat_lex.specs.values.Names.{Name, no_name, HasNone, HasNoEscape}
 use Rattle.wat_lex.specs.values.WordValues.{empty_name}
 use Rattle.wat_lex.specs.declared.lexer.faults.LexError.TheVariants.{EmptyId}
 use Rattle.wat_lex.specs.declared.lexer.kinds.Token.{Token}
 use Rattle.wat_lex.specs.declared.lexer.kinds.TokenKind.{TokenKind}
-use Rattle.wat_lex.specs.declared.lexer.kinds.TokenKind.TheVariants.{String, Id, Annotation}
+use Rattle.wat_lex.specs.declared.lexer.kinds.TokenKind.TheVariants.{String}
 use Rattle.wat_lexer_parser.specs.parser.Takers.{contains}
 use Rattle.wat_rows.specs.Rows.{fault_code}
 use Rattle.wat_parser_c.specs.Readings.{IsNamed, ReadsName}
-use Rattle.wat_parser_c.specs.Words.{HasValue, ReadsValue, IsPlain, before, behind, AsItIs, no_word, TellsWord, given, escaped, nameless, other}
+use Rattle.wat_parser_c.specs.Words.{ReadsValue, IsPlain, before, behind, no_word, TellsWord, given, escaped, nameless}
 use Rattle.wat_parser_c.specs.declared.answers.Refusal.{Refusal}
 use Rattle.wat_parser_c.specs.declared.answers.Refusal.TheVariants.{Fault}
 use Rattle.wat_parser_c.specs.declared.words.Word.{Word}

@@ -1,6 +1,6 @@
 -- Where the values of strings and names stand in the bytes of their words.
-use Rattle.std.proofs.Common.{◌≡◌, ◌≢◌, ◌<◌, ◌≤◌, ◌+◌, ◌-◌, ◌⊎◌, ℕ, zero, suc, List, [], ◌∷◌, ◌++◌, length, take, drop, get_or, refl, ap, sym, ◌∙◌, subst, arith, inl, inr, Bool, true, false, cond, length-append}
-use Rattle.std.specs.Prelude.{◌==◌, ◌&&◌, ◌||◌, nat_le, Option, Some, None, MatchOption, IsTrue}
+use Rattle.std.proofs.Common.{◌≡◌, ◌≢◌, ◌<◌, ◌+◌, ◌-◌, ◌⊎◌, ℕ, suc, List, [], ◌∷◌, ◌++◌, length, take, drop, get_or, refl, ap, sym, ◌∙◌, subst, arith, inl, inr, Bool, true, false, cond, length-append}
+use Rattle.std.specs.Prelude.{◌==◌, ◌&&◌, ◌||◌, nat_le, Option, Some, None, MatchOption}
 use Rattle.std.specs.Option.{option_map}
 use Rattle.std.specs.Str.{chars, IsUtf8, IsCharBoundary}
 use Rattle.std.proofs.lemmas.Bool.{both_ways, eqb-true, ne_eqb, false≢true, cases_Bool}
@@ -10,8 +10,8 @@ use lib.Utf8.{encode, encodes}
 use Rattle.memchr.specs.Find.{IsFirstByte, is_byte}
 use Rattle.wat_lex.specs.grammar.Classes.{Each, is_idchar}
 use Rattle.wat_lex.specs.grammar.Numbers.{Number}
-use Rattle.wat_lex.specs.grammar.Runs.{Piece, Idchar, Quoted, Run, none, idchar, string, idchars, RunKind, RunWord, WordKind, named_kind, kind_by_first}
-use Rattle.wat_lex.specs.grammar.Strings.{Element, raw, letter, byte, unicode, Quoted as Elements, ends, more, StringWord, quoted}
+use Rattle.wat_lex.specs.grammar.Runs.{Piece, Idchar, Quoted, Run, idchar, idchars, RunKind, RunWord, WordKind}
+use Rattle.wat_lex.specs.grammar.Strings.{raw, letter, byte, unicode, Quoted as Elements, ends, more, StringWord, quoted}
 use Rattle.wat_lex.specs.grammar.Words.{Word}
 use Rattle.wat_lex.specs.tokens.Setting.{lenient}
 use Rattle.wat_lex.specs.values.Names.{Name, Named, bare, quoted as named_string, HasNone, HasNoEscape}
@@ -39,6 +39,7 @@ no_byte (c ∷ cs) h = (first, no_byte cs (λ i l e. h (length (encode c) + i) (
   where
     bytes : c ≡ 92 → encodes (c ∷ cs) ≡ 92 ∷ encodes cs
     bytes e = ap (λ x. encode x ++ encodes cs) e ∙ ap (λ x. x ++ encodes cs) (encode_ascii 92 (omega arith))
+
     first : (c == 92) ≡ false
     first = elim (cases_Bool (c == 92)) [
       | inl t ↦ absurd (let e = bytes (eqb-true c 92 t) in h 0 (omega (arith, ap length e)) (ap (λ x. get_or x 0 0 == 92) e))

@@ -1,6 +1,6 @@
 -- WebAssembly specification, text format, lexical format: tokens; values. What the readers find of the token that a row tells. A row is no
 -- part of the standard.
-use Rattle.std.specs.Prelude.{◌≡◌, ◌≢◌, ℕ, Bool, ◌==◌, List, Ok, Err, Result, if◌then◌else◌}
+use Rattle.std.specs.Prelude.{ℕ, Bool, ◌==◌, List, Err, Result, if◌then◌else◌}
 use Rattle.wat_lex.specs.declared.lexer.kinds.FloatKind.{FloatKind}
 use Rattle.wat_lex.specs.declared.lexer.kinds.FloatKind.TheVariants.{Inf, Nan, NanVal, Normal}
 use Rattle.wat_lex.specs.declared.lexer.kinds.Sign.{Sign}

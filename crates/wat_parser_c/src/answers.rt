@@ -2,9 +2,9 @@
 ghost use Rattle.std.specs.Prelude.{◌≡◌, length, Ok, Err};
 ghost use Rattle.wat_parser_c.specs.Answers.{answer_of, left_of, put, status_of};
 
-use wat_rows::rows::fault_code;
 use std::alloc::AllocError;
 use wat_lex::lexer::LexError;
+use wat_rows::rows::fault_code;
 
 /// Whether there was something to read, and how many bytes it has.
 #[repr(C)]

@@ -33,11 +33,7 @@ pub(crate) fn token_of(row: Row, kind: TokenKind) -> Token
 }
 
 /// The value of a string's row.
-pub fn string_of<'a>(
-    alloc: Global,
-    text: &'a str,
-    row: Row,
-) -> Result<CowSlice<'a, u8>, Refusal>
+pub fn string_of<'a>(alloc: Global, text: &'a str, row: Row) -> Result<CowSlice<'a, u8>, Refusal>
     requires { IsRow text.now row }
     ensures found { IfOk result (λ value.
         FindsOf IsString ReadsString text.now row (Ok (cow_slice_items value))) }
@@ -190,7 +186,13 @@ fn give_float(alloc: Global, text: &str, row: Row, part: u32, out: &mut [u8]) ->
 
 /// A part of the floating-point number of a row, by its number as in `wat_float`.
 #[unsafe(no_mangle)]
-pub extern "C" fn wat_float_of(alloc: Global, text: &[u8], row: &Row, part: u32, out: &mut [u8]) -> Answer
+pub extern "C" fn wat_float_of(
+    alloc: Global,
+    text: &[u8],
+    row: &Row,
+    part: u32,
+    out: &mut [u8],
+) -> Answer
     requires utf8 { IsUtf8 text.now }
     requires short { length text.now < 2 ^ 32 }
     requires told { IsRow text.now row.now }

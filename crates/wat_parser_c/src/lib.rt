@@ -20,10 +20,10 @@ pub mod looks;
 pub mod messages;
 pub mod numbers;
 mod readings;
-pub mod version;
-pub mod words;
 #[cfg(test)]
 mod tests;
+pub mod version;
+pub mod words;
 
 use answers::Answer;
 use given::{give_fault, give_float, give_integer, give_name, give_name_fault, give_string};

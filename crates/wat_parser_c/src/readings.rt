@@ -9,10 +9,10 @@ ghost use Rattle.wat_parser_c.specs.Readings.{ReadsString, ReadsName, ReadsInteg
 ghost use Rattle.wat_parser_c.specs.Readings.{FindsFault, ReadsNameFault, shown_fault};
 
 use crate::answers::Refusal;
-use wat_rows::rows::lexer_of;
 use std::alloc::{AllocError, Global};
 use std::borrow::{CowSlice, CowStr};
 use wat_lex::lexer::{Float, Integer, LexFault, Settings, TokenKind};
+use wat_rows::rows::lexer_of;
 
 impl From<AllocError> for Refusal {
     ghost use Rattle.wat_parser_c.specs.declared.answers.Refusal.TheVariants.{Memory};

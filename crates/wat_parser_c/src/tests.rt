@@ -1,5 +1,4 @@
 //! Each function of the library once, with answers from outside.
-use wat_rows::rows::KindRow;
 use crate::{
     Answer, Filled, Found, Position, TokenRow, wat_fault, wat_fill, wat_float, wat_integer,
     wat_is_place, wat_is_text, wat_line_column, wat_name, wat_name_fault, wat_scan, wat_string,
@@ -8,6 +7,7 @@ use crate::{
 use std::alloc::Global;
 use std::process::Abort;
 use std::test::Fail;
+use wat_rows::rows::KindRow;
 
 /// A reader of the library.
 #[derive(Clone, Copy)]

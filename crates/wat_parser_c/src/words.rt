@@ -110,9 +110,9 @@ fn name_within(row: Row, kind: TokenKind, before: u32, behind: u32) -> Word
     requires ends { row.offset + row.len < 2 ^ 32 }
     ensures empty { row.len ≡ before + behind → result ≡ no_word (fault_code (empty_name kind)) }
     ensures some { before + behind < row.len → result ≡ record {
-        start = row.offset + before;
-        len = row.len - before - behind;
-        status = 0;
+      start = row.offset + before;
+      len = row.len - before - behind;
+      status = 0;
     } }
 {
     let len = row.len - before - behind;

@@ -1,4 +1,4 @@
-use Rattle.std.proofs.Common.{sym, ◌∙◌, subst}
+use Rattle.std.proofs.Common.{sym, subst}
 use Rattle.wat_lex.specs.tokens.ReadableTokens.{IsTokenOf}
 use Rattle.wat_lex.specs.declared.lexer.kinds.TokenKind.TheVariants as kind
 use Rattle.wat_parser_c.proofs.RowTokens.{row_readable}

@@ -1,4 +1,4 @@
-use Rattle.std.proofs.Common.{sym, ◌∙◌, subst}
+use Rattle.std.proofs.Common.{sym, subst}
 use Rattle.wat_lex.specs.tokens.ReadableTokens.{IsTokenOf}
 use Rattle.wat_parser_c.proofs.RowTokens.{row_readable, name_by_code}
 use Rattle.wat_parser_c.proofs.by_row.name_of.Goals as goal

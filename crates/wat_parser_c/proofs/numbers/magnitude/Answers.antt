@@ -1,5 +1,5 @@
-use Rattle.std.proofs.Common.{◌≡◌, ◌∙◌, ◌≤◌, ◌^◌, ◌+◌, drop, ap, sym, subst, ℕ}
-use Rattle.std.specs.Prelude.{MatchOption, Option, None}
+use Rattle.std.proofs.Common.{◌≡◌, ◌∙◌, ◌≤◌, ◌^◌, ◌+◌, drop, sym, subst, ℕ}
+use Rattle.std.specs.Prelude.{MatchOption, Option}
 use Rattle.std.specs.Str.Parse.{digits_value, digits_value_after}
 use Rattle.wat_lex.specs.values.NumberValues.{base, joined}
 use Rattle.wat_parser_c.proofs.Magnitudes.{next_digit, too_many, no_digit, all_digits}
@@ -11,9 +11,11 @@ loop-byte-preserved c =
     let total = digits_value (base c.args.hex) (joined c.args.digits.now) in
     let known = c.loop-byte.invariant in
     elim c.if-byte-ne95.branch [
-      | then-byte-ne95+in_ok-value w ↦
-          (known.0, next_digit c.args.hex c.if-hex.base c.loop-byte.value c.if-byte-ne95.value total c.args.digits.now c.loop-byte.byte-index known.0 c.loop-byte-test.true w.if-byte-ne95.true
-          (w.value-is ∙ w.in_ok-value.ensures) known.1)
+      | then-byte-ne95+in_ok-value w ↦ (
+        known.0,
+        next_digit c.args.hex c.if-hex.base c.loop-byte.value c.if-byte-ne95.value total c.args.digits.now c.loop-byte.byte-index known.0 c.loop-byte-test.true w.if-byte-ne95.true
+            (w.value-is ∙ w.in_ok-value.ensures) known.1,
+      )
       | else-byte-ne95 w ↦
           (known.0, subst (λ v. digits_value_after (base c.args.hex) v (joined (drop (c.loop-byte.byte-index + 1) c.args.digits.now)) ≡ total) (sym w.value-is) (no_digit c.args.hex c.loop-byte.value total c.args.digits.now c.loop-byte.byte-index c.loop-byte-test.true w.if-byte-ne95.false known.1))
     ]

@@ -1,5 +1,5 @@
 use Rattle.std.proofs.Common.{◌≡◌, ◌+◌, ℕ, List, sym, subst, slice_set, get_or}
-use Rattle.wat_parser_c.proofs.Writing.{Written, begun, fits, one_more, no_more, all_written}
+use Rattle.wat_parser_c.proofs.Writing.{Written, begun, one_more, no_more, all_written}
 use Rattle.wat_parser_c.proofs.numbers.write_digits.Goals as goal
 use Rattle.wat_parser_c.proofs.numbers.write_digits.Goals.{then-byte-ne95, else-byte-ne95}
 

@@ -1,4 +1,4 @@
-use Rattle.std.proofs.Common.{◌≡◌, ℕ, List, sym, ◌∙◌, subst, ap, Bool, true, false}
+use Rattle.std.proofs.Common.{◌≡◌, ℕ, List, sym, ◌∙◌, subst, true, false}
 use Rattle.std.specs.Prelude.{None, Some, Option, is_some}
 use Rattle.std.specs.Str.{chars, IsUtf8}
 use Rattle.memchr.specs.Find.{IsFirstByte, is_byte}

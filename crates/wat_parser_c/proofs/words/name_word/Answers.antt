@@ -1,6 +1,6 @@
 use Rattle.std.proofs.Common.{sym, ◌∙◌, arith}
 use Rattle.wat_parser_c.specs.ByRow.{kind_of}
-use Rattle.wat_parser_c.proofs.WordPlaces.{NameBytes, bare_or, quoted_or, quoted_escape}
+use Rattle.wat_parser_c.proofs.WordPlaces.{bare_or, quoted_or, quoted_escape}
 use Rattle.wat_parser_c.proofs.ToldWords.{named_word, name_told, name_escaped, bare_told, quoted_told, at_kind}
 use Rattle.wat_parser_c.proofs.words.name_word.Goals as goal
 
