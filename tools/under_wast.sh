@@ -2,10 +2,13 @@
 # Builds the crate wast 222.0.0 whole over its own lowest layer, that of 263.0.0, and over this project's, without changing a line above, and
 # compares what the two answer of the same texts: bytes, trees with spans, errors as they are printed. Both are built once more: ours with the
 # feature `kept`, which keeps what was shown as wast does, and theirs so that it keeps nothing. Ours has to answer as theirs that keeps
-# nothing, and ours that keeps as theirs; the counts of what differs between ours and theirs are printed.
+# nothing, and ours that keeps as theirs; the counts of what differs between ours and theirs are printed. Then calls at random are made of both
+# lowest layers alone (tools/under_wast/plays), under the same rule.
 #
 # The drivers are left as WORK/ours/target/release/driver and WORK/theirs/target/release/driver, and in WORK/kept and WORK/fresh.
 # FOLDER is one with workspace.sh, which unpacks wast 222.0.0 over the layer of 263.0.0, and with edge.sh, which writes texts at the edges.
+#
+# MUTANTS, 20,000 where it is not given, is the count of mutants and of plays.
 #
 # usage: [WAT_C_FOLDER=ARCHIVES] tools/under_wast.sh FOLDER WORK [MUTANTS]
 set -eu -o pipefail
@@ -78,6 +81,17 @@ different() {
     diff -a <(grep -a "^$3" "$work/$1.answers") <(grep -a "^$3" "$work/$2.answers") | grep -ac '^<' || true
 }
 
+# plays NAME FEATURES..: calls at random of this wast's lowest layer and of ours with these features
+plays() {
+    local at=$work/$1/plays
+    rm -rf "$at/src"
+    mkdir -p "$at"
+    cp -r tools/under_wast/plays/. "$at/"
+    sed -i "s|\"WAST\"|\"$work/$1/wast\"|; s|\"WAT_PARSER\"|\"$project/rust/wat-parser\"|" "$at/Cargo.toml"
+    (cd "$at" && cargo build --offline --release --quiet "${@:2}")
+    say "$1 ${*:2}: $("$at/target/release/plays" "$mutants")"
+}
+
 unpack theirs
 unpack fresh
 # The token that a look found before is looked for again.
@@ -119,6 +133,8 @@ for pair in 'ours theirs' 'ours fresh' 'kept theirs'; do
 done
 cmp "$work/ours.answers" "$work/fresh.answers"
 cmp "$work/kept.answers" "$work/theirs.answers"
+plays fresh
+plays theirs --features kept
 if cmp -s "$work/ours.answers" "$work/theirs.answers"; then
     say 'no answer shows that theirs keeps what was shown: the texts are not those that they should be'
     exit 1

@@ -1,0 +1,117 @@
+//! Makes the same calls at random of wast's lowest layer and of this project's, on texts of pieces at random, and compares what they answer:
+//! values, places, and errors as they are printed.
+//!
+//! usage: plays COUNT
+
+use std::cell::{Cell, RefCell};
+use std::fmt::{Debug, Display};
+use std::panic;
+use std::process::ExitCode;
+
+mod theirs {
+    use wast as layer;
+    include!("calls.rs");
+}
+
+mod ours {
+    use wat_parser as layer;
+    include!("calls.rs");
+}
+
+/// The names that are registered and taken back.
+const NAMES: [&str; 5] = ["a", "name", "custom", "x y", "\u{e9}"];
+
+#[rustfmt::skip]
+const PIECES: [&str; 38] = [
+    "(", ")", "(@a", "(@name \"x\")", "(@custom ", "(@\"x y\"", "(@\"\\u{e9}\" 1)", "@a", "$x", "$\"a\\62\"", "func", "foo", "in-line", "<=>",
+    "1", "-0", "255", "-129", "0x1_0", "18446744073709551616", "1.5", "0x1.8p3", "nan:0x7f", "-inf", "\"s\"", "\"\\n\\u{e9}\"", "\"\\ff\"",
+    ";; c\n", "(; b (; n ;) ;)", ",", "a\"b\"", "\t", "\u{6f22}", ";;\u{202e}\n", "(@", "$", "(@\"\\ff\"", "@",
+];
+
+/// How many of the pieces, from the first on, are no fault by themselves.
+const TAME: usize = 32;
+
+/// Those that end or spoil a text where they stand.
+const FAULTS: [&str; 4] = ["(;", "\"", "(@\"\")", "$\"\\ff\""];
+
+thread_local! {
+    static STATE: Cell<u64> = const { Cell::new(1) };
+    static NOTES: RefCell<String> = const { RefCell::new(String::new()) };
+}
+
+/// A number below another, the same for both layers.
+fn below(bound: usize) -> usize {
+    let mut state = STATE.get();
+    state ^= state << 13;
+    state ^= state >> 7;
+    state ^= state << 17;
+    STATE.set(state);
+    (state >> 11) as usize % bound
+}
+
+/// Notes an answer.
+fn note(answer: impl Display) {
+    NOTES.with_borrow_mut(|notes| *notes += &format!("{answer}\n"));
+}
+
+fn note_value(value: impl Debug) {
+    note(format_args!("{value:?}"));
+}
+
+fn text() -> String {
+    let (count, pieces) = (
+        1 + below(30),
+        if below(4) == 0 { PIECES.len() } else { TAME },
+    );
+    let mut text = String::new();
+    for _ in 0..count {
+        text += PIECES[below(pieces)];
+        text += ["", " ", " ", "\n"][below(4)];
+    }
+    if below(8) == 0 {
+        text += FAULTS[below(FAULTS.len())];
+    }
+    text
+}
+
+/// What a layer answers to the calls that this state of the numbers makes.
+fn answers(state: u64, play: impl Fn() + panic::UnwindSafe) -> String {
+    STATE.set(state);
+    if panic::catch_unwind(play).is_err() {
+        note("a panic");
+    }
+    NOTES.take()
+}
+
+/// The first answers that differ.
+fn show(text: &str, theirs: &str, ours: &str) {
+    let differ = theirs
+        .lines()
+        .zip(ours.lines())
+        .find(|(one, other)| one != other);
+    let (one, other) = differ.unwrap_or(("", ""));
+    println!("plays: {text:?}\n  wast: {one}\n  ours: {other}");
+}
+
+fn main() -> ExitCode {
+    let count = std::env::args().nth(1).and_then(|count| count.parse().ok());
+    let count: u64 = count.unwrap_or(10_000);
+    panic::set_hook(Box::new(|_| {}));
+    let (mut all, mut differ) = (0, 0);
+    for play in 1..=count {
+        STATE.set(play.wrapping_mul(0x9e37_79b9_7f4a_7c15));
+        let (text, allow) = (text(), below(4) == 0);
+        let state = STATE.get();
+        let theirs = answers(state, || theirs::play(&text, allow));
+        let ours = answers(state, || ours::play(&text, allow));
+        all += theirs.lines().count();
+        if theirs != ours {
+            differ += 1;
+            if differ <= 3 {
+                show(&text, &theirs, &ours);
+            }
+        }
+    }
+    println!("plays: {differ} of {count} plays differ, {all} answers");
+    ExitCode::from(u8::from(differ > 0))
+}
