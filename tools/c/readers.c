@@ -296,6 +296,103 @@ static void read_text(struct setting s) {
     texts++;
 }
 
+/* The rows of a text, in a block of their own number, so that a read past them is seen. */
+struct rows {
+    struct wat_row *rows;
+    size_t count;
+    uint32_t why;
+};
+
+/* Fills rows in pieces, which lie end to end. */
+static struct rows rows_of(struct setting s) {
+    struct rows all = {NULL, 0, WAT_FULL};
+    struct wat_row *piece = room_of(ROOM * sizeof *piece);
+    size_t at = 0;
+    while (all.why == WAT_FULL) {
+        struct wat_filled filled = wat_rows(s.text, s.len, at, s.allow, s.strict, piece, ROOM);
+        struct wat_row *more = room_of((all.count + filled.count) * sizeof *more);
+        expect(filled.count <= ROOM && (filled.why == WAT_FULL) == (filled.count == ROOM), "the count of rows that count", at);
+        expect(filled.at >= at, "rows go back", at);
+        if (all.count > 0) {
+            memcpy(more, all.rows, all.count * sizeof *more);
+        }
+        if (filled.count > 0) {
+            memcpy(more + all.count, piece, filled.count * sizeof *more);
+        }
+        free(all.rows);
+        all.rows = more;
+        all.count += filled.count;
+        all.why = filled.why;
+        at = filled.at;
+    }
+    free(piece);
+    wat_links(all.rows, all.count);
+    return all;
+}
+
+/* Each row is the token that stands there, and a `)` closes the group that is open behind the rows which link to it. */
+static void compare_rows(struct setting s, struct rows all) {
+    size_t i, link;
+    for (i = 0; i < all.count; i++) {
+        struct wat_found found = wat_scan(s.text, s.len, all.rows[i].offset, s.allow, s.strict);
+        struct wat_row wanted = row_of(s, found.token);
+        wanted.link = all.rows[i].link;
+        link = wanted.link;
+        expect(memcmp(&wanted, &all.rows[i], sizeof wanted) == 0, "a row that counts is another token", all.rows[i].offset);
+        expect(wat_behind(all.rows, all.count, i + 1) == (size_t)wanted.offset + wanted.len, "behind a row", wanted.offset);
+        expect(link == 0 || (link > i + 1 && link <= all.count), "a link goes back", wanted.offset);
+        expect(link == 0 || all.rows[link - 1].kind.code == WAT_RPAREN, "a link goes to no parenthesis", wanted.offset);
+    }
+    expect(wat_behind(all.rows, all.count, 0) == 0, "behind no row", 0);
+}
+
+/* Looks at each row, under these names. */
+static void look_at_rows(struct setting s, struct rows all, const char *names, const size_t *ends, size_t count) {
+    size_t place, len = strlen(names);
+    uint8_t *own = room_of(len);
+    memcpy(own, names, len);
+    for (place = 0; place <= all.count; place++) {
+        struct wat_look look = wat_shown(s.text, s.len, all.rows, all.count, all.why, place, own, len, ends, count);
+        bool plain = place < all.count && all.rows[place].kind.code != WAT_OPENS_AT;
+        expect(!plain || (look.status == WAT_SHOWN && look.row == place), "a plain row is not shown", place);
+        expect(look.status <= WAT_MISNAMED && look.status != WAT_LOOK_NO_MEMORY, "a look has another status", place);
+        expect(look.row <= all.count && (look.row == all.count || look.row >= place), "a look goes back", place);
+        expect(look.status != WAT_SHOWN || look.row < all.count, "no row is shown", place);
+        expect(look.status != WAT_TEXT_END || all.why == WAT_END, "an end that is none", place);
+        expect(look.status != WAT_TEXT_FAULT || all.why != WAT_END, "a fault that is none", place);
+    }
+    free(own);
+}
+
+/* What is printed of a message at each byte, with and without a name. */
+static void print_at(struct setting s, size_t offset, const char *message, const char *file) {
+    uint8_t *text = room_of(strlen(message) + strlen(file)), none = 0, *out;
+    struct wat_answer told, given;
+    size_t long_message = strlen(message), long_file = strlen(file);
+    memcpy(text, message, long_message);
+    memcpy(text + long_message, file, long_file);
+    told = wat_print(s.text, s.len, offset, text, long_message, text + long_message, long_file, &none, 0);
+    expect(told.status == WAT_GIVEN && told.needed > long_message, "an error prints less than its message", offset);
+    out = room_of(told.needed);
+    given = wat_print(s.text, s.len, offset, text, long_message, text + long_message, long_file, out, told.needed);
+    expect(given.status == WAT_GIVEN && given.needed == told.needed, "an error prints otherwise", offset);
+    expect(memcmp(out, message, long_message) == 0, "an error does not begin with its message", offset);
+    free(out);
+    free(text);
+}
+
+static void read_rows(struct setting s) {
+    static const size_t ends[] = {1, 5, 5};
+    struct rows all = rows_of(s);
+    compare_rows(s, all);
+    look_at_rows(s, all, "", ends, 0);
+    look_at_rows(s, all, "aname", ends, 3);
+    print_at(s, next_random() % (s.len + 2), "x", "");
+    print_at(s, next_random() % (s.len + 2), "expected a keyword", "");
+    print_at(s, next_random() % (s.len + 2), "expected a keyword", "a.wat");
+    free(all.rows);
+}
+
 /* The bytes in a block of their own size, so that a read past them is seen. */
 static void read_bytes(const uint8_t *bytes, size_t len) {
     uint8_t *text = room_of(len);
@@ -309,6 +406,7 @@ static void read_bytes(const uint8_t *bytes, size_t len) {
             s.allow = (flags & 1) != 0;
             s.strict = (flags & 2) != 0;
             read_text(s);
+            read_rows(s);
         }
     }
     free(text);
@@ -353,6 +451,7 @@ static uint8_t *read_file(const char *name, size_t *len) {
 int main(int argc, char **argv) {
     unsigned long long mutants = argc > 1 ? strtoull(argv[1], NULL, 10) : 0, made;
     int files = argc > 2 ? argc - 2 : 0, i;
+    expect(wat_version() == WAT_VERSION, "the header is of another version than the library", 0);
     for (i = 0; i < files; i++) {
         size_t len = 0;
         uint8_t *bytes = read_file(argv[i + 2], &len);
