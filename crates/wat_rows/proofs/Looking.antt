@@ -31,7 +31,7 @@ use Rattle.wat_rows.specs.inside.Naming.{NameMeans.misnamed as means_misnamed, N
 use Rattle.wat_rows.specs.declared.counting.Row.{Row}
 use Rattle.wat_rows.specs.declared.looks.Named.{Named}
 use Rattle.wat_rows.specs.declared.looks.Named.TheVariants as named
-use Rattle.wat_rows.specs.declared.looks.NotShown.TheVariants as not
+use Rattle.wat_rows.specs.declared.looks.NotShown.TheVariants as unseen
 use Rattle.wat_rows.proofs.CodedGroups.{codes_closed, tokens_closed}
 use Rattle.wat_rows.proofs.Coding.{code_annotation, code_marked, code_of, codes, marked_kind}
 use Rattle.wat_rows.proofs.Fronts.{front, none_past}
@@ -112,7 +112,7 @@ module _ (some : SomethingShown) (one : OneThingShown) (same : CountingShowsTheS
   ended_by None e f h = subst (λ w. Looks s place n (Err (not_shown w))) (sym f) (end e h)
   ended_by (Some z) e f h =
       subst (λ w. Looks s place n (Err (not_shown w))) (sym f)
-      (subst (λ b. Looks s place n (Err (if b then not.TextEnd else not.TextFault))) (sym (numbered z.error)) (fault e h))
+      (subst (λ b. Looks s place n (Err (if b then unseen.TextEnd else unseen.TextFault))) (sym (numbered z.error)) (fault e h))
 
   answer_ended : look_in s n number ≡ ended s.ending → Looks s place n (Err (not_shown why))
   answer_ended e = ended_by s.ending refl are.ends (shown_as (ended s.ending) e)
@@ -122,7 +122,7 @@ module _ (some : SomethingShown) (one : OneThingShown) (same : CountingShowsTheS
   left_by None t e f k m h = subst (λ w. Looks s place n (Err (not_closed w number))) (sym f) (unclosed e k m h)
   left_by (Some z) t e f k m h =
       subst (λ w. Looks s place n (Err (not_closed w number))) (sym f)
-      (subst (λ b. Looks s place n (Err (if b then not.Unclosed number else not.TextFault))) (sym (numbered z.error)) (fault e h))
+      (subst (λ b. Looks s place n (Err (if b then unseen.Unclosed number else unseen.TextFault))) (sym (numbered z.error)) (fault e h))
 
   by_shown : (a : Finding) → Shown s.setting.text s.ending n (drop number cs) a → look_in s n number ≡ a
   by_shown a h = sym (one s.setting.text s.ending n (drop number cs) a h)
@@ -184,13 +184,13 @@ module _ (some : SomethingShown) (one : OneThingShown) (same : CountingShowsTheS
               let k = is_taken s.setting.text at_word.token n m means e in
               answer_token at_row.token at_row.there (two (λ r. Ok (Some (at_row.token, r))) (takes marked k.1 k.2))
 
-          pub answer_refused : m ≡ named.Misnamed → Looks s place n (Err (not.Misnamed (number + 1)))
+          pub answer_refused : m ≡ named.Misnamed → Looks s place n (Err (unseen.Misnamed (number + 1)))
           answer_refused e =
               let k = is_refused s.setting.text at_word.token n m means e in
               let a = Err (record { offset = at_word.token.offset; kind = Lex k.0 }) in
               misnamed at_word.there k.1 (shown_as a (two (λ r. a) (refuses marked k.1)))
 
-          pub answer_memory : (a : AllocError) → m ≡ named.Memory a → Looks s place n (Err (not.Memory a))
+          pub answer_memory : (a : AllocError) → m ≡ named.Memory a → Looks s place n (Err (unseen.Memory a))
           answer_memory a e = memory (record {
             number = number;
             paren = at_row.token;

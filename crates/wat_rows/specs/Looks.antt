@@ -18,7 +18,7 @@ use Rattle.wat_lexer_parser.specs.shown.Showing.{Look, shown}
 use Rattle.wat_rows.specs.Places.{raw_place}
 use Rattle.wat_rows.specs.declared.looks.Look.{Look as LookRow}
 use Rattle.wat_rows.specs.declared.looks.NotShown.{NotShown}
-use Rattle.wat_rows.specs.declared.looks.NotShown.TheVariants as not
+use Rattle.wat_rows.specs.declared.looks.NotShown.TheVariants as unseen
 
 -- The names that end at these bytes, each beginning where the one before ends, the first at the byte that is given. Where an end lies
 -- before the name's beginning or past the bytes, there is no name.
@@ -63,23 +63,23 @@ pub record MeetsEscape (s : Source) (count : ℕ) (names : Names) : Type 0 where
 pub data Looks (s : Source) (count : ℕ) (names : Names) : Result ℕ NotShown → Type 0 where
   token : {number : ℕ} {t : Token} → IsNumber s number t → shown_behind s count names ≡ Ok (Some (t, raw_place s.tokens (number + 1)))
       → Looks s count names (Ok number)
-  end : s.ending ≡ None → shown_behind s count names ≡ Ok None → Looks s count names (Err not.TextEnd)
+  end : s.ending ≡ None → shown_behind s count names ≡ Ok None → Looks s count names (Err unseen.TextEnd)
   fault : {f : LexFault} → s.ending ≡ Some f → shown_behind s count names ≡ Err (record { offset = f.offset; kind = Lex f.error })
-      → Looks s count names (Err not.TextFault)
+      → Looks s count names (Err unseen.TextFault)
   unclosed : {number : ℕ} {t : Token} → s.ending ≡ None → IsNumber s number t → IsMarked s.setting.text t
-      → shown_behind s count names ≡ Err (record { offset = t.offset + 1; kind = Unclosed }) → Looks s count names (Err (not.Unclosed number))
+      → shown_behind s count names ≡ Err (record { offset = t.offset + 1; kind = Unclosed }) → Looks s count names (Err (unseen.Unclosed number))
   misnamed : {number : ℕ} {t : Token} {e : LexError} → IsNumber s number t → IsMisnamed s.setting.text t e
-      → shown_behind s count names ≡ Err (record { offset = t.offset; kind = Lex e }) → Looks s count names (Err (not.Misnamed number))
-  memory : {refused : AllocError} → MeetsEscape s count names → Looks s count names (Err (not.Memory refused))
+      → shown_behind s count names ≡ Err (record { offset = t.offset; kind = Lex e }) → Looks s count names (Err (unseen.Misnamed number))
+  memory : {refused : AllocError} → MeetsEscape s count names → Looks s count names (Err (unseen.Memory refused))
 
 -- the answer in numbers, where there are so many rows
 abbrev pub look_row : ℕ → Result ℕ NotShown → LookRow
 look_row rows (Ok number) = record { row = number; status = 0 }
-look_row rows (Err not.TextEnd) = record { row = rows; status = 1 }
-look_row rows (Err (not.Memory refused)) = record { row = rows; status = 2 }
-look_row rows (Err not.TextFault) = record { row = rows; status = 3 }
-look_row rows (Err (not.Unclosed number)) = record { row = number; status = 4 }
-look_row rows (Err (not.Misnamed number)) = record { row = number; status = 5 }
+look_row rows (Err unseen.TextEnd) = record { row = rows; status = 1 }
+look_row rows (Err (unseen.Memory refused)) = record { row = rows; status = 2 }
+look_row rows (Err unseen.TextFault) = record { row = rows; status = 3 }
+look_row rows (Err (unseen.Unclosed number)) = record { row = number; status = 4 }
+look_row rows (Err (unseen.Misnamed number)) = record { row = number; status = 5 }
 
 pub record LooksInNumbers (s : Source) (rows count : ℕ) (names : Names) (look : LookRow) : Type 0 where
   pub answer : Result ℕ NotShown

@@ -13,7 +13,7 @@ use Rattle.wat_rows.specs.declared.counting.Row.{Row}
 use Rattle.wat_rows.specs.declared.looks.Named.{Named}
 use Rattle.wat_rows.specs.declared.looks.Named.TheVariants as named
 use Rattle.wat_rows.specs.declared.looks.NotShown.{NotShown}
-use Rattle.wat_rows.specs.declared.looks.NotShown.TheVariants as not
+use Rattle.wat_rows.specs.declared.looks.NotShown.TheVariants as unseen
 
 -- what the name of this annotation means
 pub data NameMeans (text : List ℕ) (t : Token) (names : Names) : Named → Type 0 where
@@ -32,17 +32,17 @@ annotation_of row = record { offset = row.offset; len = row.len; kind = Annotati
 
 -- why no row is shown where the rows end with this number
 abbrev pub not_shown : ℕ → NotShown
-not_shown why = if why == 0 then not.TextEnd else not.TextFault
+not_shown why = if why == 0 then unseen.TextEnd else unseen.TextFault
 
 -- the same within the group that this row opens
 abbrev pub not_closed : ℕ → ℕ → NotShown
-not_closed why number = if why == 0 then not.Unclosed number else not.TextFault
+not_closed why number = if why == 0 then unseen.Unclosed number else unseen.TextFault
 
 -- a row that is told is one of so many
 abbrev pub IsWithin : ℕ → Result ℕ NotShown → Type 0
 IsWithin rows (Ok number) = number < rows
-IsWithin rows (Err not.TextEnd) = Unit {0}
-IsWithin rows (Err (not.Memory refused)) = Unit {0}
-IsWithin rows (Err not.TextFault) = Unit {0}
-IsWithin rows (Err (not.Unclosed number)) = number < rows
-IsWithin rows (Err (not.Misnamed number)) = number < rows
+IsWithin rows (Err unseen.TextEnd) = Unit {0}
+IsWithin rows (Err (unseen.Memory refused)) = Unit {0}
+IsWithin rows (Err unseen.TextFault) = Unit {0}
+IsWithin rows (Err (unseen.Unclosed number)) = number < rows
+IsWithin rows (Err (unseen.Misnamed number)) = number < rows
