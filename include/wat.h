@@ -17,8 +17,6 @@
  *   6. A `bool` is 0 or 1.
  *   7. `malloc`, `realloc` and `free` are of one allocator, and align a block to each power of two up to 16 that divides its size. No
  *      function is called from a signal handler, or from the forked child of a process with threads.
- *   8. `row` points to a row that tells a token of this text, neither white space nor a comment: its offset, its length and its kind as
- *      they were found there, under whichever flags. It is not null, and nobody writes to it during the call. No function reads its link.
  *
  * The functions keep nothing between calls, so that threads may call them at the same time.
  *
@@ -53,8 +51,7 @@ enum wat_kind_code {
     WAT_INF = 12,          /* `inf` */
     WAT_NAN = 13,          /* `nan` */
     WAT_NAN_PAYLOAD = 14,  /* `nan:0x` and a payload */
-    WAT_FLOAT = 15,        /* digits with a fraction, an exponent, or both */
-    WAT_OPENS_AT = 16      /* of rows alone: `(` with `@` directly behind it, which is 4 elsewhere */
+    WAT_FLOAT = 15         /* digits with a fraction, an exponent, or both */
 };
 
 /* Signs of numbers. */
@@ -86,11 +83,9 @@ enum wat_stop { WAT_END = 0, WAT_FULL = 1 };
 /* Whether a reader found something, where it is no fault of a name. */
 enum wat_status {
     WAT_GIVEN = 0,
-    WAT_OTHER = 1,       /* no such token, or no fault, stands at the place */
-    WAT_NO_MEMORY = 2,   /* a request for memory was refused */
-    WAT_ABSENT = 3,      /* the number has no such part, or the name no fault, or no comment stands there */
-    WAT_ESCAPED = 4,     /* an escape stands in the word, so that its value does not */
-    WAT_OUT_OF_RANGE = 5 /* the integer is not in so many bits */
+    WAT_OTHER = 1,     /* no such token, or no fault, stands at the place */
+    WAT_NO_MEMORY = 2, /* a request for memory was refused */
+    WAT_ABSENT = 3     /* the number has no such part, or the name no fault */
 };
 
 /* The parts of a floating-point number. */
@@ -114,27 +109,6 @@ struct wat_token {
     size_t offset;
     uint32_t len;
     struct wat_kind kind;
-};
-
-/* A token that counts, which is neither white space nor a comment. */
-struct wat_row {
-    uint32_t offset;
-    uint32_t len;
-    struct wat_kind kind; /* as in `wat_token`, but for `WAT_OPENS_AT` */
-    uint32_t link;
-};
-
-/* Where something stands in a text. */
-struct wat_word {
-    uint32_t start;
-    uint32_t len;
-    uint32_t status; /* a `wat_status`, or the `wat_fault_code` of a name or of the text; start and length are 0 where it is not `WAT_GIVEN` */
-};
-
-/* An integer of so many bits. */
-struct wat_number {
-    uint64_t value;  /* its two's complement, which is below 2 to the number of bits */
-    uint32_t status; /* a `wat_status`; the value is 0 where it is not `WAT_GIVEN` */
 };
 
 /* What stands at a place. */
@@ -203,31 +177,6 @@ struct wat_answer wat_integer(const uint8_t *text, size_t len, size_t pos, bool 
 /* A part, which is a `wat_part`, of the floating-point number at a place, without underscores. Want of memory only where underscores
  * stand in the number, or it is hexadecimal and no payload. */
 struct wat_answer wat_float(const uint8_t *text, size_t len, size_t pos, bool allow, bool strict, uint32_t part, uint8_t *out, size_t room);
-
-/* Where the value of a row's word stands in the text as it is: of a string the bytes between its quotes, of an identifier or annotation its name,
- * without `$` or `@` and without quotes. `WAT_ESCAPED` where an escape stands in the string or in the quoted name, `WAT_EMPTY_ID` or
- * `WAT_EMPTY_ANNOTATION` where the name is empty, `WAT_OTHER` where the row is no such token. It takes no memory. */
-struct wat_word wat_word(const uint8_t *text, size_t len, const struct wat_row *row);
-
-/* As `wat_string`, `wat_name`, `wat_integer` and `wat_float` answer of the place, of the row's token, which is not scanned again. `wat_digits_of`
- * takes no memory; the others ask for it where those do. */
-struct wat_answer wat_string_of(const uint8_t *text, size_t len, const struct wat_row *row, uint8_t *out, size_t room);
-struct wat_answer wat_name_of(const uint8_t *text, size_t len, const struct wat_row *row, uint8_t *out, size_t room);
-struct wat_answer wat_digits_of(const uint8_t *text, size_t len, const struct wat_row *row, uint8_t *out, size_t room);
-struct wat_answer wat_float_of(const uint8_t *text, size_t len, const struct wat_row *row, uint32_t part, uint8_t *out, size_t room);
-
-/* The value of an integer's row in 8, 16, 32 or 64 bits. Without a sign it is below 2 to the number of bits, and no `-` stands before it, not even
- * before 0. With a sign it is so too, or `-` and at most half as many. `WAT_OUT_OF_RANGE` for others, and for another number of bits;
- * `WAT_OTHER` where the row is no integer. It takes no memory. */
-struct wat_number wat_integer_of(const uint8_t *text, size_t len, const struct wat_row *row, uint32_t bits, bool is_signed);
-
-/* The comment at a place: where it stands, all of its token, past white space. `WAT_ABSENT` where another token or the text's end stands there,
- * or the text's fault there. It takes no memory. */
-struct wat_word wat_comment(const uint8_t *text, size_t len, size_t pos, bool allow, bool strict);
-
-/* The message of a fault, by the numbers of `wat_found`: its own, the character that it found, and the one that is needed. `WAT_OTHER` where no
- * fault has the number, or it speaks of a character and that is none. It takes no memory. */
-struct wat_answer wat_message(uint32_t fault, uint32_t found, uint32_t wanted, uint8_t *out, size_t room);
 
 /* Line and column of a byte of the text, whether it is a place or not; the column is the bytes before it in its line. Past the text's end the
  * line is the number of lines, and the column is 0. */
