@@ -18,6 +18,7 @@ mod given;
 mod laws;
 pub mod messages;
 pub mod numbers;
+pub mod printing;
 mod readings;
 #[cfg(test)]
 mod tests;
