@@ -18,11 +18,9 @@
  *   7. Rows are those of the text that is passed with them: of one call of `wat_rows` from 0, or of several, each from where the one before
  *      stopped, the last of which answered something else than `WAT_FULL`, all with the same settings and one behind the other; then linked by
  *      `wat_links` where links are needed, and otherwise as they were written. `why` is what the last call answered. A row that is passed alone is
- *      one of them. Nobody writes to them during the call.
+ *      one of them, whatever its link is. Nobody writes to them during the call.
  *   8. `malloc`, `realloc` and `free` are of one allocator, and align a block to each power of two up to 16 that divides its size. No
  *      function is called from a signal handler, or from the forked child of a process with threads.
- *   8. `row` points to a row that tells a token of this text, neither white space nor a comment: its offset, its length and its kind as
- *      they were found there, under whichever flags. It is not null, and nobody writes to it during the call. No function reads its link.
  *
  * The functions keep nothing between calls, so that threads may call them at the same time.
  *

@@ -3,11 +3,13 @@ mod Bits
 mod CommentLaws
 mod IntegerRows
 mod Magnitudes
+mod Lengths
 mod MessageBytes
 mod OneFinding
 mod OneOfRow
 mod OneWords
 mod Parts
+mod PrintedErrors
 mod RowTokens
 mod Texts
 mod ToldFaults

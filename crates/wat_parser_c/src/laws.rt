@@ -7,6 +7,7 @@ ghost use Rattle.wat_parser_c.specs.Answers.{OneAnswer};
 ghost use Rattle.wat_parser_c.specs.ByRow.{FindsOf};
 ghost use Rattle.wat_parser_c.specs.CommentPlaces.{CommentsAreOne, CommentsAreParsers};
 ghost use Rattle.wat_parser_c.specs.FaultMessages.{FaultsAreTold};
+ghost use Rattle.wat_parser_c.specs.Printing.{Prints};
 ghost use Rattle.wat_parser_c.specs.Readings.{Finds, FindsFault, IsString, IsNamed, IsInteger, IsFloat};
 ghost use Rattle.wat_parser_c.specs.Readings.{ReadsString, ReadsName, ReadsInteger, ReadsFloat};
 ghost use Rattle.wat_parser_c.specs.Readings.{ReadsNameFault};
@@ -70,3 +71,9 @@ pub fn comments_are_parsers()
 {
     wat_lex::laws::one_answer();
 }
+
+/// What is printed of an error is one thing, want of memory apart. It does nothing either.
+pub fn one_print()
+    ensures { (text message file : List ℕ) (offset : ℕ) (old : List ℕ) →
+        OneAnswer (Prints text offset message file) old }
+{}

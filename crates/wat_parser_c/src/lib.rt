@@ -19,6 +19,7 @@ mod laws;
 pub mod looks;
 pub mod messages;
 pub mod numbers;
+pub mod printing;
 mod readings;
 #[cfg(test)]
 mod tests;

@@ -52,7 +52,7 @@ fn fault_of(code: u32, found: u32, wanted: u32) -> Option<LexError>
 }
 
 /// How many bytes an error prints behind its message, which are those behind any message.
-fn place_length(text: &str, offset: usize) -> usize
+pub fn place_length(text: &str, offset: usize) -> usize
     requires { length text.now < 2 ^ 32 }
     ensures { result ≡ length (shown_place (excerpt text.now offset)) }
 {

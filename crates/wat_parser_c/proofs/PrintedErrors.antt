@@ -1,0 +1,102 @@
+-- What is printed of an error: its message over the end of another, in front of the place.
+use Rattle.std.proofs.Common.{◌≡◌, ◌≢◌, ◌≤◌, ◌<◌, ◌+◌, ◌-◌, ◌*◌, ◌^◌, ℕ, List, [], ◌∷◌, ◌++◌, length, take, drop, refl, ap, sym, ◌∙◌, subst, arith, length-append, append_assoc, Bool, true, false}
+use Rattle.std.specs.Prelude.{codes, nat_lt, nat_le, if◌then◌else◌, Result, Ok, Err, alloc_error}
+use Rattle.std.specs.Fmt.{decimal}
+use Rattle.std.proofs.lemmas.Bool.Decides.{nat_tests}
+use Rattle.std.proofs.lemmas.List.{take_all, drop_all, drop_at, drop-drop, append-nil, length-take-le, length-drop}
+use Rattle.wat_lex.specs.errors.Rendering.{Excerpt, excerpt, shown_place, laid_over, right_in}
+use Rattle.wat_parser_c.specs.Answers.{Answers, put, answer_of, left_of}
+use Rattle.wat_parser_c.specs.Printing.{Prints, printed_in, shown_in}
+use Rattle.wat_parser_c.specs.declared.answers.Answer.{Answer}
+use Rattle.wat_parser_c.specs.declared.answers.Refusal.{Refusal}
+use Rattle.wat_parser_c.specs.declared.answers.Refusal.TheVariants.{Other, Memory, Absent, Fault}
+use Rattle.wat_parser_c.proofs.MessageBytes.{put_there}
+use Rattle.wat_parser_c.proofs.OneFinding.{One}
+
+pub whole_laid : (all before : List ℕ) → length before ≡ length all → laid_over all before ≡ all
+whole_laid all before e =
+    ap (λ x. x ++ drop (length all) before) (take_all (length before) all (omega (arith, e))) ∙ ap (λ x. all ++ x) (drop_all (length all) before (omega (arith, e))) ∙ append-nil all
+
+-- the message stands over the end of another one, which was laid so that the place stands where it has to
+pub message_over : (m out w post all other place : List ℕ) → 16 ≤ length m → length other ≡ 16 → all ≡ other ++ place → w ≡ all → length m ≤ length out + 16 → post ≡ []
+    → m ++ drop (length m) (take (length m - 16) out ++ (w ++ post)) ≡ m ++ place
+message_over m out w post all other place long o e f room none =
+    let i = length m - 16 in
+    let front : length (take i out ++ other) ≡ length m = omega (arith, length-append (take i out) other, length-take-le i out (omega (arith, room, long)), o, long) in
+    let same : take i out ++ (w ++ post) ≡ (take i out ++ other) ++ place =
+    ap (λ x. take i out ++ (w ++ x)) none ∙ ap (λ x. take i out ++ x) (append-nil w ∙ f ∙ e) ∙ sym (append_assoc (take i out) other place) in
+    ap (λ x. m ++ x) (ap (drop (length m)) same ∙ drop_at (take i out ++ other) place (length m) front)
+
+-- without a name a place is shown as the lexer shows it
+pub nameless_place : (e : Excerpt) → shown_place e ≡ shown_in (codes "<anon>") e
+nameless_place e = refl
+
+pub one_print : (text : List ℕ) (offset : ℕ) (message file : List ℕ) → One (Prints text offset message file)
+one_print text offset message file (Ok a) (Ok b) h k n m = ap Ok (h ∙ sym k)
+one_print text offset message file (Err (Memory refused)) b h k n m = absurd (n refl)
+one_print text offset message file (Ok a) (Err (Memory refused)) h k n m = absurd (m refl)
+one_print text offset message file (Ok a) (Err Other) h k n m = absurd k
+one_print text offset message file (Ok a) (Err Absent) h k n m = absurd k
+one_print text offset message file (Ok a) (Err (Fault e)) h k n m = absurd k
+one_print text offset message file (Err Other) b h k n m = absurd h
+one_print text offset message file (Err Absent) b h k n m = absurd h
+one_print text offset message file (Err (Fault e)) b h k n m = absurd h
+
+-- ---- before and behind the name
+
+abbrev pub behind_far : Excerpt → List ℕ
+behind_far e = codes ":" ++ (decimal e.line ++ (codes ":" ++ decimal e.column))
+
+abbrev pub behind_near : Excerpt → List ℕ
+behind_near e =
+    codes ":" ++ (decimal e.line ++ (codes ":" ++ (decimal e.column ++ (codes "\n      |" ++ (codes "\n " ++ (right_in 4 (decimal e.line) ++ (codes " | " ++ (e.snippet ++ (codes "\n      | " ++ right_in e.column (codes "^"))))))))))
+
+far_in : (name : List ℕ) (e : Excerpt) → nat_lt 500 e.column ≡ true → shown_in name e ≡ codes " at " ++ (name ++ behind_far e)
+far_in name e h =
+    let place = name ++ codes ":" ++ decimal e.line ++ codes ":" ++ decimal e.column in
+    let same : place ≡ name ++ behind_far e = simp append_assoc in
+    ap (λ b. if b then codes " at " ++ place else codes "\n     --> " ++ place ++ codes "\n      |" ++ codes "\n " ++ right_in 4 (decimal e.line) ++ codes " | " ++ e.snippet ++ codes "\n      | " ++ right_in e.column (codes "^")) h
+    ∙ ap (λ x. codes " at " ++ x) same
+
+near_in : (name : List ℕ) (e : Excerpt) → nat_lt 500 e.column ≡ false → shown_in name e ≡ codes "\n     --> " ++ (name ++ behind_near e)
+near_in name e h =
+    let place = name ++ codes ":" ++ decimal e.line ++ codes ":" ++ decimal e.column in
+    let line = right_in 4 (decimal e.line) in
+    let mark = right_in e.column (codes "^") in
+    let same : place ++ codes "\n      |" ++ codes "\n " ++ line ++ codes " | " ++ e.snippet ++ codes "\n      | " ++ mark ≡ name ++ behind_near e = simp append_assoc in
+    ap (λ b. if b then codes " at " ++ place else codes "\n     --> " ++ place ++ codes "\n      |" ++ codes "\n " ++ line ++ codes " | " ++ e.snippet ++ codes "\n      | " ++ mark) h
+    ∙ ap (λ x. codes "\n     --> " ++ x) same
+
+-- the bytes of a place by the first of them
+pub record Around (shown : List ℕ) (e : Excerpt) (near : Bool) : Type 0 where
+  pub is : nat_lt 500 e.column ≡ (if near then false else true)
+  pub bytes : shown ≡ codes "empty identifier" ++ ((if near then codes "\n     --> " else codes " at ") ++ (codes "<anon>" ++ (if near then behind_near e else behind_far e)))
+
+-- ---- into a buffer
+
+pub fits_put : (text : List ℕ) (offset : ℕ) (message file old new : List ℕ) (n : ℕ) → file ≡ file → n ≡ length (printed_in text offset message file) → new ≡ printed_in text offset message file → n ≤ length old
+    → Answers (Prints text offset message file) old (new ++ drop n old) (record { needed = n; status = 0 })
+fits_put text offset message file old new n _ e f l =
+    let all = printed_in text offset message file in
+    record {
+      found = Ok all;
+      reads = refl;
+      told = λ i. record { needed = e i; status = 0 };
+      left = (λ i. f i ++ drop (e i) old) ∙ put_there all old (subst (λ x. x ≤ length old) e l);
+    }
+
+pub short_put : (text : List ℕ) (offset : ℕ) (message file old : List ℕ) (n : ℕ) → n ≡ length (printed_in text offset message file) → length old < n
+    → Answers (Prints text offset message file) old old (record { needed = n; status = 0 })
+short_put text offset message file old n e l =
+    let all = printed_in text offset message file in
+    let over : nat_le (length all) (length old) ≡ false = (let k : length old < length all = omega (arith, e, l) in grind (arith, nat_tests)) in
+    record {
+      found = Ok all;
+      reads = refl;
+      told = λ i. record { needed = e i; status = 0 };
+      left = sym (ap (λ b. if b then all ++ drop (length all) old else old) over);
+    }
+
+pub joined_four : (none a b c d message front name back : List ℕ) → none ≡ [] → a ≡ none ++ message → b ≡ a ++ front → c ≡ b ++ name → d ≡ c ++ back → d ≡ message ++ (front ++ (name ++ back))
+joined_four none a b c d message front name back z e f g h =
+    h ∙ ap (λ x. x ++ back) (g ∙ ap (λ x. x ++ name) (f ∙ ap (λ x. x ++ front) (e ∙ ap (λ x. x ++ message) z))) ∙ append_assoc (message ++ front) name back ∙ append_assoc message front (name ++ back)

@@ -1,0 +1,25 @@
+use Rattle.std.proofs.Common.{◌≡◌, ◌+◌, ◌++◌, [], length, drop, ap, sym, ◌∙◌, subst, arith, length-append, refl}
+use Rattle.std.specs.Prelude.{Ok}
+use Rattle.wat_lex.specs.errors.Rendering.{excerpt, shown_place}
+use Rattle.wat_parser_c.specs.Answers.{Answers}
+use Rattle.wat_parser_c.specs.Printing.{Prints, printed_in}
+use Rattle.wat_parser_c.proofs.Lengths.{length_excerpt}
+use Rattle.wat_parser_c.proofs.PrintedErrors.{fits_put, short_put}
+use Rattle.wat_parser_c.proofs.printing.give_long.Goals as goal
+
+pub overflow_add-needed : goal.overflow_add-needed
+overflow_add-needed c = omega (arith, c.requires.short, c.place_length.ensures, length_excerpt c.args.text.now c.args.offset)
+
+pub returns-then-needed-out : goal.returns-then-needed-out
+returns-then-needed-out c =
+    let m = c.args.message.now in
+    let place = shown_place (excerpt c.args.text.now c.args.offset) in
+    let n : length m + c.place_length.result ≡ length (m ++ place) = omega (arith, c.place_length.ensures, length-append m place) in
+    fits_put c.args.text.now c.args.offset m [] c.args.out.now c.write_long.new.out (length m + c.place_length.result) refl n c.write_long.ensures c.if-needed-out.true
+
+pub returns-else-needed-out : goal.returns-else-needed-out
+returns-else-needed-out c =
+    let m = c.args.message.now in
+    let place = shown_place (excerpt c.args.text.now c.args.offset) in
+    let n : length m + c.place_length.result ≡ length (m ++ place) = omega (arith, c.place_length.ensures, length-append m place) in
+    short_put c.args.text.now c.args.offset m [] c.args.out.now (length m + c.place_length.result) n c.if-needed-out.false

@@ -1,0 +1,161 @@
+//! Errors as they are printed.
+ghost use Rattle.std.specs.Prelude.{◌≡◌, ◌≤◌, ◌<◌, ◌+◌, ◌^◌, ◌++◌, ℕ, List, [], length, codes, true, false, IfOk};
+ghost use Rattle.std.specs.Str.{IsUtf8};
+ghost use Rattle.wat_lex.specs.errors.Rendering.{Excerpt, excerpt, shown_place};
+ghost use Rattle.wat_lex.specs.declared.lexer.faults.LexError.TheVariants.{EmptyId};
+ghost use Rattle.wat_parser_c.specs.Answers.{Answers, OneAnswer};
+ghost use Rattle.wat_parser_c.specs.Printing.{Prints, file_name, printed_in, shown_in};
+
+use crate::answers::{Answer, Refusal, give};
+use crate::laws::one_print;
+use crate::messages::place_length;
+use std::alloc::{AllocError, Global};
+use std::str;
+use wat_lex::error::Rendered;
+use wat_lex::lexer::{LexError, LexFault};
+
+/// How many bytes the message has by which `rendered_at` prints a place, the shortest of all.
+const SHORTEST: usize = 16;
+
+/// An error of the message "empty identifier" at a byte, in place of the message of another.
+fn rendered_at<'a>(text: &'a str, offset: usize) -> Rendered<'a>
+    ensures { result ≡ (text.now, record { offset = offset; error = EmptyId }) }
+{
+    let error = LexError::EmptyId;
+    Rendered::new(text, LexFault { offset, error })
+}
+
+/// Writes what is printed of a message over the end of another.
+fn write_long(text: &str, offset: usize, message: &[u8], out: &mut [u8])
+    requires long { 16 ≤ length message.now }
+    requires room { length out.old
+        ≡ length message.now + length (shown_place (excerpt text.now offset)) }
+    ensures { out.new ≡ printed_in text.now offset message.now [] }
+{
+    let before = message.len() - SHORTEST;
+    rendered_at(text, offset).write_to(&mut out[before..]);
+    out[..message.len()].copy_from_slice(message);
+}
+
+/// What is printed of a message that is not short, where the file has no name.
+fn give_long(text: &str, offset: usize, message: &[u8], out: &mut [u8]) -> Answer
+    requires short { length text.now < 2 ^ 32 }
+    requires long { 16 ≤ length message.now }
+    ensures { Answers (Prints text.now offset message.now []) out.old out.new result }
+{
+    let needed = message.len() + place_length(text, offset);
+    if needed <= out.len() {
+        write_long(text, offset, message, &mut out[..needed]);
+    }
+    Answer { needed, status: 0 }
+}
+
+/// What stands before and behind the name of the file, where the error of `rendered_at` is printed.
+fn around_name(shown: &[u8]) -> (&[u8], &[u8])
+    requires { (e : Excerpt) × (shown.now ≡ codes "empty identifier" ++ shown_place e) }
+    ensures { (e : Excerpt) (name : List ℕ) →
+        shown.now ≡ codes "empty identifier" ++ shown_place e →
+        result.0.now ++ (name ++ result.1.now) ≡ shown_in name e }
+{
+    if shown[16] == b'\n' {
+        (&shown[16..26], &shown[32..])
+    } else {
+        (&shown[16..20], &shown[26..])
+    }
+}
+
+/// The name by which a file is printed.
+fn file_name(file: &[u8]) -> &[u8]
+    ensures { result.now ≡ file_name file.now }
+{
+    if file.is_empty() {
+        "<anon>".as_bytes()
+    } else {
+        file
+    }
+}
+
+/// What the error of `rendered_at` prints.
+fn shown_at(alloc: Global, text: &str, offset: usize) -> Result<Vec<u8>, AllocError>
+    requires short { length text.now < 2 ^ 32 }
+    ensures { IfOk result (λ shown. shown.items
+        ≡ codes "empty identifier" ++ shown_place (excerpt text.now offset)) }
+{
+    let rendered = rendered_at(text, offset);
+    let mut shown = Vec::from_elem(alloc, 0, rendered.length())?;
+    rendered.write_to(&mut shown);
+    Ok(shown)
+}
+
+/// What is printed, in memory of its own.
+fn printed(
+    alloc: Global,
+    text: &str,
+    offset: usize,
+    message: &[u8],
+    file: &[u8],
+) -> Result<Vec<u8>, AllocError>
+    requires short { length text.now < 2 ^ 32 }
+    ensures { IfOk result (λ all. all.items
+        ≡ printed_in text.now offset message.now file.now) }
+{
+    let shown = shown_at(alloc, text, offset)?;
+    let (before, behind) = around_name(&shown);
+    let mut all = Vec::new(alloc);
+    all.extend_from_slice(message)?;
+    all.extend_from_slice(before)?;
+    all.extend_from_slice(file_name(file))?;
+    all.extend_from_slice(behind)?;
+    Ok(all)
+}
+
+/// Whether what is printed is put together in memory of its own.
+fn takes_memory(message: &[u8], file: &[u8]) -> bool
+    ensures none { result ≡ false → (16 ≤ length message.now) × (file.now ≡ []) }
+    ensures some { result ≡ true → 16 ≤ length message.now → file.now ≡ [] → ⊥ }
+{
+    message.len() < SHORTEST || !file.is_empty()
+}
+
+/// What is printed, into a buffer.
+fn give_printed(
+    alloc: Global,
+    text: &str,
+    offset: usize,
+    message: &[u8],
+    file: &[u8],
+    out: &mut [u8],
+) -> Answer
+    requires short { length text.now < 2 ^ 32 }
+    ensures { Answers (Prints text.now offset message.now file.now) out.old out.new result }
+{
+    if !takes_memory(message, file) {
+        return give_long(text, offset, message, out);
+    }
+    match printed(alloc, text, offset, message, file) {
+        Ok(all) => give(&all, out),
+        Err(refused) => Refusal::Memory(refused).answer(),
+    }
+}
+
+/// An error as it is printed: its message, and its place in a file, whose name is `<anon>` where it
+/// is empty. Memory is asked for only for a short message or a name.
+#[unsafe(no_mangle)]
+pub extern "C" fn wat_print(
+    alloc: Global,
+    text: &[u8],
+    offset: usize,
+    message: &[u8],
+    file: &[u8],
+    out: &mut [u8],
+) -> Answer
+    requires utf8 { IsUtf8 text.now }
+    requires short { length text.now < 2 ^ 32 }
+    ensures found { Answers (Prints text.now offset message.now file.now)
+        out.old out.new result }
+    ensures one { OneAnswer (Prints text.now offset message.now file.now) out.old }
+{
+    one_print();
+    let text = unsafe { str::from_utf8_unchecked(text) };
+    give_printed(alloc, text, offset, message, file, out)
+}
