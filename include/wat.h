@@ -291,7 +291,7 @@ struct wat_look wat_shown(const uint8_t *text, size_t len, const struct wat_row 
 size_t wat_behind(const struct wat_row *rows, size_t count, size_t place);
 
 /* What an error prints whose message is given, at a byte of the text, with the name of a file or, where that is empty, `<anon>`: as `wat_fault`
- * prints a fault. Want of memory only where there is a name. */
+ * prints a fault. Want of memory only where there is a name, or the message has fewer than 16 bytes. */
 struct wat_answer wat_print(const uint8_t *text, size_t len, size_t offset, const uint8_t *message, size_t message_len, const uint8_t *file,
                             size_t file_len, uint8_t *out, size_t room);
 
