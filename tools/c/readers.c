@@ -191,6 +191,9 @@ static void print_error(struct setting s, size_t offset, const uint8_t *message,
     uint8_t *plain = room_of(whole_len), *named = room_of(named_len);
     struct wat_answer told = wat_print(s.text, s.len, offset, message, len, anonymous, 0, plain, whole_len);
     expect(told.status == WAT_GIVEN && told.needed == whole_len && memcmp(plain, whole, whole_len) == 0, "an error is printed otherwise", offset);
+    told = wat_print(s.text, s.len, offset, message, 2, anonymous, 0, plain, whole_len - len + 2);
+    expect(told.status == WAT_GIVEN && told.needed == whole_len - len + 2, "a short error has another length", offset);
+    expect(memcmp(plain, whole, 2) == 0 && memcmp(plain + 2, whole + len, whole_len - len) == 0, "a short error is printed otherwise", offset);
     told = wat_print(s.text, s.len, offset, message, len, name, sizeof name - 1, named, named_len);
     expect(told.status == WAT_GIVEN && told.needed == named_len, "an error in a file has another length", offset);
     while (at < whole_len && memcmp(whole + at, anonymous, sizeof anonymous - 1) != 0) {
