@@ -184,6 +184,28 @@ static void look_for_comment(struct setting s, size_t pos, struct wat_found foun
     }
 }
 
+/* What is printed of a fault's message is what the fault prints, with the name of a file in place of `<anon>`. */
+static void print_error(struct setting s, size_t offset, const uint8_t *message, size_t len, const uint8_t *whole, size_t whole_len) {
+    static const uint8_t name[] = "a longer name", anonymous[] = "<anon>";
+    size_t named_len = whole_len + sizeof name - sizeof anonymous, at = len;
+    uint8_t *plain = room_of(whole_len), *named = room_of(named_len);
+    struct wat_answer told = wat_print(s.text, s.len, offset, message, len, anonymous, 0, plain, whole_len);
+    expect(told.status == WAT_GIVEN && told.needed == whole_len && memcmp(plain, whole, whole_len) == 0, "an error is printed otherwise", offset);
+    told = wat_print(s.text, s.len, offset, message, 2, anonymous, 0, plain, whole_len - len + 2);
+    expect(told.status == WAT_GIVEN && told.needed == whole_len - len + 2, "a short error has another length", offset);
+    expect(memcmp(plain, whole, 2) == 0 && memcmp(plain + 2, whole + len, whole_len - len) == 0, "a short error is printed otherwise", offset);
+    told = wat_print(s.text, s.len, offset, message, len, name, sizeof name - 1, named, named_len);
+    expect(told.status == WAT_GIVEN && told.needed == named_len, "an error in a file has another length", offset);
+    while (at < whole_len && memcmp(whole + at, anonymous, sizeof anonymous - 1) != 0) {
+        at++;
+    }
+    expect(at < whole_len && memcmp(named, whole, at) == 0 && memcmp(named + at, name, sizeof name - 1) == 0, "a file has another name", offset);
+    at += sizeof anonymous - 1;
+    expect(memcmp(named + named_len - (whole_len - at), whole + at, whole_len - at) == 0, "a place is another", offset);
+    free(plain);
+    free(named);
+}
+
 /* What a fault prints begins with its message. */
 static void read_message(struct setting s, size_t pos, struct wat_found found) {
     uint8_t none = 0;
@@ -194,6 +216,7 @@ static void read_message(struct setting s, size_t pos, struct wat_found found) {
     wat_fault(s.text, s.len, pos, s.allow, s.strict, whole, shown.needed);
     expect(told.status == WAT_GIVEN && told.needed > 0 && told.needed < shown.needed, "a fault has no message", pos);
     expect(told.needed < shown.needed && memcmp(message, whole, told.needed) == 0, "a message is another", pos);
+    print_error(s, found.token.offset, message, told.needed, whole, shown.needed);
     free(message);
     free(whole);
 }

@@ -1,14 +1,12 @@
 -- What is printed of an error: its message over the end of another, in front of the place.
-use Rattle.std.proofs.Common.{◌≡◌, ◌≢◌, ◌≤◌, ◌<◌, ◌+◌, ◌-◌, ◌*◌, ◌^◌, ℕ, List, [], ◌∷◌, ◌++◌, length, take, drop, refl, ap, sym, ◌∙◌, subst, arith, length-append, append_assoc, Bool, true, false}
-use Rattle.std.specs.Prelude.{codes, nat_lt, nat_le, if◌then◌else◌, Result, Ok, Err, alloc_error}
+use Rattle.std.proofs.Common.{◌≡◌, ◌≤◌, ◌<◌, ◌+◌, ◌-◌, ℕ, List, [], ◌++◌, length, take, drop, refl, ap, sym, ◌∙◌, subst, arith, length-append, append_assoc, Bool, true, false}
+use Rattle.std.specs.Prelude.{codes, nat_lt, nat_le, if◌then◌else◌, Ok, Err}
 use Rattle.std.specs.Fmt.{decimal}
 use Rattle.std.proofs.lemmas.Bool.Decides.{nat_tests}
-use Rattle.std.proofs.lemmas.List.{take_all, drop_all, drop_at, drop-drop, append-nil, length-take-le, length-drop}
-use Rattle.wat_lex.specs.errors.Rendering.{Excerpt, excerpt, shown_place, laid_over, right_in}
-use Rattle.wat_parser_c.specs.Answers.{Answers, put, answer_of, left_of}
+use Rattle.std.proofs.lemmas.List.{take_all, drop_all, drop_at, append-nil, length-take-le}
+use Rattle.wat_lex.specs.errors.Rendering.{Excerpt, shown_place, laid_over, right_in}
+use Rattle.wat_parser_c.specs.Answers.{Answers}
 use Rattle.wat_parser_c.specs.Printing.{Prints, printed_in, shown_in}
-use Rattle.wat_parser_c.specs.declared.answers.Answer.{Answer}
-use Rattle.wat_parser_c.specs.declared.answers.Refusal.{Refusal}
 use Rattle.wat_parser_c.specs.declared.answers.Refusal.TheVariants.{Other, Memory, Absent, Fault}
 use Rattle.wat_parser_c.proofs.MessageBytes.{put_there}
 use Rattle.wat_parser_c.proofs.OneFinding.{One}

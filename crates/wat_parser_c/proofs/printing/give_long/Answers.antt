@@ -1,8 +1,5 @@
-use Rattle.std.proofs.Common.{◌≡◌, ◌+◌, ◌++◌, [], length, drop, ap, sym, ◌∙◌, subst, arith, length-append, refl}
-use Rattle.std.specs.Prelude.{Ok}
+use Rattle.std.proofs.Common.{◌≡◌, ◌+◌, ◌++◌, [], length, arith, length-append, refl}
 use Rattle.wat_lex.specs.errors.Rendering.{excerpt, shown_place}
-use Rattle.wat_parser_c.specs.Answers.{Answers}
-use Rattle.wat_parser_c.specs.Printing.{Prints, printed_in}
 use Rattle.wat_parser_c.proofs.Lengths.{length_excerpt}
 use Rattle.wat_parser_c.proofs.PrintedErrors.{fits_put, short_put}
 use Rattle.wat_parser_c.proofs.printing.give_long.Goals as goal
