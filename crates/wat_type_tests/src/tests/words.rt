@@ -596,6 +596,25 @@ fn annotations_read_their_names(rt: HostRuntime) -> Result<(), Fail> {
     named(&rt, alloc, alias, "@metadata.code.branch_hint")
 }
 
+/// The refusal of a whole text by a type, as its message and offset.
+fn refused<'a, T: Parse<'a>>(
+    rt: &impl Abort,
+    alloc: Global,
+    buffer: &'a ParseBuffer<'a>,
+    offset: usize,
+    message: &str,
+) -> Result<(), Fail> {
+    match parse::<T>(buffer) {
+        Ok(_) => panic!(rt; "it is read"),
+        Err(error) => {
+            let found = error.message(alloc)?;
+            assert_eq!(rt; found.as_str(), message);
+            assert_eq!(rt; error.span().offset(), offset, "{message}");
+        }
+    }
+    Ok(())
+}
+
 /// The reserved symbol `<=>`.
 #[derive(Clone, Copy, Debug)]
 struct Spaceship;
@@ -619,15 +638,16 @@ impl Word for Spaceship {
 }
 
 #[test]
-fn a_reserved_symbol_is_read_whole(rt: HostRuntime) -> Result<(), Fail> {
-    let part = buffer(&rt, rt.alloc(), "<=")?;
-    let Err(error) = parse::<ReservedSymbol<Spaceship>>(&part) else {
-        panic!(rt; "it is read");
-    };
-    let message = error.message(rt.alloc())?;
-    assert_eq!(rt; message.as_str(), "expected reserved symbol `<=>`");
-    assert_eq!(rt; error.span().offset(), 0);
-    let whole = buffer(&rt, rt.alloc(), "<=>")?;
+fn words_that_are_refused(rt: HostRuntime) -> Result<(), Fail> {
+    let alloc = rt.alloc();
+    let other = buffer(&rt, alloc, "foo")?;
+    refused::<kw::func>(&rt, alloc, &other, 0, "expected keyword `func`")?;
+    let symbol = buffer(&rt, alloc, "<=")?;
+    let message = "expected reserved symbol `<=>`";
+    refused::<ReservedSymbol<Spaceship>>(&rt, alloc, &symbol, 0, message)?;
+    let name = buffer(&rt, alloc, "@producer")?;
+    refused::<annotation::name>(&rt, alloc, &name, 0, "expected annotation `@name`")?;
+    let whole = buffer(&rt, alloc, "<=>")?;
     let symbol = parse::<ReservedSymbol<Spaceship>>(&whole)?;
     assert_eq!(rt; symbol.span.offset(), 0);
     Ok(())
@@ -681,6 +701,8 @@ fn items(rt: HostRuntime) -> Result<(), Fail> {
         Index::Num(..) => panic!(rt; "a number"),
     }
     let empty = buffer(&rt, alloc, "(func)")?;
+    let message = "unexpected token, expected an index or an identifier";
+    refused::<ItemRef<kw::func>>(&rt, alloc, &empty, 5, message)?;
     let mut parser = empty.parser();
     assert!(rt; parser.parse::<ItemRef<kw::func>>().is_err());
     assert_eq!(rt; parser.prev_span().offset(), 0);
