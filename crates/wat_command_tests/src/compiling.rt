@@ -1,10 +1,10 @@
 mod second;
 
-use wat_types::compile_types;
 use std::alloc::Global;
 use std::process::Abort;
 use std::test::Fail;
 use wat_lexer_parser::parser::ParseBuffer;
+use wat_types::compile_types;
 
 /// What each module begins with.
 const HEADER: [u8; 8] = [0x00, 0x61, 0x73, 0x6D, 0x01, 0x00, 0x00, 0x00];

@@ -1,11 +1,11 @@
 //! Texts that are cut at each character: the lines of a prefix begin the lines of the whole text.
-use wat_commands::Settings;
-use wat_commands::ends::Plain;
-use wat_commands::run::run_list;
 use std::alloc::Global;
 use std::process::Abort;
 use std::str;
 use std::test::Fail;
+use wat_commands::Settings;
+use wat_commands::ends::Plain;
+use wat_commands::run::run_list;
 
 /// The list text of a text, and whether it has a fault.
 fn listed(alloc: Global, text: &str, settings: Settings) -> Result<(String, bool), Fail> {

@@ -1,10 +1,10 @@
 //! The five runs over a source that gives few bytes a call and fails at each call in turn, and to a
 //! sink that fails. Where memory is wanting, each of them answers that and has written nothing.
-use wat_commands::run::{RunError, run_blank, run_list, run_play, run_sig, run_types};
 use crate::tests::{OFF, Pieces, Room};
 use std::alloc::Global;
 use std::process::Abort;
 use std::test::Fail;
+use wat_commands::run::{RunError, run_blank, run_list, run_play, run_sig, run_types};
 use wat_lexer_parser::parser::Call;
 
 const TEXT: &str = "(@a \"x\") b";

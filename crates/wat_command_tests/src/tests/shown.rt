@@ -1,14 +1,14 @@
 //! What counts in a text, and what a parser replies to calls: the words of a command line, a text,
 //! and the lines.
 use super::words_of;
-use wat_commands::Settings;
-use wat_commands::ends::Plain;
-use wat_commands::outcome::respond;
-use wat_commands::run::{RunError, run_play, run_sig};
 use crate::tests::OFF;
 use std::alloc::Global;
 use std::str;
 use std::test::Fail;
+use wat_commands::Settings;
+use wat_commands::ends::Plain;
+use wat_commands::outcome::respond;
+use wat_commands::run::{RunError, run_play, run_sig};
 
 /// The status, and what is written and reported, as one text.
 pub(super) fn responded(alloc: Global, words: &str, text: &str) -> Result<String, Fail> {

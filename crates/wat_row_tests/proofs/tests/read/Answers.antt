@@ -15,9 +15,15 @@ returns-clause-rows c = λ n.
     let rest = drop count c.fill_counting-filled.new.out in
     let fits : count ≤ length c.fill_counting-filled.new.out = omega (arith, c.fill_counting-filled.ensures.count, c.fill_counting-filled.auto.out) in
     let kept : length c.link.new.rows ≡ count =
-    omega (arith, ap length c.link.ensures.kept, length-map c.link.new.rows without_link, length-map filled without_link, length-take-le count
-        c.fill_counting-filled.new.out fits) in
+    omega (
+      arith,
+      ap length c.link.ensures.kept,
+      length-map c.link.new.rows without_link,
+      length-map filled without_link,
+      length-take-le count
+          c.fill_counting-filled.new.out fits,
+    ) in
     let front : take count (c.link.new.rows ++ rest) ≡ c.link.new.rows = take_at c.link.new.rows rest count kept in
     subst (λ (rows : List Row). RowsOf c.args.text.now rows c.fill_counting-filled.result.why) (sym front)
     (c.rows_of_a_text.ensures.rows s filled c.link.new.rows c.fill_counting-filled.result.why
-        (last c.fill_counting-filled.ensures.rows refl n) c.link.ensures.kept c.link.ensures.linked)
+    (last c.fill_counting-filled.ensures.rows refl n) c.link.ensures.kept c.link.ensures.linked)
