@@ -1,7 +1,8 @@
 #!/usr/bin/env bash
-# What stands over the static library: the header as C99 and as C++, C programs that list the stored texts and their identifiers, all
-# functions on the stored texts and on mutants of them under the address and undefined-behaviour sanitizers, and the Rust crates with their
-# tests, their examples on the stored texts, and numbers as C reads them. A step whose compiler is not on the machine is left out, and says so.
+# What stands over the static library: the header as C99 and as C++, each function with answers from outside, C programs that list the stored
+# texts and their identifiers, all functions on the stored texts and on mutants of them under the address and undefined-behaviour sanitizers,
+# and the Rust crates with their tests, their examples on the stored texts, and numbers as C reads them. A step whose compiler is not on the
+# machine is left out, and says so.
 #
 # usage: tools/check_c_and_rust.sh [MUTANTS]
 set -eu -o pipefail
@@ -92,6 +93,8 @@ else
     say 'the installed library is left out, as no make or no pkg-config is here'
 fi
 
+"$c" -std=c99 -O2 "${strict[@]}" -o "$room/answers" tools/c/answers.c "${archives[@]}"
+say "each function of the header: $("$room/answers")"
 if sanitizes; then
     "$c" -std=c99 -g -O1 -fsanitize=address,undefined -fno-sanitize-recover=all "${strict[@]}" -o "$room/readers" tools/c/readers.c "${archives[@]}"
     find "$texts" -type f ! -name '*.stdout' ! -name '*.args' -print0 | sort -z | xargs -0 "$room/readers" "$mutants"

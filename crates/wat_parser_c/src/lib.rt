@@ -21,8 +21,6 @@ pub mod messages;
 pub mod numbers;
 pub mod printing;
 mod readings;
-#[cfg(test)]
-mod tests;
 pub mod version;
 pub mod words;
 

@@ -1,0 +1,213 @@
+/* Each function of wat.h once, with answers from outside. Prints what is wrong, and how many answers were compared.
+ *
+ * usage: answers */
+#include "wat.h"
+
+#include <stdio.h>
+#include <string.h>
+
+enum { ROOM = 128 };
+
+static unsigned compared, wrong;
+
+static void expect(bool holds, const char *call, const char *text) {
+    compared++;
+    if (!holds) {
+        printf("answers: %s of %s\n", call, text);
+        wrong++;
+    }
+}
+
+static const uint8_t *bytes_of(const char *text) {
+    return (const uint8_t *)text;
+}
+
+/* The first row of a text that begins with a token that counts. */
+static struct wat_row first_row(const char *text) {
+    struct wat_row row = {0, 0, {0, 0, false, false}, 0};
+    wat_rows(bytes_of(text), strlen(text), 0, false, false, &row, 1);
+    return row;
+}
+
+/* What the reader of this name answers at the start of a text. */
+static struct wat_answer answer(const char *reader, const char *text, uint8_t *out, size_t room) {
+    const uint8_t *bytes = bytes_of(text);
+    size_t len = strlen(text);
+    struct wat_row row = first_row(text);
+    struct wat_answer none = {0, UINT32_MAX};
+    switch (reader[0]) {
+    case 'f':
+        return wat_fault(bytes, len, 0, false, false, out, room);
+    case 's':
+        return wat_string(bytes, len, 0, false, false, out, room);
+    case 'S':
+        return wat_string_of(bytes, len, &row, out, room);
+    case 'n':
+        return wat_name(bytes, len, 0, false, false, out, room);
+    case 'N':
+        return wat_name_of(bytes, len, &row, out, room);
+    case 'w':
+        return wat_name_fault(bytes, len, 0, false, false, out, room);
+    case 'i':
+        return wat_integer(bytes, len, 0, false, false, out, room);
+    case 'I':
+        return wat_digits_of(bytes, len, &row, out, room);
+    case 'p':
+        return wat_float(bytes, len, 0, false, false, (uint32_t)(reader[1] - '0'), out, room);
+    case 'P':
+        return wat_float_of(bytes, len, &row, (uint32_t)(reader[1] - '0'), out, room);
+    default:
+        return none;
+    }
+}
+
+/* The reader gives these bytes where the buffer has room for them, and else none. */
+static void gives(const char *reader, const char *text, const char *wanted) {
+    uint8_t out[ROOM], shorter[ROOM];
+    size_t len = strlen(wanted), i;
+    struct wat_answer given = answer(reader, text, out, len);
+    expect(given.needed == len && given.status == WAT_GIVEN, reader, text);
+    expect(memcmp(out, wanted, len) == 0, reader, text);
+    memset(shorter, '#', sizeof shorter);
+    given = answer(reader, text, shorter, len == 0 ? 0 : len - 1);
+    expect(given.needed == len && given.status == WAT_GIVEN, reader, text);
+    for (i = 0; len > 0 && i < ROOM; i++) {
+        expect(shorter[i] == '#', reader, text);
+    }
+}
+
+static void refuses(const char *reader, const char *text, uint32_t status) {
+    uint8_t out[ROOM] = {0};
+    struct wat_answer given = answer(reader, text, out, ROOM);
+    expect(given.needed == 0 && given.status == status, reader, text);
+}
+
+static void readers(void) {
+    static const char *const given[][3] = {
+        {"s", "\"a\\n\\u{62}\"", "a\nb"}, {"S", "\"a\\n\\u{62}\"", "a\nb"}, {"s", "\"\"", ""},          {"S", "\"\"", ""},
+        {"n", "$x", "x"},                 {"N", "$x", "x"},                 {"n", "@\"\\61 b\"", "a b"}, {"N", "@\"\\61 b\"", "a b"},
+        {"i", "-0x1_f", "-1f"},           {"I", "-0x1_f", "-1f"},           {"p0", "-1_0.5e+7", "-10"},  {"P0", "-1_0.5e+7", "-10"},
+        {"p1", "-1_0.5e+7", "5"},         {"P1", "-1_0.5e+7", "5"},         {"p2", "-1_0.5e+7", "7"},    {"P2", "-1_0.5e+7", "7"},
+        {"p3", "nan:0x1_F", "1F"},        {"P3", "nan:0x1_F", "1F"},
+        {"w", "$", "empty identifier\n     --> <anon>:1:1\n      |\n    1 | $\n      | ^"},
+        {"f", "(;", "unterminated block comment\n     --> <anon>:1:1\n      |\n    1 | (;\n      | ^"}};
+    static const struct {
+        const char *reader, *text;
+        uint32_t status;
+    } refused[] = {{"f", "x", 1},   {"s", "$x", 1},  {"S", "$x", 1},   {"n", "$", 114},   {"N", "$", 114},  {"n", "@", 115}, {"N", "@", 115},
+                   {"w", "$x", 3},  {"i", "1.5", 1}, {"I", "1.5", 1},  {"p1", "1e5", 3},  {"P1", "1e5", 3}, {"p0", "inf", 3}, {"P0", "inf", 3},
+                   {"p4", "1.5", 3}, {"n", "$\"\\ff\"", 113}, {"N", "$\"\\ff\"", 113}};
+    size_t i;
+    for (i = 0; i < sizeof given / sizeof *given; i++) {
+        gives(given[i][0], given[i][1], given[i][2]);
+    }
+    for (i = 0; i < sizeof refused / sizeof *refused; i++) {
+        refuses(refused[i].reader, refused[i].text, refused[i].status);
+    }
+}
+
+static bool is_row(struct wat_token token, size_t offset, uint32_t len, uint8_t code) {
+    return token.offset == offset && token.len == len && token.kind.code == code && token.kind.sign == WAT_NO_SIGN &&
+           !token.kind.has_underscores && !token.kind.hex;
+}
+
+/* Raw tokens, and where they stop. */
+static void tokens(void) {
+    static const char text[] = "(1 \xc2\x80";
+    struct wat_token rows[4] = {{0, 0, {0, 0, false, false}}};
+    struct wat_filled filled = wat_fill(bytes_of(text), 5, 0, false, false, rows, 4);
+    struct wat_found found = wat_scan(bytes_of(text), 5, 3, false, false);
+    struct wat_position position = wat_line_column(bytes_of(text), 5, 3);
+    expect(filled.count == 3 && filled.at == 3 && filled.why == WAT_UNEXPECTED, "wat_fill", text);
+    expect(is_row(rows[0], 0, 1, WAT_LPAREN) && is_row(rows[1], 1, 1, WAT_INTEGER), "wat_fill", text);
+    expect(is_row(rows[2], 2, 1, WAT_WHITESPACE) && is_row(rows[3], 0, 0, WAT_NO_TOKEN), "wat_fill", text);
+    filled = wat_fill(bytes_of(text), 5, 0, false, false, rows, 1);
+    expect(filled.count == 1 && filled.at == 1 && filled.why == WAT_FULL, "wat_fill", text);
+    expect(is_row(found.token, 3, 0, WAT_NO_TOKEN) && found.fault == 102 && found.found == 0x80 && found.wanted == 0, "wat_scan", text);
+    expect(is_row(wat_token_at(bytes_of(text), 5, 3, false, false), 3, 0, WAT_NO_TOKEN), "wat_token_at", text);
+    expect(is_row(wat_token_at(bytes_of(text), 5, 0, false, false), 0, 1, WAT_LPAREN), "wat_token_at", text);
+    expect(position.line == 0 && position.column == 3, "wat_line_column", text);
+    expect(wat_is_place(bytes_of(text), 5, 5) && !wat_is_place(bytes_of(text), 5, 4), "wat_is_place", text);
+    expect(wat_is_text(bytes_of(text), 5) && !wat_is_text(bytes_of("\xff"), 1), "wat_is_text", text);
+}
+
+static bool looks(struct wat_look look, uint32_t row, uint32_t status) {
+    return look.row == row && look.status == status;
+}
+
+/* Rows of tokens that count, and what is shown of them. */
+static void shown(void) {
+    static const char text[] = "(a (@b \")\" (c)) d) (@";
+    static const size_t end = 1;
+    struct wat_row rows[16];
+    struct wat_filled filled;
+    memset(rows, 0, sizeof rows);
+    filled = wat_rows(bytes_of(text), strlen(text), 0, false, false, rows, 16);
+    wat_links(rows, filled.count);
+    expect(filled.count == 13 && filled.at == strlen(text) && filled.why == WAT_END, "wat_rows", text);
+    expect(rows[2].kind.code == WAT_OPENS_AT && rows[2].link == 9 && rows[5].link == 8, "wat_links", text);
+    expect(rows[0].link == 11 && rows[8].link == 11 && rows[10].link == 0 && rows[11].link == 0, "wat_links", text);
+    expect(looks(wat_shown(bytes_of(text), strlen(text), rows, 13, filled.why, 2, bytes_of(""), 0, &end, 0), 9, WAT_SHOWN), "wat_shown", text);
+    expect(looks(wat_shown(bytes_of(text), strlen(text), rows, 13, filled.why, 2, bytes_of("b"), 1, &end, 1), 2, WAT_SHOWN), "wat_shown", text);
+    expect(looks(wat_shown(bytes_of(text), strlen(text), rows, 13, filled.why, 11, bytes_of(""), 0, &end, 0), 12, WAT_MISNAMED), "wat_shown", text);
+    expect(looks(wat_shown(bytes_of(text), strlen(text), rows, 13, filled.why, 13, bytes_of(""), 0, &end, 0), 13, WAT_TEXT_END), "wat_shown", text);
+    expect(wat_behind(rows, 13, 0) == 0 && wat_behind(rows, 13, 2) == 2, "wat_behind", text);
+}
+
+static bool is_word(struct wat_word word, uint32_t start, uint32_t len, uint32_t status) {
+    return word.start == start && word.len == len && word.status == status;
+}
+
+static struct wat_word word_of(const char *text) {
+    struct wat_row row = first_row(text);
+    return wat_word(bytes_of(text), strlen(text), &row);
+}
+
+static bool is_number(const char *text, uint32_t bits, bool is_signed, uint64_t value, uint32_t status) {
+    struct wat_row row = first_row(text);
+    struct wat_number number = wat_integer_of(bytes_of(text), strlen(text), &row, bits, is_signed);
+    return number.value == value && number.status == status;
+}
+
+/* Words, integers and comments. */
+static void values(void) {
+    expect(is_word(word_of("\"ab\""), 1, 2, WAT_GIVEN) && is_word(word_of("$x"), 1, 1, WAT_GIVEN), "wat_word", "\"ab\", $x");
+    expect(is_word(word_of("@\"x\""), 2, 1, WAT_GIVEN) && is_word(word_of("\"\\61\""), 0, 0, WAT_ESCAPED), "wat_word", "@\"x\"");
+    expect(is_word(word_of("$"), 0, 0, WAT_EMPTY_ID) && is_word(word_of("1"), 0, 0, WAT_OTHER), "wat_word", "$, 1");
+    expect(is_number("-0x80", 8, true, 0x80, WAT_GIVEN) && is_number("-0x81", 8, true, 0, WAT_OUT_OF_RANGE), "wat_integer_of", "-0x80");
+    expect(is_number("255", 8, true, 255, WAT_GIVEN) && is_number("256", 8, false, 0, WAT_OUT_OF_RANGE), "wat_integer_of", "255");
+    expect(is_number("-0", 32, false, 0, WAT_OUT_OF_RANGE) && is_number("-1", 64, true, UINT64_MAX, WAT_GIVEN), "wat_integer_of", "-0");
+    expect(is_number("x", 32, false, 0, WAT_OTHER) && is_number("1_0", 16, false, 10, WAT_GIVEN), "wat_integer_of", "x");
+    expect(is_word(wat_comment(bytes_of(" ;;a"), 4, 0, false, false), 1, 3, WAT_GIVEN), "wat_comment", " ;;a");
+    expect(is_word(wat_comment(bytes_of(" a"), 2, 0, false, false), 0, 0, WAT_ABSENT), "wat_comment", " a");
+    expect(is_word(wat_comment(bytes_of(" (;"), 3, 0, false, false), 0, 0, WAT_DANGLING_BLOCK_COMMENT), "wat_comment", " (;");
+}
+
+static bool prints(const char *file, const char *wanted) {
+    uint8_t out[ROOM];
+    struct wat_answer given = wat_print(bytes_of("a b"), 3, 2, bytes_of("no such word"), 12, bytes_of(file), strlen(file), out, ROOM);
+    return given.needed == strlen(wanted) && given.status == WAT_GIVEN && memcmp(out, wanted, given.needed) == 0;
+}
+
+/* Errors, messages, names and the version. */
+static void messages(void) {
+    uint8_t out[ROOM];
+    struct wat_answer given = wat_message(WAT_UNEXPECTED, 0x80, 0, out, ROOM);
+    expect(prints("", "no such word\n     --> <anon>:1:3\n      |\n    1 | a b\n      |   ^"), "wat_print", "a b");
+    expect(prints("x.wat", "no such word\n     --> x.wat:1:3\n      |\n    1 | a b\n      |   ^"), "wat_print", "a b");
+    expect(given.needed == 29 && memcmp(out, "unexpected character '\\u{80}'", 29) == 0, "wat_message", "102");
+    expect(wat_message(0, 0, 0, out, ROOM).status == WAT_OTHER, "wat_message", "0");
+    expect(strcmp(wat_kind_name(WAT_NAN), "Float") == 0 && wat_kind_name(WAT_OPENS_AT)[0] == '\0', "wat_kind_name", "13, 16");
+    expect(strcmp(wat_fault_name(WAT_EMPTY_ID), "EmptyId") == 0 && wat_fault_name(100)[0] == '\0', "wat_fault_name", "114, 100");
+    expect(wat_version() == WAT_VERSION, "wat_version", WAT_VERSION_TEXT);
+}
+
+int main(void) {
+    readers();
+    tokens();
+    shown();
+    values();
+    messages();
+    printf("answers: %u answers compared, %u wrong\n", compared, wrong);
+    return wrong == 0 ? 0 : 1;
+}
