@@ -121,7 +121,7 @@ TURNS = [
         (PARSER + "token/words.rt", PEEK, 3, ERROR, "peek-annotation"),
     ],
     [
-        *[(PARSER + "token/integers.rt", READ, 2 * at + 1, ERROR, f"part-spanned-{it}") for at, it in enumerate(INTEGERS)],
+        *[(PARSER + "token/integers.rt", READ, 2 * at + 1, ERROR, f"free-spanned-{it}") for at, it in enumerate(INTEGERS)],
         (PARSER + "token/strings.rt", READ, 3, ERROR, "part-string"),
         (PARSER + "token/references.rt", READ, 2, ERROR, "part-index"),
         (PARSER + "token/references.rt", PEEK, 2, ERROR, "peek-fault-index"),

@@ -2,6 +2,7 @@
 ghost use Rattle.std.specs.Prelude.{Option, Some};
 
 mod blanked;
+mod blocks;
 mod compiled;
 mod cuts;
 mod refused;

@@ -1,5 +1,5 @@
 -- What an error of compiling says of the text.
-use Rattle.std.proofs.Common.{◌≡◌, ◌∙◌, ◌^◌, ℕ, Bool, true, false, List, [], length, refl, sym, ap}
+use Rattle.std.proofs.Common.{◌≡◌, ◌∙◌, ◌^◌, ℕ, true, false, List, [], length, refl, sym, ap}
 use Rattle.std.specs.Prelude.{Option, Some, None, Ok, Err, IsNone, IsSome, if◌then◌else◌}
 use Rattle.std.specs.Str.{IsUtf8}
 use Rattle.std.proofs.lemmas.Str.{IsCharBoundary-start}

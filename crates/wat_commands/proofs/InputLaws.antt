@@ -4,20 +4,9 @@ use Rattle.std.proofs.lemmas.List.{length-take-le}
 use Rattle.std.specs.Prelude.{Some, None, Option, IfSome}
 use Rattle.std.specs.Io.KnownBytes.{Consumes}
 use Rattle.std.specs.Str.{IsUtf8}
-use Rattle.wat_lex.specs.errors.Errors.{Report}
 use Rattle.wat_commands.specs.Inputs.{ReadsWhole, ReadsPast, ReadsShort}
-use Rattle.wat_commands.specs.Printed.{AppendsCut}
-use Rattle.wat_commands.specs.Streams.{AppendsPrefix, Reads}
+use Rattle.wat_commands.specs.Streams.{Reads}
 use Rattle.wat_commands.proofs.KnownBytes.{consumes_all, consumes_more}
-
-pub lines_cut : (prints : List ℕ → List ℕ → Option (Option Report) → Type 0) (a b held held' : Option (List ℕ)) (bytes text : List ℕ) (error : Option (Option Report)) → ReadsWhole a b bytes → prints bytes text error → AppendsPrefix held held' text → IfSome a (λ xs. AppendsCut (prints xs) held held')
-lines_cut prints None b held held' bytes text error r l p = tt
-lines_cut prints (Some xs) b held held' bytes text error r l p = record {
-  text = text;
-  error = error;
-  printed = subst (λ v. prints v text error) (consumes_all xs b bytes r.given r.ended) l;
-  appended = p;
-}
 
 pub whole_is_short : {a b : Option (List ℕ)} {bytes : List ℕ} → ReadsWhole a b bytes → ReadsShort a b
 whole_is_short {bytes = bytes} r = record { bytes = bytes; given = r.given; short = r.short }

@@ -1,10 +1,12 @@
+mod BlockLaws
 mod CallLaws
 mod CompileLaws
 mod Counts
 mod Decimals
 mod InputLaws
 mod KnownBytes
-mod Listings
+mod LineLaws
 mod OptionLaws
 mod OutcomeLaws
+mod PrintLaws
 mod ShownLaws

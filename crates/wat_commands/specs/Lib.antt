@@ -1,4 +1,5 @@
 pub mod Blanks
+pub mod Blocks
 pub mod Calls
 pub mod Compiles
 pub mod Inputs
@@ -11,3 +12,4 @@ pub mod Replies
 pub mod Runs
 pub mod Shows
 pub mod Streams
+pub mod Writes

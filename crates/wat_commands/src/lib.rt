@@ -4,6 +4,7 @@
 #![tactic(auto)]
 
 pub mod blank;
+mod block;
 pub mod calls;
 pub mod ends;
 mod line;

@@ -1,56 +1,26 @@
 //! The list of a text's raw tokens.
-ghost use Rattle.std.specs.Prelude.{◌≡◌, ◌++◌, ◌+◌, ◌<◌, ◌≤◌, ◌^◌, codes, length, IfOk, OnOk};
-ghost use Rattle.std.specs.Prelude.{IsNone, Some, slice_get};
+ghost use Rattle.std.specs.Prelude.{◌≡◌, ◌++◌, ◌+◌, ◌<◌, ◌^◌, length, IfOk, OnOk, OnErr, IsNone};
 ghost use Rattle.wat_lexer_parser.specs.places.Source.{IsRead};
-ghost use Rattle.wat_commands.specs.Lists.{kind_name, line, token_lines, ListText};
+ghost use Rattle.wat_commands.specs.Blocks.{AppendsEach, AppendsEachCut, EndsIn};
+ghost use Rattle.wat_commands.specs.Lists.{line};
+ghost use Rattle.wat_commands.specs.Streams.{failed_after};
 
-use crate::line::Line;
+use crate::block::Block;
+use crate::ends::{Failed, Sink};
+use crate::line::{Place, ROOM, put_line};
 use std::alloc::{AllocError, Global};
 use wat_lex::error::Error;
-use wat_lex::lexer::{LexFault, Lexer, Settings, Token, TokenKind};
+use wat_lex::lexer::{LexFault, Lexer, Settings, Token};
 use wat_lexer_parser::parser::ParseBuffer;
-
-/// The lines of a text's raw tokens, and its fault where it has one.
-#[derive(Drop)]
-pub struct Listing {
-    /// A line for each token, in order.
-    pub lines: Vec<u8>,
-    /// Where the text stops being tokens, and why.
-    pub fault: Option<LexFault>,
-}
-
-/// How the line of a token of this kind ends.
-pub(crate) fn line_end(kind: TokenKind) -> &'static str
-    ensures text { result.now ≡ codes " " ++ kind_name kind ++ codes "\n" }
-    ensures short { length result.now ≤ 14 }
-{
-    match kind {
-        TokenKind::LineComment => " LineComment\n",
-        TokenKind::BlockComment => " BlockComment\n",
-        TokenKind::Whitespace => " Whitespace\n",
-        TokenKind::LParen => " LParen\n",
-        TokenKind::RParen => " RParen\n",
-        TokenKind::String => " String\n",
-        TokenKind::Id => " Id\n",
-        TokenKind::Keyword => " Keyword\n",
-        TokenKind::Annotation => " Annotation\n",
-        TokenKind::Reserved => " Reserved\n",
-        TokenKind::Integer(_) => " Integer\n",
-        TokenKind::Float(_) => " Float\n",
-    }
-}
 
 /// Writes a token's line behind the others.
 pub(crate) fn push_line(lines: &mut Vec<u8>, token: &Token) -> Result<(), AllocError>
     requires { token.now.offset + token.now.len < 2 ^ 32 }
     ensures { OnOk result (lines.new.items ≡ lines.old.items ++ line token.now) }
 {
-    let mut line = Line::new();
-    line.put(line_end(token.kind).as_bytes());
-    line.put_number((token.offset + token.len as usize) as u32);
-    line.put(b"..");
-    line.put_number(token.offset as u32);
-    lines.extend_from_slice(line.as_bytes())
+    let mut room = [0; ROOM];
+    let end = put_line(&mut room, &mut Place::start(), token);
+    lines.extend_from_slice(&room[..end])
 }
 
 /// The refused request for memory that an error stands for which is no fault of the text.
@@ -58,6 +28,18 @@ pub(crate) fn refusal_of(error: &Error) -> AllocError
     requires { IsNone error.now }
 {
     error.alloc_error().unwrap()
+}
+
+/// The lexer of a text that is read with these settings.
+pub(crate) fn lexer_of<'a>(text: &'a str, settings: Settings) -> Lexer<'a>
+    requires { length text.now < 2 ^ 32 }
+    ensures { result ≡ record { text = text.now; flags = settings } }
+{
+    let mut lexer = Lexer::new(text);
+    lexer
+        .allow_confusing_unicode(settings.allow)
+        .strict_underscores(settings.strict);
+    lexer
 }
 
 /// The buffer of a text that is read with these settings.
@@ -71,38 +53,48 @@ pub(crate) fn buffer_of<'a>(
         b.setting ≡ record { text = text.now; flags = settings }) }
     ensures read { IfOk result IsRead }
 {
-    let mut lexer = Lexer::new(text);
-    lexer
-        .allow_confusing_unicode(settings.allow)
-        .strict_underscores(settings.strict);
-    match ParseBuffer::new_with_lexer(alloc, lexer) {
+    match ParseBuffer::new_with_lexer(alloc, lexer_of(text, settings)) {
         Ok(buffer) => Ok(buffer),
         Err(error) => Err(refusal_of(&error)),
     }
 }
 
-/// A line for each token.
-fn token_lines(alloc: Global, tokens: &[Token]) -> Result<Vec<u8>, AllocError>
-    requires { (i : _) (t : _) → slice_get tokens.now i ≡ Some t → t.offset + t.len < 2 ^ 32 }
-    ensures { IfOk result (λ lines. lines.items ≡ token_lines tokens.now) }
+/// The fault of a lexer's text, where it has one. It takes no memory.
+pub fn fault_of(lexer: &Lexer<'_>) -> Option<LexFault>
+    ensures { EndsIn lexer.now result }
 {
-    let mut lines = Vec::new(alloc);
-    for token in tokens {
-        push_line(&mut lines, token)?;
+    let _ = lexer.input();
+    let mut pos = 0;
+    'tokens: loop {
+        match lexer.scan(pos) {
+            Ok(Some(token)) => pos = token.offset + token.len as usize,
+            Ok(None) => return None,
+            Err(fault) => return Some(fault),
+        }
     }
-    Ok(lines)
 }
 
-/// Lists a text of at most `u32::MAX` bytes.
-pub fn list(alloc: Global, text: &str, settings: Settings) -> Result<Listing, AllocError>
-    requires { length text.now < 2 ^ 32 }
-    ensures { IfOk result (λ listing.
-        ListText (record { text = text.now; flags = settings }) listing.lines.items listing.fault) }
+/// Writes a line for each raw token of a lexer's text. It takes no memory.
+pub fn write_lines<W: Sink>(lexer: &Lexer<'_>, output: &mut W) -> Result<(), Failed>
+    ensures written { OnOk result
+        (AppendsEach line lexer.now (W.held output.old) (W.held output.new)) }
+    ensures cut { OnErr result
+        (AppendsEachCut line lexer.now (W.held output.old) (W.held output.new)) }
+    ensures failed { W.has_failed output.new ≡ failed_after (W.has_failed output.old) result }
 {
-    wat_lex::laws::tokens();
-    let buffer = buffer_of(alloc, text, settings)?;
-    Ok(Listing {
-        lines: token_lines(alloc, buffer.raw())?,
-        fault: buffer.lex_fault(),
-    })
+    wat_lex::laws::one_tiling();
+    let _ = lexer.input();
+    let mut block = Block::new();
+    let mut place = Place::start();
+    let mut pos = 0;
+    'tokens: loop {
+        match lexer.scan(pos) {
+            Ok(Some(token)) => {
+                block.put_line(output, &mut place, &token)?;
+                pos = token.offset + token.len as usize;
+            }
+            Ok(None) => return block.write(output),
+            Err(_) => return block.write(output),
+        }
+    }
 }

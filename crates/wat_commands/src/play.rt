@@ -2,7 +2,8 @@
 ghost use Rattle.std.specs.Prelude.{◌≡◌, ◌<◌, ◌+◌, ◌^◌, length, IfOk};
 ghost use Rattle.wat_commands.specs.Replies.{play_text, PlayText};
 
-use crate::list::{buffer_of, line_end};
+use crate::line::line_end;
+use crate::list::buffer_of;
 use std::alloc::{AllocError, Global};
 use std::fmt;
 use wat_lex::lexer::Settings;

@@ -1,23 +1,26 @@
 //! What is printed of bytes that may be no text.
-ghost use Rattle.std.specs.Prelude.{◌≡◌, ◌⊎◌, ◌↔◌, ◌<◌, ◌^◌, length, Some, IfOk, IfErr, IsErrOf, alloc_error};
-ghost use Rattle.std.specs.Option.{option_map};
+ghost use Rattle.std.specs.Prelude.{◌≡◌, ◌⊎◌, ◌↔◌, ◌<◌, ◌^◌, length, false};
+ghost use Rattle.std.specs.Prelude.{Ok, Err, IfOk, IfErr, OnOk, OnErr, IsErrOf, alloc_error};
 ghost use Rattle.std.specs.Str.{IsUtf8};
-ghost use Rattle.wat_lex.specs.errors.Errors.{lexical};
 ghost use Rattle.wat_commands.specs.Blanks.{Blanks};
+ghost use Rattle.wat_commands.specs.Blocks.{ReportsEnd};
 ghost use Rattle.wat_commands.specs.Compiles.{Compiles};
 ghost use Rattle.wat_commands.specs.Lists.{Lists};
 ghost use Rattle.wat_commands.specs.Printed.{prints};
+ghost use Rattle.wat_commands.specs.Writes.{Writes};
 
-use crate::blank::blank;
-use crate::list::list;
+use crate::blank::write_blanked;
+use crate::ends::{Failed, Sink};
+use crate::list::{fault_of, lexer_of, write_lines};
 use crate::play::play;
 use crate::run::RunError;
-use crate::show::show;
+use crate::show::{Showing, show};
 use std::alloc::Global;
 use std::str;
 use wat_lex::error::Error;
-use wat_lex::lexer::{LexFault, Settings};
+use wat_lex::lexer::{Lexer, Settings};
 use wat_lex::token::Span;
+use wat_lexer_parser::laws;
 use wat_lexer_parser::parser::Call;
 use wat_types::compile_types;
 
@@ -36,110 +39,138 @@ pub enum Printing<'a> {
     Types,
 }
 
-/// What is printed, and the error of the fault or refusal of the text.
-#[derive(Drop)]
-pub struct Output {
-    pub text: Vec<u8>,
-    pub error: Option<Error>,
+/// The error of what was written, or that the write failed.
+fn answer(written: Result<(), Failed>, error: Option<Error>) -> Result<Option<Error>, RunError>
+    ensures written { OnOk written (result ≡ Ok error) }
+    ensures failed { OnErr written (result ≡ Err RunError.Write) }
+{
+    match written {
+        Ok(()) => Ok(error),
+        Err(_) => Err(RunError::Write),
+    }
 }
 
-/// The error of the fault of a text, where it has one.
-fn error_of(alloc: Global, text: &str, fault: Option<LexFault>) -> Result<Option<Error>, RunError>
-    ensures error { IfOk result (λ error.
-        error ≡ option_map (λ f. Some (lexical text.now f)) fault) }
+/// The error of the fault of a lexer's text, where it has one.
+fn error_of(alloc: Global, lexer: &Lexer<'_>) -> Result<Option<Error>, RunError>
+    ensures error { IfOk result (ReportsEnd lexer.now) }
     ensures refused { IfErr result (λ e. e ≡ RunError.Memory alloc_error) }
 {
-    let Some(fault) = fault else {
+    let Some(fault) = fault_of(lexer) else {
         return Ok(None);
     };
     let span = Span::from_offset(fault.offset);
-    let error = Error::lex(alloc, span, text, fault.error);
+    let error = Error::lex(alloc, span, lexer.input(), fault.error);
     match error.alloc_error() {
         Some(refused) => Err(RunError::from(refused)),
         None => Ok(Some(error)),
     }
 }
 
-/// The lines of the raw tokens of a text, and the error of its fault.
-fn print_raw(alloc: Global, text: &str, settings: Settings) -> Result<Output, RunError>
-    requires { length text.now < 2 ^ 32 }
-    ensures listed { IfOk result (λ output.
-        Lists settings text.now output.text.items output.error) }
-    ensures refused { IfErr result (λ e. e ≡ RunError.Memory alloc_error) }
+/// Writes the lines of the raw tokens of a text, and answers the error of its fault. All memory is
+/// asked for before the first line is written: the text is read twice.
+fn print_raw<W: Sink>(
+    alloc: Global,
+    text: &str,
+    settings: Settings,
+    output: &mut W,
+) -> Result<Option<Error>, RunError>
+    requires text { length text.now < 2 ^ 32 }
+    requires output { W.has_failed output.old ≡ false }
+    ensures printed { Writes W.held W.has_failed (Lists settings text.now) output.old output.new result }
+    ensures refused { IfErr result (λ e. (e ≡ RunError.Write) ⊎ (e ≡ RunError.Memory alloc_error)) }
 {
-    let listing = list(alloc, text, settings)?;
-    let error = error_of(alloc, text, listing.fault)?;
-    Ok(Output {
-        text: listing.lines,
-        error,
-    })
+    wat_lex::laws::one_tiling();
+    let lexer = lexer_of(text, settings);
+    let error = error_of(alloc, &lexer)?;
+    answer(write_lines(&lexer, output), error)
 }
 
-/// A text with its comments blanked, or nothing and the error of its fault.
-fn print_blank(alloc: Global, text: &str, settings: Settings) -> Result<Output, RunError>
-    requires { length text.now < 2 ^ 32 }
-    ensures blanked { IfOk result (λ output.
-        Blanks settings text.now output.text.items output.error) }
-    ensures refused { IfErr result (λ e. e ≡ RunError.Memory alloc_error) }
+/// Writes a text with its comments blanked, or answers the error of its fault.
+fn print_blank<W: Sink>(
+    alloc: Global,
+    text: &str,
+    settings: Settings,
+    output: &mut W,
+) -> Result<Option<Error>, RunError>
+    requires text { length text.now < 2 ^ 32 }
+    requires output { W.has_failed output.old ≡ false }
+    ensures printed { Writes W.held W.has_failed (Blanks settings text.now) output.old output.new result }
+    ensures refused { IfErr result (λ e. (e ≡ RunError.Write) ⊎ (e ≡ RunError.Memory alloc_error)) }
 {
-    let blanking = blank(alloc, text, settings)?;
-    let error = error_of(alloc, text, blanking.fault)?;
-    Ok(Output {
-        text: blanking.text,
-        error,
-    })
+    wat_lex::laws::one_tiling();
+    laws::blank_texts();
+    let lexer = lexer_of(text, settings);
+    if let Some(error) = error_of(alloc, &lexer)? {
+        return Ok(Some(error));
+    }
+    answer(write_blanked(&lexer, output), None)
 }
 
-/// The bytes of the module that a text spells, or nothing and the error of its refusal.
-fn print_types(alloc: Global, text: &str) -> Result<Output, RunError>
-    requires { length text.now < 2 ^ 32 }
-    ensures compiled { IfOk result (λ output.
-        Compiles text.now output.text.items output.error) }
-    ensures refused { IfErr result (λ e. e ≡ RunError.Memory alloc_error) }
+/// Writes a text that was gathered, and answers its error.
+fn print_text<W: Sink>(
+    text: &[u8],
+    error: Option<Error>,
+    output: &mut W,
+) -> Result<Option<Error>, RunError>
+    requires { W.has_failed output.old ≡ false }
+    ensures printed { Writes W.held W.has_failed
+        (λ bytes e. (bytes ≡ text.now) × (e ≡ error)) output.old output.new result }
+    ensures refused { IfErr result (λ e. e ≡ RunError.Write) }
+{
+    answer(output.write_all(text), error)
+}
+
+/// Writes the bytes of the module that a text spells, or answers the error of its refusal.
+fn print_types<W: Sink>(
+    alloc: Global,
+    text: &str,
+    output: &mut W,
+) -> Result<Option<Error>, RunError>
+    requires text { length text.now < 2 ^ 32 }
+    requires output { W.has_failed output.old ≡ false }
+    ensures printed { Writes W.held W.has_failed (Compiles text.now) output.old output.new result }
+    ensures refused { IfErr result (λ e. (e ≡ RunError.Write) ⊎ (e ≡ RunError.Memory alloc_error)) }
 {
     wat_lex::laws::one_tiling();
     match compile_types(alloc, text) {
-        Ok(text) => Ok(Output { text, error: None }),
+        Ok(module) => print_text(&module, None, output),
         Err(error) => match error.alloc_error() {
             Some(refused) => Err(RunError::from(refused)),
-            None => Ok(Output {
-                text: Vec::new(alloc),
-                error: Some(error),
-            }),
+            None => print_text(b"", Some(error), output),
         },
     }
 }
 
-/// What is printed of bytes.
-pub fn print(
+/// Writes what is printed of bytes, and answers the error of the fault or refusal of the text.
+pub fn print<W: Sink>(
     alloc: Global,
     bytes: &[u8],
     settings: Settings,
     printing: Printing<'_>,
-) -> Result<Output, RunError>
-    requires { length bytes.now < 2 ^ 32 }
-    ensures printed { IfOk result (λ output.
-        prints settings printing.entry bytes.now output.text.items output.error) }
+    output: &mut W,
+) -> Result<Option<Error>, RunError>
+    requires bytes { length bytes.now < 2 ^ 32 }
+    requires output { W.has_failed output.old ≡ false }
+    ensures printed { Writes W.held W.has_failed (prints settings printing.entry bytes.now)
+        output.old output.new result }
     ensures not_utf8 { IsErrOf result RunError.NotUtf8 ↔ (¬ IsUtf8 bytes.now) }
-    ensures refused { IfErr result (λ e. (e ≡ RunError.NotUtf8) ⊎ (e ≡ RunError.Memory alloc_error)) }
+    ensures refused { IfErr result (λ e. (e ≡ RunError.NotUtf8) ⊎
+        ((e ≡ RunError.Write) ⊎ (e ≡ RunError.Memory alloc_error))) }
 {
     let Ok(text) = str::from_utf8(bytes) else {
         return Err(RunError::NotUtf8);
     };
     match printing {
-        Printing::Raw => print_raw(alloc, text, settings),
+        Printing::Raw => print_raw(alloc, text, settings, output),
         Printing::Shown(names) => {
-            let shown = show(alloc, text, settings, names)?;
-            Ok(Output {
-                text: shown.lines,
-                error: shown.error,
-            })
+            let Showing { lines, error } = show(alloc, text, settings, names)?;
+            print_text(&lines, error, output)
         }
-        Printing::Replies(calls) => Ok(Output {
-            text: play(alloc, text, settings, calls)?,
-            error: None,
-        }),
-        Printing::Blank => print_blank(alloc, text, settings),
-        Printing::Types => print_types(alloc, text),
+        Printing::Replies(calls) => {
+            let replies = play(alloc, text, settings, calls)?;
+            print_text(&replies, None, output)
+        }
+        Printing::Blank => print_blank(alloc, text, settings, output),
+        Printing::Types => print_types(alloc, text, output),
     }
 }

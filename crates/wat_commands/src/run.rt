@@ -12,7 +12,7 @@ ghost use Rattle.wat_commands.specs.Runs.{without_error, Runs};
 ghost use Rattle.wat_commands.specs.Shows.{Shows};
 
 use crate::ends::{Sink, Source};
-use crate::print::{Output, Printing, print};
+use crate::print::{Printing, print};
 use std::alloc::{AllocError, Global};
 use wat_lex::error::Error;
 use wat_lex::lexer::Settings;
@@ -126,11 +126,7 @@ fn run<R: Source, W: Sink>(
     ensures unwritten { IfErr result (λ e. (e ≡ RunError.Write) ⊎ (output.new ≡ output.old)) }
 {
     let bytes = read_whole(alloc, input)?;
-    let Output { text, error } = print(alloc, &bytes, settings, printing)?;
-    if output.write_all(&text).is_err() {
-        return Err(RunError::Write);
-    }
-    Ok(error)
+    print(alloc, &bytes, settings, printing, output)
 }
 
 /// Writes the list of the raw tokens of all that the source has left, up to the first fault, and

@@ -5,6 +5,7 @@ pub mod NumberWords
 pub mod Names
 pub mod StringValues
 pub mod Numerals
+pub mod Magnitudes
 pub mod OneValues
 pub mod SomeValues
 pub mod TokenValues

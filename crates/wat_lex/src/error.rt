@@ -18,6 +18,7 @@ use std::{fmt, mem};
 pub(crate) mod pieces;
 mod rendered;
 mod shown;
+mod stretches;
 mod text;
 
 pub use rendered::Rendered;

@@ -22,8 +22,10 @@ mod settings;
 pub use faults::{LexError, LexFault};
 pub use kinds::{FloatKind, IntegerKind, SignToken, Token, TokenKind};
 use kinds::{Outline, Shape, Stride};
-pub use read::numbers::{Float, Integer};
+pub use read::numbers::{Float, Integer, magnitude};
+pub(crate) use scan::blocks::block_at;
 pub(crate) use scan::classes::is_confusing;
+pub(crate) use scan::comments::first_confusing;
 use scan::{first_fault, first_outline, kind_of};
 pub use settings::Settings;
 
@@ -150,6 +152,8 @@ impl<'a> Lexer<'a> {
 
     /// The token at `pos`, which moves to the token's end, or None at the text's end,
     /// or the error of the fault there.
+    // A program with two loops would else call it, at 2.5 times the instructions for short tokens.
+    #[inline(always)]
     pub fn parse(&self, alloc: Global, pos: &mut usize) -> Result<Option<Token>, Error>
         requires { IsCharBoundary self.now.text pos.old }
         ensures token { IfOk result (λ found. IfSome found (λ t.
@@ -315,6 +319,8 @@ impl<'l, 'a> Iterator for Tokens<'l, 'a> {
 
     ghost remaining = { λ s. at_most (most_left s) };
 
+    // A program with two loops would else call it, at 2.5 times the instructions for short tokens.
+    #[inline(always)]
     fn next(&mut self) -> Option<Result<Token, Error>> {
         if self.done {
             return None;

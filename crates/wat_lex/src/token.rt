@@ -1,18 +1,23 @@
 //! What readers of the text format share: places, identifiers and indices.
 
 ghost use Rattle.std.specs.Prelude.{◌≡◌, ◌≤◌, ◌↔◌, false, not, length, IsTrue, IfOk, IsOk};
-ghost use Rattle.std.specs.List.{count_by, suffix_len};
+ghost use Rattle.std.specs.List.{suffix_len};
 ghost use Rattle.wat_lex.specs.identifiers.Identifiers.{IsSameIdentifier, generated, identifier};
 ghost use Rattle.wat_lex.specs.identifiers.Identifiers.{is_same_identifier};
 ghost use Rattle.wat_lex.specs.identifiers.Indices.{IsSameIndex, is_same_index, owns_name, span_of};
 ghost use Rattle.wat_lex.specs.errors.Positions.{is_line_feed, line_and_column};
 
-use memchr::{memchr_iter, memrchr};
+use lines::line_feeds;
+use memchr::memrchr;
 use std::alloc::{AllocError, Global};
 use std::borrow::CowStr;
 use std::fmt;
 use std::hash::{Hash, Hasher};
 use std::marker::Model;
+
+mod lines;
+
+pub use lines::LineIndex;
 
 /// A place in a text, as an offset in bytes.
 #[derive(Copy, Clone, Debug, PartialOrd, Ord, PartialEq, Eq, Hash)]
@@ -60,14 +65,6 @@ impl Span {
         let before = &text.as_bytes()[..self.offset];
         (line_feeds(before), since_line_feed(before))
     }
-}
-
-/// How many line feeds there are.
-fn line_feeds(text: &[u8]) -> usize
-    ensures count { result ≡ count_by is_line_feed text.now }
-    ensures bound { result ≤ length text.now }
-{
-    memchr_iter(b'\n', text).count()
 }
 
 /// How many bytes stand behind the last line feed.

@@ -1,4 +1,3 @@
 -- Lemmas on the values of tokens.
-pub mod Magnitudes
 pub mod Utf8
 pub mod WordMemory

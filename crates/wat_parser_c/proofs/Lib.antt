@@ -2,7 +2,7 @@ mod Answering
 mod Bits
 mod CommentLaws
 mod IntegerRows
-mod Magnitudes
+mod Joined
 mod Lengths
 mod MessageBytes
 mod OneFinding

@@ -2,7 +2,7 @@
 use Rattle.std.proofs.Common.{◌≡◌, ◌≢◌, ◌<◌, ◌≤◌, ◌+◌, ℕ, List, [], ◌∷◌, ◌++◌, length, take, drop, get_or, refl, ap, sym, ◌∙◌, arith, slice_set, length-append, append_assoc}
 use Rattle.std.proofs.lemmas.List.{take_more_set, drop-set-lt, drop-drop, length-set, take-append-drop, append-nil, drop_all}
 use Rattle.wat_lex.specs.values.NumberValues.{joined}
-use Rattle.wat_parser_c.proofs.Magnitudes.{joined_at, joined_over}
+use Rattle.wat_parser_c.proofs.Joined.{joined_at, joined_over}
 
 -- those of the first digits stand from a place on up to another, and the rest stays
 pub record Written (old out : List ℕ) (from at : ℕ) (ds : List ℕ) (i : ℕ) : Type 0 where

@@ -1,12 +1,10 @@
 //! What integers read as, without memory.
 ghost use Rattle.std.specs.Prelude.{◌≡◌, ◌≢◌, ◌≤◌, ◌<◌, ◌^◌, ◌+◌, ◌*◌, ◌==◌, length, MatchOption, Ok};
 ghost use Rattle.std.specs.Prelude.{IfSome, take, drop, ◌++◌};
-ghost use Rattle.std.specs.Char.{digit_value};
 ghost use Rattle.std.specs.Str.{IsUtf8};
-ghost use Rattle.std.specs.Str.Parse.{digits_value};
 ghost use Rattle.wat_lex.specs.grammar.Numbers.{unsigned};
 ghost use Rattle.wat_lex.specs.tokens.ReadableTokens.{word_of};
-ghost use Rattle.wat_lex.specs.values.NumberValues.{base, behind_prefix, joined};
+ghost use Rattle.wat_lex.specs.values.NumberValues.{behind_prefix, joined};
 ghost use Rattle.wat_lexer_parser.specs.parser.Takers.{as_integer};
 ghost use Rattle.wat_parser_c.specs.Answers.{Answers, OneAnswer, answer_of, left_of};
 ghost use Rattle.wat_parser_c.specs.ByRow.{FindsOf, kind_of, token_of};
@@ -18,6 +16,7 @@ ghost use Rattle.wat_rows.specs.Counting.{IsRow};
 use crate::answers::{Answer, Refusal};
 use crate::laws::one_answer_of_row;
 use std::str;
+use wat_lex::lexer::magnitude;
 use wat_rows::counting::Row;
 use wat_rows::rows::KindRow;
 
@@ -65,41 +64,6 @@ fn digits<'a>(text: &'a str, row: Row) -> &'a [u8]
     let start = row.offset as usize;
     let end = start + row.len as usize;
     &text.as_bytes()[start + lead(row.kind)..end]
-}
-
-/// What a digit stands for.
-fn digit(byte: u8) -> u64
-    ensures { result ≡ digit_value byte }
-{
-    match byte {
-        b'0'..=b'9' => u64::from(byte - b'0'),
-        b'A'..=b'Z' => u64::from(byte - b'A') + 10,
-        b'a'..=b'z' => u64::from(byte - b'a') + 10,
-        _ => 36,
-    }
-}
-
-/// The number with a digit behind it.
-fn with_digit(value: u64, base: u64, byte: u8) -> Option<u64>
-    ensures { MatchOption result (2 ^ 64 ≤ value * base + digit_value byte)
-        (λ n. n ≡ value * base + digit_value byte) }
-{
-    value.checked_mul(base)?.checked_add(digit(byte))
-}
-
-/// The number that digits write, underscores apart, None where it is 2^64 at least.
-fn magnitude(digits: &[u8], hex: bool) -> Option<u64>
-    ensures { MatchOption result (2 ^ 64 ≤ digits_value (base hex) (joined digits.now))
-        (λ n. n ≡ digits_value (base hex) (joined digits.now)) }
-{
-    let base = if hex { 16 } else { 10 };
-    let mut value = 0;
-    for byte in digits {
-        if *byte != b'_' {
-            value = with_digit(value, base, *byte)?;
-        }
-    }
-    Some(value)
 }
 
 /// Half as many as so many bits can tell apart.

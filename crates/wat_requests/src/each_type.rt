@@ -90,14 +90,14 @@ fn spanned_as(run: &mut Run<'_>, kind: As) -> Result<Ending, Error> {
 
 pub fn spans(run: &mut Run<'_>) -> io::Result<()> {
     let rows = [
-        ("part-spanned-u8", As::U8),
-        ("part-spanned-u16", As::U16),
-        ("part-spanned-u32", As::U32),
-        ("part-spanned-u64", As::U64),
-        ("part-spanned-i8", As::I8),
-        ("part-spanned-i16", As::I16),
-        ("part-spanned-i32", As::I32),
-        ("part-spanned-i64", As::I64),
+        ("free-spanned-u8", As::U8),
+        ("free-spanned-u16", As::U16),
+        ("free-spanned-u32", As::U32),
+        ("free-spanned-u64", As::U64),
+        ("free-spanned-i8", As::I8),
+        ("free-spanned-i16", As::I16),
+        ("free-spanned-i32", As::I32),
+        ("free-spanned-i64", As::I64),
     ];
     for (name, kind) in rows {
         if run.is_asked(name) {

@@ -220,18 +220,19 @@ pub fn part_as(
 
 pub fn integers(run: &mut Run<'_>) -> io::Result<()> {
     let rows = [
-        ("part-u8", As::U8, "0xff", "255"),
-        ("part-u16", As::U16, "1_0", "10"),
-        ("part-u32", As::U32, "0x10", "16"),
-        ("part-u64", As::U64, "1_0", "10"),
-        ("part-i8", As::I8, "-0x80", "-128"),
-        ("part-i16", As::I16, "+0xffff", "-1"),
-        ("part-i32", As::I32, "-1_0", "-10"),
-        ("part-i64", As::I64, "-0x1", "-1"),
+        ("part-u8", As::U8, "0x100", "u8"),
+        ("part-u16", As::U16, "6_5536", "u16"),
+        ("part-u32", As::U32, "4294967296", "u32"),
+        ("part-u64", As::U64, "0x1_0000_0000_0000_0000", "u64"),
+        ("part-i8", As::I8, "-0x81", "i8"),
+        ("part-i16", As::I16, "+0x1_0000", "i16"),
+        ("part-i32", As::I32, "-2_147_483_649", "i32"),
+        ("part-i64", As::I64, "-0x8000000000000001", "i64"),
     ];
-    for (name, kind, text, shown) in rows {
+    for (name, kind, text, of) in rows {
         if run.is_asked(name) {
-            let ended = part_as(run, kind, text, Expected::Value(shown), text.len());
+            let message = format!("invalid {of} number: constant out of range");
+            let ended = part_as(run, kind, text, Expected::Refusal(&message, 0), 0);
             run.report(name, ended)?;
         }
     }
@@ -325,7 +326,6 @@ pub fn part_values(run: &mut Run<'_>) -> io::Result<()> {
         ("part-value-string", As::Owned, "\"ab\"", "\"ab\""),
         ("part-value-id", As::Id, "$\"\\62\"", "\"b\""),
         ("part-value-index", As::Index, "$\"\\62\"", "Id(\"b\")"),
-        ("part-value-optional", As::Optional, "0x1", "Some(1)"),
         ("part-value-box", As::Boxed, "12", "12"),
         (
             "part-value-name",

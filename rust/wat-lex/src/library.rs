@@ -1,7 +1,15 @@
-//! The functions of the static library, made safe: each `requires` of an export is known from `&str`, tested here before the call,
-//! or kept by a struct whose fields are private here. The declarations fit `include/wat.h`, with which `tools/compare_declarations.py` compares
-//! them, and `crates/wat_parser_c/src`, with which nothing does.
-//! This module and the one below it have all of the crate's `unsafe`.
+//! The functions of the static library, made safe. What they ask of their caller are the rules at the head of `include/wat.h`, by whose numbers
+//! each block below says how they are kept:
+//!
+//! - 1, 2, 3: a [`Text`] is a `&str` of at most `u32::MAX` bytes: it is UTF-8, is not null, and is not written while it is borrowed.
+//! - 4: a [`Place`] is a place of its text, which was tested when it was made.
+//! - 5: a buffer is behind a `&mut`, so it has values, is no part of the text, and nobody else looks at it.
+//! - 6: a `bool` of Rust is 0 or 1.
+//! - 7: [`Rows`] keeps rows beside their text, in fields that are private.
+//! - 8: who puts another `malloc` in place, forks, or handles signals has to write `unsafe` for it.
+//!
+//! The declarations are those of `include/wat.h` and of `crates/wat_parser_c`: `tools/compare_declarations.py` compares the three.
+//! This module and the one below it have all of the crate's `unsafe`; `docs/FROM-C-AND-RUST.md` has a table of it.
 #![allow(unsafe_code)]
 
 mod rows;
@@ -104,8 +112,18 @@ pub enum Part {
     Payload = 3,
 }
 
-/// A function that reads the token at a place.
-type Reader = unsafe extern "C" fn(*const u8, usize, usize, bool, bool, *mut u8, usize) -> Answer;
+/// What is read of a token.
+#[derive(Clone, Copy, Debug)]
+enum Value {
+    /// The bytes of a string.
+    String,
+    /// The name of an identifier or annotation.
+    Name,
+    /// The digits of an integer.
+    Digits,
+    /// A part of a floating-point number.
+    Float(Part),
+}
 
 unsafe extern "C" {
     fn wat_scan(text: *const u8, len: usize, pos: usize, allow: bool, strict: bool) -> Found;
@@ -172,8 +190,7 @@ unsafe extern "C" {
     fn wat_line_column(text: *const u8, len: usize, offset: usize) -> Position;
 }
 
-/// A text of at most `u32::MAX` bytes. A `&str` is UTF-8, is not null, and is not written while it is
-/// borrowed: that, and its length, is what the library asks of a text.
+/// A text of at most `u32::MAX` bytes: what the library asks of a text.
 #[derive(Clone, Copy, Debug)]
 pub struct Text<'a>(&'a str);
 
@@ -208,23 +225,24 @@ impl<'a> Text<'a> {
         }
     }
 
+    /// The text as the library is handed it.
+    #[inline]
+    fn parts(self) -> (*const u8, usize) {
+        (self.0.as_ptr(), self.0.len())
+    }
+
     /// An error with this message at a byte, as it is printed of a file without a name.
     pub fn print(self, offset: usize, message: &str) -> Vec<u8> {
+        let (text, len) = self.parts();
+        let (words, words_len) = (message.as_ptr(), message.len());
+        let (file, file_len) = ("".as_ptr(), 0);
         // Room for most lines, so that most errors take one call.
         let printed = read(message.len() + 512, |buffer| {
-            // SAFETY: texts and message are UTF-8, as each `&str`; `Text::new` tested the text's length; the buffer is behind a `&mut`, so it
-            // has values and is no part of them.
+            let (out, room) = (buffer.as_mut_ptr(), buffer.len());
+            // SAFETY: rules 1 to 3 by `Text`, of the message and of no name by `&str`, and 5 by the `&mut`. Any byte may be asked for.
             unsafe {
                 wat_print(
-                    self.0.as_ptr(),
-                    self.0.len(),
-                    offset,
-                    message.as_ptr(),
-                    message.len(),
-                    "".as_ptr(),
-                    0,
-                    buffer.as_mut_ptr(),
-                    buffer.len(),
+                    text, len, offset, words, words_len, file, file_len, out, room,
                 )
             }
         });
@@ -263,66 +281,33 @@ impl<'a> Place<'a> {
 
     /// What stands there.
     pub fn scan(self, settings: Settings) -> Found {
-        let text = self.text.0;
-        // SAFETY: the text is UTF-8, as each `&str`; `Text::new` tested its length, and `Text::place` the place.
-        unsafe {
-            wat_scan(
-                text.as_ptr(),
-                text.len(),
-                self.pos,
-                settings.allow,
-                settings.strict,
-            )
-        }
+        let (text, len) = self.text.parts();
+        // SAFETY: rules 1 to 4 by `Place`, and 6.
+        unsafe { wat_scan(text, len, self.pos, settings.allow, settings.strict) }
     }
 
     /// The token there; its length is 0 where the text ends there or has a fault.
     #[inline]
     pub fn token(self, settings: Settings) -> Raw {
-        let text = self.text.0;
+        let (text, len) = self.text.parts();
         // SAFETY: as for `scan`.
-        unsafe {
-            wat_token_at(
-                text.as_ptr(),
-                text.len(),
-                self.pos,
-                settings.allow,
-                settings.strict,
-            )
-        }
+        unsafe { wat_token_at(text, len, self.pos, settings.allow, settings.strict) }
     }
 
     /// Fills the tokens from there on.
     pub fn fill(self, settings: Settings, tokens: &mut [Raw]) -> Filled {
-        let text = self.text.0;
+        let ((text, len), pos) = (self.text.parts(), self.pos);
+        let Settings { allow, strict } = settings;
         let (out, room) = (tokens.as_mut_ptr(), tokens.len());
-        // SAFETY: as for `scan`; and the tokens are behind a `&mut`, so they have values and are no part of the text.
-        unsafe {
-            wat_fill(
-                text.as_ptr(),
-                text.len(),
-                self.pos,
-                settings.allow,
-                settings.strict,
-                out,
-                room,
-            )
-        }
+        // SAFETY: as for `scan`, and rule 5 by the `&mut`.
+        unsafe { wat_fill(text, len, pos, allow, strict, out, room) }
     }
 
     /// Where the comment there begins and ends, past white space.
     pub fn comment(self, settings: Settings) -> Result<(usize, usize), Refusal> {
-        let text = self.text.0;
+        let (text, len) = self.text.parts();
         // SAFETY: as for `scan`.
-        let word = unsafe {
-            wat_comment(
-                text.as_ptr(),
-                text.len(),
-                self.pos,
-                settings.allow,
-                settings.strict,
-            )
-        };
+        let word = unsafe { wat_comment(text, len, self.pos, settings.allow, settings.strict) };
         given(word.status)?;
         let start = word.start as usize;
         Ok((start, start + word.len as usize))
@@ -330,66 +315,47 @@ impl<'a> Place<'a> {
 
     /// The value of the string there.
     pub fn string(self, plain: &'a [u8]) -> Result<Cow<'a, [u8]>, Refusal> {
-        self.read_or(wat_string, plain)
+        self.read_or(Value::String, plain)
     }
 
     /// The name there.
     pub fn name(self, plain: &'a [u8]) -> Result<Cow<'a, [u8]>, Refusal> {
-        self.read_or(wat_name, plain)
+        self.read_or(Value::Name, plain)
     }
 
     /// The digits of the integer there.
     pub fn integer(self, plain: &'a [u8]) -> Result<Cow<'a, [u8]>, Refusal> {
-        self.read_or(wat_integer, plain)
+        self.read_or(Value::Digits, plain)
     }
 
     /// A part of the floating-point number there.
     pub fn float(self, part: Part) -> Result<Vec<u8>, Refusal> {
-        let text = self.text.0;
-        let Settings { allow, strict } = Settings::LENIENT;
-        read(0, |buffer| {
-            let (out, room) = (buffer.as_mut_ptr(), buffer.len());
-            // SAFETY: as for `answer`; each number is allowed for the part.
-            unsafe {
-                wat_float(
-                    text.as_ptr(),
-                    text.len(),
-                    self.pos,
-                    allow,
-                    strict,
-                    part as u32,
-                    out,
-                    room,
-                )
-            }
-        })
+        read(0, |buffer| self.answer(Value::Float(part), buffer))
     }
 
-    /// The bytes that the reader finds: the plain ones where it finds as many, since all that makes them others, an
+    /// The bytes that a reader finds: the plain ones where it finds as many, since all that makes them others, an
     /// escape, an underscore or `0x`, makes them fewer.
-    fn read_or(self, reader: Reader, plain: &'a [u8]) -> Result<Cow<'a, [u8]>, Refusal> {
-        if self.answer(reader, &mut []).needed()? == plain.len() {
+    fn read_or(self, value: Value, plain: &'a [u8]) -> Result<Cow<'a, [u8]>, Refusal> {
+        if self.answer(value, &mut []).needed()? == plain.len() {
             return Ok(Cow::Borrowed(plain));
         }
-        read(plain.len(), |buffer| self.answer(reader, buffer)).map(Cow::Owned)
+        read(plain.len(), |buffer| self.answer(value, buffer)).map(Cow::Owned)
     }
 
-    fn answer(self, reader: Reader, buffer: &mut [u8]) -> Answer {
-        let text = self.text.0;
+    fn answer(self, value: Value, buffer: &mut [u8]) -> Answer {
+        let ((text, len), pos) = (self.text.parts(), self.pos);
         let Settings { allow, strict } = Settings::LENIENT;
         let (out, room) = (buffer.as_mut_ptr(), buffer.len());
-        // SAFETY: the text is UTF-8, as each `&str`; `Text::new` tested its length, and `Text::place` the place; the buffer is
-        // behind a `&mut`, so it has values and is no part of the text.
+        // SAFETY: as for `fill`. Any part may be asked for, of any token.
         unsafe {
-            reader(
-                text.as_ptr(),
-                text.len(),
-                self.pos,
-                allow,
-                strict,
-                out,
-                room,
-            )
+            match value {
+                Value::String => wat_string(text, len, pos, allow, strict, out, room),
+                Value::Name => wat_name(text, len, pos, allow, strict, out, room),
+                Value::Digits => wat_integer(text, len, pos, allow, strict, out, room),
+                Value::Float(part) => {
+                    wat_float(text, len, pos, allow, strict, part as u32, out, room)
+                }
+            }
         }
     }
 }
@@ -429,7 +395,7 @@ fn read(guess: usize, reader: impl Fn(&mut [u8]) -> Answer) -> Result<Vec<u8>, R
 pub fn message(fault: u32, found: u32, wanted: u32) -> Vec<u8> {
     let message = read(64, |buffer| {
         let (out, room) = (buffer.as_mut_ptr(), buffer.len());
-        // SAFETY: the buffer is behind a `&mut`, so it has values and nobody else looks at it.
+        // SAFETY: rule 5 by the `&mut`. Any numbers may be asked for.
         unsafe { wat_message(fault, found, wanted, out, room) }
     });
     message.expect("each fault has a message")
@@ -437,7 +403,7 @@ pub fn message(fault: u32, found: u32, wanted: u32) -> Vec<u8> {
 
 /// Line and column of a byte of a text, both from 0.
 pub fn line_column(text: &str, offset: usize) -> (usize, usize) {
-    // SAFETY: the text is UTF-8, as each `&str`, and this function asks for no more.
+    // SAFETY: rules 1 and 2 by `&str`; this function has no use for rules 3 and 4.
     let position = unsafe { wat_line_column(text.as_ptr(), text.len(), offset) };
     (position.line, position.column)
 }

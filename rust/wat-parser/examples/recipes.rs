@@ -1,111 +1,59 @@
-//! A format of one's own: recipes, read from standard input and listed with what they need.
-//!
-//! ```text
-//! (recipe $bread "Bread"
-//!   (@note "best on the next day")
-//!   (flour 500) (water 350) ;; in grams
-//!   (uses $dough))
-//! ```
+//! A format of one's own, read from standard input: `(recipe $bread "Bread" (flour 500) (water 350))`, where the name may be left out.
 
-use std::io;
-use std::path::Path;
-use std::process::ExitCode;
+use std::{io, process};
 use wat_parser::parser::{self, Parse, ParseBuffer, Parser, Peek, Result};
-use wat_parser::token::{Id, Index};
-use wat_parser::{Error, annotation, custom_keyword};
+use wat_parser::token::Id;
+use wat_parser::{Error, custom_keyword};
 
 custom_keyword!(recipe);
 custom_keyword!(flour);
 custom_keyword!(water);
-custom_keyword!(uses);
-annotation!(note);
-
-struct Book<'a>(Vec<Recipe<'a>>);
 
 struct Recipe<'a> {
     id: Option<Id<'a>>,
     title: &'a str,
-    lines: Vec<Line<'a>>,
-}
-
-enum Line<'a> {
-    Grams(&'static str, u32),
-    Uses(Index<'a>),
-    Note(&'a str),
-}
-
-impl<'a> Parse<'a> for Book<'a> {
-    fn parse(parser: Parser<'a>) -> Result<Self> {
-        // Notes are shown, and not passed over, from here on.
-        let _shown = parser.register_annotation("note");
-        let mut recipes = Vec::new();
-        while !parser.is_empty() {
-            recipes.push(parser.parens(Recipe::parse)?);
-        }
-        Ok(Book(recipes))
-    }
+    lines: Vec<(u32, &'static str)>,
 }
 
 impl<'a> Parse<'a> for Recipe<'a> {
     fn parse(parser: Parser<'a>) -> Result<Self> {
-        parser.parse::<recipe>()?;
-        let (id, title) = (parser.parse()?, parser.parse()?);
-        let mut lines = Vec::new();
-        while !parser.is_empty() {
-            lines.push(parser.parens(Line::parse)?);
-        }
-        Ok(Recipe { id, title, lines })
-    }
-}
-
-impl<'a> Parse<'a> for Line<'a> {
-    fn parse(parser: Parser<'a>) -> Result<Self> {
-        let mut look = parser.lookahead1();
-        if look.peek::<flour>()? {
-            grams::<flour>(parser)
-        } else if look.peek::<water>()? {
-            grams::<water>(parser)
-        } else if look.peek::<uses>()? {
-            parser.parse::<uses>()?;
-            parser.parse().map(Line::Uses)
-        } else if look.peek::<note>()? {
-            parser.parse::<note>()?;
-            parser.parse().map(Line::Note)
-        } else {
-            Err(look.error())
-        }
-    }
-}
-
-fn grams<'a, K: Parse<'a> + Peek>(parser: Parser<'a>) -> Result<Line<'a>> {
-    parser.parse::<K>()?;
-    Ok(Line::Grams(K::display(), parser.parse()?))
-}
-
-fn list(text: &str) -> Result<(), Error> {
-    let buffer = ParseBuffer::new(text)?;
-    for Recipe { id, title, lines } in parser::parse::<Book>(&buffer)?.0 {
-        println!("{title} ({})", id.map_or("no name", |id| id.name()));
-        for line in lines {
-            match line {
-                Line::Grams(what, count) => println!("  {count} g of {what}"),
-                Line::Uses(other) => println!("  what {other:?} makes"),
-                Line::Note(text) => println!("  note: {text}"),
+        parser.parens(|parser| {
+            parser.parse::<recipe>()?;
+            let (id, title) = (parser.parse()?, parser.parse()?);
+            let mut lines = Vec::new();
+            while !parser.is_empty() {
+                lines.push(parser.parens(line)?);
             }
-        }
+            Ok(Recipe { id, title, lines })
+        })
     }
-    Ok(())
 }
 
-fn main() -> io::Result<ExitCode> {
-    let text = io::read_to_string(io::stdin())?;
-    Ok(match list(&text) {
-        Ok(()) => ExitCode::SUCCESS,
-        Err(mut error) => {
-            error.set_text(&text);
-            error.set_path(Path::new("recipes"));
-            eprintln!("{error}");
-            ExitCode::FAILURE
-        }
-    })
+fn line(parser: Parser) -> Result<(u32, &'static str)> {
+    let mut look = parser.lookahead1();
+    let what = if look.peek::<flour>()? {
+        parser.parse::<flour>()?;
+        flour::display()
+    } else if look.peek::<water>()? {
+        parser.parse::<water>()?;
+        water::display()
+    } else {
+        return Err(look.error());
+    };
+    Ok((parser.parse()?, what))
+}
+
+fn main() {
+    let text = io::read_to_string(io::stdin()).expect("text on standard input");
+    let buffer = ParseBuffer::new(&text).unwrap_or_else(fail);
+    let Recipe { id, title, lines } = parser::parse(&buffer).unwrap_or_else(fail);
+    println!("{title} ({})", id.map_or("no name", |id| id.name()));
+    for (grams, what) in lines {
+        println!("  {grams} g of {what}");
+    }
+}
+
+fn fail<T>(error: Error) -> T {
+    eprintln!("{error}");
+    process::exit(1)
 }

@@ -45,6 +45,33 @@
 //! # }
 //! ```
 //!
+//! An annotation, a group `(@name ..)`, is shown while its name is registered:
+//!
+//! ```
+//! use wat_parser::annotation;
+//! use wat_parser::parser::{self, Parse, ParseBuffer, Parser, Result};
+//!
+//! annotation!(note);
+//!
+//! struct Note<'a>(&'a str);
+//!
+//! impl<'a> Parse<'a> for Note<'a> {
+//!     fn parse(parser: Parser<'a>) -> Result<Self> {
+//!         let _shown = parser.register_annotation("note");
+//!         parser.parens(|group| {
+//!             group.parse::<note>()?;
+//!             group.parse().map(Note)
+//!         })
+//!     }
+//! }
+//!
+//! # fn main() -> Result<()> {
+//! let buffer = ParseBuffer::new(r#"(@note "best on the next day")"#)?;
+//! assert_eq!(parser::parse::<Note>(&buffer)?.0, "best on the next day");
+//! # Ok(())
+//! # }
+//! ```
+//!
 //! With the feature `kept` a token that was shown when the parser last moved stays shown, as in `wast`, whatever names are registered or taken
 //! back since. Without it what is shown goes by the names that are registered at the look.
 #![warn(missing_docs)]

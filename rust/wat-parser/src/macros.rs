@@ -1,5 +1,33 @@
 // A type's name may be that of any variable, so the names of parameters here begin with underscores.
 
+/// Defines the type of a word, which the three macros behind have in common: its name and what it derives, the word, the call that parses it
+/// with the message where it is not there, and the call that sees it with the name in messages.
+#[doc(hidden)]
+#[macro_export]
+macro_rules! __token_type {
+    ($name:ident [$($derived:ident),*] $word:expr, $parse:ident $expected:expr, $see:ident $display:expr) => {
+        #[allow(non_camel_case_types, missing_docs)]
+        #[derive($($derived),*)]
+        pub struct $name(#[allow(dead_code)] pub $crate::token::Span);
+
+        impl<'a> $crate::parser::Parse<'a> for $name {
+            fn parse(__parser: $crate::parser::Parser<'a>) -> $crate::parser::Result<Self> {
+                __parser.$parse($word, $expected).map($name)
+            }
+        }
+
+        impl $crate::parser::Peek for $name {
+            fn peek(__cursor: $crate::parser::Cursor<'_>) -> $crate::parser::Result<bool> {
+                __cursor.$see($word)
+            }
+
+            fn display() -> &'static str {
+                $display
+            }
+        }
+    };
+}
+
 /// Defines a keyword's type: `custom_keyword!(name)`, or `custom_keyword!(name = "the-word")` where the word is no Rust name.
 ///
 /// The type implements [`Parse`](crate::parser::Parse) and [`Peek`](crate::parser::Peek), and its field is the keyword's place. A word that
@@ -10,27 +38,11 @@ macro_rules! custom_keyword {
         $crate::custom_keyword!($name = stringify!($name));
     };
     ($name:ident = $word:expr) => {
-        #[allow(non_camel_case_types, missing_docs)]
-        #[derive(Clone, Copy, Debug)]
-        pub struct $name(#[allow(dead_code)] pub $crate::token::Span);
-
-        impl<'a> $crate::parser::Parse<'a> for $name {
-            fn parse(__parser: $crate::parser::Parser<'a>) -> $crate::parser::Result<Self> {
-                __parser
-                    .this_keyword($word, concat!("expected keyword `", $word, "`"))
-                    .map($name)
-            }
-        }
-
-        impl $crate::parser::Peek for $name {
-            fn peek(__cursor: $crate::parser::Cursor<'_>) -> $crate::parser::Result<bool> {
-                __cursor.is_keyword($word)
-            }
-
-            fn display() -> &'static str {
-                concat!("`", $word, "`")
-            }
-        }
+        $crate::__token_type!(
+            $name [Clone, Copy, Debug] $word,
+            this_keyword concat!("expected keyword `", $word, "`"),
+            is_keyword concat!("`", $word, "`")
+        );
     };
 }
 
@@ -43,27 +55,11 @@ macro_rules! custom_reserved {
         $crate::custom_reserved!($name = stringify!($name));
     };
     ($name:ident = $word:expr) => {
-        #[allow(non_camel_case_types, missing_docs)]
-        #[derive(Debug)]
-        pub struct $name(#[allow(dead_code)] pub $crate::token::Span);
-
-        impl<'a> $crate::parser::Parse<'a> for $name {
-            fn parse(__parser: $crate::parser::Parser<'a>) -> $crate::parser::Result<Self> {
-                __parser
-                    .this_reserved($word, concat!("expected reserved symbol `", $word, "`"))
-                    .map($name)
-            }
-        }
-
-        impl $crate::parser::Peek for $name {
-            fn peek(__cursor: $crate::parser::Cursor<'_>) -> $crate::parser::Result<bool> {
-                __cursor.is_reserved($word)
-            }
-
-            fn display() -> &'static str {
-                concat!("`", $word, "`")
-            }
-        }
+        $crate::__token_type!(
+            $name [Debug] $word,
+            this_reserved concat!("expected reserved symbol `", $word, "`"),
+            is_reserved concat!("`", $word, "`")
+        );
     };
 }
 
@@ -78,26 +74,10 @@ macro_rules! annotation {
         $crate::annotation!($name = stringify!($name));
     };
     ($name:ident = $word:expr) => {
-        #[allow(non_camel_case_types, missing_docs)]
-        #[derive(Debug)]
-        pub struct $name(#[allow(dead_code)] pub $crate::token::Span);
-
-        impl<'a> $crate::parser::Parse<'a> for $name {
-            fn parse(__parser: $crate::parser::Parser<'a>) -> $crate::parser::Result<Self> {
-                __parser
-                    .this_annotation($word, concat!("expected annotation `@", $word, "`"))
-                    .map($name)
-            }
-        }
-
-        impl $crate::parser::Peek for $name {
-            fn peek(__cursor: $crate::parser::Cursor<'_>) -> $crate::parser::Result<bool> {
-                __cursor.is_annotation($word)
-            }
-
-            fn display() -> &'static str {
-                concat!("`@", $word, "`")
-            }
-        }
+        $crate::__token_type!(
+            $name [Debug] $word,
+            this_annotation concat!("expected annotation `@", $word, "`"),
+            is_annotation concat!("`@", $word, "`")
+        );
     };
 }

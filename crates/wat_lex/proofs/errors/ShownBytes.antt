@@ -86,7 +86,7 @@ shown_bytes c n l =
       | inr f ↦ ap encodes (sym (shown_self c n f)) ∙ append-nil (encode c)
     ]
 
-tab_bytes : (c : ℕ) → c ≡ 9 → encodes (shown c) ≡ spaces 4
+pub tab_bytes : (c : ℕ) → c ≡ 9 → encodes (shown c) ≡ spaces 4
 unfolding encode
 tab_bytes c e = ap encodes (sym (shown_tab c e))
 
@@ -233,7 +233,7 @@ scalars_shown (c ∷ cs) h =
     let parts = and_parts (scalar c) (scalars cs) h in
     scalars_space c (flat_map shown cs) (ap (λ b. b && true) parts.0) (scalars_shown cs parts.1)
 
-shown_utf8 : (line : List ℕ) → IsUtf8 line → IsUtf8 (shown_line line)
+pub shown_utf8 : (line : List ℕ) → IsUtf8 line → IsUtf8 (shown_line line)
 shown_utf8 line u = (all_shown line, (scalars_shown (chars line) (scalars-chars line u), refl))
 
 boundary_from : (text : List ℕ) (n : ℕ) → is_boundary text n ≡ true → IsCharBoundary text n

@@ -1,11 +1,13 @@
--- A word of decimal digits alone is an integer.
+-- A word of decimal digits alone is an integer, and so is one of hexadecimal digits alone behind `0x`.
 use Rattle.std.proofs.Common.{◌≡◌, ◌≢◌, ◌≤◌, ◌+◌, ◌-◌, ℕ, zero, suc, List, [], ◌∷◌, length, take, drop, refl, arith, ap, sym, ◌∙◌, subst, Bool, true, false, cond, ◌||◌, inl, inr}
 use Rattle.std.specs.Prelude.{◌==◌}
 use Rattle.std.specs.Char.{is_ascii_digit}
 use Rattle.std.specs.List.{prefix_len}
-use Rattle.std.proofs.lemmas.List.{drop-take, length-take-le}
-use Rattle.std.proofs.lemmas.Bool.{cases_Bool, both_ways, eqb-true, or_cases, ne_eqb}
-use Rattle.wat_lex.specs.grammar.Numbers.{Digits, last, next, unsigned, has_underscores}
+use Rattle.std.proofs.lemmas.List.{drop-drop, drop-take, length-take-le}
+use Rattle.std.proofs.lemmas.Bool.{cases_Bool, eqb-true, or_cases, ne_eqb}
+use Rattle.wat_lex.specs.grammar.Numbers.{Digits, last, next, is_digit, unsigned, has_underscores}
+use Rattle.wat_lex.specs.grammar.Classes.{is_hex}
+use Rattle.wat_lex.proofs.grammar.Digits.{underscore_no_digit}
 
 -- the first passes, and the others do
 record AllPass (p : ℕ → Bool) (d : ℕ) (t : List ℕ) : Type 0 where
@@ -19,30 +21,43 @@ all_pass p d t e =
       | inr h ↦ absurd (omega (arith, e, ap (λ x. cond x (1 + prefix_len p t) 0) h))
     ]
 
+digits_of : (hex : Bool) (t : List ℕ) → t ≢ [] → prefix_len (is_digit hex) t ≡ length t → Digits hex t []
+digits_of hex [] n e = absurd (n refl)
+digits_of hex (d ∷ []) n e = let k = all_pass (is_digit hex) d [] e in last k.first
+digits_of hex (d ∷ c ∷ t) n e = let k = all_pass (is_digit hex) d (c ∷ t) e in next k.first (digits_of hex (c ∷ t) (λ z. cc) k.others)
+
 pub digits_alone : (t : List ℕ) → t ≢ [] → prefix_len is_ascii_digit t ≡ length t → Digits false t []
-digits_alone [] n e = absurd (n refl)
-digits_alone (d ∷ []) n e = let k = all_pass is_ascii_digit d [] e in last k.first
-digits_alone (d ∷ c ∷ t) n e = let k = all_pass is_ascii_digit d (c ∷ t) e in next k.first (digits_alone (c ∷ t) (λ z. cc) k.others)
+digits_alone t n e = digits_of false t n e
 
-no_underscore : (t : List ℕ) → prefix_len is_ascii_digit t ≡ length t → has_underscores t ≡ false
-no_underscore [] e = refl
-no_underscore (d ∷ t) e =
-    let k = all_pass is_ascii_digit d t e in
-    let other : d ≢ 95 = λ z. both_ways (is_ascii_digit 95) refl (sym (ap is_ascii_digit z) ∙ k.first) in
-    ap (λ b. b || has_underscores t) (ne_eqb d 95 other) ∙ no_underscore t k.others
+pub hex_digits_alone : (t : List ℕ) → t ≢ [] → prefix_len is_hex t ≡ length t → Digits true t []
+hex_digits_alone t n e = digits_of true t n e
 
-pub digits_no_underscore : (w : List ℕ) → prefix_len is_ascii_digit (unsigned w) ≡ length (unsigned w) → has_underscores w ≡ false
-digits_no_underscore [] e = refl
-digits_no_underscore (c ∷ w) e =
+no_underscore : (hex : Bool) (t : List ℕ) → prefix_len (is_digit hex) t ≡ length t → has_underscores t ≡ false
+no_underscore hex [] e = refl
+no_underscore hex (d ∷ t) e =
+    let k = all_pass (is_digit hex) d t e in
+    let other : d ≢ 95 = λ z. underscore_no_digit hex (sym (ap (is_digit hex) z) ∙ k.first) in
+    ap (λ b. b || has_underscores t) (ne_eqb d 95 other) ∙ no_underscore hex t k.others
+
+-- a sign is no underscore
+signed_no_underscore : (w : List ℕ) → has_underscores (unsigned w) ≡ false → has_underscores w ≡ false
+signed_no_underscore [] e = refl
+signed_no_underscore (c ∷ w) e =
     elim (cases_Bool (c == 43 || c == 45)) [
       | inl h ↦
           let behind : unsigned (c ∷ w) ≡ w = ap (λ b. cond b w (c ∷ w)) h in
           let other : c ≢ 95 = elim (or_cases (c == 43) (c == 45) h) [ inl a ↦ (λ z. let k = eqb-true c 43 a in omega arith) | inr a ↦ (λ z. let k = eqb-true c 45 a in omega arith) ] in
-          ap (λ b. b || has_underscores w) (ne_eqb c 95 other) ∙ no_underscore w (subst (λ x. prefix_len is_ascii_digit x ≡ length x) behind e)
+          ap (λ b. b || has_underscores w) (ne_eqb c 95 other) ∙ sym (ap has_underscores behind) ∙ e
       | inr h ↦
           let same : unsigned (c ∷ w) ≡ c ∷ w = ap (λ b. cond b w (c ∷ w)) h in
-          no_underscore (c ∷ w) (subst (λ x. prefix_len is_ascii_digit x ≡ length x) same e)
+          sym (ap has_underscores same) ∙ e
     ]
+
+pub digits_no_underscore : (w : List ℕ) → prefix_len is_ascii_digit (unsigned w) ≡ length (unsigned w) → has_underscores w ≡ false
+digits_no_underscore w e = signed_no_underscore w (no_underscore false (unsigned w) e)
+
+pub hex_digits_no_underscore : (w ds : List ℕ) → unsigned w ≡ 48 ∷ 120 ∷ ds → prefix_len is_hex ds ≡ length ds → has_underscores w ≡ false
+hex_digits_no_underscore w ds cut e = signed_no_underscore w (ap has_underscores cut ∙ no_underscore true ds e)
 
 pub unsigned_is_shorter : (w : List ℕ) → length (unsigned w) ≤ length w
 unsigned_is_shorter [] = omega arith
@@ -88,3 +103,17 @@ digits_of_word text len n within e fits h =
     let there : unsigned w ≡ take n (drop (len - n) text) =
     unsigned_is_end w ∙ ap (λ k. drop k w) first ∙ ap (λ k. drop (len - n) (take k text)) (sym parts) ∙ drop-take (len - n) n text in
     subst (λ x. prefix_len is_ascii_digit x ≡ length x) (sym there) (taken_pass is_ascii_digit n (drop (len - n) text) h)
+
+-- the same of what stands behind the first two of them
+pub hex_digits_of_word : (text : List ℕ) (len n : ℕ) (ds : List ℕ) → len ≤ length text → unsigned (take len text) ≡ 48 ∷ 120 ∷ ds → n ≡ length ds → n ≤ prefix_len is_hex (drop (len - n) text) → prefix_len is_hex ds ≡ length ds
+hex_digits_of_word text len n ds within cut e h =
+    let w = take len text in
+    let long : length w ≡ len = length-take-le len text within in
+    let more : length (unsigned w) ≡ 2 + length ds = omega (arith, ap length cut) in
+    let fits = unsigned_is_shorter w in
+    let first : length w - length (unsigned w) + 2 ≡ len - n = omega (arith, long, more, fits, e) in
+    let parts : len - n + n ≡ len = omega (arith, long, more, fits, e) in
+    let there : ds ≡ take n (drop (len - n) text) =
+    ap (drop 2) (sym cut ∙ unsigned_is_end w) ∙ drop-drop 2 (length w - length (unsigned w)) w ∙ ap (λ k. drop k w) first
+    ∙ ap (λ k. drop (len - n) (take k text)) (sym parts) ∙ drop-take (len - n) n text in
+    subst (λ x. prefix_len is_hex x ≡ length x) (sym there) (taken_pass is_hex n (drop (len - n) text) h)

@@ -1,16 +1,16 @@
 -- Tests of blocks of bytes by vectors: what a lane holds, and what the mask of a test says of a text. They are for any test.
-use Rattle.std.proofs.Common.{◌≡◌, ◌≢◌, ℕ, ◌+◌, ◌*◌, ◌/◌, ◌%◌, ◌^◌, ◌<◌, ◌≤◌, Bool, true, false, not, cond, eqb, List, [], ◌∷◌, suc, map, length, drop, get_or, replicate, bit_and, Fits, w8, refl, sym, ap, ap₂, ◌∙◌, arith}
+use Rattle.std.proofs.Common.{◌≡◌, ◌≢◌, ℕ, ◌+◌, ◌*◌, ◌/◌, ◌%◌, ◌^◌, ◌<◌, ◌≤◌, Bool, true, false, not, cond, eqb, List, [], ◌∷◌, suc, map, length, take, drop, get_or, replicate, bit_and, bit_or, Fits, w8, refl, sym, ap, ap₂, ◌∙◌, arith}
 use Rattle.std.specs.List.{prefix_len}
 use Rattle.std.specs.Simd.Lanes.{chunk, mask_l, top, zip2, Each1}
 use Rattle.std.specs.Int.Count.{count_trailing_zeros}
-use Rattle.std.proofs.lemmas.Nat.{and_le_r}
+use Rattle.std.proofs.lemmas.Nat.{and_le_r, le_or_l, le_or_r}
 use Rattle.std.proofs.lemmas.Bool.{agree_below, agree_below_at, lt-leb, eq-eqb, ne_eqb}
-use Rattle.std.proofs.lemmas.List.{length-map}
+use Rattle.std.proofs.lemmas.List.{length-map, take-append-drop}
 use Rattle.std.proofs.lemmas.List.Folds.{prefix_len-append}
-use Rattle.std.proofs.lemmas.List.Sums.{prefix_len-le-length}
+use Rattle.std.proofs.lemmas.List.Sums.{prefix_len-le-length, prefix_len_is, prefix_len_passes}
 use Rattle.std.proofs.lemmas.Simd.{Each1-all, Each1-weaker, Each1-zip2, Each2-splat, below_from_Fits, length-zip2, map-map, mask_l-mod, chunk-drop, length-chunk, leading_from_mask_l, trailing_mask_l, swz_l, SwzOk, SwzOk-from_below}
 use Rattle.std.proofs.Math.Bool.{not-not}
-use Rattle.wat_lex.specs.inside.Blocks.{failures}
+use Rattle.wat_lex.specs.inside.Blocks.{failures, GoesOn}
 
 -- ---- lanes
 
@@ -89,13 +89,18 @@ split : (p : ℕ → Bool) (text : List ℕ) (i n : ℕ)
     → prefix_len p (drop i text) ≡ cond (eqb (prefix_len p (chunk i n text)) (length (chunk i n text))) (length (chunk i n text) + prefix_len p (drop (i + n) text)) (prefix_len p (chunk i n text))
 split p text i n = ap (prefix_len p) (chunk-drop i n text) ∙ prefix_len-append p (chunk i n text) (drop (i + n) text)
 
--- where no byte of a block fails, what passes goes on behind the block
-pub goes_on : (p : ℕ → Bool) (text : List ℕ) (i n m : ℕ) → m ≡ failures p (chunk i n text) → i + n ≤ length text → m ≡ 0 → prefix_len p (drop i text) ≡ n + prefix_len p (drop (i + n) text)
-goes_on p text i n m e room none =
+-- where no byte of a block fails a test, what passes a weaker one goes on behind the block
+pub goes_on_weaker : (p q : ℕ → Bool) → ((b : ℕ) → p b ≡ true → q b ≡ true) → (text : List ℕ) (i n m : ℕ) → m ≡ failures p (chunk i n text) → i + n ≤ length text → m ≡ 0 → GoesOn q text i n
+goes_on_weaker p q weaker text i n m e room none =
     let v = chunk i n text in
-    let all : prefix_len p v ≡ length v = sym (doubly p v) ∙ leading_from_mask_l (λ x. not (p x)) v (sym e ∙ none) in
-    split p text i n ∙ ap (λ b. cond b (length v + prefix_len p (drop (i + n) text)) (prefix_len p v)) (eq-eqb _ _ all)
-    ∙ ap (λ k. k + prefix_len p (drop (i + n) text)) (length-chunk i n text room)
+    let strong : prefix_len p v ≡ length v = sym (doubly p v) ∙ leading_from_mask_l (λ x. not (p x)) v (sym e ∙ none) in
+    let all : prefix_len q v ≡ length v = prefix_len_is q v (length v) 0 (omega arith) (λ k l. weaker (get_or v k 0) (prefix_len_passes p v k 0 (omega (arith, strong, l)))) (λ l. absurd (omega (arith, l))) in
+    split q text i n ∙ ap (λ b. cond b (length v + prefix_len q (drop (i + n) text)) (prefix_len q v)) (eq-eqb _ _ all)
+    ∙ ap (λ k. k + prefix_len q (drop (i + n) text)) (length-chunk i n text room)
+
+-- where no byte of a block fails, what passes goes on behind the block
+pub goes_on : (p : ℕ → Bool) (text : List ℕ) (i n m : ℕ) → m ≡ failures p (chunk i n text) → i + n ≤ length text → m ≡ 0 → GoesOn p text i n
+goes_on p text i n m e room none = goes_on_weaker p p (λ b h. h) text i n m e room none
 
 -- where some byte of a block fails, what passes ends at the lowest bit
 pub ends_at : (p : ℕ → Bool) (text : List ℕ) (i n m : ℕ) → m ≡ failures p (chunk i n text) → i + n ≤ length text → n ≤ 64 → m ≢ 0 → prefix_len p (drop i text) ≡ count_trailing_zeros 64 m
@@ -105,3 +110,62 @@ ends_at p text i n m e room few some =
     split p text i n ∙ ap (λ b. cond b (length v + prefix_len p (drop (i + n) text)) (prefix_len p v)) (ne_eqb _ _ stops)
     ∙ sym (doubly p v) ∙ sym (trailing_mask_l (λ x. not (p x)) 64 v (omega (arith, length-chunk i n text room)) (omega arith))
     ∙ ap (count_trailing_zeros 64) (sym e)
+
+-- where no bit of four masks together is set, none of each is
+record AllClear (a b c d : ℕ) : Type 0 where
+  first : a ≡ 0
+  second : b ≡ 0
+  third : c ≡ 0
+  fourth : d ≡ 0
+
+all_clear : (a b c d : ℕ) → bit_or (bit_or (bit_or a b) c) d ≡ 0 → AllClear a b c d
+all_clear a b c d e =
+    let two = bit_or a b in
+    let three = bit_or two c in
+    let none : three ≡ 0 = omega (arith, e, le_or_l three d) in
+    let few : two ≡ 0 = omega (arith, none, le_or_l two c) in
+    record {
+      first = omega (arith, few, le_or_l a b);
+      second = omega (arith, few, le_or_r a b);
+      third = omega (arith, none, le_or_r two c);
+      fourth = omega (arith, e, le_or_r three d);
+    }
+
+-- the masks of four blocks, one behind another
+pub record FourMasks (p : ℕ → Bool) (text : List ℕ) (i a b c d : ℕ) : Type 0 where
+  pub first : a ≡ failures p (chunk i 16 text)
+  pub second : b ≡ failures p (chunk (i + 16) 16 text)
+  pub third : c ≡ failures p (chunk (i + 32) 16 text)
+  pub fourth : d ≡ failures p (chunk (i + 48) 16 text)
+
+pub four_go_on : (p q : ℕ → Bool) → ((b : ℕ) → p b ≡ true → q b ≡ true) → (text : List ℕ) (i a b c d : ℕ) → FourMasks p text i a b c d → i + 64 ≤ length text → bit_or (bit_or (bit_or a b) c) d ≡ 0 → GoesOn q text i 64
+four_go_on p q weaker text i a b c d masks room none =
+    let clear = all_clear a b c d none in
+    let left : ℕ → ℕ = λ n. prefix_len q (drop n text) in
+    let two : i + 16 + 16 ≡ i + 32 = omega arith in
+    let three : i + 32 + 16 ≡ i + 48 = omega arith in
+    let four : i + 48 + 16 ≡ i + 64 = omega arith in
+    omega (
+      arith,
+      goes_on_weaker p q weaker text i 16 a masks.first (omega arith) clear.first,
+      goes_on_weaker p q weaker text (i + 16) 16 b masks.second (omega arith) clear.second,
+      ap left two,
+      goes_on_weaker p q weaker text (i + 32) 16 c masks.third (omega arith) clear.third,
+      ap left three,
+      goes_on_weaker p q weaker text (i + 48) 16 d masks.fourth (omega arith) clear.fourth,
+      ap left four,
+    )
+
+cut : (p : ℕ → Bool) (text : List ℕ) (n : ℕ)
+    → prefix_len p text ≡ cond (eqb (prefix_len p (take n text)) (length (take n text))) (length (take n text) + prefix_len p (drop n text)) (prefix_len p (take n text))
+cut p text n = ap (prefix_len p) (sym (take-append-drop n text)) ∙ prefix_len-append p (take n text) (drop n text)
+
+-- what passes up to the end of a text's first bytes goes on behind them
+pub goes_on_behind : (p : ℕ → Bool) (text : List ℕ) (n : ℕ) → prefix_len p (take n text) ≡ length (take n text) → prefix_len p text ≡ length (take n text) + prefix_len p (drop n text)
+goes_on_behind p text n all =
+    cut p text n ∙ ap (λ b. cond b (length (take n text) + prefix_len p (drop n text)) (prefix_len p (take n text))) (eq-eqb _ _ all)
+
+-- what ends within them ends there in the text
+pub ends_within : (p : ℕ → Bool) (text : List ℕ) (n : ℕ) → prefix_len p (take n text) < length (take n text) → prefix_len p text ≡ prefix_len p (take n text)
+ends_within p text n stops =
+    cut p text n ∙ ap (λ b. cond b (length (take n text) + prefix_len p (drop n text)) (prefix_len p (take n text))) (ne_eqb _ _ (λ all. omega (arith, all, stops)))

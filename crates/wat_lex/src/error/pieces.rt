@@ -5,7 +5,8 @@ ghost use Rattle.wat_lex.specs.errors.LaidPieces.{LaysMore};
 ghost use Rattle.wat_lex.specs.errors.PieceTexts.{piece_text};
 ghost use Rattle.wat_lex.specs.errors.Rendering.{shown_line};
 
-use crate::error::shown::{Line, Shown};
+use crate::error::shown::Line;
+use crate::error::stretches::split_shown;
 use std::{fmt, str};
 
 /// A piece of what is printed.
@@ -147,8 +148,10 @@ fn lay_line(line: Line, out: &mut [u8], at: usize) -> usize
     ensures { LaysMore out.old at (shown_line line.entry.0.now) out.new result }
 {
     let mut at = at;
-    for c in Shown::of(line.0) {
-        at = lay(c.encode_utf8(&mut [0; 4]), out, at);
+    let mut rest = line.0;
+    while let Some((shown, behind)) = split_shown(rest) {
+        at = lay(shown, out, at);
+        rest = behind;
     }
     at
 }
@@ -159,8 +162,10 @@ fn line_length(line: Line) -> usize
     ensures { result ≡ length (shown_line line.entry.0.now) }
 {
     let mut length = 0;
-    for c in Shown::of(line.0) {
-        length += c.len_utf8();
+    let mut rest = line.0;
+    while let Some((shown, behind)) = split_shown(rest) {
+        length += shown.len();
+        rest = behind;
     }
     length
 }

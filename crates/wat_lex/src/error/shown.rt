@@ -1,13 +1,14 @@
 //! A line as it is shown.
-ghost use Rattle.std.specs.Prelude.{◌≡◌, ◌*◌, ◌^◌, ◌<◌, ◌≤◌, true, false, length, take, MatchOption};
+ghost use Rattle.std.specs.Prelude.{◌≡◌, ◌*◌, ◌^◌, ◌<◌, ◌≤◌, true, false, length, take, IsTrue, MatchOption};
 ghost use Rattle.std.specs.Prelude.{encode_utf8_all};
 ghost use Rattle.wat_lex.specs.errors.Rendering.{columns, shown, shown_line, is_boundary};
 
+use crate::error::stretches::{by_columns_len, is_shown_as_it_is, split_shown};
 use crate::lexer::is_confusing;
 use std::fmt;
 use std::marker::Model;
 use std::str::Chars;
-use unicode_width::char_iter_width;
+use unicode_width::{UnicodeWidthStr, char_iter_width};
 
 /// How many spaces a TAB is shown as.
 const TAB: usize = 4;
@@ -102,8 +103,10 @@ impl fmt::Display for Line<'_> {
     ghost output = { λ l. Some (shown_line l.0.now) };
 
     fn fmt<W: fmt::Write>(&self, f: &mut fmt::Formatter<W>) -> fmt::Result {
-        for c in Shown::of(self.0) {
-            f.write_char(c)?;
+        let mut rest = self.0;
+        while let Some((shown, behind)) = split_shown(rest) {
+            f.write_str(shown)?;
+            rest = behind;
         }
         Ok(())
     }
@@ -112,6 +115,27 @@ impl fmt::Display for Line<'_> {
 /// The columns that the first bytes of a line take as it is shown,
 /// or their number where they are not there or end inside a character.
 pub fn columns(line: &str, bytes: usize) -> usize
+    requires { bytes < 2 ^ 63 }
+    ensures columns { result ≡ columns (shown_line line.now) bytes }
+    ensures bound { result ≤ 2 * bytes }
+{
+    if begins_by_columns(line, bytes) {
+        return bytes;
+    }
+    match line.split_at_checked(bytes) {
+        Some((before, _)) if is_shown_as_it_is(before) => before.width(),
+        _ => columns_by_character(line, bytes),
+    }
+}
+
+/// Whether so many bytes at the start are printable ASCII or TABs.
+fn begins_by_columns(line: &str, bytes: usize) -> bool
+    ensures { IsTrue result → columns (shown_line line.now) bytes ≡ bytes }
+{
+    bytes <= line.len() && by_columns_len(&line.as_bytes()[..bytes]) == bytes
+}
+
+fn columns_by_character(line: &str, bytes: usize) -> usize
     requires { bytes < 2 ^ 63 }
     ensures columns { result ≡ columns (shown_line line.now) bytes }
     ensures bound { result ≤ 2 * bytes }

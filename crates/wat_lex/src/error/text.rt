@@ -1,12 +1,15 @@
 //! The line of a text that an error is about.
-ghost use Rattle.std.specs.Prelude.{◌≡◌, IfOk, flat_map};
+ghost use Rattle.std.specs.Prelude.{◌≡◌, [], IfOk, flat_map, slice_get, unwrap_or};
+ghost use Rattle.std.specs.Str.Lines.{lines};
 ghost use Rattle.wat_lex.specs.errors.ErrorView.{excerpt_of};
 ghost use Rattle.wat_lex.specs.errors.PieceTexts.{piece_text};
+ghost use Rattle.wat_lex.specs.errors.Positions.{line_and_column};
 ghost use Rattle.wat_lex.specs.errors.Rendering.{excerpt, shown_place};
 
 use crate::error::pieces::{Piece, print};
 use crate::error::shown::{Line, columns};
 use crate::token::Span;
+use memchr::memchr;
 use std::alloc::{AllocError, Global};
 use std::fmt;
 use std::marker::Model;
@@ -40,7 +43,7 @@ impl<'a> Excerpt<'a> {
         ensures { result ≡ excerpt contents.now span }
     {
         let (line, column) = span.linecol_in(contents);
-        let source = contents.lines().nth(line).unwrap_or("");
+        let source = line_at(contents, span.offset(), column);
         let column = columns(source, column);
         Excerpt {
             line: line + 1,
@@ -48,6 +51,31 @@ impl<'a> Excerpt<'a> {
             source: Line(source),
         }
     }
+}
+
+/// The line that the byte at an offset stands in, in this column; empty where it stands in none.
+fn line_at(text: &str, offset: usize, column: usize) -> &str
+    requires { column ≡ (line_and_column text.now offset).1 }
+    ensures { let line = (line_and_column text.now offset).0 in
+        result.now ≡ unwrap_or (slice_get (lines text.now) line) [] }
+{
+    if offset > text.len() {
+        return "";
+    }
+    first_line(&text[offset - column..])
+}
+
+fn first_line(text: &str) -> &str
+    ensures { result.now ≡ unwrap_or (slice_get (lines text.now) 0) [] }
+{
+    let bytes = text.as_bytes();
+    let Some(end) = memchr(b'\n', bytes) else {
+        return text;
+    };
+    if end > 0 && bytes[end - 1] == b'\r' {
+        return &text[..end - 1];
+    }
+    &text[..end]
 }
 
 /// An excerpt that owns its line.

@@ -1,10 +1,12 @@
 //! What the tokens of a text read as.
-ghost use Rattle.std.specs.Prelude.{◌≡◌, ◌≢◌, ◌⊎◌, ◌↔◌, [], Ok, false, IfOk, IfErr, IsOk};
+ghost use Rattle.std.specs.Prelude.{◌≡◌, ◌≢◌, ◌≤◌, ◌^◌, ◌⊎◌, ◌↔◌, [], Ok, false, IfOk, IfErr};
+ghost use Rattle.std.specs.Prelude.{IsOk, MatchOption};
 ghost use Rattle.std.specs.Cow.{cow_str_bytes, cow_slice_items, IsBorrowedSlice, IsBorrowedStr};
 ghost use Rattle.std.specs.Str.{chars, IsUtf8};
 ghost use Rattle.wat_lex.specs.grammar.Classes.{backslash};
 ghost use Rattle.wat_lex.specs.values.Names.{Name, NameFault, NameError, HasNone, HasNoEscape};
-ghost use Rattle.wat_lex.specs.values.NumberValues.{is_integer_rewritten, is_float_rewritten};
+ghost use Rattle.wat_lex.specs.values.NumberValues.{integer_value, is_integer_rewritten};
+ghost use Rattle.wat_lex.specs.values.NumberValues.{is_float_rewritten};
 ghost use Rattle.wat_lex.specs.values.NumberValues.{IsFloatOf, IsIntegerOf, IsNumeralOf};
 ghost use Rattle.wat_lex.specs.values.UniqueValues.{SomeValue, OneValue, SomeName, OneName};
 ghost use Rattle.wat_lex.specs.values.UniqueValues.{SomeCut, OneCut};
@@ -21,6 +23,7 @@ ghost use Rattle.wat_lex.specs.declared.lexer.kinds.TokenKind.TheVariants.{Annot
 ghost use Rattle.wat_lex.specs.declared.lexer.kinds.TokenKind.TheVariants as token_kind;
 
 use crate::error::Error;
+use crate::lexer::read::numbers::magnitude_of;
 use crate::lexer::read::strings::{name, plain, unescaped};
 use crate::lexer::{Float, FloatKind, Integer, IntegerKind, LexError, Token, TokenKind};
 use crate::token::Span;
@@ -183,6 +186,17 @@ impl Token {
         ensures free { is_integer_rewritten kind ≡ false → IsOk result }
     {
         Integer::from_word(alloc, self.src(s), kind)
+    }
+
+    /// The number that an integer token's digits write, its sign left out; None where it is 2^64 at
+    /// least. It takes no memory.
+    pub fn magnitude(&self, s: &str, kind: IntegerKind) -> Option<u64>
+        requires token { IsTokenOf s.now self.now }
+        requires kind { self.now.kind ≡ token_kind.Integer kind }
+        ensures { MatchOption result (2 ^ 64 ≤ integer_value kind.hex (word_of s.now self.now))
+            (λ n. n ≡ integer_value kind.hex (word_of s.now self.now)) }
+    {
+        magnitude_of(self.src(s), kind)
     }
 
     /// What a floating-point token reads as. Memory is taken where it has underscores,

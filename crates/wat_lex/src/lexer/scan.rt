@@ -15,9 +15,9 @@ use crate::lexer::scan::runs::{run, run_outline, word_kind};
 use crate::lexer::scan::starts::{Start, start_of};
 use crate::lexer::settings::Settings;
 
-mod blocks;
+pub(super) mod blocks;
 pub(super) mod classes;
-mod comments;
+pub(super) mod comments;
 pub(super) mod numbers;
 mod plain;
 mod runs;

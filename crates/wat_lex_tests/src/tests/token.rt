@@ -6,7 +6,7 @@ use std::hash::{DefaultHasher, Hash, Hasher};
 use std::process::Abort;
 use std::test::Fail;
 use wat_lex::gensym::Gensym;
-use wat_lex::token::{Id, Index, Span};
+use wat_lex::token::{Id, Index, LineIndex, Span};
 
 // What crates above know of the order of places.
 fn is_before(a: Span, b: Span) -> bool
@@ -34,6 +34,34 @@ fn spans_are_their_offsets(rt: HostRuntime) {
         assert_eq!(rt; first.cmp(&second), a.cmp(&b), "{a} {b}");
         assert_eq!(rt; are_alike(&first, &second), a == b, "{a} {b}");
     }
+}
+
+#[test]
+fn places_are_told_by_an_index(rt: HostRuntime) -> Result<(), Fail> {
+    let alloc = rt.alloc();
+    let text = "(a\n\r\n  b";
+    let lines = LineIndex::new(alloc, text)?;
+    let places = [
+        (0, 0),
+        (0, 1),
+        (0, 2),
+        (1, 0),
+        (1, 1),
+        (2, 0),
+        (2, 1),
+        (2, 2),
+        (2, 3),
+        (3, 0),
+    ];
+    for (offset, place) in places.iter().enumerate() {
+        let span = Span::from_offset(offset);
+        assert_eq!(rt; lines.linecol(span), *place, "{offset}");
+        assert_eq!(rt; span.linecol_in(text), *place, "{offset}");
+    }
+    let empty = LineIndex::new(alloc, "")?;
+    assert_eq!(rt; empty.linecol(Span::from_offset(0)), (0, 0));
+    assert_eq!(rt; empty.linecol(Span::from_offset(usize::MAX)), (0, 0));
+    Ok(())
 }
 
 #[test]

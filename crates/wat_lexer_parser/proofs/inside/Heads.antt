@@ -8,7 +8,7 @@ use Rattle.wat_lex.specs.tokens.ReadableTokens.{IsTokenOf, word_of}
 use Rattle.wat_lex.specs.declared.lexer.kinds.TokenKind.{TokenKind}
 use Rattle.wat_lex.specs.declared.lexer.kinds.TokenKind.TheVariants.{LineComment, BlockComment, Whitespace, LParen, RParen, String, Id, Keyword, Annotation, Reserved, Integer, Float}
 use Rattle.wat_lex.specs.declared.lexer.kinds.Token.{Token}
-use Rattle.wat_lexer_parser.specs.inside.Table.{NameOrFault, NotedName, OneMoreName, HeadAt, Headed, Started, Noted, Readable, block, is_head, is_annotation}
+use Rattle.wat_lexer_parser.specs.inside.Table.{NameOrFault, NotedName, OneMoreName, HeadAt, Headed, Started, StartedUpTo, Noted, Readable, block, is_head, is_annotation}
 use Rattle.wat_lexer_parser.specs.groups.Sorts.{is_open}
 
 pub slice_left : {A : Type 0} (ts us : List A) (i : ℕ) (t : A) → slice_get ts i ≡ Some t → slice_get (ts ++ us) i ≡ Some t
@@ -179,43 +179,58 @@ headed_more text ts u opens names x y n d h =
       ];
     }
 
--- one more place that lies before the end of the last block
-started_more : (opens starts : List ℕ) (p : ℕ) → p < block * length starts → Started opens starts → Started (opens ++ p ∷ []) starts
-started_more opens starts p l h =
-    let lo : length (opens ++ p ∷ []) ≡ length opens + 1 = length_push opens p in
-    record {
-      within = λ b k. omega (arith, h.within b k);
-      before = λ b g k j. omega (arith, get_or_append_left opens (p ∷ []) 0 g (omega (arith, h.within b k)), h.before b g k j);
-      covers = λ g k. elim (cases_lt g (length opens)) [
-        | inl j ↦ omega (arith, get_or_append_left opens (p ∷ []) 0 g j, h.covers g j)
-        | inr j ↦ omega (arith, get_or_push opens p 0 g (omega arith))
-      ];
-    }
+-- A token more.
 
-pub noted_below : (text : List ℕ) (ts : List Token) (opens : List ℕ) (names : List (Option NameOrFault)) (starts : List ℕ) → Noted text ts opens names starts → (g : ℕ) → g < length opens → get_or opens g 0 < length ts
-noted_below text ts opens names starts h g l = omega (arith, head_below text ts (get_or opens g 0) (get_or names g None) (h.headed.each g l))
-
--- A token more, with the starts that it left.
-
-pub noted_plain : (text : List ℕ) (ts us : List Token) (opens opens2 starts starts2 : List ℕ) (names names2 : List (Option NameOrFault)) (u : Token) → Noted text ts opens names starts → IsTokenOf text u → u.offset + u.len < 2 ^ 32 → us ≡ ts ++ u ∷ []
-    → Started opens2 starts2 → length us ≤ block * length starts2 → is_head (slice_get ts (length ts - 1)) u ≡ false → opens2 ≡ opens → names2 ≡ names → Noted text us opens2 names2 starts2
-noted_plain text ts us opens opens2 starts starts2 names names2 u h r l e k f n a b = record {
+pub noted_plain : (text : List ℕ) (ts us : List Token) (opens : List ℕ) (names : List (Option NameOrFault)) (u : Token) → Noted text ts opens names → IsTokenOf text u → u.offset + u.len < 2 ^ 32 → us ≡ ts ++ u ∷ []
+    → is_head (slice_get ts (length ts - 1)) u ≡ false → Noted text us opens names
+noted_plain text ts us opens names u h r l e n = record {
   readable = subst (Readable text) (sym e) (readable_more text ts u h.readable r l);
-  headed = subst (λ x. Headed text x opens2 names2) (sym e) (subst (λ y. Headed text (ts ++ u ∷ []) y names2) (sym a) (subst (Headed text (ts ++ u ∷ []) opens) (sym b) (headed_plain text ts u opens names n h.headed)));
-  started = k;
-  full = f;
+  headed = subst (λ x. Headed text x opens names) (sym e) (headed_plain text ts u opens names n h.headed);
 }
 
-pub noted_more : (text : List ℕ) (ts us : List Token) (opens opens2 opens3 starts starts2 : List ℕ) (names names3 : List (Option NameOrFault)) (u : Token) → Noted text ts opens names starts → IsTokenOf text u → u.offset + u.len < 2 ^ 32 → us ≡ ts ++ u ∷ []
-    → Started opens2 starts2 → length us ≤ block * length starts2 → is_head (slice_get ts (length ts - 1)) u ≡ true → opens2 ≡ opens → opens3 ≡ opens2 ++ (length us - 2) ∷ [] → OneMoreName (word_of text u) names names3 → Noted text us opens3 names3 starts2
-noted_more text ts us opens opens2 opens3 starts starts2 names names3 u h r l e k f n g a b =
+pub noted_more : (text : List ℕ) (ts us : List Token) (opens opens2 : List ℕ) (names names2 : List (Option NameOrFault)) (u : Token) → Noted text ts opens names → IsTokenOf text u → u.offset + u.len < 2 ^ 32 → us ≡ ts ++ u ∷ []
+    → is_head (slice_get ts (length ts - 1)) u ≡ true → opens2 ≡ opens ++ (length us - 2) ∷ [] → OneMoreName (word_of text u) names names2 → Noted text us opens2 names2
+noted_more text ts us opens opens2 names names2 u h r l e n a b =
     let d = head_from (slice_get ts (length ts - 1)) u n in
     let w : length ts - 1 < length ts = slice_get_within ts (length ts - 1) d.paren d.is in
     let m : length us ≡ length ts + 1 = ap length e ∙ length_push ts u in
-    let c : opens3 ≡ opens ++ (length ts - 1) ∷ [] = a ∙ ap (λ x. x ++ (length us - 2) ∷ []) g ∙ ap (λ x. opens ++ x ∷ []) (omega arith) in
+    let c : opens2 ≡ opens ++ (length ts - 1) ∷ [] = a ∙ ap (λ x. opens ++ x ∷ []) (omega arith) in
     record {
       readable = subst (Readable text) (sym e) (readable_more text ts u h.readable r l);
-      headed = subst (λ x. Headed text x opens3 names3) (sym e) (subst (λ y. Headed text (ts ++ u ∷ []) y names3) (sym c) (subst (Headed text (ts ++ u ∷ []) (opens ++ (length ts - 1) ∷ [])) (sym b.1) (headed_more text ts u opens names b.0 b.2 (omega arith) d h.headed)));
-      started = subst (λ y. Started y starts2) (sym c) (started_more opens starts2 (length ts - 1) (omega arith) (subst (λ y. Started y starts2) g k));
-      full = f;
+      headed = subst (λ x. Headed text x opens2 names2) (sym e) (subst (λ y. Headed text (ts ++ u ∷ []) y names2) (sym c) (subst (Headed text (ts ++ u ∷ []) (opens ++ (length ts - 1) ∷ [])) (sym b.1) (headed_more text ts u opens names b.0 b.2 (omega arith) d h.headed)));
     }
+
+-- The starts of so many of the places.
+pub record StartedFor (count : ℕ) (opens starts : List ℕ) : Type 0 where
+  pub within : (b : ℕ) → b < length starts → get_or starts b 0 ≤ count
+  pub before : (b g : ℕ) → b < length starts → g < get_or starts b 0 → get_or opens g 0 < block * b
+  pub covers : (g : ℕ) → g < count → get_or opens g 0 < block * length starts
+
+pub started_none : (opens starts : List ℕ) → starts ≡ [] → StartedFor 0 opens starts
+started_none opens starts e =
+    let l : length starts ≡ 0 = ap length e in
+    record {
+      within = λ b k. absurd (omega (arith, k, l));
+      before = λ b g k j. absurd (omega (arith, k, l));
+      covers = λ g k. absurd (omega (arith, k));
+    }
+
+-- a place more, up to whose block there are starts now
+pub started_more : (count : ℕ) (opens old new : List ℕ) → StartedFor count opens old → StartedUpTo old new count (get_or opens count 0) → StartedFor (count + 1) opens new
+started_more count opens old new h k = record {
+  within = λ b l. elim (cases_lt b (length old)) [
+    | inl j ↦ omega (arith, k.kept b j, h.within b j)
+    | inr j ↦ omega (arith, k.begun b j l)
+  ];
+  before = λ b g l m. elim (cases_lt b (length old)) [
+    | inl j ↦ h.before b g j (omega (arith, m, k.kept b j))
+    | inr j ↦ omega (arith, j, h.covers g (omega (arith, m, k.begun b j l)))
+  ];
+  covers = λ g l. elim (cases_lt g count) [
+    | inl j ↦ omega (arith, h.covers g j, k.longer)
+    | inr j ↦ let e : g ≡ count = omega (arith, j, l) in subst (λ x. get_or opens x 0 < block * length new) (sym e) k.reached
+  ];
+}
+
+pub started_all : (opens starts : List ℕ) → StartedFor (length opens) opens starts → Started opens starts
+started_all opens starts h = record { within = h.within; before = h.before; covers = h.covers }

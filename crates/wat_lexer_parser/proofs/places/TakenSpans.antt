@@ -1,8 +1,6 @@
--- Where a token was taken, the current span before it is the byte of the last token behind.
-use Rattle.std.proofs.Common.{◌≡◌, ℕ, ◌-◌, List, ap, Some, Ok, Err}
-use Rattle.std.specs.Prelude.{slice_get}
+-- Where a token is shown, the current span is its byte.
+use Rattle.std.proofs.Common.{◌≡◌, ℕ, List, ap, Some, Ok, Err}
 use Rattle.wat_lex.specs.declared.lexer.kinds.Token.{Token}
-use Rattle.wat_lexer_parser.specs.lemmas.Behind.{shown_is_taken}
 use Rattle.wat_lexer_parser.specs.names.RegisteredNames.{Names}
 use Rattle.wat_lexer_parser.specs.parser.State.{seen, told}
 use Rattle.wat_lexer_parser.specs.places.Places.{current_span, span_of}
@@ -18,11 +16,7 @@ pub seen_is_shown : (s : Source) (p : ℕ) (names : Names) (t : Token) (q : ℕ)
 unfolding seen
 seen_is_shown s p names t q e = same_look s.setting.text (shown s p names) t q e
 
--- the token before the place behind it is the one that is shown
-pub taken_token : (s : Source) (p : ℕ) (names : Names) (t : Token) (q : ℕ) → seen s p names ≡ Ok (Some (t, q)) → slice_get s.tokens (q - 1) ≡ Some t
-taken_token s p names t q e = (shown_is_taken s p names t q (seen_is_shown s p names t q e)).2
-
--- the current span is the byte of that token
+-- the current span is the byte of the token
 pub taken_span : (s : Source) (p : ℕ) (names : Names) (t : Token) (q : ℕ) → seen s p names ≡ Ok (Some (t, q)) → current_span s p names ≡ t.offset
 unfolding current_span
 taken_span s p names t q e = ap (span_of s p) (seen_is_shown s p names t q e)

@@ -47,6 +47,9 @@ pub record Headed (text : List ℕ) (ts : List Token) (opens : List ℕ) (names 
   pub all : (i : ℕ) (t u : Token) → slice_get ts i ≡ Some t → slice_get ts (i + 1) ≡ Some u → t.kind ≡ LParen → u.kind ≡ Annotation → (g : ℕ) × (g < length opens) × (get_or opens g 0 ≡ i)
   pub sorted : Sorted opens
 
+abbrev pub annotation_at : ℕ → ℕ → Token
+annotation_at offset len = record { offset = offset; len = len; kind = Annotation }
+
 abbrev pub is_annotation : TokenKind → Bool
 is_annotation Annotation = true
 is_annotation kind = false
@@ -65,6 +68,13 @@ pub record Started (opens starts : List ℕ) : Type 0 where
   pub within : (b : ℕ) → b < length starts → get_or starts b 0 ≤ length opens
   pub before : (b g : ℕ) → b < length starts → g < get_or starts b 0 → get_or opens g 0 < block * b
   pub covers : (g : ℕ) → g < length opens → get_or opens g 0 < block * length starts
+
+-- these starts, and those of the blocks behind them up to that of a place, before each of which so many places lie
+pub record StartedUpTo (old new : List ℕ) (before place : ℕ) : Type 0 where
+  pub longer : length old ≤ length new
+  pub kept : (b : ℕ) → b < length old → get_or new b 0 ≡ get_or old b 0
+  pub begun : (b : ℕ) → length old ≤ b → b < length new → get_or new b 0 ≡ before
+  pub reached : place < block * length new
 
 -- the index of a place among these, or None where it is none of them
 abbrev pub Found : List ℕ → ℕ → Option ℕ → Type 0
@@ -110,14 +120,13 @@ Readable text [] = Unit {0}
 Readable text (t ∷ ts) = (IsTokenOf text t × (t.offset + t.len < 2 ^ 32)) × Readable text ts
 
 -- annotations are noted among these tokens, which may be read
-pub record Noted (text : List ℕ) (ts : List Token) (opens : List ℕ) (names : List (Option NameOrFault)) (starts : List ℕ) : Type 0 where
+pub record Noted (text : List ℕ) (ts : List Token) (opens : List ℕ) (names : List (Option NameOrFault)) : Type 0 where
   pub readable : Readable text ts
   pub headed : Headed text ts opens names
-  pub started : Started opens starts
-  pub full : length ts ≤ block * length starts
 
 -- the table of a text
 pub record IsTable (s : Source) (opens : List ℕ) (names : List (Option NameOrFault)) (starts : List ℕ) (closes : List (Option ℕ)) : Type 0 where
   pub read : IsRead s
-  pub noted : Noted s.setting.text s.tokens opens names starts
+  pub noted : Noted s.setting.text s.tokens opens names
+  pub started : Started opens starts
   pub paired : Paired s.tokens opens closes

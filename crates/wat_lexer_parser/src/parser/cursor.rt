@@ -89,20 +89,22 @@ impl<'p, 'a> Cursor<'p, 'a> {
         parser.span_from(self.at)
     }
 
-    /// The current span, where a token was taken to come to this cursor.
-    #[tactic(auto, using(crate::proofs::places::TakenSpans::taken_token, crate::proofs::places::TakenSpans::taken_span))]
-    pub(crate) fn span_before(self, next: Self) -> Span
-        requires on { self.at < next.at }
-        requires taken { (t : Token)
-            × (seen_from self.parser.now self.at ≡ Ok (Some (t, next.at))) }
+    /// The text in which the cursor stands.
+    pub(crate) fn text(self) -> &'a str
+        ensures { result.now ≡ self.entry.parser.now.source.setting.text }
+    {
+        let parser = self.parser;
+        parser.text()
+    }
+
+    /// The current span, where this token is shown.
+    #[tactic(auto, using(crate::proofs::places::TakenSpans::taken_span))]
+    pub(crate) fn span_of(self, token: Token) -> Span
+        requires { (q : ℕ) × (seen_from self.parser.now self.at ≡ Ok (Some (token, q))) }
         ensures { result ≡ current_span self.entry.parser.now.source self.entry.at
             self.entry.parser.now.names }
     {
-        let table = self.parser.table();
-        match table.token_at(next.at - 1) {
-            Some(token) => Span::from_offset(token.offset),
-            None => Span::from_offset(0),
-        }
+        Span::from_offset(token.offset)
     }
 
     /// An error at the current span.

@@ -1,12 +1,13 @@
 //! The table of a buffer: the raw tokens of its text, and what a look has to know of annotations.
-ghost use Rattle.std.specs.Prelude.{◌≡◌, ◌<◌, ◌≤◌, ◌+◌, ◌-◌, ◌*◌, ◌^◌, ◌++◌, ◌∷◌, [], length, map};
+ghost use Rattle.std.specs.Prelude.{◌≡◌, ◌<◌, ◌≤◌, ◌+◌, ◌-◌, ◌^◌, ◌++◌, ◌∷◌, [], length, map};
 ghost use Rattle.std.specs.Prelude.{IfOk, OnOk, None, slice_get, get_or};
 ghost use Rattle.wat_lex.specs.tokens.ReadableTokens.{IsTokenOf, word_of};
 ghost use Rattle.wat_lex.specs.tokens.Tiling.{MaximalTiling};
 ghost use Rattle.wat_lex.specs.declared.lexer.kinds.TokenKind.TheVariants.{Annotation};
-ghost use Rattle.wat_lexer_parser.specs.inside.Table.{block, is_annotation, is_head, Found, Noted, NotedName};
+ghost use Rattle.wat_lexer_parser.specs.inside.Table.{annotation_at, is_annotation, is_head, Found};
+ghost use Rattle.wat_lexer_parser.specs.inside.Table.{Noted, NotedName};
 ghost use Rattle.wat_lexer_parser.specs.inside.Table.{ClosesOne, FirstFrom, OneMoreName, Opening, Paired};
-ghost use Rattle.wat_lexer_parser.specs.inside.Table.{Sorted, Started};
+ghost use Rattle.wat_lexer_parser.specs.inside.Table.{Sorted, Started, StartedUpTo};
 ghost use Rattle.wat_lexer_parser.specs.inside.TableNames.{name_view};
 
 use std::alloc::{AllocError, Global};
@@ -18,6 +19,10 @@ const BLOCK: usize = 64;
 
 /// How many bytes a token is likely to have. Room that stays unused is given back.
 const LIKELY: usize = 2;
+
+/// For how many tokens room is asked at first. More of it comes as tokens do, so that a long text
+/// of few tokens takes little.
+const FIRST_ROOM: usize = 65_536;
 
 /// The raw tokens of a text up to its end or its first fault, and the annotations among them that
 /// stand directly behind a parenthesis.
@@ -78,7 +83,6 @@ impl Table {
         ensures fault { IfOk result (λ t. t.fault ≡ None) }
         ensures opens { IfOk result (λ t. t.opens.items ≡ []) }
         ensures names { IfOk result (λ t. map name_view t.names.items ≡ []) }
-        ensures starts { IfOk result (λ t. t.starts.items ≡ []) }
     {
         Ok(Table {
             tokens: Vec::with_capacity(alloc, room)?,
@@ -88,28 +92,6 @@ impl Table {
             starts: Vec::new(alloc),
             closes: Vec::new(alloc),
         })
-    }
-
-    /// Adds a token.
-    fn push(&mut self, token: Token) -> Result<(), AllocError>
-        requires started { Started self.old.opens.items self.old.starts.items }
-        requires full { length self.old.tokens.items ≤ block * length self.old.starts.items }
-        requires below { (g : _) → g < length self.old.opens.items →
-            get_or self.old.opens.items g 0 < length self.old.tokens.items }
-        ensures tokens { OnOk result
-            (self.new.tokens.items ≡ self.old.tokens.items ++ token ∷ []) }
-        ensures started { OnOk result (Started self.new.opens.items self.new.starts.items) }
-        ensures full { OnOk result
-            (length self.new.tokens.items ≤ block * length self.new.starts.items) }
-        ensures opens { self.new.opens ≡ self.old.opens }
-        ensures names { self.new.names ≡ self.old.names }
-        ensures fault { self.new.fault ≡ self.old.fault }
-    {
-        if self.starts.len() <= self.tokens.len() / BLOCK {
-            self.starts.push(self.opens.len())?;
-        }
-        self.tokens.push(token)?;
-        Ok(())
     }
 
     /// Notes that the last two tokens are a parenthesis and an annotation.
@@ -124,7 +106,6 @@ impl Table {
             (OneMoreName (word_of text.now token.now)
             (map name_view self.old.names.items) (map name_view self.new.names.items)) }
         ensures tokens { self.new.tokens ≡ self.old.tokens }
-        ensures starts { self.new.starts ≡ self.old.starts }
         ensures fault { self.new.fault ≡ self.old.fault }
     {
         let name = noted_name(alloc, text, token)?;
@@ -138,45 +119,77 @@ impl Table {
         requires token { IsTokenOf text.now token }
         requires short { token.offset + token.len < 2 ^ 32 }
         requires noted { Noted text.now self.old.tokens.items self.old.opens.items
-            (map name_view self.old.names.items) self.old.starts.items }
+            (map name_view self.old.names.items) }
         ensures tokens { OnOk result
             (self.new.tokens.items ≡ self.old.tokens.items ++ token ∷ []) }
         ensures noted { OnOk result (
             Noted text.now self.new.tokens.items self.new.opens.items
-            (map name_view self.new.names.items) self.new.starts.items) }
+            (map name_view self.new.names.items)) }
         ensures fault { self.new.fault ≡ self.old.fault }
     {
         if is_annotation(token.kind) {
-            self.add_annotation(alloc, text, token)?;
+            self.add_annotation(alloc, text, token.offset, token.len)?;
         } else {
-            self.push(token)?;
+            self.tokens.push(token)?;
         }
         Ok(())
     }
 
     /// Adds an annotation, and notes it where it stands directly behind a parenthesis.
-    // It stays a call, so that the loop over all tokens is small.
+    // It stays a call, so that the loop over all tokens is small, and it is passed numbers, so that no
+    // token of that loop has to stand in memory.
     #[inline(never)]
-    fn add_annotation(&mut self, alloc: Global, text: &str, token: Token) -> Result<(), AllocError>
-        requires token { IsTokenOf text.now token }
-        requires kind { token.kind ≡ Annotation }
-        requires short { token.offset + token.len < 2 ^ 32 }
+    fn add_annotation(
+        &mut self,
+        alloc: Global,
+        text: &str,
+        offset: usize,
+        len: u32,
+    ) -> Result<(), AllocError>
+        requires token { IsTokenOf text.now (annotation_at offset len) }
+        requires short { offset + len < 2 ^ 32 }
         requires noted { Noted text.now self.old.tokens.items self.old.opens.items
-            (map name_view self.old.names.items) self.old.starts.items }
+            (map name_view self.old.names.items) }
         ensures tokens { OnOk result
-            (self.new.tokens.items ≡ self.old.tokens.items ++ token ∷ []) }
+            (self.new.tokens.items ≡ self.old.tokens.items ++ annotation_at offset len ∷ []) }
         ensures noted { OnOk result (
             Noted text.now self.new.tokens.items self.new.opens.items
-            (map name_view self.new.names.items) self.new.starts.items) }
+            (map name_view self.new.names.items)) }
         ensures fault { self.new.fault ≡ self.old.fault }
     {
+        let token = Token {
+            offset,
+            len,
+            kind: TokenKind::Annotation,
+        };
         let is_head = is_head(&self.tokens, token);
-        self.push(token)?;
+        self.tokens.push(token)?;
         if is_head {
             self.note(alloc, text, &token)?;
         }
         Ok(())
     }
+}
+
+/// Adds the starts up to that of the block of a place, before each of which so many places lie.
+fn start_blocks(starts: &mut Vec<usize>, before: usize, place: usize) -> Result<(), AllocError>
+    ensures { OnOk result (StartedUpTo starts.old.items starts.new.items before place) }
+{
+    while starts.len() <= place / BLOCK {
+        starts.push(before)?;
+    }
+    Ok(())
+}
+
+/// For each block of tokens up to that of the last place, how many of the places lie before it.
+fn starts(alloc: Global, opens: &[usize]) -> Result<Vec<usize>, AllocError>
+    ensures { IfOk result (λ starts. Started opens.now starts.items) }
+{
+    let mut starts = Vec::new(alloc);
+    for (before, place) in opens.iter().enumerate() {
+        start_blocks(&mut starts, before, *place)?;
+    }
+    Ok(starts)
 }
 
 /// How many of the places are before this one.
@@ -287,10 +300,10 @@ fn closes(
 fn fill(alloc: Global, lexer: &Lexer<'_>) -> Result<Table, AllocError>
     ensures read { IfOk result (λ t. MaximalTiling lexer.now 0 t.tokens.items t.fault) }
     ensures noted { IfOk result (λ t. Noted lexer.now.text t.tokens.items t.opens.items
-        (map name_view t.names.items) t.starts.items) }
+        (map name_view t.names.items)) }
 {
     let text = lexer.input();
-    let mut table = Table::new(alloc, text.len() / LIKELY)?;
+    let mut table = Table::new(alloc, FIRST_ROOM.min(text.len() / LIKELY))?;
     let mut pos = 0;
     'tokens: loop {
         match lexer.scan(pos) {
@@ -312,12 +325,14 @@ impl Table {
     pub fn of(alloc: Global, lexer: &Lexer<'_>) -> Result<Table, AllocError>
         ensures read { IfOk result (λ t. MaximalTiling lexer.now 0 t.tokens.items t.fault) }
         ensures noted { IfOk result (λ t. Noted lexer.now.text t.tokens.items t.opens.items
-            (map name_view t.names.items) t.starts.items) }
+            (map name_view t.names.items)) }
+        ensures started { IfOk result (λ t. Started t.opens.items t.starts.items) }
         ensures paired { IfOk result (λ t.
             Paired t.tokens.items t.opens.items t.closes.items) }
     {
         let mut table = fill(alloc, lexer)?;
         table.tokens.shrink_to_fit();
+        table.starts = starts(alloc, &table.opens)?;
         table.closes = closes(alloc, &table.tokens, &table.opens, &table.starts)?;
         Ok(table)
     }

@@ -1,77 +1,39 @@
 //! Integers. Those with a sign take the words of all bits too, as `0xff` for -1 in eight bits.
 ghost use Rattle.std.specs.Prelude.{◌≡◌, ◌≤◌, ◌<◌, ◌+◌, ◌^◌, ◌≤ℤ◌, ◌<ℤ◌, ℕ, ℤ};
-ghost use Rattle.std.specs.Prelude.{IfOk, IfSome, MatchOption, Some, codes, length, pos, neg_ℤ, true};
-ghost use Rattle.std.specs.Prelude.{false};
-ghost use Rattle.std.specs.Str.Parse.{IsNumeral, digits_value, without_leading_sign};
-ghost use Rattle.wat_lex.specs.values.NumberValues.{integer_base, integer_digits};
-ghost use Rattle.wat_lexer_parser.specs.parser.Takers.{as_integer, number_of};
+ghost use Rattle.std.specs.Prelude.{IfOk, IfSome, codes, pos, neg_ℤ, true, false};
+ghost use Rattle.wat_lex.specs.grammar.Numbers.{sign_token};
+ghost use Rattle.wat_lex.specs.tokens.ReadableTokens.{IsTokenOf, word_of};
+ghost use Rattle.wat_lex.specs.values.NumberValues.{integer_value};
+ghost use Rattle.wat_lex.specs.declared.lexer.kinds.TokenKind.TheVariants as variant;
+ghost use Rattle.wat_lexer_parser.specs.parser.Takers.{as_integer, is_minus};
 ghost use Rattle.wat_lexer_parser.specs.readings.Reads.{CursorReads, IsKept, Reads, reading_at};
 ghost use Rattle.wat_lexer_parser.specs.readings.Readings.{checked, spanned, token};
 ghost use Rattle.wat_lexer_parser.specs.readings.Types.{integer, signed_within, unsigned_below};
 
 use crate::parser::{Cursor, Parse, Parser, Peek};
 use wat_lex::error::Error;
-use wat_lex::lexer::{Integer, SignToken};
+use wat_lex::lexer::{IntegerKind, SignToken, Token, TokenKind};
 use wat_lex::token::Span;
 
-/// The digits behind a sign, or all of them where there is none.
-fn unsigned_digits(digits: &str) -> &str
-    ensures { result.now ≡ without_leading_sign digits.now }
+/// Whether an integer begins with `-`.
+fn is_negative(kind: IntegerKind) -> bool
+    ensures { result ≡ is_minus (sign_token kind.sign) }
 {
-    match digits.strip_prefix('-') {
-        Some(rest) => rest,
-        None => match digits.strip_prefix('+') {
-            Some(rest) => rest,
-            None => digits,
-        },
-    }
+    kind.sign() == Some(SignToken::Minus)
 }
 
-/// The number that so few decimal digits write that it fits, None where a byte is no digit. A loop
-/// that may end early is not unrolled, and words of digits are too short for that.
-fn decimal(digits: &[u8]) -> Option<u64>
-    requires few { length digits.now ≤ 19 }
-    requires numeral { IsNumeral 10 digits.now }
-    ensures { result ≡ Some (digits_value 10 digits.now) }
-{
-    let mut value = 0;
-    for byte in digits {
-        let digit = byte.wrapping_sub(b'0');
-        if digit > 9 {
-            return None;
-        }
-        value = value * 10 + u64::from(digit);
-    }
-    Some(value)
-}
-
-/// The number that an integer's digits write, None where it is 2^64 at least.
-fn magnitude(word: &Integer<'_>) -> Option<u64>
-    requires { IsNumeral (integer_base word.now) (without_leading_sign (integer_digits word.now)) }
-    ensures { MatchOption result (2 ^ 64 ≤ (number_of word.now).1)
-        (λ n. n ≡ (number_of word.now).1) }
-{
-    let (digits, base) = word.val();
-    let rest = unsigned_digits(digits);
-    if base == 10 && rest.len() < 20 {
-        return decimal(rest.as_bytes());
-    }
-    match u64::from_str_radix(rest, base) {
-        Ok(n) => Some(n),
-        Err(_) => None,
-    }
-}
-
-/// The value in a type without a sign, which a word with a minus never has.
-fn unsigned_value(word: &Integer<'_>, most: u64) -> Option<u64>
-    requires { IsNumeral (integer_base word.now) (without_leading_sign (integer_digits word.now)) }
-    ensures value { result ≡ unsigned_below (most + 1) (number_of word.now) }
+/// The value of an integer token in a type without a sign, which a word with a minus never has.
+fn unsigned_value(text: &str, token: &Token, kind: IntegerKind, most: u64) -> Option<u64>
+    requires token { IsTokenOf text.now token.now }
+    requires kind { token.now.kind ≡ variant.Integer kind }
+    ensures value { result ≡ unsigned_below (most + 1)
+        (is_minus (sign_token kind.sign), integer_value kind.hex (word_of text.now token.now)) }
     ensures fits { IfSome result (λ n. n ≤ most) }
 {
-    if word.sign() == Some(SignToken::Minus) {
+    if is_negative(kind) {
         return None;
     }
-    match magnitude(word) {
+    match token.magnitude(text, kind) {
         Some(n) if n <= most => Some(n),
         _ => None,
     }
@@ -93,11 +55,14 @@ fn unsigned<'p, 'a>(
     ensures parser { IfOk result (λ v. v.1.parser ≡ cursor.entry.parser) }
     ensures on { IfOk result (λ v. cursor.entry.at < v.1.at) }
 {
-    let Some((word, next)) = cursor.integer()? else {
+    let Some((token, next)) = cursor.any()? else {
         return Err(cursor.error(expected));
     };
-    match unsigned_value(&word, most) {
-        Some(value) => Ok(((value, cursor.span_before(next)), next)),
+    let TokenKind::Integer(kind) = token.kind else {
+        return Err(cursor.error(expected));
+    };
+    match unsigned_value(cursor.text(), &token, kind, most) {
+        Some(value) => Ok(((value, cursor.span_of(token)), next)),
         None => Err(cursor.error(out_of_range)),
     }
 }
@@ -118,18 +83,19 @@ fn parse_unsigned(
     parser.step(|c| unsigned(c, most, expected, out_of_range))
 }
 
-/// The value in a type with a sign, which goes from `-half` up to `half - 1`.
-fn signed_value(word: &Integer<'_>, half: u64) -> Option<i64>
-    requires numeral { IsNumeral (integer_base word.now)
-        (without_leading_sign (integer_digits word.now)) }
+/// The value of an integer token in a type with a sign, which goes from `-half` up to `half - 1`.
+fn signed_value(text: &str, token: &Token, kind: IntegerKind, half: u64) -> Option<i64>
+    requires token { IsTokenOf text.now token.now }
+    requires kind { token.now.kind ≡ variant.Integer kind }
     requires least { 0 < half }
     requires most { half ≤ 2 ^ 63 }
-    ensures value { result ≡ signed_within half (number_of word.now) }
+    ensures value { result ≡ signed_within half
+        (is_minus (sign_token kind.sign), integer_value kind.hex (word_of text.now token.now)) }
     ensures low { IfSome result (λ n. neg_ℤ (pos half) ≤ℤ n) }
     ensures high { IfSome result (λ n. n <ℤ pos half) }
 {
-    let magnitude = magnitude(word)?;
-    if word.sign() == Some(SignToken::Minus) {
+    let magnitude = token.magnitude(text, kind)?;
+    if is_negative(kind) {
         return negative(magnitude, half);
     }
     plain(magnitude, half)
@@ -189,11 +155,14 @@ fn signed<'p, 'a>(
     ensures parser { IfOk result (λ v. v.1.parser ≡ cursor.entry.parser) }
     ensures on { IfOk result (λ v. cursor.entry.at < v.1.at) }
 {
-    let Some((word, next)) = cursor.integer()? else {
+    let Some((token, next)) = cursor.any()? else {
         return Err(cursor.error(expected));
     };
-    match signed_value(&word, half) {
-        Some(value) => Ok(((value, cursor.span_before(next)), next)),
+    let TokenKind::Integer(kind) = token.kind else {
+        return Err(cursor.error(expected));
+    };
+    match signed_value(cursor.text(), &token, kind, half) {
+        Some(value) => Ok(((value, cursor.span_of(token)), next)),
         None => Err(cursor.error(out_of_range)),
     }
 }

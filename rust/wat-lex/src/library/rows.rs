@@ -1,4 +1,4 @@
-use super::{Answer, FULL, Filled, Kind, Part, Refusal, Settings, Text, Word, given, read};
+use super::{Answer, FULL, Filled, Kind, Refusal, Settings, Text, Value, Word, given, read};
 use crate::error::{Error, Span};
 use crate::lexer::{Lexer, comment_at, error_at, too_long, wrong_name};
 use crate::number::{Float, Integer};
@@ -38,9 +38,6 @@ const UNCLOSED: u32 = 4;
 
 /// An escape stands in the word.
 const ESCAPED: u32 = 4;
-
-/// A function that reads the token of a row.
-type RowReader = unsafe extern "C" fn(*const u8, usize, *const Row, *mut u8, usize) -> Answer;
 
 unsafe extern "C" {
     fn wat_rows(
@@ -245,21 +242,12 @@ impl<'a> Rows<'a> {
 
     /// Fills the room from a row on, and answers how many rows it filled.
     fn fill(&mut self, from: usize) -> usize {
-        let text = self.text.0;
-        let room = &mut self.rows[from..];
-        // SAFETY: the text is UTF-8, as each `&str`, and `Text::new` tested its length; `at` is 0 or what the library answered of this text, a
-        // place; the room is behind a `&mut`, so it has values and is no part of the text.
-        let filled = unsafe {
-            wat_rows(
-                text.as_ptr(),
-                text.len(),
-                self.at,
-                self.settings.allow,
-                self.settings.strict,
-                room.as_mut_ptr(),
-                room.len(),
-            )
-        };
+        let ((text, len), pos) = (self.text.parts(), self.at);
+        let Settings { allow, strict } = self.settings;
+        let buffer = &mut self.rows[from..];
+        let (out, room) = (buffer.as_mut_ptr(), buffer.len());
+        // SAFETY: rules 1 to 3 by `Text`, 5 by the `&mut`, and 6. Rule 4: `at` is 0 or what the library answered of this text, which is a place.
+        let filled = unsafe { wat_rows(text, len, pos, allow, strict, out, room) };
         (self.at, self.why) = (filled.at, filled.why);
         filled.count
     }
@@ -269,7 +257,7 @@ impl<'a> Rows<'a> {
         if self.rows.len() >= u32::MAX as usize {
             return Err(too_long());
         }
-        // SAFETY: the rows are all that the library wrote for this text, behind a `&mut`, and their count was tested.
+        // SAFETY: the rows are behind a `&mut`, and fewer than `u32::MAX`.
         unsafe { wat_links(self.rows.as_mut_ptr(), self.rows.len()) };
         Ok(())
     }
@@ -306,14 +294,14 @@ impl<'a> Rows<'a> {
     ///
     /// Where the place is more than the count of the rows.
     pub fn shown(&self, place: u32, names: &Names) -> Result<Option<u32>, Error> {
-        let text = self.text.0;
         assert!(place as usize <= self.rows.len(), "no place of the rows");
-        // SAFETY: text, rows and `why` are as the library made them, by the fields of this struct; the place was tested; the names and their
-        // ends are as the fields of `Names` keep them.
+        let (text, len) = self.text.parts();
+        // SAFETY: rules 1 to 3 by `Text`, and of the names by their fields; they may be any bytes, and the ends any numbers. Rule 7: the rows are
+        // all that `new` filled of the text and linked, and `why` is what the last call answered.
         let look = unsafe {
             wat_shown(
-                text.as_ptr(),
-                text.len(),
+                text,
+                len,
                 self.rows.as_ptr(),
                 self.rows.len(),
                 self.why,
@@ -369,7 +357,7 @@ impl<'a> Rows<'a> {
         match self.word(place) {
             Ok(plain) => Cow::Borrowed(plain.as_bytes()),
             Err(Refusal::Wrong(ESCAPED)) => self
-                .read(wat_string_of, place)
+                .read(Value::String, place)
                 .map(Cow::Owned)
                 .unwrap_or_else(|_| no_token("string")),
             Err(_) => no_token("string"),
@@ -396,7 +384,7 @@ impl<'a> Rows<'a> {
     #[cold]
     fn escaped_name(&self, place: u32, refusal: Refusal) -> Result<Cow<'a, str>, Error> {
         let name = match refusal {
-            Refusal::Wrong(ESCAPED) => self.read(wat_name_of, place),
+            Refusal::Wrong(ESCAPED) => self.read(Value::Name, place),
             refusal => Err(refusal),
         };
         match name {
@@ -411,11 +399,11 @@ impl<'a> Rows<'a> {
     /// Where a word's value stands in the text as it is.
     #[inline]
     fn word(&self, place: u32) -> Result<&'a str, Refusal> {
-        let text = self.text.0;
-        // SAFETY: the row is one of the text, by the fields of this struct.
-        let word = unsafe { wat_word(text.as_ptr(), text.len(), self.row(place)) };
+        let (text, len) = self.text.parts();
+        // SAFETY: rules 1 to 3 by `Text`, and 7, as the row is one that `new` filled of the text.
+        let word = unsafe { wat_word(text, len, self.row(place)) };
         given(word.status)?;
-        Ok(&text[word.start as usize..][..word.len as usize])
+        Ok(&self.text.0[word.start as usize..][..word.len as usize])
     }
 
     /// The value of the integer of a row as two's complement of 8, 16, 32 or 64 bits; None where it is out of range.
@@ -425,14 +413,13 @@ impl<'a> Rows<'a> {
     /// Where the row is no integer.
     #[inline]
     pub fn number(&self, place: u32, bits: u32, is_signed: bool) -> Option<u64> {
-        let text = self.text.0;
         assert!(
             matches!(bits, 8 | 16 | 32 | 64),
             "no integer of {bits} bits"
         );
-        // SAFETY: the row is one of the text, by the fields of this struct; the bits were tested.
-        let number =
-            unsafe { wat_integer_of(text.as_ptr(), text.len(), self.row(place), bits, is_signed) };
+        let (text, len) = self.text.parts();
+        // SAFETY: as for `word`. Any number of bits may be asked for.
+        let number = unsafe { wat_integer_of(text, len, self.row(place), bits, is_signed) };
         match given(number.status) {
             Ok(()) => Some(number.value),
             Err(Refusal::Other) => no_token("integer"),
@@ -452,7 +439,7 @@ impl<'a> Rows<'a> {
         let source = self.source(place);
         let plain = source.strip_prefix('+').unwrap_or(source);
         let digits = if kind.has_underscores() || kind.hex() {
-            self.read(wat_digits_of, place)
+            self.read(Value::Digits, place)
                 .map(Cow::Owned)
                 .unwrap_or_else(|_| no_token("integer"))
         } else {
@@ -468,42 +455,26 @@ impl<'a> Rows<'a> {
     /// Where the row is no floating-point number.
     pub fn float(&self, place: u32) -> Float<'a> {
         match TokenKind::from_library(self.row(place).kind) {
-            TokenKind::Float(kind) => Float::of_kind(kind, |part| self.part(place, part)),
+            TokenKind::Float(kind) => {
+                Float::of_kind(kind, |part| self.read(Value::Float(part), place))
+            }
             _ => no_token("float"),
         }
     }
 
-    fn part(&self, place: u32, part: Part) -> Result<Vec<u8>, Refusal> {
-        let (text, row) = (self.text.0, self.row(place));
-        read(row.len(), |buffer| {
-            // SAFETY: as for `read`; each number is allowed for the part.
-            unsafe {
-                wat_float_of(
-                    text.as_ptr(),
-                    text.len(),
-                    row,
-                    part as u32,
-                    buffer.as_mut_ptr(),
-                    buffer.len(),
-                )
-            }
-        })
-    }
-
     /// What a reader finds in a row. What it finds is no longer than the token.
-    fn read(&self, reader: RowReader, place: u32) -> Result<Vec<u8>, Refusal> {
-        let (text, row) = (self.text.0, self.row(place));
+    fn read(&self, value: Value, place: u32) -> Result<Vec<u8>, Refusal> {
+        let ((text, len), row) = (self.text.parts(), self.row(place));
         read(row.len(), |buffer| {
-            // SAFETY: the row is one of the text, by the fields of this struct; the buffer is behind a `&mut`, so it has values and is no part
-            // of the text or the rows.
+            let (out, room) = (buffer.as_mut_ptr(), buffer.len());
+            // SAFETY: as for `word`, and rule 5 by the `&mut`. Any part may be asked for, of any token.
             unsafe {
-                reader(
-                    text.as_ptr(),
-                    text.len(),
-                    row,
-                    buffer.as_mut_ptr(),
-                    buffer.len(),
-                )
+                match value {
+                    Value::String => wat_string_of(text, len, row, out, room),
+                    Value::Name => wat_name_of(text, len, row, out, room),
+                    Value::Digits => wat_digits_of(text, len, row, out, room),
+                    Value::Float(part) => wat_float_of(text, len, row, part as u32, out, room),
+                }
             }
         })
     }

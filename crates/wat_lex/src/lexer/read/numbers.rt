@@ -1,11 +1,14 @@
 //! What the words of numbers read as.
-ghost use Rattle.std.specs.Prelude.{◌≡◌, ◌≤◌, ◌++◌, ◌||◌, Bool, true, false, [], length};
-ghost use Rattle.std.specs.Prelude.{IfOk, OnOk, IsOk, IfSome, string_bytes};
+ghost use Rattle.std.specs.Prelude.{◌≡◌, ◌≤◌, ◌+◌, ◌*◌, ◌^◌, ◌++◌, ◌||◌, Bool, true, false, []};
+ghost use Rattle.std.specs.Prelude.{length, IfOk, OnOk, IsOk, IfSome, MatchOption, string_bytes};
+ghost use Rattle.std.specs.Char.{digit_value};
 ghost use Rattle.std.specs.Option.{option_map};
 ghost use Rattle.std.specs.Str.{IsAscii};
+ghost use Rattle.std.specs.Str.Parse.{digits_value};
 ghost use Rattle.wat_lex.specs.grammar.Numbers.{unsigned, has_underscores, Number, IntegralPart};
 ghost use Rattle.wat_lex.specs.grammar.Numbers.{Tail, Decimals, Payload};
 ghost use Rattle.wat_lex.specs.values.NumberValues.{joined, behind_prefix, number_text};
+ghost use Rattle.wat_lex.specs.values.NumberValues.{base, integer_value};
 ghost use Rattle.wat_lex.specs.values.NumberValues.{payload_text, is_integer_rewritten};
 ghost use Rattle.wat_lex.specs.values.NumberValues.{is_float_rewritten, integer_sign};
 ghost use Rattle.wat_lex.specs.values.NumberValues.{integer_digits, integer_base, Point, Power};
@@ -62,6 +65,52 @@ impl<'a> Integer<'a> {
             hex: kind.hex,
         })
     }
+}
+
+/// What a digit stands for.
+fn digit(byte: u8) -> u64
+    ensures { result ≡ digit_value byte }
+{
+    match byte {
+        b'0'..=b'9' => u64::from(byte - b'0'),
+        b'A'..=b'Z' => u64::from(byte - b'A') + 10,
+        b'a'..=b'z' => u64::from(byte - b'a') + 10,
+        _ => 36,
+    }
+}
+
+/// The number with a digit behind it.
+fn with_digit(value: u64, base: u64, byte: u8) -> Option<u64>
+    ensures { MatchOption result (2 ^ 64 ≤ value * base + digit_value byte)
+        (λ n. n ≡ value * base + digit_value byte) }
+{
+    value.checked_mul(base)?.checked_add(digit(byte))
+}
+
+/// The number that the digits of an integer write, as they stand in a text behind its sign and its
+/// `0x`: underscores among them do not count. None where it is 2^64 at least.
+pub fn magnitude(digits: &[u8], hex: bool) -> Option<u64>
+    ensures { MatchOption result (2 ^ 64 ≤ digits_value (base hex) (joined digits.now))
+        (λ n. n ≡ digits_value (base hex) (joined digits.now)) }
+{
+    let base = if hex { 16 } else { 10 };
+    let mut value = 0;
+    for byte in digits {
+        if *byte != b'_' {
+            value = with_digit(value, base, *byte)?;
+        }
+    }
+    Some(value)
+}
+
+/// The number that an integer's word writes, its sign left out; None where it is 2^64 at least.
+pub(crate) fn magnitude_of(word: &str, kind: IntegerKind) -> Option<u64>
+    requires { Number word.now (token_kind.Integer kind) }
+    ensures { MatchOption result (2 ^ 64 ≤ integer_value kind.hex word.now)
+        (λ n. n ≡ integer_value kind.hex word.now) }
+{
+    let digits = behind_prefix(unsigned(word.as_bytes()), kind.hex);
+    magnitude(digits, kind.hex)
 }
 
 /// A floating-point number of a text, cut into its parts.

@@ -2,8 +2,9 @@
 ghost use Rattle.std.specs.Prelude.{◌≡◌, ◌≤◌, ◌+◌, length};
 ghost use Rattle.std.specs.Char.{is_ascii_digit};
 ghost use Rattle.std.specs.Simd.Lanes.{chunk};
-ghost use Rattle.wat_lex.specs.grammar.Classes.{is_idchar, is_whitespace};
-ghost use Rattle.wat_lex.specs.inside.Blocks.{failures, is_plain_in_line, other_than_semicolon};
+ghost use Rattle.wat_lex.specs.grammar.Classes.{is_hex, is_idchar, is_whitespace};
+ghost use Rattle.wat_lex.specs.inside.Blocks.{failures, is_plain_in_line, is_surely_plain};
+ghost use Rattle.wat_lex.specs.inside.Blocks.{other_than_semicolon};
 
 use std::simd::prelude::*;
 
@@ -18,6 +19,12 @@ const DIGITS_BY_LOW: [u8; 16] = [1, 1, 1, 1, 1, 1, 1, 1, 1, 1, 0, 0, 0, 0, 0, 0]
 
 /// By a byte's high four bits.
 const DIGITS_BY_HIGH: [u8; 16] = [0, 0, 0, 1, 0, 0, 0, 0, 0, 0, 0, 0, 0, 0, 0, 0];
+
+/// By a byte's low four bits. A hexadecimal digit has a bit in common with `HEX_DIGITS_BY_HIGH`.
+const HEX_DIGITS_BY_LOW: [u8; 16] = [1, 3, 3, 3, 3, 3, 3, 1, 1, 1, 0, 0, 0, 0, 0, 0];
+
+/// By a byte's high four bits.
+const HEX_DIGITS_BY_HIGH: [u8; 16] = [0, 0, 0, 1, 2, 0, 2, 0, 0, 0, 0, 0, 0, 0, 0, 0];
 
 /// By a byte's low four bits: the one byte of whitespace that ends so, or a byte that does not.
 const WHITESPACE_BY_LOW: [u8; 16] = [32, 0, 0, 0, 0, 0, 0, 0, 0, 9, 10, 0, 0, 13, 0, 0];
@@ -55,6 +62,16 @@ pub fn other_than_digits(block: u8x16) -> u64
     (low & high).simd_eq(u8x16::splat(0)).to_bitmask()
 }
 
+/// A bit for each byte that is no hexadecimal digit, the lowest for the first.
+#[inline(always)]
+pub fn other_than_hex_digits(block: u8x16) -> u64
+    ensures { result ≡ failures is_hex block }
+{
+    let low = u8x16::from_array(HEX_DIGITS_BY_LOW).swizzle_dyn(block & u8x16::splat(15));
+    let high = u8x16::from_array(HEX_DIGITS_BY_HIGH).swizzle_dyn(block >> u8x16::splat(4));
+    (low & high).simd_eq(u8x16::splat(0)).to_bitmask()
+}
+
 /// A bit for each byte that is no whitespace, the lowest for the first.
 #[inline(always)]
 pub fn other_than_whitespace(block: u8x16) -> u64
@@ -80,4 +97,13 @@ pub fn other_than_plain_in_line(block: u8x16) -> u64
 {
     let stop = u8x16::from_array(NOT_PLAIN_IN_LINE_BY_LOW).swizzle_dyn(block & u8x16::splat(15));
     stop.simd_eq(block).to_bitmask()
+}
+
+/// A bit for each byte that is no ASCII or stands below 14, as line ends and tabs do, the lowest for
+/// the first.
+#[inline(always)]
+pub fn other_than_surely_plain(block: u8x16) -> u64
+    ensures { result ≡ failures is_surely_plain block }
+{
+    (block.simd_lt(u8x16::splat(14)) | u8x16::splat(127).simd_lt(block)).to_bitmask()
 }

@@ -7,7 +7,7 @@ ghost use Rattle.wat_lex.specs.grammar.Classes.{is_run_char, is_confusing};
 
 use crate::lexer::kinds::Stride;
 use crate::lexer::scan::blocks::{
-    block_at, other_than_digits, other_than_idchars, other_than_whitespace,
+    block_at, other_than_digits, other_than_hex_digits, other_than_idchars, other_than_whitespace,
 };
 
 const RUN_CHAR: u8 = 1;
@@ -196,5 +196,41 @@ pub fn digit_len(text: &[u8], stride: Stride) -> usize
     match stride {
         Stride::Byte => digit_len_by_byte(text),
         Stride::Block => digit_len_by_block(text),
+    }
+}
+
+fn hex_digit_len_by_byte(text: &[u8]) -> usize
+    ensures { result ≡ prefix_len is_hex text.now }
+{
+    let mut i = 0;
+    while i < text.len() && is_hex_digit(text[i]) {
+        i += 1;
+    }
+    i
+}
+
+#[inline]
+fn hex_digit_len_by_block(text: &[u8]) -> usize
+    ensures { result ≡ prefix_len is_hex text.now }
+{
+    let mut i = 0;
+    while text.len() - i >= 16 {
+        let others = other_than_hex_digits(block_at(text, i));
+        if others != 0 {
+            return i + others.trailing_zeros() as usize;
+        }
+        i += 16;
+    }
+    i + hex_digit_len_by_byte(&text[i..])
+}
+
+/// How many hexadecimal digits stand at the start.
+#[inline(always)]
+pub fn hex_digit_len(text: &[u8], stride: Stride) -> usize
+    ensures { result ≡ prefix_len is_hex text.now }
+{
+    match stride {
+        Stride::Byte => hex_digit_len_by_byte(text),
+        Stride::Block => hex_digit_len_by_block(text),
     }
 }

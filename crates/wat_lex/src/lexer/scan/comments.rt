@@ -1,6 +1,6 @@
 //! Comments.
 ghost use Rattle.std.specs.Prelude.{◌≡◌, ◌≤◌, ◌+◌, ℕ, List, not, length, drop, slice_index, IfSome};
-ghost use Rattle.std.specs.Prelude.{IfNone, MatchOption, IfOk, IfErr};
+ghost use Rattle.std.specs.Prelude.{IfNone, MatchOption, IfOk, IfErr, IsTrue};
 ghost use Rattle.std.specs.List.{prefix_len};
 ghost use Rattle.std.specs.Str.{chars, NonePass};
 ghost use Rattle.wat_lex.specs.grammar.Classes.{is_line_end, is_confusing};
@@ -9,13 +9,15 @@ ghost use Rattle.wat_lex.specs.tokens.Faults.{IsComment};
 ghost use Rattle.wat_lex.specs.inside.ScannedLexemes.{LexemeFound, Refused, FirstConfusing};
 ghost use Rattle.wat_lex.specs.declared.lexer.kinds.TokenKind.TheVariants.{LineComment};
 ghost use Rattle.wat_lex.specs.declared.lexer.kinds.TokenKind.TheVariants.{BlockComment};
-ghost use Rattle.wat_lex.specs.inside.Blocks.{is_plain_in_line, other_than_semicolon};
+ghost use Rattle.wat_lex.specs.inside.Blocks.{GoesOn, is_plain_in_line, other_than_semicolon};
 ghost use Rattle.wat_lex.specs.inside.Outlines.{Outlined};
 ghost use Rattle.wat_lex.specs.tokens.Setting.{allowing};
 
 use crate::lexer::faults::{LexError, LexFault};
 use crate::lexer::kinds::{Lexeme, Outline, Shape, TokenKind};
-use crate::lexer::scan::blocks::{block_at, other_than_plain_in_line, semicolons};
+use crate::lexer::scan::blocks::{
+    block_at, other_than_plain_in_line, other_than_surely_plain, semicolons,
+};
 use crate::lexer::scan::classes::is_confusing;
 use crate::lexer::settings::Settings;
 use memchr::{memchr, memchr2, memchr3};
@@ -29,7 +31,7 @@ fn line_len(text: &[u8]) -> usize
 
 /// The first confusing character, and where it stands. Each of them has 0xE2 as its first byte, and
 /// no character has that byte at another place.
-fn first_confusing(text: &str) -> Option<(usize, char)>
+pub fn first_confusing(text: &str) -> Option<(usize, char)>
     ensures { MatchOption result (NonePass is_confusing (chars text.now))
         (λ f. FirstConfusing text.now f.0 f.1) }
 {
@@ -70,24 +72,53 @@ fn plain_by_block(text: &[u8]) -> usize
     i + plain_by_search(&text[i..])
 }
 
-/// How many bytes stand before a line's end, or a byte that may begin a confusing character, by
-/// two blocks a turn.
-fn plain_by_two_blocks(text: &[u8]) -> usize
+/// Whether no byte of the four blocks at a place ends the line or may begin a confusing character.
+#[inline(always)]
+fn four_are_plain(text: &[u8], i: usize) -> bool
+    requires { i + 64 ≤ length text.now }
+    ensures { IsTrue result → GoesOn is_plain_in_line text.now i 64 }
+{
+    let first = other_than_plain_in_line(block_at(text, i));
+    let second = other_than_plain_in_line(block_at(text, i + 16));
+    let third = other_than_plain_in_line(block_at(text, i + 32));
+    let fourth = other_than_plain_in_line(block_at(text, i + 48));
+    first | second | third | fourth == 0
+}
+
+/// The same by a test that costs half as much, and fails at a tab and beyond ASCII too.
+#[inline(always)]
+fn four_are_surely_plain(text: &[u8], i: usize) -> bool
+    requires { i + 64 ≤ length text.now }
+    ensures { IsTrue result → GoesOn is_plain_in_line text.now i 64 }
+{
+    let first = other_than_surely_plain(block_at(text, i));
+    let second = other_than_surely_plain(block_at(text, i + 16));
+    let third = other_than_surely_plain(block_at(text, i + 32));
+    let fourth = other_than_surely_plain(block_at(text, i + 48));
+    first | second | third | fourth == 0
+}
+
+fn plain_by_four_blocks(text: &[u8]) -> usize
     ensures { result ≡ prefix_len is_plain_in_line text.now }
 {
     let mut i = 0;
-    while text.len() - i >= 32 {
-        let first = other_than_plain_in_line(block_at(text, i));
-        if first != 0 {
-            return i + first.trailing_zeros() as usize;
-        }
-        let second = other_than_plain_in_line(block_at(text, i + 16));
-        if second != 0 {
-            return i + 16 + second.trailing_zeros() as usize;
-        }
-        i += 32;
+    while text.len() - i >= 64 && (four_are_surely_plain(text, i) || four_are_plain(text, i)) {
+        i += 64;
     }
     i + plain_by_block(&text[i..])
+}
+
+/// How many bytes stand before a line's end, or a byte that may begin a confusing character. Most
+/// comments end in the first blocks.
+fn plain_len_in_line(text: &[u8]) -> usize
+    ensures { result ≡ prefix_len is_plain_in_line text.now }
+{
+    let near = text.len().min(64);
+    let plain = plain_by_block(&text[..near]);
+    if plain < near {
+        return plain;
+    }
+    near + plain_by_four_blocks(&text[near..])
 }
 
 fn semicolon_by_search(text: &[u8]) -> usize
@@ -192,7 +223,7 @@ pub fn line_comment(text: &str, flags: Settings) -> Result<usize, LexFault>
     ensures err { IfErr result (Refused flags text.now) }
 {
     let line = &text.as_bytes()[2..];
-    let plain = plain_by_two_blocks(line);
+    let plain = plain_len_in_line(line);
     if plain == line.len() || line[plain] != 0xe2 {
         return Ok(plain + 2);
     }

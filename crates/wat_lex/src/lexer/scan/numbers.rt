@@ -9,7 +9,7 @@ ghost use Rattle.wat_lex.specs.inside.ScannedNumbers.{LongestDigits, NoDigits, O
 ghost use Rattle.wat_lex.specs.inside.ScannedNumbers.{NoIntegralPart};
 
 use crate::lexer::kinds::{FloatKind, IntegerKind, Sign, Stride, TokenKind};
-use crate::lexer::scan::classes::{digit_len, is_hex_digit};
+use crate::lexer::scan::classes::{digit_len, hex_digit_len, is_hex_digit};
 
 fn is_digit(b: u8, hex: bool) -> bool
     ensures { result ≡ is_digit hex b }
@@ -77,19 +77,23 @@ pub fn after_digits(text: &[u8], hex: bool) -> Option<&[u8]>
     ensures { MatchOption result (NoDigits hex text.now)
         (λ rest. LongestDigits hex text.now rest.now) }
 {
-    let mut i = 0;
-    while i < text.len() && is_digit(text[i], hex) {
-        i += 1;
-        if i == text.len() {
-            return Some(&text[i..]);
-        }
-        if text[i] == b'_' {
-            i += 1;
-        } else if !is_digit(text[i], hex) {
-            return Some(&text[i..]);
+    if text.is_empty() || !is_digit(text[0], hex) {
+        return None;
+    }
+    let mut last = 0;
+    while last + 1 < text.len() {
+        let next = text[last + 1];
+        if is_digit(next, hex) {
+            last += 1;
+        } else if next != b'_' {
+            return Some(&text[last + 1..]);
+        } else if last + 2 < text.len() && is_digit(text[last + 2], hex) {
+            last += 2;
+        } else {
+            return None;
         }
     }
-    None
+    Some(&text[last + 1..])
 }
 
 fn is_digits(text: &[u8], hex: bool) -> bool
@@ -177,8 +181,30 @@ fn digits_kind(word: &[u8]) -> Option<TokenKind>
     kind_by_rest(word, hex, rest)
 }
 
-/// The kind of the word of so many bytes at the start, where that is of decimal digits alone, with a
-/// sign or none; most numbers by far are so.
+/// The kind of the word of so many bytes at the start, where that is of hexadecimal digits alone
+/// behind `0x`, with a sign or none.
+#[inline(always)]
+fn plain_hexadecimal(text: &[u8], len: usize, stride: Stride) -> Option<TokenKind>
+    requires { len ≤ length text.now }
+    ensures { IfSome result (λ kind. Number (take len text.now) kind) }
+{
+    let word = &text[..len];
+    let Some(digits) = after(unsigned(word), b"0x".as_slice()) else {
+        return None;
+    };
+    let number = digits.len();
+    if number == 0 || hex_digit_len(&text[len - number..], stride) < number {
+        return None;
+    }
+    Some(TokenKind::Integer(IntegerKind {
+        sign: sign_of(word),
+        has_underscores: false,
+        hex: true,
+    }))
+}
+
+/// The kind of the word of so many bytes at the start, where that is of digits alone, with a sign or
+/// none, and with `0x` where they are hexadecimal; most numbers by far are so.
 #[inline(always)]
 pub fn plain_integer(text: &[u8], len: usize, stride: Stride) -> Option<TokenKind>
     requires { len ≤ length text.now }
@@ -186,8 +212,17 @@ pub fn plain_integer(text: &[u8], len: usize, stride: Stride) -> Option<TokenKin
 {
     let word = &text[..len];
     let number = unsigned(word).len();
-    if number == 0 || digit_len(&text[len - number..], stride) < number {
+    if number == 0 {
         return None;
+    }
+    let digits = digit_len(&text[len - number..], stride);
+    if digits < number {
+        // Before the `x` of a hexadecimal number stands one digit.
+        return if digits == 1 {
+            plain_hexadecimal(text, len, stride)
+        } else {
+            None
+        };
     }
     Some(TokenKind::Integer(IntegerKind {
         sign: sign_of(word),

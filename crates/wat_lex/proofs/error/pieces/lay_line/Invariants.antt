@@ -1,8 +1,12 @@
-use Rattle.std.proofs.Common.{◌≡◌, List, ℕ, ◌++◌}
-use Rattle.std.specs.Prelude.{encode_utf8_all}
+use Rattle.std.proofs.Common.{◌≡◌, List, ℕ, ◌++◌, length}
 use Rattle.wat_lex.specs.errors.LaidPieces.{LaysMore}
+use denote.Shadow.{shadow}
+use denote.Text.{Utf8}
 use Rattle.wat_lex.specs.errors.Rendering.{shown_line}
 use Rattle.wat_lex.proofs.error.pieces.lay_line.Given as goal
 
-abbrev pub invariant-loop-c : goal.invariant-loop-c
-invariant-loop-c l = (done : List ℕ) × LaysMore l.initial.out l.initial.at done l.out l.at × (done ++ encode_utf8_all l.c-iterator ≡ shown_line l.fn.line.0.now)
+abbrev pub invariant-loop-shown : goal.invariant-loop-shown
+invariant-loop-shown l = (done : List ℕ) × LaysMore l.initial.out l.initial.at done l.out l.at × (done ++ shown_line l.rest ≡ shown_line l.fn.line.0.now) × shadow (Utf8 l.rest)
+
+abbrev pub decreases-loop-shown : goal.decreases-loop-shown
+decreases-loop-shown l = length l.rest

@@ -1,7 +1,11 @@
 use Rattle.std.proofs.Common.{◌≡◌, ◌+◌, length}
-use Rattle.std.specs.Prelude.{encode_utf8_all}
+use denote.Shadow.{shadow}
+use denote.Text.{Utf8}
 use Rattle.wat_lex.specs.errors.Rendering.{shown_line}
 use Rattle.wat_lex.proofs.error.pieces.line_length.Given as goal
 
-abbrev pub invariant-loop-c : goal.invariant-loop-c
-invariant-loop-c l = l.length + length (encode_utf8_all l.c-iterator) ≡ length (shown_line l.fn.line.0.now)
+abbrev pub invariant-loop-shown : goal.invariant-loop-shown
+invariant-loop-shown l = (l.length + length (shown_line l.rest) ≡ length (shown_line l.fn.line.0.now)) × shadow (Utf8 l.rest)
+
+abbrev pub decreases-loop-shown : goal.decreases-loop-shown
+decreases-loop-shown l = length l.rest

@@ -5,7 +5,7 @@ use Rattle.wat_lexer_parser.proofs.parser.table.fill.Given as goal
 
 abbrev pub invariant-tokens : goal.invariant-tokens
 invariant-tokens l = record {
-  filling : Filling l.lexer l.pos l.table.tokens.items l.table.opens.items (map name_view l.table.names.items) l.table.starts.items;
+  filling : Filling l.lexer l.pos l.table.tokens.items l.table.opens.items (map name_view l.table.names.items);
   fault : l.table.fault ≡ None;
 }
 

@@ -15,19 +15,19 @@ tail_is text bs e = take_rest bs 2 ∙ ap (λ x. drop 2 x) e
 pub bounds-line-plain : goal.bounds-line-plain
 bounds-line-plain c =
     let bs = c.as_bytes.result.now in
-    omega (arith, c.plain_by_two_blocks-plain.ensures, prefix_len-le-length is_plain_in_line (take (length bs - 2) (drop 2 bs)))
+    omega (arith, c.plain_len_in_line-plain.ensures, prefix_len-le-length is_plain_in_line (take (length bs - 2) (drop 2 bs)))
 
 pub overflow_add-result : goal.overflow_add-result
 overflow_add-result c =
-    let e = c.plain_by_two_blocks-plain.ensures ∙ ap (prefix_len is_plain_in_line) (tail_is c.args.text.now c.as_bytes.result.now c.as_bytes.ensures.value) in
+    let e = c.plain_len_in_line-plain.ensures ∙ ap (prefix_len is_plain_in_line) (tail_is c.args.text.now c.as_bytes.result.now c.as_bytes.ensures.value) in
     omega (arith, e, prefix_len-le-length is_plain_in_line (drop 2 c.args.text.now), length-drop 2 c.args.text.now, c.as_bytes.type_inv.0, ap length c.as_bytes.ensures.value)
 
 pub returns-then-plain-line-clause-ok : goal.returns-then-plain-line-clause-ok
 returns-then-plain-line-clause-ok c =
     let e = tail_is c.args.text.now c.as_bytes.result.now c.as_bytes.ensures.value in
-    let n = c.plain_by_two_blocks-plain.result in
+    let n = c.plain_len_in_line-plain.result in
     plain_found c.args.flags c.args.text.now n c.utf8.text c.requires.begun.0 c.requires.begun.1
-    (c.plain_by_two_blocks-plain.ensures ∙ ap (prefix_len is_plain_in_line) e)
+    (c.plain_len_in_line-plain.ensures ∙ ap (prefix_len is_plain_in_line) e)
     (λ l q. elim c.then-plain-line.branch [
       | then-plain-line-via-then-plain-line w ↦ omega (arith, ap length e, w.if-plain-line.true, l)
       | then-plain-line-via-else-plain-line+then-line-plain w ↦ w.if-line-plain.true (ap (λ x. get_or x n 0) e ∙ q)

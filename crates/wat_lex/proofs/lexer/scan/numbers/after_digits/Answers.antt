@@ -1,36 +1,51 @@
-use Rattle.std.proofs.Common.{subst, sym, ◌∙◌, ◌+◌, arith}
+use Rattle.std.proofs.Common.{◌≡◌, ◌<◌, ◌+◌, ℕ, Bool, true, List, length, drop, get_or, subst, sym, ◌∙◌, arith}
 use Rattle.std.proofs.lemmas.List.{take_rest}
+use Rattle.wat_lex.specs.grammar.Numbers.{is_digit}
 use Rattle.wat_lex.specs.inside.ScannedNumbers.{LongestDigits}
-use Rattle.wat_lex.proofs.grammar.Digits.{past_underscore, past_digit, row_ends, row_end, row_wrong, stops_end, stops_place}
+use Rattle.wat_lex.proofs.grammar.Digits.{Row, past_underscore, past_digit, row_ends, row_end, row_wrong, stops_end, stops_place}
 use Rattle.wat_lex.proofs.lexer.scan.numbers.after_digits.Goals as goal
-use Rattle.wat_lex.proofs.lexer.scan.numbers.after_digits.Goals.{then-loop-i-test+else-is_digit, else-loop-i-test}
+use Rattle.wat_lex.proofs.lexer.scan.numbers.after_digits.Goals.{else-last-text-via-then-last-text+else-is_digit-2, else-last-text-via-else-last-text}
 
-pub returns-then-i-text : goal.returns-then-i-text
-returns-then-i-text c =
-    subst (LongestDigits c.args.hex c.args.text.now) (sym (take_rest c.args.text.now (c.loop-i.i + 1)))
-    (row_ends c.args.hex c.args.text.now c.loop-i.i c.loop-i-test.true (sym c.is_digit.ensures ∙ c.if-is_digit.true) (stops_end c.args.hex c.args.text.now (c.loop-i.i + 1) (omega arith)) c.loop-i.invariant.row)
+pub loop-last-preserved-then-is_digit : goal.loop-last-preserved-then-is_digit
+loop-last-preserved-then-is_digit c =
+    let digit = sym c.is_digit-in-loop-last.ensures ∙ c.if-is_digit.true in
+    record {
+      range = omega arith;
+      digit = digit;
+      row = past_digit c.args.hex c.args.text.now c.loop-last.last (omega arith) c.loop-last.invariant.digit digit c.loop-last.invariant.row;
+    }
 
-pub loop-i-preserved-then-text-i-eq95 : goal.loop-i-preserved-then-text-i-eq95
-loop-i-preserved-then-text-i-eq95 c = record {
-  range = omega arith;
-  row = past_underscore c.args.hex c.args.text.now c.loop-i.i (omega arith) (sym c.is_digit.ensures ∙ c.if-is_digit.true) c.if-text-i-eq95.true c.loop-i.invariant.row;
-}
-
-pub returns-then-not-is_digit : goal.returns-then-not-is_digit
-returns-then-not-is_digit c =
-    subst (LongestDigits c.args.hex c.args.text.now) (sym (take_rest c.args.text.now (c.loop-i.i + 1)))
-    (row_ends c.args.hex c.args.text.now c.loop-i.i c.loop-i-test.true (sym c.is_digit.ensures ∙ c.if-is_digit.true)
-    (stops_place c.args.hex c.args.text.now (c.loop-i.i + 1) (omega arith) (sym c.is_digit-else-text-i-eq95.ensures ∙ c.if-not-is_digit.true) c.if-text-i-eq95.false) c.loop-i.invariant.row)
-
-pub loop-i-preserved : goal.loop-i-preserved
-loop-i-preserved c = record {
-  range = omega arith;
-  row = past_digit c.args.hex c.args.text.now c.loop-i.i (omega arith) (sym c.is_digit.ensures ∙ c.if-is_digit.true) (sym c.is_digit-else-text-i-eq95.ensures ∙ c.if-not-is_digit.false) c.loop-i.invariant.row;
-}
+pub returns-then-next-ne95 : goal.returns-then-next-ne95
+returns-then-next-ne95 c =
+    let next = c.loop-last.last + 1 in
+    subst (LongestDigits c.args.hex c.args.text.now) (sym (take_rest c.args.text.now next))
+    (row_ends c.args.hex c.args.text.now c.loop-last.last c.loop-last.invariant.range c.loop-last.invariant.digit
+    (stops_place c.args.hex c.args.text.now next (omega arith) (sym c.is_digit-in-loop-last.ensures ∙ c.if-is_digit.false) c.if-next-ne95.true) c.loop-last.invariant.row)
 
 pub returns : goal.returns
 returns c =
-    elim c.loop-i-test.branch [
-      | then-loop-i-test+else-is_digit w ↦ row_wrong c.args.hex c.args.text.now c.loop-i.i w.loop-i-test.true (sym w.is_digit.ensures ∙ w.if-is_digit.false) c.loop-i.invariant.row
-      | else-loop-i-test w ↦ row_end c.args.hex c.args.text.now c.loop-i.i w.loop-i-test.false c.loop-i.invariant.row
+    let next = c.loop-last.last + 1 in
+    subst (LongestDigits c.args.hex c.args.text.now) (sym (take_rest c.args.text.now next))
+    (row_ends c.args.hex c.args.text.now c.loop-last.last c.loop-last.invariant.range c.loop-last.invariant.digit
+    (stops_end c.args.hex c.args.text.now next (omega arith)) c.loop-last.invariant.row)
+
+-- behind the underscore that follows the last digit
+behind_underscore : (hex : Bool) (text : List ℕ) (last : ℕ) → last + 1 < length text → is_digit hex (get_or text last 0) ≡ true → get_or text (last + 1) 0 ≡ 95 → Row hex text (drop last text) → Row hex text (drop (last + 2) text)
+behind_underscore hex text last l a e h =
+    let same : last + 1 + 1 ≡ last + 2 = omega arith in
+    subst (λ n. Row hex text (drop n text)) same (past_underscore hex text last l a e h)
+
+pub loop-last-preserved : goal.loop-last-preserved
+loop-last-preserved c = record {
+  range = omega arith;
+  digit = sym c.is_digit-then-last-text.ensures ∙ c.if-is_digit-2.true;
+  row = behind_underscore c.args.hex c.args.text.now c.loop-last.last c.loop-last-test.true c.loop-last.invariant.digit (omega (arith, c.if-next-ne95.false)) c.loop-last.invariant.row;
+}
+
+pub returns-else-last-text : goal.returns-else-last-text
+returns-else-last-text c =
+    let row = behind_underscore c.args.hex c.args.text.now c.loop-last.last c.loop-last-test.true c.loop-last.invariant.digit (omega (arith, c.if-next-ne95.false)) c.loop-last.invariant.row in
+    elim c.else-last-text.branch [
+      | else-last-text-via-then-last-text+else-is_digit-2 w ↦ row_wrong c.args.hex c.args.text.now (c.loop-last.last + 2) w.if-last-text.true (sym w.is_digit-then-last-text.ensures ∙ w.if-is_digit-2.false) row
+      | else-last-text-via-else-last-text w ↦ row_end c.args.hex c.args.text.now (c.loop-last.last + 2) w.if-last-text.false row
     ]

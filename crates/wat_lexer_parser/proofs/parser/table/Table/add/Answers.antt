@@ -7,7 +7,5 @@ use Rattle.wat_lexer_parser.proofs.parser.table.Table.add.Goals as goal
 pub returns-in_ok-push-clause-noted : goal.returns-in_ok-push-clause-noted
 returns-in_ok-push-clause-noted c =
     let a = c.args.self.now in
-    let b = c.push.new.self in
     let h = no_head (slice_get a.tokens.items (length a.tokens.items - 1)) c.args.token (sym c.is_annotation.ensures ∙ c.if-is_annotation.false) in
-    noted_plain c.args.text.now a.tokens.items b.tokens.items a.opens.items b.opens.items a.starts.items b.starts.items (map name_view a.names.items) (map name_view b.names.items) c.args.token c.requires.noted c.requires.token c.requires.short
-    (search rules) (search rules) (search rules) h (search rules) (search rules)
+    noted_plain c.args.text.now a.tokens.items c.push.new.self.items a.opens.items (map name_view a.names.items) c.args.token c.requires.noted c.requires.token c.requires.short (search rules) h

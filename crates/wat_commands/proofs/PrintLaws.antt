@@ -1,0 +1,181 @@
+-- What is printed of a text that is read twice: first for its fault, and then for what is written.
+use Rattle.std.proofs.Common.{◌≡◌, ◌<◌, ◌^◌, ℕ, Bool, true, false, List, [], length, refl, sym, ap, ◌∙◌, subst, inl}
+use Rattle.std.specs.Prelude.{Option, Some, None, Result, Ok, Err, IfOk, OnOk, OnErr, flat_map}
+use Rattle.std.specs.Option.{option_map}
+use Rattle.std.specs.Io.KnownBytes.{Appends}
+use Rattle.std.specs.Str.{IsUtf8}
+use Rattle.wat_lex.specs.errors.Errors.{Report, lexical}
+use Rattle.wat_lex.specs.tokens.EverySetting.{TilingsAreOne}
+use Rattle.wat_lex.specs.tokens.Setting.{Setting}
+use Rattle.wat_lex.specs.tokens.Tiling.{MaximalTiling}
+use Rattle.wat_lex.specs.declared.lexer.faults.LexFault.{LexFault}
+use Rattle.wat_lex.specs.declared.lexer.kinds.Token.{Token}
+use Rattle.wat_lex.specs.declared.lexer.settings.Settings.{Settings}
+use Rattle.wat_lexer_parser.specs.shown.BlankTexts.{blank_text, BlankTextsShowTheSame}
+use Rattle.wat_commands.specs.Blanks.{Blanks}
+use Rattle.wat_commands.specs.Blocks.{AppendsEach, AppendsEachCut, ReportsEnd}
+use Rattle.wat_commands.specs.Lists.{Lists, line}
+use Rattle.wat_commands.specs.Printed.{AppendsText, AppendsCut}
+use Rattle.wat_commands.specs.Streams.{AppendsPrefix, failed_after}
+use Rattle.wat_commands.specs.Writes.{Writes}
+use Rattle.wat_commands.specs.declared.ends.Failed.{Failed}
+use Rattle.wat_commands.specs.declared.run.RunError.{RunError}
+use Rattle.wat_commands.specs.declared.run.RunError.TheVariants.{Write}
+use Rattle.wat_commands.proofs.KnownBytes.{appends_none}
+
+abbrev pub setting : Settings → List ℕ → Setting
+setting settings text = record { text = text; flags = settings }
+
+-- what is reported of an ending
+abbrev pub report_of : List ℕ → Option LexFault → Option (Option Report)
+report_of text ending = option_map (λ f. Some (lexical text f)) ending
+
+-- the ending that was found first is that of the tokens
+same_ending : TilingsAreOne → (s : Setting) (error : Option (Option Report)) (reports : ReportsEnd s error) (each : (ts : List Token) × (f : Option LexFault) × MaximalTiling s 0 ts f) → error ≡ report_of s.text each.1
+same_ending one s error reports each =
+    let same = one s 0 reports.ends.tokens each.0 reports.ending each.1 reports.ends.tiling each.2 in
+    reports.reported ∙ ap (report_of s.text) same.1
+
+pub lists_written : TilingsAreOne → (settings : Settings) (text : List ℕ) (error : Option (Option Report)) (old new : Option (List ℕ)) → IsUtf8 text → length text < 2 ^ 32 → ReportsEnd (setting settings text) error → AppendsEach line (setting settings text) old new
+    → AppendsText (Lists settings text) error old new
+lists_written one settings text error old new u l reports each = record {
+  text = flat_map line each.tokens;
+  printed = record {
+    utf8 = u;
+    short = l;
+    fault = each.ending;
+    list = record { tokens = each.tokens; tiling = each.tiling; lines = refl };
+    reported = same_ending one (setting settings text) error reports (each.tokens, each.ending, each.tiling);
+  };
+  appended = each.appended;
+}
+
+pub lists_cut : (settings : Settings) (text : List ℕ) (old new : Option (List ℕ)) → IsUtf8 text → length text < 2 ^ 32 → AppendsEachCut line (setting settings text) old new → AppendsCut (Lists settings text) old new
+lists_cut settings text old new u l each = record {
+  text = flat_map line each.tokens;
+  error = report_of text each.ending;
+  printed = record {
+    utf8 = u;
+    short = l;
+    fault = each.ending;
+    list = record { tokens = each.tokens; tiling = each.tiling; lines = refl };
+    reported = refl;
+  };
+  appended = each.appended;
+}
+
+no_ending : (text : List ℕ) (ending : Option LexFault) → None ≡ report_of text ending → ending ≡ None
+no_ending text None e = refl
+no_ending text (Some f) e = absurd (let d : None ≡ Some (Some (lexical text f)) = e in cc)
+
+blanks : BlankTextsShowTheSame → (settings : Settings) (text : List ℕ) (ts : List Token) → IsUtf8 text → length text < 2 ^ 32 → MaximalTiling (setting settings text) 0 ts None → Blanks settings text (flat_map (blank_text text) ts) None
+blanks same settings text ts u l tiling = record {
+  utf8 = u;
+  short = l;
+  fault = None;
+  blank = record { tokens = ts; tiling = tiling; written = record { bytes = refl; blanked = same (setting settings text) ts u tiling } };
+  reported = refl;
+}
+
+-- there is no fault
+tiled_whole : TilingsAreOne → (s : Setting) (reports : ReportsEnd s None) (ts : List Token) (f : Option LexFault) → MaximalTiling s 0 ts f → MaximalTiling s 0 ts None
+tiled_whole one s reports ts f tiling = subst (MaximalTiling s 0 ts) (no_ending s.text f (same_ending one s None reports (ts, f, tiling))) tiling
+
+pub blanks_written : TilingsAreOne → BlankTextsShowTheSame → (settings : Settings) (text : List ℕ) (old new : Option (List ℕ)) → IsUtf8 text → length text < 2 ^ 32 → ReportsEnd (setting settings text) None
+    → AppendsEach (blank_text text) (setting settings text) old new → AppendsText (Blanks settings text) None old new
+blanks_written one same settings text old new u l reports each = record {
+  text = flat_map (blank_text text) each.tokens;
+  printed = blanks same settings text each.tokens u l (tiled_whole one (setting settings text) reports each.tokens each.ending each.tiling);
+  appended = each.appended;
+}
+
+pub blanks_cut : TilingsAreOne → BlankTextsShowTheSame → (settings : Settings) (text : List ℕ) (old new : Option (List ℕ)) → IsUtf8 text → length text < 2 ^ 32 → ReportsEnd (setting settings text) None
+    → AppendsEachCut (blank_text text) (setting settings text) old new → AppendsCut (Blanks settings text) old new
+blanks_cut one same settings text old new u l reports each = record {
+  text = flat_map (blank_text text) each.tokens;
+  error = None;
+  printed = blanks same settings text each.tokens u l (tiled_whole one (setting settings text) reports each.tokens each.ending each.tiling);
+  appended = each.appended;
+}
+
+faulty : (settings : Settings) (text : List ℕ) (ending : Option LexFault) (ts : List Token) (e : Option Report) → IsUtf8 text → length text < 2 ^ 32 → MaximalTiling (setting settings text) 0 ts ending → Some e ≡ report_of text ending → Blanks settings text [] (Some e)
+faulty settings text None ts e u l tiling r = absurd (let d : Some e ≡ None = r in cc)
+faulty settings text (Some f) ts e u l tiling r = record {
+  utf8 = u;
+  short = l;
+  fault = Some f;
+  blank = record { tokens = ts; tiling = tiling; written = refl };
+  reported = r;
+}
+
+-- nothing is written of a text with a fault
+pub blanks_faulty : (settings : Settings) (text : List ℕ) (e : Option Report) (a : Option (List ℕ)) → IsUtf8 text → length text < 2 ^ 32 → ReportsEnd (setting settings text) (Some e) → AppendsText (Blanks settings text) (Some e) a a
+blanks_faulty settings text e a u l reports = record {
+  text = [];
+  printed = faulty settings text reports.ending reports.ends.tokens e u l reports.ends.tiling reports.reported;
+  appended = appends_none a;
+}
+
+-- what is known of a call that wrote
+pub writes : {T W : Type 0} (held : W → Option (List ℕ)) (write_failed : W → Bool) (prints : List ℕ → Option (Option Report) → Type 0) (output output' : W) (error : Option (Option Report)) (written : Result T Failed) (answer : Result (Option (Option Report)) RunError)
+    → OnOk written (answer ≡ Ok error) → OnErr written (answer ≡ Err Write) → OnOk written (AppendsText prints error (held output) (held output')) → OnErr written (AppendsCut prints (held output) (held output'))
+    → write_failed output ≡ false → write_failed output' ≡ failed_after (write_failed output) written → Writes held write_failed prints output output' answer
+writes held write_failed prints output output' error (Ok t) answer is_ok is_err all cut fresh failed = subst (Writes held write_failed prints output output') (sym is_ok) (record {
+  written = all;
+  cut = λ d. cc;
+  unwritten = tt;
+  write = (λ d. cc, λ t. absurd (let e : false ≡ true = sym (failed ∙ fresh) ∙ t in cc));
+})
+writes held write_failed prints output output' error (Err f) answer is_ok is_err all cut fresh failed = subst (Writes held write_failed prints output output') (sym is_err) (record {
+  written = tt;
+  cut = λ d. cut;
+  unwritten = inl refl;
+  write = (λ d. failed, λ t. refl);
+})
+
+pub writes_ok : {W : Type 0} (held : W → Option (List ℕ)) (write_failed : W → Bool) (prints : List ℕ → Option (Option Report) → Type 0) (output output' : W) (error : Option (Option Report)) → AppendsText prints error (held output) (held output') → write_failed output' ≡ false
+    → Writes held write_failed prints output output' (Ok error)
+writes_ok held write_failed prints output output' error all fresh = record {
+  written = all;
+  cut = λ d. cc;
+  unwritten = tt;
+  write = (λ d. cc, λ t. absurd (let e : false ≡ true = sym fresh ∙ t in cc));
+}
+
+-- what holds of a text and its error that are written
+abbrev pub Gathered : List ℕ → Option (Option Report) → List ℕ → Option (Option Report) → Type 0
+Gathered text error = λ bytes e. (bytes ≡ text) × (e ≡ error)
+
+pub gathered_ok : {T E : Type 0} (text : List ℕ) (error : Option (Option Report)) (old new : Option (List ℕ)) (r : Result T E) → OnOk r (Appends old new text) → OnOk r (AppendsText (Gathered text error) error old new)
+gathered_ok text error old new (Ok t) h = record { text = text; printed = (refl, refl); appended = h }
+gathered_ok text error old new (Err e) h = tt
+
+pub gathered_cut : {T E : Type 0} (text : List ℕ) (error : Option (Option Report)) (old new : Option (List ℕ)) (r : Result T E) → OnErr r (AppendsPrefix old new text) → OnErr r (AppendsCut (Gathered text error) old new)
+gathered_cut text error old new (Ok t) h = tt
+gathered_cut text error old new (Err e) h = record { text = text; error = error; printed = (refl, refl); appended = h }
+
+of_gathered : (prints : List ℕ → Option (Option Report) → Type 0) (text : List ℕ) (error : Option (Option Report)) (bytes : List ℕ) (e : Option (Option Report)) → prints text error → Gathered text error bytes e → prints bytes e
+of_gathered prints text error bytes e p g = subst (λ b. prints b e) (sym g.0) (subst (λ x. prints text x) (sym g.1) p)
+
+if_written : (prints : List ℕ → Option (Option Report) → Type 0) (text : List ℕ) (error : Option (Option Report)) (old new : Option (List ℕ)) (answer : Result (Option (Option Report)) RunError) → prints text error
+    → IfOk answer (λ e. AppendsText (Gathered text error) e old new) → IfOk answer (λ e. AppendsText prints e old new)
+if_written prints text error old new (Ok e) p h = record { text = h.text; printed = of_gathered prints text error h.text e p h.printed; appended = h.appended }
+if_written prints text error old new (Err e) p h = tt
+
+-- where these are printed, they are written
+pub writes_as : {W : Type 0} (held : W → Option (List ℕ)) (write_failed : W → Bool) (prints : List ℕ → Option (Option Report) → Type 0) (output output' : W) (text : List ℕ) (error : Option (Option Report)) (answer : Result (Option (Option Report)) RunError)
+    → prints text error → Writes held write_failed (Gathered text error) output output' answer → Writes held write_failed prints output output' answer
+writes_as held write_failed prints output output' text error answer p h = record {
+  written = if_written prints text error (held output) (held output') answer p h.written;
+  cut = λ d. let k = h.cut d in record { text = k.text; error = k.error; printed = of_gathered prints text error k.text k.error p k.printed; appended = k.appended };
+  unwritten = h.unwritten;
+  write = h.write;
+}
+
+pub ok_then : {T E A B : Type 0} (r : Result T E) → (A → B) → OnOk r A → OnOk r B
+ok_then (Ok t) f a = f a
+ok_then (Err e) f a = tt
+
+pub err_then : {T E A B : Type 0} (r : Result T E) → (A → B) → OnErr r A → OnErr r B
+err_then (Ok t) f a = tt
+err_then (Err e) f a = f a

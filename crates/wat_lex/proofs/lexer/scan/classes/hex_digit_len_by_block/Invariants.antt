@@ -1,0 +1,13 @@
+use Rattle.std.proofs.Common.{◌≡◌, ◌≤◌, ◌+◌, ◌-◌, length, drop}
+use Rattle.std.specs.List.{prefix_len}
+use Rattle.wat_lex.specs.grammar.Classes.{is_hex}
+use Rattle.wat_lex.proofs.lexer.scan.classes.hex_digit_len_by_block.Given as goal
+
+abbrev pub invariant-loop-i : goal.invariant-loop-i
+invariant-loop-i l = record {
+  range : l.i ≤ length l.text;
+  so_far : prefix_len is_hex l.text ≡ l.i + prefix_len is_hex (drop l.i l.text);
+}
+
+abbrev pub decreases-loop-i : goal.decreases-loop-i
+decreases-loop-i l = length l.text - l.i

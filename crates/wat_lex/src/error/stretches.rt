@@ -1,0 +1,83 @@
+//! Stretches of a line that are shown as they are, by their bytes.
+ghost use Rattle.std.specs.Prelude.{◌≡◌, ◌<◌, ◌↔◌, ◌++◌, [], length, IsTrue, MatchOption};
+ghost use Rattle.std.specs.List.{prefix_len};
+ghost use Rattle.std.specs.Str.{IsUtf8};
+ghost use Rattle.wat_lex.specs.errors.LineBytes.{is_by_columns, is_kept};
+ghost use Rattle.wat_lex.specs.errors.Rendering.{shown_line};
+ghost use Rattle.wat_lex.specs.inside.Blocks.{failures};
+
+use crate::lexer::{block_at, first_confusing, is_confusing};
+use memchr::{memchr, memchr2};
+use std::simd::prelude::*;
+
+/// What is shown of the first characters of a line, and the line behind them; none where the line
+/// is empty.
+pub fn split_shown(line: &str) -> Option<(&str, &str)>
+    ensures { MatchOption result (shown_line line.now ≡ [])
+        (λ parts. (shown_line line.now ≡ parts.0.now ++ shown_line parts.1.now)
+        × (length parts.1.now < length line.now) × IsUtf8 parts.1.now) }
+{
+    let kept = kept_len(line.as_bytes());
+    if kept > 0 {
+        return Some(line.split_at(kept));
+    }
+    let c = line.chars().next()?;
+    let (own, behind) = line.split_at(c.len_utf8());
+    let shown = if c == '\t' {
+        "    "
+    } else if is_confusing(c) {
+        ""
+    } else {
+        own
+    };
+    Some((shown, behind))
+}
+
+/// How many bytes stand before the first TAB, or the first byte that may begin a confusing
+/// character.
+fn kept_len(line: &[u8]) -> usize
+    ensures { result ≡ prefix_len is_kept line.now }
+{
+    memchr2(b'\t', 0xe2, line).unwrap_or(line.len())
+}
+
+/// Whether a text is shown as it is.
+pub fn is_shown_as_it_is(text: &str) -> bool
+    ensures { IsTrue result → shown_line text.now ≡ text.now }
+{
+    memchr(b'\t', text.as_bytes()).is_none() && first_confusing(text).is_none()
+}
+
+/// A bit for each byte that is neither printable ASCII nor a TAB, the lowest for the first.
+#[inline(always)]
+fn other_than_by_columns(block: u8x16) -> u64
+    ensures { result ≡ failures is_by_columns block }
+{
+    let outside = block.simd_lt(u8x16::splat(0x20)) | block.simd_gt(u8x16::splat(0x7e));
+    (outside & block.simd_ne(u8x16::splat(b'\t'))).to_bitmask()
+}
+
+fn by_columns_len_by_byte(text: &[u8]) -> usize
+    ensures { result ≡ prefix_len is_by_columns text.now }
+{
+    let mut i = 0;
+    while i < text.len() && matches!(text[i], b' '..=b'~' | b'\t') {
+        i += 1;
+    }
+    i
+}
+
+/// How many bytes at the start are printable ASCII or TABs.
+pub fn by_columns_len(text: &[u8]) -> usize
+    ensures { result ≡ prefix_len is_by_columns text.now }
+{
+    let mut i = 0;
+    while text.len() - i >= 16 {
+        let others = other_than_by_columns(block_at(text, i));
+        if others != 0 {
+            return i + others.trailing_zeros() as usize;
+        }
+        i += 16;
+    }
+    i + by_columns_len_by_byte(&text[i..])
+}

@@ -1,0 +1,9 @@
+use Rattle.std.proofs.Common.{length, ◌-◌}
+use Rattle.std.specs.Str.{IsCharBoundary}
+use Rattle.wat_measure.proofs.lexing.kinds_by_scan.Given as goal
+
+abbrev pub invariant-tokens : goal.invariant-tokens
+invariant-tokens l = IsCharBoundary l.lexer.text l.pos
+
+abbrev pub decreases-tokens : goal.decreases-tokens
+decreases-tokens l = length l.lexer.text - l.pos

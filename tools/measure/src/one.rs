@@ -1,0 +1,23 @@
+//! The suite `lexing` of `measure`, where the crate's `parse` has one caller, and so is built into it.
+
+mod measure;
+mod ours;
+mod theirs;
+
+use measure::{Loop, Suite, pair, run_words};
+use std::process::ExitCode;
+
+const PARSE: Option<Loop> = Some(("theirs_parse", theirs::theirs_parse));
+
+const SUITES: &[Suite] = &[(
+    "lexing",
+    &[
+        pair("`scan`", ("measure_scan", ours::scan), PARSE),
+        pair("`parse`", ("measure_parse", ours::parse), PARSE),
+        pair("`iter`", ("measure_iter", ours::iter), PARSE),
+    ],
+)];
+
+fn main() -> ExitCode {
+    run_words(SUITES)
+}

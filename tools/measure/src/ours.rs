@@ -1,0 +1,49 @@
+//! The loops of `crates/wat_measure`, made safe. The program `one` has some of them alone.
+#![allow(dead_code)]
+
+/// A loop over a text.
+macro_rules! loops {
+    ($($name:ident $symbol:ident),* $(,)?) => {
+        unsafe extern "C" {
+            $(fn $symbol(text: *const u8, len: usize) -> u64;)*
+        }
+
+        $(pub fn $name(text: &str) -> u64 {
+            assert!(text.len() <= u32::MAX as usize);
+            // SAFETY: the text is UTF-8, as each `&str`, and its length was tested.
+            unsafe { $symbol(text.as_ptr(), text.len()) }
+        })*
+    };
+}
+
+loops! {
+    scan measure_scan,
+    scan_whole measure_scan_whole,
+    parse measure_parse,
+    parse_whole measure_parse_whole,
+    iter measure_iter,
+    iter_whole measure_iter_whole,
+    buffer measure_buffer,
+    each measure_each,
+    u32s measure_u32s,
+    groups measure_groups,
+}
+
+unsafe extern "C" {
+    fn measure_linecol(text: *const u8, len: usize, offset: usize) -> u64;
+    fn measure_error(text: *const u8, len: usize, pos: usize) -> u64;
+}
+
+/// Line and column of the last byte.
+pub fn linecol(text: &str) -> u64 {
+    // SAFETY: the text is UTF-8, as each `&str`.
+    unsafe { measure_linecol(text.as_ptr(), text.len(), text.len() - 1) }
+}
+
+/// The error of the fault at the last byte, printed.
+pub fn error(text: &str) -> u64 {
+    let pos = text.len() - 1;
+    assert!(text.len() <= u32::MAX as usize && text.is_char_boundary(pos));
+    // SAFETY: the text is UTF-8, as each `&str`; its length and the place were tested.
+    unsafe { measure_error(text.as_ptr(), text.len(), pos) }
+}

@@ -1,0 +1,79 @@
+#!/usr/bin/env bash
+# Measures the memory of the commands `list`, `sig`, `blank` and `play` of the program wat_tokens on texts, and that of `types` on 100,000 types: the most
+# that is resident, and the least address space under which the command still writes the same, to a mebibyte. Just below that it has to be
+# refused memory as docs/COMMAND-LINE.md says: one line on standard error, no output, status 2. Prints a Markdown table for docs/SPEED.md.
+#
+# usage: tools/measure_memory.sh PROGRAM TEXT..     such as crates/wat_tokens/out/wat_tokens and texts that tools/measure.sh leaves
+set -eu -o pipefail
+program=$(realpath "${1:?usage: tools/measure_memory.sh PROGRAM TEXT..}")
+shift
+room=$(mktemp -d)
+trap 'rm -rf "$room"' EXIT
+
+# peak TEXT WORD..: how many KiB are resident at most; the output and the status stay
+peak() {
+    local status=0
+    /usr/bin/time --quiet -f %M -o "$room/peak" "$program" "${@:2}" < "$1" > "$room/wanted" 2> "$room/errors" || status=$?
+    echo "$status" > "$room/status"
+    cat "$room/peak"
+}
+
+# under MEBIBYTES TEXT WORD..: whether the command does the same under this limit
+under() {
+    local status=0
+    prlimit --as=$(($1 << 20)) "$program" "${@:3}" < "$2" > "$room/output" 2> "$room/refusal" || status=$?
+    echo "$status" > "$room/refused"
+    [ "$status" = "$(cat "$room/status")" ] && cmp -s "$room/output" "$room/wanted"
+}
+
+# least KIBIBYTES TEXT WORD..: the least limit, in mebibytes, above which the command does the same
+least() {
+    local low=0 high=$(($1 / 1024 + 1)) middle
+    until under "$high" "${@:2}"; do
+        low=$high high=$((high * 2))
+    done
+    while [ $((high - low)) -gt 1 ]; do
+        middle=$(((low + high) / 2))
+        if under "$middle" "${@:2}"; then
+            high=$middle
+        else
+            low=$middle
+        fi
+    done
+    # Far below this the program is not even begun.
+    under "$low" "${@:2}" || true
+    if [ -s "$room/output" ] || [ "$(cat "$room/refused")" != 2 ] || [ "$(wc -l < "$room/refusal")" != 1 ]; then
+        echo "measure_memory.sh: ${*:3} of $2 is not refused as it should be under $low MiB: status $(cat "$room/refused")" >&2
+        exit 1
+    fi
+    echo "$high"
+}
+
+# row TEXT WORD..: a row of the table
+row() {
+    local bytes resident space
+    bytes=$(wc -c < "$1")
+    resident=$(peak "$@")
+    space=$(least "$resident" "$@")
+    awk -v bytes="$bytes" -v resident="$resident" -v space="$space" -v status="$(cat "$room/status")" -v text="$(basename "$1" .wat)" \
+        -v words="${*:2}" 'BEGIN {
+            resident *= 1024; space *= 1048576
+            printf "| %s, %.1f MB | %s | %d | %.1f | %.2f | %.1f | %.2f |\n", text, bytes / 1e6, words == "" ? "(list)" : words, status,
+                resident / 1e6, resident / bytes, space / 1e6, space / bytes
+        }'
+}
+
+echo '| text | words | status | resident, MB | bytes a byte | address space, MB | bytes a byte |'
+echo '|---|---|---|---|---|---|---|'
+for text; do
+    row "$text"
+    row "$text" sig name
+    row "$text" blank
+    row "$text" play look
+done
+{
+    echo '(module'
+    yes '  (type (func (param i32 i64) (result f64)))' | head -n 100000
+    echo ')'
+} > "$room/types.wat" || true
+row "$room/types.wat" types
