@@ -441,7 +441,7 @@ fn whole_texts(run: &mut Run<'_>) -> io::Result<()> {
         ("free-whole", As::U32, "12", "12"),
         ("free-whole-skipped", As::U32, "(@a \")\" (; ) ;)) 7", "7"),
         ("free-whole-groups", As::U32, "(@a (@)) 1", "1"),
-        ("free-whole-signed", As::I32, "4294967295", "-1"),
+        ("free-whole-signed", As::I32, "0xffff_ffff", "-1"),
         ("free-whole-optional", As::Optional, "", "None"),
         ("free-whole-some", As::Optional, "12", "Some(12)"),
         ("free-whole-text", As::Text, "\"ab\"", "\"ab\""),

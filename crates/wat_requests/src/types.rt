@@ -141,7 +141,6 @@ pub fn whole_values(run: &mut Run<'_>) -> io::Result<()> {
         ("whole-string", As::Owned, "\"ab\"", "\"ab\""),
         ("whole-box", As::Boxed, "12", "12"),
         ("whole-id", As::Id, "$\"\\62\"", "\"b\""),
-        ("whole-hexadecimal", As::I32, "0xffff_ffff", "-1"),
     ];
     for (name, kind, text, shown) in rows {
         if run.is_asked(name) {
@@ -220,19 +219,58 @@ pub fn part_as(
 
 pub fn integers(run: &mut Run<'_>) -> io::Result<()> {
     let rows = [
-        ("part-u8", As::U8, "0x100", "u8"),
-        ("part-u16", As::U16, "6_5536", "u16"),
-        ("part-u32", As::U32, "4294967296", "u32"),
-        ("part-u64", As::U64, "0x1_0000_0000_0000_0000", "u64"),
-        ("part-i8", As::I8, "-0x81", "i8"),
-        ("part-i16", As::I16, "+0x1_0000", "i16"),
-        ("part-i32", As::I32, "-2_147_483_649", "i32"),
-        ("part-i64", As::I64, "-0x8000000000000001", "i64"),
+        (
+            "part-u8",
+            As::U8,
+            "0x100",
+            "invalid u8 number: constant out of range",
+        ),
+        (
+            "part-u16",
+            As::U16,
+            "6_5536",
+            "invalid u16 number: constant out of range",
+        ),
+        (
+            "part-u32",
+            As::U32,
+            "4294967296",
+            "invalid u32 number: constant out of range",
+        ),
+        (
+            "part-u64",
+            As::U64,
+            "0x1_0000_0000_0000_0000",
+            "invalid u64 number: constant out of range",
+        ),
+        (
+            "part-i8",
+            As::I8,
+            "-0x81",
+            "invalid i8 number: constant out of range",
+        ),
+        (
+            "part-i16",
+            As::I16,
+            "+0x1_0000",
+            "invalid i16 number: constant out of range",
+        ),
+        (
+            "part-i32",
+            As::I32,
+            "-2_147_483_649",
+            "invalid i32 number: constant out of range",
+        ),
+        (
+            "part-i64",
+            As::I64,
+            "-0x8000000000000001",
+            "invalid i64 number: constant out of range",
+        ),
     ];
-    for (name, kind, text, of) in rows {
+    for (name, kind, text, message) in rows {
         if run.is_asked(name) {
-            let message = format!("invalid {of} number: constant out of range");
-            let ended = part_as(run, kind, text, Expected::Refusal(&message, 0), 0);
+            let ended = part_as(run, kind, text, Expected::Refusal(message, 0), 0);
             run.report(name, ended)?;
         }
     }
