@@ -1,6 +1,7 @@
 #!/usr/bin/env bash
-# Runs a command while N edits of edits/NAME stand in must-fail, and ends with its status. The edits are those whose paths have the least
-# hashes together with SEED, so that the same seed gives the same edits, and each has its turn as seeds change.
+# Runs a command while N edits of one crate of edits stand in its must-fail, and ends with its status. SEED chooses the crate, one with more
+# edits more often, and the edits: those whose paths have the least hashes together with SEED. So the same seed gives the same edits, and each
+# has its turn as seeds change. They are of one crate since `rt` proves a crate once more for its second edit, and not for those behind.
 #
 # usage: tools/sample_edits.sh N SEED COMMAND..
 set -euo pipefail
@@ -19,6 +20,8 @@ hashes() {
     done
 }
 
-sample=$(hashes | LC_ALL=C sort | sed -n "1,$number{s/^[^ ]* //p}")
+sorted=$(hashes | LC_ALL=C sort | cut -d' ' -f2)
+crate=$(dirname "${sorted%%$'\n'*}")
+sample=$(grep "^$crate/" <<< "$sorted" | sed -n "1,${number}p")
 printf 'sample_edits.sh:\n%s\n' "$sample"
 tools/with_edits.sh "$@" <<< "$sample"
