@@ -348,7 +348,7 @@ async function whatCounts() {
   await key('ArrowDown');
   assert.deepEqual([(await ask(SHOWN)).held, await ask("document.querySelector('#text').selectionStart")], ['8..10', 8]);
   page = await type('x (@d (y)');
-  assert.deepEqual([page.options.map((it) => it[0]), page.counted], [['0..1'], '1 token of 8 count. The annotation at byte 2 is not closed, and nothing behind it is shown.']);
+  assert.deepEqual([page.options.map((it) => it[0]), page.counted], [['0..1'], '1 token of 8 count. Then: unclosed annotation at byte offset 3.']);
   await ask("{ const it = document.querySelector('#names'); it.value = ''; document.querySelector('#counts').click(); }");
   assert.equal((await ask(SHOWN)).options.length, 8);
 }

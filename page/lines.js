@@ -83,6 +83,7 @@ export class Sight {
 
   // Takes this box from now on.
   use(box) {
+    if (box === this.box) return;
     this.box = box;
     this.all = box.querySelector('.all');
     this.isBeside = !box.contains(this.seen);
@@ -94,6 +95,13 @@ export class Sight {
     this.width = this.box.clientWidth;
     this.top = this.box.scrollTop;
     this.left = this.box.scrollLeft;
+  }
+
+  // Goes back to the first item.
+  restart() {
+    if (this.top > 0 || this.left > 0) this.box.scrollTo(0, 0);
+    this.top = 0;
+    this.left = 0;
   }
 
   follow(box) {
@@ -118,6 +126,10 @@ export class Sight {
   }
 
   redraw() {
+    if (this.count === 0) {
+      this.seen.replaceChildren();
+      return;
+    }
     const top = this.top * this.scale;
     const first = Math.max(0, Math.floor(top / Sight.HEIGHT) - 2);
     const last = Math.min(this.count, Math.ceil((top + this.height) / Sight.HEIGHT) + 2);

@@ -15,11 +15,11 @@ function unescaped(elements) {
   return new Uint8Array(bytes);
 }
 
-// The name in a word such as `$a` or `@"a"`, or null where it is empty or not UTF-8.
+// The name in a word such as `$a` or `@"a"`, which may be empty, or null where it is not UTF-8.
 export function nameOf(word) {
-  if (word[1] !== '"') return word.slice(1) || null;
+  if (word[1] !== '"') return word.slice(1);
   try {
-    return strict.decode(unescaped(word.slice(2, -1))) || null;
+    return strict.decode(unescaped(word.slice(2, -1)));
   } catch {
     return null;
   }

@@ -279,7 +279,7 @@ function sayEnding() {
 
 function sayCounted() {
   const wrong = counted?.wrong;
-  const more = wrong ? ` The annotation at byte ${wrong.offset} ${wrong.what}, and nothing behind it is shown.` : '';
+  const more = wrong ? ` Then: ${wrong.what} at byte offset ${wrong.offset}.` : '';
   tell('counted', counted ? `${plural(listedCount(), 'token')} of ${tokens.count.toLocaleString('en')} count.${more}` : '');
 }
 
@@ -360,6 +360,7 @@ function lend(given) {
   $('view').ariaHidden = note ? null : 'true';
   $('view').classList.toggle('fixed', Boolean(note));
   view.use($(note ? 'view' : 'text'));
+  view.restart();
 }
 
 // A text from elsewhere. It may be edited where the text area can hold it as it is.
@@ -368,7 +369,6 @@ function open(given) {
   reader.room(given.length).set(given);
   read(given.length);
   lend(given);
-  view.box.scrollTo(0, 0);
   show(0, start);
   moveTo(found.ending === 'faulty' ? found.offset : 0, 'file');
 }
@@ -396,7 +396,9 @@ function onInput() {
 
 function onSelect() {
   if (document.activeElement !== $('text') || lineEnd === null) return;
-  moveTo(byteAt($('text').selectionEnd), 'text');
+  const place = byteAt($('text').selectionEnd);
+  // A change of the text has moved the cursor already.
+  if (place !== cursor) moveTo(place, 'text');
 }
 
 function onFlag() {

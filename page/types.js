@@ -59,7 +59,7 @@ class Reading {
   // Takes a name where one stands, and tells whether.
   name() {
     if (!this.isAt('Id')) return false;
-    if (nameOf(this.take('Id')) === null) throw new NoTypes();
+    if (!nameOf(this.take('Id'))) throw new NoTypes();
     return true;
   }
 
