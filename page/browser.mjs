@@ -446,8 +446,10 @@ async function times() {
     assert.equal(page.isEdited, megabytes === 1);
     await ask(`document.querySelector('${box}').scrollTop = document.querySelector('${box}').scrollHeight / 2`);
     await pause(200);
-    const shown = (await ask(SHOWN)).text;
-    assert.ok(shown.length > 100 && bytes.toString().includes(shown), 'the middle of the text');
+    const shown = await ask(SHOWN);
+    const at = bytes.toString().indexOf(shown.text);
+    assert.ok(shown.text.length > 100 && at >= 0, 'the middle of the text');
+    assert.equal(shown.numbers[0], bytes.toString().slice(0, at).split('\n').length);
     const all = [];
     for (let i = 0; i < 25; i += 1) {
       if (megabytes === 1) await ask("{ const it = document.querySelector('#text'); it.setSelectionRange(0, 0); it.dispatchEvent(new Event('input')); }");
@@ -494,10 +496,17 @@ try {
   await typedTexts();
   await send('Page.addScriptToEvaluateOnNewDocument', { source: 'WebAssembly.validate = () => false;' });
   await send('Page.navigate', { url: origin });
-  await pause(500);
+  for (let i = 0; i < 100 && !/memory/.test(await ask("document.querySelector('#told')?.textContent ?? ''")); i += 1) await pause(50);
   assert.match(await ask("document.querySelector('#told').textContent"), /no 64-bit WebAssembly memory/);
+  assert.ok(await ask("[...document.querySelectorAll('main :is(button, input, select, textarea)')].every((it) => it.disabled)"));
   const bad = events.filter((it) => it.method === 'Runtime.exceptionThrown' || (it.method === 'Runtime.consoleAPICalled' && it.params.type === 'error') || (it.method === 'Log.entryAdded' && it.params.entry.level === 'error'));
   assert.deepEqual(bad, []);
+  // What the page's policy refuses is told in the console.
+  for (const address of [origin, pathToFileURL(here('out/wat.html')).href]) {
+    await send('Page.navigate', { url: address });
+    await pause(500);
+    assert.equal(await ask("fetch('data:,a').then(() => 'let through', () => 'refused')"), 'refused', address);
+  }
   console.log('the page passed, in', (await send('Browser.getVersion')).product);
   failed = 0;
 } catch (error) {
