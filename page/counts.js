@@ -4,22 +4,22 @@ import { nameOf } from './names.js';
 import { ANNOTATION, OPENING } from './tokens.js';
 
 const AT_SIGN = 64;
-const NOTHING = {};
+const SHOWN = {};
 
-// Which token stands behind the group that a parenthesis with `@` directly behind it opens, where the group does not count; or what is
-// wrong with it, and where. Where the text's fault takes the place of what follows, no token does.
+// What becomes of a parenthesis with `@` directly behind it: it is shown, or one skips to the token behind its group, or something is wrong
+// with it, and where. Where the text's fault takes the place of what follows, one skips all tokens.
 function skip(tokens, bytes, names, i) {
   const annotation = i + 1;
-  if (annotation === tokens.count) return { behind: tokens.count };
-  if (tokens.code(annotation) !== ANNOTATION) return NOTHING;
+  if (annotation === tokens.count) return { behind: Infinity };
+  if (tokens.code(annotation) !== ANNOTATION) return SHOWN;
   const offset = tokens.start(annotation);
   const name = nameOf(decoder.decode(bytes.subarray(offset, tokens.end(annotation))));
   if (name === null) return { wrong: { what: 'malformed UTF-8 encoding of string-based id', offset } };
   if (name === '') return { wrong: { what: 'empty annotation id', offset } };
-  if (names.has(name)) return NOTHING;
+  if (names.has(name)) return SHOWN;
   const last = tokens.partner(i);
   if (last < 0 && tokens.isWhole) return { wrong: { what: 'unclosed annotation', offset } };
-  return { behind: last < 0 ? tokens.count : last + 1 };
+  return { behind: last < 0 ? Infinity : last + 1 };
 }
 
 // The numbers of the tokens that count, at most so many; and what is wrong with an annotation where they end before the text.
@@ -28,14 +28,13 @@ export function whatCounts(tokens, bytes, names, most = tokens.count) {
   let count = 0, error = null;
   for (let i = 0; i < tokens.count && count < most && !error; i += 1) {
     if (tokens.isBlank(i)) continue;
-    const isMarked = tokens.code(i) === OPENING && bytes[tokens.end(i)] === AT_SIGN;
-    const { behind = i, wrong = null } = isMarked ? skip(tokens, bytes, names, i) : NOTHING;
+    numbers[count] = i;
+    count += 1;
+    if (tokens.code(i) !== OPENING || bytes[tokens.end(i)] !== AT_SIGN) continue;
+    const { behind = i + 1, wrong = null } = skip(tokens, bytes, names, i);
+    if (behind > i + 1 || wrong) count -= 1;
+    i = behind - 1;
     error = wrong;
-    if (behind > i) i = behind - 1;
-    else if (!error) {
-      numbers[count] = i;
-      count += 1;
-    }
   }
   return { numbers: numbers.subarray(0, count), wrong: error };
 }
