@@ -469,7 +469,8 @@ async function takePictures() {
   for (const [scheme, example] of [['light', 1], ['dark', 4]]) {
     await send('Emulation.setEmulatedMedia', { features: [{ name: 'prefers-color-scheme', value: scheme }] });
     await ask(`{ const it = document.querySelector('#example'); it.selectedIndex = ${example}; it.dispatchEvent(new Event('change')); }`);
-    await ask("{ const it = document.querySelector('#text'); const place = it.value.indexOf('(func') + 1; it.focus(); it.setSelectionRange(place, place); document.querySelector('#go').click(); }");
+    await ask("{ const it = document.querySelector('#text'); const place = it.value.indexOf('(func') + 1; it.focus(); it.setSelectionRange(place, place); }");
+    if (!(await ask("document.querySelector('#go').hidden"))) await press('#go');
     await pause(200);
     writeFileSync(join(pictures, `page-${scheme}.png`), Buffer.from((await send('Page.captureScreenshot', { format: 'png' })).data, 'base64'));
   }
