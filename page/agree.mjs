@@ -1,25 +1,43 @@
-// Compares the module with the program, under node, on all stored texts whose tokens are listed, and on 10 MB of generated text:
-// every token, and every fault with its message.
+// Compares the module and what the page makes of its answers with the program, under node, on all stored texts and on 10 MB of generated
+// text: every token and every fault with its message; which tokens count, under several names; and the bytes of modules of types.
 // usage: node --experimental-wasm-memory64 agree.mjs PROGRAM, once build.sh has made the module
 import { spawnSync } from 'node:child_process';
 import { existsSync, readFileSync, readdirSync } from 'node:fs';
 import { fileURLToPath } from 'node:url';
+import { whatCounts } from './counts.js';
 import { KINDS, lexer } from './lexer.js';
+import { Tokens } from './tokens.js';
+import { compileTypes } from './types.js';
 
 const program = process.argv[2];
 if (!program) throw new Error('usage: node --experimental-wasm-memory64 agree.mjs PROGRAM');
 const here = (name) => fileURLToPath(new URL(name, import.meta.url));
 const { room, read } = lexer(new WebAssembly.Instance(new WebAssembly.Module(readFileSync(here('out/wat_page.wasm')))));
 const FLAGS = { '--allow-confusing': 'allow', '--strict-underscores': 'strict' };
+const MUTATIONS = 40;
 
 function readWhole(bytes, flags) {
   room(bytes.length).set(bytes);
-  return read(bytes.length, flags);
+  const found = read(bytes.length, flags);
+  if (found.ending !== 'whole' && found.ending !== 'faulty') throw new Error(`a text that is ${found.ending}`);
+  return found;
 }
 
-// What the program would print, on both streams.
-function listOf(bytes, flags) {
-  const found = readWhole(bytes, flags);
+function ran(words, input) {
+  const its = spawnSync(program, words, { input, maxBuffer: 2 ** 31 - 1 });
+  if (its.error) throw its.error;
+  if (its.status > 1) throw new Error(`${program} ${words.join(' ')}: ${its.stderr}`);
+  return { output: its.stdout, list: its.stdout.toString(), fault: its.stderr.toString(), isRefused: its.status === 1 };
+}
+
+const flagsOf = (words) => Object.fromEntries(words.filter((word) => word in FLAGS).map((word) => [FLAGS[word], true]));
+const lineOf = (tokens, i) => `${tokens.start(i)}..${tokens.end(i)} ${tokens.kind(i)}\n`;
+
+const told = { stored: 0, tokens: 0, faults: 0, signatures: 0, counting: 0, wrong: 0, modules: 0, refused: 0, other: [] };
+
+// What the program prints, on both streams.
+function compareTokens(name, bytes, words) {
+  const found = readWhole(bytes, flagsOf(words));
   const rows = [];
   let at = 0;
   for (let i = 0; i < found.count; i += 1) {
@@ -27,39 +45,103 @@ function listOf(bytes, flags) {
     rows.push(`${at}..${end} ${KINDS[found.rows[2 * i + 1]]}\n`);
     at = end;
   }
-  if (found.ending !== 'whole' && found.ending !== 'faulty') throw new Error(`a text that is ${found.ending}`);
-  return { tokens: found.count, list: rows.join(''), fault: found.ending === 'faulty' ? `${found.message}\n` : '' };
+  const list = rows.join('');
+  const fault = found.ending === 'faulty' ? `${found.message}\n` : '';
+  const its = ran(words, bytes);
+  told.tokens += found.count;
+  told.faults += fault ? 1 : 0;
+  if (list !== its.list || fault !== its.fault) told.other.push(name);
+  return list;
 }
 
-function printed(bytes, words) {
-  const ran = spawnSync(program, words, { input: bytes, maxBuffer: 2 ** 31 - 1 });
-  if (ran.error) throw ran.error;
-  return { list: ran.stdout.toString(), fault: ran.stderr.toString() };
+// How the program tells what is wrong with an annotation, as far as that is compared: not the rendered line.
+function beginningOf({ what, offset }, bytes) {
+  if (what.startsWith('unclosed')) return `${what} at byte offset ${offset}\n`;
+  const line = bytes.subarray(0, offset).toString('latin1').split('\n').length;
+  return `${what}\n${' '.repeat(5)}--> <anon>:${line}:`;
 }
 
-const told = { stored: 0, tokens: 0, faults: 0, other: [] };
-function compare(name, bytes, words) {
-  const flags = Object.fromEntries(words.map((word) => [FLAGS[word], true]));
-  const mine = listOf(bytes, flags);
-  const its = printed(bytes, words);
-  told.tokens += mine.tokens;
-  told.faults += mine.fault ? 1 : 0;
-  if (mine.list !== its.list || mine.fault !== its.fault) told.other.push(name);
-  return mine;
+// What `sig` prints under these names.
+function compareCounts(name, bytes, words, names) {
+  const found = readWhole(bytes, flagsOf(words));
+  const tokens = new Tokens(found);
+  const { numbers, wrong } = whatCounts(tokens, found.bytes, new Set(names));
+  const its = ran([...words, 'sig', ...names], bytes);
+  const list = Array.from(numbers, (i) => lineOf(tokens, i)).join('');
+  const fault = wrong ? beginningOf(wrong, bytes) : found.ending === 'faulty' ? `${found.message}\n` : '';
+  told.signatures += 1;
+  told.counting += numbers.length;
+  told.wrong += wrong ? 1 : 0;
+  const isSame = list === its.list && its.isRefused === Boolean(wrong || found.ending === 'faulty') && its.fault.startsWith(fault);
+  if (!isSame) told.other.push(`${name}: sig ${names.join(' ')}`);
+}
+
+// What `types` writes.
+function compareTypes(name, bytes) {
+  const found = readWhole(bytes, {});
+  const mine = found.ending === 'whole' ? compileTypes(new Tokens(found), found.bytes) : null;
+  const its = ran(['types'], bytes);
+  told[mine ? 'modules' : 'refused'] += 1;
+  if (its.isRefused ? mine !== null : mine === null || !its.output.equals(mine)) told.other.push(`${name}: types`);
+}
+
+let seed = 1;
+function chosen(count) {
+  seed = (seed * 48271) % 2147483647;
+  return seed % count;
+}
+
+const oneOf = (parts) => parts[chosen(parts.length)];
+const many = (most, make) => Array.from({ length: chosen(most + 1) }, make);
+
+// The tokens of a module of up to so many types, with what does not count between them.
+function moduleOf(most) {
+  const values = () => many(4, () => oneOf(['i32', 'i64', 'f32', 'f64']));
+  const group = (word, parts) => ['(', word, ...parts, ')'];
+  const param = () => group('param', oneOf([values(), ['$"a\\u{62}"', 'i64'], ['$p', 'f32']]));
+  const signature = () => group('func', [...many(3, param), ...many(2, () => group('result', values()))].flat());
+  const types = many(most, () => group('type', [...oneOf([[], ['$t']]), ...signature()]));
+  return group('module', types.flat()).flatMap((token) => [token, oneOf([' ', '\n', '\t', ' (; a comment ;) ', ' ;; a comment\n', ' (@a (b) "c") '])]);
+}
+
+// Modules of types, and each with a token left out, doubled or in another's place, many times.
+function* modules() {
+  for (let most = 0; most < 40; most += 1) {
+    const parts = moduleOf(most);
+    yield parts.join('');
+    for (let i = 0; i < MUTATIONS; i += 1) {
+      const at = chosen(parts.length);
+      const put = oneOf([[], [parts[at], ' ', parts[at]], [oneOf(parts)], ['(@a x)', parts[at]], ['$""', parts[at]]]);
+      yield [...parts.slice(0, at), ...put, ...parts.slice(at + 1)].join('');
+    }
+  }
 }
 
 const folder = here('../crates/wat_tokens/agreement/');
+const NAMES = [[], ['a', 'custom', 'name'], ['metadata.code.branch_hint', 'x', 'b']];
 for (const name of readdirSync(folder).filter((it) => existsSync(`${folder}${it}.stdout`))) {
-  const words = existsSync(`${folder}${name}.args`) ? readFileSync(`${folder}${name}.args`, 'utf8').split(/\s+/).filter(Boolean) : [];
-  if (!words.every((word) => word in FLAGS)) continue;
-  const mine = compare(name, readFileSync(folder + name), words);
-  if (mine.list !== readFileSync(`${folder}${name}.stdout`, 'utf8')) told.other.push(`${name}.stdout`);
-  told.stored += 1;
+  const words = existsSync(`${folder}${name}.args`) ? readFileSync(`${folder}${name}.args`, 'utf8').split('\n').filter(Boolean) : [];
+  const bytes = readFileSync(folder + name);
+  const flags = words.filter((word) => word in FLAGS);
+  const isSignature = words[flags.length] === 'sig';
+  if (words.length === flags.length) {
+    const list = compareTokens(name, bytes, words);
+    if (list !== readFileSync(`${folder}${name}.stdout`, 'utf8')) told.other.push(`${name}.stdout`);
+    told.stored += 1;
+  }
+  for (const names of isSignature ? [words.slice(flags.length + 1), ...NAMES] : NAMES) compareCounts(name, bytes, flags, names);
+  compareTypes(name, bytes);
+}
+for (const text of modules()) {
+  const bytes = Buffer.from(text);
+  compareTypes(text, bytes);
+  compareCounts(text, bytes, [], []);
 }
 const generated = spawnSync('python3', [here('../tools/generate.py'), '10'], { maxBuffer: 2 ** 30 });
 if (generated.error) throw generated.error;
 const text = generated.stdout;
-compare('generated', text, []);
+compareTokens('generated', text, []);
+for (const names of [[], ['custom']]) compareCounts('generated', text, [], names);
 for (const strict of [false, true]) {
   const times = [];
   for (let i = 0; i < 9; i += 1) {
@@ -70,4 +152,4 @@ for (const strict of [false, true]) {
   console.log(`generated text of ${text.length} bytes: ${Math.min(...times).toFixed(1)} ms at best of ${times.length}`);
 }
 console.log(told);
-process.exit(told.other.length > 0 || told.stored === 0 ? 1 : 0);
+process.exit(told.other.length > 0 || told.stored === 0 || told.modules === 0 ? 1 : 0);

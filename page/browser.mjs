@@ -16,7 +16,7 @@ const pause = (milliseconds) => new Promise((done) => setTimeout(done, milliseco
 
 const server = createServer((request, response) => {
   try {
-    const bytes = readFileSync(here(`out/${request.url.slice(1) || 'index.html'}`));
+    const bytes = readFileSync(here(`out/${new URL(request.url, 'http://page').pathname.slice(1) || 'index.html'}`));
     response.writeHead(200, { 'content-type': TYPES[extname(request.url)] ?? 'text/html' }).end(bytes);
   } catch {
     response.writeHead(404).end();
@@ -53,6 +53,8 @@ async function ask(expression) {
 }
 
 async function visit(address) {
+  // Another fragment alone would not load the page again.
+  await send('Page.navigate', { url: 'about:blank' });
   await send('Page.navigate', { url: address });
   for (let i = 0; i < 200 && !(await ask("document.body?.dataset.ready === 'yes'").catch(() => false)); i += 1) await pause(50);
   assert.equal(await ask('document.body.dataset.ready'), 'yes', await ask("document.querySelector('#told')?.textContent"));
@@ -60,14 +62,20 @@ async function visit(address) {
 
 // What the page shows: its pieces in order, its message, its mark and its state.
 const SHOWN = `({
-  text: [...document.querySelectorAll('#seen > .line:not(.message)')].map((it) => it.textContent).join(''),
+  text: [...document.querySelectorAll('#seen > .line')].map((it) => it.textContent).join(''),
   pieces: [...document.querySelectorAll('#seen > .line > span:not(.caret)')].map((it) => [it.className.split(' ')[0], it.textContent]),
-  message: [...document.querySelectorAll('#seen > .message')].map((it) => it.textContent).join('\\n'),
-  under: document.querySelector('.message')?.previousElementSibling?.textContent ?? null,
+  message: document.querySelector('#message').hidden ? '' : document.querySelector('#message').textContent,
   fault: document.querySelector('#fault') ? Number(document.querySelector('#fault').dataset.from) : null,
+  line: document.querySelector('#fault') ? Number(document.querySelector('#numbers').textContent.split('\\n')[[...document.querySelectorAll('#seen > .line')].indexOf(document.querySelector('#fault').parentElement)]) : null,
+  numbers: document.querySelector('#numbers').textContent.split('\\n').map(Number),
+  carets: document.querySelectorAll('.caret').length,
   told: document.querySelector('#told').textContent,
+  size: document.querySelector('#size').textContent,
+  counted: document.querySelector('#counted').textContent,
+  bytes: document.querySelector('#bytes-part').hidden ? null : document.querySelector('#bytes').textContent.split('\\n').map((it) => it.slice(10)).join(' '),
+  isEdited: !document.querySelector('#text').hidden,
   ending: document.body.dataset.ending,
-  options: [...document.querySelectorAll('[role=option]')].map((it) => [...it.children].map((part) => part.textContent)),
+  options: [...document.querySelectorAll('#list [role=option]')].map((it) => [...it.children].map((part) => part.textContent)),
   held: document.querySelector('[aria-selected=true] .place')?.textContent ?? null,
   matched: [...document.querySelectorAll('.match')].map((it) => Number(it.dataset.from)),
 })`;
@@ -75,7 +83,8 @@ const SHOWN = `({
 // The token that the list stands at once the text area's cursor is at a place.
 const heldAt = (place) => ask(`{ const it = document.querySelector('#text'); it.focus(); it.setSelectionRange(${place}, ${place}); document.dispatchEvent(new Event('selectionchange')); } ${SHOWN}`).then((page) => page.held);
 
-const type = (text) => ask(`{ const it = document.querySelector('#text'); it.value = ${JSON.stringify(text)}; it.setSelectionRange(0, 0); it.dispatchEvent(new Event('input')); } ${SHOWN}`);
+// Types into the text area, which an example brings back where a text was only shown.
+const type = (text) => ask(`{ const it = document.querySelector('#text'); if (it.hidden) document.querySelector('#example').dispatchEvent(new Event('change')); it.value = ${JSON.stringify(text)}; it.setSelectionRange(0, 0); it.dispatchEvent(new Event('input')); } ${SHOWN}`);
 
 async function drop(bytes) {
   const path = join(room, 'text.wat');
@@ -89,9 +98,22 @@ async function drop(bytes) {
   return ask(SHOWN);
 }
 
-const key = async (name, options = {}) => {
-  for (const kind of ['keyDown', 'keyUp']) await send('Input.dispatchKeyEvent', { type: kind, key: name, code: name, windowsVirtualKeyCode: { Tab: 9, ' ': 32 }[name] ?? 0, ...options });
-};
+const CODES = { Tab: 9, Enter: 13, ' ': 32, End: 35, Home: 36, ArrowLeft: 37, ArrowUp: 38, ArrowRight: 39, ArrowDown: 40 };
+async function key(name, options = {}) {
+  const text = { Enter: '\r', ' ': ' ' }[name];
+  for (const kind of ['keyDown', 'keyUp']) await send('Input.dispatchKeyEvent', { type: kind, key: name, code: name === ' ' ? 'Space' : name, windowsVirtualKeyCode: CODES[name], text: kind === 'keyDown' ? text : undefined, ...options });
+  await pause(20);
+}
+
+// The middle of an element, or its left edge.
+const spotOf = (selector) => ask(`(() => { const it = document.querySelector('${selector}').getBoundingClientRect(); return [it.left + 2, it.top + it.height / 2]; })()`);
+
+async function press(selector) {
+  const [x, y] = await spotOf(selector);
+  for (const kind of ['mousePressed', 'mouseReleased']) await send('Input.dispatchMouseEvent', { type: kind, x, y, button: 'left', clickCount: 1 });
+  await pause(30);
+  return ask(SHOWN);
+}
 
 async function typedTexts() {
   let page = await type('(module (func $foo))');
@@ -116,10 +138,11 @@ async function typedTexts() {
 }
 
 async function droppedTexts() {
-  await ask("for (const it of document.querySelectorAll('#view')) it.style.height = '2000px'");
+  await ask("document.querySelector('#editor').style.height = '2000px'");
+  await pause(100);
   let page = await drop('(a)\r\n\t(b "\u{1f600}")\r\n');
   assert.equal(page.text, '(a)\r\n\t(b "\u{1f600}")\r\n');
-  assert.equal(await ask("document.querySelector('#text').hidden"), false);
+  assert.equal(page.isEdited, true);
   await ask("{ const it = document.querySelector('#text'); it.value += 'c'; it.dispatchEvent(new Event('input')); }");
   assert.equal((await ask(SHOWN)).text, '(a)\r\n\t(b "\u{1f600}")\r\nc');
   assert.deepEqual([await heldAt(3), await heldAt(4), await heldAt(11), await heldAt(12), await heldAt(14)], ['3..6', '3..6', '9..15', '15..16', '18..19']);
@@ -138,7 +161,7 @@ async function droppedTexts() {
   }
   assert.equal((await dropped(1)).text, '(dropped)');
   page = await drop('a\rb\n');
-  assert.deepEqual([page.text, await ask("document.querySelector('#text').hidden")], ['a\rb\n', true]);
+  assert.deepEqual([page.text, page.isEdited], ['a\rb\n', false]);
   page = await drop(Buffer.from([40, 255]));
   assert.match(page.told, /not UTF-8 from byte 1 on/);
   const folder = here('../crates/wat_tokens/agreement/');
@@ -157,7 +180,9 @@ async function droppedTexts() {
     assert.equal(page.message + (page.message && '\n'), told, name);
     if (told) {
       const lines = bytes.subarray(0, page.fault).toString('latin1').split('\n').length;
-      assert.equal(page.under, bytes.toString('latin1').split('\n').length >= lines ? page.text.split(/(?<=\n)/)[lines - 1] ?? '' : null, name);
+      const [line, column] = /<anon>:(\d+):(\d+)/.exec(told).slice(1);
+      assert.equal(page.line, lines, name);
+      assert.ok(page.told.startsWith(`Line ${line}, column ${column}: `), `${name}: ${page.told}`);
       const rows = ran.stdout.toString().trim().split('\n').filter(Boolean);
       const end = rows.length > 0 ? Number(/\.\.(\d+)/.exec(rows.at(-1))[1]) : 0;
       assert.ok(page.fault >= end && page.fault <= bytes.length, name);
@@ -166,11 +191,11 @@ async function droppedTexts() {
     texts += 1;
   }
   for (const id of Object.values(FLAGS)) await ask(`document.querySelector('#${id}').checked = false`);
-  await ask("for (const it of document.querySelectorAll('#view')) it.style.height = ''");
+  await ask("document.querySelector('#editor').style.height = ''");
   return { texts, faults };
 }
 
-// The cursor of the text, of the colours and of the list is one; all by the keyboard.
+// The cursor of the text and of the list is one, in a text that is edited and in one that is shown.
 async function theCursor() {
   await type('"\u{e9}" x');
   assert.equal(await heldAt(4), '5..6');
@@ -178,42 +203,199 @@ async function theCursor() {
   assert.equal((await ask(SHOWN)).held, '0..6');
   await type('(a $b)\n(c "d")');
   assert.equal(await heldAt(3), '3..5');
-  await ask("document.querySelector('#view').focus()");
   await key('ArrowDown');
-  let page = await ask(SHOWN);
-  assert.deepEqual([page.held, await ask("document.querySelector('#text').selectionStart")], ['10..13', 10]);
+  assert.equal((await ask(SHOWN)).held, '10..13');
   await key('End');
-  page = await ask(SHOWN);
-  assert.deepEqual(page.matched, [7, 13]);
-  await key('ArrowUp');
-  await key('Home');
+  let page = await ask(SHOWN);
+  assert.deepEqual([page.matched, page.carets, await ask("document.querySelector('#place').textContent")], [[7, 13], 0, 'Line 2, character 8, byte 14']);
   await ask("document.querySelector('#list').focus()");
+  await key('Home');
   await key('ArrowDown');
   assert.deepEqual([(await ask(SHOWN)).held, await ask("document.querySelector('#text').selectionStart")], ['1..2', 1]);
   assert.equal(await ask("document.querySelector('#list').getAttribute('aria-activedescendant')"), 'token-1');
   await key('End');
   assert.equal((await ask(SHOWN)).held, '13..14');
-  const spot = await ask("(() => { const it = [...document.querySelectorAll('#seen .Id')][0].getBoundingClientRect(); return [it.left + 2, it.top + 8]; })()");
-  for (const kind of ['mousePressed', 'mouseReleased']) await send('Input.dispatchMouseEvent', { type: kind, x: spot[0], y: spot[1], button: 'left', clickCount: 1 });
-  assert.equal((await ask(SHOWN)).held, '3..5');
-  await type('x\n'.repeat(200));
+  // A press on the colours is one on the text area over them.
+  assert.equal((await press('#seen .Id')).held, '3..5');
+  assert.equal(await ask('document.activeElement.id'), 'text');
+}
+
+async function theCursorOfShownTexts() {
+  let page = await drop('(a $b)\n(c "d")\r\n');
+  assert.equal(page.isEdited, false);
+  assert.deepEqual(await ask("[document.querySelector('#view').getAttribute('role'), document.querySelector('#view').ariaHidden]"), ['group', null]);
   await ask("document.querySelector('#view').focus()");
+  await key('ArrowRight');
+  await key('ArrowDown');
+  assert.equal((await ask(SHOWN)).held, '8..9');
+  await key('End', { modifiers: 2 });
+  page = await ask(SHOWN);
+  assert.deepEqual([page.held, page.carets], ['14..16', 1]);
+  assert.equal((await press('#seen .Id')).held, '3..5');
+  page = await drop(`${'x\n'.repeat(200)}\r\n`);
   for (const [name, isScrolled] of [['Home', false], ['End', true]]) {
+    await ask("document.querySelector('#view').focus()");
     await key(name, { modifiers: 2 });
-    assert.deepEqual(await ask("[document.querySelectorAll('.caret').length, document.querySelector('#text').scrollTop > 0]"), [1, isScrolled], name);
+    assert.deepEqual(await ask("[document.querySelectorAll('.caret').length, document.querySelector('#view').scrollTop > 0]"), [1, isScrolled], name);
   }
-  await type(`;; ${'x'.repeat(5000)}\ny`);
+  await drop(`;; ${'x'.repeat(5000)}\r\n\ny`);
   await ask("document.querySelector('#view').focus()");
   await key('End');
   page = await ask(SHOWN);
-  assert.deepEqual([page.held, page.pieces[0][1].length < 2100, await ask("document.querySelector('#view').scrollLeft > 0")], ['5003..5004', true, true]);
-  await ask("document.querySelector('#file').focus()");
+  assert.deepEqual([page.pieces[0][1].length < 2100, await ask("document.querySelector('#view').scrollLeft > 0")], [true, true]);
+}
+
+// The lines in sight follow the text area, and the text area the cursor.
+async function scrolling() {
+  await type(Array.from({ length: 300 }, (_, i) => `(line $l${i})${' '.repeat(200)};; ${i}\n`).join(''));
+  await ask("document.querySelector('#text').scrollTo(150, 2000)");
+  await pause(100);
+  const seen = await ask("(() => { const box = document.querySelector('#text').getBoundingClientRect(); const line = [...document.querySelectorAll('#seen > .line')].find((it) => it.textContent.startsWith('(line $l100)')).getBoundingClientRect(); return [line.top - box.top, line.left - box.left]; })()");
+  assert.deepEqual(seen, [0, -150 + 8]);
+  assert.ok((await ask(SHOWN)).numbers.includes(101));
+  await ask("document.querySelector('#list').focus()");
+  for (const [name, top, left] of [['End', true, true], ['Home', false, false]]) {
+    await key(name);
+    await pause(100);
+    assert.deepEqual(await ask("(() => { const it = document.querySelector('#text'); return [it.scrollTop > 5000, it.scrollLeft > 1000]; })()"), [top, left], name);
+    const isInSight = await ask("(() => { const box = document.querySelector('#editor').getBoundingClientRect(); const it = document.querySelector('#seen .held, #seen .match').getBoundingClientRect(); return it.top >= box.top && it.bottom <= box.bottom && it.left >= box.left && it.left <= box.right; })()");
+    assert.ok(isInSight, `the cursor's token at ${name}`);
+  }
+  await type('x\n'.repeat(200));
+  await ask("document.querySelector('#text').focus()");
+  await key('End', { modifiers: 2 });
+  await pause(100);
+  const page = await ask(SHOWN);
+  assert.deepEqual([page.carets, page.numbers.at(-1), await ask("document.querySelector('#text').scrollTop > 0")], [0, 201, true]);
+}
+
+// The text area's own letters, and those of the colours in black: how many dark dots they have, and how many dots are bright in one of the
+// pictures and dark in the other.
+const BLACK = '#seen, #seen * { color: black !important; text-decoration: none !important; outline: 0 !important; background: none !important }';
+async function otherDots() {
+  const [x, y, width, height] = await ask("(() => { const it = document.querySelector('#text').getBoundingClientRect(); return [it.left + scrollX, it.top + scrollY, document.querySelector('#text').clientWidth, document.querySelector('#text').clientHeight]; })()");
+  const picture = async () => (await send('Page.captureScreenshot', { format: 'png', clip: { x, y, width, height, scale: 1 } })).data;
+  await ask(`{ document.activeElement.blur(); const sheet = document.styleSheets[0]; sheet.insertRule(${JSON.stringify(BLACK)}, 0); }`);
+  const coloured = await picture();
+  await ask("{ const sheet = document.styleSheets[0]; sheet.deleteRule(0); sheet.insertRule('#seen { visibility: hidden !important }', 0); sheet.insertRule('textarea { color: black !important }', 0); }");
+  const own = await picture();
+  await ask('{ const sheet = document.styleSheets[0]; sheet.deleteRule(0); sheet.deleteRule(0); }');
+  return ask(`(async () => {
+    const dots = await Promise.all(['${coloured}', '${own}'].map(async (it) => {
+      const image = new Image();
+      image.src = 'data:image/png;base64,' + it;
+      await image.decode();
+      const canvas = new OffscreenCanvas(image.width, image.height).getContext('2d');
+      canvas.drawImage(image, 0, 0);
+      // How bright each dot is, by its green.
+      return canvas.getImageData(0, 0, image.width, image.height).data.filter((_, i) => i % 4 === 1);
+    }));
+    return [dots[1].filter((it) => it < 128).length, dots[0].filter((it, i) => Math.abs(it - dots[1][i]) >= 128).length];
+  })()`);
+}
+
+async function metrics() {
+  const line = '(func $add "caf\u{e9} \\00" (; \u{6f22}\u{5b57} \u{1f600} ;)\t(param\t$a i32)) ;; gr\u{f6}\u{df}er \u{2013} als 0x1.8p3 ][\n';
+  for (const [name, text, left, top] of [['plain', line.repeat(60), 0, 0], ['scrolled', line.repeat(60), 131, 473], ['a long line', `${line.slice(0, -1).repeat(100)}\n)`, 30000, 0], ['a long line of ASCII', `${'(a\t$b) "c" 1.5 '.repeat(2000)}\n`, 90001, 0]]) {
+    await type(text);
+    await ask(`document.querySelector('#text').scrollTo(${left}, ${top})`);
+    await pause(150);
+    const [dark, other] = await otherDots();
+    console.log(`  ${name}: ${dark} dark dots, ${other} other`);
+    assert.ok(dark > 500 && other <= dark / 100, name);
+  }
+}
+
+// The menu, the fault's button, what counts, the bytes of types, and links.
+async function examples() {
+  const names = await ask("[...document.querySelectorAll('#example option')].map((it) => it.textContent)");
+  assert.ok(names.length >= 5);
+  for (const [i, name] of names.entries()) {
+    await ask(`{ const it = document.querySelector('#example'); it.selectedIndex = ${i}; it.dispatchEvent(new Event('change')); }`);
+    const page = await ask(SHOWN);
+    assert.equal(page.ending, name.startsWith('A fault') ? 'faulty' : 'whole', name);
+    assert.equal(page.bytes !== null, name.startsWith('Types'), name);
+  }
+  await ask("document.querySelector('#example').focus()");
+  await key('Home');
+  assert.equal((await ask(SHOWN)).ending, 'whole');
+}
+
+async function theFault() {
+  let page = await type(`${'\n'.repeat(100)}  "\\q"`);
+  assert.equal(page.told, "Line 101, column 5: invalid string escape 'q'");
+  await ask("document.querySelector('#go').focus()");
+  await key('Enter');
+  assert.deepEqual(await ask("[document.activeElement.id, document.querySelector('#text').selectionStart, document.querySelector('#text').scrollTop > 0]"), ['text', 104, true]);
+  await type(`${'\n'.repeat(100)}  "\\q"`);
+  page = await press('#go');
+  assert.deepEqual([await ask("document.querySelector('#text').selectionStart"), page.fault, page.line], [104, 104, 101]);
+  page = await type('(a)');
+  assert.deepEqual([page.told, page.size, await ask("document.querySelector('#go').hidden")], ['No fault.', '3 tokens, 3 bytes.', true]);
+}
+
+async function whatCounts() {
+  await type('(@a x) (@b "y") (; c ;) z');
+  await ask("document.querySelector('#counts').click()");
+  let page = await ask(SHOWN);
+  assert.deepEqual([page.options.map((it) => it[0]), page.counted], [['24..25'], '1 token of 15 count.']);
+  assert.equal(page.pieces.filter((it) => it[0] !== 'skipped').map((it) => it[1]).join(''), 'z');
+  await ask("{ const it = document.querySelector('#names'); it.value = ' b  c'; it.dispatchEvent(new Event('input')); }");
+  page = await ask(SHOWN);
+  assert.deepEqual(page.options.map((it) => it[0]), ['7..8', '8..10', '11..14', '14..15', '24..25']);
+  await ask("document.querySelector('#list').focus()");
+  await key('Home');
+  await key('ArrowDown');
+  assert.deepEqual([(await ask(SHOWN)).held, await ask("document.querySelector('#text').selectionStart")], ['8..10', 8]);
+  page = await type('x (@d (y)');
+  assert.deepEqual([page.options.map((it) => it[0]), page.counted], [['0..1'], '1 token of 8 count. Then: unclosed annotation at byte offset 3.']);
+  await ask("{ const it = document.querySelector('#names'); it.value = ''; document.querySelector('#counts').click(); }");
+  assert.equal((await ask(SHOWN)).options.length, 8);
+}
+
+async function bytesOfTypes() {
+  const text = '(module (type $a (func (param $p i32) (param i64 f32) (result f64))) (@x y) (type (func)))';
+  let page = await type(text);
+  const wanted = spawnSync(program, ['types'], { input: text }).stdout.toString('hex');
+  if (wanted) assert.equal(page.bytes.replaceAll(' ', ''), wanted);
+  assert.equal(page.bytes, '00 61 73 6d 01 00 00 00 01 0b 02 60 03 7f 7e 7d 01 7c 60 00 00');
+  assert.equal((await type('(module)')).bytes, '00 61 73 6d 01 00 00 00');
+  for (const other of ['(module (func))', '(module $m)', '(module) x', '(module (type (func (param $"" i32))))', '(module (type (func (param i8))))', '(module (type (func)) (@x)', '']) assert.equal((await type(other)).bytes, null, other);
+}
+
+async function links() {
+  const text = '(a "\u{1f600}" (@n x))\r\n(b)\r\n';
+  await drop(text);
+  await ask("{ for (const id of ['allow', 'counts']) document.querySelector(`#${id}`).click(); document.querySelector('#names').value = 'n o'; }");
+  await ask("document.querySelector('#share').click()");
+  for (let i = 0; i < 100 && !(await ask("document.querySelector('#shared').textContent")); i += 1) await pause(20);
+  assert.match(await ask("document.querySelector('#shared').textContent"), /^The link is/);
+  const address = await ask('location.href');
+  await visit(address);
+  const page = await ask(SHOWN);
+  assert.deepEqual([page.text, await ask("[...['allow', 'strict', 'counts'].map((id) => document.querySelector(`#${id}`).checked), document.querySelector('#names').value]")], [text, [true, false, true, 'n o']]);
+  assert.equal(page.counted, '11 tokens of 16 count.');
+  await ask("location.hash = '#text=x'");
+  await pause(200);
+  assert.match(await ask("document.querySelector('#told').textContent"), /^The link could not be read/);
+  assert.equal((await ask(SHOWN)).text, text);
+  await visit(origin);
+}
+
+// All controls in their order, by the keyboard alone.
+async function byKeyboard() {
+  await type('(a "\\q")');
+  await ask("document.querySelector('#example').focus()");
   const reached = [];
-  for (let i = 0; i < 6; i += 1) {
+  for (let i = 0; i < 11; i += 1) {
     reached.push(await ask('document.activeElement.id'));
     await key('Tab');
   }
-  assert.deepEqual(reached, ['file', 'allow', 'strict', 'text', 'view', 'list']);
+  assert.deepEqual(reached, ['example', 'file', 'share', 'allow', 'strict', 'go', 'text', 'message', 'counts', 'names', 'list']);
+  await ask("document.querySelector('#strict').focus()");
+  await key(' ');
+  assert.equal(await ask("document.querySelector('#strict').checked"), true);
+  await key(' ');
 }
 
 // Roles and names of all that takes the focus, and the contrast of all text in sight.
@@ -229,14 +411,14 @@ const ACCESS = `(() => {
     const ratio = (a + 0.05) / (b + 0.05);
     if (ratio < 4.5) poor.push([it.className || it.tagName, ratio.toFixed(2)]);
   }
-  return { poor, language: document.documentElement.lang, title: document.title, headings: [...document.querySelectorAll('h1, h2')].map((it) => it.tagName), wide: document.documentElement.scrollWidth > document.documentElement.clientWidth };
+  return { poor, language: document.documentElement.lang, title: document.title, headings: [...document.querySelectorAll('h1, h2')].filter((it) => it.getClientRects().length).map((it) => it.tagName), wide: document.documentElement.scrollWidth > document.documentElement.clientWidth };
 })()`;
 
 async function access() {
   await type('(module ;; c\n (@a "b" $c -1 0x1p3 [ ) (; d ;)\n é x');
   const { nodes } = await send('Accessibility.getFullAXTree');
   const named = Object.fromEntries(nodes.filter((it) => !it.ignored).map((it) => [`${it.role?.value} ${it.name?.value}`, it]));
-  for (const wanted of ['heading WebAssembly text, as the lexer sees it', 'switch Allow confusing characters', 'switch Strict underscores', 'textbox Text', 'group Colours', 'listbox Tokens']) assert.ok(wanted in named, `${wanted}: ${Object.keys(named).filter((it) => !it.includes('StaticText') && !it.includes('Inline')).slice(0, 40).join(', ')}`);
+  for (const wanted of ['heading WebAssembly text, as the lexer sees it', 'switch Allow confusing characters', 'switch Strict underscores', 'textbox Text', 'listbox Tokens', 'combobox Example', 'button Make a link to this text', 'switch Only what counts', 'textbox Registered annotations']) assert.ok(wanted in named, `${wanted}: ${Object.keys(named).filter((it) => !it.includes('StaticText') && !it.includes('Inline')).slice(0, 40).join(', ')}`);
   assert.ok(nodes.some((it) => it.role?.value === 'status'));
   assert.ok(nodes.some((it) => it.role?.value === 'option' && it.properties?.some((of) => of.name === 'selected' && of.value.value === true)));
   assert.ok(nodes.every((it) => it.ignored || !it.properties?.some((of) => of.name === 'focusable' && of.value.value) || it.role?.value === 'RootWebArea' || it.name?.value), 'a name for all that takes the focus');
@@ -245,7 +427,7 @@ async function access() {
     for (const width of [1200, 360]) {
       await send('Emulation.setDeviceMetricsOverride', { width, height: 900, deviceScaleFactor: 1, mobile: width < 500 });
       const found = await ask(ACCESS);
-      assert.deepEqual(found, { poor: [], language: 'en', title: 'WebAssembly text, as the lexer sees it', headings: ['H1', 'H2', 'H2', 'H2'], wide: false }, `${scheme} ${width}`);
+      assert.deepEqual(found, { poor: [], language: 'en', title: 'WebAssembly text, as the lexer sees it', headings: ['H1', 'H2', 'H2'], wide: false }, `${scheme} ${width}`);
     }
   }
   await send('Emulation.clearDeviceMetricsOverride');
@@ -260,10 +442,14 @@ async function times() {
     const bytes = spawnSync('python3', [here('../tools/generate.py'), String(megabytes)], { maxBuffer: 2 ** 30 }).stdout;
     const page = await drop(bytes);
     assert.equal(page.ending, 'whole', page.told);
-    await ask("document.querySelector('#view').scrollTop = document.querySelector('#view').scrollHeight / 2");
+    const box = page.isEdited ? '#text' : '#view';
+    assert.equal(page.isEdited, megabytes === 1);
+    await ask(`document.querySelector('${box}').scrollTop = document.querySelector('${box}').scrollHeight / 2`);
     await pause(200);
-    const shown = (await ask(SHOWN)).text;
-    assert.ok(shown.length > 100 && bytes.toString().includes(shown), 'the middle of the text');
+    const shown = await ask(SHOWN);
+    const at = bytes.toString().indexOf(shown.text);
+    assert.ok(shown.text.length > 100 && at >= 0, 'the middle of the text');
+    assert.equal(shown.numbers[0], bytes.toString().slice(0, at).split('\n').length);
     const all = [];
     for (let i = 0; i < 25; i += 1) {
       if (megabytes === 1) await ask("{ const it = document.querySelector('#text'); it.setSelectionRange(0, 0); it.dispatchEvent(new Event('input')); }");
@@ -279,10 +465,12 @@ async function times() {
 
 async function takePictures() {
   await visit(origin);
-  await send('Emulation.setDeviceMetricsOverride', { width: 1100, height: 780, deviceScaleFactor: 1, mobile: false });
-  for (const scheme of ['light', 'dark']) {
+  await send('Emulation.setDeviceMetricsOverride', { width: 1100, height: 860, deviceScaleFactor: 1, mobile: false });
+  for (const [scheme, example] of [['light', 1], ['dark', 4]]) {
     await send('Emulation.setEmulatedMedia', { features: [{ name: 'prefers-color-scheme', value: scheme }] });
-    await ask("document.querySelector('#text').focus()");
+    await ask(`{ const it = document.querySelector('#example'); it.selectedIndex = ${example}; it.dispatchEvent(new Event('change')); }`);
+    await ask("{ const it = document.querySelector('#text'); const place = it.value.indexOf('(func') + 1; it.focus(); it.setSelectionRange(place, place); }");
+    if (!(await ask("document.querySelector('#go').hidden"))) await press('#go');
     await pause(200);
     writeFileSync(join(pictures, `page-${scheme}.png`), Buffer.from((await send('Page.captureScreenshot', { format: 'png' })).data, 'base64'));
   }
@@ -298,7 +486,10 @@ try {
   await visit(origin);
   await typedTexts();
   console.log(await droppedTexts());
-  await theCursor();
+  for (const check of [theCursor, theCursorOfShownTexts, scrolling, metrics, examples, theFault, whatCounts, bytesOfTypes, links, byKeyboard]) {
+    await check();
+    console.log(check.name);
+  }
   await access();
   console.log(await times());
   if (pictures) await takePictures();
@@ -306,10 +497,17 @@ try {
   await typedTexts();
   await send('Page.addScriptToEvaluateOnNewDocument', { source: 'WebAssembly.validate = () => false;' });
   await send('Page.navigate', { url: origin });
-  await pause(500);
+  for (let i = 0; i < 100 && !/memory/.test(await ask("document.querySelector('#told')?.textContent ?? ''")); i += 1) await pause(50);
   assert.match(await ask("document.querySelector('#told').textContent"), /no 64-bit WebAssembly memory/);
+  assert.ok(await ask("[...document.querySelectorAll('main :is(button, input, select, textarea)')].every((it) => it.disabled)"));
   const bad = events.filter((it) => it.method === 'Runtime.exceptionThrown' || (it.method === 'Runtime.consoleAPICalled' && it.params.type === 'error') || (it.method === 'Log.entryAdded' && it.params.entry.level === 'error'));
   assert.deepEqual(bad, []);
+  // What the page's policy refuses is told in the console.
+  for (const address of [origin, pathToFileURL(here('out/wat.html')).href]) {
+    await send('Page.navigate', { url: address });
+    await pause(500);
+    assert.equal(await ask("fetch('data:,a').then(() => 'let through', () => 'refused')"), 'refused', address);
+  }
   console.log('the page passed, in', (await send('Browser.getVersion')).product);
   failed = 0;
 } catch (error) {

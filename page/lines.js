@@ -61,29 +61,54 @@ export class Lines {
   }
 }
 
-// The items in sight of a box that scrolls, however many there are: `draw` makes those from one to another. Where the box
-// stands and how high it is are kept here, since asking the browser would make it lay out the page at once.
+// The items in sight of a box that scrolls, however many there are: `draw` makes those from one to another, which lie in `seen`. This
+// stands in the box and scrolls with it, or, where the box is another's, beside it and is moved. Where the box stands and how large it is
+// are kept here, since asking the browser would make it lay out the page at once.
 export class Sight {
   static HEIGHT = 20;
   static MOST = 8_000_000;
 
-  constructor(box, draw) {
-    this.box = box;
-    this.all = box.querySelector('.all');
-    this.seen = box.querySelector('.seen');
-    this.draw = draw;
-    this.count = 0;
-    this.top = 0;
-    this.height = box.clientHeight;
-    box.addEventListener('scroll', () => {
-      if (box.scrollTop === this.top) return;
-      this.top = box.scrollTop;
+  constructor(boxes, seen, draw) {
+    Object.assign(this, { seen, draw, count: 0, top: 0, left: 0 });
+    const measure = new ResizeObserver(() => {
+      this.measure();
       this.redraw();
     });
-    new ResizeObserver(() => {
-      this.height = box.clientHeight;
-      this.redraw();
-    }).observe(box);
+    for (const box of boxes) {
+      box.addEventListener('scroll', () => this.follow(box));
+      measure.observe(box);
+    }
+    this.use(boxes[0]);
+  }
+
+  // Takes this box from now on.
+  use(box) {
+    if (box === this.box) return;
+    this.box = box;
+    this.all = box.querySelector('.all');
+    this.isBeside = !box.contains(this.seen);
+    this.measure();
+  }
+
+  measure() {
+    this.height = this.box.clientHeight;
+    this.width = this.box.clientWidth;
+    this.top = this.box.scrollTop;
+    this.left = this.box.scrollLeft;
+  }
+
+  // Goes back to the first item.
+  restart() {
+    if (this.top > 0 || this.left > 0) this.box.scrollTo(0, 0);
+    this.top = 0;
+    this.left = 0;
+  }
+
+  follow(box) {
+    if (box !== this.box || (box.scrollTop === this.top && box.scrollLeft === this.left)) return;
+    this.top = box.scrollTop;
+    this.left = box.scrollLeft;
+    this.redraw();
   }
 
   // How far the items move for a pixel of the box.
@@ -94,17 +119,24 @@ export class Sight {
 
   set(count) {
     this.count = count;
+    if (!this.all) return;
     const height = Math.min(count * Sight.HEIGHT, Sight.MOST);
     this.all.style.height = `${height}px`;
     this.top = Math.max(0, Math.min(this.top, height - this.height));
   }
 
   redraw() {
+    if (this.count === 0) {
+      this.seen.replaceChildren();
+      return;
+    }
     const top = this.top * this.scale;
     const first = Math.max(0, Math.floor(top / Sight.HEIGHT) - 2);
     const last = Math.min(this.count, Math.ceil((top + this.height) / Sight.HEIGHT) + 2);
-    this.seen.style.top = `${this.top - (top - first * Sight.HEIGHT)}px`;
-    this.seen.replaceChildren(...this.draw(first, last));
+    const offset = first * Sight.HEIGHT - top;
+    this.seen.style.top = `${this.isBeside ? offset : this.top + offset}px`;
+    this.seen.style.left = this.isBeside ? `${-this.left}px` : '0';
+    this.seen.replaceChildren(...this.draw(first, last, offset));
   }
 
   // Scrolls until an item is in sight.
@@ -114,5 +146,12 @@ export class Sight {
     if (low >= top && high <= top + this.height) return;
     this.box.scrollTop = low < top ? low / this.scale : (high - this.height) / this.scale + 1;
     this.top = this.box.scrollTop;
+  }
+
+  // The same for what stands so many pixels behind the line's start.
+  revealAcross(x) {
+    if (x >= this.left + 16 && x <= this.left + this.width - 16) return;
+    this.box.scrollLeft = Math.max(0, x - this.width / 2);
+    this.left = this.box.scrollLeft;
   }
 }

@@ -1,68 +1,30 @@
-// The page: a text, its colours and its tokens, and one cursor in all three.
-import { KINDS, decoder, isSupported, load } from './lexer.js';
+// The page: a text in colours, its tokens, and one cursor in both.
+import { Columns } from './columns.js';
+import { whatCounts } from './counts.js';
+import { EXAMPLES } from './examples.js';
+import { decoder, isSupported, load } from './lexer.js';
 import { Lines, Sight } from './lines.js';
+import { fragmentOf, givenBy } from './link.js';
+import { Tokens } from './tokens.js';
+import { compileTypes, dumped } from './types.js';
 
 // In bytes: a longer text is shown, and not edited; of a line, and of a token in the list, no more than these are drawn.
 const EDITABLE = 1 << 20;
 const LONGEST = 2000;
 const LISTED = 120;
-const SAMPLE = `(module
-  ;; adds two numbers
-  (func $add (export "add") (param $a i32) (param i32) (result i32)
-    local.get $a
-    local.get 1
-    i32.add)
-  (@custom "x" (; a (; nested ;) comment ;))
-  (data "caf\\u{e9} \\00" [ ] 0x1.8p3 -1_000)
-  (data "no \\q escape"))
-`;
+// In lines of sixteen bytes.
+const DUMPED = 256;
 const $ = (id) => document.getElementById(id);
 const encoder = new TextEncoder();
 const textOf = (from, to) => decoder.decode(bytes.subarray(from, to));
+const plural = (count, word) => `${count.toLocaleString('en')} ${word}${count === 1 ? '' : 's'}`;
 
-let reader, view, list;
-let bytes, lines, found, message = [], cursor = 0;
+let reader, view, list, columns;
+let bytes, lines, found, tokens, cursor = 0;
+// The tokens that count, where only these are listed.
+let counted = null;
 // The line end that the text area's own stands for, or null where the text area is not in use.
 let lineEnd = '\n';
-
-// ---- tokens
-
-const endOf = (i) => found.rows[2 * i];
-const startOf = (i) => (i > 0 ? endOf(i - 1) : 0);
-const kindOf = (i) => KINDS[found.rows[2 * i + 1]];
-
-// The token that a byte belongs to, or how many there are.
-function tokenAt(offset) {
-  let low = 0, high = found.count;
-  while (low < high) {
-    const middle = (low + high) >>> 1;
-    if (endOf(middle) > offset) high = middle; else low = middle + 1;
-  }
-  return low;
-}
-
-// The token at the cursor, the last one where the text ends with it, or -1.
-function heldToken() {
-  const at = tokenAt(cursor);
-  return at < found.count ? at : found.ending === 'whole' && cursor === bytes.length ? found.count - 1 : -1;
-}
-
-// The parenthesis behind or before the cursor, and the one that it belongs to.
-function pair() {
-  const isParen = (i) => i < found.count && (kindOf(i) === 'LParen' || kindOf(i) === 'RParen');
-  const behind = tokenAt(cursor), before = tokenAt(cursor - 1);
-  const here = isParen(behind) && startOf(behind) === cursor ? behind : cursor > 0 && isParen(before) && endOf(before) === cursor ? before : -1;
-  if (here < 0) return [];
-  const step = kindOf(here) === 'LParen' ? 1 : -1;
-  let depth = 0;
-  for (let i = here; i >= 0 && i < found.count; i += step) {
-    const kind = found.rows[2 * i + 1];
-    if (kind === 4) depth += 1;
-    if (kind === 5) depth -= 1;
-    if (depth === 0) return [here, i];
-  }
-  return [here];
-}
 
 // ---- drawing
 
@@ -79,10 +41,13 @@ function caret() {
   return it;
 }
 
+// Whether the cursor is drawn at a place: the text area has its own.
+const isCaretAt = (place) => lineEnd === null && cursor === place;
+
 function put(parent, className, from, to) {
   if (from >= to) return;
-  if (cursor === from) parent.append(caret());
-  const cut = cursor > from && cursor < to ? cursor : to;
+  if (isCaretAt(from)) parent.append(caret());
+  const cut = lineEnd === null && cursor > from && cursor < to ? cursor : to;
   const it = element('span', className, textOf(from, cut));
   it.dataset.from = from;
   parent.append(it);
@@ -93,7 +58,7 @@ function put(parent, className, from, to) {
 function putFault(parent, to) {
   const at = found.offset;
   const end = Math.min(lines.on(at + 1), to);
-  if (cursor === at && at < to) parent.append(caret());
+  if (isCaretAt(at) && at < to) parent.append(caret());
   const it = element('span', 'fault', textOf(at, end));
   it.id = 'fault';
   it.dataset.from = at;
@@ -103,108 +68,128 @@ function putFault(parent, to) {
   return end;
 }
 
-function drawLine(line, matched) {
+// Of a long line the bytes that are drawn, and where they stand: in the text area those in sight, otherwise those about the cursor.
+function partOf(line, from, to) {
+  if (to - from <= LONGEST) return { from, to };
+  if (lineEnd !== null) return columns.part(bytes, from, to, view.left - view.width / 2, view.left + 1.5 * view.width);
+  const isHere = cursor >= from && cursor < to;
+  const middle = isHere ? cursor : found.ending === 'faulty' && found.line === line ? found.offset : from;
+  const first = lines.back(Math.max(from, Math.min(middle - LONGEST / 2, to - LONGEST)));
+  return { from: first, to: lines.on(Math.min(to, first + LONGEST)) };
+}
+
+// The class of a token: its kind, and how it stands to the cursor or whether it is among those that do not count.
+function classOf(i, held, matched) {
+  const kind = counted && !isListed(i) ? 'skipped' : tokens.kind(i);
+  if (matched.includes(i)) return `${kind} ${matched.length > 1 ? 'match' : 'alone'}`;
+  return i === held ? `${kind} held` : kind;
+}
+
+function drawLine(line, held, matched) {
   const parent = element('div', 'line');
-  let at = lines.start(line);
-  let to = lines.end(line);
-  if (to - at > LONGEST) {
-    // The part about the cursor is drawn.
-    const middle = cursor >= at && cursor < to ? cursor : found.ending === 'faulty' && found.line === line ? found.offset : at;
-    const from = lines.back(Math.max(at, Math.min(middle - LONGEST / 2, to - LONGEST)));
-    if (from > at) parent.append('…');
-    at = from;
-    to = lines.on(Math.min(to, at + LONGEST));
-  }
-  const held = heldToken();
-  for (let i = tokenAt(at); i < found.count && at < to; i += 1) {
-    const end = Math.min(endOf(i), to);
-    const marks = matched.includes(i) ? (matched.length > 1 ? ' match' : ' alone') : i === held ? ' held' : '';
-    put(parent, kindOf(i) + marks, at, end);
+  const part = partOf(line, lines.start(line), lines.end(line));
+  // The browser counts the stops of tabs from the padding's end.
+  if (part.stop > 0) parent.style.paddingLeft = `${part.stop}px`;
+  if (part.beyond > 0) parent.style.textIndent = `${part.beyond}px`;
+  if (lineEnd === null && part.from > lines.start(line)) parent.append('…');
+  let at = part.from;
+  for (let i = tokens.at(at); i < tokens.count && at < part.to; i += 1) {
+    const end = Math.min(tokens.end(i), part.to);
+    put(parent, classOf(i, held, matched), at, end);
     at = end;
   }
-  if (found.ending === 'faulty' && found.line === line && found.offset >= at && (found.offset < to || to === bytes.length)) {
+  if (found.ending === 'faulty' && found.line === line && found.offset >= at && (found.offset < part.to || part.to === bytes.length)) {
     put(parent, 'unread', at, found.offset);
-    at = putFault(parent, to);
+    at = putFault(parent, part.to);
   }
-  put(parent, 'unread', at, to);
-  if (cursor === bytes.length && to === bytes.length && line === lines.count - 1) parent.append(caret());
-  if (to < lines.end(line)) parent.append('…\n');
+  put(parent, 'unread', at, part.to);
+  if (isCaretAt(bytes.length) && line === lines.count - 1) parent.append(caret());
+  if (lineEnd === null && part.to < lines.end(line)) parent.append('…\n');
   return parent;
 }
 
-// The lines of the text, with those of the message behind the fault's.
-function drawView(first, last) {
-  const matched = pair();
-  const drawn = [];
-  const after = message.length > 0 ? found.line : lines.count;
-  for (let i = first; i < last; i += 1) {
-    if (i <= after) drawn.push(drawLine(i, matched));
-    else if (i <= after + message.length) drawn.push(element('div', 'line message', message[i - after - 1].slice(0, 2 * LONGEST)));
-    else drawn.push(drawLine(i - message.length, matched));
-  }
-  return drawn;
+function drawView(first, last, offset) {
+  const held = tokens.held(cursor), matched = tokens.pair(cursor);
+  const rows = Array.from({ length: last - first }, (_, i) => first + i);
+  const numbers = $('numbers').firstElementChild;
+  numbers.style.top = `${offset}px`;
+  numbers.textContent = rows.map((line) => line + 1).join('\n');
+  return rows.map((line) => drawLine(line, held, matched));
 }
 
 const visible = (text) => text.replace(/\r/g, '␍').replace(/\n/g, '↵').replace(/\t/g, '⇥');
 
+// ---- what is listed: all tokens, or those that count
+
+const listedCount = () => (counted ? counted.numbers.length : tokens.count);
+const listed = (place) => (counted ? counted.numbers[place] : place);
+
+// Where a token stands in the list, or the nearest one behind it.
+function placeOf(token) {
+  if (!counted) return token;
+  let low = 0, high = counted.numbers.length;
+  while (low < high) {
+    const middle = (low + high) >>> 1;
+    if (counted.numbers[middle] >= token) high = middle; else low = middle + 1;
+  }
+  return low;
+}
+
+const isListed = (token) => listed(placeOf(token)) === token;
+
 function drawList(first, last) {
-  const held = heldToken();
-  const drawn = [];
-  for (let i = first; i < last; i += 1) {
+  const held = tokens.held(cursor);
+  return Array.from({ length: last - first }, (_, i) => {
+    const token = listed(first + i);
     const option = element('div', '');
     option.setAttribute('role', 'option');
-    option.id = `token-${i}`;
-    option.setAttribute('aria-selected', i === held);
-    option.setAttribute('aria-setsize', found.count);
-    option.setAttribute('aria-posinset', i + 1);
-    const start = startOf(i), end = endOf(i);
+    option.id = `token-${token}`;
+    option.setAttribute('aria-selected', token === held);
+    option.setAttribute('aria-setsize', listedCount());
+    option.setAttribute('aria-posinset', first + i + 1);
+    const start = tokens.start(token), end = tokens.end(token), kind = tokens.kind(token);
     const text = visible(textOf(start, lines.on(Math.min(end, start + LISTED))));
-    option.append(element('span', 'place', `${start}..${end}`), element('span', `kind ${kindOf(i)}`, kindOf(i)), element('span', 'token', text));
-    drawn.push(option);
-  }
-  return drawn;
+    option.append(element('span', 'place', `${start}..${end}`), element('span', `kind ${kind}`, kind), element('span', 'token', text));
+    return option;
+  });
 }
 
 // ---- the cursor
 
-const itemOf = (line) => (message.length > 0 && line > found.line ? line + message.length : line);
-
 // Has the list stand at the cursor's token, or the nearest one.
 function follow() {
-  const held = heldToken();
-  if (found.count > 0) list.reveal(Math.min(tokenAt(cursor), found.count - 1));
-  if (held >= 0) list.box.setAttribute('aria-activedescendant', `token-${held}`);
+  const held = tokens.held(cursor);
+  if (listedCount() > 0) list.reveal(Math.min(placeOf(tokens.at(cursor)), listedCount() - 1));
+  if (held >= 0 && isListed(held)) list.box.setAttribute('aria-activedescendant', `token-${held}`);
   else list.box.removeAttribute('aria-activedescendant');
+  const line = lines.at(cursor);
+  const before = textOf(lines.start(line), cursor);
+  $('place').textContent = `Line ${line + 1}, character ${[...before].length + 1}, byte ${cursor}`;
 }
 
-// Scrolls sideways until the cursor is in sight.
-function revealColumn() {
+// Scrolls the text to the cursor.
+function reveal() {
+  const line = lines.at(cursor);
+  view.reveal(line);
+  if (lineEnd !== null) view.revealAcross(columns.reach(bytes, lines.start(line), cursor, Infinity).x);
+}
+
+// Scrolls sideways to the cursor that is drawn.
+function revealCaret() {
   const left = view.seen.querySelector('.caret')?.offsetLeft;
-  if (left === undefined) return;
-  const { box } = view;
-  if (left < box.scrollLeft + 16 || left > box.scrollLeft + box.clientWidth - 16) box.scrollLeft = Math.max(0, left - box.clientWidth / 2);
-}
-
-// Scrolls the text area to the cursor's line, which its selection alone does not.
-function revealInText() {
-  const area = $('text');
-  const top = lines.at(cursor) * Sight.HEIGHT;
-  if (top < area.scrollTop || top + Sight.HEIGHT > area.scrollTop + area.clientHeight) area.scrollTop = top - area.clientHeight / 2;
+  if (left !== undefined) view.revealAcross(left);
 }
 
 function moveTo(offset, from) {
   cursor = lines.back(offset);
-  view.reveal(itemOf(lines.at(cursor)));
+  if (from !== 'text') reveal();
   view.redraw();
-  revealColumn();
+  revealCaret();
   follow();
   list.redraw();
-  if (from !== 'text' && lineEnd) {
-    const before = textOf(0, cursor);
-    const place = (lineEnd === '\n' ? before : before.replaceAll(lineEnd, '\n')).length;
-    $('text').setSelectionRange(place, place);
-    revealInText();
-  }
+  if (from === 'text' || lineEnd === null) return;
+  const place = textOf(0, cursor).replaceAll(lineEnd, '\n').length;
+  $('text').setSelectionRange(place, place);
 }
 
 function onViewKey(event) {
@@ -226,7 +211,7 @@ function onViewKey(event) {
     Home: () => (event.ctrlKey ? 0 : lines.start(line)),
     End: () => (event.ctrlKey ? bytes.length : last(line)),
   };
-  if (!(event.key in places)) return;
+  if (lineEnd !== null || !(event.key in places)) return;
   event.preventDefault();
   moveTo(places[event.key](), 'view');
 }
@@ -246,44 +231,101 @@ function onViewClick(event) {
 }
 
 function onListKey(event) {
-  const held = Math.min(tokenAt(cursor), found.count);
+  const held = placeOf(Math.min(tokens.at(cursor), tokens.count));
   const page = Math.max(1, Math.floor(list.height / Sight.HEIGHT) - 1);
-  const places = { ArrowUp: held - 1, ArrowDown: held + 1, PageUp: held - page, PageDown: held + page, Home: 0, End: found.count - 1 };
-  if (!(event.key in places) || found.count === 0) return;
+  const last = listedCount() - 1;
+  const places = { ArrowUp: held - 1, ArrowDown: held + 1, PageUp: held - page, PageDown: held + page, Home: 0, End: last };
+  if (!(event.key in places) || last < 0) return;
   event.preventDefault();
-  moveTo(startOf(Math.max(0, Math.min(found.count - 1, places[event.key]))), 'list');
+  moveTo(tokens.start(listed(Math.max(0, Math.min(last, places[event.key])))), 'list');
 }
 
 function onListClick(event) {
   const option = event.target.closest('[role=option]');
-  if (option) moveTo(startOf(Number(option.id.slice('token-'.length))), 'list');
+  if (option) moveTo(tokens.start(Number(option.id.slice('token-'.length))), 'list');
+}
+
+// ---- what is told
+
+// Changes what a screen reader is to hear only where it is another.
+function tell(id, text) {
+  if ($(id).textContent !== text) $(id).textContent = text;
+  $(id).hidden = text === '';
+}
+
+function say(text, isWrong = false) {
+  tell('go', '');
+  tell('said', text);
+  $('state').className = isWrong ? 'wrong' : '';
+}
+
+// The fault's place as its message has it: the column is where the mark stands.
+function sayFault() {
+  const [what, place] = found.message.split('\n');
+  const [line, column] = place.split(':').slice(-2);
+  tell('said', '');
+  tell('go', `Line ${line}, column ${column}: ${what}`);
+}
+
+function sayEnding() {
+  if (found.ending === 'faulty') sayFault();
+  else if (found.ending === 'whole') say('No fault.');
+  else if (found.ending === 'not UTF-8') say(`The text is not UTF-8 from byte ${found.offset} on.`, true);
+  else say(`The text is ${found.ending}.`, true);
+  tell('size', `${plural(tokens.count, 'token')}, ${plural(bytes.length, 'byte')}.`);
+  tell('message', found.ending === 'faulty' ? found.message.split('\n').map((line) => line.slice(0, 2 * LONGEST)).join('\n') : '');
+  document.body.dataset.ending = found.ending;
+}
+
+function sayCounted() {
+  const wrong = counted?.wrong;
+  const more = wrong ? ` Then: ${wrong.what} at byte offset ${wrong.offset}.` : '';
+  tell('counted', counted ? `${plural(listedCount(), 'token')} of ${tokens.count.toLocaleString('en')} count.${more}` : '');
 }
 
 // ---- the text
 
-function tell() {
-  const told = $('told');
-  told.className = found.ending === 'whole' ? '' : 'wrong';
-  const size = `${found.count.toLocaleString('en')} tokens, ${bytes.length.toLocaleString('en')} bytes`;
-  if (found.ending === 'whole') told.textContent = `${size}.`;
-  else if (found.ending === 'faulty') told.textContent = `Line ${found.line + 1}: ${message[0]}. ${size}.`;
-  else if (found.ending === 'not UTF-8') told.textContent = `The text is not UTF-8 from byte ${found.offset} on.`;
-  else told.textContent = `The text is ${found.ending}.`;
-  document.body.dataset.ending = found.ending;
+const registered = () => new Set($('names').value.split(/\s+/).filter(Boolean));
+
+function count() {
+  counted = $('counts').checked ? whatCounts(tokens, bytes, registered()) : null;
+  list.set(listedCount());
+  sayCounted();
 }
 
-// Reads the text of so many bytes in the reader's memory whole, and draws what is in sight of it. What a change of the text costs is
-// measured from its start.
-function show(length, place = () => cursor, start = performance.now()) {
+function showCounts() {
+  count();
+  follow();
+  view.redraw();
+  list.redraw();
+}
+
+// The bytes of a module of types, which is read as the standard has it and under no names.
+function showBytes() {
+  const module = found.ending === 'whole' && !$('allow').checked ? compileTypes(tokens, bytes) : null;
+  $('bytes-part').hidden = !module;
+  if (!module) return;
+  const rest = module.length > 16 * DUMPED ? `, of which the first ${16 * DUMPED} are shown` : '';
+  tell('bytes-size', `The text spells a module of types, whose binary form has ${plural(module.length, 'byte')}${rest}.`);
+  tell('bytes', dumped(module, DUMPED));
+}
+
+// Reads the text of so many bytes in the reader's memory whole.
+function read(length) {
   found = reader.read(length, { allow: $('allow').checked, strict: $('strict').checked });
   bytes = found.bytes;
   lines = new Lines(bytes);
-  message = found.ending === 'faulty' ? found.message.split('\n') : [];
-  cursor = lines.back(place());
-  view.set(lines.count + message.length);
-  list.set(found.count);
-  tell();
-  view.reveal(itemOf(lines.at(cursor)));
+  tokens = new Tokens(found);
+}
+
+// Draws what is in sight of a text that was read. What a change of the text costs is measured from its start.
+function show(place, start) {
+  cursor = lines.back(place);
+  $('numbers').style.width = `${Math.max(3, String(lines.count).length) + 2}ch`;
+  view.set(lines.count);
+  count();
+  sayEnding();
+  showBytes();
   follow();
   view.redraw();
   list.redraw();
@@ -298,20 +340,37 @@ function lineEndOf(text) {
   return returns === feeds && text.split('\r\n').length - 1 === feeds ? '\r\n' : null;
 }
 
+// Why a text is only shown, or nothing.
+function refusal(given) {
+  if (given.length > EDITABLE) return 'A text of more than a megabyte is shown, and not edited.';
+  if (found.ending === 'not UTF-8') return 'Only a text in UTF-8 can be edited here.';
+  return lineEndOf(decoder.decode(given)) ? '' : 'A text with line ends of two kinds is shown, and not edited.';
+}
+
+// Gives the text to the text area, or to the view, which then scrolls and has the focus.
+function lend(given) {
+  const note = refusal(given);
+  const text = note ? '' : decoder.decode(given);
+  lineEnd = note ? null : lineEndOf(text);
+  $('text').hidden = Boolean(note);
+  $('text').value = text;
+  tell('note', note && `${note} Arrow keys, Home, End and the page keys move the cursor, and so does a click.`);
+  const said = { tabindex: '0', role: 'group', 'aria-labelledby': 'text-name', 'aria-describedby': 'note' };
+  for (const [name, value] of Object.entries(said)) if (note) $('view').setAttribute(name, value); else $('view').removeAttribute(name);
+  $('view').ariaHidden = note ? null : 'true';
+  $('view').classList.toggle('fixed', Boolean(note));
+  view.use($(note ? 'view' : 'text'));
+  view.restart();
+}
+
 // A text from elsewhere. It may be edited where the text area can hold it as it is.
 function open(given) {
   const start = performance.now();
   reader.room(given.length).set(given);
-  show(given.length, () => 0, start);
-  const isShort = given.length <= EDITABLE;
-  const isText = found.ending !== 'not UTF-8';
-  const text = isShort && isText ? decoder.decode(given) : '';
-  lineEnd = isShort && isText ? lineEndOf(text) : null;
-  $('text').hidden = !lineEnd;
-  $('text').value = lineEnd ? text : '';
-  $('note').hidden = Boolean(lineEnd);
-  $('note').textContent = !isText ? 'Only a text in UTF-8 can be edited here.' : !isShort ? 'A text of more than a megabyte is shown, and not edited.' : 'A text with line ends of two kinds is shown, and not edited.';
-  if (found.ending === 'faulty') moveTo(found.offset, 'file');
+  read(given.length);
+  lend(given);
+  show(0, start);
+  moveTo(found.ending === 'faulty' ? found.offset : 0, 'file');
 }
 
 // The byte that the text area's place of so many UTF-16 units stands for. A line end is one unit there, CR LF as well.
@@ -331,12 +390,27 @@ function onInput() {
   const text = lineEnd === '\r\n' ? value.replaceAll('\n', lineEnd) : value;
   // A UTF-16 unit has three bytes at most.
   const { written } = encoder.encodeInto(text, reader.room(3 * text.length));
-  show(written, () => byteAt(selectionEnd), start);
+  read(written);
+  show(byteAt(selectionEnd), start);
 }
 
 function onSelect() {
-  if (document.activeElement !== $('text') || !lineEnd) return;
-  moveTo(byteAt($('text').selectionEnd), 'text');
+  if (document.activeElement !== $('text') || lineEnd === null) return;
+  const place = byteAt($('text').selectionEnd);
+  // A change of the text has moved the cursor already.
+  if (place !== cursor) moveTo(place, 'text');
+}
+
+function onFlag() {
+  read(bytes.length);
+  show(cursor, performance.now());
+}
+
+// The press on the fault that is told.
+function goToFault() {
+  moveTo(found.offset, 'told');
+  view.box.focus({ preventScroll: true });
+  view.box.scrollIntoView({ block: 'nearest' });
 }
 
 async function openFile(file) {
@@ -348,39 +422,72 @@ async function openFile(file) {
   } catch (error) {
     // A text that there is no memory for may lie where the one before it lay.
     if (given) open(new Uint8Array());
-    $('told').className = 'wrong';
-    $('told').textContent = `The file could not be read: ${error}`;
+    say(`The file could not be read: ${error}`, true);
   }
 }
 
-async function start() {
-  if (!isSupported()) {
-    $('told').className = 'wrong';
-    $('told').textContent = 'This browser has no 64-bit WebAssembly memory, which the lexer needs.';
-    for (const id of ['file', 'allow', 'strict', 'text']) $(id).disabled = true;
-    return;
+async function share() {
+  const settings = { bytes, allow: $('allow').checked, strict: $('strict').checked, counts: $('counts').checked, names: $('names').value };
+  const fragment = await fragmentOf(settings);
+  if (fragment === null) return tell('shared', 'The text is too long for a link.');
+  history.replaceState(null, '', `#${fragment}`);
+  const isCopied = await navigator.clipboard?.writeText(location.href).then(() => true, () => false);
+  return tell('shared', isCopied ? 'The link is copied.' : 'The link is the address of this page now.');
+}
+
+// Opens what the page's own address carries, and tells whether it does.
+async function openLink() {
+  try {
+    const given = await givenBy(location.hash);
+    if (!given) return false;
+    for (const id of ['allow', 'strict', 'counts']) $(id).checked = given[id];
+    $('names').value = given.names;
+    open(given.bytes);
+    return true;
+  } catch (error) {
+    say(`The link could not be read: ${error}`, true);
+    return false;
   }
-  reader = await load();
-  view = new Sight($('view'), drawView);
-  list = new Sight($('list'), drawList);
+}
+
+const openExample = () => open(encoder.encode(EXAMPLES[$('example').selectedIndex].text));
+
+function listen() {
   $('text').addEventListener('input', onInput);
   document.addEventListener('selectionchange', onSelect);
-  for (const id of ['allow', 'strict']) $(id).addEventListener('change', () => show(bytes.length));
+  for (const id of ['allow', 'strict']) $(id).addEventListener('change', onFlag);
+  $('counts').addEventListener('change', showCounts);
+  $('names').addEventListener('input', showCounts);
+  $('example').addEventListener('change', openExample);
+  $('share').addEventListener('click', share);
+  $('go').addEventListener('click', goToFault);
+  window.addEventListener('hashchange', openLink);
   $('file').addEventListener('change', () => openFile($('file').files[0]));
   document.addEventListener('dragover', (event) => event.preventDefault());
   document.addEventListener('drop', (event) => {
     event.preventDefault();
     openFile(event.dataTransfer.files[0]);
   });
-  view.box.addEventListener('keydown', onViewKey);
-  view.box.addEventListener('click', onViewClick);
-  list.box.addEventListener('keydown', onListKey);
-  list.box.addEventListener('click', onListClick);
-  open(encoder.encode(SAMPLE));
+  $('view').addEventListener('keydown', onViewKey);
+  $('view').addEventListener('click', onViewClick);
+  $('list').addEventListener('keydown', onListKey);
+  $('list').addEventListener('click', onListClick);
+}
+
+async function start() {
+  if (!isSupported()) {
+    say('This browser has no 64-bit WebAssembly memory, which the lexer needs.', true);
+    for (const it of document.querySelectorAll('main input, main select, main button, main textarea')) it.disabled = true;
+    return;
+  }
+  reader = await load();
+  columns = new Columns(getComputedStyle($('text')));
+  view = new Sight([$('text'), $('view')], $('seen'), drawView);
+  list = new Sight([$('list')], $('list').querySelector('.seen'), drawList);
+  $('example').append(...EXAMPLES.map(({ name }) => element('option', '', name)));
+  listen();
+  if (!(await openLink())) openExample();
   document.body.dataset.ready = 'yes';
 }
 
-start().catch((error) => {
-  $('told').className = 'wrong';
-  $('told').textContent = `The lexer could not be loaded: ${error}`;
-});
+start().catch((error) => say(`The lexer could not be loaded: ${error}`, true));

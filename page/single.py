@@ -4,12 +4,14 @@
 usage: single.py FOLDER > wat.html
 """
 import base64
+import hashlib
 import pathlib
 import re
 import sys
 
 folder = pathlib.Path(sys.argv[1])
-SCRIPTS = ["lexer.js", "lines.js", "page.js"]
+# Each behind those that it imports.
+SCRIPTS = ["lexer.js", "lines.js", "columns.js", "tokens.js", "names.js", "counts.js", "types.js", "examples.js", "link.js", "page.js"]
 
 
 def read(name):
@@ -31,6 +33,17 @@ script = replaced(
     "fetch('wat_page.wasm').then((answer) => answer.arrayBuffer())",
     f"Uint8Array.from(atob('{module}'), (it) => it.charCodeAt(0))",
 )
-page = replaced(read("index.html"), '<link rel="stylesheet" href="style.css">', f"<style>\n{read('style.css')}</style>")
-page = replaced(page, '<script type="module" src="page.js"></script>', f'<script type="module">\n{script}</script>')
+script = f"\n{script}"
+style = f"\n{read('style.css')}"
+
+
+def source(text):
+    """The word by which the page's policy lets this text pass."""
+    return f"'sha256-{base64.b64encode(hashlib.sha256(text.encode()).digest()).decode()}'"
+
+
+page = replaced(read("index.html"), '<link rel="stylesheet" href="style.css">', f"<style>{style}</style>")
+page = replaced(page, '<script type="module" src="page.js"></script>', f'<script type="module">{script}</script>')
+page = replaced(page, "script-src 'self'", f"script-src {source(script)}")
+page = replaced(page, "style-src 'self'; connect-src 'self'", f"style-src {source(style)}")
 sys.stdout.write(page)

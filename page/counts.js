@@ -1,0 +1,40 @@
+// Which tokens count: no white space, no comments, and no groups `(@name ..)` whose names are not registered.
+import { decoder } from './lexer.js';
+import { nameOf } from './names.js';
+import { ANNOTATION, OPENING } from './tokens.js';
+
+const AT_SIGN = 64;
+const SHOWN = {};
+
+// What becomes of a parenthesis with `@` directly behind it: it is shown, or one skips to the token behind its group, or something is wrong
+// with it, and where. Where the text's fault takes the place of what follows, one skips all tokens.
+function skip(tokens, bytes, names, i) {
+  const annotation = i + 1;
+  if (annotation === tokens.count) return { behind: Infinity };
+  if (tokens.code(annotation) !== ANNOTATION) return SHOWN;
+  const offset = tokens.start(annotation);
+  const name = nameOf(decoder.decode(bytes.subarray(offset, tokens.end(annotation))));
+  if (name === null) return { wrong: { what: 'malformed UTF-8 encoding of string-based id', offset } };
+  if (name === '') return { wrong: { what: 'empty annotation id', offset } };
+  if (names.has(name)) return SHOWN;
+  const last = tokens.partner(i);
+  if (last < 0 && tokens.isWhole) return { wrong: { what: 'unclosed annotation', offset } };
+  return { behind: last < 0 ? Infinity : last + 1 };
+}
+
+// The numbers of the tokens that count, at most so many; and what is wrong with an annotation where they end before the text.
+export function whatCounts(tokens, bytes, names, most = tokens.count) {
+  const numbers = new Uint32Array(Math.min(most, tokens.count));
+  let count = 0, error = null;
+  for (let i = 0; i < tokens.count && count < most && !error; i += 1) {
+    if (tokens.isBlank(i)) continue;
+    numbers[count] = i;
+    count += 1;
+    if (tokens.code(i) !== OPENING || bytes[tokens.end(i)] !== AT_SIGN) continue;
+    const { behind = i + 1, wrong = null } = skip(tokens, bytes, names, i);
+    if (behind > i + 1 || wrong) count -= 1;
+    i = behind - 1;
+    error = wrong;
+  }
+  return { numbers: numbers.subarray(0, count), wrong: error };
+}

@@ -1,0 +1,66 @@
+// The texts of the menu. The first has no fault.
+export const EXAMPLES = [
+  {
+    name: 'A function',
+    text: `(module
+  ;; adds two numbers, and then one
+  (func $add (export "add") (param $a i32) (param $b i32) (result i32)
+    local.get $a
+    local.get $b
+    i32.add
+    i32.const 1
+    i32.add)
+  (data "caf\\u{e9} \\00")
+  (global $pi f64 (f64.const 0x1.921fb54442d18p+1)))
+`,
+  },
+  {
+    name: 'Types alone, and their bytes',
+    text: `(module
+  ;; a module that holds nothing but function types
+  (type $binary (func (param $a i32) (param $b i32) (result i32)))
+  (type $none (func))
+  (type (func (param i64 f32 f64) (result f64 i64))))
+`,
+  },
+  {
+    name: 'Annotations, of which none is registered',
+    text: `(module
+  (@custom "x" (; a (; nested ;) comment ;) (a group (of) its (own)))
+  (@metadata.code.branch_hint "\\01")
+  (func (@name "f")
+    nop))
+`,
+  },
+  {
+    name: 'Words and numbers',
+    text: `;; numbers
+1 -1_000 0x7f_ff +inf nan nan:0x7f_ffff 0x1.8p3 6.02e23
+;; identifiers, strings and keywords
+$id $"an id in quotes" "caf\\u{e9}" i32.add
+;; words that are reserved
+0$x ][ 1__0
+`,
+  },
+  {
+    name: 'A fault: no such escape',
+    text: `(module
+  (data "no \\q escape")
+  (func))
+`,
+  },
+  {
+    name: 'A fault: a comment that does not end',
+    text: `(module
+  (; it begins here (; and this one ends ;)
+  (func))
+`,
+  },
+  {
+    name: 'A fault: a character that deceives',
+    text: `(module
+  ;; what follows is read from the right: \u202e (func)
+  (func))
+`,
+  },
+];
