@@ -1,7 +1,7 @@
 -- What the readers of numbers inside the lexer answer. No part of the standard.
-use Rattle.std.specs.Prelude.{◌≡◌, ◌||◌, ◌==◌, ◌⊎◌, if◌then◌else◌, ℕ, Bool, List, [], ◌∷◌}
+use Rattle.std.specs.Prelude.{◌≡◌, false, ◌||◌, ◌==◌, ◌⊎◌, if◌then◌else◌, ℕ, Bool, List, [], ◌∷◌}
 use Rattle.wat_lex.specs.grammar.Classes.{Begins, plus, underscore}
-use Rattle.wat_lex.specs.grammar.Numbers.{Digits, is_digit, IntegralPart, Exponent, Tail}
+use Rattle.wat_lex.specs.grammar.Numbers.{Digits, has_underscores, is_digit, IntegralPart, Exponent, Tail}
 
 -- neither a digit nor an underscore comes next
 abbrev pub Stops : Bool → List ℕ → Type 0
@@ -35,3 +35,11 @@ without_plus (c ∷ t) = if c == plus then t else c ∷ t
 -- an exponent or nothing
 abbrev pub EndsFloat : Bool → List ℕ → Type 0
 EndsFloat hex r = (r ≡ []) ⊎ Exponent hex r
+
+-- an exponent without underscores
+abbrev pub PlainExponent : Bool → List ℕ → Type 0
+PlainExponent hex w = Exponent hex w × (has_underscores w ≡ false)
+
+-- what follows a float's first digits, without underscores
+abbrev pub PlainTail : Bool → List ℕ → Type 0
+PlainTail hex w = Tail hex w × (has_underscores w ≡ false)

@@ -1,12 +1,13 @@
 //! The words of numbers.
 ghost use Rattle.std.specs.Prelude.{◌≡◌, ◌≢◌, ◌↔◌, ◌≤◌, ◌++◌, ℕ, List, [], MatchOption, IfSome, IfNone};
 ghost use Rattle.std.specs.Prelude.{IsTrue, codes, length, take};
+ghost use Rattle.std.specs.List.{prefix_len};
 ghost use Rattle.wat_lex.specs.declared.lexer.kinds.TokenKind.{TokenKind};
 ghost use Rattle.wat_lex.specs.grammar.Numbers.{is_digit, is_exponent_letter, sign_of, unsigned};
 ghost use Rattle.wat_lex.specs.grammar.Numbers.{is_negative, has_underscores, Digits, Exponent};
 ghost use Rattle.wat_lex.specs.grammar.Numbers.{Tail, Payload, Number};
 ghost use Rattle.wat_lex.specs.inside.ScannedNumbers.{LongestDigits, NoDigits, OnlyIntegralPart};
-ghost use Rattle.wat_lex.specs.inside.ScannedNumbers.{NoIntegralPart};
+ghost use Rattle.wat_lex.specs.inside.ScannedNumbers.{NoIntegralPart, PlainExponent, PlainTail};
 
 use crate::lexer::kinds::{FloatKind, IntegerKind, Sign, Stride, TokenKind};
 use crate::lexer::scan::classes::{digit_len, hex_digit_len, is_hex_digit};
@@ -181,32 +182,88 @@ fn digits_kind(word: &[u8]) -> Option<TokenKind>
     kind_by_rest(word, hex, rest)
 }
 
-/// The kind of the word of so many bytes at the start, where that is of hexadecimal digits alone
-/// behind `0x`, with a sign or none.
+/// How many digits stand at the start.
+#[inline(always)]
+fn digits_len(text: &[u8], hex: bool, stride: Stride) -> usize
+    ensures { result ≡ prefix_len (is_digit hex) text.now }
+{
+    if hex {
+        hex_digit_len(text, stride)
+    } else {
+        digit_len(text, stride)
+    }
+}
+
+/// Whether the first so many bytes are an exponent without underscores.
+#[inline(always)]
+fn is_plain_exponent(text: &[u8], len: usize, hex: bool, stride: Stride) -> bool
+    requires { len ≤ length text.now }
+    ensures { IsTrue result → PlainExponent hex (take len text.now) }
+{
+    let [letter, behind @ ..] = &text[..len] else {
+        return false;
+    };
+    if !is_exponent_letter(*letter, hex) {
+        return false;
+    }
+    let digits = unsigned(behind).len();
+    digits != 0 && digit_len(&text[len - digits..], stride) >= digits
+}
+
+/// Whether a float's first digits can be followed by the first so many bytes, and these have no
+/// underscores.
+#[inline(never)]
+fn is_plain_tail(text: &[u8], len: usize, hex: bool, stride: Stride) -> bool
+    requires { len ≤ length text.now }
+    ensures { IsTrue result → PlainTail hex (take len text.now) }
+{
+    let [b'.', ..] = &text[..len] else {
+        return is_plain_exponent(text, len, hex, stride);
+    };
+    let digits = digits_len(&text[1..], hex, stride);
+    if digits >= len - 1 {
+        return true;
+    }
+    is_plain_exponent(&text[1 + digits..], len - 1 - digits, hex, stride)
+}
+
+/// The kind of the word of so many bytes at the start, where that is a hexadecimal number without
+/// underscores.
 #[inline(always)]
 fn plain_hexadecimal(text: &[u8], len: usize, stride: Stride) -> Option<TokenKind>
     requires { len ≤ length text.now }
     ensures { IfSome result (λ kind. Number (take len text.now) kind) }
 {
     let word = &text[..len];
-    let Some(digits) = after(unsigned(word), b"0x".as_slice()) else {
+    let Some(behind) = after(unsigned(word), b"0x".as_slice()) else {
         return None;
     };
-    let number = digits.len();
-    if number == 0 || hex_digit_len(&text[len - number..], stride) < number {
+    let number = behind.len();
+    if number == 0 {
         return None;
     }
-    Some(TokenKind::Integer(IntegerKind {
-        sign: sign_of(word),
-        has_underscores: false,
-        hex: true,
-    }))
+    let start = len - number;
+    let digits = hex_digit_len(&text[start..], stride);
+    if digits >= number {
+        return Some(TokenKind::Integer(IntegerKind {
+            sign: sign_of(word),
+            has_underscores: false,
+            hex: true,
+        }));
+    }
+    if digits != 0 && is_plain_tail(&text[start + digits..], number - digits, true, stride) {
+        return Some(TokenKind::Float(FloatKind::Normal {
+            has_underscores: false,
+            hex: true,
+        }));
+    }
+    None
 }
 
-/// The kind of the word of so many bytes at the start, where that is of digits alone, with a sign or
-/// none, and with `0x` where they are hexadecimal; most numbers by far are so.
+/// The kind of the word of so many bytes at the start, where that is a number without underscores
+/// that begins with a digit behind a sign or none; most numbers by far are so.
 #[inline(always)]
-pub fn plain_integer(text: &[u8], len: usize, stride: Stride) -> Option<TokenKind>
+pub fn plain_number(text: &[u8], len: usize, stride: Stride) -> Option<TokenKind>
     requires { len ≤ length text.now }
     ensures { IfSome result (λ kind. Number (take len text.now) kind) }
 {
@@ -215,20 +272,29 @@ pub fn plain_integer(text: &[u8], len: usize, stride: Stride) -> Option<TokenKin
     if number == 0 {
         return None;
     }
-    let digits = digit_len(&text[len - number..], stride);
-    if digits < number {
-        // Before the `x` of a hexadecimal number stands one digit.
-        return if digits == 1 {
-            plain_hexadecimal(text, len, stride)
-        } else {
-            None
-        };
+    let start = len - number;
+    let digits = digit_len(&text[start..], stride);
+    if digits >= number {
+        return Some(TokenKind::Integer(IntegerKind {
+            sign: sign_of(word),
+            has_underscores: false,
+            hex: false,
+        }));
     }
-    Some(TokenKind::Integer(IntegerKind {
-        sign: sign_of(word),
-        has_underscores: false,
-        hex: false,
-    }))
+    if digits == 0 {
+        return None;
+    }
+    // Before the `x` of a hexadecimal number stands one digit.
+    if text[start + digits] == b'x' {
+        return plain_hexadecimal(text, len, stride);
+    }
+    if is_plain_tail(&text[start + digits..], number - digits, false, stride) {
+        return Some(TokenKind::Float(FloatKind::Normal {
+            has_underscores: false,
+            hex: false,
+        }));
+    }
+    None
 }
 
 /// The kind of a number's word.

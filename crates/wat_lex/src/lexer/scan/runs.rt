@@ -11,7 +11,7 @@ ghost use Rattle.wat_lex.specs.grammar.Classes.{is_idchar, is_run_char};
 use crate::lexer::faults::LexFault;
 use crate::lexer::kinds::{Outline, Shape, Stride, TokenKind};
 use crate::lexer::scan::classes::idchar_len;
-use crate::lexer::scan::numbers::{classify, plain_integer};
+use crate::lexer::scan::numbers::{classify, plain_number};
 use crate::lexer::scan::strings::string_len;
 use crate::lexer::settings::Settings;
 
@@ -131,7 +131,7 @@ pub fn word_kind(text: &[u8], len: usize, stride: Stride) -> TokenKind
     requires { len ≤ length text.now }
     ensures { WordKind (take len text.now) result }
 {
-    if let Some(kind) = plain_integer(text, len, stride) {
+    if let Some(kind) = plain_number(text, len, stride) {
         return kind;
     }
     let word = &text[..len];
