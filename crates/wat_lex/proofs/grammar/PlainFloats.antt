@@ -1,13 +1,15 @@
 -- Digits with what may follow a float's first digits are a float, and have no underscores where that has none.
 use Rattle.std.proofs.Common.{◌≡◌, ◌≢◌, ◌≤◌, ◌<◌, ◌+◌, ◌-◌, ℕ, zero, suc, List, [], ◌∷◌, length, take, drop, get_or, refl, arith, ap, sym, ◌∙◌, subst, Bool, true, false, cond, ◌||◌, inl, inr}
+use Rattle.std.specs.Prelude.{Option, Some, None, IfSome}
+use Rattle.wat_lex.specs.declared.lexer.kinds.TokenKind.{TokenKind}
 use Rattle.std.specs.Char.{is_ascii_digit}
 use Rattle.std.specs.List.{prefix_len}
 use Rattle.std.proofs.lemmas.List.{drop-drop, drop-take, length-drop, length-take-le}
 use Rattle.std.proofs.lemmas.Bool.{cases_Bool, ne_eqb}
-use Rattle.wat_lex.specs.grammar.Numbers.{Digits, last, next, is_digit, is_exponent_letter, exponent, Tail, fraction, both, bare, filled, unsigned, has_underscores}
-use Rattle.wat_lex.specs.inside.ScannedNumbers.{PlainExponent, PlainTail}
+use Rattle.wat_lex.specs.grammar.Numbers.{Digits, last, next, is_digit, is_exponent_letter, exponent, Tail, fraction, both, bare, filled, unsigned, has_underscores, Number, Decimals, decimals, decimal, hexadecimal}
+use Rattle.wat_lex.specs.inside.ScannedNumbers.{IsPlainFloat, PlainDecimals, PlainExponent, PlainTail}
 use Rattle.wat_lex.proofs.grammar.Digits.{underscore_no_digit}
-use Rattle.wat_lex.proofs.grammar.PlainIntegers.{digits_alone, digits_of, digits_of_word, digits_no_underscore, no_underscore, taken_pass, unsigned_is_shorter}
+use Rattle.wat_lex.proofs.grammar.PlainIntegers.{digits_alone, digits_of, digits_of_word, digits_no_underscore, no_underscore, signed_no_underscore, taken_pass, unsigned_is_shorter}
 use Rattle.wat_lex.proofs.grammar.Tails.{letter_no_underscore}
 
 -- a letter, a sign or none, and digits alone
@@ -116,24 +118,32 @@ module _ (hex : Bool) (text w : List ℕ) (len : ℕ) (n : ℕ) (at : w ≡ 46 �
       ap (λ k. drop n (take k behind)) (sym parts) ∙ drop-take n (len - 1 - n) behind ∙ ap (take (len - 1 - n)) (drop-drop n 1 text) in
       subst (PlainTail hex) (sym at) (tail_of_parts hex (take (len - 1) behind) n (omega (arith, digits, same)) (subst (PlainExponent hex) (sym there) x))
 
--- digits at a place of the text before which the word's sign or `0x` stands, and what may follow them
-module _ (hex : Bool) (text u : List ℕ) (start number n : ℕ) (at : u ≡ take number (drop start text)) (digits : n ≡ prefix_len (is_digit hex) (drop start text)) (some : 0 < n) (fewer : n < number) (tail : PlainTail hex (take (number - n) (drop (start + n) text))) where
-  same : prefix_len (is_digit hex) u ≡ n
-  same = ap (prefix_len (is_digit hex)) at ∙ taken_prefix (is_digit hex) number (drop start text) (omega (arith, digits, fewer)) ∙ sym digits
+-- first digits of so many bytes of a text, and what follows them
+pub decimals_of : (hex : Bool) (text : List ℕ) (len n : ℕ) → n ≡ prefix_len (is_digit hex) text → n ≢ 0 → n < len → PlainTail hex (take (len - n) (drop n text)) → PlainDecimals hex (take len text)
+decimals_of hex text len n digits some fewer tail =
+    let w = take len text in
+    let same : prefix_len (is_digit hex) w ≡ n = taken_prefix (is_digit hex) len text (omega (arith, digits, fewer)) ∙ sym digits in
+    let parts : n + (len - n) ≡ len = omega arith in
+    let there : take (len - n) (drop n text) ≡ drop (prefix_len (is_digit hex) w) w =
+    sym (ap (λ k. drop k w) same ∙ ap (λ k. drop n (take k text)) (sym parts) ∙ drop-take n (len - n) text) in (
+      drop (prefix_len (is_digit hex) w) w,
+      digits_then hex w (omega (arith, same, some)),
+      subst (Tail hex) there tail.0,
+      underscore_then hex w (subst (λ x. has_underscores x ≡ false) there tail.1),
+    )
 
-  there : take (number - n) (drop (start + n) text) ≡ drop (prefix_len (is_digit hex) u) u
-  there =
-      let parts : n + (number - n) ≡ number = omega arith in
-      sym (
-      ap (λ k. drop k u) same ∙ ap (drop n) at ∙ ap (λ k. drop n (take k (drop start text))) (sym parts) ∙ drop-take n (number - n) (drop start text)
-      ∙ ap (take (number - n)) (drop-drop n start text)
-      )
+-- a word of such parts behind a sign or none is a float, and so is one of hexadecimal parts behind `0x`
+pub decimal_float : (w : List ℕ) (kind : TokenKind) → IsPlainFloat false (unsigned w) kind → Number w kind
+decimal_float w kind (e, (t, d, h, u)) = subst (Number w) (sym e) (decimals (decimal d) h, sym (signed_no_underscore w u))
 
-  pub first_digits : Digits hex u (drop (prefix_len (is_digit hex) u) u)
-  first_digits = digits_then hex u (omega (arith, same, some))
+pub hexadecimal_float : (w ds : List ℕ) (kind : TokenKind) → unsigned w ≡ 48 ∷ 120 ∷ ds → IsPlainFloat true ds kind → Number w kind
+hexadecimal_float w ds kind cut (e, (t, d, h, u)) =
+    subst (Number w) (sym e) (subst (Decimals true) (sym cut) (decimals (hexadecimal d) h), sym (signed_no_underscore w (ap has_underscores cut ∙ u)))
 
-  pub then_tail : Tail hex (drop (prefix_len (is_digit hex) u) u)
-  then_tail = subst (Tail hex) there tail.0
+pub if_decimal : (w u : List ℕ) (found : Option TokenKind) → unsigned w ≡ u → IfSome found (IsPlainFloat false u) → IfSome found (Number w)
+if_decimal w u None e h = tt
+if_decimal w u (Some kind) e h = decimal_float w kind (subst (λ x. IsPlainFloat false x kind) (sym e) h)
 
-  pub float_no_underscore : has_underscores u ≡ false
-  float_no_underscore = underscore_then hex u (subst (λ x. has_underscores x ≡ false) there tail.1)
+pub if_hexadecimal : (w ds : List ℕ) (found : Option TokenKind) → unsigned w ≡ 48 ∷ 120 ∷ ds → IfSome found (IsPlainFloat true ds) → IfSome found (Number w)
+if_hexadecimal w ds None e h = tt
+if_hexadecimal w ds (Some kind) e h = hexadecimal_float w ds kind e h

@@ -107,17 +107,19 @@ pub digits_of_word : (text : List ℕ) (len n : ℕ) → len ≤ length text →
 digits_of_word text len n within e fits h =
     subst (λ x. prefix_len is_ascii_digit x ≡ length x) (sym (unsigned_stands text len n within e fits)) (taken_pass is_ascii_digit n (drop (len - n) text) h)
 
--- the same of what stands behind the first two of its bytes
-pub behind_two_stands : (text : List ℕ) (len n : ℕ) (ds : List ℕ) → len ≤ length text → unsigned (take len text) ≡ 48 ∷ 120 ∷ ds → n ≡ length ds → ds ≡ take n (drop (len - n) text)
-behind_two_stands text len n ds within cut e =
+-- the same of what stands behind the first so many of its bytes
+pub end_stands : (text : List ℕ) (len n k : ℕ) → len ≤ length text → k + n ≡ length (unsigned (take len text)) → drop k (unsigned (take len text)) ≡ take n (drop (len - n) text)
+end_stands text len n k within e =
     let w = take len text in
     let long : length w ≡ len = length-take-le len text within in
-    let more : length (unsigned w) ≡ 2 + length ds = omega (arith, ap length cut) in
     let fits = unsigned_is_shorter w in
-    let first : length w - length (unsigned w) + 2 ≡ len - n = omega (arith, long, more, fits, e) in
-    let parts : len - n + n ≡ len = omega (arith, long, more, fits, e) in
-    ap (drop 2) (sym cut ∙ unsigned_is_end w) ∙ drop-drop 2 (length w - length (unsigned w)) w ∙ ap (λ k. drop k w) first
+    let first : length w - length (unsigned w) + k ≡ len - n = omega (arith, long, fits, e) in
+    let parts : len - n + n ≡ len = omega (arith, long, fits, e) in
+    ap (drop k) (unsigned_is_end w) ∙ drop-drop k (length w - length (unsigned w)) w ∙ ap (λ k. drop k w) first
     ∙ ap (λ k. drop (len - n) (take k text)) (sym parts) ∙ drop-take (len - n) n text
+
+pub behind_two_stands : (text : List ℕ) (len n : ℕ) (ds : List ℕ) → len ≤ length text → unsigned (take len text) ≡ 48 ∷ 120 ∷ ds → n ≡ length ds → ds ≡ take n (drop (len - n) text)
+behind_two_stands text len n ds within cut e = sym (ap (drop 2) cut) ∙ end_stands text len n 2 within (omega (arith, e, ap length cut))
 
 pub hex_digits_of_word : (text : List ℕ) (len n : ℕ) (ds : List ℕ) → len ≤ length text → unsigned (take len text) ≡ 48 ∷ 120 ∷ ds → n ≡ length ds → n ≤ prefix_len is_hex (drop (len - n) text) → prefix_len is_hex ds ≡ length ds
 hex_digits_of_word text len n ds within cut e h =

@@ -7,7 +7,9 @@ ghost use Rattle.wat_lex.specs.grammar.Numbers.{is_digit, is_exponent_letter, si
 ghost use Rattle.wat_lex.specs.grammar.Numbers.{is_negative, has_underscores, Digits, Exponent};
 ghost use Rattle.wat_lex.specs.grammar.Numbers.{Tail, Payload, Number};
 ghost use Rattle.wat_lex.specs.inside.ScannedNumbers.{LongestDigits, NoDigits, OnlyIntegralPart};
-ghost use Rattle.wat_lex.specs.inside.ScannedNumbers.{NoIntegralPart, PlainExponent, PlainTail};
+ghost use Rattle.wat_lex.specs.inside.ScannedNumbers.{NoIntegralPart};
+ghost use Rattle.wat_lex.specs.inside.ScannedNumbers.{IsPlainFloat, PlainDecimals, PlainExponent};
+ghost use Rattle.wat_lex.specs.inside.ScannedNumbers.{PlainTail};
 
 use crate::lexer::kinds::{FloatKind, IntegerKind, Sign, Stride, TokenKind};
 use crate::lexer::scan::classes::{digit_len, hex_digit_len, is_hex_digit};
@@ -210,9 +212,8 @@ fn is_plain_exponent(text: &[u8], len: usize, hex: bool, stride: Stride) -> bool
     digits != 0 && digit_len(&text[len - digits..], stride) >= digits
 }
 
-/// Whether a float's first digits can be followed by the first so many bytes, and these have no
-/// underscores.
-#[inline(never)]
+/// Whether the first so many bytes can follow a float's first digits and have no underscores.
+#[inline(always)]
 fn is_plain_tail(text: &[u8], len: usize, hex: bool, stride: Stride) -> bool
     requires { len ≤ length text.now }
     ensures { IsTrue result → PlainTail hex (take len text.now) }
@@ -227,43 +228,99 @@ fn is_plain_tail(text: &[u8], len: usize, hex: bool, stride: Stride) -> bool
     is_plain_exponent(&text[1 + digits..], len - 1 - digits, hex, stride)
 }
 
-/// The kind of the word of so many bytes at the start, where that is a hexadecimal number without
+/// Whether the first so many bytes are a float's first digits and what follows them, without
 /// underscores.
+#[inline(never)]
+fn is_plain_decimals(text: &[u8], len: usize, hex: bool, stride: Stride) -> bool
+    requires { len ≤ length text.now }
+    ensures { IsTrue result → PlainDecimals hex (take len text.now) }
+{
+    let digits = digits_len(text, hex, stride);
+    if digits == 0 || digits >= len {
+        return false;
+    }
+    is_plain_tail(&text[digits..], len - digits, hex, stride)
+}
+
+/// The kind of a float of these first digits and what follows them, if it has no underscores.
+#[inline(always)]
+fn plain_decimals(text: &[u8], len: usize, hex: bool, stride: Stride) -> Option<TokenKind>
+    requires { len ≤ length text.now }
+    ensures { IfSome result (IsPlainFloat hex (take len text.now)) }
+{
+    if !is_plain_decimals(text, len, hex, stride) {
+        return None;
+    }
+    Some(TokenKind::Float(FloatKind::Normal {
+        has_underscores: false,
+        hex,
+    }))
+}
+
+/// The kind of the word of so many bytes at the start, where that is `nan:0x` and digits without
+/// underscores, with a sign or none.
+#[inline(always)]
+fn plain_payload(text: &[u8], len: usize, stride: Stride) -> Option<TokenKind>
+    requires { len ≤ length text.now }
+    ensures { IfSome result (λ kind. Number (take len text.now) kind) }
+{
+    let word = &text[..len];
+    let Some(payload) = after(unsigned(word), b"nan:0x".as_slice()) else {
+        return None;
+    };
+    let number = payload.len();
+    if number == 0 || hex_digit_len(&text[len - number..], stride) < number {
+        return None;
+    }
+    Some(TokenKind::Float(FloatKind::NanVal {
+        negative: is_negative(word),
+        has_underscores: false,
+    }))
+}
+
+/// The kind of the word of so many bytes at the start, where that is a float without underscores.
+#[inline(always)]
+pub fn plain_float(text: &[u8], len: usize, stride: Stride) -> Option<TokenKind>
+    requires { len ≤ length text.now }
+    ensures { IfSome result (λ kind. Number (take len text.now) kind) }
+{
+    let number = unsigned(&text[..len]);
+    if let [b'n', ..] = number {
+        return plain_payload(text, len, stride);
+    }
+    let digits = number.len();
+    match after(number, b"0x".as_slice()) {
+        Some(behind) => plain_decimals(&text[len - behind.len()..], behind.len(), true, stride),
+        None => plain_decimals(&text[len - digits..], digits, false, stride),
+    }
+}
+
+/// The kind of the word of so many bytes at the start, where that is of hexadecimal digits alone
+/// behind `0x`, with a sign or none.
 #[inline(always)]
 fn plain_hexadecimal(text: &[u8], len: usize, stride: Stride) -> Option<TokenKind>
     requires { len ≤ length text.now }
     ensures { IfSome result (λ kind. Number (take len text.now) kind) }
 {
     let word = &text[..len];
-    let Some(behind) = after(unsigned(word), b"0x".as_slice()) else {
+    let Some(digits) = after(unsigned(word), b"0x".as_slice()) else {
         return None;
     };
-    let number = behind.len();
-    if number == 0 {
+    let number = digits.len();
+    if number == 0 || hex_digit_len(&text[len - number..], stride) < number {
         return None;
     }
-    let start = len - number;
-    let digits = hex_digit_len(&text[start..], stride);
-    if digits >= number {
-        return Some(TokenKind::Integer(IntegerKind {
-            sign: sign_of(word),
-            has_underscores: false,
-            hex: true,
-        }));
-    }
-    if digits != 0 && is_plain_tail(&text[start + digits..], number - digits, true, stride) {
-        return Some(TokenKind::Float(FloatKind::Normal {
-            has_underscores: false,
-            hex: true,
-        }));
-    }
-    None
+    Some(TokenKind::Integer(IntegerKind {
+        sign: sign_of(word),
+        has_underscores: false,
+        hex: true,
+    }))
 }
 
-/// The kind of the word of so many bytes at the start, where that is a number without underscores
-/// that begins with a digit behind a sign or none; most numbers by far are so.
+/// The kind of the word of so many bytes at the start, where that is of digits alone, with a sign or
+/// none, and with `0x` where they are hexadecimal; most numbers by far are so.
 #[inline(always)]
-pub fn plain_number(text: &[u8], len: usize, stride: Stride) -> Option<TokenKind>
+pub fn plain_integer(text: &[u8], len: usize, stride: Stride) -> Option<TokenKind>
     requires { len ≤ length text.now }
     ensures { IfSome result (λ kind. Number (take len text.now) kind) }
 {
@@ -272,29 +329,20 @@ pub fn plain_number(text: &[u8], len: usize, stride: Stride) -> Option<TokenKind
     if number == 0 {
         return None;
     }
-    let start = len - number;
-    let digits = digit_len(&text[start..], stride);
-    if digits >= number {
-        return Some(TokenKind::Integer(IntegerKind {
-            sign: sign_of(word),
-            has_underscores: false,
-            hex: false,
-        }));
+    let digits = digit_len(&text[len - number..], stride);
+    if digits < number {
+        // Before the `x` of a hexadecimal number stands one digit.
+        return if digits == 1 {
+            plain_hexadecimal(text, len, stride)
+        } else {
+            None
+        };
     }
-    if digits == 0 {
-        return None;
-    }
-    // Before the `x` of a hexadecimal number stands one digit.
-    if text[start + digits] == b'x' {
-        return plain_hexadecimal(text, len, stride);
-    }
-    if is_plain_tail(&text[start + digits..], number - digits, false, stride) {
-        return Some(TokenKind::Float(FloatKind::Normal {
-            has_underscores: false,
-            hex: false,
-        }));
-    }
-    None
+    Some(TokenKind::Integer(IntegerKind {
+        sign: sign_of(word),
+        has_underscores: false,
+        hex: false,
+    }))
 }
 
 /// The kind of a number's word.
