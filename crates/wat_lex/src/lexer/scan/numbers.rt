@@ -230,7 +230,7 @@ fn is_plain_tail(text: &[u8], len: usize, hex: bool, stride: Stride) -> bool
 
 /// Whether the first so many bytes are a float's first digits and what follows them, without
 /// underscores.
-#[inline(never)]
+#[inline(always)]
 fn is_plain_decimals(text: &[u8], len: usize, hex: bool, stride: Stride) -> bool
     requires { len ≤ length text.now }
     ensures { IsTrue result → PlainDecimals hex (take len text.now) }
@@ -285,10 +285,12 @@ pub fn plain_float(text: &[u8], len: usize, stride: Stride) -> Option<TokenKind>
     ensures { IfSome result (λ kind. Number (take len text.now) kind) }
 {
     let number = unsigned(&text[..len]);
-    if let [b'n', ..] = number {
-        return plain_payload(text, len, stride);
-    }
     let digits = number.len();
+    match number {
+        [b'0'..=b'9', ..] => {}
+        [b'n', ..] => return plain_payload(text, len, stride),
+        _ => return None,
+    }
     match after(number, b"0x".as_slice()) {
         Some(behind) => plain_decimals(&text[len - behind.len()..], behind.len(), true, stride),
         None => plain_decimals(&text[len - digits..], digits, false, stride),
@@ -346,6 +348,7 @@ pub fn plain_integer(text: &[u8], len: usize, stride: Stride) -> Option<TokenKin
 }
 
 /// The kind of a number's word.
+#[inline(never)]
 pub fn classify(word: &[u8]) -> Option<TokenKind>
     ensures some { IfSome result (λ kind. Number word.now kind) }
     ensures none { IfNone result ((kind : TokenKind) → Number word.now kind → ⊥) }

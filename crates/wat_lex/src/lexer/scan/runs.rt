@@ -10,7 +10,7 @@ ghost use Rattle.wat_lex.specs.grammar.Classes.{is_idchar, is_run_char};
 ghost use Rattle.wat_lex.specs.declared.lexer.kinds.TokenKind.TheVariants.{Keyword};
 
 use crate::lexer::faults::LexFault;
-use crate::lexer::kinds::{Outline, Shape, Stride, TokenKind};
+use crate::lexer::kinds::{FloatKind, Outline, Shape, Stride, TokenKind};
 use crate::lexer::scan::classes::idchar_len;
 use crate::lexer::scan::numbers::{classify, plain_float, plain_integer};
 use crate::lexer::scan::strings::string_len;
@@ -145,16 +145,29 @@ fn other_kind(text: &[u8], len: usize, stride: Stride) -> TokenKind
     requires { len ≤ length text.now }
     ensures { WordKind (take len text.now) result }
 {
+    if let Some(kind) = plain_float(text, len, stride) {
+        return kind;
+    }
+    let word = &text[..len];
+    match classify(word) {
+        Some(kind) => kind,
+        None => kind_by_first(word),
+    }
+}
+
+/// The same of a word that mostly begins with a letter.
+#[inline(never)]
+fn letters_kind(text: &[u8], len: usize, stride: Stride) -> TokenKind
+    requires { len ≤ length text.now }
+    ensures { WordKind (take len text.now) result }
+{
     let word = &text[..len];
     if is_surely_keyword(word) {
         return TokenKind::Keyword;
     }
-    if let Some(kind) = plain_float(text, len, stride) {
-        return kind;
-    }
-    match classify(word) {
-        Some(kind) => kind,
-        None => kind_by_first(word),
+    match word {
+        b"inf" => TokenKind::Float(FloatKind::Inf { negative: false }),
+        _ => other_kind(text, len, stride),
     }
 }
 
@@ -165,7 +178,7 @@ pub fn word_kind(text: &[u8], len: usize, stride: Stride) -> TokenKind
     ensures { WordKind (take len text.now) result }
 {
     if let [b'a'..=b'z', ..] = &text[..len] {
-        return other_kind(text, len, stride);
+        return letters_kind(text, len, stride);
     }
     match plain_integer(text, len, stride) {
         Some(kind) => kind,
