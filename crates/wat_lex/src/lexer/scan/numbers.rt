@@ -268,8 +268,8 @@ fn plain_payload(text: &[u8], len: usize, stride: Stride) -> Option<TokenKind>
     let Some(payload) = after(unsigned(word), b"nan:0x".as_slice()) else {
         return None;
     };
-    let number = payload.len();
-    if number == 0 || hex_digit_len(&text[len - number..], stride) < number {
+    let digits = payload.len();
+    if digits == 0 || hex_digit_len(&text[len - digits..], stride) < digits {
         return None;
     }
     Some(TokenKind::Float(FloatKind::NanVal {

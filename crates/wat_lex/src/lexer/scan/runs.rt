@@ -180,8 +180,8 @@ pub fn word_kind(text: &[u8], len: usize, stride: Stride) -> TokenKind
     if let [b'a'..=b'z', ..] = &text[..len] {
         return letters_kind(text, len, stride);
     }
-    match plain_integer(text, len, stride) {
-        Some(kind) => kind,
-        None => other_kind(text, len, stride),
+    if let Some(kind) = plain_integer(text, len, stride) {
+        return kind;
     }
+    other_kind(text, len, stride)
 }
