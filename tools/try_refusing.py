@@ -83,7 +83,7 @@ TURNS = [
         (PARSER + "parser/cursor.rt", "    pub fn float(", 1, ERROR, "take-float"),
         (PARSER + "parser.rt", "    pub fn error(", 1, REPORT, "parser-error"),
         (PARSER + "parser.rt", "    pub fn error_at(", 1, REPORT, "parser-error-at"),
-        (PARSER + "parser/lookahead.rt", "    pub fn peek<", 1, ERROR, "lookahead-peek"),
+        (PARSER + "parser/lookahead.rt", "    pub fn peek<", 1, ERROR, "free-lookahead-peek"),
         (PARSER + "parser/lookahead.rt", "    pub fn error(", 1, REPORT, "lookahead-none"),
         (PARSER + "parser.rt", "    pub fn register_annotation(", 1, ERROR, "register"),
         (PARSER + "parser/calls.rt", "pub fn replay<", 1, ALLOC, "replay"),

@@ -8,6 +8,7 @@ pub mod Digits
 pub mod Tails
 pub mod NumberKinds
 pub mod NumberBegins
+pub mod PlainFloats
 pub mod PlainIntegers
 pub mod Looser
 pub mod OneString

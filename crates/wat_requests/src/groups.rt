@@ -160,19 +160,39 @@ fn expected_one(
     Ok(ending.with_state(is_at(&parser, 0)))
 }
 
-/// A look that finds nothing keeps the type. One that is refused leaves those that were kept.
-fn missed(run: &mut Run<'_>) -> Result<Ending, Error> {
+/// Looks that find nothing keep the types, four of them without memory.
+fn four_missed(run: &mut Run<'_>) -> Result<Ending, Error> {
     let buffer = buffer_of(run.alloc(), "x")?;
     let parser = buffer.parser();
     let mut lookahead = parser.lookahead1();
-    let result = lookahead.peek::<u32>();
+    let three = peek_at(&mut lookahead, 3);
+    let fourth = lookahead.peek::<u32>();
+    run.call_has_ended();
+    let is_kept = three.is_ok() && is_at(lookahead.parser(), 0);
+    let error = lookahead.error();
+    let message = "unexpected token, expected one of: u32, an identifier, left paren, u32";
+    let is_told = error.is_out_of_memory()
+        || run.refusal(&error, Expected::Refusal(message, 0)) != Ending::Wrong;
+    let ending = run.ending(&fourth, Expected::Value("false"));
+    Ok(ending.with_state(is_kept && is_told))
+}
+
+/// The look behind four others keeps the type in memory. One that is refused leaves those that were
+/// kept.
+fn fifth_missed(run: &mut Run<'_>) -> Result<Ending, Error> {
+    let buffer = buffer_of(run.alloc(), "x")?;
+    let parser = buffer.parser();
+    let mut lookahead = parser.lookahead1();
+    peek_at(&mut lookahead, 3)?;
+    lookahead.peek::<u32>()?;
+    let result = lookahead.peek::<Id>();
     run.call_has_ended();
     let is_kept = is_at(lookahead.parser(), 0);
     let error = lookahead.error();
     let message = if result.is_ok() {
-        "unexpected token, expected u32"
+        "unexpected token, expected one of: u32, an identifier, left paren, u32, an identifier"
     } else {
-        "unexpected token"
+        "unexpected token, expected one of: u32, an identifier, left paren, u32"
     };
     let is_told = run.refusal(&error, Expected::Refusal(message, 0)) != Ending::Wrong;
     let ending = run.ending(&result, Expected::Value("false"));
@@ -180,8 +200,12 @@ fn missed(run: &mut Run<'_>) -> Result<Ending, Error> {
 }
 
 pub fn lookaheads(run: &mut Run<'_>) -> io::Result<()> {
+    if run.is_asked("free-lookahead-peek") {
+        let ended = four_missed(run);
+        run.report("free-lookahead-peek", ended)?;
+    }
     if run.is_asked("lookahead-peek") {
-        let ended = missed(run);
+        let ended = fifth_missed(run);
         run.report("lookahead-peek", ended)?;
     }
     let rows = [

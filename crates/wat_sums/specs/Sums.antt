@@ -5,7 +5,7 @@ use Rattle.wat_lexer_parser.specs.lemmas.ManyLaws.{forward_many}
 use Rattle.wat_lexer_parser.specs.lemmas.TypeLaws.{forward_integer, forward_keyword, advances_integer}
 use Rattle.wat_lexer_parser.specs.parser.Sights.{sight_of}
 use Rattle.wat_lexer_parser.specs.parser.Takers.{as_open}
-use Rattle.wat_lexer_parser.specs.readings.Readings.{Reading, allocated, and_then, group, many, mapped, refuse, where_seen}
+use Rattle.wat_lexer_parser.specs.readings.Readings.{Reading, and_then, group, many, mapped, refuse, where_seen}
 use Rattle.wat_lexer_parser.specs.readings.Reads.{IsForward, Advances}
 use Rattle.wat_lexer_parser.specs.readings.Types.{an_integer, free, integer, keyword, unsigned_below}
 
@@ -21,9 +21,9 @@ negative = and_then (keyword false (codes "neg")) (λ _. mapped (λ n. neg_ℤ (
 abbrev pub group_or_refused : Reading ℤ
 group_or_refused = where_seen (sight_of as_open) free (group negative) (refuse (codes "unexpected token, expected u32 or left paren"))
 
--- a number, or else, which a lookahead notes in memory, a group
+-- a number, or else a group
 unfoldable pub term : Reading ℤ
-term = where_seen an_integer free (mapped pos number) (allocated group_or_refused)
+term = where_seen an_integer free (mapped pos number) group_or_refused
 
 -- the terms behind `sum`, in a group
 unfoldable pub sum : Reading (List ℤ)
@@ -41,7 +41,7 @@ forward_negative = forward_and_then (keyword false (codes "neg")) (λ _. mapped 
 pub forward_term : IsForward term
 unfolding term
 forward_term =
-    forward_where_seen an_integer free (mapped pos number) (allocated group_or_refused) forward_number
+    forward_where_seen an_integer free (mapped pos number) group_or_refused forward_number
     (forward_where_seen (sight_of as_open) free (group negative) _ (forward_group negative forward_negative) (forward_refuse ℤ (codes "unexpected token, expected u32 or left paren")))
 
 pub forward_sum : IsForward sum
@@ -51,5 +51,5 @@ forward_sum = forward_group _ (forward_and_then (keyword false (codes "sum")) (�
 pub advances_term : Advances term
 unfolding term
 advances_term =
-    advances_where_seen an_integer free (mapped pos number) (allocated group_or_refused) (advances_mapped pos number (advances_integer (codes "u32") (unsigned_below (2 ^ 32))))
+    advances_where_seen an_integer free (mapped pos number) group_or_refused (advances_mapped pos number (advances_integer (codes "u32") (unsigned_below (2 ^ 32))))
     (advances_where_seen (sight_of as_open) free (group negative) _ (advances_group negative forward_negative) (advances_refuse ℤ (codes "unexpected token, expected u32 or left paren")))

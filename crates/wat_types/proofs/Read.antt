@@ -8,7 +8,7 @@ use Rattle.wat_lexer_parser.specs.parser.Sights.{Sight, TakesAt, second, takes_s
 use Rattle.wat_lexer_parser.specs.parser.Takers.{as_id, as_keyword}
 use Rattle.wat_lexer_parser.specs.places.Places.{current_span, empty_of}
 use Rattle.wat_lexer_parser.specs.places.Source.{Source}
-use Rattle.wat_lexer_parser.specs.readings.Readings.{Reading, allocated, also_first, and_then, group, give, many, mapped, spanned, token, up_to, value_at, where_seen}
+use Rattle.wat_lexer_parser.specs.readings.Readings.{Reading, also_first, and_then, group, give, many, mapped, spanned, token, up_to, value_at, where_seen}
 use Rattle.wat_lexer_parser.specs.readings.Types.{Spelled, an_identifier, free, identifier, keyword, spelling}
 use Rattle.wat_lexer_parser.specs.shown.Showing.{shown}
 use Rattle.wat_types.specs.Grammar.{IsOpen, IsClose, IsWord, IsName, Star, none, more, Val, i32, i64, f32, f64, Param, Returns, returns as returned, Func, func as function, signature_of, Definition, Module}
@@ -67,9 +67,9 @@ val_read s p d v q r g at =
       | inl h ↦ let k = number_type_read s p d I64 i64_word (codes "i64") v q r i64_is h.1 at in (k.0 ∷ r, k.1, subst (λ v. Val text (k.0 ∷ r) v r) k.3 (i64 k.2))
       | inr h ↦ is_f32 h.1
     ] in
-    elim (got_where_seen (sees i32_word) free (number_type I32 i32_word) (allocated second) s p no_names d v q g) [
+    elim (got_where_seen (sees i32_word) free (number_type I32 i32_word) second s p no_names d v q g) [
       | inl h ↦ let k = number_type_read s p d I32 i32_word (codes "i32") v q r i32_is h.1 at in (k.0 ∷ r, k.1, subst (λ v. Val text (k.0 ∷ r) v r) k.3 (i32 k.2))
-      | inr h ↦ is_i64 (got_also true (second s p no_names d) v q h.1)
+      | inr h ↦ is_i64 h.1
     ]
 
 -- Many.

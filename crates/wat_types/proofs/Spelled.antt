@@ -11,7 +11,7 @@ use Rattle.wat_lexer_parser.specs.parser.Sights.{Sight, TakesAt, second, takes_s
 use Rattle.wat_lexer_parser.specs.parser.Takers.{as_id, as_keyword}
 use Rattle.wat_lexer_parser.specs.places.Places.{current_span, empty_of}
 use Rattle.wat_lexer_parser.specs.places.Source.{Source}
-use Rattle.wat_lexer_parser.specs.readings.Readings.{Reading, allocated, also_first, and_then, group, give, many, mapped, spanned, token, up_to, value_at, where_seen}
+use Rattle.wat_lexer_parser.specs.readings.Readings.{Reading, also_first, and_then, group, give, many, mapped, spanned, token, up_to, value_at, where_seen}
 use Rattle.wat_lexer_parser.specs.readings.Reads.{Advances}
 use Rattle.wat_lexer_parser.specs.readings.Types.{Spelled, an_identifier, free, identifier, keyword, spelling}
 use Rattle.wat_lexer_parser.specs.shown.Showing.{shown}
@@ -63,14 +63,14 @@ val_spelled s d p us v r at (i32 {t} h) =
     let third = where_seen (sees f32_word) free (number_type F32 f32_word) fourth in
     let second = where_seen (sees i64_word) free (number_type I64 i64_word) third in
     let g = number_type_spelled s p d I32 i32_word (codes "i32") t at.0 i32_is at.1 h in
-    (at.0, read_seen (sees i32_word) free (number_type I32 i32_word) (allocated second) s p no_names d I32 at.0 (seen_as s p i32_word (codes "i32") (codes "i32") t at.0 true i32_is refl at.1 h) g, at.2)
+    (at.0, read_seen (sees i32_word) free (number_type I32 i32_word) second s p no_names d I32 at.0 (seen_as s p i32_word (codes "i32") (codes "i32") t at.0 true i32_is refl at.1 h) g, at.2)
 val_spelled s d p us v r at (i64 {t} h) =
     let fourth = where_seen (sees f64_word) free (number_type F64 f64_word) no_val in
     let third = where_seen (sees f32_word) free (number_type F32 f32_word) fourth in
     let second = where_seen (sees i64_word) free (number_type I64 i64_word) third in
     let g = number_type_spelled s p d I64 i64_word (codes "i64") t at.0 i64_is at.1 h in
     let k = read_seen (sees i64_word) free (number_type I64 i64_word) third s p no_names d I64 at.0 (seen_as s p i64_word (codes "i64") (codes "i64") t at.0 true i64_is refl at.1 h) g in
-    (at.0, read_unseen (sees i32_word) free (number_type I32 i32_word) (allocated second) s p no_names d I64 at.0 (seen_as s p i32_word (codes "i32") (codes "i64") t at.0 false i32_is refl at.1 h) (read_also true (second s p no_names d) I64 at.0 k), at.2)
+    (at.0, read_unseen (sees i32_word) free (number_type I32 i32_word) second s p no_names d I64 at.0 (seen_as s p i32_word (codes "i32") (codes "i64") t at.0 false i32_is refl at.1 h) k, at.2)
 val_spelled s d p us v r at (f32 {t} h) =
     let fourth = where_seen (sees f64_word) free (number_type F64 f64_word) no_val in
     let third = where_seen (sees f32_word) free (number_type F32 f32_word) fourth in
@@ -78,7 +78,7 @@ val_spelled s d p us v r at (f32 {t} h) =
     let g = number_type_spelled s p d F32 f32_word (codes "f32") t at.0 f32_is at.1 h in
     let k = read_seen (sees f32_word) free (number_type F32 f32_word) fourth s p no_names d F32 at.0 (seen_as s p f32_word (codes "f32") (codes "f32") t at.0 true f32_is refl at.1 h) g in
     let l = read_unseen (sees i64_word) free (number_type I64 i64_word) third s p no_names d F32 at.0 (seen_as s p i64_word (codes "i64") (codes "f32") t at.0 false i64_is refl at.1 h) k in
-    (at.0, read_unseen (sees i32_word) free (number_type I32 i32_word) (allocated second) s p no_names d F32 at.0 (seen_as s p i32_word (codes "i32") (codes "f32") t at.0 false i32_is refl at.1 h) (read_also true (second s p no_names d) F32 at.0 l), at.2)
+    (at.0, read_unseen (sees i32_word) free (number_type I32 i32_word) second s p no_names d F32 at.0 (seen_as s p i32_word (codes "i32") (codes "f32") t at.0 false i32_is refl at.1 h) l, at.2)
 val_spelled s d p us v r at (f64 {t} h) =
     let fourth = where_seen (sees f64_word) free (number_type F64 f64_word) no_val in
     let third = where_seen (sees f32_word) free (number_type F32 f32_word) fourth in
@@ -87,7 +87,7 @@ val_spelled s d p us v r at (f64 {t} h) =
     let k = read_seen (sees f64_word) free (number_type F64 f64_word) no_val s p no_names d F64 at.0 (seen_as s p f64_word (codes "f64") (codes "f64") t at.0 true f64_is refl at.1 h) g in
     let l = read_unseen (sees f32_word) free (number_type F32 f32_word) fourth s p no_names d F64 at.0 (seen_as s p f32_word (codes "f32") (codes "f64") t at.0 false f32_is refl at.1 h) k in
     let n = read_unseen (sees i64_word) free (number_type I64 i64_word) third s p no_names d F64 at.0 (seen_as s p i64_word (codes "i64") (codes "f64") t at.0 false i64_is refl at.1 h) l in
-    (at.0, read_unseen (sees i32_word) free (number_type I32 i32_word) (allocated second) s p no_names d F64 at.0 (seen_as s p i32_word (codes "i32") (codes "f64") t at.0 false i32_is refl at.1 h) (read_also true (second s p no_names d) F64 at.0 n), at.2)
+    (at.0, read_unseen (sees i32_word) free (number_type I32 i32_word) second s p no_names d F64 at.0 (seen_as s p i32_word (codes "i32") (codes "f64") t at.0 false i32_is refl at.1 h) n, at.2)
 
 -- what a rule begins with is neither `)` nor the end, nor an identifier
 val_filled : (s : Source) (p : ℕ) (us : List Token) (v : ValType) (r : List Token) → At s p us → Val s.setting.text us v r → empty_of (shown s p no_names) ≡ false

@@ -63,13 +63,13 @@ expected_val = attempts_message false (quoted false i32_word ∷ quoted false i6
 abbrev pub no_val : Reading ValType
 no_val = refuse expected_val
 
--- one of four keywords, tried in this order; each that is not seen is noted in memory
+-- one of four keywords, tried in this order
 unfoldable pub val : Reading ValType
 val =
-    where_seen (sees i32_word) free (number_type I32 i32_word) (allocated
+    where_seen (sees i32_word) free (number_type I32 i32_word)
     (where_seen (sees i64_word) free (number_type I64 i64_word)
     (where_seen (sees f32_word) free (number_type F32 f32_word)
-    (where_seen (sees f64_word) free (number_type F64 f64_word) no_val))))
+    (where_seen (sees f64_word) free (number_type F64 f64_word) no_val)))
 
 -- vals, before `)`
 abbrev pub vals : Reading (List ValType)
@@ -180,7 +180,7 @@ advances_val =
     let last = where_seen (sees f64_word) free (number_type F64 f64_word) no_val in
     let third = where_seen (sees f32_word) free (number_type F32 f32_word) last in
     let second = where_seen (sees i64_word) free (number_type I64 i64_word) third in
-    advances_where_seen (sees i32_word) free (number_type I32 i32_word) (allocated second) (advances_number_type I32 i32_word)
+    advances_where_seen (sees i32_word) free (number_type I32 i32_word) second (advances_number_type I32 i32_word)
     (advances_where_seen (sees i64_word) free (number_type I64 i64_word) third (advances_number_type I64 i64_word)
     (advances_where_seen (sees f32_word) free (number_type F32 f32_word) last (advances_number_type F32 f32_word)
     (advances_where_seen (sees f64_word) free (number_type F64 f64_word) no_val (advances_number_type F64 f64_word) (advances_refuse ValType expected_val))))

@@ -44,3 +44,22 @@ own c t p m = ap (λ b. cond (b || c == 45) t (c ∷ t)) (ne_eqb c 43 p) ∙ ap 
 
 pub begins_none : (c : ℕ) (t : List ℕ) → BeginsNone c → (kind : TokenKind) → Number (c ∷ t) kind → ⊥
 begins_none c t n = no_number (c ∷ t) (subst NoNumber (sym (own c t n.plus n.minus)) (none c t n))
+
+-- one whose second character is not that of `inf` or `nan` is none either, if its first is no digit and no sign
+pub second_none : (c d : ℕ) (t : List ℕ) → is_ascii_digit c ≡ false → c ≢ 43 → c ≢ 45 → d ≢ 110 → d ≢ 97 → (kind : TokenKind) → Number (c ∷ d ∷ t) kind → ⊥
+second_none c d t n p m i a = no_number (c ∷ d ∷ t) (subst NoNumber (sym (own c (d ∷ t) p m)) (record {
+  inf = λ e. i (second e);
+  nan = λ e. a (second e);
+  payload = by;
+  integer = λ hex h. no_integral c (d ∷ t) [] n hex h;
+  float = tail;
+}))
+  where
+    second : {x y : ℕ} {s u : List ℕ} → (c ∷ d ∷ s) ≡ (x ∷ y ∷ u) → d ≡ y
+    second e = cc
+
+    by : Payload (c ∷ d ∷ t) → ⊥
+    by (payload {t = s} e h) = a (second e)
+
+    tail : (hex : Bool) → Decimals hex (c ∷ d ∷ t) → ⊥
+    tail hex (decimals {t = s} h k) = no_integral c (d ∷ t) s n hex h

@@ -21,7 +21,7 @@ all_pass p d t e =
       | inr h ↦ absurd (omega (arith, e, ap (λ x. cond x (1 + prefix_len p t) 0) h))
     ]
 
-digits_of : (hex : Bool) (t : List ℕ) → t ≢ [] → prefix_len (is_digit hex) t ≡ length t → Digits hex t []
+pub digits_of : (hex : Bool) (t : List ℕ) → t ≢ [] → prefix_len (is_digit hex) t ≡ length t → Digits hex t []
 digits_of hex [] n e = absurd (n refl)
 digits_of hex (d ∷ []) n e = let k = all_pass (is_digit hex) d [] e in last k.first
 digits_of hex (d ∷ c ∷ t) n e = let k = all_pass (is_digit hex) d (c ∷ t) e in next k.first (digits_of hex (c ∷ t) (λ z. cc) k.others)
@@ -32,7 +32,7 @@ digits_alone t n e = digits_of false t n e
 pub hex_digits_alone : (t : List ℕ) → t ≢ [] → prefix_len is_hex t ≡ length t → Digits true t []
 hex_digits_alone t n e = digits_of true t n e
 
-no_underscore : (hex : Bool) (t : List ℕ) → prefix_len (is_digit hex) t ≡ length t → has_underscores t ≡ false
+pub no_underscore : (hex : Bool) (t : List ℕ) → prefix_len (is_digit hex) t ≡ length t → has_underscores t ≡ false
 no_underscore hex [] e = refl
 no_underscore hex (d ∷ t) e =
     let k = all_pass (is_digit hex) d t e in
@@ -40,7 +40,7 @@ no_underscore hex (d ∷ t) e =
     ap (λ b. b || has_underscores t) (ne_eqb d 95 other) ∙ no_underscore hex t k.others
 
 -- a sign is no underscore
-signed_no_underscore : (w : List ℕ) → has_underscores (unsigned w) ≡ false → has_underscores w ≡ false
+pub signed_no_underscore : (w : List ℕ) → has_underscores (unsigned w) ≡ false → has_underscores w ≡ false
 signed_no_underscore [] e = refl
 signed_no_underscore (c ∷ w) e =
     elim (cases_Bool (c == 43 || c == 45)) [
@@ -94,26 +94,33 @@ taken_pass p (suc k) (x ∷ xs) h =
       | inr e ↦ absurd (omega (arith, h, ap (λ b. cond b (1 + prefix_len p xs) 0) e))
     ]
 
--- what is without its sign of the word of so many bytes is of digits where as many digits stand there
-pub digits_of_word : (text : List ℕ) (len n : ℕ) → len ≤ length text → n ≡ length (unsigned (take len text)) → n ≤ len → n ≤ prefix_len is_ascii_digit (drop (len - n) text) → prefix_len is_ascii_digit (unsigned (take len text)) ≡ length (unsigned (take len text))
-digits_of_word text len n within e fits h =
+-- what is without its sign of the word of so many bytes stands before the word's end
+pub unsigned_stands : (text : List ℕ) (len n : ℕ) → len ≤ length text → n ≡ length (unsigned (take len text)) → n ≤ len → unsigned (take len text) ≡ take n (drop (len - n) text)
+unsigned_stands text len n within e fits =
     let w = take len text in
     let first : length w - length (unsigned w) ≡ len - n = omega (arith, e, length-take-le len text within) in
     let parts : len - n + n ≡ len = omega arith in
-    let there : unsigned w ≡ take n (drop (len - n) text) =
-    unsigned_is_end w ∙ ap (λ k. drop k w) first ∙ ap (λ k. drop (len - n) (take k text)) (sym parts) ∙ drop-take (len - n) n text in
-    subst (λ x. prefix_len is_ascii_digit x ≡ length x) (sym there) (taken_pass is_ascii_digit n (drop (len - n) text) h)
+    unsigned_is_end w ∙ ap (λ k. drop k w) first ∙ ap (λ k. drop (len - n) (take k text)) (sym parts) ∙ drop-take (len - n) n text
 
--- the same of what stands behind the first two of them
-pub hex_digits_of_word : (text : List ℕ) (len n : ℕ) (ds : List ℕ) → len ≤ length text → unsigned (take len text) ≡ 48 ∷ 120 ∷ ds → n ≡ length ds → n ≤ prefix_len is_hex (drop (len - n) text) → prefix_len is_hex ds ≡ length ds
-hex_digits_of_word text len n ds within cut e h =
+-- so it is of digits where as many digits stand there
+pub digits_of_word : (text : List ℕ) (len n : ℕ) → len ≤ length text → n ≡ length (unsigned (take len text)) → n ≤ len → n ≤ prefix_len is_ascii_digit (drop (len - n) text) → prefix_len is_ascii_digit (unsigned (take len text)) ≡ length (unsigned (take len text))
+digits_of_word text len n within e fits h =
+    subst (λ x. prefix_len is_ascii_digit x ≡ length x) (sym (unsigned_stands text len n within e fits)) (taken_pass is_ascii_digit n (drop (len - n) text) h)
+
+-- the same of what stands behind the first so many of its bytes
+pub end_stands : (text : List ℕ) (len n k : ℕ) → len ≤ length text → k + n ≡ length (unsigned (take len text)) → drop k (unsigned (take len text)) ≡ take n (drop (len - n) text)
+end_stands text len n k within e =
     let w = take len text in
     let long : length w ≡ len = length-take-le len text within in
-    let more : length (unsigned w) ≡ 2 + length ds = omega (arith, ap length cut) in
     let fits = unsigned_is_shorter w in
-    let first : length w - length (unsigned w) + 2 ≡ len - n = omega (arith, long, more, fits, e) in
-    let parts : len - n + n ≡ len = omega (arith, long, more, fits, e) in
-    let there : ds ≡ take n (drop (len - n) text) =
-    ap (drop 2) (sym cut ∙ unsigned_is_end w) ∙ drop-drop 2 (length w - length (unsigned w)) w ∙ ap (λ k. drop k w) first
-    ∙ ap (λ k. drop (len - n) (take k text)) (sym parts) ∙ drop-take (len - n) n text in
-    subst (λ x. prefix_len is_hex x ≡ length x) (sym there) (taken_pass is_hex n (drop (len - n) text) h)
+    let first : length w - length (unsigned w) + k ≡ len - n = omega (arith, long, fits, e) in
+    let parts : len - n + n ≡ len = omega (arith, long, fits, e) in
+    ap (drop k) (unsigned_is_end w) ∙ drop-drop k (length w - length (unsigned w)) w ∙ ap (λ k. drop k w) first
+    ∙ ap (λ k. drop (len - n) (take k text)) (sym parts) ∙ drop-take (len - n) n text
+
+pub behind_two_stands : (text : List ℕ) (len n : ℕ) (ds : List ℕ) → len ≤ length text → unsigned (take len text) ≡ 48 ∷ 120 ∷ ds → n ≡ length ds → ds ≡ take n (drop (len - n) text)
+behind_two_stands text len n ds within cut e = sym (ap (drop 2) cut) ∙ end_stands text len n 2 within (omega (arith, e, ap length cut))
+
+pub hex_digits_of_word : (text : List ℕ) (len n : ℕ) (ds : List ℕ) → len ≤ length text → unsigned (take len text) ≡ 48 ∷ 120 ∷ ds → n ≡ length ds → n ≤ prefix_len is_hex (drop (len - n) text) → prefix_len is_hex ds ≡ length ds
+hex_digits_of_word text len n ds within cut e h =
+    subst (λ x. prefix_len is_hex x ≡ length x) (sym (behind_two_stands text len n ds within cut e)) (taken_pass is_hex n (drop (len - n) text) h)

@@ -14,7 +14,7 @@ letter_no_digit : (hex : Bool) (c : ℕ) → is_exponent_letter hex c ≡ true �
 letter_no_digit true c h = elim (or_cases (112 == c) _ h) [ inl e ↦ subst (λ x. is_digit true x ≡ false) (eqb-true 112 c e) refl | inr r ↦ elim (or_cases (80 == c) _ r) [ inl e ↦ subst (λ x. is_digit true x ≡ false) (eqb-true 80 c e) refl | inr q ↦ cc ] ]
 letter_no_digit false c h = elim (or_cases (101 == c) _ h) [ inl e ↦ subst (λ x. is_digit false x ≡ false) (eqb-true 101 c e) refl | inr r ↦ elim (or_cases (69 == c) _ r) [ inl e ↦ subst (λ x. is_digit false x ≡ false) (eqb-true 69 c e) refl | inr q ↦ cc ] ]
 
-letter_no_underscore : (hex : Bool) (c : ℕ) → is_exponent_letter hex c ≡ true → c ≢ 95
+pub letter_no_underscore : (hex : Bool) (c : ℕ) → is_exponent_letter hex c ≡ true → c ≢ 95
 letter_no_underscore true c h e = let k = subst (λ x. is_exponent_letter true x ≡ true) e h in cc
 letter_no_underscore false c h e = let k = subst (λ x. is_exponent_letter false x ≡ true) e h in cc
 

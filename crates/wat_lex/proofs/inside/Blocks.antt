@@ -8,7 +8,7 @@ use Rattle.std.proofs.lemmas.Bool.{agree_below, agree_below_at, lt-leb, eq-eqb, 
 use Rattle.std.proofs.lemmas.List.{length-map, take-append-drop}
 use Rattle.std.proofs.lemmas.List.Folds.{prefix_len-append}
 use Rattle.std.proofs.lemmas.List.Sums.{prefix_len-le-length, prefix_len_is, prefix_len_passes}
-use Rattle.std.proofs.lemmas.Simd.{Each1-all, Each1-weaker, Each1-zip2, Each2-splat, below_from_Fits, length-zip2, map-map, mask_l-mod, chunk-drop, length-chunk, leading_from_mask_l, trailing_mask_l, swz_l, SwzOk, SwzOk-from_below}
+use Rattle.std.proofs.lemmas.Simd.{Each1-all, Each1-weaker, Each1-zip2, Each2-splat, below_from_Fits, length-zip2, map-map, mask_l-mod, chunk-drop, length-chunk, leading_from_mask_l, trailing_mask_l, swz_l, SwzOk, SwzOk-from_below, zip2_of_maps, zip2_splat, zip2_splat_left}
 use Rattle.std.proofs.Math.Bool.{not-not}
 use Rattle.wat_lex.specs.inside.Blocks.{failures, GoesOn}
 
@@ -169,3 +169,7 @@ goes_on_behind p text n all =
 pub ends_within : (p : ℕ → Bool) (text : List ℕ) (n : ℕ) → prefix_len p (take n text) < length (take n text) → prefix_len p text ≡ prefix_len p (take n text)
 ends_within p text n stops =
     cut p text n ∙ ap (λ b. cond b (length (take n text) + prefix_len p (drop n text)) (prefix_len p (take n text))) (ne_eqb _ _ (λ all. omega (arith, all, stops)))
+
+-- below a first number or above a second
+pub outside : (f : ℕ → ℕ → ℕ) (v : List ℕ) (a b : ℕ) → length v ≡ 16 → zip2 bit_or (zip2 f v (replicate 16 a)) (zip2 f (replicate 16 b) v) ≡ map (λ x. bit_or (f x a) (f b x)) v
+outside f v a b long = zip2_of_maps bit_or _ _ v (zip2_splat f v 16 a long) (zip2_splat_left f b 16 v long)

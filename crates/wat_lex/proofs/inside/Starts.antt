@@ -1,5 +1,5 @@
 -- What the first byte of a word says of its shape.
-use Rattle.std.proofs.Common.{◌≡◌, ◌≢◌, ◌≤◌, ◌<◌, ◌⊎◌, ℕ, List, [], ◌∷◌, sym, ◌∙◌, ap, true, false, arith, inr, ◌&&◌}
+use Rattle.std.proofs.Common.{◌≡◌, ◌≢◌, ◌≤◌, ◌<◌, ◌⊎◌, ℕ, List, [], ◌∷◌, sym, ◌∙◌, ap, true, false, arith, inr, ◌&&◌, get_or, length}
 use Rattle.std.specs.Prelude.{nat_le, ◌==◌, if◌then◌else◌}
 use Rattle.std.specs.Char.{is_ascii_digit}
 use Rattle.std.proofs.lemmas.Bool.{ne_eqb}
@@ -10,7 +10,7 @@ use Rattle.wat_lex.specs.inside.Outlines.{BeginsWord}
 use Rattle.wat_lex.specs.declared.lexer.kinds.Shape.TheVariants as shape
 use Rattle.wat_lex.specs.declared.lexer.kinds.TokenKind.{TokenKind}
 use Rattle.wat_lex.specs.declared.lexer.kinds.TokenKind.TheVariants.{Id, Keyword, Annotation, Reserved}
-use Rattle.wat_lex.proofs.grammar.NumberBegins.{BeginsNone, begins_none}
+use Rattle.wat_lex.proofs.grammar.NumberBegins.{BeginsNone, begins_none, second_none}
 
 -- a word that begins as no number does goes by its first character
 by_first : (c : ℕ) (k : TokenKind) → BeginsNone c → kind_by_first (c ∷ []) ≡ k → (rest : List ℕ) (j : TokenKind) → j ≡ k → WordKind (c ∷ rest) j
@@ -46,3 +46,9 @@ pub name_start : (c : ℕ) → is_idchar c ≡ true → (c < 48) ⊎ (57 < c) �
 name_start c h d l i p m a =
     let none = begins c (λ x y. omega (arith, d)) p m (λ e. omega (arith, l)) (λ e. omega (arith, l)) in
     record { idchar = h; stands = (λ e. cc, λ e. cc); kind = by_first c Reserved none (ap (λ t. if t then Keyword else named_kind (c ∷ [])) (not_lower c (λ x y. omega (arith, l))) ∙ ap (λ t. if t then Id else if c == 64 then Annotation else Reserved) (ne_eqb c 36 i) ∙ ap (λ t. if t then Annotation else Reserved) (ne_eqb c 64 a)) }
+
+pub keyword_of_two : (w : List ℕ) → 2 ≤ length w → 97 ≤ get_or w 0 0 → get_or w 0 0 ≤ 122 → get_or w 1 0 ≢ 110 → get_or w 1 0 ≢ 97 → WordKind w Keyword
+keyword_of_two [] l a b i n = absurd (omega arith)
+keyword_of_two (c ∷ []) l a b i n = absurd (omega arith)
+keyword_of_two (c ∷ d ∷ t) l a b i n =
+    inr (second_none c d t (no_digit c (λ x y. omega arith)) (λ e. omega arith) (λ e. omega arith) i n, sym (ap (λ t. if t then Keyword else named_kind (c ∷ [])) (lower c a b)))

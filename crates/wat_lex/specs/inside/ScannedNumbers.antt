@@ -1,7 +1,10 @@
 -- What the readers of numbers inside the lexer answer. No part of the standard.
-use Rattle.std.specs.Prelude.{◌≡◌, ◌||◌, ◌==◌, ◌⊎◌, if◌then◌else◌, ℕ, Bool, List, [], ◌∷◌}
+use Rattle.std.specs.Prelude.{◌≡◌, false, ◌||◌, ◌==◌, ◌⊎◌, if◌then◌else◌, ℕ, Bool, List, [], ◌∷◌}
 use Rattle.wat_lex.specs.grammar.Classes.{Begins, plus, underscore}
-use Rattle.wat_lex.specs.grammar.Numbers.{Digits, is_digit, IntegralPart, Exponent, Tail}
+use Rattle.wat_lex.specs.declared.lexer.kinds.FloatKind.TheVariants.{Normal}
+use Rattle.wat_lex.specs.declared.lexer.kinds.TokenKind.{TokenKind}
+use Rattle.wat_lex.specs.declared.lexer.kinds.TokenKind.TheVariants.{Float}
+use Rattle.wat_lex.specs.grammar.Numbers.{Digits, has_underscores, is_digit, IntegralPart, Exponent, Tail}
 
 -- neither a digit nor an underscore comes next
 abbrev pub Stops : Bool → List ℕ → Type 0
@@ -35,3 +38,19 @@ without_plus (c ∷ t) = if c == plus then t else c ∷ t
 -- an exponent or nothing
 abbrev pub EndsFloat : Bool → List ℕ → Type 0
 EndsFloat hex r = (r ≡ []) ⊎ Exponent hex r
+
+-- an exponent without underscores
+abbrev pub PlainExponent : Bool → List ℕ → Type 0
+PlainExponent hex w = Exponent hex w × (has_underscores w ≡ false)
+
+-- what follows a float's first digits, without underscores
+abbrev pub PlainTail : Bool → List ℕ → Type 0
+PlainTail hex w = Tail hex w × (has_underscores w ≡ false)
+
+-- a float's first digits and what follows them, without underscores
+abbrev pub PlainDecimals : Bool → List ℕ → Type 0
+PlainDecimals hex w = (t : List ℕ) × Digits hex w t × Tail hex t × (has_underscores w ≡ false)
+
+-- the kind of such a float
+abbrev pub IsPlainFloat : Bool → List ℕ → TokenKind → Type 0
+IsPlainFloat hex w kind = (kind ≡ Float (Normal false hex)) × PlainDecimals hex w

@@ -1,5 +1,5 @@
 -- What a lookahead that has peeked at several types reports: which it might have been. No part of the standard.
-use Rattle.std.specs.Prelude.{ℕ, Bool, true, false, List, [], ◌∷◌, ◌++◌, codes, not, Result, Ok, Err}
+use Rattle.std.specs.Prelude.{ℕ, Bool, true, false, List, [], ◌∷◌, ◌++◌, ◌&&◌, codes, length, nat_le, not, Result, Ok, Err}
 use Rattle.std.specs.List.{join_by}
 use Rattle.wat_lex.specs.errors.Errors.{Report}
 use Rattle.wat_lexer_parser.specs.parser.State.{State, report_here}
@@ -21,10 +21,14 @@ attempts_message empty (x ∷ []) = codes "unexpected token, expected " ++ x
 attempts_message empty (x ∷ y ∷ []) = codes "unexpected token, expected " ++ (x ++ (codes " or " ++ y))
 attempts_message empty (x ∷ y ∷ z ∷ xs) = codes "unexpected token, expected one of: " ++ joined (x ∷ y ∷ z ∷ xs)
 
--- the type is not seen, so that the attempt is kept, which may take memory
-abbrev pub is_missed : Result Bool Report → Bool
-is_missed (Ok seen) = not seen
-is_missed (Err f) = false
+-- so many attempts are kept without memory
+abbrev pub attempts_held : ℕ
+attempts_held = 4
+
+-- the type is not seen, and as many attempts are kept before it as need no memory, so that keeping it may take some
+abbrev pub needs_memory : List (List ℕ) → Result Bool Report → Bool
+needs_memory xs (Ok seen) = not seen && nat_le attempts_held (length xs)
+needs_memory xs (Err f) = false
 
 abbrev pub attempts_report : State → List (List ℕ) → Report
 attempts_report a xs =

@@ -4,32 +4,36 @@ ghost use Rattle.std.specs.Prelude.{codes, map, string_bytes};
 ghost use Rattle.wat_lex.specs.errors.Errors.{IsUnlessMemory};
 ghost use Rattle.wat_lexer_parser.specs.parser.State.{Answers};
 ghost use Rattle.wat_lexer_parser.specs.readings.Attempts.{attempts_message, attempts_report};
-ghost use Rattle.wat_lexer_parser.specs.readings.Attempts.{is_missed, joined};
+ghost use Rattle.wat_lexer_parser.specs.readings.Attempts.{needs_memory, joined};
 
 use crate::parser::{Parser, Peek};
+use smallvec::SmallVec;
 use std::alloc::{AllocError, Global};
 use std::marker::Model;
 use wat_lex::error::Error;
 
 /// A look at what is shown that remembers at which types it peeked in vain, for the message that
-/// one of them was expected.
+/// one of them was expected. It holds the first four of them itself.
 #[derive(Drop)]
 pub struct Lookahead1<'p, 'a> {
     parser: &'p Parser<'a>,
-    attempts: Vec<&'static str>,
+    attempts: SmallVec<&'static str, 4>,
 }
 
 impl<'p, 'a> Model for Lookahead1<'p, 'a> {
-    ghost use Rattle.std.specs.Prelude.{List, ℕ, map};
+    ghost use Rattle.std.specs.Prelude.{◌≤◌, List, ℕ, map};
     ghost use Rattle.std.specs.Coded.{coded_ℕ, coded_list, coded×};
     ghost use Rattle.wat_lexer_parser.specs.inside.Codes.{state_code};
     ghost use Rattle.wat_lexer_parser.specs.parser.State.{State};
+    ghost use Rattle.wat_lexer_parser.specs.readings.Attempts.{attempts_held};
 
     ghost Value = { State × List (List ℕ) };
 
     ghost coded = { coded× state_code (coded_list (coded_list coded_ℕ)) };
 
     ghost view = { λ l. (l.parser.now, map (λ t. t.now) l.attempts.items) };
+
+    ghost invariant = { λ l. attempts_held ≤ l.attempts.capacity };
 }
 
 impl<'p, 'a> Lookahead1<'p, 'a> {
@@ -38,15 +42,17 @@ impl<'p, 'a> Lookahead1<'p, 'a> {
     {
         Lookahead1 {
             parser,
-            attempts: Vec::new(parser.alloc()),
+            attempts: SmallVec::new(parser.alloc()),
         }
     }
 
-    /// Whether a type is seen at the parser's place. One that is not is remembered.
+    /// Whether a type is seen at the parser's place. One that is not is remembered, from the fifth on
+    /// in memory.
     pub fn peek<T: Peek>(&mut self) -> Result<bool, Error>
         ensures value { Answers
             (T.takes self.old.0.source self.old.0.place self.old.0.names
-            || is_missed (T.sight self.old.0.source self.old.0.place self.old.0.names)) (λ b. b)
+            || needs_memory self.old.1
+            (T.sight self.old.0.source self.old.0.place self.old.0.names)) (λ b. b)
             (T.sight self.old.0.source self.old.0.place self.old.0.names) result }
         ensures kept { IfOk result (λ seen. self.new ≡
             (self.old.0, cond seen self.old.1 (self.old.1 ++ T.shows ∷ []))) }
@@ -71,7 +77,7 @@ impl<'p, 'a> Lookahead1<'p, 'a> {
         ensures { IsUnlessMemory result (attempts_report self.entry.0 self.entry.1) }
     {
         let parser = self.parser;
-        match message(parser.alloc(), parser.is_empty(), &self.attempts) {
+        match message(parser.alloc(), parser.is_empty(), self.attempts.as_slice()) {
             Ok(message) => parser.error(message.as_str()),
             Err(refused) => Error::from(refused),
         }

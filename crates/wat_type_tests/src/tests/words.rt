@@ -345,6 +345,19 @@ fn looks_at_several_types(rt: HostRuntime) -> Result<(), Fail> {
     )
 }
 
+/// The last of five attempts stands in memory, with the four before it.
+#[test]
+fn looks_at_five_types(rt: HostRuntime) -> Result<(), Fail> {
+    let text = buffer(&rt, rt.alloc(), "x")?;
+    let parser = text.parser();
+    let mut five = parser.lookahead1();
+    assert!(rt; !five.peek::<u32>()? && !five.peek::<Id>()? && !five.peek::<LParen>()?);
+    assert!(rt; !five.peek::<kw::func>()? && !five.peek::<kw::param>()?);
+    let message =
+        "unexpected token, expected one of: u32, an identifier, left paren, `func`, `param`";
+    reports(&rt, rt.alloc(), five, message)
+}
+
 #[test]
 fn a_look_at_one_type(rt: HostRuntime) -> Result<(), Fail> {
     let text = buffer(&rt, rt.alloc(), "x")?;

@@ -14,12 +14,6 @@ const IDCHARS_BY_LOW: [u8; 16] = [30, 31, 30, 31, 31, 31, 31, 31, 30, 30, 31, 5,
 /// By a byte's high four bits.
 const IDCHARS_BY_HIGH: [u8; 16] = [0, 0, 1, 2, 4, 8, 4, 16, 0, 0, 0, 0, 0, 0, 0, 0];
 
-/// By a byte's low four bits. A decimal digit has a bit in common with `DIGITS_BY_HIGH`.
-const DIGITS_BY_LOW: [u8; 16] = [1, 1, 1, 1, 1, 1, 1, 1, 1, 1, 0, 0, 0, 0, 0, 0];
-
-/// By a byte's high four bits.
-const DIGITS_BY_HIGH: [u8; 16] = [0, 0, 0, 1, 0, 0, 0, 0, 0, 0, 0, 0, 0, 0, 0, 0];
-
 /// By a byte's low four bits. A hexadecimal digit has a bit in common with `HEX_DIGITS_BY_HIGH`.
 const HEX_DIGITS_BY_LOW: [u8; 16] = [1, 3, 3, 3, 3, 3, 3, 1, 1, 1, 0, 0, 0, 0, 0, 0];
 
@@ -57,9 +51,7 @@ pub fn other_than_idchars(block: u8x16) -> u64
 pub fn other_than_digits(block: u8x16) -> u64
     ensures { result ≡ failures is_ascii_digit block }
 {
-    let low = u8x16::from_array(DIGITS_BY_LOW).swizzle_dyn(block & u8x16::splat(15));
-    let high = u8x16::from_array(DIGITS_BY_HIGH).swizzle_dyn(block >> u8x16::splat(4));
-    (low & high).simd_eq(u8x16::splat(0)).to_bitmask()
+    (block.simd_lt(u8x16::splat(b'0')) | u8x16::splat(b'9').simd_lt(block)).to_bitmask()
 }
 
 /// A bit for each byte that is no hexadecimal digit, the lowest for the first.

@@ -1,12 +1,15 @@
 //! The words of numbers.
 ghost use Rattle.std.specs.Prelude.{◌≡◌, ◌≢◌, ◌↔◌, ◌≤◌, ◌++◌, ℕ, List, [], MatchOption, IfSome, IfNone};
 ghost use Rattle.std.specs.Prelude.{IsTrue, codes, length, take};
+ghost use Rattle.std.specs.List.{prefix_len};
 ghost use Rattle.wat_lex.specs.declared.lexer.kinds.TokenKind.{TokenKind};
 ghost use Rattle.wat_lex.specs.grammar.Numbers.{is_digit, is_exponent_letter, sign_of, unsigned};
 ghost use Rattle.wat_lex.specs.grammar.Numbers.{is_negative, has_underscores, Digits, Exponent};
 ghost use Rattle.wat_lex.specs.grammar.Numbers.{Tail, Payload, Number};
 ghost use Rattle.wat_lex.specs.inside.ScannedNumbers.{LongestDigits, NoDigits, OnlyIntegralPart};
 ghost use Rattle.wat_lex.specs.inside.ScannedNumbers.{NoIntegralPart};
+ghost use Rattle.wat_lex.specs.inside.ScannedNumbers.{IsPlainFloat, PlainDecimals, PlainExponent};
+ghost use Rattle.wat_lex.specs.inside.ScannedNumbers.{PlainTail};
 
 use crate::lexer::kinds::{FloatKind, IntegerKind, Sign, Stride, TokenKind};
 use crate::lexer::scan::classes::{digit_len, hex_digit_len, is_hex_digit};
@@ -181,6 +184,119 @@ fn digits_kind(word: &[u8]) -> Option<TokenKind>
     kind_by_rest(word, hex, rest)
 }
 
+/// How many digits stand at the start.
+#[inline(always)]
+fn digits_len(text: &[u8], hex: bool, stride: Stride) -> usize
+    ensures { result ≡ prefix_len (is_digit hex) text.now }
+{
+    if hex {
+        hex_digit_len(text, stride)
+    } else {
+        digit_len(text, stride)
+    }
+}
+
+/// Whether the first so many bytes are an exponent without underscores.
+#[inline(always)]
+fn is_plain_exponent(text: &[u8], len: usize, hex: bool, stride: Stride) -> bool
+    requires { len ≤ length text.now }
+    ensures { IsTrue result → PlainExponent hex (take len text.now) }
+{
+    let [letter, behind @ ..] = &text[..len] else {
+        return false;
+    };
+    if !is_exponent_letter(*letter, hex) {
+        return false;
+    }
+    let digits = unsigned(behind).len();
+    digits != 0 && digit_len(&text[len - digits..], stride) >= digits
+}
+
+/// Whether the first so many bytes can follow a float's first digits and have no underscores.
+#[inline(always)]
+fn is_plain_tail(text: &[u8], len: usize, hex: bool, stride: Stride) -> bool
+    requires { len ≤ length text.now }
+    ensures { IsTrue result → PlainTail hex (take len text.now) }
+{
+    let [b'.', ..] = &text[..len] else {
+        return is_plain_exponent(text, len, hex, stride);
+    };
+    let digits = digits_len(&text[1..], hex, stride);
+    if digits >= len - 1 {
+        return true;
+    }
+    is_plain_exponent(&text[1 + digits..], len - 1 - digits, hex, stride)
+}
+
+/// Whether the first so many bytes are a float's first digits and what follows them, without
+/// underscores.
+#[inline(always)]
+fn is_plain_decimals(text: &[u8], len: usize, hex: bool, stride: Stride) -> bool
+    requires { len ≤ length text.now }
+    ensures { IsTrue result → PlainDecimals hex (take len text.now) }
+{
+    let digits = digits_len(text, hex, stride);
+    if digits == 0 || digits >= len {
+        return false;
+    }
+    is_plain_tail(&text[digits..], len - digits, hex, stride)
+}
+
+/// The kind of a float of these first digits and what follows them, if it has no underscores.
+#[inline(always)]
+fn plain_decimals(text: &[u8], len: usize, hex: bool, stride: Stride) -> Option<TokenKind>
+    requires { len ≤ length text.now }
+    ensures { IfSome result (IsPlainFloat hex (take len text.now)) }
+{
+    if !is_plain_decimals(text, len, hex, stride) {
+        return None;
+    }
+    Some(TokenKind::Float(FloatKind::Normal {
+        has_underscores: false,
+        hex,
+    }))
+}
+
+/// The kind of the word of so many bytes at the start, where that is `nan:0x` and digits without
+/// underscores, with a sign or none.
+#[inline(always)]
+fn plain_payload(text: &[u8], len: usize, stride: Stride) -> Option<TokenKind>
+    requires { len ≤ length text.now }
+    ensures { IfSome result (λ kind. Number (take len text.now) kind) }
+{
+    let word = &text[..len];
+    let Some(payload) = after(unsigned(word), b"nan:0x".as_slice()) else {
+        return None;
+    };
+    let digits = payload.len();
+    if digits == 0 || hex_digit_len(&text[len - digits..], stride) < digits {
+        return None;
+    }
+    Some(TokenKind::Float(FloatKind::NanVal {
+        negative: is_negative(word),
+        has_underscores: false,
+    }))
+}
+
+/// The kind of the word of so many bytes at the start, where that is a float without underscores.
+#[inline(always)]
+pub fn plain_float(text: &[u8], len: usize, stride: Stride) -> Option<TokenKind>
+    requires { len ≤ length text.now }
+    ensures { IfSome result (λ kind. Number (take len text.now) kind) }
+{
+    let number = unsigned(&text[..len]);
+    let digits = number.len();
+    match number {
+        [b'0'..=b'9', ..] => {}
+        [b'n', ..] => return plain_payload(text, len, stride),
+        _ => return None,
+    }
+    match after(number, b"0x".as_slice()) {
+        Some(behind) => plain_decimals(&text[len - behind.len()..], behind.len(), true, stride),
+        None => plain_decimals(&text[len - digits..], digits, false, stride),
+    }
+}
+
 /// The kind of the word of so many bytes at the start, where that is of hexadecimal digits alone
 /// behind `0x`, with a sign or none.
 #[inline(always)]
@@ -232,6 +348,7 @@ pub fn plain_integer(text: &[u8], len: usize, stride: Stride) -> Option<TokenKin
 }
 
 /// The kind of a number's word.
+#[inline(never)]
 pub fn classify(word: &[u8]) -> Option<TokenKind>
     ensures some { IfSome result (λ kind. Number word.now kind) }
     ensures none { IfNone result ((kind : TokenKind) → Number word.now kind → ⊥) }

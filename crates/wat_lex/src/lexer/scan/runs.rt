@@ -1,17 +1,18 @@
 //! Runs of idchars and strings.
 ghost use Rattle.std.specs.Prelude.{◌≡◌, ◌<◌, ◌≤◌, ◌+◌, ◌^◌, true, length, take, slice_index};
-ghost use Rattle.std.specs.Prelude.{IfOk, IfErr};
+ghost use Rattle.std.specs.Prelude.{IfOk, IfErr, IsTrue};
 ghost use Rattle.std.specs.List.{prefix_len};
 ghost use Rattle.wat_lex.specs.inside.ScannedLexemes.{Refused};
 ghost use Rattle.wat_lex.specs.inside.Outlines.{Outlined, IsShapeOfRun};
 ghost use Rattle.wat_lex.specs.inside.ScannedRuns.{RunFound};
 ghost use Rattle.wat_lex.specs.grammar.Runs.{WordKind, kind_by_first, named_kind};
 ghost use Rattle.wat_lex.specs.grammar.Classes.{is_idchar, is_run_char};
+ghost use Rattle.wat_lex.specs.declared.lexer.kinds.TokenKind.TheVariants.{Keyword};
 
 use crate::lexer::faults::LexFault;
-use crate::lexer::kinds::{Outline, Shape, Stride, TokenKind};
+use crate::lexer::kinds::{FloatKind, Outline, Shape, Stride, TokenKind};
 use crate::lexer::scan::classes::idchar_len;
-use crate::lexer::scan::numbers::{classify, plain_integer};
+use crate::lexer::scan::numbers::{classify, plain_float, plain_integer};
 use crate::lexer::scan::strings::string_len;
 use crate::lexer::settings::Settings;
 
@@ -125,13 +126,26 @@ fn kind_by_first(word: &[u8]) -> TokenKind
     }
 }
 
-/// The kind of the word of so many idchars at the start.
+/// Whether the word is a keyword by its first two letters: behind the first letter of `inf` and
+/// `nan` stands `n` or `a`, and no other number begins with a letter.
 #[inline(always)]
-pub fn word_kind(text: &[u8], len: usize, stride: Stride) -> TokenKind
+fn is_surely_keyword(word: &[u8]) -> bool
+    ensures { IsTrue result → WordKind word.now Keyword }
+{
+    match word {
+        [b'a'..=b'z', second, ..] => *second != b'n' && *second != b'a',
+        _ => false,
+    }
+}
+
+/// The kind of the word of so many idchars at the start, which is mostly no integer. It is no part
+/// of its caller, where the facts of a float would be carried with each token.
+#[inline(never)]
+fn other_kind(text: &[u8], len: usize, stride: Stride) -> TokenKind
     requires { len ≤ length text.now }
     ensures { WordKind (take len text.now) result }
 {
-    if let Some(kind) = plain_integer(text, len, stride) {
+    if let Some(kind) = plain_float(text, len, stride) {
         return kind;
     }
     let word = &text[..len];
@@ -139,4 +153,35 @@ pub fn word_kind(text: &[u8], len: usize, stride: Stride) -> TokenKind
         Some(kind) => kind,
         None => kind_by_first(word),
     }
+}
+
+/// The same of a word that mostly begins with a letter.
+#[inline(never)]
+fn letters_kind(text: &[u8], len: usize, stride: Stride) -> TokenKind
+    requires { len ≤ length text.now }
+    ensures { WordKind (take len text.now) result }
+{
+    let word = &text[..len];
+    if is_surely_keyword(word) {
+        return TokenKind::Keyword;
+    }
+    match word {
+        b"inf" => TokenKind::Float(FloatKind::Inf { negative: false }),
+        _ => other_kind(text, len, stride),
+    }
+}
+
+/// The kind of the word of so many idchars at the start.
+#[inline(always)]
+pub fn word_kind(text: &[u8], len: usize, stride: Stride) -> TokenKind
+    requires { len ≤ length text.now }
+    ensures { WordKind (take len text.now) result }
+{
+    if let [b'a'..=b'z', ..] = &text[..len] {
+        return letters_kind(text, len, stride);
+    }
+    if let Some(kind) = plain_integer(text, len, stride) {
+        return kind;
+    }
+    other_kind(text, len, stride)
 }
