@@ -3,6 +3,7 @@ use Rattle.std.proofs.Common.{◌≡◌, ◌≤◌, ◌<◌, ◌+◌, ℕ, List,
 use Rattle.std.specs.Prelude.{◌==◌, IsTrue, ◌&&◌}
 use Rattle.std.specs.Prelude.{if◌then◌else◌, codes, nat_lt}
 use Rattle.std.specs.Char.{char_set_contains}
+use Rattle.std.specs.Int.Bits.{bit_and}
 use Rattle.std.proofs.lemmas.List.{drop_more, drop-drop, get_or-drop, length-drop, get_or_past}
 use Rattle.std.proofs.lemmas.Bool.{cases_Bool, both_ways, or_cases, eqb-true, ltb-true}
 use Rattle.std.proofs.lemmas.Str.{IsUtf8-drop, IsCharBoundary-after_ascii, chars_past_char, chars-nil, chars-encodes, length-encode, IsUtf8-past_char, encode_ascii, len_utf8_ascii, byte_from_char}
@@ -13,7 +14,7 @@ use Rattle.wat_lex.specs.grammar.Words.{Word, MayFollow, Punctuation}
 use Rattle.wat_lex.specs.declared.lexer.settings.Settings.{Settings}
 use Rattle.wat_lex.specs.declared.lexer.kinds.TokenKind.{TokenKind}
 use Rattle.wat_lex.specs.declared.lexer.kinds.TokenKind.TheVariants.{LParen, RParen, Reserved, Whitespace}
-use Rattle.wat_rows.specs.inside.OneByte.{is_alone_before, kind_alone, StandsAlone}
+use Rattle.wat_rows.specs.inside.OneByte.{sorts, longer_before, kind_alone, StandsAlone}
 
 add-zero : (n : ℕ) → n + 0 ≡ n
 add-zero n = omega arith
@@ -86,37 +87,67 @@ punctuation_ascii c = set_ascii (codes ",[]{}") c (refl, (refl, (refl, (refl, (r
 semicolon_ascii : (c : ℕ) → (c == 59) ≡ true → c < 128
 semicolon_ascii c t = let k = eqb-true c 59 t in omega (arith, k)
 
--- what the tests of two bytes say, by the tests
-abbrev alone_by : Bool → Bool → Bool → Bool → Bool → Bool → Bool → Bool
-alone_by c p o s t w v = ((c || p) || ((o || s) && not t)) || (w && not v)
+-- what the tests of a byte say, by the tests
+abbrev sorts_by : Bool → Bool → ℕ
+sorts_by s w = if s then 5 else if w then 6 else 4
+
+abbrev longer_by : Bool → Bool → Bool → Bool → Bool → ℕ
+longer_by o s w c p = if o || s then 1 else if w then 2 else if c || p then 0 else 4
 
 abbrev kind_by : Bool → Bool → Bool → TokenKind
 kind_by o c w = if o then LParen else if c then RParen else if w then Whitespace else Reserved
+
+sorts_is : (b : ℕ) (s w : Bool) → (b == 59) ≡ s → is_whitespace b ≡ w → sorts b ≡ sorts_by s w
+sorts_is b s w e f = ap (λ x. sorts_by x (is_whitespace b)) e ∙ ap (sorts_by s) f
+
+longer_is : (b : ℕ) (o s w c p : Bool) → (b == 40) ≡ o → (b == 59) ≡ s → is_whitespace b ≡ w → (b == 41) ≡ c → is_punctuation b ≡ p
+    → longer_before b ≡ longer_by o s w c p
+longer_is b o s w c p eo es ew ec ep =
+    ap (λ x. longer_by x (b == 59) (is_whitespace b) (b == 41) (is_punctuation b)) eo
+    ∙ ap (λ x. longer_by o x (is_whitespace b) (b == 41) (is_punctuation b)) es
+    ∙ ap (λ x. longer_by o s x (b == 41) (is_punctuation b)) ew
+    ∙ ap (λ x. longer_by o s w x (is_punctuation b)) ec
+    ∙ ap (longer_by o s w c) ep
 
 kind_is : (b : ℕ) (o c w : Bool) → (b == 40) ≡ o → (b == 41) ≡ c → is_whitespace b ≡ w → kind_alone b ≡ kind_by o c w
 kind_is b o c w eo ec ew =
     ap (λ x. kind_by x (b == 41) (is_whitespace b)) eo ∙ ap (λ x. kind_by o x (is_whitespace b)) ec ∙ ap (kind_by o c) ew
 
-alone_is : (b d : ℕ) (c p o s w : Bool) → (b == 41) ≡ c → is_punctuation b ≡ p → (b == 40) ≡ o → (b == 59) ≡ s → is_whitespace b ≡ w
-    → is_alone_before b d ≡ alone_by c p o s (d == 59) w (is_whitespace d)
-alone_is b d c p o s w ec ep eo es ew =
-    ap (λ x. alone_by x (is_punctuation b) (b == 40) (b == 59) (d == 59) (is_whitespace b) (is_whitespace d)) ec
-    ∙ ap (λ x. alone_by c x (b == 40) (b == 59) (d == 59) (is_whitespace b) (is_whitespace d)) ep
-    ∙ ap (λ x. alone_by c p x (b == 59) (d == 59) (is_whitespace b) (is_whitespace d)) eo
-    ∙ ap (λ x. alone_by c p o x (d == 59) (is_whitespace b) (is_whitespace d)) es
-    ∙ ap (λ x. alone_by c p o s (d == 59) x (is_whitespace d)) ew
+-- the next byte is no `;`, or no white space; and each byte is of some sort
+no_semicolon : (next : ℕ) → bit_and 1 (sorts next) ≡ 0 → (next == 59) ≡ false
+no_semicolon next z =
+    elim (cases_Bool (next == 59)) [
+      | inl t ↦
+          let one : bit_and 1 5 ≡ 0 = subst (λ x. bit_and 1 (sorts x) ≡ 0) (eqb-true next 59 t) z in
+          absurd (omega (arith, one))
+      | inr f ↦ f
+    ]
 
-off : (b : Bool) → not b ≡ true → b ≡ false
-off true h = sym h
-off false h = refl
+no_whitespace : (next : ℕ) → bit_and 2 (sorts next) ≡ 0 → is_whitespace next ≡ false
+no_whitespace next z =
+    elim (cases_Bool (is_whitespace next)) [
+      | inl w ↦
+          elim (cases_Bool (next == 59)) [
+            | inl s ↦ absurd (both_ways (is_whitespace next) (ap is_whitespace (eqb-true next 59 s)) w)
+            | inr s ↦
+                let two : bit_and 2 6 ≡ 0 = subst (λ x. bit_and 2 x ≡ 0) (sorts_is next false true s w) z in
+                absurd (omega (arith, two))
+          ]
+      | inr f ↦ f
+    ]
 
-by_paren : (t : Bool) → alone_by false false true false t false false ≡ true → not t ≡ true
-by_paren true h = h
-by_paren false h = refl
-
-by_blank : (v : Bool) → alone_by false false false false false true v ≡ true → v ≡ false
-by_blank true h = sym h
-by_blank false h = refl
+some_sort : (next : ℕ) → bit_and 4 (sorts next) ≡ 0 → ⊥
+some_sort next z =
+    elim (cases_Bool (next == 59)) [
+      | inl s ↦
+          let k : bit_and 4 5 ≡ 0 = subst (λ x. bit_and 4 (sorts x) ≡ 0) (eqb-true next 59 s) z in
+          omega (arith, k)
+      | inr s ↦
+          elim (cases_Bool (is_whitespace next)) [
+            | inl w ↦ let k : bit_and 4 6 ≡ 0 = subst (λ x. bit_and 4 x ≡ 0) (sorts_is next false true s w) z in omega (arith, k)
+            | inr w ↦ let k : bit_and 4 4 ≡ 0 = subst (λ x. bit_and 4 x ≡ 0) (sorts_is next false false s w) z in omega (arith, k)
+          ]
+    ]
 
 opens : (text : List ℕ) (at next : ℕ) → IsUtf8 text → IsCharBoundary text at → at < length text → get_or text at 0 ≡ 40
     → get_or text (at + 1) 0 ≡ next → (next == 59) ≡ false → StandsAlone text at LParen
@@ -150,57 +181,44 @@ blank text at c next u b l e t n f =
     one text at Whitespace c u b l e (whitespace_ascii c t) (λ flags. (some, (t, tt)))
     (not_behind text at is_whitespace u b l (subst (λ x. x < 128) (sym e) (whitespace_ascii c t)) whitespace_ascii (ap is_whitespace n ∙ f))
 
--- no punctuation is white space
-no_blank : (c : ℕ) → is_punctuation c ≡ true → is_whitespace c ≡ false
-no_blank c p = in_set (codes ",[]{}") c (refl, (refl, (refl, (refl, (refl, tt))))) p
-  where
-    in_set : (s : List ℕ) (c : ℕ) → Each (λ d. not (is_whitespace d)) s → char_set_contains s c ≡ true → is_whitespace c ≡ false
-    in_set [] c h e = cc
-    in_set (d ∷ s) c h e =
-        elim (or_cases (d == c) (char_set_contains s c) e) [
-          | inl t ↦ subst (λ x. is_whitespace x ≡ false) (eqb-true d c t) (off (is_whitespace d) h.0)
-          | inr t ↦ in_set s c h.1 t
-        ]
-
 pub stands_alone : (text : List ℕ) (at first next : ℕ) → IsUtf8 text → IsCharBoundary text at → at < length text → get_or text at 0 ≡ first
-    → get_or text (at + 1) 0 ≡ next → is_alone_before first next ≡ true → StandsAlone text at (kind_alone first)
-stands_alone text at first next u b l e n h =
+    → get_or text (at + 1) 0 ≡ next → bit_and (longer_before first) (sorts next) ≡ 0 → StandsAlone text at (kind_alone first)
+stands_alone text at first next u b l e n z =
     elim (cases_Bool (first == 40)) [
       | inl o ↦
           let k : first ≡ 40 = eqb-true first 40 o in
-          let f : not (next == 59) ≡ true = by_paren (next == 59) (subst (λ x. is_alone_before x next ≡ true) k h) in
-          subst (λ x. StandsAlone text at (kind_alone x)) (sym k) (opens text at next u b l (e ∙ k) n (off (next == 59) f))
+          let f = no_semicolon next (subst (λ x. bit_and (longer_before x) (sorts next) ≡ 0) k z) in
+          subst (λ x. StandsAlone text at (kind_alone x)) (sym k) (opens text at next u b l (e ∙ k) n f)
       | inr o ↦
           elim (cases_Bool (first == 59)) [
             | inl s ↦
                 let k : first ≡ 59 = eqb-true first 59 s in
-                let f : not (next == 59) ≡ true = by_paren (next == 59) (subst (λ x. is_alone_before x next ≡ true) k h) in
-                subst (λ x. StandsAlone text at (kind_alone x)) (sym k) (semicolon_alone text at next u b l (e ∙ k) n (off (next == 59) f))
+                let f = no_semicolon next (subst (λ x. bit_and (longer_before x) (sorts next) ≡ 0) k z) in
+                subst (λ x. StandsAlone text at (kind_alone x)) (sym k) (semicolon_alone text at next u b l (e ∙ k) n f)
             | inr s ↦
                 elim (cases_Bool (first == 41)) [
                   | inl c ↦
                       let k : first ≡ 41 = eqb-true first 41 c in
                       subst (λ x. StandsAlone text at (kind_alone x)) (sym k) (closes text at u b l (e ∙ k))
-                  | inr c ↦ others text at first next u b l e n h o s c
+                  | inr c ↦ others text at first next u b l e n z o s c
                 ]
           ]
     ]
   where
     others : (text : List ℕ) (at first next : ℕ) → IsUtf8 text → IsCharBoundary text at → at < length text → get_or text at 0 ≡ first
-        → get_or text (at + 1) 0 ≡ next → is_alone_before first next ≡ true → (first == 40) ≡ false → (first == 59) ≡ false
+        → get_or text (at + 1) 0 ≡ next → bit_and (longer_before first) (sorts next) ≡ 0 → (first == 40) ≡ false → (first == 59) ≡ false
         → (first == 41) ≡ false → StandsAlone text at (kind_alone first)
-    others text at first next u b l e n h o s c =
-        elim (cases_Bool (is_punctuation first)) [
-          | inl p ↦
-              let w : is_whitespace first ≡ false = no_blank first p in
-              subst (StandsAlone text at) (sym (kind_is first false false false o c w)) (punctuation text at first u b l e p)
-          | inr p ↦
-              elim (cases_Bool (is_whitespace first)) [
-                | inl w ↦
-                    let f : is_whitespace next ≡ false = by_blank (is_whitespace next) (sym (alone_is first next false false false false true c p o s w) ∙ h) in
-                    subst (StandsAlone text at) (sym (kind_is first false false true o c w)) (blank text at first next u b l e w n f)
-                | inr w ↦
-                    let no : false ≡ true = sym (alone_is first next false false false false false c p o s w) ∙ h in
-                    cc
+    others text at first next u b l e n z o s c =
+        elim (cases_Bool (is_whitespace first)) [
+          | inl w ↦
+              let k : longer_before first ≡ 2 = longer_is first false false true false (is_punctuation first) o s w c refl in
+              let f = no_whitespace next (subst (λ x. bit_and x (sorts next) ≡ 0) k z) in
+              subst (StandsAlone text at) (sym (kind_is first false false true o c w)) (blank text at first next u b l e w n f)
+          | inr w ↦
+              elim (cases_Bool (is_punctuation first)) [
+                | inl p ↦ subst (StandsAlone text at) (sym (kind_is first false false false o c w)) (punctuation text at first u b l e p)
+                | inr p ↦
+                    let k : longer_before first ≡ 4 = longer_is first false false false false false o s w c p in
+                    absurd (some_sort next (subst (λ x. bit_and x (sorts next) ≡ 0) k z))
               ]
         ]

@@ -1,65 +1,58 @@
 //! Tokens of one byte, which are told by that byte and the next: most tokens of most texts.
 ghost use Rattle.std.specs.Prelude.{◌≡◌, ◌<◌, ◌^◌, length, IfSome};
 ghost use Rattle.std.specs.Str.{IsCharBoundary};
-ghost use Rattle.wat_lex.specs.grammar.Classes.{is_whitespace};
-ghost use Rattle.wat_rows.specs.inside.OneByte.{is_always_alone, may_begin_comment};
-ghost use Rattle.wat_rows.specs.inside.OneByte.{is_alone_before, kind_alone, StandsAlone};
+ghost use Rattle.wat_rows.specs.inside.OneByte.{sorts, longer_before, kind_alone, StandsAlone};
 
 use wat_lex::lexer::TokenKind;
 
-const ALWAYS_ALONE: u8 = 1;
-
-const BEGINS_COMMENT: u8 = 2;
-
-const WHITESPACE: u8 = 4;
-
-/// The classes of each byte, a bit each, in rows of 32 bytes.
-const CLASSES: [u8; 256] = [
-    0, 0, 0, 0, 0, 0, 0, 0, 0, 4, 4, 0, 0, 4, 0, 0, 0, 0, 0, 0, 0, 0, 0, 0, 0, 0, 0, 0, 0, 0, 0, 0,
-    4, 0, 0, 0, 0, 0, 0, 0, 2, 1, 0, 0, 1, 0, 0, 0, 0, 0, 0, 0, 0, 0, 0, 0, 0, 0, 0, 2, 0, 0, 0, 0,
-    0, 0, 0, 0, 0, 0, 0, 0, 0, 0, 0, 0, 0, 0, 0, 0, 0, 0, 0, 0, 0, 0, 0, 0, 0, 0, 0, 1, 0, 1, 0, 0,
-    0, 0, 0, 0, 0, 0, 0, 0, 0, 0, 0, 0, 0, 0, 0, 0, 0, 0, 0, 0, 0, 0, 0, 0, 0, 0, 0, 1, 0, 1, 0, 0,
-    0, 0, 0, 0, 0, 0, 0, 0, 0, 0, 0, 0, 0, 0, 0, 0, 0, 0, 0, 0, 0, 0, 0, 0, 0, 0, 0, 0, 0, 0, 0, 0,
-    0, 0, 0, 0, 0, 0, 0, 0, 0, 0, 0, 0, 0, 0, 0, 0, 0, 0, 0, 0, 0, 0, 0, 0, 0, 0, 0, 0, 0, 0, 0, 0,
-    0, 0, 0, 0, 0, 0, 0, 0, 0, 0, 0, 0, 0, 0, 0, 0, 0, 0, 0, 0, 0, 0, 0, 0, 0, 0, 0, 0, 0, 0, 0, 0,
-    0, 0, 0, 0, 0, 0, 0, 0, 0, 0, 0, 0, 0, 0, 0, 0, 0, 0, 0, 0, 0, 0, 0, 0, 0, 0, 0, 0, 0, 0, 0, 0,
+/// The sorts of each byte as bits, in rows of 32 bytes: 4 of each, 1 of `;`, 2 of white space.
+const SORTS: [u8; 256] = [
+    4, 4, 4, 4, 4, 4, 4, 4, 4, 6, 6, 4, 4, 6, 4, 4, 4, 4, 4, 4, 4, 4, 4, 4, 4, 4, 4, 4, 4, 4, 4, 4,
+    6, 4, 4, 4, 4, 4, 4, 4, 4, 4, 4, 4, 4, 4, 4, 4, 4, 4, 4, 4, 4, 4, 4, 4, 4, 4, 4, 5, 4, 4, 4, 4,
+    4, 4, 4, 4, 4, 4, 4, 4, 4, 4, 4, 4, 4, 4, 4, 4, 4, 4, 4, 4, 4, 4, 4, 4, 4, 4, 4, 4, 4, 4, 4, 4,
+    4, 4, 4, 4, 4, 4, 4, 4, 4, 4, 4, 4, 4, 4, 4, 4, 4, 4, 4, 4, 4, 4, 4, 4, 4, 4, 4, 4, 4, 4, 4, 4,
+    4, 4, 4, 4, 4, 4, 4, 4, 4, 4, 4, 4, 4, 4, 4, 4, 4, 4, 4, 4, 4, 4, 4, 4, 4, 4, 4, 4, 4, 4, 4, 4,
+    4, 4, 4, 4, 4, 4, 4, 4, 4, 4, 4, 4, 4, 4, 4, 4, 4, 4, 4, 4, 4, 4, 4, 4, 4, 4, 4, 4, 4, 4, 4, 4,
+    4, 4, 4, 4, 4, 4, 4, 4, 4, 4, 4, 4, 4, 4, 4, 4, 4, 4, 4, 4, 4, 4, 4, 4, 4, 4, 4, 4, 4, 4, 4, 4,
+    4, 4, 4, 4, 4, 4, 4, 4, 4, 4, 4, 4, 4, 4, 4, 4, 4, 4, 4, 4, 4, 4, 4, 4, 4, 4, 4, 4, 4, 4, 4, 4,
 ];
 
-fn is_always_alone(byte: u8) -> bool
-    ensures { result ≡ is_always_alone byte }
+/// The sorts of bytes before which each byte may be no token of its own, in rows of 32 bytes.
+const LONGER_BEFORE: [u8; 256] = [
+    4, 4, 4, 4, 4, 4, 4, 4, 4, 2, 2, 4, 4, 2, 4, 4, 4, 4, 4, 4, 4, 4, 4, 4, 4, 4, 4, 4, 4, 4, 4, 4,
+    2, 4, 4, 4, 4, 4, 4, 4, 1, 0, 4, 4, 0, 4, 4, 4, 4, 4, 4, 4, 4, 4, 4, 4, 4, 4, 4, 1, 4, 4, 4, 4,
+    4, 4, 4, 4, 4, 4, 4, 4, 4, 4, 4, 4, 4, 4, 4, 4, 4, 4, 4, 4, 4, 4, 4, 4, 4, 4, 4, 0, 4, 0, 4, 4,
+    4, 4, 4, 4, 4, 4, 4, 4, 4, 4, 4, 4, 4, 4, 4, 4, 4, 4, 4, 4, 4, 4, 4, 4, 4, 4, 4, 0, 4, 0, 4, 4,
+    4, 4, 4, 4, 4, 4, 4, 4, 4, 4, 4, 4, 4, 4, 4, 4, 4, 4, 4, 4, 4, 4, 4, 4, 4, 4, 4, 4, 4, 4, 4, 4,
+    4, 4, 4, 4, 4, 4, 4, 4, 4, 4, 4, 4, 4, 4, 4, 4, 4, 4, 4, 4, 4, 4, 4, 4, 4, 4, 4, 4, 4, 4, 4, 4,
+    4, 4, 4, 4, 4, 4, 4, 4, 4, 4, 4, 4, 4, 4, 4, 4, 4, 4, 4, 4, 4, 4, 4, 4, 4, 4, 4, 4, 4, 4, 4, 4,
+    4, 4, 4, 4, 4, 4, 4, 4, 4, 4, 4, 4, 4, 4, 4, 4, 4, 4, 4, 4, 4, 4, 4, 4, 4, 4, 4, 4, 4, 4, 4, 4,
+];
+
+fn sorts(byte: u8) -> u8
+    ensures { result ≡ sorts byte }
 {
-    CLASSES[byte as usize] & ALWAYS_ALONE != 0
+    SORTS[byte as usize]
 }
 
-fn may_begin_comment(byte: u8) -> bool
-    ensures { result ≡ may_begin_comment byte }
+fn longer_before(byte: u8) -> u8
+    ensures { result ≡ longer_before byte }
 {
-    CLASSES[byte as usize] & BEGINS_COMMENT != 0
-}
-
-fn is_whitespace(byte: u8) -> bool
-    ensures { result ≡ is_whitespace byte }
-{
-    CLASSES[byte as usize] & WHITESPACE != 0
-}
-
-/// Whether the first byte is a token of its own before the next.
-#[inline(always)]
-fn is_alone_before(first: u8, next: u8) -> bool
-    ensures { result ≡ is_alone_before first next }
-{
-    is_always_alone(first)
-        || may_begin_comment(first) && next != b';'
-        || is_whitespace(first) && !is_whitespace(next)
+    LONGER_BEFORE[byte as usize]
 }
 
 /// The kind of a byte that is a token of its own.
+// One `match` would become a table of jumps.
 fn kind_alone(byte: u8) -> TokenKind
     ensures { result ≡ kind_alone byte }
 {
+    if byte == b'(' {
+        return TokenKind::LParen;
+    }
+    if byte == b')' {
+        return TokenKind::RParen;
+    }
     match byte {
-        b'(' => TokenKind::LParen,
-        b')' => TokenKind::RParen,
         b' ' | b'\n' | b'\r' | b'\t' => TokenKind::Whitespace,
         _ => TokenKind::Reserved,
     }
@@ -74,7 +67,7 @@ pub fn alone(text: &str, at: usize) -> Option<TokenKind>
     ensures { IfSome result (StandsAlone text.now at) }
 {
     let bytes = text.as_bytes();
-    if at + 1 < bytes.len() && is_alone_before(bytes[at], bytes[at + 1]) {
+    if at + 1 < bytes.len() && longer_before(bytes[at]) & sorts(bytes[at + 1]) == 0 {
         return Some(kind_alone(bytes[at]));
     }
     None

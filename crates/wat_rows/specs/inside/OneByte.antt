@@ -1,5 +1,5 @@
 -- WebAssembly specification, text format, lexical format: tokens, white space, comments. Where a token of one byte stands.
-use Rattle.std.specs.Prelude.{ℕ, ◌+◌, Bool, ◌==◌, ◌||◌, ◌&&◌, not, List, if◌then◌else◌}
+use Rattle.std.specs.Prelude.{ℕ, ◌+◌, ◌==◌, ◌||◌, List, if◌then◌else◌}
 use Rattle.std.specs.Str.{IsCharBoundary}
 use Rattle.wat_lex.specs.grammar.Classes.{is_whitespace, is_punctuation, open_paren, close_paren, semicolon}
 use Rattle.wat_lex.specs.tokens.Tiling.{TokenAt}
@@ -7,20 +7,19 @@ use Rattle.wat_lex.specs.declared.lexer.settings.Settings.{Settings}
 use Rattle.wat_lex.specs.declared.lexer.kinds.TokenKind.{TokenKind}
 use Rattle.wat_lex.specs.declared.lexer.kinds.TokenKind.TheVariants.{LParen, RParen, Reserved, Whitespace}
 
--- a token of its own whatever follows
-abbrev pub is_always_alone : ℕ → Bool
-is_always_alone b = b == close_paren || is_punctuation b
+-- the sorts of a byte as bits: 4 of each, 1 of `;`, 2 of white space
+abbrev pub sorts : ℕ → ℕ
+sorts b = if b == semicolon then 5 else if is_whitespace b then 6 else 4
 
--- a token of its own where no `;` follows
-abbrev pub may_begin_comment : ℕ → Bool
-may_begin_comment b = b == open_paren || b == semicolon
+-- the sorts of bytes before which a byte may be no token of its own
+abbrev pub longer_before : ℕ → ℕ
+longer_before b =
+    if b == open_paren || b == semicolon then 1
+    else if is_whitespace b then 2
+    else if b == close_paren || is_punctuation b then 0
+    else 4
 
--- a byte that is a token of its own before the next
-abbrev pub is_alone_before : ℕ → ℕ → Bool
-is_alone_before first next =
-    is_always_alone first || (may_begin_comment first && not (next == semicolon)) || (is_whitespace first && not (is_whitespace next))
-
--- the kind of such a byte
+-- the kind of a byte that is a token of its own
 abbrev pub kind_alone : ℕ → TokenKind
 kind_alone b = if b == open_paren then LParen else if b == close_paren then RParen else if is_whitespace b then Whitespace else Reserved
 
