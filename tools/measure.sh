@@ -1,13 +1,14 @@
 #!/usr/bin/env bash
 # Measures this project's calls beside those of the crate wast 263.0.0, in one program (tools/measure) over the loops of crates/wat_measure: times
-# in turn, pass by pass, by the processor time of a thread that is pinned to one processor, and instructions by callgrind. Writes Markdown
+# in turn, pass by pass, by the processor time of a thread that is pinned to one processor, and instructions by callgrind; so too the static library
+# and the Rust crate over it. Writes Markdown
 # tables for docs/SPEED.md to WORK/table.md, and each contender's quartiles to WORK/times.tsv. Texts that are in WORK already are not made anew.
 #
 # usage: [NAME=VALUE ..] tools/measure.sh WORK
 #
 #   WAST=FOLDER      the crate wast 263.0.0, where its registry is not at hand. Only one that has `Cursor::oracle_any`, which takes any token, is
 #                    measured by steps
-#   ARCHIVES=FOLDER  where libwat_measure.a and liblibc_c.a lie; otherwise `rt lib` proves and builds the one
+#   ARCHIVES=FOLDER  where libwat_measure.a, libwat_parser_c.a and liblibc_c.a lie; otherwise `rt lib` proves and builds the first two
 #   REAL=FILE        the real text; otherwise tools/real_text.sh makes it, where the machine has what it takes
 #   PASSES=31 KINDS=11  how many passes there are, and over the texts of one kind each
 #   CPU=N            the processor; otherwise the last
@@ -39,13 +40,15 @@ if [ -z "${ARCHIVES:-}" ]; then
     ARCHIVES=$work/archives
     mkdir -p "$ARCHIVES"
     (cd crates/wat_measure && rt lib) >&2
-    cp crates/wat_measure/out/libwat_measure.a "$(dirname "$(rt doc)")/c/liblibc_c.a" "$ARCHIVES/"
+    tools/build_c.sh >&2
+    cp crates/wat_measure/out/libwat_measure.a crates/wat_parser_c/out/libwat_parser_c.a crates/wat_parser_c/out/liblibc_c.a "$ARCHIVES/"
 fi
-export ARCHIVES
+export ARCHIVES WAT_C_FOLDER=$ARCHIVES
 
 # The program.
 mkdir -p "$work/program"
 cp -r tools/measure/. "$work/program/"
+sed -i "s|^wat-lex = .*|wat-lex = { path = \"$PWD/rust/wat-lex\" }|" "$work/program/Cargo.toml"
 features=()
 if [ -n "${WAST:-}" ]; then
     sed -i "s|^wast = .*|wast = { path = \"$WAST\", default-features = false }|" "$work/program/Cargo.toml"
@@ -102,6 +105,12 @@ lexing() {
     times lexing "$kinds" "$texts"/kinds/*.wat
 }
 
+# library: the rows of the suite, on all texts
+library() {
+    times library "$passes" "${all[@]}"
+    times library "$kinds" "$texts"/kinds/*.wat
+}
+
 # instructions FUNCTION TEXT: how many instructions a call takes for each byte of the text's front
 instructions() {
     local counted bytes
@@ -147,6 +156,10 @@ measure() {
     lexing
     table '| text | the crate with one caller, MB/s | `scan` | `parse` | `iter` |'
     program=$program_one lexing
+    table '| text | the crate, MB/s | `wat_fill` | `wat_token_at` | Rust `parse` | Rust `iter` |'
+    library
+    table '| text | the crate with one caller, MB/s | `wat_fill` | `wat_token_at` | Rust `parse` | Rust `iter` |'
+    program=$program_one library
     table '| text | what | ours, ms | the crate, ms | ratio |'
     times parser "$passes" "${all[@]}"
     times numbers "$passes" "$texts"/u32_*.wat
@@ -165,6 +178,7 @@ measure() {
     counts lexing "${all[@]}" "$texts"/kinds/{keywords,integers,parens,line_long}.wat
     table '| the first megabyte of | what | ours, instructions a byte | the crate with one caller | ratio |'
     program=$program_one counts lexing "${all[@]}" "$texts"/kinds/{keywords,integers,parens,line_long}.wat
+    program=$program_one counts library "${all[@]}" "$texts"/kinds/{keywords,integers,parens,marks,line_long}.wat
     table '| the first megabyte of | what | ours, instructions a byte | the crate | ratio |'
     counts parser "${all[@]}"
     counts numbers "$texts"/u32_*.wat

@@ -7,6 +7,7 @@ mod Fronts
 mod Lifting
 mod Linking
 mod Looking
+mod OneByte
 mod OneCounting
 mod OneFill
 mod Pieces

@@ -3,8 +3,9 @@ ghost use Rattle.std.specs.Prelude.{◌≡◌, ◌≤◌, ◌<◌, ◌^◌, leng
 ghost use Rattle.std.specs.Str.{IsCharBoundary};
 ghost use Rattle.wat_rows.specs.Rows.{Fills};
 
+use crate::one_byte::alone;
 use crate::rows::{Filled, TokenRow, fault_code, lexer_of, token_row};
-use wat_lex::lexer::Settings;
+use wat_lex::lexer::{Settings, Token};
 
 /// Writes the tokens from a byte of the text on, as many as there are or as there is room for.
 pub fn fill(text: &str, pos: usize, settings: Settings, out: &mut [TokenRow]) -> Filled
@@ -20,6 +21,16 @@ pub fn fill(text: &str, pos: usize, settings: Settings, out: &mut [TokenRow]) ->
     let mut at = pos;
     let mut count = 0;
     'rows: while count < out.len() {
+        if let Some(kind) = alone(text, at) {
+            out[count] = token_row(Token {
+                kind,
+                offset: at,
+                len: 1,
+            });
+            count += 1;
+            at += 1;
+            continue 'rows;
+        }
         match lexer.scan(at) {
             Ok(Some(token)) => {
                 out[count] = token_row(token);

@@ -7,4 +7,5 @@ pub mod fill;
 pub mod laws;
 pub mod links;
 pub mod looks;
+mod one_byte;
 pub mod rows;

@@ -2,18 +2,20 @@
 //! another in each pass. A time is the processor time of the thread, and a ratio that of the medians, the crate's to ours: above 1 ours is faster.
 //! Ours and the crate's have to answer the same sum, and not 0, which stands for a text that is refused.
 //!
-//! usage: measure PASSES lexing|parser|numbers|groups|places|errors TEXT..    the rows of a Markdown table
+//! usage: measure PASSES lexing|library|parser|numbers|groups|places|errors TEXT..    the rows of a Markdown table
 //!        measure functions SUITE                                             the functions of a suite: ours, and the crate's or -
 //!        measure once FUNCTION TEXT [BYTES]                                  one call on the text, or on its front: the sum, and by how many
 //!                                                                            bytes the process grew
 //!
 //! In `errors` the fault stands at the text's last byte. Each contender's best, median and quartiles go to standard error.
 
+mod library;
 mod measure;
 mod more;
 mod ours;
 mod theirs;
 
+use library::library;
 use measure::{Loop, Pair, Suite, pair, run_words};
 use std::process::ExitCode;
 
@@ -46,6 +48,8 @@ const LEXING: &[Pair] = &[
     ),
 ];
 
+const LIBRARY: &[Pair] = &library(PARSE);
+
 const PARSER: &[Pair] = &[
     pair("buffer", ("measure_buffer", ours::buffer), None),
     pair("each", ("measure_each", ours::each), EACH),
@@ -77,6 +81,7 @@ const ERRORS: &[Pair] = &[pair(
 
 const SUITES: &[Suite] = &[
     ("lexing", LEXING),
+    ("library", LIBRARY),
     ("parser", PARSER),
     ("numbers", NUMBERS),
     ("groups", GROUPS),

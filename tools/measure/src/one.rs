@@ -1,22 +1,27 @@
-//! The suite `lexing` of `measure`, where the crate's `parse` has one caller, and so is built into it.
+//! The suites `lexing` and `library` of `measure`, where the crate's `parse` has one caller, and so is built into it.
 
+mod library;
 mod measure;
 mod ours;
 mod theirs;
 
+use library::library;
 use measure::{Loop, Suite, pair, run_words};
 use std::process::ExitCode;
 
 const PARSE: Option<Loop> = Some(("theirs_parse", theirs::theirs_parse));
 
-const SUITES: &[Suite] = &[(
-    "lexing",
-    &[
-        pair("`scan`", ("measure_scan", ours::scan), PARSE),
-        pair("`parse`", ("measure_parse", ours::parse), PARSE),
-        pair("`iter`", ("measure_iter", ours::iter), PARSE),
-    ],
-)];
+const SUITES: &[Suite] = &[
+    (
+        "lexing",
+        &[
+            pair("`scan`", ("measure_scan", ours::scan), PARSE),
+            pair("`parse`", ("measure_parse", ours::parse), PARSE),
+            pair("`iter`", ("measure_iter", ours::iter), PARSE),
+        ],
+    ),
+    ("library", &library(PARSE)),
+];
 
 fn main() -> ExitCode {
     run_words(SUITES)

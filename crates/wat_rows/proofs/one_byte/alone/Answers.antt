@@ -1,0 +1,17 @@
+use Rattle.std.proofs.Common.{◌≡◌, ◌<◌, ◌+◌, ◌∙◌, length, get_or, ap, sym, arith}
+use Rattle.std.specs.Int.Bits.{bit_and}
+use Rattle.wat_rows.specs.inside.OneByte.{sorts, longer_before}
+use Rattle.wat_rows.proofs.OneByte.{stands_alone}
+use Rattle.wat_rows.proofs.one_byte.alone.Goals as goal
+
+pub returns-then-longer_before-sorts-eq0 : goal.returns-then-longer_before-sorts-eq0
+returns-then-longer_before-sorts-eq0 c =
+    let at = c.args.at in
+    let bytes = c.as_bytes-bytes.result.now in
+    let same = c.as_bytes-bytes.ensures.value in
+    let inside : at < length c.args.text.now = omega (arith, c.if-at-bytes.true, ap length same) in
+    let told : bit_and (longer_before (get_or bytes at 0)) (sorts (get_or bytes (at + 1) 0)) ≡ 0 =
+    sym (ap (λ x. bit_and x c.sorts.result) c.longer_before.ensures ∙ ap (bit_and (longer_before (get_or bytes at 0))) c.sorts.ensures)
+    ∙ c.if-longer_before-sorts-eq0.true in
+    rw c.kind_alone.ensures (stands_alone c.args.text.now at (get_or bytes at 0) (get_or bytes (at + 1) 0) c.utf8.text c.requires.boundary inside
+    (ap (λ x. get_or x at 0) (sym same)) (ap (λ x. get_or x (at + 1) 0) (sym same)) told)

@@ -1,0 +1,29 @@
+-- WebAssembly specification, text format, lexical format: tokens, white space, comments. Where a token of one byte stands.
+use Rattle.std.specs.Prelude.{ℕ, ◌+◌, ◌==◌, ◌||◌, List, if◌then◌else◌}
+use Rattle.std.specs.Str.{IsCharBoundary}
+use Rattle.wat_lex.specs.grammar.Classes.{is_whitespace, is_punctuation, open_paren, close_paren, semicolon}
+use Rattle.wat_lex.specs.tokens.Tiling.{TokenAt}
+use Rattle.wat_lex.specs.declared.lexer.settings.Settings.{Settings}
+use Rattle.wat_lex.specs.declared.lexer.kinds.TokenKind.{TokenKind}
+use Rattle.wat_lex.specs.declared.lexer.kinds.TokenKind.TheVariants.{LParen, RParen, Reserved, Whitespace}
+
+-- the sorts of a byte as bits: 4 of each, 1 of `;`, 2 of white space
+abbrev pub sorts : ℕ → ℕ
+sorts b = if b == semicolon then 5 else if is_whitespace b then 6 else 4
+
+-- the sorts of bytes before which a byte may be no token of its own
+abbrev pub longer_before : ℕ → ℕ
+longer_before b =
+    if b == open_paren || b == semicolon then 1
+    else if is_whitespace b then 2
+    else if b == close_paren || is_punctuation b then 0
+    else 4
+
+-- the kind of a byte that is a token of its own
+abbrev pub kind_alone : ℕ → TokenKind
+kind_alone b = if b == open_paren then LParen else if b == close_paren then RParen else if is_whitespace b then Whitespace else Reserved
+
+-- under any settings a token of one byte and of this kind stands at the place, and behind it is a place
+pub record StandsAlone (text : List ℕ) (at : ℕ) (kind : TokenKind) : Type 0 where
+  pub token : (flags : Settings) → TokenAt (record { text = text; flags = flags }) at (record { kind = kind; offset = at; len = 1 })
+  pub behind : IsCharBoundary text (at + 1)
