@@ -59,7 +59,7 @@ fn kind_alone(byte: u8) -> TokenKind
 }
 
 /// The kind of the token of one byte at a place, where its first two bytes tell that one stands there.
-// Found so, a token of one byte takes some 10 instructions fewer than found by the lexer's scan.
+// Found so, a token of one byte takes 8 to 10 instructions fewer than by a scan.
 #[inline(always)]
 pub fn alone(text: &str, at: usize) -> Option<TokenKind>
     requires short { length text.now < 2 ^ 32 }
