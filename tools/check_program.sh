@@ -5,7 +5,8 @@
 # usage: tools/check_program.sh [PROGRAM]
 set -eu
 cd "$(dirname "$0")/.."
-program=${1:-$(tools/build.sh wat_tokens)}
+program=$(realpath "${1:-$(tools/build.sh wat_tokens)}")
+top=$PWD
 room=$(mktemp -d)
 trap 'rm -rf "$room"' EXIT
 runs=0
@@ -36,12 +37,24 @@ expect() {
     compare errors "$name"
 }
 
-# the report of a fault: its message, column, line and marker
-fault() {
-    printf '%s\\n     --> <anon>:1:%s\\n      |\\n    1 | %s\\n      | %s^\\n' "$@"
+# the report of a fault of a file: its message, file, column, line and marker
+fault_in() {
+    printf '%s\\n     --> %s:1:%s\\n      |\\n    1 | %s\\n      | %s^\\n' "$@"
 }
 
-usage='usage: wat_tokens [--allow-confusing] [--strict-underscores] [sig NAME.. | play CALL.. | blank] | types\n'
+# the report of a fault of standard input: its message, column, line and marker
+fault() {
+    fault_in "$1" '<anon>' "${@:2}"
+}
+
+# expect_wrong COMPLAINT WORD WORDS..: words among which one is wrong
+expect_wrong() {
+    local complaint=$1 wrong=$2
+    shift 2
+    expect "the words $*" 2 '' "wat_tokens: $complaint: $wrong\n$usage" "$program" "$@" < <(printf x)
+}
+
+usage='usage: wat_tokens [OPTION..] [list | sig NAME.. | play CALL.. | blank | types] [--] [FILE..]; --help says more\n'
 confusing=$';;\u202e'
 confusing_fault=$(fault "likely-confusing unicode character found '\\\\u{202e}'" 3 ';;' '  ')
 underscores='"\u{1__0}"'
@@ -74,8 +87,8 @@ expect 'sig, a fault' 1 '0..1 Keyword\n' "$(fault 'unterminated block comment' 2
 expect 'sig, confusing' 1 '' "$confusing_fault" "$program" sig < <(printf %s "$confusing")
 expect 'sig, confusing, allowed' 0 '' '' "$program" --allow-confusing sig < <(printf %s "$confusing")
 expect 'sig, strict' 1 '' "$underscores_fault" "$program" --strict-underscores sig < <(printf %s "$underscores")
-expect 'sig, no UTF-8' 2 '' 'wat_tokens: input is not UTF-8\n' "$program" sig a < <(printf 'a \377')
-output=/dev/full expect 'sig, no room' 2 '' 'wat_tokens: write failed\n' "$program" sig < <(printf x)
+expect 'sig, no UTF-8' 2 '' 'wat_tokens: input is not UTF-8 at byte 2\n' "$program" sig a < <(printf 'a \377')
+output=/dev/full expect 'sig, no room' 2 '' 'wat_tokens: write failed: no space left on device\n' "$program" sig < <(printf x)
 
 # replies to calls
 expect 'play, no calls' 0 '' '' "$program" play < <(printf '"')
@@ -86,8 +99,8 @@ expect 'play, comments' 0 'absent\n0..1 Keyword\ncomment 2..5\nend\n' '' "$progr
 expect 'play, a fault' 0 'fault 1 empty annotation id\n' '' "$program" play look < <(printf '(@)')
 expect 'play, confusing, allowed' 0 'end\n' '' "$program" --allow-confusing play look < <(printf %s "$confusing")
 expect 'play, strict' 0 'fault 6 bare underscore in numeric literal\n' '' "$program" --strict-underscores play look < <(printf %s "$underscores")
-expect 'play, no UTF-8' 2 '' 'wat_tokens: input is not UTF-8\n' "$program" play look < <(printf 'a \377')
-output=/dev/full expect 'play, no room' 2 '' 'wat_tokens: write failed\n' "$program" play look < <(printf x)
+expect 'play, no UTF-8' 2 '' 'wat_tokens: input is not UTF-8 at byte 2\n' "$program" play look < <(printf 'a \377')
+output=/dev/full expect 'play, no room' 2 '' 'wat_tokens: write failed: no space left on device\n' "$program" play look < <(printf x)
 
 # the text with its comments blanked
 expect 'blank' 0 '(module                 (func))       ' '' "$program" blank < <(printf '(module (; a comment ;) (func)) ;; end')
@@ -97,8 +110,8 @@ expect 'blank, a fault' 1 '' "$(fault 'unterminated block comment' 6 '(;;)x(;' '
 expect 'blank, confusing' 1 '' "$confusing_fault" "$program" blank < <(printf %s "$confusing")
 expect 'blank, confusing, allowed' 0 '     ' '' "$program" --allow-confusing blank < <(printf %s "$confusing")
 expect 'blank, strict' 1 '' "$underscores_fault" "$program" --strict-underscores blank < <(printf %s "$underscores")
-expect 'blank, no UTF-8' 2 '' 'wat_tokens: input is not UTF-8\n' "$program" blank < <(printf 'a \377')
-output=/dev/full expect 'blank, no room' 2 '' 'wat_tokens: write failed\n' "$program" blank < <(printf x)
+expect 'blank, no UTF-8' 2 '' 'wat_tokens: input is not UTF-8 at byte 2\n' "$program" blank < <(printf 'a \377')
+output=/dev/full expect 'blank, no room' 2 '' 'wat_tokens: write failed: no space left on device\n' "$program" blank < <(printf x)
 
 # the bytes of the module that the text spells
 expect 'types' 0 '\0asm\01\0\0\0\01\05\01\0140\01\0177\0' '' "$program" types < <(printf '(module (type (func (param i32))))')
@@ -106,22 +119,86 @@ expect 'types, none' 0 '\0asm\01\0\0\0' '' "$program" types < <(printf '(module)
 expect 'types, refused' 1 '' "$(fault "expected keyword \`type\`" 10 '(module (func))' '         ')" "$program" types < <(printf '(module (func))')
 expect 'types, a fault' 1 '' "$(fault 'unterminated block comment' 9 '(module)(;' '        ')" "$program" types < <(printf '(module)(;')
 expect 'types, confusing' 1 '' "$confusing_fault" "$program" types < <(printf %s "$confusing")
-expect 'types, no UTF-8' 2 '' 'wat_tokens: input is not UTF-8\n' "$program" types < <(printf '(module) \377')
-output=/dev/full expect 'types, no room' 2 '' 'wat_tokens: write failed\n' "$program" types < <(printf '(module)')
+expect 'types, no UTF-8' 2 '' 'wat_tokens: input is not UTF-8 at byte 9\n' "$program" types < <(printf '(module) \377')
+output=/dev/full expect 'types, no room' 2 '' 'wat_tokens: write failed: no space left on device\n' "$program" types < <(printf '(module)')
 
-# other words
-for words in --help x 'blank x' 'blank --allow-confusing' '--allow-confusing types' 'types --strict-underscores' 'types x' 'play Look' 'play look parens=' 'play parens=1234567890' '--allow-confusing --allow-confusing' \
-    'look' 'sig=a' '--strict-underscores --strict-underscores' '--allow-confusing --strict-underscores --allow-confusing'; do
-    # shellcheck disable=SC2086
-    expect "the words $words" 2 '' "$usage" "$program" $words < <(printf x)
-done
-expect 'an empty word' 2 '' "$usage" "$program" '' < <(printf x)
+# files: of the room, so that a report tells the name alone
+cd "$room"
+printf x > a
+printf 'x(;' > bad
+printf '(@a 1' > open
+printf 'ab\377' > bytes
+printf '\357\273\277' > mark
+printf y > sig
+printf z > -dash
+mkdir folder
+word='0..1 Keyword\n'
+bad=$(fault_in 'unterminated block comment' bad 2 'x(;' ' ')
+expect 'a file' 0 "$word" '' "$program" a < /dev/null
+expect 'list, a file' 0 "$word" '' "$program" list a < /dev/null
+expect 'standard input' 0 "$word" '' "$program" - < <(printf x)
+expect 'files' 0 "$word$word$word" '' "$program" a - a < <(printf x)
+expect 'files behind dashes' 0 "$word$word" '' "$program" -- sig -dash < /dev/null
+expect 'a file with a fault' 1 "$word$word" "$bad" "$program" bad a < /dev/null
+expect 'no such file' 2 "$word$word" "wat_tokens: none: open failed: no such file or directory\n$bad" "$program" a none bad < /dev/null
+expect 'not opened, and a fault' 2 '' 'wat_tokens: none: open failed: no such file or directory\n' "$program" blank none < /dev/null
+expect 'sig, files' 0 "$word$word" '' "$program" sig name -- a sig < /dev/null
+expect 'sig, open annotation' 1 '' 'open: unclosed annotation at byte offset 1\n' "$program" sig -- open < /dev/null
+expect 'play, a file' 0 "$word" '' "$program" play look -- a < /dev/null
+expect 'blank, a file' 0 x '' "$program" blank a < /dev/null
+expect 'types, a file' 1 '' "$(fault_in "expected \`(\`" a 1 x '')" "$program" types a < /dev/null
+expect 'a file that is not UTF-8' 2 '' 'wat_tokens: bytes: input is not UTF-8 at byte 2\n' "$program" bytes < /dev/null
+expect 'a folder as a file' 2 '' 'wat_tokens: folder: read failed: is a directory\n' "$program" folder < /dev/null
+expect 'a byte order mark' 1 '' "$(fault_in "unexpected character '\\\\u{feff}'" mark 1 $'\ufeff' '')the text begins with a byte order mark, which has to go\n" \
+    "$program" mark < /dev/null
+cd "$top"
+
+# what the program says of itself
+help=$("$program" --help | sed 's/\\/\\\\/g')
+case $help in
+*usage:*'sig NAME..'*'reg=NAME'*examples:*) ;;
+*) echo 'the help is not as it must be' && differences=$((differences + 1)) ;;
+esac
+expect 'help' 0 "$help\n" '' "$program" --help < /dev/null
+expect 'help, short' 0 "$help\n" '' "$program" -h sig < /dev/null
+expect 'version' 0 'wat_tokens 0.1.0, of wast 263.0.0\n' '' "$program" --version < /dev/null
+output=/dev/full expect 'help, no room' 2 '' 'wat_tokens: write failed: no space left on device\n' "$program" --help < /dev/null
+
+# wrong words
+expect_wrong 'unknown option' -x -x
+expect_wrong 'unknown option' --nothing --nothing a
+expect_wrong 'unknown option' --allow-confusin sig --allow-confusin
+expect_wrong 'unknown option' --a a --a
+expect_wrong 'misplaced option' --allow-confusing sig b --allow-confusing
+expect_wrong 'misplaced option' --allow-confusing blank --allow-confusing
+expect_wrong 'misplaced option' --strict-underscores types --strict-underscores
+expect_wrong 'misplaced option' --allow-confusing --allow-confusing --allow-confusing
+expect_wrong 'misplaced option' --strict-underscores --strict-underscores --strict-underscores
+expect_wrong 'misplaced option' --allow-confusing --allow-confusing --strict-underscores --allow-confusing
+expect_wrong 'misplaced option' --help --allow-confusing --help
+expect_wrong 'misplaced option' --help sig --help
+expect_wrong 'misplaced option' -h sig -h
+expect_wrong 'misplaced option' --version a --version
+expect_wrong 'unexpected word' types --allow-confusing types
+expect_wrong 'unexpected word' b types a b
+expect_wrong 'unexpected word' b blank a b
+expect_wrong 'unexpected word' b blank -- a b
+expect_wrong 'unexpected word' b play -- a b
+expect_wrong 'unexpected word' b a -- b
+expect_wrong 'unexpected word' Look play Look
+expect_wrong 'unexpected word' parens= play look parens=
+expect_wrong 'unexpected word' parens=1234567890 play parens=1234567890
+expect 'an empty word' 2 '' 'wat_tokens: : open failed: no such file or directory\n' "$program" '' < <(printf x)
+expect 'words that are no text' 2 '' "wat_tokens: the words are no text\n$usage" "$program" $'\377' < <(printf x)
 
 # refusals
-expect 'no UTF-8' 2 '' 'wat_tokens: input is not UTF-8\n' "$program" < <(printf 'a \377')
-expect 'a folder' 2 '' 'wat_tokens: read failed\n' "$program" < /
-expect 'no input' 2 '' 'wat_tokens: read failed\n' "$program" <&-
-output=/dev/full expect 'no room' 2 '' 'wat_tokens: write failed\n' "$program" < <(printf x)
+expect 'no UTF-8' 2 '' 'wat_tokens: input is not UTF-8 at byte 2\n' "$program" < <(printf 'a \377')
+expect 'a folder' 2 '' 'wat_tokens: read failed: is a directory\n' "$program" < /
+expect 'no input' 2 '' 'wat_tokens: read failed: bad file descriptor\n' "$program" <&-
+output=/dev/full expect 'no room' 2 '' 'wat_tokens: write failed: no space left on device\n' "$program" < <(printf x)
+yes '(' | head -n 40000 > "$room/long"
+# shellcheck disable=SC2016
+expect 'a pipe that is closed' 0 '0..1 LParen\n' '' bash -c 'set -o pipefail; "$0" "$1" | head -n 1' "$program" "$room/long" < /dev/null
 output=/dev/full expect 'no lines' 0 '' '' "$program" < /dev/null
 expect 'no memory' 2 '' 'wat_tokens: out of memory\n' \
     bash -c 'ulimit -v 100000; exec "$0"' "$program" < <(head -c 200000000 /dev/zero)

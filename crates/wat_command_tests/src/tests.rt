@@ -1,28 +1,29 @@
 //! Texts with their lists, from outside, and readers, writers, sources and sinks that fail.
-ghost use Rattle.std.specs.Prelude.{Option, Some};
+ghost use Rattle.std.specs.Prelude.{Option, Some, None};
 
 mod blanked;
 mod blocks;
 mod compiled;
 mod cuts;
+mod named;
 mod refused;
+mod responses;
 mod shown;
 
-use std::alloc::{AllocError, Global};
+use std::alloc::Global;
 use std::io;
 use std::process::Abort;
 use std::test::Fail;
 use wat_commands::Settings;
 use wat_commands::calls::read_call;
 use wat_commands::ends::{Failed, Plain, Sink, Source};
-use wat_commands::options::{Command, Task, command_of};
-use wat_commands::outcome::{Outcome, respond};
 use wat_commands::play::reply_lines;
 use wat_commands::run::{RunError, run_list};
-use wat_lex::error::Error;
 use wat_lex::lexer::{LexError, Token, TokenKind};
-use wat_lex::token::Span;
 use wat_lexer_parser::parser::{FaultKind, Reply};
+
+/// A failure without an error number.
+const FAILED: Failed = Failed { code: None };
 
 const OFF: Settings = Settings {
     allow: false,
@@ -41,22 +42,22 @@ struct Pieces<'a> {
     rest: &'a [u8],
     most: usize,
     fails_in: usize,
-    failed: bool,
+    failure: Option<Failed>,
     ended: bool,
 }
 
 impl<'a> Source for Pieces<'a> {
     ghost left = { λ s. Some s.rest.now };
 
-    ghost has_failed = { λ s. s.failed };
+    ghost failure = { λ s. s.failure };
 
     ghost has_ended = { λ s. s.ended };
 
     fn read(&mut self, buffer: &mut [u8]) -> Result<usize, Failed> {
         self.ended = false;
         if self.fails_in == 0 {
-            self.failed = true;
-            return Err(Failed);
+            self.failure = Some(FAILED);
+            return Err(FAILED);
         }
         self.fails_in -= 1;
         let count = self.most.max(1).min(self.rest.len()).min(buffer.len());
@@ -68,7 +69,7 @@ impl<'a> Source for Pieces<'a> {
     }
 
     fn failed(&self) -> bool {
-        self.failed
+        self.failure.is_some()
     }
 
     fn ended(&self) -> bool {
@@ -81,24 +82,24 @@ impl<'a> Source for Pieces<'a> {
 struct Room {
     held: Vec<u8>,
     broken: bool,
-    failed: bool,
+    failure: Option<Failed>,
 }
 
 impl Sink for Room {
     ghost held = { λ s. Some s.held.items };
 
-    ghost has_failed = { λ s. s.failed };
+    ghost failure = { λ s. s.failure };
 
     fn write_all(&mut self, bytes: &[u8]) -> Result<(), Failed> {
         if self.broken || self.held.extend_from_slice(bytes).is_err() {
-            self.failed = true;
-            return Err(Failed);
+            self.failure = Some(FAILED);
+            return Err(FAILED);
         }
         Ok(())
     }
 
     fn failed(&self) -> bool {
-        self.failed
+        self.failure.is_some()
     }
 }
 
@@ -246,7 +247,7 @@ fn not_utf8(rt: HostRuntime) {
     let mut input = Plain::new(b"\xff".as_slice());
     let mut output = Plain::new(Vec::new(rt.alloc()));
     let result = run_list(rt.alloc(), &mut input, &mut output, OFF);
-    assert!(rt; matches!(&result, Err(RunError::NotUtf8)));
+    assert!(rt; matches!(&result, Err(RunError::NotUtf8(0))));
     assert!(rt; output.into_inner().is_empty());
 }
 
@@ -261,15 +262,15 @@ fn run_in_pieces(
         rest: MODULE.as_bytes(),
         most,
         fails_in,
-        failed: false,
+        failure: None,
         ended: false,
     };
-    assert!(rt; !room.failed);
+    assert!(rt; room.failure.is_none());
     let alloc = *room.held.allocator();
     match run_list(alloc, &mut input, room, OFF) {
         Ok(_) => None,
         Err(error) => {
-            assert_eq!(rt; input.failed, error == RunError::Read);
+            assert_eq!(rt; input.failure.is_some(), error == RunError::Read(FAILED));
             Some(error)
         }
     }
@@ -283,11 +284,11 @@ fn reads_that_fail(rt: HostRuntime) -> Result<(), Fail> {
             let mut room = Room {
                 held: Vec::with_capacity(rt.alloc(), 200)?,
                 broken: false,
-                failed: false,
+                failure: None,
             };
             let error = run_in_pieces(&rt, &mut room, most, fails_in);
             if fails_in < reads {
-                assert_eq!(rt; error, Some(RunError::Read));
+                assert_eq!(rt; error, Some(RunError::Read(FAILED)));
                 assert!(rt; room.held.is_empty());
             } else {
                 assert_eq!(rt; error, None);
@@ -303,11 +304,11 @@ fn a_write_that_fails(rt: HostRuntime) {
     let mut room = Room {
         held: Vec::new(rt.alloc()),
         broken: true,
-        failed: false,
+        failure: None,
     };
     assert_eq!(rt;
         run_in_pieces(&rt, &mut room, 4096, 99),
-        Some(RunError::Write)
+        Some(RunError::Write(FAILED))
     );
     assert!(rt; room.failed());
 }
@@ -322,7 +323,7 @@ fn a_failed_read_is_not_tried_again(rt: HostRuntime) {
     });
     let mut buffer = [0u8; 8];
     assert_eq!(rt; input.read(&mut buffer), Ok(2));
-    assert_eq!(rt; input.read(&mut buffer), Err(Failed));
+    assert_eq!(rt; input.read(&mut buffer), Err(FAILED));
     assert!(rt; input.failed() && !input.ended());
     assert_eq!(rt; input.read(&mut buffer), Ok(2));
     assert_eq!(rt; &buffer[..2], b"cd".as_slice());
@@ -343,7 +344,7 @@ fn a_run_ends_at_a_failed_read(rt: HostRuntime) {
     });
     let mut output = Plain::new(Vec::new(rt.alloc()));
     let result = run_list(rt.alloc(), &mut input, &mut output, OFF);
-    assert!(rt; matches!(&result, Err(RunError::Read)));
+    assert!(rt; matches!(&result, Err(RunError::Read(_))));
     let reader = input.into_inner();
     assert_eq!(rt; (reader.calls, reader.rest.len()), (3, MODULE.len() - 8));
     assert!(rt; output.into_inner().is_empty());
@@ -358,7 +359,7 @@ fn nothing_is_written_behind_a_failed_write(rt: HostRuntime) -> Result<(), Fail>
         (0, 9, "", 1),
     ] {
         let mut output = Plain::new(counting_writer(rt.alloc(), most, fails_at, false));
-        assert_eq!(rt; output.write_all(b"abc"), Err(Failed));
+        assert_eq!(rt; output.write_all(b"abc"), Err(FAILED));
         assert!(rt; output.failed());
         let writer = output.into_inner();
         assert_eq!(rt; writer.held.as_slice(), held.as_bytes());
@@ -372,7 +373,7 @@ fn a_run_ends_at_a_failed_write(rt: HostRuntime) {
     let mut input = Plain::new(MODULE.as_bytes());
     let mut output = Plain::new(counting_writer(rt.alloc(), 4, 2, false));
     let result = run_list(rt.alloc(), &mut input, &mut output, OFF);
-    assert!(rt; matches!(&result, Err(RunError::Write)));
+    assert!(rt; matches!(&result, Err(RunError::Write(_))));
     let writer = output.into_inner();
     assert_eq!(rt; writer.held.as_slice(), MODULE_LINES[..8].as_bytes());
     assert_eq!(rt; (writer.writes, writer.flushes), (3, 0));
@@ -384,7 +385,7 @@ fn each_write_ends_in_one_flush(rt: HostRuntime) {
         let mut input = Plain::new(b"x".as_slice());
         let mut output = Plain::new(counting_writer(rt.alloc(), 4, 9, flush_fails));
         let result = run_list(rt.alloc(), &mut input, &mut output, OFF);
-        assert_eq!(rt; matches!(&result, Err(RunError::Write)), flush_fails);
+        assert_eq!(rt; matches!(&result, Err(RunError::Write(_))), flush_fails);
         assert_eq!(rt; matches!(&result, Ok(None)), !flush_fails);
         assert_eq!(rt; output.failed(), flush_fails);
         let writer = output.into_inner();
@@ -399,63 +400,12 @@ fn an_empty_output_is_flushed(rt: HostRuntime) {
         let mut input = Plain::new(b"".as_slice());
         let mut output = Plain::new(counting_writer(rt.alloc(), 4, 9, flush_fails));
         let result = run_list(rt.alloc(), &mut input, &mut output, OFF);
-        assert_eq!(rt; matches!(&result, Err(RunError::Write)), flush_fails);
+        assert_eq!(rt; matches!(&result, Err(RunError::Write(_))), flush_fails);
         assert_eq!(rt; matches!(&result, Ok(None)), !flush_fails);
         assert_eq!(rt; output.failed(), flush_fails);
         let writer = output.into_inner();
         assert_eq!(rt; (writer.writes, writer.flushes), (0, 1));
     }
-}
-
-#[test]
-fn outcomes(rt: HostRuntime) -> Result<(), Fail> {
-    let message = String::from_str(rt.alloc(), "m")?;
-    let rows = [
-        (Outcome::of_run(Ok(None)), 0, ""),
-        (
-            Outcome::Refused(RunError::Read),
-            2,
-            "wat_tokens: read failed\n",
-        ),
-        (
-            Outcome::Refused(RunError::TooLong),
-            2,
-            "wat_tokens: input is too long\n",
-        ),
-        (
-            Outcome::Refused(RunError::NotUtf8),
-            2,
-            "wat_tokens: input is not UTF-8\n",
-        ),
-        (
-            Outcome::of_run(Err(RunError::Write)),
-            2,
-            "wat_tokens: write failed\n",
-        ),
-        (
-            Outcome::Refused(RunError::from(AllocError)),
-            2,
-            "wat_tokens: out of memory\n",
-        ),
-        (
-            Outcome::Usage,
-            2,
-            "usage: wat_tokens [--allow-confusing] [--strict-underscores] \
-             [sig NAME.. | play CALL.. | blank] | types\n",
-        ),
-        (
-            Outcome::of_run(Ok(Some(Error::new(Span::from_offset(3), message)))),
-            1,
-            "m at byte offset 3\n",
-        ),
-    ];
-    for (outcome, status, line) in rows {
-        let mut errors = Vec::new(rt.alloc());
-        outcome.report(&mut errors)?;
-        assert_eq!(rt; errors.as_slice(), line.as_bytes());
-        assert_eq!(rt; outcome.status(), status);
-    }
-    Ok(())
 }
 
 /// The words of a command line.
@@ -465,79 +415,6 @@ fn words_of(alloc: Global, text: &str) -> Result<Vec<String>, Fail> {
         words.push(String::from_str(alloc, word)?)?;
     }
     Ok(words)
-}
-
-/// A command as its words, the options and the task spelled out.
-fn spelled(alloc: Global, command: &Command<'_>) -> Result<String, Fail> {
-    let (settings, task) = match command {
-        Command::Tokens(settings, task) => (settings, task),
-        Command::Types => return Ok(String::from_str(alloc, "types")?),
-    };
-    let Settings { allow, strict } = *settings;
-    let mut text = format!(in alloc; "{allow} {strict}")?;
-    match task {
-        Task::List => text.push_str(" list")?,
-        Task::Sig(names) => {
-            for name in names.iter() {
-                write!(text, " <{name}>")?;
-            }
-        }
-        Task::Play(calls) => {
-            for call in calls.iter() {
-                write!(text, " {call:?}")?;
-            }
-        }
-        Task::Blank => text.push_str(" blank")?,
-    }
-    Ok(text)
-}
-
-#[test]
-fn words(rt: HostRuntime) -> Result<(), Fail> {
-    let rows = [
-        ("", "false false list"),
-        ("--allow-confusing", "true false list"),
-        ("--strict-underscores", "false true list"),
-        ("--allow-confusing --strict-underscores", "true true list"),
-        ("--strict-underscores --allow-confusing", "true true list"),
-        ("--allow-confusing --allow-confusing", ""),
-        ("sig", "false false"),
-        ("sig a play", "false false <a> <play>"),
-        ("sig --allow-confusing", "false false <--allow-confusing>"),
-        ("--allow-confusing sig a a", "true false <a> <a>"),
-        ("--strict-underscores --allow-confusing play", "true true"),
-        (
-            "play look take comment parens=12 reg=b unreg=",
-            "false false Look Take Comment Parens(12) Register(\"b\") Unregister(\"\")",
-        ),
-        ("blank", "false false blank"),
-        ("--allow-confusing blank", "true false blank"),
-        ("sig blank", "false false <blank>"),
-        ("blank x", ""),
-        ("blank --allow-confusing", ""),
-        ("play blank", ""),
-        ("types", "types"),
-        ("sig types", "false false <types>"),
-        ("--allow-confusing types", ""),
-        ("--strict-underscores types", ""),
-        ("types --allow-confusing", ""),
-        ("types types", ""),
-        ("blank types", ""),
-        ("Types", ""),
-        ("play look Look", ""),
-        ("play --allow-confusing", ""),
-        ("look", ""),
-        ("--help", ""),
-    ];
-    for (text, want) in rows {
-        let words = words_of(rt.alloc(), text)?;
-        let got = match command_of(rt.alloc(), &words)? {
-            Some(command) => spelled(rt.alloc(), &command)?,
-            None => String::new(rt.alloc()),
-        };
-        assert_eq!(rt; got.as_str(), want, "{text}");
-    }
-    Ok(())
 }
 
 #[test]
@@ -600,35 +477,5 @@ fn replies(rt: HostRuntime) -> Result<(), Fail> {
         not closed 23\ntoo often\n";
     assert_eq!(rt; reply_lines(rt.alloc(), &rows)?.as_slice(), want.as_bytes());
     assert!(rt; reply_lines(rt.alloc(), &[])?.is_empty());
-    Ok(())
-}
-
-#[test]
-fn responses(rt: HostRuntime) -> Result<(), Fail> {
-    let rows = [
-        ("", 0, "0..10 String\n"),
-        ("--allow-confusing", 0, "0..10 String\n"),
-        ("--strict-underscores", 1, ""),
-        ("--strict-underscores --allow-confusing", 1, ""),
-        ("blank", 0, "\"\\u{1__0}\""),
-        ("--strict-underscores blank", 1, ""),
-        ("--allow-confusing --allow-confusing", 2, ""),
-        ("play looks", 2, ""),
-        ("blank blank", 2, ""),
-        ("types", 1, ""),
-        ("--allow-confusing types", 2, ""),
-    ];
-    for (words, status, lines) in rows {
-        let mut input = Plain::new(b"\"\\u{1__0}\"".as_slice());
-        let mut output = Plain::new(Vec::new(rt.alloc()));
-        let outcome = respond(
-            rt.alloc(),
-            &words_of(rt.alloc(), words)?,
-            &mut input,
-            &mut output,
-        );
-        assert_eq!(rt; outcome.status(), status, "{words}");
-        assert_eq!(rt; output.into_inner().as_slice(), lines.as_bytes());
-    }
     Ok(())
 }

@@ -6,7 +6,9 @@ mod Decimals
 mod InputLaws
 mod KnownBytes
 mod LineLaws
+mod NamedLaws
 mod OptionLaws
 mod OutcomeLaws
 mod PrintLaws
+mod RespondLaws
 mod ShownLaws

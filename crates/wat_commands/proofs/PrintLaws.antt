@@ -1,5 +1,5 @@
 -- What is printed of a text that is read twice: first for its fault, and then for what is written.
-use Rattle.std.proofs.Common.{◌≡◌, ◌<◌, ◌^◌, ℕ, Bool, true, false, List, [], length, refl, sym, ap, ◌∙◌, subst, inl}
+use Rattle.std.proofs.Common.{◌≡◌, ◌<◌, ◌^◌, ℕ, List, [], length, refl, sym, ap, ◌∙◌, subst, inl}
 use Rattle.std.specs.Prelude.{Option, Some, None, Result, Ok, Err, IfOk, OnOk, OnErr, flat_map}
 use Rattle.std.specs.Option.{option_map}
 use Rattle.std.specs.Io.KnownBytes.{Appends}
@@ -16,7 +16,8 @@ use Rattle.wat_commands.specs.Blanks.{Blanks}
 use Rattle.wat_commands.specs.Blocks.{AppendsEach, AppendsEachCut, ReportsEnd}
 use Rattle.wat_commands.specs.Lists.{Lists, line}
 use Rattle.wat_commands.specs.Printed.{AppendsText, AppendsCut}
-use Rattle.wat_commands.specs.Streams.{AppendsPrefix, failed_after}
+use Rattle.wat_commands.specs.Refusals.{answered}
+use Rattle.wat_commands.specs.Streams.{AppendsPrefix, failure_after}
 use Rattle.wat_commands.specs.Writes.{Writes}
 use Rattle.wat_commands.specs.declared.ends.Failed.{Failed}
 use Rattle.wat_commands.specs.declared.run.RunError.{RunError}
@@ -117,29 +118,29 @@ blanks_faulty settings text e a u l reports = record {
 }
 
 -- what is known of a call that wrote
-pub writes : {T W : Type 0} (held : W → Option (List ℕ)) (write_failed : W → Bool) (prints : List ℕ → Option (Option Report) → Type 0) (output output' : W) (error : Option (Option Report)) (written : Result T Failed) (answer : Result (Option (Option Report)) RunError)
-    → OnOk written (answer ≡ Ok error) → OnErr written (answer ≡ Err Write) → OnOk written (AppendsText prints error (held output) (held output')) → OnErr written (AppendsCut prints (held output) (held output'))
-    → write_failed output ≡ false → write_failed output' ≡ failed_after (write_failed output) written → Writes held write_failed prints output output' answer
-writes held write_failed prints output output' error (Ok t) answer is_ok is_err all cut fresh failed = subst (Writes held write_failed prints output output') (sym is_ok) (record {
+pub writes : {W : Type 0} (held : W → Option (List ℕ)) (failure : W → Option Failed) (prints : List ℕ → Option (Option Report) → Type 0) (output output' : W) (error : Option (Option Report)) (written : Result (Unit {0}) Failed) (answer : Result (Option (Option Report)) RunError)
+    → answer ≡ answered written error → OnOk written (AppendsText prints error (held output) (held output')) → OnErr written (AppendsCut prints (held output) (held output'))
+    → failure output ≡ None → failure output' ≡ failure_after (failure output) written → Writes held failure prints output output' answer
+writes held failure prints output output' error (Ok t) answer is all cut fresh failed = subst (Writes held failure prints output output') (sym is) (record {
   written = all;
-  cut = λ d. cc;
+  cut = λ f e. cc;
   unwritten = tt;
-  write = (λ d. cc, λ t. absurd (let e : false ≡ true = sym (failed ∙ fresh) ∙ t in cc));
+  write = sym (failed ∙ fresh);
 })
-writes held write_failed prints output output' error (Err f) answer is_ok is_err all cut fresh failed = subst (Writes held write_failed prints output output') (sym is_err) (record {
+writes held failure prints output output' error (Err f) answer is all cut fresh failed = subst (Writes held failure prints output output') (sym is) (record {
   written = tt;
-  cut = λ d. cut;
-  unwritten = inl refl;
-  write = (λ d. failed, λ t. refl);
+  cut = λ g e. cut;
+  unwritten = inl (f, refl);
+  write = sym failed;
 })
 
-pub writes_ok : {W : Type 0} (held : W → Option (List ℕ)) (write_failed : W → Bool) (prints : List ℕ → Option (Option Report) → Type 0) (output output' : W) (error : Option (Option Report)) → AppendsText prints error (held output) (held output') → write_failed output' ≡ false
-    → Writes held write_failed prints output output' (Ok error)
-writes_ok held write_failed prints output output' error all fresh = record {
+pub writes_ok : {W : Type 0} (held : W → Option (List ℕ)) (failure : W → Option Failed) (prints : List ℕ → Option (Option Report) → Type 0) (output output' : W) (error : Option (Option Report)) → AppendsText prints error (held output) (held output') → failure output' ≡ None
+    → Writes held failure prints output output' (Ok error)
+writes_ok held failure prints output output' error all fresh = record {
   written = all;
-  cut = λ d. cc;
+  cut = λ f e. cc;
   unwritten = tt;
-  write = (λ d. cc, λ t. absurd (let e : false ≡ true = sym fresh ∙ t in cc));
+  write = sym fresh;
 }
 
 -- what holds of a text and its error that are written
@@ -163,11 +164,11 @@ if_written prints text error old new (Ok e) p h = record { text = h.text; printe
 if_written prints text error old new (Err e) p h = tt
 
 -- where these are printed, they are written
-pub writes_as : {W : Type 0} (held : W → Option (List ℕ)) (write_failed : W → Bool) (prints : List ℕ → Option (Option Report) → Type 0) (output output' : W) (text : List ℕ) (error : Option (Option Report)) (answer : Result (Option (Option Report)) RunError)
+pub writes_as : {W : Type 0} (held : W → Option (List ℕ)) (write_failed : W → Option Failed) (prints : List ℕ → Option (Option Report) → Type 0) (output output' : W) (text : List ℕ) (error : Option (Option Report)) (answer : Result (Option (Option Report)) RunError)
     → prints text error → Writes held write_failed (Gathered text error) output output' answer → Writes held write_failed prints output output' answer
 writes_as held write_failed prints output output' text error answer p h = record {
   written = if_written prints text error (held output) (held output') answer p h.written;
-  cut = λ d. let k = h.cut d in record { text = k.text; error = k.error; printed = of_gathered prints text error k.text k.error p k.printed; appended = k.appended };
+  cut = λ f d. let k = h.cut f d in record { text = k.text; error = k.error; printed = of_gathered prints text error k.text k.error p k.printed; appended = k.appended };
   unwritten = h.unwritten;
   write = h.write;
 }

@@ -1,5 +1,6 @@
 -- The words of the command line, and what they ask for. No part of the standard.
-use Rattle.std.specs.Prelude.{◌≡◌, ◌+◌, ◌||◌, ℕ, Bool, ⊤, List, [], ◌∷◌, ◌++◌, length, codes, count_by, if◌then◌else◌, string_bytes, String}
+use Rattle.std.specs.Prelude.{◌≡◌, ◌⊎◌, ◌≤◌, ◌+◌, ◌||◌, ◌&&◌, ◌==◌, not, ℕ, Bool, true, false, ⊤, List, [], ◌∷◌, ◌++◌, take, drop, length, codes, count_by, if◌then◌else◌, string_bytes, String, Option, Some, None, is_some, unwrap_or, All}
+use Rattle.std.specs.List.{prefix_len}
 use Rattle.std.specs.Str.{bytes_eq}
 use Rattle.std.specs.declared.alloc.Global.{Global}
 use Rattle.wat_lex.specs.declared.lexer.settings.Settings.{Settings}
@@ -9,9 +10,14 @@ use Rattle.wat_commands.specs.declared.options.Command.{Command}
 use Rattle.wat_commands.specs.declared.options.Command.TheVariants as command
 use Rattle.wat_commands.specs.declared.options.Task.{Task}
 use Rattle.wat_commands.specs.declared.options.Task.TheVariants as task
+use Rattle.wat_commands.specs.declared.options.Verb.{Verb}
+use Rattle.wat_commands.specs.declared.options.Verb.TheVariants as verb
+
+abbrev pub Word : Type 0
+Word = String Global
 
 -- how often a word stands among the words
-abbrev pub occurrences : List ℕ → List (String Global) → ℕ
+abbrev pub occurrences : List ℕ → List Word → ℕ
 occurrences word words = count_by (λ other. bytes_eq (string_bytes other) word) words
 
 -- once, or not at all
@@ -22,54 +28,145 @@ abbrev pub is_option : List ℕ → Bool
 is_option word = bytes_eq word (codes "--allow-confusing") || bytes_eq word (codes "--strict-underscores")
 
 -- each option stands there once where its flag is set, and no other word does
-pub record Selects (words : List (String Global)) (settings : Settings) : Type 0 where
+pub record Selects (words : List Word) (settings : Settings) : Type 0 where
   pub allow : occurrences (codes "--allow-confusing") words ≡ once_if settings.allow
   pub strict : occurrences (codes "--strict-underscores") words ≡ once_if settings.strict
   pub no_other : length words ≡ once_if settings.allow + once_if settings.strict
 
--- the words are one with this text, and then the rest
-pub record BeginsWith (text : List ℕ) (words rest : List (String Global)) : Type 0 where
-  pub first : String Global
-  pub is_text : string_bytes first ≡ text
-  pub cut : words ≡ first ∷ rest
+-- how many options stand in front
+abbrev pub options_len : List Word → ℕ
+options_len words = prefix_len (λ word. is_option (string_bytes word)) words
+
+-- the options in front, and the words behind them
+abbrev pub options_of : List Word → List Word
+options_of words = take (options_len words) words
+
+abbrev pub behind_options : List Word → List Word
+behind_options words = drop (options_len words) words
+
+-- the command of a name
+abbrev pub verb_named : List ℕ → Option Verb
+verb_named word =
+    if bytes_eq word (codes "list") then Some verb.List
+    else if bytes_eq word (codes "sig") then Some verb.Sig
+    else if bytes_eq word (codes "play") then Some verb.Play
+    else if bytes_eq word (codes "blank") then Some verb.Blank
+    else if bytes_eq word (codes "types") then Some verb.Types
+    else None
+
+-- the command that the words begin with, the list where they name none, and the words behind its name
+abbrev pub verb_of : List Word → Verb
+verb_of [] = verb.List
+verb_of (word ∷ words) = unwrap_or (verb_named (string_bytes word)) verb.List
+
+abbrev pub behind_verb : List Word → List Word
+behind_verb [] = []
+behind_verb (word ∷ words) = if is_some (verb_named (string_bytes word)) then words else word ∷ words
+
+-- how many words stand in front of `--`
+abbrev pub own_len : List Word → ℕ
+own_len words = prefix_len (λ word. not (bytes_eq (string_bytes word) (codes "--"))) words
+
+-- the words in front of `--`, and the words behind it
+abbrev pub own_words : List Word → List Word
+own_words words = take (own_len words) words
+
+abbrev pub file_words : List Word → List Word
+file_words words = drop (own_len words + 1) words
+
+-- a name of annotations: no word with two dashes in front, and not `-h`
+abbrev pub is_name : List ℕ → Bool
+is_name word = not (bytes_eq (take 2 word) (codes "--")) && not (bytes_eq word (codes "-h"))
+
+-- a file in front of `--`: `-`, or a word with no dash in front
+abbrev pub is_file : List ℕ → Bool
+is_file word = bytes_eq word (codes "-") || not (bytes_eq (take 1 word) (codes "-"))
+
+-- each word passes the test
+abbrev pub AllPass : (List ℕ → Bool) → List Word → Type 0
+AllPass test words = All (λ word. test (string_bytes word) ≡ true) words
 
 -- each word stands for the call in its place
-abbrev pub SpellsCalls : List (String Global) → List Call → Type 0
+abbrev pub SpellsCalls : List Word → List Call → Type 0
 SpellsCalls [] [] = ⊤
 SpellsCalls [] (call ∷ calls) = ⊥
 SpellsCalls (word ∷ words) [] = ⊥
 SpellsCalls (word ∷ words) (call ∷ calls) = SpellsCall (string_bytes word) call × SpellsCalls words calls
 
--- what the words behind the options ask for
-abbrev pub AsksTask : List (String Global) → Task → Type 0
-AsksTask words task.List = words ≡ []
-AsksTask words (task.Sig names) = BeginsWith (codes "sig") words names.now
-AsksTask words (task.Play calls) = (rest : List (String Global)) × BeginsWith (codes "play") words rest × SpellsCalls rest calls.items
-AsksTask words task.Blank = BeginsWith (codes "blank") words []
+-- a command, and the words in front of `--`, ask for this
+abbrev pub AsksTask : Verb → List Word → Task → Type 0
+AsksTask v own task.List = v ≡ verb.List
+AsksTask v own (task.Sig names) = (v ≡ verb.Sig) × (names.now ≡ own) × AllPass is_name own
+AsksTask v own (task.Play calls) = (v ≡ verb.Play) × SpellsCalls own calls.items
+AsksTask v own task.Blank = v ≡ verb.Blank
+AsksTask v own task.Types = v ≡ verb.Types
 
--- the words are options, and then those of a task
-pub record AsksTokens (words : List (String Global)) (settings : Settings) (task : Task) : Type 0 where
-  pub options : List (String Global)
-  pub rest : List (String Global)
-  pub cut : words ≡ options ++ rest
-  pub selects : Selects options settings
-  pub asks : AsksTask rest task
+-- the words in front of `--` are files
+abbrev pub owns_files : Verb → Bool
+owns_files verb.List = true
+owns_files verb.Sig = false
+owns_files verb.Play = false
+owns_files verb.Blank = true
+owns_files verb.Types = true
 
--- the word is `types`, without options
-abbrev pub AsksTypes : List (String Global) → Type 0
-AsksTypes words = BeginsWith (codes "types") words []
+-- the lists take any number of files, the others one at most
+abbrev pub takes_many : Verb → Bool
+takes_many verb.List = true
+takes_many verb.Sig = true
+takes_many verb.Play = false
+takes_many verb.Blank = false
+takes_many verb.Types = false
+
+-- a command's files: the words behind `--`, or else, where they are files, those in front of it
+pub record AsksFiles (v : Verb) (own behind files : List Word) : Type 0 where
+  pub named : files ≡ (if owns_files v && not (length own == 0) then own else behind)
+  pub plain : owns_files v ≡ true → AllPass is_file own × ((length own ≡ 0) ⊎ (length behind ≡ 0))
+  pub few : (takes_many v ≡ true) ⊎ (length files ≤ 1)
+
+-- the words behind the options ask for a task and name its files
+pub record AsksBehind (words : List Word) (task : Task) (files : List Word) : Type 0 where
+  pub asked : AsksTask (verb_of words) (own_words (behind_verb words)) task
+  pub named : AsksFiles (verb_of words) (own_words (behind_verb words)) (file_words (behind_verb words)) files
+
+-- the words are options, and then those of a task with its files; `types` takes no options
+pub record AsksRun (words : List Word) (settings : Settings) (task : Task) (files : List Word) : Type 0 where
+  pub selects : Selects (options_of words) settings
+  pub asks : AsksBehind (behind_options words) task files
+  pub bare : verb_of (behind_options words) ≡ verb.Types → length (options_of words) ≡ 0
+
+-- the first word
+abbrev pub begins_with : List ℕ → List Word → Bool
+begins_with word [] = false
+begins_with word (first ∷ words) = bytes_eq (string_bytes first) word
 
 -- what the words ask for
-abbrev pub Asks : List (String Global) → Command → Type 0
-Asks words (command.Tokens settings task) = AsksTokens words settings task
-Asks words command.Types = AsksTypes words
+abbrev pub Asks : List Word → Command → Type 0
+Asks words command.Help = begins_with (codes "--help") words || begins_with (codes "-h") words ≡ true
+Asks words command.Version = begins_with (codes "--version") words ≡ true
+Asks words (command.Run settings task files) = AsksRun words settings task files.now
 
 -- the words are options, `play`, and then others
-pub record AsksPlay (words : List (String Global)) : Type 0 where
-  pub options : List (String Global)
-  pub settings : Settings
-  pub rest : List (String Global)
-  pub calls : List (String Global)
-  pub cut : words ≡ options ++ rest
-  pub selects : Selects options settings
-  pub play : BeginsWith (codes "play") rest calls
+abbrev pub AsksPlay : List Word → Type 0
+AsksPlay words = verb_of (behind_options words) ≡ verb.Play
+
+-- the first of the words are options, and then `play`
+pub record BeginsToPlay (words : List Word) : Type 0 where
+  pub n : ℕ
+  pub play : AsksPlay (take n words)
+
+-- the words ask for help, the version, or a run
+abbrev pub AsksSomething : List Word → Type 0
+AsksSomething words = Asks words command.Help ⊎ (Asks words command.Version ⊎ ((settings : Settings) × (task : Task) × (files : List Word) × AsksRun words settings task files))
+
+abbrev pub AsksNothing : List Word → Type 0
+AsksNothing words = ¬ AsksSomething words
+
+-- The wrong word: those in front of it ask for something, and with it they ask for nothing.
+pub record IsWrong (words : List Word) (wrong : List ℕ) : Type 0 where
+  pub front : List Word
+  pub word : Word
+  pub rest : List Word
+  pub cut : words ≡ front ++ word ∷ rest
+  pub text : string_bytes word ≡ wrong
+  pub fine : AsksSomething front
+  pub refused : AsksNothing (front ++ word ∷ [])

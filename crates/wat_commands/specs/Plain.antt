@@ -1,14 +1,15 @@
 -- What callers see of a source over a reader, or a sink over a writer. No part of the standard.
-use Rattle.std.specs.Prelude.{Bool}
+use Rattle.std.specs.Prelude.{Bool, Option}
+use Rattle.wat_commands.specs.declared.ends.Failed.{Failed}
 use Rattle.wat_commands.specs.declared.ends.Plain.{Plain}
 
 -- the reader or writer
 abbrev pub plain_inner : {T : Type 0} → Plain T → T
 plain_inner p = p.inner
 
--- a call has failed
-abbrev pub plain_failed : {T : Type 0} → Plain T → Bool
-plain_failed p = p.failed
+-- the failure of the last call that failed, if one has
+abbrev pub plain_failure : {T : Type 0} → Plain T → Option Failed
+plain_failure p = p.failure
 
 -- the last read gave the end
 abbrev pub plain_ended : {T : Type 0} → Plain T → Bool

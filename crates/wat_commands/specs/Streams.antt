@@ -1,7 +1,8 @@
 -- What a read takes of the bytes that a source has left, and what a write adds to those that a sink holds. No part
 -- of the standard.
-use Rattle.std.specs.Prelude.{◌≡◌, ◌<◌, ◌≤◌, ℕ, Bool, true, false, List, length, take, Option, Result, Ok, Err, if◌then◌else◌, is_err, ◌&&◌, nat_eq, nat_lt}
+use Rattle.std.specs.Prelude.{◌≡◌, ◌<◌, ◌≤◌, ℕ, Bool, false, List, length, take, Option, Some, Result, Ok, Err, ◌&&◌, nat_eq, nat_lt}
 use Rattle.std.specs.Io.KnownBytes.{Appends, Consumes, IsAtEnd}
+use Rattle.wat_commands.specs.declared.ends.Failed.{Failed}
 
 -- n bytes were read into the buffer, in their order; none, although there was room, only at the end
 pub record Reads (old new : Option (List ℕ)) (buffer : List ℕ) (n : ℕ) : Type 0 where
@@ -14,9 +15,10 @@ pub record AppendsPrefix (old new : Option (List ℕ)) (bs : List ℕ) : Type 0 
   pub n : ℕ
   pub appended : Appends old new (take n bs)
 
--- a call that fails makes it true, and nothing makes it false
-abbrev pub failed_after : {T E : Type 0} → Bool → Result T E → Bool
-failed_after before result = if is_err result then true else before
+-- the failure of the last call that failed
+abbrev pub failure_after : {T : Type 0} → Option Failed → Result T Failed → Option Failed
+failure_after before (Ok t) = before
+failure_after before (Err failed) = Some failed
 
 -- a read gave the end: it had room, and read nothing
 abbrev pub gave_end : {E : Type 0} → Result ℕ E → List ℕ → Bool

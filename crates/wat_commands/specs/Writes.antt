@@ -1,14 +1,15 @@
--- What is known of a call that writes what is printed of a text. A sink tells what it holds, and whether a write has failed. No part of the
--- standard.
-use Rattle.std.specs.Prelude.{◌≡◌, ◌⊎◌, ◌↔◌, ℕ, Bool, true, List, Option, Result, IfOk, IfErr, IsErrOf}
+-- What is known of a call that writes what is printed of a text. A sink tells what it holds, and the failure of a write. No part of the standard.
+use Rattle.std.specs.Prelude.{◌≡◌, ◌⊎◌, ℕ, List, Option, Result, IfOk, IfErr, IsErrOf}
 use Rattle.wat_lex.specs.errors.Errors.{Report}
 use Rattle.wat_commands.specs.Printed.{AppendsText, AppendsCut}
+use Rattle.wat_commands.specs.Refusals.{IsWrite, write_failure}
+use Rattle.wat_commands.specs.declared.ends.Failed.{Failed}
 use Rattle.wat_commands.specs.declared.run.RunError.{RunError}
 use Rattle.wat_commands.specs.declared.run.RunError.TheVariants.{Write}
 
 -- the text was written, or a prefix of it where the write failed, and else nothing
-pub record Writes {T : Type 0} (held : T → Option (List ℕ)) (write_failed : T → Bool) (prints : List ℕ → Option (Option Report) → Type 0) (output output' : T) (answer : Result (Option (Option Report)) RunError) : Type 0 where
+pub record Writes {T : Type 0} (held : T → Option (List ℕ)) (failure : T → Option Failed) (prints : List ℕ → Option (Option Report) → Type 0) (output output' : T) (answer : Result (Option (Option Report)) RunError) : Type 0 where
   pub written : IfOk answer (λ error. AppendsText prints error (held output) (held output'))
-  pub cut : IsErrOf answer Write → AppendsCut prints (held output) (held output')
-  pub unwritten : IfErr answer (λ e. (e ≡ Write) ⊎ (output' ≡ output))
-  pub write : IsErrOf answer Write ↔ (write_failed output' ≡ true)
+  pub cut : (failed : Failed) → IsErrOf answer (Write failed) → AppendsCut prints (held output) (held output')
+  pub unwritten : IfErr answer (λ e. IsWrite e ⊎ (output' ≡ output))
+  pub write : write_failure answer ≡ failure output'

@@ -2,7 +2,7 @@
 ghost use Rattle.std.specs.Prelude.{◌≡◌, ◌++◌, ◌+◌, ◌≤◌, length, map, OnOk, OnErr};
 ghost use Rattle.wat_lexer_parser.specs.shown.BlankTexts.{blank_byte, blank_text};
 ghost use Rattle.wat_commands.specs.Blocks.{AppendsEach, AppendsEachCut, Puts};
-ghost use Rattle.wat_commands.specs.Streams.{AppendsPrefix, failed_after};
+ghost use Rattle.wat_commands.specs.Streams.{AppendsPrefix, failure_after};
 
 use crate::block::Block;
 use crate::ends::{Failed, Sink};
@@ -25,7 +25,7 @@ fn put_blanks<W: Sink>(block: &mut Block, output: &mut W, comment: &[u8]) -> Res
         block.old block.new (map blank_byte comment.now)) }
     ensures cut { OnErr result (AppendsPrefix (W.held output.old) (W.held output.new)
         (block.old ++ map blank_byte comment.now)) }
-    ensures failed { W.has_failed output.new ≡ failed_after (W.has_failed output.old) result }
+    ensures failed { W.failure output.new ≡ failure_after (W.failure output.old) result }
 {
     for byte in comment {
         block.put(output, &[blank_byte(*byte)])?;
@@ -45,7 +45,7 @@ fn put_token<W: Sink>(
         block.old block.new (blank_text text.now token.now)) }
     ensures cut { OnErr result (AppendsPrefix (W.held output.old) (W.held output.new)
         (block.old ++ blank_text text.now token.now)) }
-    ensures failed { W.has_failed output.new ≡ failed_after (W.has_failed output.old) result }
+    ensures failed { W.failure output.new ≡ failure_after (W.failure output.old) result }
 {
     let bytes = &text[token.offset..token.offset + token.len as usize];
     match token.kind {
@@ -61,7 +61,7 @@ pub fn write_blanked<W: Sink>(lexer: &Lexer<'_>, output: &mut W) -> Result<(), F
         (W.held output.old) (W.held output.new)) }
     ensures cut { OnErr result (AppendsEachCut (blank_text lexer.now.text) lexer.now
         (W.held output.old) (W.held output.new)) }
-    ensures failed { W.has_failed output.new ≡ failed_after (W.has_failed output.old) result }
+    ensures failed { W.failure output.new ≡ failure_after (W.failure output.old) result }
 {
     wat_lex::laws::one_tiling();
     let text = lexer.input().as_bytes();

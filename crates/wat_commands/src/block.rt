@@ -4,7 +4,7 @@ ghost use Rattle.std.specs.Prelude.{length, take, OnOk, OnErr};
 ghost use Rattle.std.specs.Io.KnownBytes.{Appends};
 ghost use Rattle.wat_commands.specs.Blocks.{Puts};
 ghost use Rattle.wat_commands.specs.Lists.{line};
-ghost use Rattle.wat_commands.specs.Streams.{AppendsPrefix, failed_after};
+ghost use Rattle.wat_commands.specs.Streams.{AppendsPrefix, failure_after};
 
 use crate::ends::{Failed, Sink};
 use crate::line::{Place, ROOM, put_line};
@@ -47,7 +47,7 @@ impl Block {
         ensures empty { OnOk result (self.new ≡ []) }
         ensures cut { OnErr result
             (AppendsPrefix (W.held output.old) (W.held output.new) self.old) }
-        ensures failed { W.has_failed output.new ≡ failed_after (W.has_failed output.old) result }
+        ensures failed { W.failure output.new ≡ failure_after (W.failure output.old) result }
     {
         output.write_all(&self.bytes[..self.used])?;
         self.used = 0;
@@ -63,7 +63,7 @@ impl Block {
         ensures room { OnOk result (length self.new + count ≤ 65536) }
         ensures cut { OnErr result
             (AppendsPrefix (W.held output.old) (W.held output.new) self.old) }
-        ensures failed { W.has_failed output.new ≡ failed_after (W.has_failed output.old) result }
+        ensures failed { W.failure output.new ≡ failure_after (W.failure output.old) result }
     {
         if count <= BLOCK - self.used {
             return Ok(());
@@ -99,7 +99,7 @@ impl Block {
             (Puts (W.held output.old) (W.held output.new) self.old self.new bytes.now) }
         ensures cut { OnErr result
             (AppendsPrefix (W.held output.old) (W.held output.new) (self.old ++ bytes.now)) }
-        ensures failed { W.has_failed output.new ≡ failed_after (W.has_failed output.old) result }
+        ensures failed { W.failure output.new ≡ failure_after (W.failure output.old) result }
     {
         if bytes.len() > BLOCK {
             self.write(output)?;
@@ -123,7 +123,7 @@ impl Block {
             (Puts (W.held output.old) (W.held output.new) self.old self.new (line token.now)) }
         ensures cut { OnErr result
             (AppendsPrefix (W.held output.old) (W.held output.new) (self.old ++ line token.now)) }
-        ensures failed { W.has_failed output.new ≡ failed_after (W.has_failed output.old) result }
+        ensures failed { W.failure output.new ≡ failure_after (W.failure output.old) result }
     {
         self.make_room(output, ROOM)?;
         self.push_line(place, token);

@@ -7,12 +7,15 @@ pub mod blank;
 mod block;
 pub mod calls;
 pub mod ends;
+pub mod help;
 mod line;
 pub mod list;
+pub mod named;
 pub mod options;
 pub mod outcome;
 pub mod play;
 mod print;
+pub mod respond;
 pub mod run;
 pub mod show;
 

@@ -3,7 +3,7 @@ ghost use Rattle.std.specs.Prelude.{◌≡◌, ◌++◌, ◌+◌, ◌<◌, ◌^�
 ghost use Rattle.wat_lexer_parser.specs.places.Source.{IsRead};
 ghost use Rattle.wat_commands.specs.Blocks.{AppendsEach, AppendsEachCut, EndsIn};
 ghost use Rattle.wat_commands.specs.Lists.{line};
-ghost use Rattle.wat_commands.specs.Streams.{failed_after};
+ghost use Rattle.wat_commands.specs.Streams.{failure_after};
 
 use crate::block::Block;
 use crate::ends::{Failed, Sink};
@@ -80,7 +80,7 @@ pub fn write_lines<W: Sink>(lexer: &Lexer<'_>, output: &mut W) -> Result<(), Fai
         (AppendsEach line lexer.now (W.held output.old) (W.held output.new)) }
     ensures cut { OnErr result
         (AppendsEachCut line lexer.now (W.held output.old) (W.held output.new)) }
-    ensures failed { W.has_failed output.new ≡ failed_after (W.has_failed output.old) result }
+    ensures failed { W.failure output.new ≡ failure_after (W.failure output.old) result }
 {
     wat_lex::laws::one_tiling();
     let _ = lexer.input();

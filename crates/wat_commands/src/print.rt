@@ -1,12 +1,13 @@
 //! What is printed of bytes that may be no text.
-ghost use Rattle.std.specs.Prelude.{◌≡◌, ◌⊎◌, ◌↔◌, ◌<◌, ◌^◌, length, false};
-ghost use Rattle.std.specs.Prelude.{Ok, Err, IfOk, IfErr, OnOk, OnErr, IsErrOf, alloc_error};
-ghost use Rattle.std.specs.Str.{IsUtf8};
+ghost use Rattle.std.specs.Prelude.{◌≡◌, ◌⊎◌, ◌↔◌, ◌<◌, ◌^◌, length, ℕ, None};
+ghost use Rattle.std.specs.Prelude.{Ok, IfOk, IfErr, OnOk, IsErrOf, alloc_error};
+ghost use Rattle.std.specs.Str.{IsUtf8, IsValidUpTo};
 ghost use Rattle.wat_commands.specs.Blanks.{Blanks};
 ghost use Rattle.wat_commands.specs.Blocks.{ReportsEnd};
 ghost use Rattle.wat_commands.specs.Compiles.{Compiles};
 ghost use Rattle.wat_commands.specs.Lists.{Lists};
 ghost use Rattle.wat_commands.specs.Printed.{prints};
+ghost use Rattle.wat_commands.specs.Refusals.{IsNotUtf8, IsWrite, answered};
 ghost use Rattle.wat_commands.specs.Writes.{Writes};
 
 use crate::blank::write_blanked;
@@ -41,12 +42,11 @@ pub enum Printing<'a> {
 
 /// The error of what was written, or that the write failed.
 fn answer(written: Result<(), Failed>, error: Option<Error>) -> Result<Option<Error>, RunError>
-    ensures written { OnOk written (result ≡ Ok error) }
-    ensures failed { OnErr written (result ≡ Err RunError.Write) }
+    ensures { result ≡ answered written error }
 {
     match written {
         Ok(()) => Ok(error),
-        Err(_) => Err(RunError::Write),
+        Err(failed) => Err(RunError::Write(failed)),
     }
 }
 
@@ -75,9 +75,9 @@ fn print_raw<W: Sink>(
     output: &mut W,
 ) -> Result<Option<Error>, RunError>
     requires text { length text.now < 2 ^ 32 }
-    requires output { W.has_failed output.old ≡ false }
-    ensures printed { Writes W.held W.has_failed (Lists settings text.now) output.old output.new result }
-    ensures refused { IfErr result (λ e. (e ≡ RunError.Write) ⊎ (e ≡ RunError.Memory alloc_error)) }
+    requires output { W.failure output.old ≡ None }
+    ensures printed { Writes W.held W.failure (Lists settings text.now) output.old output.new result }
+    ensures refused { IfErr result (λ e. IsWrite e ⊎ (e ≡ RunError.Memory alloc_error)) }
 {
     wat_lex::laws::one_tiling();
     let lexer = lexer_of(text, settings);
@@ -93,9 +93,9 @@ fn print_blank<W: Sink>(
     output: &mut W,
 ) -> Result<Option<Error>, RunError>
     requires text { length text.now < 2 ^ 32 }
-    requires output { W.has_failed output.old ≡ false }
-    ensures printed { Writes W.held W.has_failed (Blanks settings text.now) output.old output.new result }
-    ensures refused { IfErr result (λ e. (e ≡ RunError.Write) ⊎ (e ≡ RunError.Memory alloc_error)) }
+    requires output { W.failure output.old ≡ None }
+    ensures printed { Writes W.held W.failure (Blanks settings text.now) output.old output.new result }
+    ensures refused { IfErr result (λ e. IsWrite e ⊎ (e ≡ RunError.Memory alloc_error)) }
 {
     wat_lex::laws::one_tiling();
     laws::blank_texts();
@@ -112,10 +112,10 @@ fn print_text<W: Sink>(
     error: Option<Error>,
     output: &mut W,
 ) -> Result<Option<Error>, RunError>
-    requires { W.has_failed output.old ≡ false }
-    ensures printed { Writes W.held W.has_failed
+    requires { W.failure output.old ≡ None }
+    ensures printed { Writes W.held W.failure
         (λ bytes e. (bytes ≡ text.now) × (e ≡ error)) output.old output.new result }
-    ensures refused { IfErr result (λ e. e ≡ RunError.Write) }
+    ensures refused { IfErr result IsWrite }
 {
     answer(output.write_all(text), error)
 }
@@ -127,9 +127,9 @@ fn print_types<W: Sink>(
     output: &mut W,
 ) -> Result<Option<Error>, RunError>
     requires text { length text.now < 2 ^ 32 }
-    requires output { W.has_failed output.old ≡ false }
-    ensures printed { Writes W.held W.has_failed (Compiles text.now) output.old output.new result }
-    ensures refused { IfErr result (λ e. (e ≡ RunError.Write) ⊎ (e ≡ RunError.Memory alloc_error)) }
+    requires output { W.failure output.old ≡ None }
+    ensures printed { Writes W.held W.failure (Compiles text.now) output.old output.new result }
+    ensures refused { IfErr result (λ e. IsWrite e ⊎ (e ≡ RunError.Memory alloc_error)) }
 {
     wat_lex::laws::one_tiling();
     match compile_types(alloc, text) {
@@ -141,25 +141,20 @@ fn print_types<W: Sink>(
     }
 }
 
-/// Writes what is printed of bytes, and answers the error of the fault or refusal of the text.
-pub fn print<W: Sink>(
+/// Writes what is printed of a text, and answers the error of its fault or refusal.
+fn print_of<W: Sink>(
     alloc: Global,
-    bytes: &[u8],
+    text: &str,
     settings: Settings,
     printing: Printing<'_>,
     output: &mut W,
 ) -> Result<Option<Error>, RunError>
-    requires bytes { length bytes.now < 2 ^ 32 }
-    requires output { W.has_failed output.old ≡ false }
-    ensures printed { Writes W.held W.has_failed (prints settings printing.entry bytes.now)
+    requires text { length text.now < 2 ^ 32 }
+    requires output { W.failure output.old ≡ None }
+    ensures printed { Writes W.held W.failure (prints settings printing.entry text.now)
         output.old output.new result }
-    ensures not_utf8 { IsErrOf result RunError.NotUtf8 ↔ (¬ IsUtf8 bytes.now) }
-    ensures refused { IfErr result (λ e. (e ≡ RunError.NotUtf8) ⊎
-        ((e ≡ RunError.Write) ⊎ (e ≡ RunError.Memory alloc_error))) }
+    ensures refused { IfErr result (λ e. IsWrite e ⊎ (e ≡ RunError.Memory alloc_error)) }
 {
-    let Ok(text) = str::from_utf8(bytes) else {
-        return Err(RunError::NotUtf8);
-    };
     match printing {
         Printing::Raw => print_raw(alloc, text, settings, output),
         Printing::Shown(names) => {
@@ -172,5 +167,42 @@ pub fn print<W: Sink>(
         }
         Printing::Blank => print_blank(alloc, text, settings, output),
         Printing::Types => print_types(alloc, text, output),
+    }
+}
+
+/// The text that bytes are.
+fn text_of(bytes: &[u8]) -> Result<&str, RunError>
+    ensures text { IfOk result (λ text. text.now ≡ bytes.now) }
+    ensures utf8 { OnOk result (IsUtf8 bytes.now) }
+    ensures not_utf8 { (offset : ℕ) →
+        IsErrOf result (RunError.NotUtf8 offset) ↔ IsValidUpTo bytes.now offset }
+    ensures refused { IfErr result IsNotUtf8 }
+{
+    match str::from_utf8(bytes) {
+        Ok(text) => Ok(text),
+        Err(error) => Err(RunError::NotUtf8(error.valid_up_to())),
+    }
+}
+
+/// Writes what is printed of bytes, and answers the error of the fault or refusal of the text.
+pub fn print<W: Sink>(
+    alloc: Global,
+    bytes: &[u8],
+    settings: Settings,
+    printing: Printing<'_>,
+    output: &mut W,
+) -> Result<Option<Error>, RunError>
+    requires bytes { length bytes.now < 2 ^ 32 }
+    requires output { W.failure output.old ≡ None }
+    ensures printed { Writes W.held W.failure (prints settings printing.entry bytes.now)
+        output.old output.new result }
+    ensures not_utf8 { (offset : ℕ) →
+        IsErrOf result (RunError.NotUtf8 offset) ↔ IsValidUpTo bytes.now offset }
+    ensures refused { IfErr result (λ e. IsNotUtf8 e ⊎
+        (IsWrite e ⊎ (e ≡ RunError.Memory alloc_error))) }
+{
+    match text_of(bytes) {
+        Ok(text) => print_of(alloc, text, settings, printing, output),
+        Err(error) => Err(error),
     }
 }

@@ -1,17 +1,19 @@
 //! From a source of bytes to what is printed on a sink.
-ghost use Rattle.std.specs.Prelude.{◌≡◌, ◌⊎◌, ◌↔◌, true, false, ◌<◌, ◌^◌, length};
+ghost use Rattle.std.specs.Prelude.{◌≡◌, ◌⊎◌, ◌↔◌, ℕ, true, None, ◌<◌, ◌^◌, length};
 ghost use Rattle.std.specs.Prelude.{alloc_error, is_ok, IfOk, OnOk, IfErr, IfSome, IsErrOf};
-ghost use Rattle.std.specs.Str.{IsUtf8};
+ghost use Rattle.std.specs.Str.{IsValidUpTo};
 ghost use Rattle.wat_commands.specs.Blanks.{Blanks};
 ghost use Rattle.wat_commands.specs.Compiles.{Compiles};
 ghost use Rattle.wat_commands.specs.Inputs.{ReadsWhole, ReadsPast, ReadsShort, HasEnded};
 ghost use Rattle.wat_commands.specs.Lists.{Lists};
 ghost use Rattle.wat_commands.specs.Printed.{prints, AppendsText, AppendsCut};
+ghost use Rattle.wat_commands.specs.Refusals.{IsRead, IsWrite, read_failure, write_failure};
 ghost use Rattle.wat_commands.specs.Replies.{Plays};
 ghost use Rattle.wat_commands.specs.Runs.{without_error, Runs};
 ghost use Rattle.wat_commands.specs.Shows.{Shows};
+ghost use Rattle.wat_commands.specs.declared.ends.Failed.{Failed};
 
-use crate::ends::{Sink, Source};
+use crate::ends::{Failed, Sink, Source};
 use crate::print::{Printing, print};
 use std::alloc::{AllocError, Global};
 use wat_lex::error::Error;
@@ -22,13 +24,13 @@ use wat_lexer_parser::parser::Call;
 #[derive(Clone, Copy, Debug, PartialEq, Eq)]
 pub enum RunError {
     /// A read failed.
-    Read,
+    Read(Failed),
     /// The input has more than `u32::MAX` bytes.
     TooLong,
-    /// The input is not UTF-8.
-    NotUtf8,
+    /// The input is not UTF-8: so many bytes of it are, and no more.
+    NotUtf8(usize),
     /// The write failed.
-    Write,
+    Write(Failed),
     /// A request for memory was refused, by this refusal.
     Memory(AllocError),
 }
@@ -59,7 +61,7 @@ const STANDARD: Settings = Settings {
 /// All that a source has left, or the refusal: it is read to its end, or to one byte past the
 /// longest text.
 fn read_whole<R: Source>(alloc: Global, input: &mut R) -> Result<Vec<u8>, RunError>
-    requires { R.has_failed input.old ≡ false }
+    requires { R.failure input.old ≡ None }
     ensures whole { IfOk result (λ bytes.
         ReadsWhole (R.left input.old) (R.left input.new) bytes.items) }
     ensures ended { R.has_ended input.new ≡ is_ok result }
@@ -67,16 +69,16 @@ fn read_whole<R: Source>(alloc: Global, input: &mut R) -> Result<Vec<u8>, RunErr
         ReadsPast (R.left input.old) (R.left input.new) }
     ensures short { (IsErrOf result RunError.TooLong) ⊎
         ReadsShort (R.left input.old) (R.left input.new) }
-    ensures read { IsErrOf result RunError.Read ↔ (R.has_failed input.new ≡ true) }
+    ensures read { read_failure result ≡ R.failure input.new }
     ensures refused { IfErr result (λ e.
-        (e ≡ RunError.Read) ⊎ ((e ≡ RunError.TooLong) ⊎ (e ≡ RunError.Memory alloc_error))) }
+        IsRead e ⊎ ((e ≡ RunError.TooLong) ⊎ (e ≡ RunError.Memory alloc_error))) }
 {
     let mut bytes = Vec::new(alloc);
     let mut piece = [0u8; PIECE];
     'pieces: loop {
         let room = PIECE.min(LONGEST - bytes.len() + 1);
         match input.read(&mut piece[..room]) {
-            Err(_) => return Err(RunError::Read),
+            Err(failed) => return Err(RunError::Read(failed)),
             Ok(0) => return Ok(bytes),
             Ok(count) => {
                 if count > LONGEST - bytes.len() {
@@ -96,34 +98,35 @@ fn run<R: Source, W: Sink>(
     settings: Settings,
     printing: Printing<'_>,
 ) -> Result<Option<Error>, RunError>
-    requires input { R.has_failed input.old ≡ false }
-    requires output { W.has_failed output.old ≡ false }
+    requires input { R.failure input.old ≡ None }
+    requires output { W.failure output.old ≡ None }
     ensures written { IfOk result (λ error. IfSome (R.left input.old) (λ bytes.
         AppendsText (prints settings printing.entry bytes) error
         (W.held output.old) (W.held output.new))) }
 
     // These come only once the source was read to its end.
     ensures ended { OnOk result (HasEnded (R.left input.new) (R.has_ended input.new)) }
-    ensures not_utf8_ended { IsErrOf result RunError.NotUtf8 →
+    ensures not_utf8_ended { (offset : ℕ) → IsErrOf result (RunError.NotUtf8 offset) →
         HasEnded (R.left input.new) (R.has_ended input.new) }
-    ensures write_ended { IsErrOf result RunError.Write →
+    ensures write_ended { (failed : Failed) → IsErrOf result (RunError.Write failed) →
         HasEnded (R.left input.new) (R.has_ended input.new) }
 
     // When each refusal but that of memory comes.
-    ensures read { IsErrOf result RunError.Read ↔ (R.has_failed input.new ≡ true) }
+    ensures read { read_failure result ≡ R.failure input.new }
     ensures short { (IsErrOf result RunError.TooLong) ⊎
         ReadsShort (R.left input.old) (R.left input.new) }
     ensures too_long { IfSome (R.left input.old) (λ _.
         IsErrOf result RunError.TooLong ↔ ReadsPast (R.left input.old) (R.left input.new)) }
-    ensures not_utf8 { IfSome (R.left input.old) (λ bytes.
-        IsErrOf result RunError.NotUtf8 ↔ ((R.has_ended input.new ≡ true) × (¬ IsUtf8 bytes))) }
-    ensures write { IsErrOf result RunError.Write ↔ (W.has_failed output.new ≡ true) }
+    ensures not_utf8 { (offset : ℕ) → IfSome (R.left input.old) (λ bytes.
+        IsErrOf result (RunError.NotUtf8 offset) ↔
+        ((R.has_ended input.new ≡ true) × IsValidUpTo bytes offset)) }
+    ensures write { write_failure result ≡ W.failure output.new }
 
     // A failed write has written a prefix of what is printed, and each other refusal nothing.
-    ensures cut { IsErrOf result RunError.Write → IfSome (R.left input.old) (λ bytes.
-        AppendsCut (prints settings printing.entry bytes)
+    ensures cut { (failed : Failed) → IsErrOf result (RunError.Write failed) →
+        IfSome (R.left input.old) (λ bytes. AppendsCut (prints settings printing.entry bytes)
         (W.held output.old) (W.held output.new)) }
-    ensures unwritten { IfErr result (λ e. (e ≡ RunError.Write) ⊎ (output.new ≡ output.old)) }
+    ensures unwritten { IfErr result (λ e. IsWrite e ⊎ (output.new ≡ output.old)) }
 {
     let bytes = read_whole(alloc, input)?;
     print(alloc, &bytes, settings, printing, output)
@@ -137,9 +140,9 @@ pub fn run_list<R: Source, W: Sink>(
     output: &mut W,
     settings: Settings,
 ) -> Result<Option<Error>, RunError>
-    requires input { R.has_failed input.old ≡ false }
-    requires output { W.has_failed output.old ≡ false }
-    ensures { Runs R.left R.has_failed R.has_ended W.held W.has_failed (Lists settings)
+    requires input { R.failure input.old ≡ None }
+    requires output { W.failure output.old ≡ None }
+    ensures { Runs R.left R.failure R.has_ended W.held W.failure (Lists settings)
         input.old input.new output.old output.new result }
 {
     run(alloc, input, output, settings, Printing::Raw)
@@ -154,9 +157,9 @@ pub fn run_sig<R: Source, W: Sink>(
     settings: Settings,
     names: &[String],
 ) -> Result<Option<Error>, RunError>
-    requires input { R.has_failed input.old ≡ false }
-    requires output { W.has_failed output.old ≡ false }
-    ensures { Runs R.left R.has_failed R.has_ended W.held W.has_failed (Shows settings names.now)
+    requires input { R.failure input.old ≡ None }
+    requires output { W.failure output.old ≡ None }
+    ensures { Runs R.left R.failure R.has_ended W.held W.failure (Shows settings names.now)
         input.old input.new output.old output.new result }
 {
     run(alloc, input, output, settings, Printing::Shown(names))
@@ -170,9 +173,9 @@ pub fn run_play<R: Source, W: Sink>(
     settings: Settings,
     calls: &[Call],
 ) -> Result<(), RunError>
-    requires input { R.has_failed input.old ≡ false }
-    requires output { W.has_failed output.old ≡ false }
-    ensures { Runs R.left R.has_failed R.has_ended W.held W.has_failed (Plays settings calls.now)
+    requires input { R.failure input.old ≡ None }
+    requires output { W.failure output.old ≡ None }
+    ensures { Runs R.left R.failure R.has_ended W.held W.failure (Plays settings calls.now)
         input.old input.new output.old output.new (without_error result) }
 {
     match run(alloc, input, output, settings, Printing::Replies(calls)) {
@@ -189,9 +192,9 @@ pub fn run_blank<R: Source, W: Sink>(
     output: &mut W,
     settings: Settings,
 ) -> Result<Option<Error>, RunError>
-    requires input { R.has_failed input.old ≡ false }
-    requires output { W.has_failed output.old ≡ false }
-    ensures { Runs R.left R.has_failed R.has_ended W.held W.has_failed (Blanks settings)
+    requires input { R.failure input.old ≡ None }
+    requires output { W.failure output.old ≡ None }
+    ensures { Runs R.left R.failure R.has_ended W.held W.failure (Blanks settings)
         input.old input.new output.old output.new result }
 {
     run(alloc, input, output, settings, Printing::Blank)
@@ -204,9 +207,9 @@ pub fn run_types<R: Source, W: Sink>(
     input: &mut R,
     output: &mut W,
 ) -> Result<Option<Error>, RunError>
-    requires input { R.has_failed input.old ≡ false }
-    requires output { W.has_failed output.old ≡ false }
-    ensures { Runs R.left R.has_failed R.has_ended W.held W.has_failed Compiles
+    requires input { R.failure input.old ≡ None }
+    requires output { W.failure output.old ≡ None }
+    ensures { Runs R.left R.failure R.has_ended W.held W.failure Compiles
         input.old input.new output.old output.new result }
 {
     run(alloc, input, output, STANDARD, Printing::Types)

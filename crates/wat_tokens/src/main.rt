@@ -1,14 +1,54 @@
-//! Lists the raw tokens of a WebAssembly text that comes on standard input, or those that count, or
-//! what a parser replies to calls; or writes the text with its comments blanked, or the bytes of the
-//! module that the text spells.
+//! Writes the tokens of WebAssembly texts, from files or standard input, or what its command line
+//! asks for beside them.
 #![tactic(auto)]
 
 use std::alloc::AllocError;
+use std::fs::File;
 use std::process::ExitCode;
+use std::rt::{Stdin, Stdout};
 use std::{env, io};
-use wat_commands::ends::Plain;
-use wat_commands::outcome::{Outcome, respond};
+use wat_commands::ends::{Failed, Plain};
+use wat_commands::outcome::Outcome;
+use wat_commands::respond::{Inputs, respond};
 use wat_commands::run::RunError;
+
+/// Standard input, or a file.
+#[derive(Drop)]
+enum Input {
+    Standard(Stdin),
+    File(File),
+}
+
+impl io::Read for Input {
+    fn read(&mut self, buffer: &mut [u8]) -> io::Result<usize> {
+        match self {
+            Input::Standard(input) => input.read(buffer),
+            Input::File(file) => file.read(buffer),
+        }
+    }
+}
+
+/// The files of the machine.
+#[derive(Drop)]
+struct Files<'a>(&'a HostRuntime);
+
+impl Inputs for Files<'_> {
+    ghost use Rattle.std.specs.Prelude.{None};
+
+    type Input = Plain<Input>;
+
+    ghost found = { λ _ _. None };
+
+    fn open(&self, file: &str) -> Result<Plain<Input>, Failed> {
+        if file == "-" {
+            return Ok(Plain::new(Input::Standard(self.0.stdin())));
+        }
+        match File::open(self.0, file) {
+            Ok(file) => Ok(Plain::new(Input::File(file))),
+            Err(error) => Err(Failed::of(&error)),
+        }
+    }
+}
 
 /// The words behind the program's name.
 fn words(rt: &HostRuntime) -> io::Result<Vec<String>> {
@@ -21,26 +61,33 @@ fn words(rt: &HostRuntime) -> io::Result<Vec<String>> {
 
 /// What a run ends in whose words can't be read. The standard library keeps only the kind of an
 /// error, so a refused request for memory is told by that.
-fn not_read(error: &io::Error) -> Outcome {
+fn not_read(error: &io::Error) -> Outcome<'static> {
     match error.kind() {
         io::ErrorKind::OutOfMemory => Outcome::Refused(RunError::from(AllocError)),
-        _ => Outcome::Usage,
+        _ => Outcome::Unread,
     }
 }
 
-/// Writes of standard input on standard output what the words ask for.
-fn answer(rt: &HostRuntime) -> Outcome {
+/// Writes on standard output what the words ask for, and answers the exit status.
+fn answer(rt: &HostRuntime) -> u8 {
     let words = match words(rt) {
         Ok(words) => words,
-        Err(error) => return not_read(&error),
+        Err(error) => {
+            let outcome = not_read(&error);
+            let _ = outcome.report(rt.alloc(), None, &mut rt.stderr());
+            return outcome.status();
+        }
     };
-    let mut input = Plain::new(rt.stdin());
     let mut output = Plain::new(rt.stdout());
-    respond(rt.alloc(), &words, &mut input, &mut output)
+    respond(
+        rt.alloc(),
+        &words,
+        &Files(rt),
+        &mut output,
+        &mut rt.stderr(),
+    )
 }
 
 fn main(rt: HostRuntime) -> ExitCode {
-    let outcome = answer(&rt);
-    let _ = outcome.report(&mut rt.stderr());
-    ExitCode::from(outcome.status())
+    ExitCode::from(answer(&rt))
 }

@@ -1,5 +1,5 @@
 //! Texts whose output is longer than a block.
-use crate::tests::{Counted, OFF, counting_writer};
+use crate::tests::{Counted, FAILED, OFF, counting_writer};
 use std::alloc::Global;
 use std::test::Fail;
 use wat_commands::ends::Plain;
@@ -63,7 +63,7 @@ fn a_fault_stands_behind_blocks(rt: HostRuntime) -> Result<(), Fail> {
 fn a_later_block_is_not_written(rt: HostRuntime) -> Result<(), Fail> {
     for fails_at in 0..3 {
         let (result, writer) = list_of(rt.alloc(), "", fails_at)?;
-        assert_eq!(rt; result, Err(RunError::Write));
+        assert_eq!(rt; result, Err(RunError::Write(FAILED)));
         let lines = paren_lines(rt.alloc())?;
         let held = writer.held.as_slice();
         assert!(rt; lines.as_bytes().starts_with(held) && held.len() < lines.len());

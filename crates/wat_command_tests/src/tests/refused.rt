@@ -1,6 +1,6 @@
 //! The five runs over a source that gives few bytes a call and fails at each call in turn, and to a
 //! sink that fails. Where memory is wanting, each of them answers that and has written nothing.
-use crate::tests::{OFF, Pieces, Room};
+use crate::tests::{FAILED, OFF, Pieces, Room};
 use std::alloc::Global;
 use std::process::Abort;
 use std::test::Fail;
@@ -42,7 +42,7 @@ fn run(
     input: &mut Pieces<'_>,
     output: &mut Room,
 ) -> Result<(), RunError> {
-    assert!(rt; !input.failed && !output.failed);
+    assert!(rt; input.failure.is_none() && output.failure.is_none());
     let alloc = *output.held.allocator();
     match kind {
         Kind::List => run_list(alloc, input, output, OFF).map(|_| ()),
@@ -68,7 +68,7 @@ fn pieces(text: &str, most: usize, fails_in: usize) -> Pieces<'_> {
         rest: text.as_bytes(),
         most,
         fails_in,
-        failed: false,
+        failure: None,
         ended: false,
     }
 }
@@ -78,7 +78,7 @@ fn room(alloc: Global, broken: bool) -> Result<Room, Fail> {
     Ok(Room {
         held: Vec::with_capacity(alloc, 200)?,
         broken,
-        failed: false,
+        failure: None,
     })
 }
 
@@ -96,7 +96,7 @@ fn read_fails(
     match answer {
         Ok(()) => assert_eq!(rt; held, written.as_bytes()),
         Err(error) => {
-            assert!(rt; error == RunError::Read || matches!(error, RunError::Memory(_)));
+            assert!(rt; error == RunError::Read(FAILED) || matches!(error, RunError::Memory(_)));
             assert!(rt; held.is_empty());
         }
     }
@@ -104,7 +104,10 @@ fn read_fails(
     assert!(rt;
         matches!(answer, Err(RunError::Memory(_))) || (answer == Ok(())) == (fails_in >= reads)
     );
-    assert_eq!(rt; input.failed, answer == Err(RunError::Read));
+    assert_eq!(rt;
+        input.failure.is_some(),
+        answer == Err(RunError::Read(FAILED))
+    );
     Ok(())
 }
 
@@ -124,8 +127,9 @@ fn the_write_fails(rt: HostRuntime) -> Result<(), Fail> {
     for (kind, text, _) in KINDS {
         let mut output = room(rt.alloc(), true)?;
         let answer = run(&rt, kind, &mut pieces(text, 1, 99), &mut output);
-        assert!(rt; answer == Err(RunError::Write) || matches!(answer, Err(RunError::Memory(_))));
-        assert_eq!(rt; output.failed, answer == Err(RunError::Write));
+        let failed = answer == Err(RunError::Write(FAILED));
+        assert!(rt; failed || matches!(answer, Err(RunError::Memory(_))));
+        assert_eq!(rt; output.failure.is_some(), failed);
         assert!(rt; output.held.is_empty());
     }
     Ok(())

@@ -1,5 +1,6 @@
 //! What counts in a text, and what a parser replies to calls: the words of a command line, a text,
 //! and the lines.
+use super::responses::Alone;
 use super::words_of;
 use crate::tests::OFF;
 use std::alloc::Global;
@@ -7,21 +8,19 @@ use std::str;
 use std::test::Fail;
 use wat_commands::Settings;
 use wat_commands::ends::Plain;
-use wat_commands::outcome::respond;
+use wat_commands::respond::respond;
 use wat_commands::run::{RunError, run_play, run_sig};
 
 /// The status, and what is written and reported, as one text.
 pub(super) fn responded(alloc: Global, words: &str, text: &str) -> Result<String, Fail> {
-    let mut input = Plain::new(text.as_bytes());
     let mut output = Plain::new(Vec::new(alloc));
-    let words = words_of(alloc, words)?;
-    let outcome = respond(alloc, &words, &mut input, &mut output);
-    let lines = output.into_inner();
     let mut errors = Vec::new(alloc);
-    outcome.report(&mut errors)?;
+    let words = words_of(alloc, words)?;
+    let status = respond(alloc, &words, &Alone(text), &mut output, &mut errors);
+    let lines = output.into_inner();
     let written = str::from_utf8(&lines).map_err(|_| "the lines are not UTF-8")?;
     let reported = str::from_utf8(&errors).map_err(|_| "the report is not UTF-8")?;
-    Ok(format!(in alloc; "{}\n{written}{reported}", outcome.status())?)
+    Ok(format!(in alloc; "{status}\n{written}{reported}")?)
 }
 
 #[test]
@@ -218,12 +217,12 @@ fn bytes_that_are_no_text(rt: HostRuntime) {
         let mut input = Plain::new(b"x \xff".as_slice());
         let mut output = Plain::new(Vec::new(rt.alloc()));
         let run = run_sig(rt.alloc(), &mut input, &mut output, settings, &[]);
-        assert!(rt; matches!(&run, Err(RunError::NotUtf8)));
+        assert!(rt; matches!(&run, Err(RunError::NotUtf8(_))));
         assert!(rt; output.into_inner().is_empty());
         let mut input = Plain::new(b"x \xff".as_slice());
         let mut output = Plain::new(Vec::new(rt.alloc()));
         let run = run_play(rt.alloc(), &mut input, &mut output, settings, &[]);
-        assert!(rt; matches!(&run, Err(RunError::NotUtf8)));
+        assert!(rt; matches!(&run, Err(RunError::NotUtf8(_))));
         assert!(rt; output.into_inner().is_empty());
     }
 }

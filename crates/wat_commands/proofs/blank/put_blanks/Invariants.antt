@@ -6,5 +6,5 @@ use Rattle.wat_commands.proofs.blank.put_blanks.Given as goal
 abbrev pub invariant-loop-byte : goal.invariant-loop-byte
 invariant-loop-byte g l = record {
   puts : Puts (g.W.Sink.held l.initial.output) (g.W.Sink.held l.output) l.initial.block l.block (map blank_byte (take l.byte-index l.comment));
-  failed : g.W.Sink.has_failed l.output ≡ g.W.Sink.has_failed l.initial.output;
+  failed : g.W.Sink.failure l.output ≡ g.W.Sink.failure l.initial.output;
 }

@@ -6,7 +6,7 @@ use Rattle.wat_commands.proofs.blank.write_blanked.Given as goal
 abbrev pub invariant-tokens : goal.invariant-tokens
 invariant-tokens g l = record {
   putting : Putting (blank_text l.lexer.text) l.lexer l.pos (g.W.Sink.held l.initial.output) (g.W.Sink.held l.output) l.block;
-  failed : g.W.Sink.has_failed l.output ≡ g.W.Sink.has_failed l.initial.output;
+  failed : g.W.Sink.failure l.output ≡ g.W.Sink.failure l.initial.output;
 }
 
 abbrev pub decreases-tokens : goal.decreases-tokens

@@ -15,10 +15,13 @@ returns-in-Ok g c =
     let runs = rw c.deref.ensures.value at c.run_play.ensures in
     rw c.in-Play.is (ran (without_error c.run_play.result) Listed runs (rw c.in-Ok.is refl))
 
-pub returns-in-Play : goal.returns-in-Play
-returns-in-Play g c =
+pub returns-in-Err : goal.returns-in-Err
+returns-in-Err g c =
     let runs = rw c.deref.ensures.value at c.run_play.ensures in
     rw c.in-Play.is (ran (without_error c.run_play.result) (Refused c.in-Err.error) runs (rw c.in-Err.is refl))
 
-pub returns : goal.returns
-returns g c = rw c.in-Blank.is (ran c.run_blank.result c.of_run-in-Blank.result c.run_blank.ensures c.of_run-in-Blank.ensures)
+pub returns-in-Blank : goal.returns-in-Blank
+returns-in-Blank g c = rw c.in-Blank.is (ran c.run_blank.result c.of_run-in-Blank.result c.run_blank.ensures c.of_run-in-Blank.ensures)
+
+pub returns-in-Types : goal.returns-in-Types
+returns-in-Types g c = rw c.in-Types.is (ran c.run_types.result c.of_run-in-Types.result c.run_types.ensures c.of_run-in-Types.ensures)

@@ -1,27 +1,9 @@
-use Rattle.std.proofs.Common.{rules, refl, None}
-use Rattle.wat_commands.specs.Replies.{Plays}
-use Rattle.wat_commands.specs.Shows.{Shows}
-use Rattle.wat_commands.proofs.PrintLaws.{writes_as}
+use Rattle.wat_commands.specs.declared.run.RunError.TheVariants.{NotUtf8}
+use Rattle.wat_commands.proofs.InputLaws.{text_known, as_other}
 use Rattle.wat_commands.proofs.print.print.Goals as goal
 
-pub returns-in-Raw-clause-printed : goal.returns-in-Raw-clause-printed
-returns-in-Raw-clause-printed g c = rw c.in-Raw.is (rw c.in-Ok.ensures.cases.0 at c.print_raw.ensures.printed)
+pub returns-in-Ok-clause-not_utf8 : goal.returns-in-Ok-clause-not_utf8
+returns-in-Ok-clause-not_utf8 g c = λ n. text_known c.print_of.result c.args.bytes.now n c.in-Ok.ensures.utf8 c.print_of.ensures.refused
 
-pub returns-in_ok-lines-in-Shown-clause-printed : goal.returns-in_ok-lines-in-Shown-clause-printed
-returns-in_ok-lines-in-Shown-clause-printed g c =
-    let shown = rw c.in-Ok.ensures.cases.0 at c.in_ok-lines-in-Shown.ensures in
-    rw c.in-Shown.is (writes_as g.W.Sink.held g.W.Sink.has_failed (Shows c.args.settings c.in-Shown.names.now c.args.bytes.now) _ _ c.deref.result.now _ c.print_text.result
-    (record { utf8 = search rules; short = c.requires.bytes; shown = rw c.deref.ensures.value shown }) c.print_text.ensures.printed)
-
-pub returns-in_ok-replies-in-Replies-clause-printed :
-    goal.returns-in_ok-replies-in-Replies-clause-printed
-returns-in_ok-replies-in-Replies-clause-printed g c =
-    let played = rw c.in-Ok.ensures.cases.0 at c.in_ok-replies-in-Replies.ensures in
-    rw c.in-Replies.is (writes_as g.W.Sink.held g.W.Sink.has_failed (Plays c.args.settings c.in-Replies.calls.now c.args.bytes.now) _ _ c.deref-in-Replies.result.now None c.print_text-in-Replies.result
-    (record { utf8 = search rules; short = c.requires.bytes; played = rw c.deref-in-Replies.ensures.value played; no_error = refl }) c.print_text-in-Replies.ensures.printed)
-
-pub returns-in-Blank-clause-printed : goal.returns-in-Blank-clause-printed
-returns-in-Blank-clause-printed g c = rw c.in-Blank.is (rw c.in-Ok.ensures.cases.0 at c.print_blank.ensures.printed)
-
-pub returns-in-Types-clause-printed : goal.returns-in-Types-clause-printed
-returns-in-Types-clause-printed g c = rw c.in-Types.is (rw c.in-Ok.ensures.cases.0 at c.print_types.ensures.printed)
+pub returns-in-Err-clause-not_utf8 : goal.returns-in-Err-clause-not_utf8
+returns-in-Err-clause-not_utf8 g c = λ n. as_other c.in-Err.error (NotUtf8 n) (c.in-Err.ensures.not_utf8 n)

@@ -8,6 +8,6 @@ returns-clause-printed g c =
     let reports = rw c.lexer_of-lexer.ensures at c.in_ok-error.ensures.error in
     let all = rw c.lexer_of-lexer.ensures at c.write_lines.ensures.written in
     let cut = rw c.lexer_of-lexer.ensures at c.write_lines.ensures.cut in
-    writes g.W.Sink.held g.W.Sink.has_failed (Lists c.args.settings text) _ _ c.in_ok-error.error c.write_lines.result c.answer.result c.answer.ensures.written c.answer.ensures.failed
+    writes g.W.Sink.held g.W.Sink.failure (Lists c.args.settings text) _ _ c.in_ok-error.error c.write_lines.result c.answer.result c.answer.ensures
     (ok_then c.write_lines.result (lists_written c.one_tiling.ensures.one c.args.settings text c.in_ok-error.error _ _ c.utf8.text c.requires.text reports) all)
     (err_then c.write_lines.result (lists_cut c.args.settings text _ _ c.utf8.text c.requires.text) cut) c.requires.output c.write_lines.ensures.failed

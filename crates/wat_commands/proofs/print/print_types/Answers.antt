@@ -7,7 +7,7 @@ use Rattle.wat_commands.proofs.PrintLaws.{writes_as}
 use Rattle.wat_commands.proofs.print.print_types.Goals as goal
 
 pub returns-in-None-clause-printed : goal.returns-in-None-clause-printed
-returns-in-None-clause-printed g c = writes_as g.W.Sink.held g.W.Sink.has_failed (Compiles c.args.text.now) _ _ [] (Some c.in-Err.error) c.print_text-in-None.result (record {
+returns-in-None-clause-printed g c = writes_as g.W.Sink.held g.W.Sink.failure (Compiles c.args.text.now) _ _ [] (Some c.in-Err.error) c.print_text-in-None.result (record {
   utf8 = c.utf8.text;
   short = c.requires.text;
   compiled = refused_text {T = Vec ℕ Global} c.one_tiling.ensures.some c.args.text.now (λ bytes. bytes.items) c.in-Err.error c.alloc_error.result c.utf8.text
@@ -15,7 +15,7 @@ returns-in-None-clause-printed g c = writes_as g.W.Sink.held g.W.Sink.has_failed
 }) c.print_text-in-None.ensures.printed
 
 pub returns-in-Ok-clause-printed : goal.returns-in-Ok-clause-printed
-returns-in-Ok-clause-printed g c = writes_as g.W.Sink.held g.W.Sink.has_failed (Compiles c.args.text.now) _ _ c.deref.result.now None c.print_text.result (record {
+returns-in-Ok-clause-printed g c = writes_as g.W.Sink.held g.W.Sink.failure (Compiles c.args.text.now) _ _ c.deref.result.now None c.print_text.result (record {
   utf8 = c.utf8.text;
   short = c.requires.text;
   compiled = rw c.deref.ensures.value (search rules);

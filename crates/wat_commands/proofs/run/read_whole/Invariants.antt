@@ -1,11 +1,11 @@
-use Rattle.std.proofs.Common.{◌≡◌, ◌-◌, ◌≤◌, false, vec_len}
+use Rattle.std.proofs.Common.{◌≡◌, ◌-◌, ◌≤◌, None, vec_len}
 use Rattle.std.specs.Io.KnownBytes.{Consumes}
 use Rattle.wat_commands.proofs.run.read_whole.Given as goal
 
 abbrev pub invariant-pieces : goal.invariant-pieces
 invariant-pieces g l = record {
   so_far : Consumes (g.R.Source.left l.initial.input) (g.R.Source.left l.input) l.bytes.items;
-  fresh : g.R.Source.has_failed l.input ≡ false;
+  fresh : g.R.Source.failure l.input ≡ None;
   short : vec_len l.bytes ≤ 4294967295;
 }
 

@@ -6,4 +6,4 @@ pub returns-in_err-bytes-clause-too_long : goal.returns-in_err-bytes-clause-too_
 returns-in_err-bytes-clause-too_long g c = past_known _ _ (search rules) (search rules)
 
 pub returns-clause-not_utf8 : goal.returns-clause-not_utf8
-returns-clause-not_utf8 g c = no_text_known _ _ c.in_ok-bytes.ensures.whole (search rules) (search rules)
+returns-clause-not_utf8 g c = λ n. no_text_known _ _ n c.in_ok-bytes.ensures.whole (search rules) (rw c.deref.ensures.value at c.print.ensures.not_utf8 n)

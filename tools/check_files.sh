@@ -1,0 +1,63 @@
+#!/usr/bin/env bash
+# Runs the program on all texts below a folder at once, and on each by itself: what is written and reported must be the same, one behind the
+# other, and the exit status the greatest. Without a file, what is written of a text on standard input must be the same again.
+#
+# usage: tools/check_files.sh FOLDER [PROGRAM]
+set -eu
+folder=$(realpath "$1")
+cd "$(dirname "$0")/.."
+program=$(realpath "${2:-$(tools/build.sh wat_tokens)}")
+room=$(mktemp -d)
+trap 'rm -rf "$room"' EXIT
+cd "$folder"
+mapfile -t files < <(find . -name '*.wat' -o -name '*.wast' | sort)
+differences=0
+
+# each WORD..: the words on each file by itself
+each() {
+    local file status greatest=0
+    : > "$room/each_output"
+    : > "$room/each_errors"
+    for file in "${files[@]}"; do
+        status=0
+        "$program" "$@" "$file" >> "$room/each_output" 2>> "$room/each_errors" || status=$?
+        [ "$status" -le "$greatest" ] || greatest=$status
+    done
+    echo "$greatest" > "$room/each_status"
+}
+
+# all WORD..: the words on all files
+all() {
+    local status=0
+    "$program" "$@" "${files[@]}" > "$room/all_output" 2> "$room/all_errors" || status=$?
+    echo "$status" > "$room/all_status"
+}
+
+# compare NAME: both
+compare() {
+    local part
+    for part in output errors status; do
+        if ! cmp "$room/each_$part" "$room/all_$part"; then
+            differences=$((differences + 1))
+        fi
+    done
+    echo "check_files: $1, ${#files[@]} files, $(wc -l < "$room/all_output") lines, $(wc -l < "$room/all_errors") lines of reports, status $(cat "$room/all_status")"
+}
+
+if [ "${#files[@]}" -eq 0 ]; then
+    echo "check_files: no *.wat or *.wast below $folder"
+    exit 1
+fi
+each list
+all list
+compare list
+each sig --
+all sig --
+compare sig
+for file in "${files[@]}"; do
+    "$program" list "$file" > "$room/each_output" 2> "$room/errors" || true
+    "$program" < "$file" > "$room/all_output" 2> "$room/errors" || true
+    cmp "$room/each_output" "$room/all_output" || differences=$((differences + 1))
+done
+echo "check_files: $differences differences"
+[ "$differences" = 0 ]
