@@ -1,7 +1,7 @@
 #!/usr/bin/env bash
 # Runs a command while N edits of one crate of edits stand in its must-fail, and ends with its status. SEED chooses the crate, one with more
 # edits more often, and the edits: those whose paths have the least hashes together with SEED. So the same seed gives the same edits, and each
-# has its turn as seeds change. They are of one crate since `rt` proves a crate once more for its second edit, and not for those behind.
+# has its turn as seeds change. They are of one crate since edits of one crate share what is proved.
 #
 # usage: tools/sample_edits.sh N SEED COMMAND..
 set -euo pipefail
