@@ -6,6 +6,8 @@
 //! `‹9×ab›` for nine times `ab`.
 #![tactic(auto)]
 
+mod blanking;
+mod closures;
 mod cursors;
 mod encoding;
 mod errors;
@@ -15,7 +17,9 @@ mod pictures;
 mod refusals;
 mod replaying;
 mod row;
+mod spaceship;
 mod tokens;
+mod typed;
 mod types;
 
 use row::Row;
@@ -38,6 +42,15 @@ fn answer(alloc: Global, row: &Row<'_>) -> Result<String, Error> {
         return Ok(answer);
     }
     if let Some(answer) = parsing::answer(alloc, row)? {
+        return Ok(answer);
+    }
+    if let Some(answer) = closures::answer(alloc, row)? {
+        return Ok(answer);
+    }
+    if let Some(answer) = typed::answer(alloc, row)? {
+        return Ok(answer);
+    }
+    if let Some(answer) = blanking::answer(alloc, row)? {
         return Ok(answer);
     }
     Ok(String::from_str(alloc, "no such call")?)

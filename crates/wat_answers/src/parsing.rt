@@ -1,6 +1,8 @@
 //! Calls of a parser, and of the cursor at the start of a text.
+ghost use Rattle.std.specs.Prelude.{◌<◌, ◌^◌, length};
+
 use crate::cursors::{annotation, comment, id, seen, taken};
-use crate::replaying::replies;
+use crate::replaying::{full_replies, replies};
 use crate::row::Row;
 use crate::tokens::{short, write_comma, write_token};
 use std::alloc::{AllocError, Global};
@@ -11,7 +13,7 @@ use wat_lexer_parser::parser::{ParseBuffer, Parser};
 use wat_lexer_parser::token::{LParen, RParen};
 
 /// Takes the token that is shown; None at the end.
-fn take(parser: &mut Parser<'_>) -> Result<Option<Token>, Error> {
+pub fn take(parser: &mut Parser<'_>) -> Result<Option<Token>, Error> {
     parser.step(|cursor| match cursor.any()? {
         Some((token, next)) => Ok((Some(token), next)),
         None => Ok((None, cursor)),
@@ -52,21 +54,50 @@ fn raw(alloc: Global, buffer: &ParseBuffer<'_>) -> Result<String, AllocError> {
     Ok(shown)
 }
 
-/// The text with spaces over the raw token of this number, which has to be a comment.
-fn blanked(alloc: Global, row: &Row<'_>) -> Result<String, Error> {
-    let text = short(&row.text);
+/// The raw token of this number and the text with spaces over it; None where it is no comment.
+pub fn blanked_at(
+    alloc: Global,
+    text: &str,
+    number: usize,
+) -> Result<Option<(Token, String)>, Error>
+    requires { length text.now < 2 ^ 32 }
+{
     let mut lexer = Lexer::new(text);
     lexer.allow_confusing_unicode(true);
     let buffer = ParseBuffer::new_with_lexer(alloc, lexer)?;
     let raw = buffer.raw();
-    let number = row.at();
     if number < raw.len() {
         let token = raw[number];
         if let TokenKind::LineComment | TokenKind::BlockComment = token.kind {
-            return Ok(laws::blanked(alloc, text, &token)?);
+            let other = laws::blanked(alloc, text, &token)?;
+            return Ok(Some((token, other)));
         }
     }
-    Ok(String::from_str(alloc, "no comment")?)
+    Ok(None)
+}
+
+/// The text with spaces over the raw token of this number, which has to be a comment.
+fn blanked(alloc: Global, row: &Row<'_>) -> Result<String, Error> {
+    Ok(match blanked_at(alloc, short(&row.text), row.at())? {
+        Some((_, other)) => other,
+        None => String::from_str(alloc, "no comment")?,
+    })
+}
+
+/// How many tokens are shown where a name is registered or none, and the place behind them.
+fn counted(alloc: Global, row: &Row<'_>, buffer: &ParseBuffer<'_>) -> Result<String, Error> {
+    let mut parser = buffer.parser();
+    if !row.with.is_empty() {
+        parser.register_annotation(row.with)?;
+    }
+    let mut count = 0usize;
+    for _ in 0..row.text.len() {
+        if take(&mut parser)?.is_none() {
+            break;
+        }
+        count = count.saturating_add(1);
+    }
+    Ok(format!(in alloc; "{count} tokens, place {}", parser.prev_span().offset())?)
 }
 
 /// Whether a peek sees what it looks for; None of a fault.
@@ -120,7 +151,9 @@ pub fn answer(alloc: Global, row: &Row<'_>) -> Result<Option<String>, Error> {
         "shown" | "shown-allowing" => shown(alloc, row, &buffer)?,
         "raw" => raw(alloc, &buffer)?,
         "blanked" => blanked(alloc, row)?,
+        "counted" => counted(alloc, row, &buffer)?,
         "replay" => replies(alloc, &buffer, row.with)?,
+        "replay-full" => full_replies(alloc, &buffer, row.with)?,
         "peeks" => peeks(alloc, &parser)?,
         "end" => {
             let offset = parser.cur_span().offset();

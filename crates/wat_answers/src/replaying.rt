@@ -2,7 +2,7 @@
 use crate::tokens::{write_comma, write_token};
 use std::alloc::{AllocError, Global};
 use wat_lex::error::Error;
-use wat_lexer_parser::parser::{Call, FaultKind, ParseBuffer, Reply, replay};
+use wat_lexer_parser::parser::{Call, FaultKind, ParseBuffer, Parser, Reply, replay};
 
 /// The call that a word stands for: `reg=NAME`, `unreg=NAME`, `parens=COUNT`, `take`, `comment`, or else a look.
 fn call(alloc: Global, word: &str) -> Result<Call, AllocError> {
@@ -46,17 +46,38 @@ fn write_reply(shown: &mut String, reply: &Reply) -> Result<(), AllocError> {
 }
 
 /// The replies to calls with commas between them, and the place behind them.
-pub fn replies(alloc: Global, buffer: &ParseBuffer<'_>, words: &str) -> Result<String, Error> {
+fn replied(alloc: Global, parser: &mut Parser<'_>, words: &str) -> Result<String, Error> {
     let mut calls = Vec::new(alloc);
     for word in words.split(',') {
         calls.push(call(alloc, word)?)?;
     }
-    let mut parser = buffer.parser();
-    let replies = replay(alloc, &mut parser, &calls)?;
+    let replies = replay(alloc, parser, &calls)?;
     let mut shown = String::new(alloc);
     for reply in replies.iter() {
         write_reply(&mut shown, reply)?;
     }
     write!(shown, ", place {}", parser.prev_span().offset())?;
     Ok(shown)
+}
+
+/// The replies of a parser at the start of a text.
+pub fn replies(alloc: Global, buffer: &ParseBuffer<'_>, words: &str) -> Result<String, Error> {
+    let mut parser = buffer.parser();
+    replied(alloc, &mut parser, words)
+}
+
+/// Registers `a` as often as a name may be registered.
+pub fn register_fully(parser: &mut Parser<'_>) -> Result<(), Error> {
+    parser.register_annotation("a")?;
+    if parser.is_registered("a") {
+        parser.set_registrations("a", usize::MAX);
+    }
+    Ok(())
+}
+
+/// The replies where `a` is registered as often as a name may be.
+pub fn full_replies(alloc: Global, buffer: &ParseBuffer<'_>, words: &str) -> Result<String, Error> {
+    let mut parser = buffer.parser();
+    register_fully(&mut parser)?;
+    replied(alloc, &mut parser, words)
 }

@@ -1,5 +1,6 @@
 //! Whole texts that are read as a type.
 use crate::row::Row;
+use crate::spaceship::Spaceship;
 use crate::tokens::short;
 use std::alloc::Global;
 use std::borrow::{CowSlice, CowStr};
@@ -7,7 +8,7 @@ use std::fmt;
 use wat_lex::error::Error;
 use wat_lex::lexer::Lexer;
 use wat_lexer_parser::parser::{Parse, ParseBuffer, parse};
-use wat_lexer_parser::token::{Id, Index, ItemRef};
+use wat_lexer_parser::token::{Id, Index, ItemRef, ReservedSymbol};
 use wat_lexer_parser::{annotation, kw};
 
 /// The value that a whole text is read as.
@@ -48,6 +49,24 @@ fn word(alloc: Global, call: &str, buffer: &ParseBuffer<'_>) -> Result<Option<St
         "ItemRef<kw::func>" => value::<ItemRef<kw::func>>(alloc, buffer),
         "kw::func" => value::<kw::func>(alloc, buffer),
         "annotation::name" => value::<annotation::name>(alloc, buffer),
+        _ => standard(alloc, call, buffer),
+    }
+}
+
+/// The same of types of words that stand at the ends of the lists, and of a word of one's own.
+fn standard(alloc: Global, call: &str, buffer: &ParseBuffer<'_>) -> Result<Option<String>, Error> {
+    match call {
+        "kw::after" => value::<kw::after>(alloc, buffer),
+        "kw::nan_arithmetic" => value::<kw::nan_arithmetic>(alloc, buffer),
+        "kw::string_latin1_utf16" => value::<kw::string_latin1_utf16>(alloc, buffer),
+        "kw::external_id" => value::<kw::external_id>(alloc, buffer),
+        "annotation::custom" => value::<annotation::custom>(alloc, buffer),
+        "annotation::producers" => value::<annotation::producers>(alloc, buffer),
+        "annotation::dylink_0" => value::<annotation::dylink_0>(alloc, buffer),
+        "annotation::metadata_code_branch_hint" => {
+            value::<annotation::metadata_code_branch_hint>(alloc, buffer)
+        }
+        "ReservedSymbol<Spaceship>" => value::<ReservedSymbol<Spaceship>>(alloc, buffer),
         _ => Ok(None),
     }
 }

@@ -1,9 +1,9 @@
 //! Buffers of texts, and a text with spaces over a comment.
-use crate::run::{Ending, Run, short};
 use std::alloc::Global;
 use std::io;
 use wat_lex::error::Error;
 use wat_lex::lexer::{LexError, LexFault, Lexer, TokenKind};
+use wat_lex_requests::run::{Ending, Run, short};
 use wat_lexer_parser::laws;
 use wat_lexer_parser::parser::ParseBuffer;
 

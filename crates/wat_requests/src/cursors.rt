@@ -1,8 +1,8 @@
 //! Looks and takers of cursors: at faults, which they report, and at words that have to be decoded.
 use crate::buffers::buffer_of;
-use crate::run::{Ending, Expected, Run};
 use std::io;
 use wat_lex::error::Error;
+use wat_lex_requests::run::{Ending, Expected, Run};
 use wat_lexer_parser::parser::{Cursor, Parser};
 
 /// A call of a cursor.

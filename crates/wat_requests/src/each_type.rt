@@ -1,10 +1,10 @@
 //! Peeks at types, at what they see and at a fault, and integers with their places.
 use crate::buffers::buffer_of;
-use crate::run::{Ending, Expected, Run};
 use crate::types::{As, peeked};
 use std::borrow::{CowSlice, CowStr};
 use std::{fmt, io};
 use wat_lex::error::Error;
+use wat_lex_requests::run::{Ending, Expected, Run};
 use wat_lexer_parser::kw;
 use wat_lexer_parser::parser::{Parse, ParseBuffer, Peek};
 use wat_lexer_parser::token::{Id, Index, ItemRef, LParen, RParen, Span};

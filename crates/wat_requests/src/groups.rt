@@ -1,10 +1,10 @@
 //! Calls of parsers that take no type: groups, errors, looks at several types, and lists of calls.
 use crate::buffers::buffer_of;
-use crate::run::{Ending, Expected, Run};
 use std::alloc::{AllocError, Global};
 use std::io;
 use wat_lex::error::Error;
 use wat_lex::token::{Id, Span};
+use wat_lex_requests::run::{Ending, Expected, Run};
 use wat_lexer_parser::parser::{Call, Cursor, Lookahead1, Parser, replay};
 use wat_lexer_parser::token::LParen;
 

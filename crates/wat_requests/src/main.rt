@@ -8,40 +8,18 @@
 mod buffers;
 mod cursors;
 mod each_type;
-mod encoding;
-mod errors;
 mod free;
 mod groups;
-mod identifiers;
-mod lexing;
 mod modules;
 mod names;
-mod readers;
-mod run;
 mod types;
 
-use run::Run;
 use std::io::{self, Read};
 use std::str;
+use wat_lex_requests::run::Run;
 
 /// How many bytes the name of a row has at most.
 const LONGEST_NAME: usize = 64;
-
-/// Runs the rows of the lexer's crate.
-fn lexer_rows(run: &mut Run<'_>) -> io::Result<()> {
-    lexing::parses(run)?;
-    lexing::parses_of_confusing(run)?;
-    lexing::iterations(run)?;
-    lexing::annotations(run)?;
-    errors::reports(run)?;
-    errors::texts(run)?;
-    readers::words(run)?;
-    readers::names_that_are_wrong(run)?;
-    readers::names(run)?;
-    identifiers::copies(run)?;
-    encoding::values(run)?;
-    encoding::lists(run)
-}
 
 /// Runs the rows of the parser's crate.
 fn parser_rows(run: &mut Run<'_>) -> io::Result<()> {
@@ -81,9 +59,10 @@ fn main(rt: HostRuntime) -> io::Result<()> {
     let Ok(mut run) = Run::new(&rt, name) else {
         return println!(rt; "{name} set-up");
     };
-    lexer_rows(&mut run)?;
+    wat_lex_requests::rows(&mut run)?;
     parser_rows(&mut run)?;
     type_rows(&mut run)?;
     modules::compiled(&mut run)?;
+    wat_lex_requests::free::rows(&mut run)?;
     free::rows(&mut run)
 }

@@ -1,6 +1,6 @@
 //! Modules, from text to bytes.
-use crate::run::{Expected, Run, short};
 use std::io;
+use wat_lex_requests::run::{Expected, Run, short};
 use wat_types::compile_types;
 
 pub fn compiled(run: &mut Run<'_>) -> io::Result<()> {

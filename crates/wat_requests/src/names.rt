@@ -1,8 +1,8 @@
 //! Names of annotations, registered for good or while a type is read.
 use crate::buffers::buffer_of;
-use crate::run::{Ending, Expected, Run};
 use std::io;
 use wat_lex::error::Error;
+use wat_lex_requests::run::{Ending, Expected, Run};
 use wat_lexer_parser::parser::{Parse, Parser};
 use wat_lexer_parser::token::NameAnnotation;
 

@@ -1,9 +1,9 @@
 //! Types that are read and peeked at, in whole texts and one behind another.
 use crate::buffers::buffer_of;
-use crate::run::{Ending, Expected, Run};
 use std::borrow::{CowSlice, CowStr};
 use std::{fmt, io};
 use wat_lex::error::Error;
+use wat_lex_requests::run::{Ending, Expected, Run};
 use wat_lexer_parser::parser::{Parse, ParseBuffer, Parser, Peek, parse};
 use wat_lexer_parser::token::{Id, Index, ItemRef, LParen, NameAnnotation, Span};
 use wat_lexer_parser::{annotation, kw};

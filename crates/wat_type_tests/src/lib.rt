@@ -1,5 +1,5 @@
-//! Tests of the types that a parser reads, over the public calls of `wat_lexer_parser` alone.
+//! Tests of the compiler of types, over the public calls of `wat_types` alone.
 #![tactic(auto)]
 
 #[cfg(test)]
-mod tests;
+mod compiling;

@@ -1,5 +1,5 @@
 use Rattle.std.proofs.Common.{◌+◌}
-use Rattle.wat_parser_tests.proofs.tests.deep.+fn-nested-parens+nested.Given as goal
+use Rattle.wat_answers.proofs.closures.+fn-nested-parens+nested.Given as goal
 
 abbrev pub decreases-parens : goal.decreases-parens
 decreases-parens l = l.left + l.left + 1

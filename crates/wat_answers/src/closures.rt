@@ -1,0 +1,202 @@
+//! Calls with closures: what they answer, and where they leave the parser.
+ghost use Rattle.std.specs.Prelude.{◌≡◌};
+ghost use Rattle.wat_lexer_parser.specs.readings.Reads.{IsKept};
+
+use crate::row::Row;
+use crate::tokens::short;
+use std::alloc::{AllocError, Global};
+use wat_lex::error::Error;
+use wat_lex::token::Span;
+use wat_lexer_parser::parser::{Cursor, ParseBuffer, Parser};
+
+/// Takes a keyword.
+fn keyword<'a>(parser: &mut Parser<'a>) -> Result<&'a str, Error>
+    ensures { parser.new ≡ record parser.old { place = parser.new.place } }
+{
+    parser.step(|cursor| match cursor.keyword()? {
+        Some(found) => Ok(found),
+        None => Err(cursor.error("expected a keyword")),
+    })
+}
+
+/// What each taker of a value takes, one behind the other.
+fn values(alloc: Global, parser: &mut Parser<'_>) -> Result<String, Error> {
+    let float = parser.step(|cursor| cursor.float()?.ok_or_else(|| cursor.error("no float")))?;
+    let integer = parser.step(|cursor| cursor
+        .integer()?
+        .ok_or_else(|| cursor.error("no integer")))?;
+    let id = parser.step(|cursor| cursor.id()?.ok_or_else(|| cursor.error("no identifier")))?;
+    let string = parser.step(|cursor| cursor.string()?.ok_or_else(|| cursor.error("no string")))?;
+    let name = parser.step(|cursor| cursor.annotation()?.ok_or_else(|| cursor.error("no name")))?;
+    let (digits, base) = integer.val();
+    Ok(format!(in alloc;
+        "{float:?}, {digits} {base}, {id}, {:?}, {name}",
+        string.as_slice()
+    )?)
+}
+
+/// Takes two keywords.
+fn two_keywords(alloc: Global, parser: &mut Parser<'_>) -> Result<String, Error> {
+    let first = keyword(parser)?;
+    let second = keyword(parser)?;
+    Ok(format!(in alloc; "{first} and {second}")?)
+}
+
+/// Takes a group of a keyword and a group of a keyword, and a keyword behind it.
+fn two_groups(alloc: Global, parser: &mut Parser<'_>) -> Result<String, Error> {
+    parser.parens(|parser| -> Result<(), Error> {
+        keyword(parser)?;
+        parser.parens(|parser| -> Result<(), Error> {
+            keyword(parser)?;
+            Ok(())
+        })
+    })?;
+    let place = parser.prev_span().offset();
+    let behind = keyword(parser)?;
+    Ok(format!(in alloc; "groups up to {place}, {behind}")?)
+}
+
+/// Takes three groups, each in the one before, which are empty.
+fn three_groups(alloc: Global, parser: &mut Parser<'_>) -> Result<String, Error> {
+    parser.parens(|parser| {
+        parser.depth_check()?;
+        parser.parens(|parser| {
+            parser.depth_check()?;
+            parser.parens(|parser| parser.depth_check())
+        })
+    })?;
+    Ok(String::from_str(alloc, "three groups")?)
+}
+
+/// Registers a name inside of a group, and refuses the group.
+fn refused_group(alloc: Global, parser: &mut Parser<'_>) -> Result<String, Error> {
+    parser.parens(|parser| -> Result<(), Error> {
+        parser.register_annotation("a")?;
+        keyword(parser)?;
+        Err(parser.error("no group"))
+    })?;
+    Ok(String::from_str(alloc, "a group")?)
+}
+
+/// Takes so many groups, each in the one before, and asks in each whether it is too deep.
+fn nested(parser: &mut Parser<'_>, count: usize) -> Result<(), Error>
+    ensures kept { IsKept parser.old parser.new }
+{
+    if count == 0 {
+        return Ok(());
+    }
+    let left = count - 1;
+    parser.parens(
+        |parser: &mut Parser<'_>| -> Result<(), Error>
+            ensures { IsKept parser.old parser.new }
+        {
+            parser.depth_check()?;
+            nested(parser, left)
+        },
+    )
+}
+
+/// Takes a keyword, and so many groups behind it.
+fn groups(alloc: Global, parser: &mut Parser<'_>, count: usize) -> Result<String, Error> {
+    keyword(parser)?;
+    nested(parser, count)?;
+    Ok(format!(in alloc; "{count} groups")?)
+}
+
+/// Takes a keyword, and refuses what is behind it, there or at a byte.
+fn refused_behind(parser: &mut Parser<'_>, at: &str) -> Result<String, Error> {
+    keyword(parser)?;
+    Err(match at.parse::<usize>() {
+        Ok(at) => parser.error_at(Span::from_offset(at), "no word"),
+        Err(_) => parser.error("no more"),
+    })
+}
+
+/// Whether a call answers the report of a fault, and no want of memory.
+fn is_told<T: Drop>(answer: Result<T, Error>) -> bool {
+    match answer {
+        Ok(_) => false,
+        Err(error) => !error.is_out_of_memory(),
+    }
+}
+
+/// Whether each taker answers a report.
+fn takers_tell(cursor: Cursor<'_, '_>) -> bool {
+    let takers = [
+        is_told(cursor.any()),
+        is_told(cursor.token()),
+        is_told(cursor.lparen()),
+        is_told(cursor.rparen()),
+        is_told(cursor.id()),
+        is_told(cursor.annotation()),
+        is_told(cursor.keyword()),
+        is_told(cursor.reserved()),
+        is_told(cursor.string()),
+        is_told(cursor.integer()),
+        is_told(cursor.float()),
+    ];
+    takers.iter().all(|told| *told)
+}
+
+/// Whether each peek answers a report.
+fn peeks_tell(cursor: Cursor<'_, '_>) -> bool {
+    let peeks = [
+        is_told(cursor.peek_lparen()),
+        is_told(cursor.peek_rparen()),
+        is_told(cursor.peek_id()),
+        is_told(cursor.peek_keyword()),
+        is_told(cursor.peek_reserved()),
+        is_told(cursor.peek_string()),
+        is_told(cursor.peek_integer()),
+        is_told(cursor.peek_float()),
+    ];
+    peeks.iter().all(|told| *told)
+}
+
+/// Whether each taker and each peek answers the fault that is shown.
+fn told(alloc: Global, parser: &mut Parser<'_>) -> Result<String, Error> {
+    let told = parser.step(|cursor| Ok(((takers_tell(cursor), peeks_tell(cursor)), cursor)))?;
+    let Err(error) = parser.step(|cursor| Ok((cursor.token()?, cursor))) else {
+        return Ok(String::from_str(alloc, "no fault")?);
+    };
+    let message = error.message(alloc)?;
+    Ok(format!(in alloc; "{told:?}: {message}")?)
+}
+
+/// What a call answers of a parser; None where none of these is asked.
+fn called(alloc: Global, row: &Row<'_>, parser: &mut Parser<'_>) -> Result<Option<String>, Error> {
+    Ok(Some(match row.call {
+        "values" => values(alloc, parser)?,
+        "two-keywords" => two_keywords(alloc, parser)?,
+        "two-groups" => two_groups(alloc, parser)?,
+        "three-groups" => three_groups(alloc, parser)?,
+        "refused-group" => refused_group(alloc, parser)?,
+        "nested" => groups(alloc, parser, row.at())?,
+        "refused-behind" => refused_behind(parser, row.with)?,
+        "told" => told(alloc, parser)?,
+        _ => return Ok(None),
+    }))
+}
+
+/// What a call answers, and where it leaves the parser; None where none of these is asked.
+pub fn answer(alloc: Global, row: &Row<'_>) -> Result<Option<String>, Error> {
+    let buffer = ParseBuffer::new(alloc, short(&row.text))?;
+    let mut parser = buffer.parser();
+    let answer = match called(alloc, row, &mut parser) {
+        Ok(None) => return Ok(None),
+        Ok(Some(answer)) => answer,
+        Err(error) => row.refusals.shown(alloc, &error)?,
+    };
+    Ok(Some(left(alloc, answer.as_str(), &parser)?))
+}
+
+/// An answer, and where the parser stands behind it.
+fn left(alloc: Global, answer: &str, parser: &Parser<'_>) -> Result<String, AllocError> {
+    let (place, depth) = (parser.prev_span().offset(), parser.parens_depth());
+    let name = if parser.is_registered("a") {
+        ", a registered"
+    } else {
+        ""
+    };
+    format!(in alloc; "{answer}; place {place}, depth {depth}{name}")
+}
