@@ -1,1 +1,2 @@
+pub mod Idchars
 pub mod Words
