@@ -1,10 +1,10 @@
 //! Texts with spaces over their comments, and whether they show the same.
 use crate::parsing::{blanked_at, take};
-use crate::row::Row;
-use crate::tokens::{short, write_comma, write_token};
 use std::alloc::Global;
 use wat_lex::error::Error;
 use wat_lex::lexer::{Lexer, Token};
+use wat_lex_answers::row::Row;
+use wat_lex_answers::tokens::{short, write_comma, write_token};
 use wat_lexer_parser::parser::ParseBuffer;
 
 /// The buffer of a text under two settings of its lexer.

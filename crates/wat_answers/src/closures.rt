@@ -2,11 +2,11 @@
 ghost use Rattle.std.specs.Prelude.{◌≡◌};
 ghost use Rattle.wat_lexer_parser.specs.readings.Reads.{IsKept};
 
-use crate::row::Row;
-use crate::tokens::short;
 use std::alloc::{AllocError, Global};
 use wat_lex::error::Error;
 use wat_lex::token::Span;
+use wat_lex_answers::row::Row;
+use wat_lex_answers::tokens::short;
 use wat_lexer_parser::parser::{Cursor, ParseBuffer, Parser};
 
 /// Takes a keyword.

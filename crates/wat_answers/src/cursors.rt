@@ -1,7 +1,7 @@
 //! What the calls of a cursor answer.
-use crate::tokens::write_comma;
 use std::alloc::{AllocError, Global};
 use wat_lex::error::Error;
+use wat_lex_answers::tokens::write_comma;
 use wat_lexer_parser::parser::Cursor;
 
 /// The kinds that are seen.

@@ -9,33 +9,21 @@
 mod blanking;
 mod closures;
 mod cursors;
-mod encoding;
-mod errors;
-mod lexing;
 mod parsing;
-mod pictures;
-mod refusals;
 mod replaying;
-mod row;
 mod spaceship;
-mod tokens;
 mod typed;
 mod types;
 
-use row::Row;
 use std::alloc::{AllocError, Global};
 use std::io;
 use wat_lex::error::Error;
+use wat_lex_answers::pictures::drawn;
+use wat_lex_answers::row::Row;
 
 /// What the call of a row answers.
 fn answer(alloc: Global, row: &Row<'_>) -> Result<String, Error> {
-    if let Some(answer) = lexing::answer(alloc, row)? {
-        return Ok(answer);
-    }
-    if let Some(answer) = errors::answer(alloc, row)? {
-        return Ok(answer);
-    }
-    if let Some(answer) = encoding::answer(alloc, row)? {
+    if let Some(answer) = wat_lex_answers::answer(alloc, row)? {
         return Ok(answer);
     }
     if let Some(answer) = types::answer(alloc, row)? {
@@ -63,7 +51,7 @@ fn response(alloc: Global, line: &str) -> Result<String, AllocError> {
         Ok(answer) => answer,
         Err(error) => row.refusals.shown(alloc, &error)?,
     };
-    pictures::drawn(alloc, &response)
+    drawn(alloc, &response)
 }
 
 fn main(rt: HostRuntime) -> io::Result<()> {

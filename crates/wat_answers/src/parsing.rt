@@ -3,11 +3,11 @@ ghost use Rattle.std.specs.Prelude.{◌<◌, ◌^◌, length};
 
 use crate::cursors::{annotation, comment, id, seen, taken};
 use crate::replaying::{full_replies, replies};
-use crate::row::Row;
-use crate::tokens::{short, write_comma, write_token};
 use std::alloc::{AllocError, Global};
 use wat_lex::error::Error;
 use wat_lex::lexer::{Lexer, Token, TokenKind};
+use wat_lex_answers::row::Row;
+use wat_lex_answers::tokens::{short, write_comma, write_token};
 use wat_lexer_parser::laws;
 use wat_lexer_parser::parser::{ParseBuffer, Parser};
 use wat_lexer_parser::token::{LParen, RParen};

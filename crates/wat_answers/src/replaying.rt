@@ -1,7 +1,7 @@
 //! Calls that are replayed on a parser.
-use crate::tokens::{write_comma, write_token};
 use std::alloc::{AllocError, Global};
 use wat_lex::error::Error;
+use wat_lex_answers::tokens::{write_comma, write_token};
 use wat_lexer_parser::parser::{Call, FaultKind, ParseBuffer, Parser, Reply, replay};
 
 /// The call that a word stands for: `reg=NAME`, `unreg=NAME`, `parens=COUNT`, `take`, `comment`, or else a look.

@@ -1,10 +1,10 @@
 //! Values of types, their copies, and what is left of the parser that reads them.
 use crate::replaying::register_fully;
-use crate::row::Row;
 use crate::spaceship::Spaceship;
-use crate::tokens::short;
 use std::alloc::{AllocError, Global};
 use wat_lex::error::Error;
+use wat_lex_answers::row::Row;
+use wat_lex_answers::tokens::short;
 use wat_lexer_parser::kw;
 use wat_lexer_parser::parser::{Lookahead1, ParseBuffer, Parser, Peek};
 use wat_lexer_parser::token::{

@@ -1,12 +1,12 @@
 //! Whole texts that are read as a type.
-use crate::row::Row;
 use crate::spaceship::Spaceship;
-use crate::tokens::short;
 use std::alloc::Global;
 use std::borrow::{CowSlice, CowStr};
 use std::fmt;
 use wat_lex::error::Error;
 use wat_lex::lexer::Lexer;
+use wat_lex_answers::row::Row;
+use wat_lex_answers::tokens::short;
 use wat_lexer_parser::parser::{Parse, ParseBuffer, parse};
 use wat_lexer_parser::token::{Id, Index, ItemRef, ReservedSymbol};
 use wat_lexer_parser::{annotation, kw};
