@@ -1,6 +1,6 @@
 -- What compiling answers, from what the parser answered and how many bytes there are.
-use Rattle.std.proofs.Common.{◌≡◌, ◌∙◌, ◌≤◌, ◌^◌, ℕ, List, Bool, true, rules, arith, inl, inr, sym, ap, subst, length, Some, None, Ok, Err}
-use Rattle.std.specs.Prelude.{Option, Result, nat_lt, if◌then◌else◌}
+use Rattle.std.proofs.Common.{◌≡◌, ◌∙◌, ◌≤◌, ◌^◌, ℕ, List, arith, inl, inr, sym, ap, subst, length, Ok, Err}
+use Rattle.std.specs.Prelude.{Result, nat_lt, if◌then◌else◌}
 use Rattle.std.specs.Str.{IsUtf8}
 use Rattle.std.proofs.lemmas.Bool.Decides.{Decides-ltb}
 use Rattle.std.proofs.lemmas.Bool.{cases_Bool}
@@ -8,7 +8,7 @@ use Rattle.wat_lex.specs.errors.Errors.{Report}
 use Rattle.wat_lexer_parser.specs.places.Source.{Source, IsRead}
 use Rattle.wat_lexer_parser.specs.readings.Readings.{whole}
 use Rattle.wat_types.specs.Binary.{Fits, content, module_bytes}
-use Rattle.wat_types.specs.Compiling.{ReadingIsSpelling, Spells, compiled, compiled_by, plain, too_long}
+use Rattle.wat_types.specs.Compiling.{ReadingIsSpelling, Spells, compiled, plain, too_long}
 use Rattle.wat_types.specs.Meanings.{module_types}
 use Rattle.wat_types.specs.Signatures.{Signature}
 
