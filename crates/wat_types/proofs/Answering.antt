@@ -1,27 +1,16 @@
 -- What compiling answers, from what the parser answered and how many bytes there are.
-use Rattle.std.proofs.Common.{◌≡◌, ◌∙◌, ◌≤◌, ◌^◌, ℕ, List, Bool, true, rules, arith, inl, inr, sym, ap, subst, length, Some, None, Ok, Err}
-use Rattle.std.specs.Prelude.{Option, Result, nat_lt, if◌then◌else◌}
+use Rattle.std.proofs.Common.{◌≡◌, ◌∙◌, ◌≤◌, ◌^◌, ℕ, List, arith, inl, inr, sym, ap, subst, length, Ok, Err}
+use Rattle.std.specs.Prelude.{Result, nat_lt, if◌then◌else◌}
 use Rattle.std.specs.Str.{IsUtf8}
 use Rattle.std.proofs.lemmas.Bool.Decides.{Decides-ltb}
 use Rattle.std.proofs.lemmas.Bool.{cases_Bool}
 use Rattle.wat_lex.specs.errors.Errors.{Report}
-use Rattle.wat_lexer_parser.specs.parser.State.{Answers}
 use Rattle.wat_lexer_parser.specs.places.Source.{Source, IsRead}
 use Rattle.wat_lexer_parser.specs.readings.Readings.{whole}
 use Rattle.wat_types.specs.Binary.{Fits, content, module_bytes}
-use Rattle.wat_types.specs.Compiling.{ReadingIsSpelling, Spells, compiled, compiled_by, plain, too_long}
+use Rattle.wat_types.specs.Compiling.{ReadingIsSpelling, Spells, compiled, plain, too_long}
 use Rattle.wat_types.specs.Meanings.{module_types}
 use Rattle.wat_types.specs.Signatures.{Signature}
-
--- where a value is due, an error is want of memory
-pub memory_alone : {V T W U : Type 0} (takes : Bool) (f : T → V) (g : U → W) (m : Result V Report) (w : Result W Report) (v : V) (e : Option Report) → m ≡ Ok v → Answers {T = T} takes f m (Err e) → Answers {T = U} true g w (Err e)
-memory_alone takes f g m w v None i h = search rules
-memory_alone takes f g m w v (Some r) i h = let k : Ok v ≡ Err r = sym i ∙ h in cc
-
--- a refusal of the text is one of the whole
-pub refused_so : {T U : Type 0} (takes : Bool) (f : T → List Signature) (g : U → List ℕ) (m : Result (List Signature) Report) (e : Option Report) → Answers {T = T} takes f m (Err e) → Answers {T = U} true g (compiled_by m) (Err e)
-refused_so takes f g m None h = search rules
-refused_so takes f g m (Some r) h = ap compiled_by h
 
 pub compiled_fits : (fs : List Signature) (bytes : List ℕ) → Fits fs → bytes ≡ module_bytes fs → compiled fs ≡ Ok bytes
 compiled_fits fs bytes h e = ap (λ b. if b then Ok (module_bytes fs) else Err too_long) ((Decides-ltb (length (content fs)) (2 ^ 32)).1 h) ∙ ap Ok (sym e)

@@ -3,6 +3,7 @@ ghost use Rattle.std.specs.Prelude.{◌≡◌, codes};
 ghost use Rattle.wat_lexer_parser.specs.parser.State.{Answers};
 
 use crate::parser::{Cursor, Parse, Parser, Peek};
+use std::alloc::{AllocError, Global};
 use wat_lex::error::Error;
 use wat_lex::lexer::TokenKind;
 use wat_lex::token::{Id, Index, Span};
@@ -111,6 +112,23 @@ pub struct ItemRef<'a, K> {
     pub kind: K,
     /// Which item it is.
     pub idx: Index<'a>,
+}
+
+impl<'a, K: Clone> ItemRef<'a, K> {
+    ghost use Rattle.std.specs.Prelude.{false, IfOk, IsOk};
+    ghost use Rattle.wat_lex.specs.identifiers.Indices.{owns_name};
+
+    /// A copy: of the kind by its own `clone`, of the index by [`Index::clone`].
+    pub fn clone(&self, alloc: Global) -> Result<Self, AllocError>
+        ensures kind { IfOk result (λ copy. K.is_clone self.now.kind copy.kind) }
+        ensures idx { IfOk result (λ copy. copy.idx ≡ self.now.idx) }
+        ensures free { K.is_infallible self.now.kind → owns_name self.now.idx ≡ false →
+            IsOk result }
+    {
+        let kind = self.kind.clone()?;
+        let idx = self.idx.clone(alloc)?;
+        Ok(ItemRef { kind, idx })
+    }
 }
 
 impl<'a, K: Parse<'a>> Parse<'a> for ItemRef<'a, K> {

@@ -20,6 +20,18 @@ pub struct Keyword<N: Word> {
     of: PhantomData<N>,
 }
 
+impl<N: Word> Keyword<N> {
+    /// The keyword at a place. No text is looked at.
+    pub fn new(span: Span) -> Self
+        ensures { result.span ≡ span }
+    {
+        Keyword {
+            span,
+            of: PhantomData,
+        }
+    }
+}
+
 impl<'a, N: Word> Parse<'a> for Keyword<N> {
     ghost use Rattle.wat_lexer_parser.specs.lemmas.TypeLaws.{forward_keyword};
     ghost use Rattle.wat_lexer_parser.specs.readings.Types.{keyword};
@@ -34,14 +46,7 @@ impl<'a, N: Word> Parse<'a> for Keyword<N> {
     fn parse(parser: &mut Parser<'a>) -> Result<Self, Error> {
         parser.step(|c| match c.keyword()? {
             Some((text, next)) if text == N::word() => {
-                let span = c.cur_span();
-                Ok((
-                    Keyword {
-                        span,
-                        of: PhantomData,
-                    },
-                    next,
-                ))
+                Ok((Keyword::new(c.cur_span()), next))
             }
             _ => Err(c.error_of("expected keyword ", N::display())),
         })
@@ -80,6 +85,18 @@ pub struct ReservedSymbol<N: Word> {
     of: PhantomData<N>,
 }
 
+impl<N: Word> ReservedSymbol<N> {
+    /// The symbol at a place. No text is looked at.
+    pub fn new(span: Span) -> Self
+        ensures { result.span ≡ span }
+    {
+        ReservedSymbol {
+            span,
+            of: PhantomData,
+        }
+    }
+}
+
 impl<'a, N: Word> Parse<'a> for ReservedSymbol<N> {
     ghost use Rattle.wat_lexer_parser.specs.lemmas.TypeLaws.{forward_reserved_symbol};
     ghost use Rattle.wat_lexer_parser.specs.readings.Types.{reserved_symbol};
@@ -94,14 +111,7 @@ impl<'a, N: Word> Parse<'a> for ReservedSymbol<N> {
     fn parse(parser: &mut Parser<'a>) -> Result<Self, Error> {
         parser.step(|c| match c.reserved()? {
             Some((text, next)) if text == N::word() => {
-                let span = c.cur_span();
-                Ok((
-                    ReservedSymbol {
-                        span,
-                        of: PhantomData,
-                    },
-                    next,
-                ))
+                Ok((ReservedSymbol::new(c.cur_span()), next))
             }
             _ => Err(c.error_of("expected reserved symbol ", N::display())),
         })
@@ -140,6 +150,18 @@ pub struct AnnotationWord<N: Word> {
     of: PhantomData<N>,
 }
 
+impl<N: Word> AnnotationWord<N> {
+    /// The annotation at a place. No text is looked at.
+    pub fn new(span: Span) -> Self
+        ensures { result.span ≡ span }
+    {
+        AnnotationWord {
+            span,
+            of: PhantomData,
+        }
+    }
+}
+
 impl<'a, N: Word> Parse<'a> for AnnotationWord<N> {
     ghost use Rattle.wat_lexer_parser.specs.lemmas.TypeLaws.{forward_annotation};
     ghost use Rattle.wat_lexer_parser.specs.readings.Types.{annotation};
@@ -154,14 +176,7 @@ impl<'a, N: Word> Parse<'a> for AnnotationWord<N> {
     fn parse(parser: &mut Parser<'a>) -> Result<Self, Error> {
         parser.step(|c| match annotation(c, N::word())? {
             Some(next) => {
-                let span = c.cur_span();
-                Ok((
-                    AnnotationWord {
-                        span,
-                        of: PhantomData,
-                    },
-                    next,
-                ))
+                Ok((AnnotationWord::new(c.cur_span()), next))
             }
             None => Err(c.error_of("expected annotation ", N::display())),
         })

@@ -1,6 +1,7 @@
-use Rattle.std.proofs.Common.{◌≡◌, ◌∙◌, ◌≤◌, ◌^◌, ℕ, true, rules, refl, sym, subst, length, Some, Ok, Err}
+use Rattle.std.proofs.Common.{◌≡◌, ◌∙◌, ◌≤◌, ◌^◌, ℕ, true, rules, refl, sym, ap, subst, length, None, Some, Ok, Err}
 use Rattle.std.specs.Prelude.{Vec}
 use Rattle.std.specs.declared.alloc.Global.{Global}
+use Rattle.wat_lexer_parser.specs.lemmas.AnswerLaws.{wants_memory, error_answers}
 use Rattle.wat_lexer_parser.specs.parser.State.{Answers}
 use Rattle.wat_lexer_parser.specs.readings.Readings.{whole, whole_takes}
 use Rattle.wat_types.specs.Binary.{Fits, content, module_bytes}
@@ -8,7 +9,7 @@ use Rattle.wat_types.specs.Compiling.{compiled, compiled_by, too_long}
 use Rattle.wat_types.specs.Meanings.{module_types}
 use Rattle.wat_types.specs.Signatures.{signatures}
 use Rattle.wat_types.specs.declared.text.Module.{Module}
-use Rattle.wat_types.proofs.Answering.{memory_alone, refused_so, compiled_fits, compiled_too_long, spelled_is_read, same_types}
+use Rattle.wat_types.proofs.Answering.{compiled_fits, compiled_too_long, spelled_is_read, same_types}
 use Rattle.wat_types.proofs.compile_types.Goals as goal
 
 pub returns-in_err-module-clause-spelled : goal.returns-in_err-module-clause-spelled
@@ -18,8 +19,9 @@ returns-in_err-module-clause-spelled c = λ fs h.
     let reads = spelled_is_read c.reading_is_spelling.ensures.same s c.args.text.now fs c.utf8.text c.in_ok-buffer.ensures.read c.in_ok-buffer.ensures.setting h in
     let answer = c.in_err-module.ensures.value s c.in_ok-buffer.ensures.read refl refl in
     let result : c.from_residual-in_err-module.result ≡ Err e = search rules in
-    subst (λ r. Answers {T = Vec ℕ Global} true (λ bytes. bytes.items) (compiled fs) r) (sym result)
-    (memory_alone {T = Module} {U = Vec ℕ Global} (whole_takes module_types s) (λ m. signatures m.types.items) (λ bytes. bytes.items) (whole module_types s) (compiled fs) fs e reads answer)
+    let none = wants_memory {T = Module} (whole_takes module_types s) (λ m. signatures m.types.items) (whole module_types s) fs e reads answer in
+    let memory : c.from_residual-in_err-module.result ≡ Err None = result ∙ ap Err none in
+    subst (λ r. Answers {T = Vec ℕ Global} true (λ bytes. bytes.items) (compiled fs) r) (sym memory) refl
 
 pub returns-in_err-module-clause-refused : goal.returns-in_err-module-clause-refused
 returns-in_err-module-clause-refused c = λ s r p t.
@@ -27,7 +29,7 @@ returns-in_err-module-clause-refused c = λ s r p t.
     let answer = c.in_err-module.ensures.value s r (p ∙ sym c.in_ok-buffer.ensures.setting) (t ∙ sym c.in_ok-buffer.ensures.track) in
     let result : c.from_residual-in_err-module.result ≡ Err e = search rules in
     subst (λ r. Answers {T = Vec ℕ Global} true (λ bytes. bytes.items) (compiled_by (whole module_types s)) r) (sym result)
-    (refused_so {T = Module} {U = Vec ℕ Global} (whole_takes module_types s) (λ m. signatures m.types.items) (λ bytes. bytes.items) (whole module_types s) e answer)
+    (error_answers {T = Module} {U = Vec ℕ Global} (whole_takes module_types s) (λ m. signatures m.types.items) (λ bytes. bytes.items) compiled_by (whole module_types s) e (λ r. refl) answer)
 
 pub returns-in-Ok-clause-spelled : goal.returns-in-Ok-clause-spelled
 returns-in-Ok-clause-spelled c = λ fs h.
