@@ -19,20 +19,29 @@ fn keyword<'a>(parser: &mut Parser<'a>) -> Result<&'a str, Error>
     })
 }
 
-/// What each taker of a value takes, one behind the other.
-fn values(alloc: Global, parser: &mut Parser<'_>) -> Result<String, Error> {
+/// What the takers of numbers and of an identifier take, one behind the other.
+fn numbers(alloc: Global, parser: &mut Parser<'_>) -> Result<String, Error> {
     let float = parser.step(|cursor| cursor.float()?.ok_or_else(|| cursor.error("no float")))?;
     let integer = parser.step(|cursor| cursor
         .integer()?
         .ok_or_else(|| cursor.error("no integer")))?;
     let id = parser.step(|cursor| cursor.id()?.ok_or_else(|| cursor.error("no identifier")))?;
+    let (digits, base) = integer.val();
+    Ok(format!(in alloc; "{float:?}, {digits} {base}, {id}")?)
+}
+
+/// The same of a string and a name.
+fn strings(alloc: Global, parser: &mut Parser<'_>) -> Result<String, Error> {
     let string = parser.step(|cursor| cursor.string()?.ok_or_else(|| cursor.error("no string")))?;
     let name = parser.step(|cursor| cursor.annotation()?.ok_or_else(|| cursor.error("no name")))?;
-    let (digits, base) = integer.val();
-    Ok(format!(in alloc;
-        "{float:?}, {digits} {base}, {id}, {:?}, {name}",
-        string.as_slice()
-    )?)
+    Ok(format!(in alloc; "{:?}, {name}", string.as_slice())?)
+}
+
+/// What each taker of a value takes.
+fn values(alloc: Global, parser: &mut Parser<'_>) -> Result<String, Error> {
+    let numbers = numbers(alloc, parser)?;
+    let strings = strings(alloc, parser)?;
+    Ok(format!(in alloc; "{numbers}, {strings}")?)
 }
 
 /// Takes two keywords.

@@ -1,6 +1,4 @@
 //! Calls of a parser, and of the cursor at the start of a text.
-ghost use Rattle.std.specs.Prelude.{◌<◌, ◌^◌, length};
-
 use crate::cursors::{annotation, comment, id, seen, taken};
 use crate::replaying::{full_replies, replies};
 use std::alloc::{AllocError, Global};
@@ -59,9 +57,8 @@ pub fn blanked_at(
     alloc: Global,
     text: &str,
     number: usize,
-) -> Result<Option<(Token, String)>, Error>
-    requires { length text.now < 2 ^ 32 }
-{
+) -> Result<Option<(Token, String)>, Error> {
+    let text = short(text);
     let mut lexer = Lexer::new(text);
     lexer.allow_confusing_unicode(true);
     let buffer = ParseBuffer::new_with_lexer(alloc, lexer)?;
@@ -78,7 +75,7 @@ pub fn blanked_at(
 
 /// The text with spaces over the raw token of this number, which has to be a comment.
 fn blanked(alloc: Global, row: &Row<'_>) -> Result<String, Error> {
-    Ok(match blanked_at(alloc, short(&row.text), row.at())? {
+    Ok(match blanked_at(alloc, &row.text, row.at())? {
         Some((_, other)) => other,
         None => String::from_str(alloc, "no comment")?,
     })

@@ -91,7 +91,9 @@ fn too_often(alloc: Global, parser: &mut Parser<'_>) -> Result<String, Error> {
 /// A name that is registered as often as it may be, taken back once and registered twice.
 fn once_more(alloc: Global, parser: &mut Parser<'_>) -> Result<String, Error> {
     register_fully(parser)?;
-    parser.unregister_annotation("a");
+    if parser.is_registered("a") {
+        parser.unregister_annotation("a");
+    }
     parser.register_annotation("a")?;
     parser.register_annotation("a")?;
     Ok(String::from_str(alloc, "registered")?)
