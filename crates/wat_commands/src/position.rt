@@ -65,11 +65,11 @@ impl<'a> Positions<'a> {
         let passed = &self.text[self.offset..offset];
         let (lines, column) = Span::from_offset(passed.len()).linecol_in(passed);
         self.line += lines;
-        self.column = if lines == 0 {
-            self.column + column
+        if column == passed.len() {
+            self.column += column;
         } else {
-            column
-        };
+            self.column = column;
+        }
         self.offset = offset;
         (self.line, self.column)
     }
