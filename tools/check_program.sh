@@ -95,19 +95,20 @@ output=/dev/full expect 'sig, no room' 2 '' 'wat_tokens: write failed: no space 
 json() {
     printf '{"offset":%s,"length":%s,"kind":"%s","text":"%s","line":%s,"column":%s}\\n' "$@"
 }
-in_comment='\001\b\t\r\037"\\\177\303\251'
 expect 'json' 0 "$(json 0 1 LParen '(' 1 1)$(json 1 6 Keyword module 1 2)$(json 7 1 RParen ')' 1 8)" '' "$program" --json < <(printf '(module)')
 expect 'json, no text' 0 '' '' "$program" --json list < /dev/null
-expect 'json, lines' 0 "$(json 0 2 Id '$a' 1 1)$(json 2 3 Whitespace '\\\\n\\\\n ' 1 3)$(json 5 1 Integer 1 3 2)$(json 6 2 Whitespace '\\\\r\\\\n' 3 3)" '' \
+# shellcheck disable=SC2016
+expect 'json, lines' 0 "$(json 0 2 Id '$a' 1 1)$(json 2 3 Whitespace '\\n\\n ' 1 3)$(json 5 1 Integer 1 3 2)$(json 6 2 Whitespace '\\r\\n' 3 3)" '' \
     "$program" --json list < <(printf '$a\n\n 1\r\n')
-expect 'json, escapes' 0 "$(json 0 14 BlockComment '(;\\\\u0001\\\\u0008\\\\t\\\\r\\\\u001f\\\\"\\\\\\\\\0177\0303\0251;)' 1 1)$(json 14 1 Keyword x 1 15)" '' \
-    "$program" --json < <(printf "(;$in_comment;)x")
+expect 'json, escapes' 0 "$(json 0 14 BlockComment '(;\\u0001\\u0008\\t\\r\\u001f\\"\\\\\0177\0303\0251;)' 1 1)$(json 14 1 Keyword x 1 15)" '' \
+    "$program" --json < <(printf %b '(;\0001\b\t\r\0037"\\\0177\0303\0251;)x')
 expect 'json, a fault' 1 "$(json 0 1 Keyword x 1 1)" "$(fault 'unterminated block comment' 2 'x(;' ' ')" "$program" --json < <(printf 'x(;')
 expect 'json, confusing' 1 '' "$confusing_fault" "$program" --json < <(printf %s "$confusing")
 expect 'json, confusing, allowed' 0 "$(json 0 5 LineComment "$confusing" 1 1)" '' "$program" --allow-confusing --json < <(printf %s "$confusing")
 expect 'json, sig' 0 "$(json 17 1 Keyword x 1 18)" '' "$program" --json sig < <(printf %s "$annotated")
 expect 'json, sig, a name' 0 "$(json 0 1 LParen '(' 1 1)$(json 1 2 Annotation @a 1 2)$(json 9 1 RParen ')' 1 10)$(json 17 1 Keyword x 1 18)" '' \
     "$program" --json sig a < <(printf %s "$annotated")
+# shellcheck disable=SC2016
 expect 'json, sig, lines' 0 "$(json 0 1 Keyword x 1 1)$(json 9 2 Id '$y' 3 4)$(json 12 1 Float 1. 4 1)" '' \
     "$program" --json sig < <(printf 'x ;;\n\n(;;)$y\n1.')
 expect 'json, sig, not closed' 1 "$(json 0 1 Keyword x 1 1)" 'unclosed annotation at byte offset 3\n' "$program" --json sig < <(printf 'x (@a 1')
