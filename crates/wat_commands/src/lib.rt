@@ -8,7 +8,7 @@ mod block;
 pub mod calls;
 pub mod ends;
 pub mod help;
-mod json;
+pub mod json;
 mod line;
 pub mod list;
 pub mod named;
@@ -18,6 +18,7 @@ pub mod play;
 mod position;
 mod print;
 pub mod respond;
+mod row;
 pub mod run;
 pub mod show;
 

@@ -2,15 +2,12 @@
 ghost use Rattle.std.specs.Prelude.{◌≡◌, ◌++◌, ◌+◌, ◌<◌, ◌^◌, length, IfOk, OnOk, OnErr, IsNone};
 ghost use Rattle.wat_lexer_parser.specs.places.Source.{IsRead};
 ghost use Rattle.wat_commands.specs.Blocks.{AppendsEach, AppendsEachCut, EndsIn};
-ghost use Rattle.wat_commands.specs.JsonRows.{json_line};
 ghost use Rattle.wat_commands.specs.Lists.{line};
 ghost use Rattle.wat_commands.specs.Streams.{failure_after};
 
 use crate::block::Block;
 use crate::ends::{Failed, Sink};
-use crate::json::put_row;
 use crate::line::{Place, ROOM, put_line};
-use crate::position::Positions;
 use std::alloc::{AllocError, Global};
 use wat_lex::error::Error;
 use wat_lex::lexer::{LexFault, Lexer, Settings, Token};
@@ -94,30 +91,6 @@ pub fn write_lines<W: Sink>(lexer: &Lexer<'_>, output: &mut W) -> Result<(), Fai
         match lexer.scan(pos) {
             Ok(Some(token)) => {
                 block.put_line(output, &mut place, &token)?;
-                pos = token.offset + token.len as usize;
-            }
-            Ok(None) => return block.write(output),
-            Err(_) => return block.write(output),
-        }
-    }
-}
-
-/// Writes a line of JSON for each raw token of a lexer's text. It takes no memory.
-pub fn write_json<W: Sink>(lexer: &Lexer<'_>, output: &mut W) -> Result<(), Failed>
-    ensures written { OnOk result (AppendsEach (json_line lexer.now.text) lexer.now
-        (W.held output.old) (W.held output.new)) }
-    ensures cut { OnErr result (AppendsEachCut (json_line lexer.now.text) lexer.now
-        (W.held output.old) (W.held output.new)) }
-    ensures failed { W.failure output.new ≡ failure_after (W.failure output.old) result }
-{
-    wat_lex::laws::one_tiling();
-    let mut positions = Positions::new(lexer.input());
-    let mut block = Block::new();
-    let mut pos = 0;
-    'tokens: loop {
-        match lexer.scan(pos) {
-            Ok(Some(token)) => {
-                put_row(&mut block, output, &mut positions, &token)?;
                 pos = token.offset + token.len as usize;
             }
             Ok(None) => return block.write(output),

@@ -13,10 +13,11 @@ ghost use Rattle.wat_commands.specs.Writes.{Writes};
 
 use crate::blank::write_blanked;
 use crate::ends::{Failed, Sink};
-use crate::list::{fault_of, lexer_of, write_json, write_lines};
+use crate::json::{show_json, write_json};
+use crate::list::{fault_of, lexer_of, write_lines};
 use crate::play::play;
 use crate::run::RunError;
-use crate::show::{Showing, show, show_json};
+use crate::show::{Showing, show};
 use std::alloc::Global;
 use std::str;
 use wat_lex::error::Error;
@@ -188,8 +189,8 @@ fn print_of<W: Sink>(
         }
         Printing::JsonRaw => print_json(alloc, text, settings, output),
         Printing::JsonShown(names) => {
-            let Showing { lines, error } = show_json(alloc, text, settings, names)?;
-            print_text(&lines, error, output)
+            let Showing { lines: rows, error } = show_json(alloc, text, settings, names)?;
+            print_text(&rows, error, output)
         }
         Printing::Replies(calls) => {
             let replies = play(alloc, text, settings, calls)?;

@@ -2,12 +2,9 @@
 ghost use Rattle.std.specs.Prelude.{◌≡◌, ◌≤◌, ◌<◌, ◌^◌, length, IfOk, IfErr, OnOk, None};
 ghost use Rattle.std.specs.Str.{IsUtf8};
 ghost use Rattle.wat_lexer_parser.specs.places.Source.{IsRead};
-ghost use Rattle.wat_commands.specs.JsonLists.{JsonShownFrom, JsonShownText};
 ghost use Rattle.wat_commands.specs.Shows.{with_name, with_names, ShownFrom, ShownText};
 
-use crate::json::push_row;
 use crate::list::{buffer_of, push_line, refusal_of};
-use crate::position::Positions;
 use std::alloc::{AllocError, Global};
 use wat_lex::error::Error;
 use wat_lex::lexer::Settings;
@@ -36,7 +33,7 @@ fn register(parser: &mut Parser<'_>, name: &str) -> Result<(), Error>
 }
 
 /// Registers each name.
-fn register_all(parser: &mut Parser<'_>, names: &[String]) -> Result<(), Error>
+pub(crate) fn register_all(parser: &mut Parser<'_>, names: &[String]) -> Result<(), Error>
     ensures names { OnOk result
         (parser.new ≡ record parser.old { names = with_names parser.old.names names.now }) }
     ensures refused { IfErr result (λ e. e ≡ None) }
@@ -98,66 +95,6 @@ pub fn show(
         return Err(refusal_of(&error));
     }
     match parser.step(|cursor| lines_from(alloc, cursor)) {
-        Ok(showing) => Ok(showing),
-        Err(error) => Err(refusal_of(&error)),
-    }
-}
-
-/// Lists what is shown from a cursor on, as JSON. The cursor that it answers stands behind it.
-fn rows_from<'p, 'a>(
-    alloc: Global,
-    text: &str,
-    from: Cursor<'p, 'a>,
-) -> Result<(Showing, Cursor<'p, 'a>), Error>
-    requires read { IsRead from.parser.now.source }
-    requires utf8 { IsUtf8 from.parser.now.source.setting.text }
-    requires short { length from.parser.now.source.setting.text < 2 ^ 32 }
-    requires text { text.now ≡ from.parser.now.source.setting.text }
-    ensures shown { IfOk result (λ r.
-        JsonShownFrom from.entry.parser.now.source from.entry.parser.now.names from.entry.at
-        r.0.lines.items r.0.error) }
-    ensures parser { IfOk result (λ r. r.1.parser ≡ from.entry.parser) }
-    ensures on { IfOk result (λ r. from.entry.at ≤ r.1.at) }
-    ensures refused { IfErr result (λ e. e ≡ None) }
-{
-    laws::all_shown();
-    let mut positions = Positions::new(text);
-    let mut lines = Vec::new(alloc);
-    let mut cursor = from;
-    'tokens: loop {
-        match cursor.any() {
-            Ok(Some((token, next))) => {
-                push_row(&mut lines, &mut positions, &token)?;
-                cursor = next;
-            }
-            Ok(None) => return Ok((Showing { lines, error: None }, cursor)),
-            Err(error) if error.is_out_of_memory() => return Err(error),
-            Err(error) => {
-                let error = Some(error);
-                return Ok((Showing { lines, error }, cursor));
-            }
-        }
-    }
-}
-
-/// Lists what is shown of a text of at most `u32::MAX` bytes where these names are registered, as
-/// JSON.
-pub fn show_json(
-    alloc: Global,
-    text: &str,
-    settings: Settings,
-    names: &[String],
-) -> Result<Showing, AllocError>
-    requires { length text.now < 2 ^ 32 }
-    ensures { IfOk result (λ s. JsonShownText (record { text = text.now; flags = settings })
-        names.now s.lines.items s.error) }
-{
-    let buffer = buffer_of(alloc, text, settings)?;
-    let mut parser = buffer.parser();
-    if let Err(error) = register_all(&mut parser, names) {
-        return Err(refusal_of(&error));
-    }
-    match parser.step(|cursor| rows_from(alloc, text, cursor)) {
         Ok(showing) => Ok(showing),
         Err(error) => Err(refusal_of(&error)),
     }

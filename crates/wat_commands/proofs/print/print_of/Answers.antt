@@ -17,9 +17,9 @@ returns-in_ok-lines-in-Shown-clause-printed g c =
 pub returns-in-JsonRaw-clause-printed : goal.returns-in-JsonRaw-clause-printed
 returns-in-JsonRaw-clause-printed g c = rw c.in-JsonRaw.is c.print_json.ensures.printed
 
-pub returns-in_ok-lines-in-JsonShown-clause-printed : goal.returns-in_ok-lines-in-JsonShown-clause-printed
-returns-in_ok-lines-in-JsonShown-clause-printed g c =
-    let shown = c.in_ok-lines-in-JsonShown.ensures in
+pub returns-in_ok-rows-in-JsonShown-clause-printed : goal.returns-in_ok-rows-in-JsonShown-clause-printed
+returns-in_ok-rows-in-JsonShown-clause-printed g c =
+    let shown = c.in_ok-rows-in-JsonShown.ensures in
     rw c.in-JsonShown.is (writes_as g.W.Sink.held g.W.Sink.failure (JsonShows c.args.settings c.in-JsonShown.names.now c.args.text.now) _ _ c.deref-in-JsonShown.result.now _ c.print_text-in-JsonShown.result
     (record { utf8 = c.utf8.text; short = c.requires.text; shown = rw c.deref-in-JsonShown.ensures.value shown }) c.print_text-in-JsonShown.ensures.printed)
 

@@ -2,7 +2,7 @@ use Rattle.std.proofs.Common.{◌≡◌, take}
 use Rattle.std.specs.Prelude.{flat_map}
 use Rattle.wat_commands.specs.JsonStrings.{escaped}
 use Rattle.wat_commands.specs.Blocks.{Puts}
-use Rattle.wat_commands.proofs.json.put_escaped.Given as goal
+use Rattle.wat_commands.proofs.row.put_escaped.Given as goal
 
 abbrev pub invariant-loop-byte : goal.invariant-loop-byte
 invariant-loop-byte g l = record {

@@ -2,7 +2,7 @@ use Rattle.std.proofs.Common.{None, Some, refl, ◌∙◌}
 use Rattle.std.proofs.lemmas.Str.{IsCharBoundary-start}
 use Rattle.wat_commands.specs.JsonRows.{json_line}
 use Rattle.wat_commands.proofs.BlockLaws.{on_err, putting_start, putting_more, putting_cut, putting_end, putting_end_cut}
-use Rattle.wat_commands.proofs.list.write_json.Goals as goal
+use Rattle.wat_commands.proofs.json.write_json.Goals as goal
 
 pub tokens-init : goal.tokens-init
 tokens-init g c = record {

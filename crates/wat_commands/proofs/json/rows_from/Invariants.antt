@@ -1,7 +1,7 @@
 use Rattle.std.proofs.Common.{◌≡◌, ◌≤◌, length, ◌-◌}
 use Rattle.wat_commands.specs.JsonRows.{json_line}
 use Rattle.wat_commands.proofs.ShownLaws.{ShownSoFar}
-use Rattle.wat_commands.proofs.show.rows_from.Given as goal
+use Rattle.wat_commands.proofs.json.rows_from.Given as goal
 
 abbrev pub invariant-tokens : goal.invariant-tokens
 invariant-tokens l = record {

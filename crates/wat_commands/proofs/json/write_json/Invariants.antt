@@ -1,7 +1,7 @@
 use Rattle.std.proofs.Common.{◌≡◌, length, ◌-◌}
 use Rattle.wat_commands.specs.JsonRows.{json_line}
 use Rattle.wat_commands.proofs.BlockLaws.{Putting}
-use Rattle.wat_commands.proofs.list.write_json.Given as goal
+use Rattle.wat_commands.proofs.json.write_json.Given as goal
 
 abbrev pub invariant-tokens : goal.invariant-tokens
 invariant-tokens g l = record {

@@ -2,7 +2,7 @@ use Rattle.std.proofs.Common.{◌∙◌}
 use Rattle.wat_commands.specs.JsonStrings.{escaped}
 use Rattle.wat_commands.proofs.BlockLaws.{on_err}
 use Rattle.wat_commands.proofs.JsonLaws.{puts_each, cut_each}
-use Rattle.wat_commands.proofs.json.put_escaped.Goals as goal
+use Rattle.wat_commands.proofs.row.put_escaped.Goals as goal
 
 pub loop-byte-preserved : goal.loop-byte-preserved
 loop-byte-preserved g c = record {

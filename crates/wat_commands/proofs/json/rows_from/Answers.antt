@@ -1,7 +1,7 @@
 use Rattle.std.proofs.Common.{◌∙◌, ap, arith}
 use Rattle.wat_commands.specs.JsonRows.{json_line}
 use Rattle.wat_commands.proofs.ShownLaws.{as_json, readable_end, shown_more, shown_end, shown_reported, seen_found}
-use Rattle.wat_commands.proofs.show.rows_from.Goals as goal
+use Rattle.wat_commands.proofs.json.rows_from.Goals as goal
 
 pub push_row-requires : goal.push_row-requires
 push_row-requires c =
