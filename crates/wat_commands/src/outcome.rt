@@ -7,8 +7,9 @@ ghost use Rattle.wat_commands.specs.Outcomes.{hint, Ran, status, task_prints, Te
 use crate::ends::{Failed, Sink, Source};
 use crate::named::named;
 use crate::options::{Task, is_file, is_option};
-use crate::run::{RunError, run_blank, run_json_list, run_json_sig, run_list, run_play, run_sig};
-use crate::run::{run_types};
+use crate::run::{
+    RunError, run_blank, run_json_list, run_json_sig, run_list, run_play, run_sig, run_types,
+};
 use std::alloc::Global;
 use std::{fmt, io};
 use wat_lex::error::Error;

@@ -200,7 +200,11 @@ pub fn put_row<W: Sink>(
     let text = positions.text().as_bytes();
     let (line, column) = positions.linecol(token.offset);
     block.put(output, front_of(token).bytes())?;
-    put_string(block, output, &text[token.offset..token.offset + token.len as usize])?;
+    put_string(
+        block,
+        output,
+        &text[token.offset..token.offset + token.len as usize],
+    )?;
     block.put(output, behind_of(line, column).bytes())
 }
 
@@ -238,6 +242,9 @@ pub fn push_row(
     let text = positions.text().as_bytes();
     let (line, column) = positions.linecol(token.offset);
     lines.extend_from_slice(front_of(token).bytes())?;
-    push_string(lines, &text[token.offset..token.offset + token.len as usize])?;
+    push_string(
+        lines,
+        &text[token.offset..token.offset + token.len as usize],
+    )?;
     lines.extend_from_slice(behind_of(line, column).bytes())
 }

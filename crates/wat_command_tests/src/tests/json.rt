@@ -69,10 +69,12 @@ fn lines_longer_than_a_block(rt: HostRuntime) -> Result<(), Fail> {
     let name = "s\u{1}".repeat(rt.alloc(), 30_000)?;
     let text = format!(in rt.alloc(); "\n;;{name}")?;
     let escaped = "s\\u0001".repeat(rt.alloc(), 30_000)?;
-    let want = format!(in rt.alloc(); "{}{}{escaped}{}",
+    let want = format!(in rt.alloc();
+        "{}{}{escaped}{}",
         "{\"offset\":0,\"length\":1,\"kind\":\"Whitespace\",\"text\":\"\\n\",\"line\":1,\"column\":1}\n",
         "{\"offset\":1,\"length\":60002,\"kind\":\"LineComment\",\"text\":\";;",
-        "\",\"line\":2,\"column\":1}\n")?;
+        "\",\"line\":2,\"column\":1}\n"
+    )?;
     let mut input = Plain::new(text.as_bytes());
     let mut output = Plain::new(Vec::new(rt.alloc()));
     let run = run_json_list(rt.alloc(), &mut input, &mut output, OFF);

@@ -4,8 +4,9 @@ use crate::tests::{FAILED, OFF, Pieces, Room};
 use std::alloc::Global;
 use std::process::Abort;
 use std::test::Fail;
-use wat_commands::run::{RunError, run_blank, run_json_list, run_json_sig, run_list, run_play};
-use wat_commands::run::{run_sig, run_types};
+use wat_commands::run::{
+    RunError, run_blank, run_json_list, run_json_sig, run_list, run_play, run_sig, run_types,
+};
 use wat_lexer_parser::parser::Call;
 
 const TEXT: &str = "(@a \"x\") b";
@@ -15,7 +16,8 @@ const LISTED: &str = "0..1 LParen\n1..3 Annotation\n3..4 Whitespace\n4..7 String
 
 const SHOWN: &str = "0..1 LParen\n1..3 Annotation\n4..7 String\n7..8 RParen\n9..10 Keyword\n";
 
-const JSON: &str = "{\"offset\":0,\"length\":3,\"kind\":\"String\",\"text\":\"\\\"x\\\"\",\"line\":1,\"column\":1}\n";
+const JSON: &str =
+    "{\"offset\":0,\"length\":3,\"kind\":\"String\",\"text\":\"\\\"x\\\"\",\"line\":1,\"column\":1}\n";
 
 const REPLIED: &str = "9..10 Keyword\n9..10 Keyword\nend\n";
 
