@@ -1,5 +1,5 @@
 -- A line of JSON and its parts.
-use Rattle.std.proofs.Common.{◌≡◌, ◌+◌, ◌<◌, ℕ, get_or, List, [], ◌∷◌, ◌++◌, take, drop, refl, sym, ap, ◌∙◌, append_assoc}
+use Rattle.std.proofs.Common.{◌≡◌, ◌+◌, ◌<◌, ℕ, get_or, List, [], ◌∷◌, ◌++◌, length, take, drop, refl, sym, ap, ◌∙◌, append_assoc}
 use Rattle.std.proofs.lemmas.List.{append-nil, take_more, take-append-drop}
 use Rattle.std.proofs.lemmas.List.Concat.{flat_map-append}
 use Rattle.std.specs.Prelude.{Option, flat_map, codes}
@@ -25,6 +25,13 @@ kind_string Annotation = refl
 kind_string Reserved = refl
 kind_string (Integer k) = refl
 kind_string (Float k) = refl
+
+quoted : (p k q n t : List ℕ) → p ++ (k ++ q) ++ n ++ (q ++ t) ≡ p ++ k ++ (q ++ n ++ q) ++ t
+quoted p k q n t = simp append_assoc refl
+
+-- a kind is put between quotation marks
+pub kind_between : (kind : TokenKind) (front : List ℕ) → front ++ codes ",\"kind\":\"" ++ kind_name kind ++ codes "\",\"text\":" ≡ front ++ codes ",\"kind\":" ++ json_string (kind_name kind) ++ codes ",\"text\":"
+kind_between kind front = quoted front (codes ",\"kind\":") (codes "\"") (kind_name kind) (codes ",\"text\":") ∙ ap (λ x. front ++ codes ",\"kind\":" ++ x ++ codes ",\"text\":") (kind_string kind)
 
 -- what stands for one element more
 pub each_next : (f : ℕ → List ℕ) (xs : List ℕ) (i : ℕ) → i < length xs → flat_map f (take (i + 1) xs) ≡ flat_map f (take i xs) ++ f (get_or xs i 0)

@@ -4,7 +4,7 @@ use Rattle.std.specs.Prelude.{if◌then◌else◌}
 use Rattle.std.specs.List.{count_by, prefix_len, suffix_len}
 use Rattle.std.specs.Str.Lines.{lines}
 use Rattle.std.proofs.lemmas.Bool.{eq-eqb, ne_eqb, le-leb}
-use Rattle.std.proofs.lemmas.List.{reverse-append, length-reverse, take_all, take-append-drop}
+use Rattle.std.proofs.lemmas.List.{reverse-append, length-reverse, length-take-le, take_all}
 use Rattle.std.proofs.lemmas.List.Folds.{prefix_len-append}
 use Rattle.std.proofs.lemmas.List.Sums.{sum_by-append, count_by-le-length, suffix_len-le-length}
 use Rattle.std.proofs.Math.Seq.{take-add}
@@ -31,38 +31,51 @@ column-append xs ys =
 line-append : (xs ys : List ℕ) → count_by is_line_feed (xs ++ ys) ≡ count_by is_line_feed xs + count_by is_line_feed ys
 line-append xs ys = sum_by-append (λ b. cond (is_line_feed b) 1 0) xs ys
 
--- a line and its column are no more than the bytes up to them
-pub few : (text : List ℕ) (n : ℕ) (place : ℕ × ℕ) → n ≤ length text → line_and_column text n ≡ place → (place.0 ≤ length (take n text)) × (place.1 ≤ length (take n text))
+-- a line and its column are no more than the bytes in front
+pub few : (text : List ℕ) (n : ℕ) (place : ℕ × ℕ) → n ≤ length text → line_and_column text n ≡ place → (place.0 ≤ n) × (place.1 ≤ n)
 few text n place h e =
     let at : ends_at (take n text) ≡ place = sym (within text n h) ∙ e in
-    (omega (arith, ap (λ p. p.0) at, count_by-le-length is_line_feed (take n text)), omega (arith, ap (λ p. p.1) at, suffix_len-le-length is_other (take n text)))
+    let front = length-take-le n text h in
+    (omega (arith, front, ap (λ p. p.0) at, count_by-le-length is_line_feed (take n text)), omega (arith, front, ap (λ p. p.1) at, suffix_len-le-length is_other (take n text)))
+
+-- From one place of a text to another these bytes are passed. The first place has this line and column, and the end of the bytes by themselves has those.
+pub record Passed (text passed : List ℕ) (from to : ℕ) (old new : ℕ × ℕ) : Type 0 where
+  pub start : from ≤ length text
+  pub end : to ≤ length text
+  pub cut : take to text ≡ take from text ++ passed
+  pub before : line_and_column text from ≡ old
+  pub behind : new ≡ line_and_column passed (length passed)
+
+front_is : {text passed : List ℕ} {from to : ℕ} {old new : ℕ × ℕ} → Passed text passed from to old new → ends_at (take from text) ≡ old
+front_is {text = text} {from = from} p = sym (within text from p.start) ∙ p.before
+
+passed_is : {text passed : List ℕ} {from to : ℕ} {old new : ℕ × ℕ} → Passed text passed from to old new → ends_at passed ≡ new
+passed_is {passed = passed} p = sym (at_end passed) ∙ sym p.behind
+
+line_is : {text passed : List ℕ} {from to : ℕ} {old new : ℕ × ℕ} → Passed text passed from to old new → count_by is_line_feed (take to text) ≡ old.0 + new.0
+line_is {text = text} {passed = passed} {from = from} p =
+    ap (count_by is_line_feed) p.cut ∙ line-append (take from text) passed ∙ ap₂ (λ a b. a + b) (ap (λ q. q.0) (front_is p)) (ap (λ q. q.0) (passed_is p))
+
+column_is : {text passed : List ℕ} {from to : ℕ} {old new : ℕ × ℕ} → Passed text passed from to old new → suffix_len is_other (take to text) ≡ cond (eqb new.1 (length passed)) (length passed + old.1) new.1
+column_is {text = text} {passed = passed} {from = from} p =
+    ap (suffix_len is_other) p.cut ∙ column-append (take from text) passed
+    ∙ ap₂ (λ a b. cond (eqb b (length passed)) (length passed + a) b) (ap (λ q. q.1) (front_is p)) (ap (λ q. q.1) (passed_is p))
 
 -- No line feed is passed.
-pub along : (text passed : List ℕ) (from to : ℕ) (old new : ℕ × ℕ) → from ≤ length text → to ≤ length text → take to text ≡ take from text ++ passed → line_and_column text from ≡ old → new ≡ line_and_column passed (length passed)
-    → new.1 ≡ length passed → line_and_column text to ≡ (old.0 + new.0, old.1 + new.1)
-along text passed from to old new h k cut e f whole =
-    let before : ends_at (take from text) ≡ old = sym (within text from h) ∙ e in
-    let behind : ends_at passed ≡ new = sym (at_end passed) ∙ sym f in
-    let front = take from text in
-    let line : count_by is_line_feed (take to text) ≡ old.0 + new.0 = ap (count_by is_line_feed) cut ∙ line-append front passed ∙ ap₂ (λ a b. a + b) (ap (λ p. p.0) before) (ap (λ p. p.0) behind) in
-    let all : suffix_len is_other passed ≡ length passed = ap (λ p. p.1) behind ∙ whole in
-    let column : suffix_len is_other (take to text) ≡ length passed + suffix_len is_other front =
-    ap (suffix_len is_other) cut ∙ column-append front passed ∙ ap (λ b. cond b (length passed + suffix_len is_other front) (suffix_len is_other passed)) (eq-eqb (suffix_len is_other passed) (length passed) all) in
-    within text to k ∙ ap₂ (λ a b. (a, b)) line (column ∙ omega (arith, whole, ap (λ p. p.1) before))
+pub along : {text passed : List ℕ} {from to : ℕ} {old new : ℕ × ℕ} → Passed text passed from to old new → new.1 ≡ length passed → line_and_column text to ≡ (old.0 + new.0, old.1 + new.1)
+along {text = text} {passed = passed} {to = to} {old = old} {new = new} p whole =
+    let column = column_is p ∙ ap (λ b. cond b (length passed + old.1) new.1) (eq-eqb new.1 (length passed) whole) in
+    within text to p.end ∙ ap₂ (λ a b. (a, b)) (line_is p) (column ∙ omega (arith, whole))
 
 -- A line feed is passed.
-pub down : (text passed : List ℕ) (from to : ℕ) (old new : ℕ × ℕ) → from ≤ length text → to ≤ length text → take to text ≡ take from text ++ passed → line_and_column text from ≡ old → new ≡ line_and_column passed (length passed)
-    → new.1 ≢ length passed → line_and_column text to ≡ (old.0 + new.0, new.1)
-down text passed from to old new h k cut e f other =
-    let before : ends_at (take from text) ≡ old = sym (within text from h) ∙ e in
-    let behind : ends_at passed ≡ new = sym (at_end passed) ∙ sym f in
-    let front = take from text in
-    let line : count_by is_line_feed (take to text) ≡ old.0 + new.0 = ap (count_by is_line_feed) cut ∙ line-append front passed ∙ ap₂ (λ a b. a + b) (ap (λ p. p.0) before) (ap (λ p. p.0) behind) in
-    let column : suffix_len is_other (take to text) ≡ suffix_len is_other passed =
-    ap (suffix_len is_other) cut ∙ column-append front passed
-    ∙ ap (λ b. cond b (length passed + suffix_len is_other front) (suffix_len is_other passed)) (ne_eqb (suffix_len is_other passed) (length passed) (λ all. other (sym (ap (λ p. p.1) behind) ∙ all))) in
-    within text to k ∙ ap₂ (λ a b. (a, b)) line (column ∙ ap (λ p. p.1) behind)
+pub down : {text passed : List ℕ} {from to : ℕ} {old new : ℕ × ℕ} → Passed text passed from to old new → new.1 ≢ length passed → line_and_column text to ≡ (old.0 + new.0, new.1)
+down {text = text} {passed = passed} {to = to} {old = old} {new = new} p other =
+    let column = column_is p ∙ ap (λ b. cond b (length passed + old.1) new.1) (ne_eqb new.1 (length passed) other) in
+    within text to p.end ∙ ap₂ (λ a b. (a, b)) (line_is p) column
 
 -- the bytes from one place to another behind those in front
 pub passed_on : (text : List ℕ) (from to : ℕ) → from ≤ to → take to text ≡ take from text ++ take (to - from) (drop from text)
 passed_on text from to h = let e : to ≡ from + (to - from) = omega arith in ap (λ n. take n text) e ∙ take-add from (to - from) text
+
+pub at_start : (text : List ℕ) → line_and_column text 0 ≡ (0, 0)
+at_start text = within text 0 (omega arith)
