@@ -1,8 +1,10 @@
 -- A line of JSON and its parts.
-use Rattle.std.proofs.Common.{◌≡◌, ◌+◌, ◌<◌, ℕ, get_or, List, [], ◌∷◌, ◌++◌, length, take, drop, refl, sym, ap, ◌∙◌, append_assoc}
+use Rattle.std.proofs.Common.{◌≡◌, ◌+◌, ◌-◌, ◌<◌, ℕ, get_or, List, [], ◌∷◌, ◌++◌, length, take, drop, refl, sym, ap, ◌∙◌, append_assoc, arith}
 use Rattle.std.proofs.lemmas.List.{append-nil, take_more, take-append-drop}
 use Rattle.std.proofs.lemmas.List.Concat.{flat_map-append}
 use Rattle.std.specs.Prelude.{Option, flat_map, codes}
+use Rattle.wat_lex.specs.tokens.ReadableTokens.{token_text}
+use Rattle.wat_lex.specs.declared.lexer.kinds.Token.{Token}
 use Rattle.wat_lex.specs.declared.lexer.kinds.TokenKind.{TokenKind}
 use Rattle.wat_lex.specs.declared.lexer.kinds.TokenKind.TheVariants.{LineComment, BlockComment, Whitespace, LParen, RParen, String, Id, Keyword, Annotation, Reserved, Integer, Float}
 use Rattle.wat_commands.specs.Blocks.{Puts}
@@ -64,3 +66,7 @@ cut_second a b c k l xs ys zs f h = cut_longer a c (k ++ (xs ++ ys)) zs (k ++ (x
 
 pub cut_third : (a b c d : Option (List ℕ)) (k l m xs ys zs : List ℕ) → Puts a b k l xs → Puts b c l m ys → AppendsPrefix c d (m ++ zs) → AppendsPrefix a d (k ++ (xs ++ ys ++ zs))
 cut_third a b c d k l m xs ys zs f g h = cut_more a c d k m (xs ++ ys) zs (xs ++ ys ++ zs) (puts_more a b c k l m xs ys (xs ++ ys) f g refl) h refl
+
+-- the bytes of a token, from where it begins to where it ends
+pub text_of : (text bytes : List ℕ) (t : Token) → bytes ≡ text → take (t.offset + t.len - t.offset) (drop t.offset bytes) ≡ token_text text t
+text_of text bytes t e = ap (λ b. take (t.offset + t.len - t.offset) (drop t.offset b)) e ∙ ap (λ n. take n (drop t.offset text)) {x = t.offset + t.len - t.offset} {y = t.len} (omega arith)
