@@ -1,5 +1,5 @@
 -- Line and column of a place that lies behind another.
-use Rattle.std.proofs.Common.{◌≡◌, ◌≢◌, ◌+◌, ◌-◌, ◌≤◌, ℕ, Bool, true, false, cond, not, eqb, List, ◌++◌, length, reverse, take, drop, ap, ap₂, sym, ◌∙◌, arith}
+use Rattle.std.proofs.Common.{◌≡◌, ◌≢◌, ◌+◌, ◌-◌, ◌≤◌, ℕ, Bool, cond, not, eqb, List, ◌++◌, length, reverse, take, drop, ap, ap₂, sym, ◌∙◌, arith}
 use Rattle.std.specs.Prelude.{if◌then◌else◌}
 use Rattle.std.specs.List.{count_by, prefix_len, suffix_len}
 use Rattle.std.specs.Str.Lines.{lines}

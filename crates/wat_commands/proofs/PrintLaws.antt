@@ -23,7 +23,6 @@ use Rattle.wat_commands.specs.Streams.{AppendsPrefix, failure_after}
 use Rattle.wat_commands.specs.Writes.{Writes}
 use Rattle.wat_commands.specs.declared.ends.Failed.{Failed}
 use Rattle.wat_commands.specs.declared.run.RunError.{RunError}
-use Rattle.wat_commands.specs.declared.run.RunError.TheVariants.{Write}
 use Rattle.wat_commands.proofs.KnownBytes.{appends_none}
 
 abbrev pub setting : Settings → List ℕ → Setting

@@ -1,4 +1,4 @@
-use Rattle.std.proofs.Common.{rules, refl, None}
+use Rattle.std.proofs.Common.{refl, None}
 use Rattle.wat_commands.specs.JsonLists.{JsonShows}
 use Rattle.wat_commands.specs.Replies.{Plays}
 use Rattle.wat_commands.specs.Shows.{Shows}
