@@ -90,6 +90,32 @@ expect 'sig, strict' 1 '' "$underscores_fault" "$program" --strict-underscores s
 expect 'sig, no UTF-8' 2 '' 'wat_tokens: input is not UTF-8 at byte 2\n' "$program" sig a < <(printf 'a \377')
 output=/dev/full expect 'sig, no room' 2 '' 'wat_tokens: write failed: no space left on device\n' "$program" sig < <(printf x)
 
+# the lists as JSON
+# json OFFSET LENGTH KIND TEXT LINE COLUMN: an object's line; the text as it stands in the string
+json() {
+    printf '{"offset":%s,"length":%s,"kind":"%s","text":"%s","line":%s,"column":%s}\\n' "$@"
+}
+expect 'json' 0 "$(json 0 1 LParen '(' 1 1)$(json 1 6 Keyword module 1 2)$(json 7 1 RParen ')' 1 8)" '' "$program" --json < <(printf '(module)')
+expect 'json, no text' 0 '' '' "$program" --json list < /dev/null
+# shellcheck disable=SC2016
+expect 'json, lines' 0 "$(json 0 2 Id '$a' 1 1)$(json 2 3 Whitespace '\\n\\n ' 1 3)$(json 5 1 Integer 1 3 2)$(json 6 2 Whitespace '\\r\\n' 3 3)" '' \
+    "$program" --json list < <(printf '$a\n\n 1\r\n')
+expect 'json, escapes' 0 "$(json 0 14 BlockComment '(;\\u0001\\u0008\\t\\r\\u001f\\"\\\\\0177\0303\0251;)' 1 1)$(json 14 1 Keyword x 1 15)" '' \
+    "$program" --json < <(printf %b '(;\0001\b\t\r\0037"\\\0177\0303\0251;)x')
+expect 'json, a fault' 1 "$(json 0 1 Keyword x 1 1)" "$(fault 'unterminated block comment' 2 'x(;' ' ')" "$program" --json < <(printf 'x(;')
+expect 'json, confusing' 1 '' "$confusing_fault" "$program" --json < <(printf %s "$confusing")
+expect 'json, confusing, allowed' 0 "$(json 0 5 LineComment "$confusing" 1 1)" '' "$program" --allow-confusing --json < <(printf %s "$confusing")
+expect 'json, sig' 0 "$(json 17 1 Keyword x 1 18)" '' "$program" --json sig < <(printf %s "$annotated")
+expect 'json, sig, a name' 0 "$(json 0 1 LParen '(' 1 1)$(json 1 2 Annotation @a 1 2)$(json 9 1 RParen ')' 1 10)$(json 17 1 Keyword x 1 18)" '' \
+    "$program" --json sig a < <(printf %s "$annotated")
+# shellcheck disable=SC2016
+expect 'json, sig, lines' 0 "$(json 0 1 Keyword x 1 1)$(json 9 2 Id '$y' 3 4)$(json 12 1 Float 1. 4 1)" '' \
+    "$program" --json sig < <(printf 'x ;;\n\n(;;)$y\n1.')
+expect 'json, sig, not closed' 1 "$(json 0 1 Keyword x 1 1)" 'unclosed annotation at byte offset 3\n' "$program" --json sig < <(printf 'x (@a 1')
+expect 'json, no UTF-8' 2 '' 'wat_tokens: input is not UTF-8 at byte 2\n' "$program" --json < <(printf 'a \377')
+output=/dev/full expect 'json, no room' 2 '' 'wat_tokens: write failed: no space left on device\n' "$program" --json < <(printf x)
+output=/dev/full expect 'json, sig, no room' 2 '' 'wat_tokens: write failed: no space left on device\n' "$program" --json sig < <(printf x)
+
 # replies to calls
 expect 'play, no calls' 0 '' '' "$program" play < <(printf '"')
 expect 'play' 0 '0..6 Keyword\n19..20 Keyword\ndone\n7..8 LParen\ndone\n19..20 Keyword\nabsent\n' '' \
@@ -143,6 +169,8 @@ expect 'a file with a fault' 1 "$word$word" "$bad" "$program" bad a < /dev/null
 expect 'no such file' 2 "$word$word" "wat_tokens: none: open failed: no such file or directory\n$bad" "$program" a none bad < /dev/null
 expect 'not opened, and a fault' 2 '' 'wat_tokens: none: open failed: no such file or directory\n' "$program" blank none < /dev/null
 expect 'sig, files' 0 "$word$word" '' "$program" sig name -- a sig < /dev/null
+expect 'json, files' 1 "$(json 0 1 Keyword x 1 1)$(json 0 1 Keyword x 1 1)" "$bad" "$program" --json bad a < /dev/null
+expect 'json, sig, files' 0 "$(json 0 1 Keyword x 1 1)$(json 0 1 Keyword y 1 1)" '' "$program" --json sig name -- a sig < /dev/null
 expect 'sig, open annotation' 1 '' 'open: unclosed annotation at byte offset 1\n' "$program" sig -- open < /dev/null
 expect 'play, a file' 0 "$word" '' "$program" play look -- a < /dev/null
 expect 'blank, a file' 0 x '' "$program" blank a < /dev/null
@@ -175,11 +203,20 @@ expect_wrong 'misplaced option' --strict-underscores types --strict-underscores
 expect_wrong 'misplaced option' --allow-confusing --allow-confusing --allow-confusing
 expect_wrong 'misplaced option' --strict-underscores --strict-underscores --strict-underscores
 expect_wrong 'misplaced option' --allow-confusing --allow-confusing --strict-underscores --allow-confusing
+expect_wrong 'misplaced option' --json list --json
+expect_wrong 'misplaced option' --json sig b --json
+expect_wrong 'misplaced option' --json --json sig --json
+expect_wrong 'misplaced option' --json --json --json
+expect_wrong 'misplaced option' --json --json --allow-confusing --json
+expect_wrong 'unknown option' --json=x --json=x
 expect_wrong 'misplaced option' --help --allow-confusing --help
 expect_wrong 'misplaced option' --help sig --help
 expect_wrong 'misplaced option' -h sig -h
 expect_wrong 'misplaced option' --version a --version
 expect_wrong 'unexpected word' types --allow-confusing types
+expect_wrong 'unexpected word' types --json types
+expect_wrong 'unexpected word' blank --json blank
+expect_wrong 'unexpected word' play --json play look
 expect_wrong 'unexpected word' b types a b
 expect_wrong 'unexpected word' b blank a b
 expect_wrong 'unexpected word' b blank -- a b

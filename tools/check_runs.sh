@@ -114,6 +114,8 @@ check 0 '(@a "x") b'
 check 1 'x (;'
 check 0 '(@a "x") b' sig a
 check 1 'x (@a 1' sig
+check 1 'x(;' --json
+check 0 'x' --json sig
 check 0 'a (; b ;)' blank
 check 0 '(module (type (func (param i32) (result i64))))' types
 check 1 '(module (func))' types
@@ -121,6 +123,8 @@ check 0 '(@a) x' play look reg=a take parens=1
 # shellcheck disable=SC2016
 requests 0 '(module (func $foo))'
 check 0 ''
+requests 0 '(@a "x") b' --json
+requests 1 'x (@a 1' --json sig
 requests 0 '(@)' play look
 requests 0 '(@"bad' play look
 requests 0 '("bad' play look

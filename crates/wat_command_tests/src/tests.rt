@@ -5,6 +5,7 @@ mod blanked;
 mod blocks;
 mod compiled;
 mod cuts;
+mod json;
 mod named;
 mod refused;
 mod responses;

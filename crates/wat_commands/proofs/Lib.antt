@@ -4,11 +4,13 @@ mod CompileLaws
 mod Counts
 mod Decimals
 mod InputLaws
+mod JsonLaws
 mod KnownBytes
 mod LineLaws
 mod NamedLaws
 mod OptionLaws
 mod OutcomeLaws
+mod PositionLaws
 mod PrintLaws
 mod RespondLaws
 mod ShownLaws

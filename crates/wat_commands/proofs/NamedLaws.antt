@@ -1,5 +1,5 @@
 -- What an error prints, cut into its message, the place and what stands behind it.
-use Rattle.std.proofs.Common.{◌≡◌, ◌+◌, ℕ, Bool, true, false, List, [], ◌∷◌, ◌++◌, append_assoc, length, drop, get_or, refl, sym, ap, ◌∙◌, subst, arith}
+use Rattle.std.proofs.Common.{◌≡◌, ℕ, Bool, true, false, List, [], ◌∷◌, ◌++◌, append_assoc, length, drop, get_or, refl, sym, ap, ◌∙◌, arith}
 use Rattle.std.proofs.lemmas.List.{append-nil, drop_at}
 use Rattle.std.specs.Prelude.{Option, Some, None, Result, Ok, Err, IfOk, codes, nat_lt, if◌then◌else◌, String, string_bytes}
 use Rattle.std.specs.Fmt.{decimal}

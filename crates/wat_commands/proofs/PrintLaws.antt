@@ -14,6 +14,8 @@ use Rattle.wat_lex.specs.declared.lexer.settings.Settings.{Settings}
 use Rattle.wat_lexer_parser.specs.shown.BlankTexts.{blank_text, BlankTextsShowTheSame}
 use Rattle.wat_commands.specs.Blanks.{Blanks}
 use Rattle.wat_commands.specs.Blocks.{AppendsEach, AppendsEachCut, ReportsEnd}
+use Rattle.wat_commands.specs.JsonLists.{JsonLists}
+use Rattle.wat_commands.specs.JsonRows.{json_line}
 use Rattle.wat_commands.specs.Lists.{Lists, line}
 use Rattle.wat_commands.specs.Printed.{AppendsText, AppendsCut}
 use Rattle.wat_commands.specs.Refusals.{answered}
@@ -21,7 +23,6 @@ use Rattle.wat_commands.specs.Streams.{AppendsPrefix, failure_after}
 use Rattle.wat_commands.specs.Writes.{Writes}
 use Rattle.wat_commands.specs.declared.ends.Failed.{Failed}
 use Rattle.wat_commands.specs.declared.run.RunError.{RunError}
-use Rattle.wat_commands.specs.declared.run.RunError.TheVariants.{Write}
 use Rattle.wat_commands.proofs.KnownBytes.{appends_none}
 
 abbrev pub setting : Settings → List ℕ → Setting
@@ -54,6 +55,34 @@ lists_written one settings text error old new u l reports each = record {
 pub lists_cut : (settings : Settings) (text : List ℕ) (old new : Option (List ℕ)) → IsUtf8 text → length text < 2 ^ 32 → AppendsEachCut line (setting settings text) old new → AppendsCut (Lists settings text) old new
 lists_cut settings text old new u l each = record {
   text = flat_map line each.tokens;
+  error = report_of text each.ending;
+  printed = record {
+    utf8 = u;
+    short = l;
+    fault = each.ending;
+    list = record { tokens = each.tokens; tiling = each.tiling; lines = refl };
+    reported = refl;
+  };
+  appended = each.appended;
+}
+
+pub json_written : TilingsAreOne → (settings : Settings) (text : List ℕ) (error : Option (Option Report)) (old new : Option (List ℕ)) → IsUtf8 text → length text < 2 ^ 32 → ReportsEnd (setting settings text) error → AppendsEach (json_line text) (setting settings text) old new
+    → AppendsText (JsonLists settings text) error old new
+json_written one settings text error old new u l reports each = record {
+  text = flat_map (json_line text) each.tokens;
+  printed = record {
+    utf8 = u;
+    short = l;
+    fault = each.ending;
+    list = record { tokens = each.tokens; tiling = each.tiling; lines = refl };
+    reported = same_ending one (setting settings text) error reports (each.tokens, each.ending, each.tiling);
+  };
+  appended = each.appended;
+}
+
+pub json_cut : (settings : Settings) (text : List ℕ) (old new : Option (List ℕ)) → IsUtf8 text → length text < 2 ^ 32 → AppendsEachCut (json_line text) (setting settings text) old new → AppendsCut (JsonLists settings text) old new
+json_cut settings text old new u l each = record {
+  text = flat_map (json_line text) each.tokens;
   error = report_of text each.ending;
   printed = record {
     utf8 = u;

@@ -5,6 +5,9 @@ pub mod Causes
 pub mod Compiles
 pub mod Help
 pub mod Inputs
+pub mod JsonLists
+pub mod JsonRows
+pub mod JsonStrings
 pub mod Lists
 pub mod Options
 pub mod Outcomes

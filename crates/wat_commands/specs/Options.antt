@@ -1,5 +1,5 @@
 -- The words of the command line, and what they ask for. No part of the standard.
-use Rattle.std.specs.Prelude.{◌≡◌, ◌⊎◌, ◌≤◌, ◌+◌, ◌||◌, ◌&&◌, ◌==◌, not, ℕ, Bool, true, false, ⊤, List, [], ◌∷◌, ◌++◌, take, drop, length, codes, count_by, if◌then◌else◌, string_bytes, String, Option, Some, None, is_some, unwrap_or, All}
+use Rattle.std.specs.Prelude.{◌≡◌, ◌⊎◌, ◌≤◌, ◌+◌, ◌||◌, ◌&&◌, ◌==◌, nat_lt, not, ℕ, Bool, true, false, ⊤, List, [], ◌∷◌, ◌++◌, take, drop, length, codes, count_by, if◌then◌else◌, string_bytes, String, Option, Some, None, is_some, unwrap_or, All}
 use Rattle.std.specs.List.{prefix_len}
 use Rattle.std.specs.Str.{bytes_eq}
 use Rattle.std.specs.declared.alloc.Global.{Global}
@@ -25,13 +25,18 @@ abbrev pub once_if : Bool → ℕ
 once_if b = if b then 1 else 0
 
 abbrev pub is_option : List ℕ → Bool
-is_option word = bytes_eq word (codes "--allow-confusing") || bytes_eq word (codes "--strict-underscores")
+is_option word = bytes_eq word (codes "--allow-confusing") || (bytes_eq word (codes "--strict-underscores") || bytes_eq word (codes "--json"))
+
+-- the lists are to be lines of JSON
+abbrev pub wants_json : List Word → Bool
+wants_json words = nat_lt 0 (occurrences (codes "--json") words)
 
 -- each option stands there once where its flag is set, and no other word does
 pub record Selects (words : List Word) (settings : Settings) : Type 0 where
   pub allow : occurrences (codes "--allow-confusing") words ≡ once_if settings.allow
   pub strict : occurrences (codes "--strict-underscores") words ≡ once_if settings.strict
-  pub no_other : length words ≡ once_if settings.allow + once_if settings.strict
+  pub json : occurrences (codes "--json") words ≡ once_if (wants_json words)
+  pub no_other : length words ≡ once_if settings.allow + once_if settings.strict + once_if (wants_json words)
 
 -- how many options stand in front
 abbrev pub options_len : List Word → ℕ
@@ -93,13 +98,15 @@ SpellsCalls [] (call ∷ calls) = ⊥
 SpellsCalls (word ∷ words) [] = ⊥
 SpellsCalls (word ∷ words) (call ∷ calls) = SpellsCall (string_bytes word) call × SpellsCalls words calls
 
--- a command, and the words in front of `--`, ask for this
-abbrev pub AsksTask : Verb → List Word → Task → Type 0
-AsksTask v own task.List = v ≡ verb.List
-AsksTask v own (task.Sig names) = (v ≡ verb.Sig) × (names.now ≡ own) × AllPass is_name own
-AsksTask v own (task.Play calls) = (v ≡ verb.Play) × SpellsCalls own calls.items
-AsksTask v own task.Blank = v ≡ verb.Blank
-AsksTask v own task.Types = v ≡ verb.Types
+-- a command, and the words in front of `--`, ask for this; and the options, where the lists are to be JSON, which else there is none of
+abbrev pub AsksTask : Verb → Bool → List Word → Task → Type 0
+AsksTask v json own task.List = (v ≡ verb.List) × (json ≡ false)
+AsksTask v json own (task.Sig names) = (v ≡ verb.Sig) × (json ≡ false) × (names.now ≡ own) × AllPass is_name own
+AsksTask v json own task.JsonList = (v ≡ verb.List) × (json ≡ true)
+AsksTask v json own (task.JsonSig names) = (v ≡ verb.Sig) × (json ≡ true) × (names.now ≡ own) × AllPass is_name own
+AsksTask v json own (task.Play calls) = (v ≡ verb.Play) × (json ≡ false) × SpellsCalls own calls.items
+AsksTask v json own task.Blank = (v ≡ verb.Blank) × (json ≡ false)
+AsksTask v json own task.Types = (v ≡ verb.Types) × (json ≡ false)
 
 -- the words in front of `--` are files
 abbrev pub owns_files : Verb → Bool
@@ -124,14 +131,14 @@ pub record AsksFiles (v : Verb) (own behind files : List Word) : Type 0 where
   pub few : (takes_many v ≡ true) ⊎ (length files ≤ 1)
 
 -- the words behind the options ask for a task and name its files
-pub record AsksBehind (words : List Word) (task : Task) (files : List Word) : Type 0 where
-  pub asked : AsksTask (verb_of words) (own_words (behind_verb words)) task
+pub record AsksBehind (json : Bool) (words : List Word) (task : Task) (files : List Word) : Type 0 where
+  pub asked : AsksTask (verb_of words) json (own_words (behind_verb words)) task
   pub named : AsksFiles (verb_of words) (own_words (behind_verb words)) (file_words (behind_verb words)) files
 
 -- the words are options, and then those of a task with its files; `types` takes no options
 pub record AsksRun (words : List Word) (settings : Settings) (task : Task) (files : List Word) : Type 0 where
   pub selects : Selects (options_of words) settings
-  pub asks : AsksBehind (behind_options words) task files
+  pub asks : AsksBehind (wants_json (options_of words)) (behind_options words) task files
   pub bare : verb_of (behind_options words) ≡ verb.Types → length (options_of words) ≡ 0
 
 -- the first word

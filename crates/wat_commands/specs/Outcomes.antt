@@ -10,6 +10,7 @@ use Rattle.wat_lex.specs.declared.lexer.settings.Settings.{Settings}
 use Rattle.wat_commands.specs.Blanks.{Blanks}
 use Rattle.wat_commands.specs.Causes.{cause, is_closed_pipe}
 use Rattle.wat_commands.specs.Compiles.{Compiles}
+use Rattle.wat_commands.specs.JsonLists.{JsonLists, JsonShows}
 use Rattle.wat_commands.specs.Lists.{Lists}
 use Rattle.wat_commands.specs.Options.{is_option, is_file}
 use Rattle.wat_commands.specs.Places.{shown_in, of_file}
@@ -116,6 +117,8 @@ Responds prints Unread old new = ⊥
 abbrev pub task_prints : Settings → Task → Prints
 task_prints s task.List = Lists s
 task_prints s (task.Sig names) = Shows s names.now
+task_prints s task.JsonList = JsonLists s
+task_prints s (task.JsonSig names) = JsonShows s names.now
 task_prints s (task.Play calls) = Plays s calls.items
 task_prints s task.Blank = Blanks s
 task_prints s task.Types = Compiles

@@ -6,6 +6,7 @@ use Rattle.wat_lex.specs.errors.Errors.{Report}
 use Rattle.wat_lex.specs.declared.lexer.settings.Settings.{Settings}
 use Rattle.wat_commands.specs.Blanks.{Blanks}
 use Rattle.wat_commands.specs.Compiles.{Compiles}
+use Rattle.wat_commands.specs.JsonLists.{JsonLists, JsonShows}
 use Rattle.wat_commands.specs.Lists.{Lists}
 use Rattle.wat_commands.specs.Replies.{Plays}
 use Rattle.wat_commands.specs.Shows.{Shows}
@@ -21,6 +22,8 @@ Prints = List ℕ → List ℕ → Option (Option Report) → Type 0
 abbrev pub prints : Settings → Printing → Prints
 prints s printing.Raw = Lists s
 prints s (printing.Shown names) = Shows s names.now
+prints s printing.JsonRaw = JsonLists s
+prints s (printing.JsonShown names) = JsonShows s names.now
 prints s (printing.Replies calls) = Plays s calls.now
 prints s printing.Blank = Blanks s
 prints s printing.Types = Compiles

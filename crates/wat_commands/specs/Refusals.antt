@@ -1,5 +1,5 @@
 -- Why a run ended without what it prints. No part of the standard.
-use Rattle.std.specs.Prelude.{◌≡◌, ℕ, List, Option, Some, None, Result, Ok, Err}
+use Rattle.std.specs.Prelude.{◌≡◌, ℕ, Option, Some, None, Result, Ok, Err}
 use Rattle.wat_commands.specs.declared.ends.Failed.{Failed}
 use Rattle.wat_commands.specs.declared.run.RunError.{RunError}
 use Rattle.wat_commands.specs.declared.run.RunError.TheVariants.{Read, TooLong, NotUtf8, Write, Memory}

@@ -37,6 +37,8 @@ the files stand behind `--`.
 options, which stand in front of the command:
   --allow-confusing     pass characters that can make a text look other than it is
   --strict-underscores  refuse doubled underscores in `\\u{..}`
+  --json                write each token of `list` or `sig` as a line of JSON: offset and length
+                        in bytes, kind, text, line and column
   -h, --help            this text
   --version             the version
 
@@ -53,5 +55,6 @@ exit status: 0 where all is written, 1 where a text has a fault or is no module,
 examples:
   wat_tokens a.wat
   wat_tokens sig name -- a.wat b.wat
+  wat_tokens --json sig -- a.wat
   printf '(@a x) (func)' | wat_tokens play look reg=a take
 ";

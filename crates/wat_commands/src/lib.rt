@@ -8,14 +8,17 @@ mod block;
 pub mod calls;
 pub mod ends;
 pub mod help;
+pub mod json;
 mod line;
 pub mod list;
 pub mod named;
 pub mod options;
 pub mod outcome;
 pub mod play;
+mod position;
 mod print;
 pub mod respond;
+mod row;
 pub mod run;
 pub mod show;
 

@@ -1,5 +1,5 @@
 //! The words of the command line.
-ghost use Rattle.std.specs.Prelude.{◌≡◌, ◌↔◌, ◌≤◌, ◌<◌, IfOk, OnErr, IfSome, IfNone, IsTrue};
+ghost use Rattle.std.specs.Prelude.{◌≡◌, ◌↔◌, ◌≤◌, ◌<◌, true, IfOk, OnErr, IfSome, IfNone, IsTrue};
 ghost use Rattle.std.specs.Prelude.{MatchOption, MatchResult, List, take, length, ◌+◌};
 ghost use Rattle.std.specs.declared.alloc.Global.{Global};
 ghost use Rattle.std.specs.declared.string.String.{String};
@@ -9,6 +9,7 @@ ghost use Rattle.wat_commands.specs.declared.options.Command.{Command};
 ghost use Rattle.wat_commands.specs.declared.options.Task.{Task};
 ghost use Rattle.wat_commands.specs.declared.options.Verb.TheVariants as verbs;
 ghost use Rattle.wat_commands.specs.Options.{occurrences, is_option, options_len, Selects};
+ghost use Rattle.wat_commands.specs.Options.{wants_json};
 ghost use Rattle.wat_commands.specs.Options.{verb_named, verb_of, behind_verb, own_len, own_words};
 ghost use Rattle.wat_commands.specs.Options.{file_words};
 ghost use Rattle.wat_commands.specs.Options.{is_name, is_file, owns_files, takes_many, AllPass};
@@ -28,6 +29,10 @@ pub enum Task<'a> {
     List,
     /// The tokens that are shown where these names are registered.
     Sig(&'a [String]),
+    /// The raw tokens as JSON.
+    JsonList,
+    /// The tokens that are shown where these names are registered, as JSON.
+    JsonSig(&'a [String]),
     /// The replies to these calls.
     Play(Vec<Call>),
     /// The text with its comments blanked.
@@ -65,15 +70,15 @@ fn occurrences(word: &str, words: &[String]) -> usize
     words.iter().filter(|other| other.as_str() == word).count()
 }
 
-/// The settings that the words ask for: each option at most once, in either order, and no other
-/// word.
+/// The settings that the words ask for: each option at most once, in any order, and no other word.
 fn settings_of(words: &[String]) -> Option<Settings>
     ensures selected { IfSome result (λ settings. Selects words.now settings) }
     ensures refused { IfNone result ((settings : Settings) → ¬ Selects words.now settings) }
 {
     let allow = occurrences("--allow-confusing", words);
     let strict = occurrences("--strict-underscores", words);
-    if allow > 1 || strict > 1 || allow + strict != words.len() {
+    let json = occurrences("--json", words);
+    if allow > 1 || strict > 1 || json > 1 || allow + strict + json != words.len() {
         return None;
     }
     Some(Settings {
@@ -82,11 +87,18 @@ fn settings_of(words: &[String]) -> Option<Settings>
     })
 }
 
+/// Whether the lists are to be lines of JSON.
+fn wants_json(words: &[String]) -> bool
+    ensures { result ≡ wants_json words.now }
+{
+    occurrences("--json", words) > 0
+}
+
 /// Whether the word is an option that stands in front of a command.
 pub fn is_option(word: &str) -> bool
     ensures { result ≡ is_option word.now }
 {
-    word == "--allow-confusing" || word == "--strict-underscores"
+    word == "--allow-confusing" || word == "--strict-underscores" || word == "--json"
 }
 
 /// How many options stand in front.
@@ -210,12 +222,32 @@ fn read_calls(alloc: Global, words: &[String]) -> Result<Option<Vec<Call>>, Allo
     Ok(Some(calls))
 }
 
-/// What a command asks for with the words in front of `--`.
-fn task_of<'a>(alloc: Global, verb: Verb, own: &'a [String]) -> Result<Option<Task<'a>>, AllocError>
+/// What a command asks for as JSON with the words in front of `--`. Only the lists are JSON.
+fn json_task_of(verb: Verb, own: &[String]) -> Option<Task<'_>>
+    ensures { MatchOption result ((t : Task) → ¬ AsksTask verb true own.now t)
+        (AsksTask verb true own.now) }
+{
+    match verb {
+        Verb::List => Some(Task::JsonList),
+        Verb::Sig if are_names(own) => Some(Task::JsonSig(own)),
+        Verb::Sig | Verb::Play | Verb::Blank | Verb::Types => None,
+    }
+}
+
+/// What a command asks for with the words in front of `--`, as JSON or not.
+fn task_of<'a>(
+    alloc: Global,
+    verb: Verb,
+    json: bool,
+    own: &'a [String],
+) -> Result<Option<Task<'a>>, AllocError>
     ensures asked { IfOk result (λ task.
-        MatchOption task ((t : Task) → ¬ AsksTask verb own.now t) (AsksTask verb own.now)) }
+        MatchOption task ((t : Task) → ¬ AsksTask verb json own.now t) (AsksTask verb json own.now)) }
     ensures refused { OnErr result (verb ≡ verbs.Play) }
 {
+    if json {
+        return Ok(json_task_of(verb, own));
+    }
     Ok(match verb {
         Verb::List => Some(Task::List),
         Verb::Sig if are_names(own) => Some(Task::Sig(own)),
@@ -245,14 +277,15 @@ fn files_of<'a>(verb: Verb, own: &'a [String], behind: &'a [String]) -> Option<&
     Some(files)
 }
 
-/// What the words behind the options ask for.
+/// What the words behind the options ask for, as JSON or not.
 fn behind_options<'a>(
     alloc: Global,
+    json: bool,
     words: &'a [String],
 ) -> Result<Option<(Task<'a>, &'a [String])>, AllocError>
     ensures asked { IfOk result (λ read. MatchOption read
-        ((task : Task) (files : List (String Global)) → ¬ AsksBehind words.now task files)
-        (λ r. AsksBehind words.now r.0 r.1.now)) }
+        ((task : Task) (files : List (String Global)) → ¬ AsksBehind json words.now task files)
+        (λ r. AsksBehind json words.now r.0 r.1.now)) }
     ensures refused { OnErr result (verb_of words.now ≡ verbs.Play) }
 {
     let (verb, rest) = split_verb(words);
@@ -260,14 +293,14 @@ fn behind_options<'a>(
     let Some(files) = files_of(verb, own, behind) else {
         return Ok(None);
     };
-    let Some(task) = task_of(alloc, verb, own)? else {
+    let Some(task) = task_of(alloc, verb, json, own)? else {
         return Ok(None);
     };
     Ok(Some((task, files)))
 }
 
-/// The run that the words ask for: options, each at most once, in either order, and then a command
-/// with its words and files; `types` without options.
+/// The run that the words ask for: options, each at most once, in any order, and then a command
+/// with its words and files; `types` without options, and only a list as JSON.
 fn run_of<'a>(alloc: Global, words: &'a [String]) -> Result<Option<Command<'a>>, AllocError>
     ensures asked { IfOk result (λ command. MatchOption command
         ((s : Settings) (t : Task) (files : List (String Global)) → ¬ AsksRun words.now s t files)
@@ -282,7 +315,7 @@ fn run_of<'a>(alloc: Global, words: &'a [String]) -> Result<Option<Command<'a>>,
     if verb == Verb::Types && !options.is_empty() {
         return Ok(None);
     }
-    let Some((task, files)) = behind_options(alloc, rest)? else {
+    let Some((task, files)) = behind_options(alloc, wants_json(options), rest)? else {
         return Ok(None);
     };
     Ok(Some(Command::Run(settings, task, files)))

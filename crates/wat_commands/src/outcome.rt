@@ -7,7 +7,9 @@ ghost use Rattle.wat_commands.specs.Outcomes.{hint, Ran, status, task_prints, Te
 use crate::ends::{Failed, Sink, Source};
 use crate::named::named;
 use crate::options::{Task, is_file, is_option};
-use crate::run::{RunError, run_blank, run_list, run_play, run_sig, run_types};
+use crate::run::{
+    RunError, run_blank, run_json_list, run_json_sig, run_list, run_play, run_sig, run_types,
+};
 use std::alloc::Global;
 use std::{fmt, io};
 use wat_lex::error::Error;
@@ -129,6 +131,10 @@ pub fn carry_out<R: Source, W: Sink>(
     match task {
         Task::List => Outcome::of_run(run_list(alloc, input, output, settings)),
         Task::Sig(names) => Outcome::of_run(run_sig(alloc, input, output, settings, names)),
+        Task::JsonList => Outcome::of_run(run_json_list(alloc, input, output, settings)),
+        Task::JsonSig(names) => {
+            Outcome::of_run(run_json_sig(alloc, input, output, settings, names))
+        }
         Task::Play(calls) => match run_play(alloc, input, output, settings, calls) {
             Ok(()) => Outcome::Listed,
             Err(error) => Outcome::Refused(error),

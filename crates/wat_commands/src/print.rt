@@ -5,6 +5,7 @@ ghost use Rattle.std.specs.Str.{IsUtf8, IsValidUpTo};
 ghost use Rattle.wat_commands.specs.Blanks.{Blanks};
 ghost use Rattle.wat_commands.specs.Blocks.{ReportsEnd};
 ghost use Rattle.wat_commands.specs.Compiles.{Compiles};
+ghost use Rattle.wat_commands.specs.JsonLists.{JsonLists};
 ghost use Rattle.wat_commands.specs.Lists.{Lists};
 ghost use Rattle.wat_commands.specs.Printed.{prints};
 ghost use Rattle.wat_commands.specs.Refusals.{IsNotUtf8, IsWrite, answered};
@@ -12,6 +13,7 @@ ghost use Rattle.wat_commands.specs.Writes.{Writes};
 
 use crate::blank::write_blanked;
 use crate::ends::{Failed, Sink};
+use crate::json::{show_json, write_json};
 use crate::list::{fault_of, lexer_of, write_lines};
 use crate::play::play;
 use crate::run::RunError;
@@ -32,6 +34,10 @@ pub enum Printing<'a> {
     Raw,
     /// The tokens that are shown where these names are registered.
     Shown(&'a [String]),
+    /// Its raw tokens as JSON.
+    JsonRaw,
+    /// The tokens that are shown where these names are registered, as JSON.
+    JsonShown(&'a [String]),
     /// The replies to these calls.
     Replies(&'a [Call]),
     /// The text with its comments blanked.
@@ -83,6 +89,26 @@ fn print_raw<W: Sink>(
     let lexer = lexer_of(text, settings);
     let error = error_of(alloc, &lexer)?;
     answer(write_lines(&lexer, output), error)
+}
+
+/// Writes the lines of JSON of the raw tokens of a text, and answers the error of its fault. All memory
+/// is asked for before the first line is written: the text is read twice.
+fn print_json<W: Sink>(
+    alloc: Global,
+    text: &str,
+    settings: Settings,
+    output: &mut W,
+) -> Result<Option<Error>, RunError>
+    requires text { length text.now < 2 ^ 32 }
+    requires output { W.failure output.old ≡ None }
+    ensures printed { Writes W.held W.failure (JsonLists settings text.now)
+        output.old output.new result }
+    ensures refused { IfErr result (λ e. IsWrite e ⊎ (e ≡ RunError.Memory alloc_error)) }
+{
+    wat_lex::laws::one_tiling();
+    let lexer = lexer_of(text, settings);
+    let error = error_of(alloc, &lexer)?;
+    answer(write_json(&lexer, output), error)
 }
 
 /// Writes a text with its comments blanked, or answers the error of its fault.
@@ -160,6 +186,11 @@ fn print_of<W: Sink>(
         Printing::Shown(names) => {
             let Showing { lines, error } = show(alloc, text, settings, names)?;
             print_text(&lines, error, output)
+        }
+        Printing::JsonRaw => print_json(alloc, text, settings, output),
+        Printing::JsonShown(names) => {
+            let Showing { lines: rows, error } = show_json(alloc, text, settings, names)?;
+            print_text(&rows, error, output)
         }
         Printing::Replies(calls) => {
             let replies = play(alloc, text, settings, calls)?;

@@ -5,6 +5,7 @@ ghost use Rattle.std.specs.Str.{IsValidUpTo};
 ghost use Rattle.wat_commands.specs.Blanks.{Blanks};
 ghost use Rattle.wat_commands.specs.Compiles.{Compiles};
 ghost use Rattle.wat_commands.specs.Inputs.{ReadsWhole, ReadsPast, ReadsShort, HasEnded};
+ghost use Rattle.wat_commands.specs.JsonLists.{JsonLists, JsonShows};
 ghost use Rattle.wat_commands.specs.Lists.{Lists};
 ghost use Rattle.wat_commands.specs.Printed.{prints, AppendsText, AppendsCut};
 ghost use Rattle.wat_commands.specs.Refusals.{IsRead, IsWrite, read_failure, write_failure};
@@ -163,6 +164,37 @@ pub fn run_sig<R: Source, W: Sink>(
         input.old input.new output.old output.new result }
 {
     run(alloc, input, output, settings, Printing::Shown(names))
+}
+
+/// Writes the list of the raw tokens as [`run_list`] does, with a line of JSON for each.
+pub fn run_json_list<R: Source, W: Sink>(
+    alloc: Global,
+    input: &mut R,
+    output: &mut W,
+    settings: Settings,
+) -> Result<Option<Error>, RunError>
+    requires input { R.failure input.old ≡ None }
+    requires output { W.failure output.old ≡ None }
+    ensures { Runs R.left R.failure R.has_ended W.held W.failure (JsonLists settings)
+        input.old input.new output.old output.new result }
+{
+    run(alloc, input, output, settings, Printing::JsonRaw)
+}
+
+/// Writes the list of the tokens that count as [`run_sig`] does, with a line of JSON for each.
+pub fn run_json_sig<R: Source, W: Sink>(
+    alloc: Global,
+    input: &mut R,
+    output: &mut W,
+    settings: Settings,
+    names: &[String],
+) -> Result<Option<Error>, RunError>
+    requires input { R.failure input.old ≡ None }
+    requires output { W.failure output.old ≡ None }
+    ensures { Runs R.left R.failure R.has_ended W.held W.failure (JsonShows settings names.now)
+        input.old input.new output.old output.new result }
+{
+    run(alloc, input, output, settings, Printing::JsonShown(names))
 }
 
 /// Writes a parser's replies to calls from the start of the text.

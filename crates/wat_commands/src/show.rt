@@ -33,7 +33,7 @@ fn register(parser: &mut Parser<'_>, name: &str) -> Result<(), Error>
 }
 
 /// Registers each name.
-fn register_all(parser: &mut Parser<'_>, names: &[String]) -> Result<(), Error>
+pub(crate) fn register_all(parser: &mut Parser<'_>, names: &[String]) -> Result<(), Error>
     ensures names { OnOk result
         (parser.new ≡ record parser.old { names = with_names parser.old.names names.now }) }
     ensures refused { IfErr result (λ e. e ≡ None) }

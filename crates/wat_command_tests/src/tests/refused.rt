@@ -1,10 +1,12 @@
-//! The five runs over a source that gives few bytes a call and fails at each call in turn, and to a
+//! The seven runs over a source that gives few bytes a call and fails at each call in turn, and to a
 //! sink that fails. Where memory is wanting, each of them answers that and has written nothing.
 use crate::tests::{FAILED, OFF, Pieces, Room};
 use std::alloc::Global;
 use std::process::Abort;
 use std::test::Fail;
-use wat_commands::run::{RunError, run_blank, run_list, run_play, run_sig, run_types};
+use wat_commands::run::{
+    RunError, run_blank, run_json_list, run_json_sig, run_list, run_play, run_sig, run_types,
+};
 use wat_lexer_parser::parser::Call;
 
 const TEXT: &str = "(@a \"x\") b";
@@ -14,22 +16,29 @@ const LISTED: &str = "0..1 LParen\n1..3 Annotation\n3..4 Whitespace\n4..7 String
 
 const SHOWN: &str = "0..1 LParen\n1..3 Annotation\n4..7 String\n7..8 RParen\n9..10 Keyword\n";
 
+const JSON: &str =
+    "{\"offset\":0,\"length\":3,\"kind\":\"String\",\"text\":\"\\\"x\\\"\",\"line\":1,\"column\":1}\n";
+
 const REPLIED: &str = "9..10 Keyword\n9..10 Keyword\nend\n";
 
-/// Which of the five runs.
+/// Which of the seven runs.
 #[derive(Clone, Copy)]
 enum Kind {
     List,
     Sig,
+    JsonList,
+    JsonSig,
     Play,
     Blank,
     Types,
 }
 
 /// Each kind with its text and what is written of it.
-const KINDS: [(Kind, &str, &str); 5] = [
+const KINDS: [(Kind, &str, &str); 7] = [
     (Kind::List, TEXT, LISTED),
     (Kind::Sig, TEXT, SHOWN),
+    (Kind::JsonList, "\"x\"", JSON),
+    (Kind::JsonSig, "\"x\"", JSON),
     (Kind::Play, TEXT, REPLIED),
     (Kind::Blank, TEXT, TEXT),
     (Kind::Types, "(module)", "\0asm\x01\0\0\0"),
@@ -50,6 +59,8 @@ fn run(
             let names = [String::from_str(alloc, "a")?];
             run_sig(alloc, input, output, OFF, &names).map(|_| ())
         }
+        Kind::JsonList => run_json_list(alloc, input, output, OFF).map(|_| ()),
+        Kind::JsonSig => run_json_sig(alloc, input, output, OFF, &[]).map(|_| ()),
         Kind::Play => run_play(
             alloc,
             input,

@@ -77,6 +77,13 @@ fn spelled(alloc: Global, command: &Command<'_>) -> Result<String, Fail> {
                 write!(text, " <{name}>")?;
             }
         }
+        Task::JsonList => text.push_str(" json list")?,
+        Task::JsonSig(names) => {
+            text.push_str(" json")?;
+            for name in names.iter() {
+                write!(text, " <{name}>")?;
+            }
+        }
         Task::Play(calls) => {
             for call in calls.iter() {
                 write!(text, " {call:?}")?;
@@ -150,6 +157,21 @@ fn words(rt: HostRuntime) -> Result<(), Fail> {
         ("types --allow-confusing", "!--allow-confusing"),
         ("blank types", "false false blank \"types\""),
         ("Types", "false false list \"Types\""),
+        ("--json", "false false json list"),
+        ("--json list a b", "false false json list \"a\" \"b\""),
+        ("--json sig a -- b", "false false json <a> \"b\""),
+        ("--json --allow-confusing sig", "true false json"),
+        ("--strict-underscores --json", "false true json list"),
+        ("--json --json", "!--json"),
+        ("--json --allow-confusing --json", "!--json"),
+        ("--json play", "!play"),
+        ("--json blank", "!blank"),
+        ("--json types", "!types"),
+        ("--json -- play", "false false json list \"play\""),
+        ("list --json", "!--json"),
+        ("sig a --json", "!--json"),
+        ("--json sig --json", "!--json"),
+        ("--json=x", "!--json=x"),
         ("--help", "help"),
         ("-h sig", "help"),
         ("--version", "version"),
@@ -284,6 +306,10 @@ fn outcomes(rt: HostRuntime) -> Result<(), Fail> {
         (
             Outcome::Wrong("--json=x"),
             "wat_tokens: unknown option: --json=x\n",
+        ),
+        (
+            Outcome::Wrong("--json"),
+            "wat_tokens: misplaced option: --json\n",
         ),
         (Outcome::Wrong("-h"), "wat_tokens: misplaced option: -h\n"),
         (Outcome::Wrong("x"), "wat_tokens: unexpected word: x\n"),

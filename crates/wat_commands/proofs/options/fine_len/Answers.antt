@@ -1,4 +1,4 @@
-use Rattle.std.proofs.Common.{rules, arith}
+use Rattle.std.proofs.Common.{arith}
 use Rattle.wat_commands.proofs.OptionLaws.{none_ask}
 use Rattle.wat_commands.proofs.options.fine_len.Goals as goal
 

@@ -10,6 +10,12 @@ returns-in-List g c = rw c.in-List.is (ran c.run_list.result c.of_run.result c.r
 pub returns-in-Sig : goal.returns-in-Sig
 returns-in-Sig g c = rw c.in-Sig.is (ran c.run_sig.result c.of_run-in-Sig.result c.run_sig.ensures c.of_run-in-Sig.ensures)
 
+pub returns-in-JsonList : goal.returns-in-JsonList
+returns-in-JsonList g c = rw c.in-JsonList.is (ran c.run_json_list.result c.of_run-in-JsonList.result c.run_json_list.ensures c.of_run-in-JsonList.ensures)
+
+pub returns-in-JsonSig : goal.returns-in-JsonSig
+returns-in-JsonSig g c = rw c.in-JsonSig.is (ran c.run_json_sig.result c.of_run-in-JsonSig.result c.run_json_sig.ensures c.of_run-in-JsonSig.ensures)
+
 pub returns-in-Ok : goal.returns-in-Ok
 returns-in-Ok g c =
     let runs = rw c.deref.ensures.value at c.run_play.ensures in

@@ -1,4 +1,5 @@
-use Rattle.std.proofs.Common.{rules, refl, None}
+use Rattle.std.proofs.Common.{refl, None}
+use Rattle.wat_commands.specs.JsonLists.{JsonShows}
 use Rattle.wat_commands.specs.Replies.{Plays}
 use Rattle.wat_commands.specs.Shows.{Shows}
 use Rattle.wat_commands.proofs.PrintLaws.{writes_as}
@@ -12,6 +13,15 @@ returns-in_ok-lines-in-Shown-clause-printed g c =
     let shown = c.in_ok-lines-in-Shown.ensures in
     rw c.in-Shown.is (writes_as g.W.Sink.held g.W.Sink.failure (Shows c.args.settings c.in-Shown.names.now c.args.text.now) _ _ c.deref.result.now _ c.print_text.result
     (record { utf8 = c.utf8.text; short = c.requires.text; shown = rw c.deref.ensures.value shown }) c.print_text.ensures.printed)
+
+pub returns-in-JsonRaw-clause-printed : goal.returns-in-JsonRaw-clause-printed
+returns-in-JsonRaw-clause-printed g c = rw c.in-JsonRaw.is c.print_json.ensures.printed
+
+pub returns-in_ok-rows-in-JsonShown-clause-printed : goal.returns-in_ok-rows-in-JsonShown-clause-printed
+returns-in_ok-rows-in-JsonShown-clause-printed g c =
+    let shown = c.in_ok-rows-in-JsonShown.ensures in
+    rw c.in-JsonShown.is (writes_as g.W.Sink.held g.W.Sink.failure (JsonShows c.args.settings c.in-JsonShown.names.now c.args.text.now) _ _ c.deref-in-JsonShown.result.now _ c.print_text-in-JsonShown.result
+    (record { utf8 = c.utf8.text; short = c.requires.text; shown = rw c.deref-in-JsonShown.ensures.value shown }) c.print_text-in-JsonShown.ensures.printed)
 
 pub returns-in_ok-replies-in-Replies-clause-printed :
     goal.returns-in_ok-replies-in-Replies-clause-printed

@@ -1,4 +1,3 @@
-use Rattle.std.proofs.Common.{◌≡◌}
 use Rattle.wat_commands.specs.Outcomes.{task_prints}
 use Rattle.wat_commands.specs.Responses.{RanFile}
 use Rattle.wat_commands.proofs.RespondLaws.{RanSoFar}

@@ -1,4 +1,5 @@
 use Rattle.std.proofs.Common.{◌≡◌, ◌≤◌, length, ◌-◌}
+use Rattle.wat_commands.specs.Lists.{line}
 use Rattle.wat_commands.proofs.ShownLaws.{ShownSoFar}
 use Rattle.wat_commands.proofs.show.lines_from.Given as goal
 
@@ -6,7 +7,7 @@ abbrev pub invariant-tokens : goal.invariant-tokens
 invariant-tokens l = record {
   parser : l.cursor.parser ≡ l.fn.from.parser;
   on : l.fn.from.at ≤ l.cursor.at;
-  shown : ShownSoFar l.fn.from.parser.now.source l.fn.from.parser.now.names l.fn.from.at l.cursor.at l.lines.items;
+  shown : ShownSoFar line l.fn.from.parser.now.source l.fn.from.parser.now.names l.fn.from.at l.cursor.at l.lines.items;
 }
 
 abbrev pub decreases-tokens : goal.decreases-tokens

@@ -1,0 +1,113 @@
+#!/usr/bin/env python3
+"""Reads what the program writes with --json by Python's own parser of JSON, and compares each object with the row of the plain list and with
+the text: offset, length, kind and text, and line and column, which are counted here once more. The report and the exit status must be those of
+the plain list. The texts are those of crates/wat_tokens/agreement, generated ones, and some with each byte that is escaped. At some tokens of
+plain ASCII the text is cut and a fault put behind it, whose message must tell the object's line and column.
+
+usage: tools/check_json.py PROGRAM [FILE..]     these files in place of the texts
+"""
+import bisect
+import json
+import pathlib
+import re
+import subprocess
+import sys
+
+sys.dont_write_bytecode = True
+import kinds  # noqa: E402
+
+TOOLS = pathlib.Path(__file__).resolve().parent
+AGREEMENT = TOOLS.parent / "crates/wat_tokens/agreement"
+ROW = re.compile(rb"(\d+)\.\.(\d+) (\w+)")
+MEMBERS = ["offset", "length", "kind", "text", "line", "column"]
+ODD = [
+    ";;" + "".join(chr(c) for c in range(128) if c not in (10, 13)) + "\n(;" + "".join(chr(c) for c in range(128)) + ";)x",
+    "(;\r\n\n\r\t;)\r\n \"\\\"\\\\\\u{22}\" ;;\\\n\n$x",
+    ";;\u2028\u2029\u00e9\u6f22\U0001f600\ufffd\x7f \"\u00e9\U0001f600\" (; \u6f22\n\u00e9 ;) x",
+    "\n" * 300 + "x" * 300 + " y\n",
+]
+
+
+def run(program, options, text):
+    done = subprocess.run([program, *options], input=text, capture_output=True, check=False)
+    return done.returncode, done.stderr, done.stdout
+
+
+def faults(text, rows, lines):
+    """What is wrong with the lines of JSON of a text, beside the rows of its plain list."""
+    if len(rows) != len(lines):
+        yield f"{len(lines)} lines for {len(rows)} rows"
+    starts = [0] + [at + 1 for at, byte in enumerate(text) if byte == 10]
+    for row, line in zip(rows, lines):
+        start, end, kind = ROW.fullmatch(row).groups()
+        start, end = int(start), int(end)
+        number = bisect.bisect(starts, start)
+        wanted = [start, end - start, kind.decode(), text[start:end].decode(), number, start - starts[number - 1] + 1]
+        told = json.loads(line.decode())
+        if list(told) != MEMBERS or list(told.values()) != wanted:
+            yield f"{line!r} in place of {wanted}"
+
+
+def misplaced(program, text, lines):
+    """Where a fault's message tells another place than the object of the token that stood there: at every so many tokens of plain ASCII."""
+    plain = all(byte in (10, 13) or 32 <= byte < 127 for byte in text)
+    for line in lines[:: max(1, len(lines) // 8)] if plain else []:
+        told = json.loads(line.decode())
+        cut = text[: told["offset"]] + b"\x7f"
+        message = run(program, [], cut)[1].decode()
+        # The end of a line comment is none where the fault's character stands in place of the line end.
+        if message and told["column"] <= 500 and f"<anon>:{told['line']}:{told['column']}\n" not in message:
+            yield f"{line!r}, and the message {message!r}"
+
+
+def check(program, name, text):
+    """What is wrong with a text's lists as JSON, and how many objects there were."""
+    wrong, objects = [], 0
+    for command in (["list"], ["sig"], ["--allow-confusing", "sig", "a"]):
+        status, report, rows = run(program, command, text)
+        told, reported, lines = run(program, ["--json", *command], text)
+        if (told, reported) != (status, report):
+            wrong.append(f"status {told} in place of {status}, or another report")
+        lines = lines.splitlines(keepends=True)
+        wrong += [f"no line end: {line!r}" for line in lines if not line.endswith(b"}\n")]
+        wrong += faults(text, rows.splitlines(), lines)
+        objects += len(lines)
+        if command == ["list"]:
+            wrong += misplaced(program, text, lines)
+    return [f"{name}: {fault}" for fault in wrong], objects
+
+
+def generated():
+    """Texts of the generators: one of all, and one of each kind."""
+    yield "generate.py", subprocess.run([sys.executable, TOOLS / "generate.py", "0.05"], capture_output=True, check=True).stdout
+    yield from ((name, "".join(piece() for _ in range(40)).encode()) for name, piece in kinds.PIECES.items())
+    yield from ((name, make(4000).encode()) for name, make in kinds.WHOLE.items())
+
+
+def texts(files):
+    if files:
+        yield from ((file, pathlib.Path(file).read_bytes()) for file in files)
+        return
+    yield from ((f"text {place}", text.encode()) for place, text in enumerate(ODD))
+    yield from generated()
+    for file in sorted(AGREEMENT.iterdir()):
+        if not file.suffix:
+            yield file.name, file.read_bytes()
+
+
+def main():
+    if len(sys.argv) < 2:
+        print(__doc__.rsplit("\n\n", 1)[1].strip(), file=sys.stderr)
+        return 2
+    wrong, objects, count = [], 0, 0
+    for name, text in texts(sys.argv[2:]):
+        found, lines = check(sys.argv[1], name, text)
+        wrong += found
+        objects += lines
+        count += 1
+    print("\n".join([*wrong[:20], f"check_json.py: {objects} objects of {count} texts, {len(wrong)} faults"]))
+    return 1 if wrong or not objects else 0
+
+
+if __name__ == "__main__":
+    sys.exit(main())
