@@ -1,0 +1,4 @@
+pub mod Sorts
+pub mod Layout
+pub mod Formatting
+pub mod inside

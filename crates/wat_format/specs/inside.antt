@@ -1,0 +1,3 @@
+-- What private functions promise each other.
+pub mod Tests
+pub mod Steps

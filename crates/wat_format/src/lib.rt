@@ -1,0 +1,11 @@
+//! A formatter of WebAssembly text that loses nothing: it writes each raw token of a text, comments
+//! among them, byte for byte in its order, and settles only what stands between two of them.
+#![tactic(auto)]
+
+pub mod error;
+pub mod format;
+mod formatter;
+mod gap;
+mod group;
+mod sort;
+mod tests;
