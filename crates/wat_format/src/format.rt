@@ -1,5 +1,6 @@
 //! Formatting a whole text.
 ghost use Rattle.std.specs.Prelude.{◌≡◌, ◌≤◌, ◌<◌, ◌^◌, length, IfOk, IfErr, string_bytes};
+ghost use Rattle.std.specs.Str.{IsCharBoundary};
 ghost use Rattle.wat_format.specs.Formatting.{Formatted, Refuses};
 ghost use Rattle.wat_format.specs.inside.Steps.{EndsFrom};
 
@@ -23,7 +24,10 @@ fn lexer_of<'a>(text: &'a str, settings: Settings) -> Lexer<'a>
 }
 
 /// The fault of a lexer's text from a place on, where it has one there.
-fn fault_from(lexer: &Lexer<'_>, start: usize) -> Option<LexFault> {
+fn fault_from(lexer: &Lexer<'_>, start: usize) -> Option<LexFault>
+    requires { IsCharBoundary lexer.now.text start }
+    ensures { EndsFrom lexer.now start result }
+{
     let mut pos = start;
     'tokens: loop {
         match lexer.scan(pos) {
@@ -49,7 +53,7 @@ pub fn format(alloc: Global, text: &str, settings: Settings) -> Result<String, E
     'tokens: loop {
         match lexer.scan(pos) {
             Ok(Some(token)) => {
-                formatter.lay(&mut out, text, &token)?;
+                formatter.take(&mut out, text, &token)?;
                 pos = token.offset + token.len as usize;
                 if out.len() > MOST {
                     return Err(too_long(&lexer, pos));
@@ -59,7 +63,7 @@ pub fn format(alloc: Global, text: &str, settings: Settings) -> Result<String, E
             Err(fault) => return Err(Error::Fault(fault)),
         }
     }
-    formatter.finish(&mut out)?;
+    formatter.finish(&mut out, text)?;
     if out.len() > MOST {
         return Err(Error::TooLong);
     }

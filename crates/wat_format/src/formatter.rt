@@ -1,31 +1,28 @@
 //! A formatter: it takes the raw tokens of a text one by one, and writes them as they are laid out.
-ghost use Rattle.std.specs.Prelude.{◌≡◌, ◌≤◌, ◌<◌, ◌+◌, ◌^◌, ◌++◌, IfOk, OnOk, List, length};
-ghost use Rattle.std.specs.Prelude.{string_bytes, replicate};
+ghost use Rattle.std.specs.Prelude.{◌≡◌, ◌≤◌, ◌<◌, ◌+◌, ◌^◌, ◌++◌, OnOk, [], string_bytes};
 ghost use Rattle.std.specs.Str.{IsCharBoundary};
-ghost use Rattle.wat_lex.specs.declared.lexer.kinds.Token.{Token};
-ghost use Rattle.wat_format.specs.Layout.{State, start, gap_of, gap_text, groups_behind, laid};
-ghost use Rattle.wat_format.specs.inside.Steps.{Few, Lays};
+ghost use Rattle.wat_format.specs.Layout.{behind, gap_before, gap_of, laid, line_level, start};
+ghost use Rattle.wat_format.specs.inside.Steps.{Few, Lays, Writes};
 
+use crate::blanks::push_gap;
 use crate::gap::{Gap, gap_of};
-use crate::group::Group;
+use crate::group::Groups;
 use crate::sort::{Sort, sort_of};
 use std::alloc::{AllocError, Global};
 use std::marker::Model;
 use wat_lex::lexer::{Token, TokenKind};
 
-/// Where a layout stands between two tokens. It takes eight bytes for each open group.
+/// Where a layout stands between two tokens.
 #[derive(Drop)]
 pub struct Formatter {
     before: Option<Sort>,
     gap: Gap,
     line: u32,
-    group: Group,
-    around: Vec<Group>,
+    groups: Groups,
 }
 
 impl Model for Formatter {
     ghost use Rattle.std.specs.Prelude.{◌≤◌};
-    ghost use Rattle.std.specs.List.{reverse};
     ghost use Rattle.wat_format.specs.Layout.{State};
 
     ghost Value = { State };
@@ -34,46 +31,10 @@ impl Model for Formatter {
       before = f.before;
       gap = f.gap;
       line = f.line;
-      group = f.group;
-      around = reverse f.around.items;
+      groups = f.groups;
     } };
 
     ghost invariant = { λ f. f.line ≤ 50 };
-}
-
-/// As many blanks as an indentation has at most.
-const BLANKS: &str =
-    "                                                                                                    ";
-
-/// Writes blanks behind a text.
-fn push_blanks(out: &mut String, count: usize) -> Result<(), AllocError>
-    ensures { OnOk result (string_bytes out.new ≡ string_bytes out.old ++ replicate count 32) }
-{
-    let mut left = count;
-    while left > BLANKS.len() {
-        out.push_str(BLANKS)?;
-        left -= BLANKS.len();
-    }
-    out.push_str(&BLANKS[..left])
-}
-
-/// Writes a gap before a line of this level.
-fn push_gap(out: &mut String, gap: Gap, level: u32) -> Result<(), AllocError>
-    requires { level ≤ 50 }
-    ensures { OnOk result (string_bytes out.new ≡ string_bytes out.old ++ gap_text gap level) }
-{
-    match gap {
-        Gap::Touching => Ok(()),
-        Gap::Blanks(count) => push_blanks(out, count),
-        Gap::LineEnd => {
-            out.push_str("\n")?;
-            push_blanks(out, 2 * level as usize)
-        }
-        Gap::EmptyLine => {
-            out.push_str("\n\n")?;
-            push_blanks(out, 2 * level as usize)
-        }
-    }
 }
 
 impl Formatter {
@@ -85,71 +46,84 @@ impl Formatter {
             before: None,
             gap: Gap::Touching,
             line: 0,
-            group: Group {
-                floor: 0,
-                blocks: 0,
-            },
-            around: Vec::new(alloc),
+            groups: Groups::new(alloc),
         }
     }
 
     /// What is written between the token before and one of this sort.
-    fn gap_before(&self, sort: Sort) -> Gap {
+    fn gap_before(&self, sort: Sort) -> Gap
+        ensures { result ≡ gap_before sort self.now }
+    {
         match self.before {
             None => Gap::Touching,
             Some(before) => self.gap.settled(before, sort),
         }
     }
 
-    /// Opens and closes groups and flat blocks behind a token of this sort.
-    fn pass(&mut self, sort: Sort) -> Result<(), AllocError> {
-        match sort {
-            Sort::Open => {
-                self.around.push(self.group)?;
-                self.group = Group {
-                    floor: self.line + 1,
-                    blocks: 0,
-                };
-            }
-            Sort::Close => {
-                if let Some(outer) = self.around.pop() {
-                    self.group = outer;
-                }
-            }
-            Sort::Begins => self.group.blocks += 1,
-            Sort::Ends => self.group.blocks = self.group.blocks.saturating_sub(1),
-            _ => {}
-        }
+    /// The level of the line on which a token of this sort stands behind this gap.
+    fn line_level(&self, sort: Sort, gap: Gap) -> u32
+        ensures level { result ≡ line_level sort gap self.now }
+        ensures low { result ≤ 50 }
+    {
+        if gap.is_break() { self.groups.level(sort) } else { self.line }
+    }
+
+    /// Goes on behind a token of this sort, on a line of this level.
+    fn pass(&mut self, sort: Sort, line: u32) -> Result<(), AllocError>
+        requires line { line ≤ 50 }
+        requires few { self.old.groups.open_group.blocks + 1 < 2 ^ 32 }
+        ensures { OnOk result (self.new ≡ behind sort line self.old) }
+    {
+        self.groups.pass(sort, line)?;
+        self.before = Some(sort);
+        self.gap = Gap::Touching;
+        self.line = line;
         Ok(())
     }
 
-    /// Writes a token of the text, and what stands between the token before and it.
-    pub fn lay(&mut self, out: &mut String, text: &str, token: &Token) -> Result<(), AllocError>
+    /// Goes on behind white space.
+    fn pass_white(&mut self, white: &str)
+        ensures { self.new ≡ record self.old { gap = gap_of white.now } }
+    {
+        self.gap = gap_of(white.as_bytes());
+    }
+
+    /// Writes a token, and what stands between the token before and it.
+    fn write(&mut self, out: &mut String, kind: TokenKind, word: &str) -> Result<(), AllocError>
+        requires { self.old.groups.open_group.blocks + 1 < 2 ^ 32 }
+        ensures { OnOk result (Writes kind word.now self.old self.new (string_bytes out.old) (string_bytes out.new)) }
+    {
+        let sort = sort_of(self.before, kind, word);
+        let gap = self.gap_before(sort);
+        let line = self.line_level(sort, gap);
+        push_gap(out, gap, line)?;
+        out.push_str(word)?;
+        self.pass(sort, line)
+    }
+
+    /// Takes a token of the text.
+    pub fn take(&mut self, out: &mut String, text: &str, token: &Token) -> Result<(), AllocError>
         requires start { IsCharBoundary text.now token.now.offset }
         requires end { IsCharBoundary text.now (token.now.offset + token.now.len) }
-        ensures { OnOk result (Lays text.now self.old token.now self.new
+        requires short { token.now.offset + token.now.len < 2 ^ 32 }
+        requires some { 0 < token.now.len }
+        requires few { Few token.now.offset self.old }
+        ensures written { OnOk result (Lays text.now self.old token.now self.new
             (string_bytes out.old) (string_bytes out.new)) }
+        ensures few { OnOk result (Few (token.now.offset + token.now.len) self.new) }
     {
         let word = &text[token.offset..token.offset + token.len as usize];
         if token.kind == TokenKind::Whitespace {
-            self.gap = gap_of(word.as_bytes());
+            self.pass_white(word);
             return Ok(());
         }
-        let sort = sort_of(self.before, token.kind, word);
-        let gap = self.gap_before(sort);
-        if gap.is_break() {
-            self.line = self.group.level(sort);
-        }
-        push_gap(out, gap, self.line)?;
-        out.push_str(word)?;
-        self.pass(sort)?;
-        self.before = Some(sort);
-        self.gap = Gap::Touching;
-        Ok(())
+        self.write(out, token.kind, word)
     }
 
     /// Writes the line end behind the last token.
-    pub fn finish(&self, out: &mut String) -> Result<(), AllocError> {
+    pub fn finish(&self, out: &mut String, text: &str) -> Result<(), AllocError>
+        ensures { OnOk result (string_bytes out.new ≡ string_bytes out.old ++ laid text.now self.now []) }
+    {
         match self.before {
             None => Ok(()),
             Some(_) => out.push_str("\n"),

@@ -2,6 +2,7 @@
 //! among them, byte for byte in its order, and settles only what stands between two of them.
 #![tactic(auto)]
 
+mod blanks;
 pub mod error;
 pub mod format;
 mod formatter;
