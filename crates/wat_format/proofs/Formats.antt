@@ -1,5 +1,5 @@
 -- A formatter that goes over a text, token by token.
-use Rattle.std.proofs.Common.{◌≡◌, ◌+◌, ◌≤◌, ◌<◌, ◌^◌, ℕ, List, [], ◌∷◌, ◌++◌, length, refl, sym, ap, ◌∙◌, subst, arith, length-append}
+use Rattle.std.proofs.Common.{◌≡◌, ◌+◌, ◌≤◌, ◌^◌, ℕ, List, [], ◌∷◌, ◌++◌, length, refl, sym, ap, ◌∙◌, subst, arith, length-append}
 use Rattle.std.specs.Prelude.{Option, Some, None}
 use Rattle.std.specs.Str.{IsCharBoundary}
 use Rattle.wat_lex.specs.tokens.Faults.{FaultAt}
@@ -9,9 +9,9 @@ use Rattle.wat_lex.specs.declared.lexer.faults.LexFault.{LexFault}
 use Rattle.wat_lex.specs.declared.lexer.kinds.Token.{Token}
 use Rattle.wat_format.specs.Formatting.{Formatted, Refuses}
 use Rattle.wat_format.specs.Layout.{State, start, laid, layout}
-use Rattle.wat_format.specs.inside.Steps.{Lays, EndsFrom, Whole, Formats}
+use Rattle.wat_format.specs.inside.Steps.{Lays, EndsFrom, EndsSo, Formats}
 use Rattle.wat_format.specs.declared.error.Error.{Error}
-use Rattle.wat_format.specs.declared.error.Error.TheVariants.{Fault, TooLong}
+use Rattle.wat_format.specs.declared.error.Error.TheVariants.{Memory, Fault, TooLong}
 
 -- the places behind a token
 pub boundary_behind : (s : Setting) (pos : ℕ) (t : Token) → TokenAt s pos t → IsCharBoundary s.text (pos + t.len) → IsCharBoundary s.text (t.offset + t.len)
@@ -49,13 +49,15 @@ formatted s pos state out out' h e k =
 pub refused_at : (s : Setting) (pos : ℕ) (state : State) (out : List ℕ) (f : LexFault) → Formats s pos state out → FaultAt s pos f → Refuses s (Fault f)
 refused_at s pos state out f h e = let w = h [] (Some f) (tiled_at_end s pos (Some f) e) in (w.all, w.tiling)
 
--- what was written is too long already
-pub refused_later : (s : Setting) (pos : ℕ) (state : State) (out : List ℕ) (f : LexFault) → Formats s pos state out → EndsFrom s pos (Some f) → Refuses s (Fault f)
-refused_later s pos state out f h e = let w = h e.tokens (Some f) e.tiling in (w.all, w.tiling)
-
-pub too_long_later : (s : Setting) (pos : ℕ) (state : State) (out : List ℕ) → Formats s pos state out → EndsFrom s pos None → 2 ^ 32 ≤ length out → Refuses s TooLong
+too_long_later : (s : Setting) (pos : ℕ) (state : State) (out : List ℕ) → Formats s pos state out → EndsFrom s pos None → 2 ^ 32 ≤ length out → Refuses s TooLong
 too_long_later s pos state out h e long =
     let w = h e.tokens None e.tiling in
     let rest : List ℕ = laid s.text state e.tokens in
     let size : length (layout s.text w.all) ≡ length out + length rest = ap length w.laid_out ∙ length-append out rest in
     (layout s.text w.all, record { tokens = w.all; tiling = w.tiling; laid = refl }, omega arith)
+
+-- what was written is too long already
+pub refused_later : (s : Setting) (pos : ℕ) (state : State) (out : List ℕ) (e : Error) → Formats s pos state out → 2 ^ 32 ≤ length out → EndsSo s pos e → Refuses s e
+refused_later s pos state out (Memory r) h long e = tt
+refused_later s pos state out (Fault f) h long e = let w = h e.tokens (Some f) e.tiling in (w.all, w.tiling)
+refused_later s pos state out TooLong h long e = too_long_later s pos state out h e long

@@ -1,11 +1,11 @@
 -- What one token adds to a layout.
-use Rattle.std.proofs.Common.{◌≡◌, ◌+◌, ◌-◌, ◌≤◌, ◌<◌, ℕ, Bool, true, false, List, [], ◌∷◌, ◌++◌, take, drop, refl, sym, ap, ◌∙◌, subst, arith, append_assoc, if◌then◌else◌}
+use Rattle.std.proofs.Common.{◌≡◌, ◌+◌, ◌-◌, ◌≤◌, ◌<◌, ℕ, true, false, List, [], ◌∷◌, ◌++◌, take, drop, refl, sym, ap, ◌∙◌, subst, arith, append_assoc}
 use Rattle.std.proofs.lemmas.List.Elements.{All-weaker, All-cons, All-head, All-tail, All-nil}
-use Rattle.std.specs.Prelude.{Result, Ok, Err, OnOk, Option, Some, None}
+use Rattle.std.specs.Prelude.{Result, Ok, Err, OnOk}
 use Rattle.std.specs.List.{All}
 use Rattle.wat_lex.specs.tokens.ReadableTokens.{token_text}
 use Rattle.wat_lex.specs.declared.lexer.kinds.Token.{Token}
-use Rattle.wat_format.specs.Layout.{State, Groups, laid, gap_of, gap_before, line_level, gap_text, behind, groups_behind, closed, is_white}
+use Rattle.wat_format.specs.Layout.{State, Groups, laid, gap_of, gap_before, line_level, gap_text, behind, groups_behind, closed, is_white, start}
 use Rattle.wat_format.specs.Sorts.{sort_of}
 use Rattle.wat_format.specs.inside.Steps.{HasFew, Few, Writes, Lays}
 use Rattle.wat_format.specs.declared.group.Group.{Group}
@@ -61,3 +61,10 @@ pub few_behind : (n m l : ℕ) (y : Sort) (s s' : State) → n < m → s' ≡ be
 few_behind n m l y s s' lt e h =
     let k = few_groups n m l y s.groups lt h.open_group h.around in
     subst (λ x. Few m x) (sym e) (record { open_group = k.0; around = k.1 })
+
+pub few_start : (s : State) → s ≡ start → Few 0 s
+few_start s e = subst (λ x. Few 0 x) (sym e) (record { open_group = omega arith; around = All-nil (HasFew 0) })
+
+-- a text that is seen by another name
+pub lays_in : (text text' : List ℕ) (s s' : State) (t : Token) (out out' : List ℕ) → text ≡ text' → Lays text s t s' out out' → Lays text' s t s' out out'
+lays_in text text' s s' t out out' e h ts = subst (λ x. out ++ laid x s (t ∷ ts) ≡ out' ++ laid x s' ts) e (h ts)

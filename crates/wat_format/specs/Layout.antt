@@ -11,7 +11,7 @@ use Rattle.wat_format.specs.declared.gap.Gap.{Gap}
 use Rattle.wat_format.specs.declared.gap.Gap.TheVariants.{Touching, Blanks, LineEnd, EmptyLine}
 use Rattle.wat_format.specs.declared.group.Group.{Group}
 use Rattle.wat_format.specs.declared.sort.Sort.{Sort}
-use Rattle.wat_format.specs.declared.sort.Sort.TheVariants.{Open, Close, Comment, Mark, At, Begins, Ends, Parts, Other}
+use Rattle.wat_format.specs.declared.sort.Sort.TheVariants.{Open, Close, Comment, Mark, At, Begins, Ends, Parts}
 
 -- the line ends in white space behind the byte p: each LF and each CR, but CR LF is one
 abbrev pub line_ends : ℕ → List ℕ → ℕ

@@ -1,5 +1,5 @@
 -- WebAssembly specification, text format. Lexical format: tokens. Instructions: control instructions. What a layout tells apart among tokens.
-use Rattle.std.specs.Prelude.{ℕ, Bool, true, false, ◌||◌, ◌==◌, List, [], ◌∷◌, Option, Some, None, codes, bytes_eq, if◌then◌else◌}
+use Rattle.std.specs.Prelude.{ℕ, Bool, ◌||◌, ◌==◌, List, [], ◌∷◌, Option, Some, codes, bytes_eq, if◌then◌else◌}
 use Rattle.std.specs.Char.{char_set_contains}
 use Rattle.wat_lex.specs.grammar.Classes.{at_sign}
 use Rattle.wat_lex.specs.declared.lexer.kinds.TokenKind.{TokenKind}

@@ -30,7 +30,10 @@ impl fmt::Display for Error {
         match self {
             Error::Memory(_) => write!(f, "out of memory"),
             Error::Fault(fault) => write!(f, "{} at byte offset {}", fault.error, fault.offset),
-            Error::TooLong => write!(f, "the formatted text would be longer than 4294967295 bytes"),
+            Error::TooLong => write!(
+                f,
+                "the formatted text would be longer than 4294967295 bytes"
+            ),
         }
     }
 }

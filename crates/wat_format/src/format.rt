@@ -2,7 +2,7 @@
 ghost use Rattle.std.specs.Prelude.{◌≡◌, ◌≤◌, ◌<◌, ◌^◌, length, IfOk, IfErr, string_bytes};
 ghost use Rattle.std.specs.Str.{IsCharBoundary};
 ghost use Rattle.wat_format.specs.Formatting.{Formatted, Refuses};
-ghost use Rattle.wat_format.specs.inside.Steps.{EndsFrom};
+ghost use Rattle.wat_format.specs.inside.Steps.{EndsFrom, EndsSo};
 
 use crate::error::Error;
 use crate::formatter::Formatter;
@@ -71,7 +71,10 @@ pub fn format(alloc: Global, text: &str, settings: Settings) -> Result<String, E
 }
 
 /// The refusal of a text whose layout up to a place is too long.
-fn too_long(lexer: &Lexer<'_>, pos: usize) -> Error {
+fn too_long(lexer: &Lexer<'_>, pos: usize) -> Error
+    requires { IsCharBoundary lexer.now.text pos }
+    ensures { EndsSo lexer.now pos result }
+{
     match fault_from(lexer, pos) {
         Some(fault) => Error::Fault(fault),
         None => Error::TooLong,

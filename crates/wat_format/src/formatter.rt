@@ -7,7 +7,7 @@ ghost use Rattle.wat_format.specs.inside.Steps.{Few, Lays, Writes};
 use crate::blanks::push_gap;
 use crate::gap::{Gap, gap_of};
 use crate::group::Groups;
-use crate::sort::{Sort, sort_of};
+use crate::sort::{Sort, is_white, sort_of};
 use std::alloc::{AllocError, Global};
 use std::marker::Model;
 use wat_lex::lexer::{Token, TokenKind};
@@ -65,7 +65,11 @@ impl Formatter {
         ensures level { result ≡ line_level sort gap self.now }
         ensures low { result ≤ 50 }
     {
-        if gap.is_break() { self.groups.level(sort) } else { self.line }
+        if gap.is_break() {
+            self.groups.level(sort)
+        } else {
+            self.line
+        }
     }
 
     /// Goes on behind a token of this sort, on a line of this level.
@@ -113,7 +117,7 @@ impl Formatter {
         ensures few { OnOk result (Few (token.now.offset + token.now.len) self.new) }
     {
         let word = &text[token.offset..token.offset + token.len as usize];
-        if token.kind == TokenKind::Whitespace {
+        if is_white(token.kind) {
             self.pass_white(word);
             return Ok(());
         }

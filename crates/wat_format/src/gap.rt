@@ -66,21 +66,37 @@ impl Gap {
         ensures { result ≡ settled before behind self }
     {
         if before.is_comment() {
-            return if behind.is_close() { Gap::LineEnd } else { self };
+            return if behind.is_close() {
+                Gap::LineEnd
+            } else {
+                self
+            };
         }
         if behind.is_comment() {
             let is_off = matches!(self, Gap::Touching) || (before.is_open() && self.is_break());
             return if is_off { Gap::Blanks(1) } else { self };
         }
         if before.is_open() {
-            return if behind.may_part() { self.kept() } else { Gap::Touching };
+            return if behind.may_part() {
+                self.kept()
+            } else {
+                Gap::Touching
+            };
         }
         if self.is_break() {
-            return if behind.is_close() { Gap::LineEnd } else { self };
+            return if behind.is_close() {
+                Gap::LineEnd
+            } else {
+                self
+            };
         }
         if before.is_mark() || behind.is_mark() {
             return self.kept();
         }
-        if behind.is_close() { Gap::Touching } else { Gap::Blanks(1) }
+        if behind.is_close() {
+            Gap::Touching
+        } else {
+            Gap::Blanks(1)
+        }
     }
 }

@@ -1,5 +1,6 @@
 //! What a layout tells apart among tokens.
 ghost use Rattle.std.specs.Prelude.{◌≡◌, Option};
+ghost use Rattle.wat_format.specs.Layout.{is_white};
 ghost use Rattle.wat_format.specs.Sorts.{begins_block, ends_block, parts_block, is_mark_byte};
 ghost use Rattle.wat_format.specs.Sorts.{sort_by_first, sort_of, sort_of_keyword};
 ghost use Rattle.wat_format.specs.inside.Tests.{is_open, is_close, is_comment, is_mark, may_part};
@@ -60,6 +61,13 @@ impl Sort {
     {
         matches!(self, Sort::Mark | Sort::At)
     }
+}
+
+/// Whether a token of this kind is white space.
+pub fn is_white(kind: TokenKind) -> bool
+    ensures { result ≡ is_white kind }
+{
+    matches!(kind, TokenKind::Whitespace)
 }
 
 /// The sort of a token of this kind, by its text and by the sort of the token before it.

@@ -18,7 +18,10 @@ fn rows(rt: HostRuntime) -> Result<(), Fail> {
         ("( module\n(func)\r\n\r\n\n )", "(module\n  (func)\n)\n"),
         ("a;;b\n)", "a ;;b\n)\n"),
         ("(@a b) ( @a) (;c;)(d", "(@a b) ( @a) (;c;) (d\n"),
-        ("block\nbr 0\nelse\nend\n( end", "block\n  br 0\nelse\nend\n(end\n"),
+        (
+            "block\nbr 0\nelse\nend\n( end",
+            "block\n  br 0\nelse\nend\n(end\n",
+        ),
     ];
     for (text, want) in rows {
         match format(rt.alloc(), text, PLAIN) {

@@ -1,11 +1,13 @@
 -- What a formatter keeps from one token to the next.
-use Rattle.std.specs.Prelude.{◌≡◌, ◌≤◌, ◌++◌, ℕ, List, [], ◌∷◌, Option}
+use Rattle.std.specs.Prelude.{◌≡◌, ◌≤◌, ◌++◌, ℕ, List, ◌∷◌, Option, Some, None}
 use Rattle.std.specs.List.{All}
 use Rattle.wat_lex.specs.tokens.Setting.{Setting}
 use Rattle.wat_lex.specs.tokens.Tiling.{MaximalTiling}
 use Rattle.wat_lex.specs.declared.lexer.faults.LexFault.{LexFault}
 use Rattle.wat_lex.specs.declared.lexer.kinds.Token.{Token}
 use Rattle.wat_lex.specs.declared.lexer.kinds.TokenKind.{TokenKind}
+use Rattle.wat_format.specs.declared.error.Error.{Error}
+use Rattle.wat_format.specs.declared.error.Error.TheVariants.{Memory, Fault, TooLong}
 use Rattle.wat_format.specs.declared.group.Group.{Group}
 use Rattle.wat_format.specs.Sorts.{sort_of}
 use Rattle.wat_format.specs.Layout.{State, laid, layout, gap_before, line_level, gap_text, behind}
@@ -31,6 +33,12 @@ Lays text s t s' out out' = (ts : List Token) → out ++ laid text s (t ∷ ts) 
 pub record EndsFrom (s : Setting) (p : ℕ) (ending : Option LexFault) : Type 0 where
   pub tokens : List Token
   pub tiling : MaximalTiling s p tokens ending
+
+-- the same of a text whose layout up to the place is too long already
+abbrev pub EndsSo : Setting → ℕ → Error → Type 0
+EndsSo s p (Memory refused) = ⊥
+EndsSo s p (Fault fault) = EndsFrom s p (Some fault)
+EndsSo s p TooLong = EndsFrom s p None
 
 -- the raw tokens of the text, if these are those from a place on, and that their layout is what was written and then what is written of these
 pub record Whole (s : Setting) (tokens : List Token) (ending : Option LexFault) (state : State) (out : List ℕ) : Type 0 where

@@ -1,5 +1,5 @@
-use Rattle.std.proofs.Common.{◌≡◌, ◌≤◌, ◌<◌, ◌-◌, length, take, List, ℕ, replicate, refl, subst, sym, arith, ◌∙◌, ap}
-use Rattle.std.proofs.lemmas.List.{take-replicate, length-replicate, get_or-replicate}
+use Rattle.std.proofs.Common.{◌≡◌, ◌≤◌, ◌-◌, take, List, ℕ, replicate, refl, subst, sym, arith, ◌∙◌, ap}
+use Rattle.std.proofs.lemmas.List.{take-replicate, get_or-replicate}
 use Rattle.std.specs.Str.{IsCharBoundary}
 use Rattle.wat_format.proofs.blanks.blanks.Goals as goal
 
