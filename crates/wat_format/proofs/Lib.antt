@@ -1,2 +1,3 @@
-mod Laying
 mod Formats
+mod Laying
+mod Streaming

@@ -1,4 +1,5 @@
 pub mod Sorts
 pub mod Layout
 pub mod Formatting
+pub mod Streams
 pub mod inside

@@ -12,7 +12,8 @@ use wat_lex::lexer::{LexFault, Lexer, Settings};
 /// The most bytes that an answer has, since places in it are to be `u32`.
 const MOST: usize = 4_294_967_295;
 
-fn lexer_of<'a>(text: &'a str, settings: Settings) -> Lexer<'a>
+/// The lexer of a text that is read with these settings.
+pub(crate) fn lexer_of<'a>(text: &'a str, settings: Settings) -> Lexer<'a>
     requires { length text.now < 2 ^ 32 }
     ensures { result ≡ record { text = text.now; flags = settings } }
 {
@@ -24,7 +25,7 @@ fn lexer_of<'a>(text: &'a str, settings: Settings) -> Lexer<'a>
 }
 
 /// The fault of a lexer's text from a place on, where it has one there.
-fn fault_from(lexer: &Lexer<'_>, start: usize) -> Option<LexFault>
+pub(crate) fn fault_from(lexer: &Lexer<'_>, start: usize) -> Option<LexFault>
     requires { IsCharBoundary lexer.now.text start }
     ensures { EndsFrom lexer.now start result }
 {

@@ -9,4 +9,5 @@ mod formatter;
 mod gap;
 mod group;
 mod sort;
+pub mod stream;
 mod tests;
