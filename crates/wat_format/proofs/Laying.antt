@@ -5,7 +5,8 @@ use Rattle.std.specs.Prelude.{Result, Ok, Err, OnOk}
 use Rattle.std.specs.List.{All}
 use Rattle.wat_lex.specs.tokens.ReadableTokens.{token_text}
 use Rattle.wat_lex.specs.declared.lexer.kinds.Token.{Token}
-use Rattle.wat_format.specs.Layout.{State, Groups, laid, gap_of, gap_before, line_level, gap_text, behind, groups_behind, closed, is_white, start}
+use Rattle.wat_format.specs.Gaps.{gap_of, gap_text}
+use Rattle.wat_format.specs.Layout.{State, Groups, laid, gap_before, line_level, behind, groups_behind, closed, is_white, start}
 use Rattle.wat_format.specs.Sorts.{sort_of}
 use Rattle.wat_format.specs.inside.Steps.{HasFew, Few, Writes, Lays}
 use Rattle.wat_format.specs.declared.group.Group.{Group}

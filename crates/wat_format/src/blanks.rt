@@ -1,7 +1,7 @@
 //! Blanks and line ends, as they are written.
 ghost use Rattle.std.specs.Prelude.{◌≡◌, ◌≤◌, ◌++◌, OnOk};
 ghost use Rattle.std.specs.Prelude.{string_bytes, replicate};
-ghost use Rattle.wat_format.specs.Layout.{gap_text};
+ghost use Rattle.wat_format.specs.Gaps.{gap_text};
 
 use crate::gap::Gap;
 use std::alloc::AllocError;

@@ -26,6 +26,11 @@ impl From<AllocError> for Error {
 }
 
 impl fmt::Display for Error {
+    ghost use Rattle.std.specs.Prelude.{Some};
+    ghost use Rattle.wat_format.specs.Errors.{printed};
+
+    ghost output = { λ e. Some (printed e) };
+
     fn fmt<W: fmt::Write>(&self, f: &mut fmt::Formatter<W>) -> fmt::Result {
         match self {
             Error::Memory(_) => write!(f, "out of memory"),

@@ -1,7 +1,8 @@
 //! A formatter: it takes the raw tokens of a text one by one, and writes them as they are laid out.
 ghost use Rattle.std.specs.Prelude.{◌≡◌, ◌≤◌, ◌<◌, ◌+◌, ◌^◌, ◌++◌, OnOk, [], string_bytes};
 ghost use Rattle.std.specs.Str.{IsCharBoundary};
-ghost use Rattle.wat_format.specs.Layout.{behind, gap_before, gap_of, laid, line_level, start};
+ghost use Rattle.wat_format.specs.Gaps.{gap_of};
+ghost use Rattle.wat_format.specs.Layout.{behind, gap_before, laid, line_level, start};
 ghost use Rattle.wat_format.specs.inside.Steps.{Few, Lays, Writes};
 
 use crate::blanks::push_gap;

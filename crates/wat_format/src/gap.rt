@@ -1,6 +1,6 @@
 //! What stands between two tokens.
 ghost use Rattle.std.specs.Prelude.{◌≡◌};
-ghost use Rattle.wat_format.specs.Layout.{gap_of, is_break, kept, settled};
+ghost use Rattle.wat_format.specs.Gaps.{gap_of, is_break, kept, settled};
 
 use crate::sort::Sort;
 

@@ -10,7 +10,7 @@ ghost use Rattle.wat_format.specs.inside.Writing.{CutsShort, Moves, StandsAt, St
 use crate::format::{fault_from, lexer_of};
 use crate::formatter::Formatter;
 use std::alloc::{AllocError, Global};
-use std::io;
+use std::{fmt, io};
 use wat_lex::lexer::{LexFault, Lexer, Settings, Token};
 
 /// Why a text was not written.
@@ -32,6 +32,21 @@ impl From<AllocError> for WriteError {
 
     fn from(refused: AllocError) -> WriteError {
         WriteError::Memory(refused)
+    }
+}
+
+impl fmt::Display for WriteError {
+    ghost use Rattle.std.specs.Prelude.{Some};
+    ghost use Rattle.wat_format.specs.Errors.{printed_of_writing};
+
+    ghost output = { λ e. Some (printed_of_writing e) };
+
+    fn fmt<W: fmt::Write>(&self, f: &mut fmt::Formatter<W>) -> fmt::Result {
+        match self {
+            WriteError::Memory(_) => write!(f, "out of memory"),
+            WriteError::Fault(fault) => write!(f, "{} at byte offset {}", fault.error, fault.offset),
+            WriteError::Failed(_) => write!(f, "write failed"),
+        }
     }
 }
 

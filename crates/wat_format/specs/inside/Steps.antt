@@ -10,7 +10,8 @@ use Rattle.wat_format.specs.declared.error.Error.{Error}
 use Rattle.wat_format.specs.declared.error.Error.TheVariants.{Memory, Fault, TooLong}
 use Rattle.wat_format.specs.declared.group.Group.{Group}
 use Rattle.wat_format.specs.Sorts.{sort_of}
-use Rattle.wat_format.specs.Layout.{State, laid, layout, gap_before, line_level, gap_text, behind}
+use Rattle.wat_format.specs.Gaps.{gap_text}
+use Rattle.wat_format.specs.Layout.{State, laid, layout, gap_before, line_level, behind}
 
 -- no group has more open blocks than this
 abbrev pub HasFew : ℕ → Group → Type 0

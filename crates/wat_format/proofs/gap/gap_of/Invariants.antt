@@ -1,5 +1,5 @@
 use Rattle.std.proofs.Common.{◌≡◌, ◌+◌, ◌≤◌, drop}
-use Rattle.wat_format.specs.Layout.{line_ends}
+use Rattle.wat_format.specs.Gaps.{line_ends}
 use Rattle.wat_format.proofs.gap.gap_of.Given as goal
 
 abbrev pub invariant-loop-byte : goal.invariant-loop-byte
