@@ -1,3 +1,4 @@
+mod FirstCharacters
 mod Formats
 mod Laying
 mod Streaming
