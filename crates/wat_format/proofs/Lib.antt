@@ -1,4 +1,5 @@
 mod FirstCharacters
+mod Follows
 mod Formats
 mod Laying
 mod Streaming
