@@ -2,4 +2,5 @@ mod FirstCharacters
 mod Follows
 mod Formats
 mod Laying
+mod Pieces
 mod Streaming
