@@ -4,3 +4,4 @@ mod Formats
 mod Laying
 mod Pieces
 mod Streaming
+mod WhiteSpace
