@@ -1,6 +1,8 @@
 mod FirstCharacters
 mod Follows
 mod Formats
+mod LaidPieces
+mod LaidStands
 mod Laying
 mod Pieces
 mod Streaming

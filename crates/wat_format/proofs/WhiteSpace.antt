@@ -112,7 +112,7 @@ choice_break : (n m : ℕ) → is_break (if nat_lt 1 (1 + n) then EmptyLine else
 choice_break zero m = refl
 choice_break (suc n) m = rw (above_one n) refl
 
-line_end_cases : (c : ℕ) → IsTrue (is_line_end c) → (c ≡ 10) ⊎ (c ≡ 13)
+pub line_end_cases : (c : ℕ) → IsTrue (is_line_end c) → (c ≡ 10) ⊎ (c ≡ 13)
 line_end_cases c h = grind (arith, nat_tests)
 
 pub breaks : (c : ℕ) (w : List ℕ) → IsTrue (is_line_end c) → is_break (gap_of (c ∷ w)) ≡ true
