@@ -18,27 +18,27 @@ white_cases c h = grind (arith, nat_tests)
 
 pub run_is_no_white : (c : ℕ) → IsTrue (is_run_char c) → IsTrue (is_whitespace c) → ⊥
 run_is_no_white c h k = elim (white_cases c k) [
-    inl e ↦ false≢true (subst (λ x. is_run_char x ≡ true) e h)
+  | inl e ↦ false≢true (subst (λ x. is_run_char x ≡ true) e h)
   | inr f ↦ elim f [
-      inl e ↦ false≢true (subst (λ x. is_run_char x ≡ true) e h)
+    | inl e ↦ false≢true (subst (λ x. is_run_char x ≡ true) e h)
     | inr g ↦ elim g [
-        inl e ↦ false≢true (subst (λ x. is_run_char x ≡ true) e h)
+      | inl e ↦ false≢true (subst (λ x. is_run_char x ≡ true) e h)
       | inr e ↦ false≢true (subst (λ x. is_run_char x ≡ true) e h)
-      ]
     ]
   ]
+]
 
 pub punctuation_is_no_white : (c : ℕ) → IsTrue (is_punctuation c || eqb c semicolon) → IsTrue (is_whitespace c) → ⊥
 punctuation_is_no_white c h k = elim (white_cases c k) [
-    inl e ↦ false≢true (subst (λ x. (is_punctuation x || eqb x semicolon) ≡ true) e h)
+  | inl e ↦ false≢true (subst (λ x. (is_punctuation x || eqb x semicolon) ≡ true) e h)
   | inr f ↦ elim f [
-      inl e ↦ false≢true (subst (λ x. (is_punctuation x || eqb x semicolon) ≡ true) e h)
+    | inl e ↦ false≢true (subst (λ x. (is_punctuation x || eqb x semicolon) ≡ true) e h)
     | inr g ↦ elim g [
-        inl e ↦ false≢true (subst (λ x. (is_punctuation x || eqb x semicolon) ≡ true) e h)
+      | inl e ↦ false≢true (subst (λ x. (is_punctuation x || eqb x semicolon) ≡ true) e h)
       | inr e ↦ false≢true (subst (λ x. (is_punctuation x || eqb x semicolon) ≡ true) e h)
-      ]
     ]
   ]
+]
 
 or_left : (a b : Bool) → a ≡ true → (a || b) ≡ true
 or_left true b h = refl

@@ -58,9 +58,9 @@ joined_laid text s (t ∷ ts) =
     let a = joined_laid text (record s { gap = gap_of w }) ts in
     let b = joined_laid text (behind y l s) ts in
     let c : joined (gapped (gap_text g l) ((t.kind, w) ∷ laid_pieces (behind y l s) (pieces text ts))) ≡ (gap_text g l ++ w) ++ laid text (behind y l s) ts =
-        joined_gapped (gap_text g l) ((t.kind, w) ∷ laid_pieces (behind y l s) (pieces text ts)) ∙ ap (λ x. gap_text g l ++ (w ++ x)) b ∙ sym (append_assoc (gap_text g l) w (laid text (behind y l s) ts)) in
+    joined_gapped (gap_text g l) ((t.kind, w) ∷ laid_pieces (behind y l s) (pieces text ts)) ∙ ap (λ x. gap_text g l ++ (w ++ x)) b ∙ sym (append_assoc (gap_text g l) w (laid text (behind y l s) ts)) in
     elim (is_white t.kind) as (λ b. joined (if b then laid_pieces (record s { gap = gap_of w }) (pieces text ts) else gapped (gap_text g l) ((t.kind, w) ∷ laid_pieces (behind y l s) (pieces text ts)))
-      ≡ (if b then laid text (record s { gap = gap_of w }) ts else (gap_text g l ++ w) ++ laid text (behind y l s) ts)) [ true ↦ a | false ↦ c ]
+    ≡ (if b then laid text (record s { gap = gap_of w }) ts else (gap_text g l ++ w) ++ laid text (behind y l s) ts)) [ true ↦ a | false ↦ c ]
 
 pub laid_white : (s : State) (p : Piece) (ps : List Piece) → is_white p.0 ≡ true → laid_pieces s (p ∷ ps) ≡ laid_pieces (record s { gap = gap_of p.1 }) ps
 laid_white s p ps e = rw e refl
@@ -91,8 +91,8 @@ words_laid s (p ∷ ps) =
     let l : ℕ = line_level y (gap_before y s) s in
     let rest : List Piece = laid_pieces (behind y l s) ps in
     elim (bool_cases (is_white p.0)) [
-      inl e ↦ ap no_white (laid_white s p ps e) ∙ words_laid (record s { gap = gap_of p.1 }) ps ∙ sym (no_white_white p ps e)
-    | inr e ↦ ap no_white (laid_word s p ps e) ∙ no_white_gapped (gap_text (gap_before y s) l) (p ∷ rest) ∙ no_white_word p rest e ∙ ap (λ x. p ∷ x) (words_laid (behind y l s) ps) ∙ sym (no_white_word p ps e)
+      | inl e ↦ ap no_white (laid_white s p ps e) ∙ words_laid (record s { gap = gap_of p.1 }) ps ∙ sym (no_white_white p ps e)
+      | inr e ↦ ap no_white (laid_word s p ps e) ∙ no_white_gapped (gap_text (gap_before y s) l) (p ∷ rest) ∙ no_white_word p rest e ∙ ap (λ x. p ∷ x) (words_laid (behind y l s) ps) ∙ sym (no_white_word p ps e)
     ]
 
 -- Laid out again.
@@ -125,11 +125,11 @@ laid_again s (p ∷ ps) h =
     let rest : List Piece = laid_pieces (behind y l s) ps in
     let out : List Piece = gapped (gap_text g l) (p ∷ rest) in
     elim (bool_cases (is_white p.0)) [
-      inl e ↦ ap (λ x. laid_pieces (record s { gap = Touching }) x) (laid_white s p ps e) ∙ laid_again (record s { gap = gap_of p.1 }) ps (gap_filled p.1) ∙ sym (laid_white s p ps e)
-    | inr e ↦
-      let same : gap_before y (record s { gap = g }) ≡ g = before_again s.before y s.gap in
-      let step : laid_pieces (record s { gap = g }) (p ∷ rest) ≡ out =
+      | inl e ↦ ap (λ x. laid_pieces (record s { gap = Touching }) x) (laid_white s p ps e) ∙ laid_again (record s { gap = gap_of p.1 }) ps (gap_filled p.1) ∙ sym (laid_white s p ps e)
+      | inr e ↦
+          let same : gap_before y (record s { gap = g }) ≡ g = before_again s.before y s.gap in
+          let step : laid_pieces (record s { gap = g }) (p ∷ rest) ≡ out =
           laid_word (record s { gap = g }) p rest e ∙ ap (λ x. gapped (gap_text x (line_level y x s)) (p ∷ laid_pieces (behind y (line_level y x s) s) rest)) same
           ∙ ap (λ x. gapped (gap_text g l) (p ∷ x)) (laid_again (behind y l s) ps tt) in
-      ap (λ x. laid_pieces (record s { gap = Touching }) x) (laid_word s p ps e) ∙ gap_read s g l (p ∷ rest) (before_filled s.before y s.gap h) ∙ step ∙ sym (laid_word s p ps e)
+          ap (λ x. laid_pieces (record s { gap = Touching }) x) (laid_word s p ps e) ∙ gap_read s g l (p ∷ rest) (before_filled s.before y s.gap h) ∙ step ∙ sym (laid_word s p ps e)
     ]

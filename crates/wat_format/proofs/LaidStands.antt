@@ -25,9 +25,9 @@ use Rattle.wat_format.proofs.LaidPieces.{gapped, laid_pieces, bool_cases, laid_w
 
 run_no_semicolon : (c : ℕ) → IsTrue (is_run_char c) → eqb c semicolon ≡ false
 run_no_semicolon c h = elim (bool_cases (eqb c semicolon)) [
-    inl e ↦ absurd (false≢true (subst (λ x. is_run_char x ≡ true) (let k : c ≡ 59 = grind (arith, nat_tests) in k) h))
+  | inl e ↦ absurd (false≢true (subst (λ x. is_run_char x ≡ true) (let k : c ≡ 59 = grind (arith, nat_tests) in k) h))
   | inr e ↦ e
-  ]
+]
 
 of_char : (c d : ℕ) → c ≡ d → eqb d semicolon ≡ false → eqb c semicolon ≡ false
 of_char c d e h = subst (λ x. eqb x semicolon ≡ false) (sym e) h
@@ -35,12 +35,12 @@ of_char c d e h = subst (λ x. eqb x semicolon ≡ false) (sym e) h
 -- a reserved character by which no comment begins
 mark_no_semicolon : (bytes : List ℕ) (c : ℕ) → IsUtf8 bytes → chars bytes ≡ c ∷ [] → NoSemicolon (sort_by_first bytes) → eqb c semicolon ≡ false
 mark_no_semicolon bytes c u e n = elim (bool_cases (eqb c semicolon)) [
-    inl k ↦
+  | inl k ↦
       let i : c ≡ 59 = grind (arith, nat_tests) in
       let b : bytes ≡ 59 ∷ [] = sym (encodes-chars bytes u) ∙ ap encode_utf8_all (e ∙ ap (λ x. x ∷ []) i) ∙ ap (λ x. x ++ []) (encode_ascii 59 (omega arith)) in
       absurd (subst (λ x. NoSemicolon (sort_by_first x)) b n)
   | inr k ↦ k
-  ]
+]
 
 no_semicolon : (before : Option Sort) (kind : TokenKind) (bytes : List ℕ) (c : ℕ) → IsUtf8 bytes → IsFirst kind (chars bytes) c → NoSemicolon (sort_of before kind bytes) → eqb c semicolon ≡ false
 no_semicolon before LineComment bytes c u h n = absurd n
@@ -167,9 +167,10 @@ module _ (flags : Settings) (x p : Piece) (ps rest : List Piece) (s : State) (b 
       subst (λ z. MayFollow x.0 (chars x.1) z) (sym (behind_white 10 ((line_feed ∷ replicate (2 * l) 32) ++ joined (p ∷ rest)) refl u)) (feed_ends_words x.0 (chars x.1) _ b.word)
 
   follows_word : Prior x s (p ∷ ps) → (l : ℕ) → AllStand flags (gapped (gap_text (gap_before y s) l) (p ∷ rest)) × MayFollow x.0 (chars x.1) (chars (joined (gapped (gap_text (gap_before y s) l) (p ∷ rest))))
-  follows_word pr l =
-      (gapped_stand flags (gap_text (gap_before y s) l) (p ∷ rest) (each_gap (gap_before y s) l) all_p (no_white_p rest (utf8_joined flags rest all')),
-       follows_gap pr l (gap_before y s) (sym (ap (λ z. gap_behind z y s.gap) b.sort)))
+  follows_word pr l = (
+    gapped_stand flags (gap_text (gap_before y s) l) (p ∷ rest) (each_gap (gap_before y s) l) all_p (no_white_p rest (utf8_joined flags rest all')),
+    follows_gap pr l (gap_before y s) (sym (ap (λ z. gap_behind z y s.gap) b.sort)),
+  )
 
 -- white space behind a word
 apart_by : (x : Piece) (s : State) (bytes : List ℕ) (ps : List Piece) → IsUtf8 (joined ps) → chars bytes ≢ [] → chars bytes ≡ bytes → Each is_whitespace bytes → (Begins is_whitespace (chars (joined ps)) → ⊥) → Prior x s ((Whitespace, bytes) ∷ ps) → Prior x (record s { gap = gap_of bytes }) ps
@@ -177,9 +178,9 @@ apart_by x s [] ps u n e h k pr = absurd (n e)
 apart_by x s (c ∷ w) ps u n e h k (Prior.direct g m) =
     let v = behind_white c (w ++ joined ps) h.0 (IsUtf8-append w (joined ps) (white_utf8 w h.1) u) in
     let broken = λ (i : x.0 ≡ LineComment). elim (subst (λ z. MayFollow z (chars x.1) (chars (joined ((Whitespace, c ∷ w) ∷ ps)))) i m) as (λ _. is_break (gap_of (c ∷ w)) ≡ true) [
-        inl a ↦ absurd cc
+      | inl a ↦ absurd cc
       | inr a ↦ breaks c w (subst (λ z. Begins is_line_end z) v a)
-      ] in
+    ] in
     Prior.apart (white_is_apart c w) broken k
 apart_by x s (c ∷ w) ps u n e h k (Prior.apart g i m) =
     let v = behind_white c (w ++ joined ps) h.0 (IsUtf8-append w (joined ps) (white_utf8 w h.1) u) in
@@ -199,13 +200,13 @@ follows flags x s (p ∷ ps) b pr h =
     let y : Sort = sort_of s.before p.0 p.1 in
     let l : ℕ = line_level y (gap_before y s) s in
     elim (bool_cases (is_white p.0)) [
-      inl e ↦
-        subst (λ q. AllStand flags q × MayFollow x.0 (chars x.1) (chars (joined q))) (sym (laid_white s p ps e))
-        (follows flags x (record s { gap = gap_of p.1 }) ps (record { before = b.before; sort = b.sort; word = b.word; filled = gap_filled p.1 }) (apart_kind x s p.0 p.1 ps flags e h.0 h.1 pr) h.1)
-    | inr e ↦
-        let ih = follows flags p (behind y l s) ps (record { before = s.before; sort = refl; word = e; filled = tt }) (Prior.direct refl h.0.ends) h.1 in
-        subst (λ q. AllStand flags q × MayFollow x.0 (chars x.1) (chars (joined q))) (sym (laid_word s p ps e))
-        (follows_word flags x p ps (laid_pieces (behind y l s) ps) s b h.0 e h.1 ih.0 ih.1 pr l)
+      | inl e ↦
+          subst (λ q. AllStand flags q × MayFollow x.0 (chars x.1) (chars (joined q))) (sym (laid_white s p ps e))
+          (follows flags x (record s { gap = gap_of p.1 }) ps (record { before = b.before; sort = b.sort; word = b.word; filled = gap_filled p.1 }) (apart_kind x s p.0 p.1 ps flags e h.0 h.1 pr) h.1)
+      | inr e ↦
+          let ih = follows flags p (behind y l s) ps (record { before = s.before; sort = refl; word = e; filled = tt }) (Prior.direct refl h.0.ends) h.1 in
+          subst (λ q. AllStand flags q × MayFollow x.0 (chars x.1) (chars (joined q))) (sym (laid_word s p ps e))
+          (follows_word flags x p ps (laid_pieces (behind y l s) ps) s b h.0 e h.1 ih.0 ih.1 pr l)
     ]
 
 laid_none : (s : State) → s.before ≡ None → laid_pieces s [] ≡ []
@@ -219,10 +220,10 @@ begins flags s (p ∷ ps) n h =
     let l : ℕ = line_level y (gap_before y s) s in
     let rest : List Piece = laid_pieces (behind y l s) ps in
     elim (bool_cases (is_white p.0)) [
-      inl e ↦ subst (λ q. AllStand flags q) (sym (laid_white s p ps e)) (begins flags (record s { gap = gap_of p.1 }) ps n h.1)
-    | inr e ↦
-        let ih = follows flags p (behind y l s) ps (record { before = s.before; sort = refl; word = e; filled = tt }) (Prior.direct refl h.0.ends) h.1 in
-        let g : gap_before y s ≡ Touching = ap (λ z. gap_behind z y s.gap) n in
-        let first : laid_pieces s (p ∷ ps) ≡ p ∷ rest = laid_word s p ps e ∙ ap (λ z. gapped (gap_text z l) (p ∷ rest)) g in
-        subst (λ q. AllStand flags q) (sym first) (record { utf8 = h.0.utf8; word = h.0.word; ends = ih.1 }, ih.0)
+      | inl e ↦ subst (λ q. AllStand flags q) (sym (laid_white s p ps e)) (begins flags (record s { gap = gap_of p.1 }) ps n h.1)
+      | inr e ↦
+          let ih = follows flags p (behind y l s) ps (record { before = s.before; sort = refl; word = e; filled = tt }) (Prior.direct refl h.0.ends) h.1 in
+          let g : gap_before y s ≡ Touching = ap (λ z. gap_behind z y s.gap) n in
+          let first : laid_pieces s (p ∷ ps) ≡ p ∷ rest = laid_word s p ps e ∙ ap (λ z. gapped (gap_text z l) (p ∷ rest)) g in
+          subst (λ q. AllStand flags q) (sym first) (record { utf8 = h.0.utf8; word = h.0.word; ends = ih.1 }, ih.0)
     ]

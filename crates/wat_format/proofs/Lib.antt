@@ -1,6 +1,7 @@
 mod FirstCharacters
 mod Follows
 mod Formats
+mod KeptTokens
 mod LaidPieces
 mod LaidStands
 mod Laying

@@ -67,11 +67,14 @@ module _ (s : Setting) (utf8 : IsUtf8 s.text) (bounds : TokensEndAtBoundaries) w
       let rest : h.rest ≡ chars (joined (pieces s.text ts)) = chars_from_encodes h.rest (drop (t.offset + t.len) s.text) (IsUtf8-drop s.text (t.offset + t.len) utf8 end) (sym behind) ∙ ap chars (sym ih.whole) in
       record {
         whole = ap (λ x. x ++ joined (pieces s.text ts)) bytes ∙ ap (λ x. w ++ x) (ih.whole ∙ behind) ∙ sym split;
-        stand = (record {
-          utf8 = u;
-          word = subst (λ x. Word t.kind x s.flags) word h.stands.word;
-          ends = subst (λ x. MayFollow t.kind x (chars (joined (pieces s.text ts)))) word (subst (λ x. MayFollow t.kind h.word x) rest h.stands.ends);
-        }, ih.stand);
+        stand = (
+          record {
+            utf8 = u;
+            word = subst (λ x. Word t.kind x s.flags) word h.stands.word;
+            ends = subst (λ x. MayFollow t.kind x (chars (joined (pieces s.text ts)))) word (subst (λ x. MayFollow t.kind h.word x) rest h.stands.ends);
+          },
+          ih.stand,
+        );
       }
 
   pub cut_text : (p to : ℕ) (ts : List Token) → IsCharBoundary s.text p → Tiling s p to ts → to ≡ length s.text → Cut s p ts
@@ -91,14 +94,16 @@ module _ (s : Setting) where
   placed_tiling p [] h e l = omega arith
   placed_tiling p (q ∷ qs) h e l =
       let u = utf8_joined s.flags qs h.1 in
-      let n : length (q.1 ++ joined qs) ≡ length q.1 + length (joined qs) = length-append q.1 (joined qs) in
-      (record {
-        offset = refl;
-        word = chars q.1;
-        rest = chars (joined qs);
-        stands = record { cut = ap chars e ∙ chars_append q.1 (joined qs) h.0.utf8 u; word = h.0.word; ends = h.0.ends };
-        len = ap length (sym (encodes-chars q.1 h.0.utf8));
-      }, placed_tiling (p + length q.1) qs h.1 (drop_piece p q qs e) (omega arith))
+      let n : length (q.1 ++ joined qs) ≡ length q.1 + length (joined qs) = length-append q.1 (joined qs) in (
+        record {
+          offset = refl;
+          word = chars q.1;
+          rest = chars (joined qs);
+          stands = record { cut = ap chars e ∙ chars_append q.1 (joined qs) h.0.utf8 u; word = h.0.word; ends = h.0.ends };
+          len = ap length (sym (encodes-chars q.1 h.0.utf8));
+        },
+        placed_tiling (p + length q.1) qs h.1 (drop_piece p q qs e) (omega arith),
+      )
 
   pub pieces_placed : (p : ℕ) (qs : List Piece) → drop p s.text ≡ joined qs → pieces s.text (placed p qs) ≡ qs
   pieces_placed p [] e = refl

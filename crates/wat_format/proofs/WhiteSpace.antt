@@ -16,12 +16,12 @@ use Rattle.wat_format.proofs.FirstCharacters.{white_cases}
 
 small : (c : ℕ) → IsTrue (is_whitespace c) → c < 128
 small c h = elim (white_cases c h) [
-    inl e ↦ omega arith
+  | inl e ↦ omega arith
   | inr f ↦ elim f [
-      inl e ↦ omega arith
+    | inl e ↦ omega arith
     | inr g ↦ elim g [ inl e ↦ omega arith | inr e ↦ omega arith ]
-    ]
   ]
+]
 
 ascii_at : (w : List ℕ) → Each is_whitespace w → (i : ℕ) → get_or w i 0 < 128
 ascii_at [] h zero = omega arith
@@ -117,9 +117,9 @@ line_end_cases c h = grind (arith, nat_tests)
 
 pub breaks : (c : ℕ) (w : List ℕ) → IsTrue (is_line_end c) → is_break (gap_of (c ∷ w)) ≡ true
 breaks c w h = elim (line_end_cases c h) [
-    inl e ↦ subst (λ x. is_break (gap_of (x ∷ w)) ≡ true) (sym e) (choice_break (line_ends 10 w) (length (10 ∷ w)))
+  | inl e ↦ subst (λ x. is_break (gap_of (x ∷ w)) ≡ true) (sym e) (choice_break (line_ends 10 w) (length (10 ∷ w)))
   | inr e ↦ subst (λ x. is_break (gap_of (x ∷ w)) ≡ true) (sym e) (choice_break (line_ends 13 w) (length (13 ∷ w)))
-  ]
+]
 
 no_line_ends : (n p : ℕ) → line_ends p (replicate n 32) ≡ 0
 no_line_ends zero p = refl

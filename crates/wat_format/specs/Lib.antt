@@ -4,4 +4,5 @@ pub mod Layout
 pub mod Formatting
 pub mod Streams
 pub mod Errors
+pub mod Laws
 pub mod inside

@@ -8,6 +8,7 @@ pub mod format;
 mod formatter;
 mod gap;
 mod group;
+pub mod laws;
 mod sort;
 pub mod stream;
 mod tests;

@@ -44,7 +44,11 @@ impl fmt::Display for WriteError {
     fn fmt<W: fmt::Write>(&self, f: &mut fmt::Formatter<W>) -> fmt::Result {
         match self {
             WriteError::Memory(_) => write!(f, "out of memory"),
-            WriteError::Fault(fault) => write!(f, "{} at byte offset {}", fault.error, fault.offset),
+            WriteError::Fault(fault) => write!(
+                f,
+                "{} at byte offset {}",
+                fault.error, fault.offset
+            ),
             WriteError::Failed(_) => write!(f, "write failed"),
         }
     }
