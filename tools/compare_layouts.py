@@ -3,16 +3,19 @@
 on the files that are named.
 
 Of each answer it also asks what the layout promises: the same raw tokens but for white space, no blank before a line end, and the same answer
-when it is laid out again.
+when it is laid out again. Where `wat2wasm` is there and takes a file, it has to write the same bytes for the answer.
 
 usage: compare_layouts.py [--joins LENGTH] [--random COUNT] PROGRAM [FILE..]
 """
 
 import argparse
 import itertools
+import pathlib
 import random
+import shutil
 import subprocess
 import sys
+import tempfile
 
 import layout
 
@@ -90,6 +93,30 @@ def file_texts(names):
                 print(f"{name}: not UTF-8, left out")
 
 
+def assembled(text):
+    """The bytes that `wat2wasm` writes for a text, or None where it refuses the text."""
+    with tempfile.TemporaryDirectory() as room:
+        source, target = pathlib.Path(room, "text.wat"), pathlib.Path(room, "text.wasm")
+        source.write_bytes(text.encode())
+        ran = subprocess.run(["wat2wasm", "--enable-all", source, "-o", target], capture_output=True)
+        return None if ran.returncode else target.read_bytes()
+
+
+def compare_assembled(names):
+    """Compares what `wat2wasm` writes for files and for their layouts."""
+    same, refused = 0, 0
+    for text in file_texts(names):
+        want = wanted(text)
+        before = None if want is None else assembled(text)
+        if before is None:
+            refused += 1
+        elif before == assembled(want):
+            same += 1
+        else:
+            sys.exit(f"wat2wasm writes other bytes for the layout of {text[:200]!r}")
+    return f"the same bytes for {same} files, {refused} refused before"
+
+
 def main():
     """Reads the command line and compares."""
     parser = argparse.ArgumentParser()
@@ -101,6 +128,8 @@ def main():
     print("joins:", compare(options.program, joins(options.joins)))
     print("random joins:", compare(options.program, random_joins(options.random)))
     print("files:", compare(options.program, file_texts(options.files)))
+    if shutil.which("wat2wasm"):
+        print("wat2wasm:", compare_assembled(options.files))
 
 
 if __name__ == "__main__":
