@@ -29,6 +29,7 @@ ROOMS = {
     ("wat_lexer_parser/src/parser/table.rt", "with_capacity(alloc, room)"),
     ("wat_lexer_parser/src/laws.rt", "with_capacity(alloc, text.len())"),
     ("wat_commands/src/blank.rt", "with_capacity(alloc, text.len())"),
+    ("wat_format/src/format.rt", "with_capacity(alloc, text.len())"),
 }
 
 # Where the name of the type stands as a type: in a list of type arguments, behind a colon or an arrow, in a `use`, as the payload of a

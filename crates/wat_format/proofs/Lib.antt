@@ -1,0 +1,10 @@
+mod FirstCharacters
+mod Follows
+mod Formats
+mod KeptTokens
+mod LaidPieces
+mod LaidStands
+mod Laying
+mod Pieces
+mod Streaming
+mod WhiteSpace

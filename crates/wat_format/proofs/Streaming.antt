@@ -1,0 +1,156 @@
+-- A layout that is written a block at a time.
+use Rattle.std.proofs.Common.{◌≡◌, ◌+◌, ◌-◌, ◌≤◌, ◌<◌, ℕ, List, [], ◌∷◌, ◌++◌, length, take, drop, refl, sym, ap, ◌∙◌, subst, arith, append_assoc}
+use Rattle.std.proofs.lemmas.List.{append-nil, take-append-drop}
+use Rattle.std.specs.Prelude.{Option, Some, None, Result, Ok, Err, OnOk, IfErr, IsErrAnd}
+use Rattle.std.specs.Io.KnownBytes.{Appends, Keeps}
+use Rattle.wat_lex.specs.tokens.EverySetting.{OneThingStands}
+use Rattle.wat_lex.specs.tokens.Setting.{Setting}
+use Rattle.wat_lex.specs.tokens.Tiling.{TokenAt, MaximalTiling}
+use Rattle.wat_lex.specs.tokens.UniqueTilings.{AnswerAt}
+use Rattle.wat_lex.specs.declared.lexer.faults.LexFault.{LexFault}
+use Rattle.wat_lex.specs.declared.lexer.kinds.Token.{Token}
+use Rattle.wat_format.specs.Formatting.{Formatted}
+use Rattle.wat_format.specs.Layout.{State, start, laid, layout}
+use Rattle.wat_format.specs.Streams.{AppendsLayout, AppendsPrefix, AppendsPart}
+use Rattle.wat_format.specs.declared.stream.WriteError.{WriteError}
+use Rattle.wat_format.specs.declared.stream.WriteError.TheVariants.{Memory, Fault, Failed}
+use Rattle.wat_format.specs.inside.Steps.{Lays, EndsFrom}
+use Rattle.wat_format.specs.inside.Writing.{Moves, Remains, StopsShort, CutsShort}
+
+pub appends_none : (a : Option (List ℕ)) → Appends a a []
+appends_none None = tt
+appends_none (Some xs) = sym (append-nil xs)
+
+pub appends_more : (a b c : Option (List ℕ)) (xs ys zs : List ℕ) → Appends a b xs → Appends b c ys → zs ≡ xs ++ ys → Appends a c zs
+appends_more None b c xs ys zs h g e = tt
+appends_more (Some x) None c xs ys zs h g e = absurd h
+appends_more (Some x) (Some y) None xs ys zs h g e = absurd g
+appends_more (Some x) (Some y) (Some z) xs ys zs h g e = g ∙ ap (λ v. v ++ ys) h ∙ append_assoc x xs ys ∙ ap (λ v. x ++ v) (sym e)
+
+pub appends_kept : (a b c : Option (List ℕ)) (xs : List ℕ) → Appends a b xs → Keeps b c → Appends a c xs
+appends_kept None b c xs h k = tt
+appends_kept (Some x) None c xs h k = absurd h
+appends_kept (Some x) (Some y) None xs h k = absurd k
+appends_kept (Some x) (Some y) (Some z) xs h k = k ∙ h
+
+pub keeps_itself : (a : Option (List ℕ)) → Keeps a a
+keeps_itself None = tt
+keeps_itself (Some xs) = refl
+
+-- what a write took of some bytes
+pub prefix_of : (a b : Option (List ℕ)) (n : ℕ) (bytes : List ℕ) → Appends a b (take n bytes) → AppendsPrefix a b bytes
+prefix_of a b n bytes h = record { first = take n bytes; rest = drop n bytes; all = sym (take-append-drop n bytes); appended = h }
+
+answers : (s : Setting) (p : ℕ) (ts : List Token) → MaximalTiling s p ts None → (r : Result (Option Token) LexFault) × AnswerAt s p r
+answers s p [] m = (Ok None, m.tiling ∙ m.ends)
+answers s p (t ∷ ts) m = (Ok (Some t), m.tiling.0)
+
+-- where the raw tokens end at the text's end there is no fault
+pub no_fault : (s : Setting) (p : ℕ) (ts : List Token) (r : Result (Option Token) LexFault) (f : LexFault) → MaximalTiling s p ts None → ((q : Result (Option Token) LexFault) → AnswerAt s p q → q ≡ r) → r ≡ Err f → ⊥
+no_fault s p [] r f m one e = let h = one (Ok None) (m.tiling ∙ m.ends) in cc
+no_fault s p (t ∷ ts) r f m one e = let h = one (Ok (Some t)) m.tiling.0 in cc
+
+module _ (s : Setting) (answer : List ℕ) (p : ℕ) (state : State) (old new : Option (List ℕ)) where
+  next_by : OneThingStands → (written block block' : List ℕ) (state' : State) (ts : List Token) (t : Token) → Appends old new written → MaximalTiling s p ts None → answer ≡ written ++ (block ++ laid s.text state ts) → TokenAt s p t → Lays s.text state t state' block block'
+      → Remains s answer (t.offset + t.len) state' old new block'
+  next_by one written block block' state' [] t a m e k l =
+      let h = one s p (Ok None) (Ok (Some t)) (m.tiling ∙ m.ends) k in absurd cc
+  next_by one written block block' state' (u ∷ us) t a m e k l =
+      let h = one s p (Ok (Some u)) (Ok (Some t)) m.tiling.0 k in
+      let same : u ≡ t = cc in
+      subst (λ x. Remains s answer (x.offset + x.len) state' old new block') same (record {
+        written = written;
+        appended = a;
+        tokens = us;
+        tiling = record { to = m.to; tiling = m.tiling.1; ends = m.ends };
+        rest = e ∙ ap (λ x. written ++ (block ++ laid s.text state (x ∷ us))) same ∙ ap (λ x. written ++ x) (l us);
+      })
+
+  pub remains_next : OneThingStands → (block block' : List ℕ) (state' : State) (t : Token) → Remains s answer p state old new block → TokenAt s p t → Lays s.text state t state' block block' → Remains s answer (t.offset + t.len) state' old new block'
+  remains_next one block block' state' t h k l = next_by one h.written block block' state' h.tokens t h.appended h.tiling h.rest k l
+
+  -- the first bytes of a block are written
+  pub remains_moved : (new' : Option (List ℕ)) (block block' : List ℕ) → Remains s answer p state old new block → Moves new new' block block' → Remains s answer p state old new' block'
+  remains_moved new' block block' h k =
+      let rest : List ℕ = laid s.text state h.tokens in
+      record {
+        written = h.written ++ k.first;
+        appended = appends_more old new new' h.written k.first (h.written ++ k.first) h.appended k.appended refl;
+        tokens = h.tokens;
+        tiling = h.tiling;
+        rest = h.rest ∙ ap (λ x. h.written ++ (x ++ rest)) k.all ∙ ap (λ x. h.written ++ x) (append_assoc k.first block' rest) ∙ sym (append_assoc h.written k.first (block' ++ rest));
+      }
+
+  -- nothing more is written
+  pub part_only : (block : List ℕ) → Formatted s answer → Remains s answer p state old new block → AppendsPart s old new
+  part_only block f h = record {
+    answer = answer;
+    formatted = f;
+    appended = record { first = h.written; rest = block ++ laid s.text state h.tokens; all = h.rest; appended = h.appended };
+  }
+
+  part_more : (new' : Option (List ℕ)) (written block more : List ℕ) → Formatted s answer → Appends old new written → answer ≡ written ++ (block ++ more) → AppendsPrefix new new' block → AppendsPart s old new'
+  part_more new' written block more f a e k =
+      let whole : answer ≡ (written ++ k.first) ++ (k.rest ++ more) = e ∙ ap (λ x. written ++ (x ++ more)) k.all ∙ ap (λ x. written ++ x) (append_assoc k.first k.rest more) ∙ sym (append_assoc written k.first (k.rest ++ more)) in
+      record {
+        answer = answer;
+        formatted = f;
+        appended = record { first = written ++ k.first; rest = k.rest ++ more; all = whole; appended = appends_more old new new' written k.first (written ++ k.first) a k.appended refl };
+      }
+
+  -- a part of a block is written
+  pub part_of_block : (new' : Option (List ℕ)) (block : List ℕ) → Formatted s answer → Remains s answer p state old new block → AppendsPrefix new new' block → AppendsPart s old new'
+  part_of_block new' block f h k = part_more new' h.written block (laid s.text state h.tokens) f h.appended h.rest k
+
+  last_by : OneThingStands → (ts : List Token) → MaximalTiling s p ts None → p ≡ length s.text → ts ≡ []
+  last_by one [] m e = refl
+  last_by one (t ∷ ts) m e = let h = one s p (Ok None) (Ok (Some t)) e m.tiling.0 in absurd cc
+
+  last_rest : OneThingStands → (block last : List ℕ) → (h : Remains s answer p state old new block) → p ≡ length s.text → last ≡ block ++ laid s.text state [] → answer ≡ h.written ++ last
+  last_rest one block last h e k = h.rest ∙ ap (λ x. h.written ++ (block ++ laid s.text state x)) (last_by one h.tokens h.tiling e) ∙ ap (λ x. h.written ++ x) (sym k)
+
+  -- the last block is written
+  pub all_written : OneThingStands → (new' : Option (List ℕ)) (block last : List ℕ) → Formatted s answer → Remains s answer p state old new block → p ≡ length s.text → last ≡ block ++ laid s.text state [] → Appends new new' last → AppendsLayout s old new'
+  all_written one new' block last f h e k a = record {
+    answer = answer;
+    formatted = f;
+    appended = appends_more old new new' h.written last answer h.appended a (last_rest one block last h e k);
+  }
+
+  -- or a part of it
+  pub part_of_last : OneThingStands → (new' : Option (List ℕ)) (block last : List ℕ) → Formatted s answer → Remains s answer p state old new block → p ≡ length s.text → last ≡ block ++ laid s.text state [] → AppendsPrefix new new' last → AppendsPart s old new'
+  part_of_last one new' block last f h e k a = part_more new' h.written last [] f h.appended (last_rest one block last h e k ∙ ap (λ x. h.written ++ x) (sym (append-nil last))) a
+
+pub remains_start : (s : Setting) (state : State) (old : Option (List ℕ)) (block : List ℕ) → (h : EndsFrom s 0 None) → state ≡ start → block ≡ [] → Remains s (layout s.text h.tokens) 0 state old old block
+remains_start s state old block h e k = record {
+  written = [];
+  appended = appends_none old;
+  tokens = h.tokens;
+  tiling = h.tiling;
+  rest = ap (λ x. laid s.text x h.tokens) (sym e) ∙ ap (λ x. x ++ laid s.text state h.tokens) (sym k);
+}
+
+pub formatted_from : (s : Setting) → (h : EndsFrom s 0 None) → Formatted s (layout s.text h.tokens)
+formatted_from s h = record { tokens = h.tokens; tiling = h.tiling; laid = refl }
+
+-- nothing was moved, or all
+pub moves_none : (a : Option (List ℕ)) (block : List ℕ) → Moves a a block block
+moves_none a block = record { first = []; all = refl; appended = appends_none a }
+
+pub moves_all : (a b : Option (List ℕ)) (block block' : List ℕ) → Appends a b block → block' ≡ [] → Moves a b block block'
+moves_all a b block block' h e = record { first = block; all = sym (ap (λ x. block ++ x) e ∙ append-nil block); appended = h }
+
+-- the error of a writer, where a part of some bytes is a part of the layout
+pub cuts_short : (s : Setting) (old new new' : Option (List ℕ)) (bytes : List ℕ) (e : WriteError) → (AppendsPrefix new new' bytes → AppendsPart s old new') → StopsShort new new' bytes e → CutsShort s old new' e
+cuts_short s old new new' bytes (Memory r) f h = absurd h
+cuts_short s old new new' bytes (Fault r) f h = absurd h
+cuts_short s old new new' bytes (Failed r) f h = f h
+
+pub on_error : {T : Type 0} {P Q : WriteError → Type 0} → (r : Result T WriteError) → ((e : WriteError) → P e → Q e) → IfErr r P → IfErr r Q
+on_error (Ok x) f h = tt
+on_error (Err e) f h = f e h
+
+-- an error that `?` hands on as it is
+pub passed_on : {T : Type 0} (P : WriteError → Type 0) (r : Result T WriteError) (e : WriteError) → IsErrAnd r (λ x. x ≡ e) → P e → IfErr r P
+passed_on P (Ok x) e h k = tt
+passed_on P (Err x) e h k = subst P (sym h) k

@@ -1,0 +1,70 @@
+-- WebAssembly specification, text format, lexical format: tokens, white space, comments. What holds of each layout, which is no part of the
+-- standard, and of its raw tokens.
+use Rattle.std.specs.Prelude.{◌≡◌, ◌≢◌, ◌⊎◌, ℕ, List, [], ◌∷◌, ◌++◌, Option, Some, None, if◌then◌else◌}
+use Rattle.std.specs.Str.{IsUtf8}
+use Rattle.wat_lex.specs.grammar.Classes.{line_feed}
+use Rattle.wat_lex.specs.tokens.ReadableTokens.{token_text}
+use Rattle.wat_lex.specs.tokens.Setting.{Setting}
+use Rattle.wat_lex.specs.tokens.Tiling.{MaximalTiling}
+use Rattle.wat_lex.specs.declared.lexer.faults.LexFault.{LexFault}
+use Rattle.wat_lex.specs.declared.lexer.kinds.Token.{Token}
+use Rattle.wat_lex.specs.declared.lexer.kinds.TokenKind.{TokenKind}
+use Rattle.wat_lex.specs.declared.lexer.kinds.TokenKind.TheVariants.{Whitespace}
+use Rattle.wat_format.specs.Formatting.{Formatted, Refuses}
+use Rattle.wat_format.specs.Gaps.{gap_text}
+use Rattle.wat_format.specs.Layout.{is_white, layout}
+use Rattle.wat_format.specs.declared.error.Error.TheVariants.{Fault}
+use Rattle.wat_format.specs.declared.gap.Gap.{Gap}
+
+-- each text of UTF-8 has a layout or a fault
+abbrev pub EachTextIsAnswered : Type 0
+EachTextIsAnswered = (s : Setting) → IsUtf8 s.text → ((answer : List ℕ) × Formatted s answer) ⊎ ((fault : LexFault) × Refuses s (Fault fault))
+
+-- it has one layout only
+abbrev pub LayoutsAreOne : Type 0
+LayoutsAreOne = (s : Setting) (answer other : List ℕ) → Formatted s answer → Formatted s other → answer ≡ other
+
+-- and where it has one it has no fault
+abbrev pub LayoutsHaveNoFault : Type 0
+LayoutsHaveNoFault = (s : Setting) (answer : List ℕ) (fault : LexFault) → Formatted s answer → Refuses s (Fault fault) → ⊥
+
+-- kind and bytes of each token but white space
+abbrev pub words : List ℕ → List Token → List (TokenKind × List ℕ)
+words text [] = []
+words text (t ∷ ts) = if is_white t.kind then words text ts else (t.kind, token_text text t) ∷ words text ts
+
+-- no blank stands directly before a line end
+abbrev pub EndsClean : List ℕ → Type 0
+EndsClean w = (front back : List ℕ) → w ≢ front ++ 32 ∷ line_feed ∷ back
+
+-- it is a gap as it is written
+pub record Written (w : List ℕ) : Type 0 where
+  pub gap : Gap
+  pub level : ℕ
+  pub text : w ≡ gap_text gap level
+  pub clean : EndsClean w
+
+abbrev pub WhiteIsWritten : List ℕ → List Token → Type 0
+WhiteIsWritten text [] = Unit {0}
+WhiteIsWritten text (t ∷ ts) = (t.kind ≡ Whitespace → Written (token_text text t)) × WhiteIsWritten text ts
+
+-- the same flags over another text
+abbrev pub over : Setting → List ℕ → Setting
+over s answer = record s { text = answer }
+
+-- These are the raw tokens of the layout: there is no fault, without white space they are those of the text, kind by kind and byte by byte in
+-- their order, and each white space token is a gap as it is written.
+pub record Keeps (s : Setting) (tokens : List Token) (laid : List Token) (ending : Option LexFault) : Type 0 where
+  pub no_fault : ending ≡ None
+  pub same : words (layout s.text tokens) laid ≡ words s.text tokens
+  pub white : WhiteIsWritten (layout s.text tokens) laid
+
+abbrev pub LayoutsKeepTokens : Type 0
+LayoutsKeepTokens = (s : Setting) (tokens laid : List Token) (ending : Option LexFault) → IsUtf8 s.text → MaximalTiling s 0 tokens None → MaximalTiling (over s (layout s.text tokens)) 0 laid ending → Keeps s tokens laid ending
+
+abbrev pub LayoutsAreUtf8 : Type 0
+LayoutsAreUtf8 = (s : Setting) (answer : List ℕ) → IsUtf8 s.text → Formatted s answer → IsUtf8 answer
+
+-- a layout is its own layout
+abbrev pub LayoutsStay : Type 0
+LayoutsStay = (s : Setting) (answer : List ℕ) → IsUtf8 s.text → Formatted s answer → Formatted (over s answer) answer

@@ -1,0 +1,4 @@
+-- What private functions promise each other.
+pub mod Tests
+pub mod Steps
+pub mod Writing

@@ -1,0 +1,136 @@
+#!/usr/bin/env python3
+"""Compares the layouts of `wat_format_rows` with those of `tools/layout.py`, on all joins of a few hostile pieces, on longer random joins, and
+on the files that are named.
+
+Of each answer it also asks what the layout promises: the same raw tokens but for white space, no blank before a line end, and the same answer
+when it is laid out again. Where `wat2wasm` is there and takes a file, it has to write the same bytes for the answer.
+
+usage: compare_layouts.py [--joins LENGTH] [--random COUNT] PROGRAM [FILE..]
+"""
+
+import argparse
+import itertools
+import pathlib
+import random
+import shutil
+import subprocess
+import sys
+import tempfile
+
+import layout
+
+PIECES = ["(", ")", ";;x\n", ";;x", "(;x;)", "(;\n;)", '"s"', "a", "$x", "@a", "(@a", "\n\n\n", " ", "\r\n", "\r", ";", ",", "@", "end", "block", "\t"]
+MORE = PIECES + ["\n", "  ", "else", "if", "try_table", "catch_all", "delegate", "1", "-0x1p3", "[", "]", "{", "}", '"', "(;", "é", '"é\\n"', "\n  ", " ;; y\n"]
+MOST_AT_ONCE = 50_000
+ESCAPES = str.maketrans({"\n": "\\n", "\r": "\\r", "\t": "\\t", "\\": "\\\\"})
+
+
+def wanted(text):
+    """The layout of a text, or None where it has a fault."""
+    try:
+        return layout.layout(text)
+    except layout.Fault:
+        return None
+
+
+def answered(program, texts):
+    """What the program answers of some texts, as lines."""
+    lines = "".join(text.translate(ESCAPES) + "\n" for text in texts)
+    ran = subprocess.run(program, input=lines.encode(), capture_output=True, check=True)
+    return ran.stdout.decode().split("\n")[:-1]
+
+
+def without_white(text):
+    """The raw tokens of a text but for white space."""
+    return [token for token in layout.raw_tokens(text) if token[0] != "white"]
+
+
+def keeps_promises(text, answer):
+    """Whether an answer is what a layout promises."""
+    white = [word for kind, word in layout.raw_tokens(answer) if kind == "white"]
+    return (
+        without_white(text) == without_white(answer)
+        and not any(" \n" in word or "\t" in word or "\r" in word for word in white)
+        and layout.layout(answer) == answer
+    )
+
+
+def compare(program, texts):
+    """Compares the answers of some texts, and counts the texts and those that have no fault."""
+    count, fine = 0, 0
+    while batch := list(itertools.islice(texts, MOST_AT_ONCE)):
+        for text, answer in zip(batch, answered(program, batch), strict=True):
+            want = wanted(text)
+            if answer != ("fault" if want is None else want.translate(ESCAPES)):
+                sys.exit(f"{text!r} is laid out as {answer!r} and not as {want!r}")
+            if want is not None and not keeps_promises(text, want):
+                sys.exit(f"{text!r} does not keep its tokens in {want!r}, or that is laid out otherwise")
+            count, fine = count + 1, fine + (want is not None)
+    return f"{count} texts, {fine} without a fault"
+
+
+def joins(length):
+    """All joins of up to so many pieces."""
+    for count in range(length + 1):
+        for pieces in itertools.product(PIECES, repeat=count):
+            yield "".join(pieces)
+
+
+def random_joins(count):
+    """Random joins of up to forty pieces."""
+    rng = random.Random(1)
+    for _ in range(count):
+        yield "".join(rng.choice(MORE) for _ in range(rng.randrange(40)))
+
+
+def file_texts(names):
+    """The texts of files that are UTF-8."""
+    for name in names:
+        with open(name, "rb") as file:
+            try:
+                yield file.read().decode()
+            except UnicodeDecodeError:
+                print(f"{name}: not UTF-8, left out")
+
+
+def assembled(text):
+    """The bytes that `wat2wasm` writes for a text, or None where it refuses the text."""
+    with tempfile.TemporaryDirectory() as room:
+        source, target = pathlib.Path(room, "text.wat"), pathlib.Path(room, "text.wasm")
+        source.write_bytes(text.encode())
+        ran = subprocess.run(["wat2wasm", "--enable-all", source, "-o", target], capture_output=True)
+        return None if ran.returncode else target.read_bytes()
+
+
+def compare_assembled(names):
+    """Compares what `wat2wasm` writes for files and for their layouts."""
+    same, refused = 0, 0
+    for text in file_texts(names):
+        want = wanted(text)
+        before = None if want is None else assembled(text)
+        if before is None:
+            refused += 1
+        elif before == assembled(want):
+            same += 1
+        else:
+            sys.exit(f"wat2wasm writes other bytes for the layout of {text[:200]!r}")
+    return f"the same bytes for {same} files, {refused} refused before"
+
+
+def main():
+    """Reads the command line and compares."""
+    parser = argparse.ArgumentParser()
+    parser.add_argument("--joins", type=int, default=3)
+    parser.add_argument("--random", type=int, default=20_000)
+    parser.add_argument("program")
+    parser.add_argument("files", nargs="*")
+    options = parser.parse_args()
+    print("joins:", compare(options.program, joins(options.joins)))
+    print("random joins:", compare(options.program, random_joins(options.random)))
+    print("files:", compare(options.program, file_texts(options.files)))
+    if shutil.which("wat2wasm"):
+        print("wat2wasm:", compare_assembled(options.files))
+
+
+if __name__ == "__main__":
+    main()
