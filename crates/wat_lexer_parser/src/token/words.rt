@@ -45,9 +45,7 @@ impl<'a, N: Word> Parse<'a> for Keyword<N> {
     #[tactic(auto, unfolding(crate::specs::readings::Types::keyword))]
     fn parse(parser: &mut Parser<'a>) -> Result<Self, Error> {
         parser.step(|c| match c.keyword()? {
-            Some((text, next)) if text == N::word() => {
-                Ok((Keyword::new(c.cur_span()), next))
-            }
+            Some((text, next)) if text == N::word() => Ok((Keyword::new(c.cur_span()), next)),
             _ => Err(c.error_of("expected keyword ", N::display())),
         })
     }
@@ -175,9 +173,7 @@ impl<'a, N: Word> Parse<'a> for AnnotationWord<N> {
     #[tactic(auto, unfolding(crate::specs::readings::Types::annotation))]
     fn parse(parser: &mut Parser<'a>) -> Result<Self, Error> {
         parser.step(|c| match annotation(c, N::word())? {
-            Some(next) => {
-                Ok((AnnotationWord::new(c.cur_span()), next))
-            }
+            Some(next) => Ok((AnnotationWord::new(c.cur_span()), next)),
             None => Err(c.error_of("expected annotation ", N::display())),
         })
     }
