@@ -48,21 +48,20 @@ def faults(text, rows, lines):
             yield f"{line!r} in place of {wanted}"
 
 
-def misplaced(program, text, lines):
-    """Where a fault's message tells another place than the object of the token that stood there: at every so many tokens of plain ASCII."""
+def places(program, text, lines):
+    """Of some tokens of a text of plain ASCII the object, and the message of a fault that is put in the token's place."""
     plain = all(byte in (10, 13) or 32 <= byte < 127 for byte in text)
     for line in lines[:: max(1, len(lines) // 8)] if plain else []:
         told = json.loads(line.decode())
-        cut = text[: told["offset"]] + b"\x7f"
-        message = run(program, [], cut)[1].decode()
-        # The end of a line comment is none where the fault's character stands in place of the line end.
-        if message and told["column"] <= 500 and f"<anon>:{told['line']}:{told['column']}\n" not in message:
-            yield f"{line!r}, and the message {message!r}"
+        message = run(program, [], text[: told["offset"]] + b"\x7f")[1].decode()
+        # A line comment goes on where its line end is taken away, and far to the right a message has another form.
+        if message and told["column"] <= 500:
+            yield told, message
 
 
 def check(program, name, text):
-    """What is wrong with a text's lists as JSON, and how many objects there were."""
-    wrong, objects = [], 0
+    """What is wrong with a text's lists as JSON, how many objects there were, and how many messages."""
+    wrong, objects, messages = [], 0, 0
     for command in (["list"], ["sig"], ["--allow-confusing", "sig", "a"]):
         status, report, rows = run(program, command, text)
         told, reported, lines = run(program, ["--json", *command], text)
@@ -72,9 +71,11 @@ def check(program, name, text):
         wrong += [f"no line end: {line!r}" for line in lines if not line.endswith(b"}\n")]
         wrong += faults(text, rows.splitlines(), lines)
         objects += len(lines)
-        if command == ["list"]:
-            wrong += misplaced(program, text, lines)
-    return [f"{name}: {fault}" for fault in wrong], objects
+        for told_place, message in places(program, text, lines) if command == ["list"] else []:
+            messages += 1
+            if f"<anon>:{told_place['line']}:{told_place['column']}\n" not in message:
+                wrong.append(f"{told_place}, and the message {message!r}")
+    return [f"{name}: {fault}" for fault in wrong], objects, messages
 
 
 def generated():
@@ -99,13 +100,14 @@ def main():
     if len(sys.argv) < 2:
         print(__doc__.rsplit("\n\n", 1)[1].strip(), file=sys.stderr)
         return 2
-    wrong, objects, count = [], 0, 0
+    wrong, objects, messages, count = [], 0, 0, 0
     for name, text in texts(sys.argv[2:]):
-        found, lines = check(sys.argv[1], name, text)
+        found, lines, told = check(sys.argv[1], name, text)
         wrong += found
         objects += lines
+        messages += told
         count += 1
-    print("\n".join([*wrong[:20], f"check_json.py: {objects} objects of {count} texts, {len(wrong)} faults"]))
+    print("\n".join([*wrong[:20], f"check_json.py: {objects} objects of {count} texts, {messages} messages, {len(wrong)} faults"]))
     return 1 if wrong or not objects else 0
 
 

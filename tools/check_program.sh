@@ -109,7 +109,7 @@ expect 'json, sig' 0 "$(json 17 1 Keyword x 1 18)" '' "$program" --json sig < <(
 expect 'json, sig, a name' 0 "$(json 0 1 LParen '(' 1 1)$(json 1 2 Annotation @a 1 2)$(json 9 1 RParen ')' 1 10)$(json 17 1 Keyword x 1 18)" '' \
     "$program" --json sig a < <(printf %s "$annotated")
 # shellcheck disable=SC2016
-expect 'json, sig, lines' 0 "$(json 0 1 Keyword x 1 1)$(json 9 2 Id '$y' 3 4)$(json 12 1 Float 1. 4 1)" '' \
+expect 'json, sig, lines' 0 "$(json 0 1 Keyword x 1 1)$(json 10 2 Id '$y' 3 5)$(json 13 2 Float 1. 4 1)" '' \
     "$program" --json sig < <(printf 'x ;;\n\n(;;)$y\n1.')
 expect 'json, sig, not closed' 1 "$(json 0 1 Keyword x 1 1)" 'unclosed annotation at byte offset 3\n' "$program" --json sig < <(printf 'x (@a 1')
 expect 'json, no UTF-8' 2 '' 'wat_tokens: input is not UTF-8 at byte 2\n' "$program" --json < <(printf 'a \377')
