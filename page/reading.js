@@ -1,21 +1,26 @@
 // A text and what the lexer reads in it, part by part. What is read of a text that changes is little: what a token is depends on its own
 // characters and the one behind it, so those that end in front of a change stay; and from a place on at which a token began before, behind
 // the change, the tokens are those from before, moved.
-import { Lines } from './lines.js';
+import { LINE_FEED, Lines } from './lines.js';
 
-const LINE_FEED = 10;
-// In bytes: how much is read at once, behind a change and of a whole text.
-const FIRST = 512;
-const MOST = 1 << 16;
+// In bytes: how much is read at once, at first behind a change, and of a whole text.
+const FIRST_PART = 512;
+const PART = 1 << 16;
 
 // The first of `count` numbers, told by their places, that is not less; or how many there are.
-function placeOf(count, numberAt, least) {
+function firstFrom(count, numberAt, least) {
   let low = 0, high = count;
   while (low < high) {
     const middle = (low + high) >>> 1;
     if (numberAt(middle) < least) low = middle + 1; else high = middle;
   }
   return low;
+}
+
+// Has the tokens of these rows end so many bytes further on.
+function move(rows, first, last, by) {
+  if (by === 0) return;
+  for (let i = 2 * first; i < 2 * last; i += 2) rows[i] += by;
 }
 
 // The tokens that are read lie in the first rows, `count` of them. In the last rows, from `#kept` on, lie those of an earlier reading that
@@ -28,7 +33,7 @@ export class Reading {
   #kept = 0;
   #keptFrom = 0;
   #moved = 0;
-  #step = MOST;
+  #step = PART;
 
   constructor(lexer) {
     this.#lexer = lexer;
@@ -87,13 +92,13 @@ export class Reading {
     this.count = 0;
     this.#place = 0;
     this.#kept = this.#lexer.capacity;
-    this.#step = MOST;
+    this.#step = PART;
     this.#end({ ending: null });
   }
 
   // Keeps the tokens in front of a change and those behind it.
   #keep(from, to, more) {
-    const behind = to === 0 ? 0 : placeOf(this.count, (i) => this.endOf(i), to) + 1;
+    const behind = to === 0 ? 0 : firstFrom(this.count, (i) => this.endOf(i), to) + 1;
     if (behind < this.count) {
       this.#kept = this.#lexer.capacity - (this.count - behind);
       this.#keptFrom = behind > 0 ? this.endOf(behind - 1) : 0;
@@ -104,9 +109,9 @@ export class Reading {
     }
     this.#keptFrom += more;
     this.#moved += more;
-    this.count = placeOf(this.count, (i) => this.endOf(i), from);
+    this.count = firstFrom(this.count, (i) => this.endOf(i), from);
     this.#place = this.count > 0 ? this.endOf(this.count - 1) : 0;
-    this.#step = FIRST;
+    this.#step = FIRST_PART;
     this.#end({ ending: null });
   }
 
@@ -122,14 +127,11 @@ export class Reading {
   #join() {
     this.#leave(this.#place);
     if (this.#kept === this.#lexer.capacity || this.#keptFrom !== this.#place) return false;
-    const { rows } = this;
-    const moved = this.#moved;
-    let to = 2 * this.count;
-    for (let i = 2 * this.#kept; i < 2 * this.#lexer.capacity; i += 2, to += 2) {
-      rows[to] = rows[i] + moved;
-      rows[to + 1] = rows[i + 1];
-    }
-    this.count = to / 2;
+    const { capacity } = this.#lexer;
+    const last = this.count + capacity - this.#kept;
+    this.rows.copyWithin(2 * this.count, 2 * this.#kept, 2 * capacity);
+    move(this.rows, this.count, last, this.#moved);
+    this.count = last;
     this.#kept = this.#lexer.capacity;
     this.#place = this.endOf(this.count - 1);
     return true;
@@ -150,7 +152,7 @@ export class Reading {
       told = this.#lexer.tell(from, length, this.count, 1, this.#flags);
       isPart = false;
     }
-    this.#step = Math.min(MOST, 2 * this.#step);
+    this.#step = Math.min(PART, 2 * this.#step);
     if (this.#take(told.count, from) || isPart) return;
     if (told.ending === 'whole') this.#end(told);
     if (told.ending === 'faulty') this.#endAt(from + told.offset);
@@ -158,9 +160,8 @@ export class Reading {
 
   // Takes so many tokens that are written behind those that are read, at most until kept ones follow, and tells whether they do.
   #take(count, from) {
-    const { rows } = this;
     const last = this.count + count;
-    for (let i = 2 * this.count; i < 2 * last; i += 2) rows[i] += from;
+    move(this.rows, this.count, last, from);
     while (this.count < last) {
       // Where none are kept one takes all at once.
       this.count = this.#kept < this.#lexer.capacity ? this.count + 1 : last;
@@ -174,7 +175,7 @@ export class Reading {
   // token that the line begins in, and the text from there on.
   #endAt(offset) {
     const line = this.lines.start(this.lines.at(offset));
-    const token = placeOf(this.count, (i) => this.endOf(i), line + 1);
+    const token = firstFrom(this.count, (i) => this.endOf(i), line + 1);
     const from = token > 0 ? this.endOf(token - 1) : 0;
     const first = from - this.lines.at(from);
     const covered = this.bytes.slice(first, from).fill(LINE_FEED);
