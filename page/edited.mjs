@@ -3,7 +3,7 @@
 import assert from 'node:assert/strict';
 import { changeOf, Places } from './edits.js';
 import { Lines } from './lines.js';
-import { Reading } from './reading.js';
+import { Reader } from './reader.js';
 
 const PIECES = ['"', '""', '\\', '\\"', '\\q', '\\u{e9}', '(;', ';)', ';;', ';', '(', ')', '(@', '@', '@"', '$', '$"', ',', '[', '0x', '1_000', '1__0', '_', 'nan:0x', '+', 'a', 'i32', ' ', '  ', '\n', '\n\n', '\t', '\r\n', '\r', '\u00e9', '\u202e', '\u6f22', '\u{1f600}', '\u{1f600}\u{1f601}', '\0', '\x7f'];
 const LONG = ['x'.repeat(3000), ' '.repeat(2000), '(; (; \u{1f600} ;) ', `"${'\u6f22'.repeat(400)}"`, '(a $b "c" ;; d\n'.repeat(100), ';; e\n'.repeat(40)];
@@ -26,14 +26,14 @@ export function readOnce(lexer, bytes, flags) {
   return lexer.render(0, bytes.length, bytes.length, flags);
 }
 
-// Whether a reading says the same.
-export function compare(reading, lexer, flags) {
-  const { bytes } = reading;
+// Whether a reader says the same.
+export function compare(reader, lexer, flags) {
+  const { bytes } = reader;
   const whole = readOnce(lexer, bytes, flags);
-  for (const it of ['ending', 'count', 'offset', 'line', 'column', 'message']) assert.equal(reading[it], whole[it], it);
-  assert.ok(Buffer.from(reading.rows.slice(0, 2 * reading.count).buffer).equals(Buffer.from(whole.rows.slice().buffer)), 'rows');
+  for (const it of ['ending', 'count', 'offset', 'line', 'column', 'message']) assert.equal(reader[it], whole[it], it);
+  assert.ok(Buffer.from(reader.rows.slice(0, 2 * reader.count).buffer).equals(Buffer.from(whole.rows.slice().buffer)), 'rows');
   const lines = new Lines(bytes);
-  assert.deepEqual([reading.lines.count, reading.lines.before], [lines.count, lines.before], 'lines');
+  assert.deepEqual([reader.lines.count, reader.lines.before], [lines.count, lines.before], 'lines');
 }
 
 // Another text, and which part of the one before it is replaced by what: units of a string.
@@ -53,7 +53,7 @@ edit.at = 0;
 const normal = (text) => text.replace(/\r\n?/g, '\n').toWellFormed();
 
 // Edits a text so many times, of which each is read on from the last. Where the line ends are CR LF, the text area holds LF.
-export function editOften(reading, lexer, given, times, chance) {
+export function editOften(reader, lexer, given, times, chance) {
   const encoder = new TextEncoder();
   const flags = { allow: chance.below(4) === 0, strict: chance.below(4) === 0 };
   const lineEnd = chance.below(3) === 0 ? '\r\n' : '\n';
@@ -61,27 +61,27 @@ export function editOften(reading, lexer, given, times, chance) {
   const bytesOf = (text) => encoder.encode(isTyped ? text.replaceAll('\n', lineEnd) : text);
   let text = isTyped ? normal(given) : given.toWellFormed();
   const places = new Places();
-  reading.open(bytesOf(text), flags);
-  reading.readOn();
-  compare(reading, lexer, flags);
+  reader.open(bytesOf(text), flags);
+  reader.readOn();
+  compare(reader, lexer, flags);
   for (let i = 0; i < times; i += 1) {
     const next = isTyped ? normal(edit(text, chance)) : edit(text, chance).toWellFormed();
     const change = changeOf(text, next);
     assert.equal(text.slice(0, change.from) + change.text + text.slice(change.to), next);
     // Without a text area a place is counted by encoding what stands in front of it.
-    const at = (units) => (isTyped ? places.byteAt(reading.bytes, units) : encoder.encode(text.slice(0, units)).length);
+    const at = (units) => (isTyped ? places.byteAt(reader.bytes, units) : encoder.encode(text.slice(0, units)).length);
     const to = at(change.to), from = at(change.from);
-    reading.change(from, to, bytesOf(change.text));
+    reader.change(from, to, bytesOf(change.text));
     text = next;
-    assert.ok(Buffer.from(reading.bytes).equals(bytesOf(text)), 'the text');
+    assert.ok(Buffer.from(reader.bytes).equals(bytesOf(text)), 'the text');
     // Some readings end early, and the next edit comes.
     if (chance.below(5) === 0) {
-      reading.readOn(0);
+      reader.readOn(0);
       continue;
     }
-    reading.readOn();
-    compare(reading, lexer, flags);
+    reader.readOn();
+    compare(reader, lexer, flags);
   }
-  reading.readOn();
-  compare(reading, lexer, flags);
+  reader.readOn();
+  compare(reader, lexer, flags);
 }

@@ -6,7 +6,7 @@ import { EXAMPLES } from './examples.js';
 import { decoder, isSupported, load } from './lexer.js';
 import { Lines, Sight } from './lines.js';
 import { fragmentOf, givenBy } from './link.js';
-import { Reading } from './reading.js';
+import { Reader } from './reader.js';
 import { Tokens } from './tokens.js';
 import { compileTypes, dumped } from './types.js';
 
@@ -23,7 +23,7 @@ const encoder = new TextEncoder();
 const textOf = (from, to) => decoder.decode(bytes.subarray(from, to));
 const plural = (count, word) => `${count.toLocaleString('en')} ${word}${count === 1 ? '' : 's'}`;
 
-let reading, view, list, columns;
+let reader, view, list, columns;
 let bytes, lines, tokens, cursor = 0;
 // The tokens that count, where only these are listed.
 let counted = null;
@@ -68,7 +68,7 @@ class Pieces {
 
   // The character that the fault is reported at. A mark stands for a line end, and for the text's end.
   putFault(to) {
-    const at = reading.offset;
+    const at = reader.offset;
     const end = Math.min(lines.on(at + 1), to);
     const mark = at === bytes.length ? '▏' : bytes[at] === 10 || bytes[at] === 13 ? '↵' : '';
     this.put('fault', at, end, mark);
@@ -81,7 +81,7 @@ function partOf(line, from, to) {
   if (to - from <= LONGEST) return { from, to };
   if (lineEnd !== null) return columns.part(bytes, from, to, view.left - view.width / 2, view.left + 1.5 * view.width);
   const isHere = cursor >= from && cursor < to;
-  const middle = isHere ? cursor : reading.ending === 'faulty' && reading.line === line ? reading.offset : from;
+  const middle = isHere ? cursor : reader.ending === 'faulty' && reader.line === line ? reader.offset : from;
   const first = lines.back(Math.max(from, Math.min(middle - LONGEST / 2, to - LONGEST)));
   return { from: first, to: lines.on(Math.min(to, first + LONGEST)) };
 }
@@ -101,8 +101,8 @@ function piecesOf(line, part, held, matched) {
     pieces.put(classOf(i, held, matched), at, end);
     at = end;
   }
-  if (reading.ending === 'faulty' && reading.line === line && reading.offset >= at && (reading.offset < part.to || part.to === bytes.length)) {
-    pieces.put('unread', at, reading.offset);
+  if (reader.ending === 'faulty' && reader.line === line && reader.offset >= at && (reader.offset < part.to || part.to === bytes.length)) {
+    pieces.put('unread', at, reader.offset);
     at = pieces.putFault(part.to);
   }
   pieces.put('unread', at, part.to);
@@ -316,21 +316,21 @@ function say(text, isWrong = false) {
 
 // The fault's place as its message has it: the column is where the mark stands.
 function sayFault() {
-  const [what, place] = reading.message.split('\n');
+  const [what, place] = reader.message.split('\n');
   const [line, column] = place.split(':').slice(-2);
   tell('said', '');
   tell('go', `Line ${line}, column ${column}: ${what}`);
 }
 
 function sayEnding() {
-  if (reading.ending === 'faulty') sayFault();
-  else if (reading.ending === 'whole') say('No fault.');
-  else if (reading.ending === null) say('The text is being read.');
-  else if (reading.ending === 'not UTF-8') say(`The text is not UTF-8 from byte ${reading.offset} on.`, true);
-  else say(`The text is ${reading.ending}.`, true);
+  if (reader.ending === 'faulty') sayFault();
+  else if (reader.ending === 'whole') say('No fault.');
+  else if (reader.ending === null) say('The text is being read.');
+  else if (reader.ending === 'not UTF-8') say(`The text is not UTF-8 from byte ${reader.offset} on.`, true);
+  else say(`The text is ${reader.ending}.`, true);
   tell('size', `${plural(tokens.count, 'token')}, ${plural(bytes.length, 'byte')}.`);
-  tell('message', reading.ending === 'faulty' ? reading.message.split('\n').map((line) => line.slice(0, 2 * LONGEST)).join('\n') : '');
-  document.body.dataset.ending = reading.ending ?? 'unread';
+  tell('message', reader.ending === 'faulty' ? reader.message.split('\n').map((line) => line.slice(0, 2 * LONGEST)).join('\n') : '');
+  document.body.dataset.ending = reader.ending ?? 'unread';
 }
 
 function sayCounted() {
@@ -358,7 +358,7 @@ function showCounts() {
 
 // The bytes of a module of types, which is read as the standard has it and under no names.
 function showBytes() {
-  const module = reading.ending === 'whole' && !$('allow').checked ? compileTypes(tokens, bytes) : null;
+  const module = reader.ending === 'whole' && !$('allow').checked ? compileTypes(tokens, bytes) : null;
   $('bytes-part').hidden = !module;
   if (!module) return;
   const rest = module.length > 16 * DUMPED ? `, of which the first ${16 * DUMPED} are shown` : '';
@@ -370,9 +370,9 @@ const flags = () => ({ allow: $('allow').checked, strict: $('strict').checked })
 
 // Reads on for a while.
 function readOn() {
-  reading.readOn(performance.now() + AT_ONCE);
-  ({ bytes, lines } = reading);
-  tokens = new Tokens(reading);
+  reader.readOn(performance.now() + AT_ONCE);
+  ({ bytes, lines } = reader);
+  tokens = new Tokens(reader);
 }
 
 // Draws what is in sight.
@@ -404,7 +404,7 @@ const rest = {
 
   begin(start) {
     this.start = start;
-    if (reading.ending !== null) this.end(); else this.await();
+    if (reader.ending !== null) this.end(); else this.await();
   },
 
   await() {
@@ -415,9 +415,9 @@ const rest = {
   // A change may have had the text read to its end since this was awaited.
   goOn() {
     this.isAwaited = false;
-    if (reading.ending !== null) return;
+    if (reader.ending !== null) return;
     readOn();
-    if (reading.ending !== null) {
+    if (reader.ending !== null) {
       draw();
       this.end();
     } else {
@@ -428,7 +428,7 @@ const rest = {
 
   end() {
     performance.measure('read', { start: this.start });
-    if (isUntouched && reading.ending === 'faulty') moveTo(reading.offset, 'file');
+    if (isUntouched && reader.ending === 'faulty') moveTo(reader.offset, 'file');
     isUntouched = false;
   },
 };
@@ -444,7 +444,7 @@ function lineEndOf(text) {
 // Why a text is only shown, or nothing.
 function refusal(given) {
   if (given.length > EDITABLE) return 'A text of more than a megabyte is shown, and not edited.';
-  if (reading.ending === 'not UTF-8') return 'Only a text in UTF-8 can be edited here.';
+  if (reader.ending === 'not UTF-8') return 'Only a text in UTF-8 can be edited here.';
   return lineEndOf(decoder.decode(given)) ? '' : 'A text with line ends of two kinds is shown, and not edited.';
 }
 
@@ -469,7 +469,7 @@ function lend(given) {
 // A text from elsewhere. It may be edited where the text area can hold it as it is. The cursor goes to its fault, unless it was moved before.
 function open(given) {
   const start = performance.now();
-  reading.open(given, flags());
+  reader.open(given, flags());
   readOn();
   lend(given);
   isUntouched = true;
@@ -485,7 +485,7 @@ function onInput() {
   isUntouched = false;
   // The last place that is asked for stands in front of the change, and so holds.
   const end = places.byteAt(bytes, to), begin = places.byteAt(bytes, from);
-  reading.change(begin, end, encoder.encode(lineEnd === '\r\n' ? text.replaceAll('\n', lineEnd) : text));
+  reader.change(begin, end, encoder.encode(lineEnd === '\r\n' ? text.replaceAll('\n', lineEnd) : text));
   readOn();
   show(places.byteAt(bytes, selectionEnd), start);
 }
@@ -499,14 +499,14 @@ function onSelect() {
 
 function onFlag() {
   const start = performance.now();
-  reading.restart(flags());
+  reader.restart(flags());
   readOn();
   show(cursor, start);
 }
 
 // The press on the fault that is told.
 function goToFault() {
-  moveTo(reading.offset, 'told');
+  moveTo(reader.offset, 'told');
   view.box.focus({ preventScroll: true });
   view.box.scrollIntoView({ block: 'nearest' });
 }
@@ -579,7 +579,7 @@ async function start() {
     for (const it of document.querySelectorAll('main input, main select, main button, main textarea')) it.disabled = true;
     return;
   }
-  reading = new Reading(await load());
+  reader = new Reader(await load());
   columns = new Columns(getComputedStyle($('text')));
   view = new Sight([$('text'), $('view')], $('seen'), drawView);
   list = new Sight([$('list')], $('list').querySelector('.seen'), drawList);

@@ -26,7 +26,7 @@ function move(rows, first, last, by) {
 // The tokens that are read lie in the first rows, `count` of them. In the last rows, from `#kept` on, lie those of an earlier reading that
 // stand behind all changes since: the first of them begins at `#keptFrom`, and `#moved` is to be added to where each ends. So many bytes
 // as there are rows at least, and each token has one: the two never meet.
-export class Reading {
+export class Reader {
   #lexer;
   #flags = {};
   #place = 0;
