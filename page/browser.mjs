@@ -89,12 +89,12 @@ const type = (text) => ask(`{ const it = document.querySelector('#text'); if (it
 async function drop(bytes) {
   const path = join(room, 'text.wat');
   writeFileSync(path, bytes);
-  const before = await ask("performance.getEntriesByName('show').length");
+  const before = await ask("performance.getEntriesByName('read').length");
   const { root } = await send('DOM.getDocument');
   const { nodeId } = await send('DOM.querySelector', { nodeId: root.nodeId, selector: '#file' });
   await ask("document.querySelector('#file').value = ''");
   await send('DOM.setFileInputFiles', { nodeId, files: [path] });
-  while ((await ask("performance.getEntriesByName('show').length")) === before) await pause(5);
+  while ((await ask("performance.getEntriesByName('read').length")) === before) await pause(5);
   return ask(SHOWN);
 }
 
@@ -436,8 +436,71 @@ async function access() {
 
 // Times of the page's own work on a whole text: encoding, reading, lines, and drawing what is in sight. A megabyte is typed into, and
 // ten are opened again and again.
+// Runs in the page: edits the text area at random, and tells what then differs between what it holds, what is shown, and what is shown once
+// all of the text is read anew.
+function retypeOften(times, lineEnd, shown) {
+  const PIECES = ['"', '\\', '(;', ';)', ';;', ';', '(', ')', '@', '$', 'x', '0x1', ' ', '\t', '\n', '\n\n', '\u00e9', '\u6f22', '\u{1f600}', '\u202e'];
+  const it = document.querySelector('#text');
+  let seed = 1, at = 0;
+  const below = (count) => {
+    seed = (seed * 48271) % 2147483647;
+    return seed % count;
+  };
+  // The next place that parts no pair of surrogates.
+  const whole = (place) => (/^[\udc00-\udfff]/.test(it.value.slice(place)) ? place + 1 : place);
+  for (let i = 0; i < times; i += 1) {
+    at = whole(below(4) === 0 ? below(it.value.length + 1) : Math.min(at, it.value.length));
+    const end = whole(Math.min(it.value.length, at + [0, 0, 1, 3][below(4)]));
+    const piece = below(4) === 0 ? '' : PIECES[below(PIECES.length)];
+    it.setRangeText(piece, at, end, 'end');
+    at += piece.length;
+    it.dispatchEvent(new Event('input'));
+    const before = shown();
+    for (let j = 0; j < 2; j += 1) document.querySelector('#strict').click();
+    const anew = shown();
+    const text = it.value.replaceAll('\n', lineEnd);
+    if (before.text !== text || JSON.stringify(before) !== JSON.stringify(anew)) return { i, text, before, anew };
+  }
+  return null;
+}
+
+async function retyping() {
+  await ask("document.querySelector('#editor').style.height = '2000px'");
+  await pause(100);
+  for (const lineEnd of ['\n', '\r\n']) {
+    await drop(['(a $b "\u{e9}\u{1f600}")', '\t(; \u{6f22} ;) ;; c', '(@d "e" 1.5)', ''].join(lineEnd).repeat(4));
+    assert.equal(await ask(`(${retypeOften})(400, ${JSON.stringify(lineEnd)}, () => ${SHOWN})`), null);
+  }
+  await ask("document.querySelector('#editor').style.height = ''");
+}
+
+const best = (all) => {
+  all.sort((one, other) => one - other);
+  return `${all[0].toFixed(1)} ms at best, ${all[Math.floor(all.length / 2)].toFixed(1)} in the middle of ${all.length}`;
+};
+
+// The page's own work, as it measures it: until what is in sight is drawn, and until all is read.
+async function timesOf(times, change) {
+  const shown = [], read = [];
+  for (let i = 0; i < times; i += 1) {
+    await change(i);
+    shown.push(await ask("performance.getEntriesByName('show').at(-1).duration"));
+    read.push(await ask("performance.getEntriesByName('read').at(-1).duration"));
+    await pause(20);
+  }
+  return `drawn: ${best(shown)}; read: ${best(read)}`;
+}
+
+// Puts a piece in the text area at a place, or takes as much away, and waits until all is read.
+const retype = (place, taken, piece) => ask(`(async () => {
+  const it = document.querySelector('#text');
+  it.setRangeText('${piece}', ${place}, ${place} + ${taken}, 'end');
+  const before = performance.getEntriesByName('read').length;
+  it.dispatchEvent(new Event('input'));
+  while (performance.getEntriesByName('read').length === before) await new Promise((done) => setTimeout(done));
+})()`);
+
 async function times() {
-  const said = {};
   for (const megabytes of [1, 10]) {
     const bytes = spawnSync('python3', [here('../tools/generate.py'), String(megabytes)], { maxBuffer: 2 ** 30 }).stdout;
     const page = await drop(bytes);
@@ -450,17 +513,23 @@ async function times() {
     const at = bytes.toString().indexOf(shown.text);
     assert.ok(shown.text.length > 100 && at >= 0, 'the middle of the text');
     assert.equal(shown.numbers[0], bytes.toString().slice(0, at).split('\n').length);
-    const all = [];
-    for (let i = 0; i < 25; i += 1) {
-      if (megabytes === 1) await ask("{ const it = document.querySelector('#text'); it.setSelectionRange(0, 0); it.dispatchEvent(new Event('input')); }");
-      else await drop(bytes);
-      all.push(await ask("performance.getEntriesByName('show').at(-1).duration"));
-      await pause(20);
+    const tell = async (name, times, change) => console.log(`  ${bytes.length} bytes, ${name}: ${await timesOf(times, change)}`);
+    if (megabytes === 10) {
+      await tell('opened', 25, () => drop(bytes));
+      continue;
     }
-    all.sort((a, b) => a - b);
-    said[bytes.length] = `${all[0].toFixed(1)} ms at best, ${all[12].toFixed(1)} ms in the middle of ${all.length}`;
+    await tell('opened', 9, () => drop(bytes));
+    await tell('read anew', 24, () => ask(`(async () => {
+      const before = performance.getEntriesByName('read').length;
+      document.querySelector('#strict').click();
+      while (performance.getEntriesByName('read').length === before) await new Promise((done) => setTimeout(done));
+    })()`));
+    // Each piece is typed and taken away again, in turn.
+    for (const [name, place, piece] of [['a letter in front', 0, 'x'], ['a letter in the middle', bytes.length / 2, 'x'], ['a quote in front', 0, '"'], ['a comment in front', 0, '(;']]) {
+      const where = bytes.indexOf('\n', place) + 1;
+      await tell(name, 26, (i) => retype(where, i % 2 === 0 ? 0 : piece.length, i % 2 === 0 ? piece : ''));
+    }
   }
-  return said;
 }
 
 async function takePictures() {
@@ -486,12 +555,12 @@ try {
   await visit(origin);
   await typedTexts();
   console.log(await droppedTexts());
-  for (const check of [theCursor, theCursorOfShownTexts, scrolling, metrics, examples, theFault, whatCounts, bytesOfTypes, links, byKeyboard]) {
+  for (const check of [theCursor, theCursorOfShownTexts, scrolling, metrics, examples, theFault, retyping, whatCounts, bytesOfTypes, links, byKeyboard]) {
     await check();
     console.log(check.name);
   }
   await access();
-  console.log(await times());
+  await times();
   if (pictures) await takePictures();
   await visit(pathToFileURL(here('out/wat.html')).href);
   await typedTexts();

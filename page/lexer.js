@@ -1,5 +1,5 @@
-// The proved lexer, as a function of a text's bytes. All memory is laid out here, behind the module's own: the text, the report,
-// the rows and the message. The module allocates nothing.
+// The proved lexer in its memory, which is laid out here, behind the module's own: the report, the text, the rows, and the message with what
+// rows its fault takes. The module allocates nothing.
 // The words of the kinds, at the numbers that the module tells: 0 is none, 12 to 15 are the kinds of floats.
 export const KINDS = [null, 'LineComment', 'BlockComment', 'Whitespace', 'LParen', 'RParen', 'String', 'Id', 'Keyword', 'Annotation', 'Reserved', 'Integer', 'Float', 'Float', 'Float', 'Float'];
 export const ENDINGS = ['whole', 'faulty', 'full', 'not UTF-8', 'too long'];
@@ -7,6 +7,9 @@ export const ENDINGS = ['whole', 'faulty', 'full', 'not UTF-8', 'too long'];
 const PAGE = 65536;
 const REPORT = 48;
 const ROW = 8;
+// In bytes: the least room for a text, so that one that is typed seldom needs more.
+const LEAST = 1 << 21;
+const MESSAGE = 4096;
 export const decoder = new TextDecoder('utf-8', { ignoreBOM: true });
 
 // Whether there are 64-bit memories: of a module that has one and nothing else.
@@ -26,64 +29,76 @@ function grow(memory, end) {
   }
 }
 
-// A text is written into the memory that `room` gives, and read there. What `read` says of it has two numbers for each token in
-// `rows`, its end and the number of its kind; a token begins where the one before it ends, and the first at 0. What either
-// gives holds until the next call of one of them.
-export function lexer(instance) {
-  const { memory, wat_page_read, __heap_base } = instance.exports;
-  const text = aligned(Number(__heap_base.value));
-  const room = (length) => {
-    grow(memory, text + length);
-    return new Uint8Array(memory.buffer, text, length);
-  };
-  const tell = (length, allow, strict, longest) => {
-    const report = aligned(text + length);
-    const message = report + REPORT;
-    const rows = aligned(message + longest);
-    // A token has a byte at least, so there are never more rows than bytes.
-    grow(memory, rows + ROW * length);
-    wat_page_read(BigInt(text), BigInt(length), allow ? 1 : 0, strict ? 1 : 0, BigInt(rows), BigInt(length), BigInt(message), BigInt(longest), BigInt(report));
-    const told = new DataView(memory.buffer, report, REPORT);
-    const number = (at) => Number(told.getBigUint64(at, true));
-    const count = number(8), written = number(40);
-    return {
-      ending: ENDINGS[told.getUint32(0, true)],
-      bytes: new Uint8Array(memory.buffer, text, length),
-      count,
-      rows: new Uint32Array(memory.buffer, rows, 2 * count),
-      offset: number(16),
-      line: number(24),
-      column: number(32),
-      message: decoder.decode(new Uint8Array(memory.buffer, message, written)),
-      isCut: written === longest,
-    };
-  };
-  const read = (length, { allow = false, strict = false } = {}) => {
-    let longest = 4096;
-    let found = tell(length, allow, strict, longest);
-    // The message is whole where it leaves room.
-    while (found.isCut) {
-      longest *= 4;
-      found = tell(length, allow, strict, longest);
+export class Lexer {
+  #exports;
+  #report;
+  #text;
+
+  constructor(instance) {
+    this.#exports = instance.exports;
+    this.#report = aligned(Number(this.#exports.__heap_base.value));
+    this.#text = this.#report + REPORT;
+    this.capacity = 0;
+    this.reserve(LEAST);
+  }
+
+  get #rows() { return this.#text + this.capacity; }
+
+  // A token has a byte at least, so there are never more rows than bytes.
+  get #message() { return this.#rows + ROW * this.capacity; }
+
+  // Makes room for a text of so many bytes and its rows, and tells whether the rows are elsewhere now.
+  reserve(length) {
+    if (length <= this.capacity) return false;
+    const capacity = aligned(length + length / 4);
+    grow(this.#exports.memory, this.#text + (1 + ROW) * capacity + MESSAGE);
+    this.capacity = capacity;
+    return true;
+  }
+
+  // What these give holds until the memory grows, as `reserve` and `render` may have it do.
+  bytes(length) { return new Uint8Array(this.#exports.memory.buffer, this.#text, length); }
+  rows() { return new Uint32Array(this.#exports.memory.buffer, this.#rows, 2 * this.capacity); }
+
+  // What the module says of the text's bytes from one to another. The rows of their tokens, at most so many, are written from the row
+  // `first` on, each with two numbers: where the token ends, counted from `from`, and the number of its kind.
+  tell(from, to, first, most, flags) { return this.#call(from, to, this.#rows + ROW * first, most, 0, flags); }
+
+  // The same with the fault's message whole, and with the rows, at most so many, which lie behind it.
+  render(from, to, most, flags) {
+    const { memory } = this.#exports;
+    for (let room = MESSAGE; ; room *= 4) {
+      const rows = aligned(this.#message + room);
+      grow(memory, rows + ROW * most);
+      const told = this.#call(from, to, rows, most, room, flags);
+      // The message is whole where it leaves room.
+      if (told.written < room) {
+        const message = decoder.decode(new Uint8Array(memory.buffer, this.#message, told.written));
+        return { ...told, message, rows: new Uint32Array(memory.buffer, rows, 2 * told.count) };
+      }
     }
-    return found;
-  };
-  return { room, read };
+  }
+
+  #call(from, to, rows, most, room, { allow = false, strict = false }) {
+    const { memory, wat_page_read } = this.#exports;
+    wat_page_read(BigInt(this.#text + from), BigInt(to - from), allow ? 1 : 0, strict ? 1 : 0, BigInt(rows), BigInt(most), BigInt(this.#message), BigInt(room), BigInt(this.#report));
+    const told = new DataView(memory.buffer, this.#report, REPORT);
+    const number = (at) => Number(told.getBigUint64(at, true));
+    return { ending: ENDINGS[told.getUint32(0, true)], count: number(8), offset: number(16), line: number(24), column: number(32), written: number(40) };
+  }
 }
 
 // Reads half a megabyte, which takes some milliseconds, so that an engine compiles the module for speed before the first long text
 // comes.
-function warmUp({ room, read }) {
+function warmUp(lexer) {
   const bytes = new TextEncoder().encode('  (func $add (param $a i32) (result i32) local.get 0 i32.const -0x1 i32.add) ;; "b"\n'.repeat(3000));
-  for (let i = 0; i < 2; i += 1) {
-    room(bytes.length).set(bytes);
-    read(bytes.length);
-  }
+  lexer.bytes(bytes.length).set(bytes);
+  for (let i = 0; i < 2; i += 1) lexer.tell(0, bytes.length, 0, bytes.length, {});
 }
 
 export async function load() {
   const { instance } = await WebAssembly.instantiate(await fetch('wat_page.wasm').then((answer) => answer.arrayBuffer()));
-  const reader = lexer(instance);
-  warmUp(reader);
-  return reader;
+  const lexer = new Lexer(instance);
+  warmUp(lexer);
+  return lexer;
 }

@@ -1,6 +1,6 @@
 // A text in bytes, and where its lines begin. How many lines end before each block of bytes is counted beforehand; where one of them
 // begins is looked for in its block.
-const LINE_FEED = 10;
+export const LINE_FEED = 10;
 const BLOCK = 512;
 
 // How many line feeds there are in a block of rows of four bytes. Each lane of `feeds` counts those at its place in a row.
@@ -136,7 +136,17 @@ export class Sight {
     const offset = first * Sight.HEIGHT - top;
     this.seen.style.top = `${this.isBeside ? offset : this.top + offset}px`;
     this.seen.style.left = this.isBeside ? `${-this.left}px` : '0';
-    this.seen.replaceChildren(...this.draw(first, last, offset));
+    this.#replace(this.draw(first, last, offset));
+  }
+
+  // Those that were drawn before stay where they are.
+  #replace(items) {
+    const isDrawn = new Set(items);
+    for (const it of [...this.seen.childNodes]) if (!isDrawn.has(it)) it.remove();
+    let next = this.seen.firstChild;
+    for (const it of items) {
+      if (it === next) next = it.nextSibling; else this.seen.insertBefore(it, next);
+    }
   }
 
   // Scrolls until an item is in sight.

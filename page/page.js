@@ -1,10 +1,12 @@
 // The page: a text in colours, its tokens, and one cursor in both.
 import { Columns } from './columns.js';
 import { whatCounts } from './counts.js';
+import { changeOf, Places } from './edits.js';
 import { EXAMPLES } from './examples.js';
 import { decoder, isSupported, load } from './lexer.js';
 import { Lines, Sight } from './lines.js';
 import { fragmentOf, givenBy } from './link.js';
+import { Reader } from './reader.js';
 import { Tokens } from './tokens.js';
 import { compileTypes, dumped } from './types.js';
 
@@ -14,17 +16,23 @@ const LONGEST = 2000;
 const LISTED = 120;
 // In lines of sixteen bytes.
 const DUMPED = 256;
+// In milliseconds: how long a text is read before what is in sight is drawn, and then between other tasks.
+const AT_ONCE = 8;
 const $ = (id) => document.getElementById(id);
 const encoder = new TextEncoder();
 const textOf = (from, to) => decoder.decode(bytes.subarray(from, to));
 const plural = (count, word) => `${count.toLocaleString('en')} ${word}${count === 1 ? '' : 's'}`;
 
 let reader, view, list, columns;
-let bytes, lines, found, tokens, cursor = 0;
+let bytes, lines, tokens, cursor = 0;
 // The tokens that count, where only these are listed.
 let counted = null;
 // The line end that the text area's own stands for, or null where the text area is not in use.
 let lineEnd = '\n';
+// The text area's text as it was read last, and where its places lie in the bytes.
+let typed = '', places = new Places();
+// Whether the cursor was not moved since a text was opened.
+let isUntouched = false;
 
 // ---- drawing
 
@@ -44,28 +52,28 @@ function caret() {
 // Whether the cursor is drawn at a place: the text area has its own.
 const isCaretAt = (place) => lineEnd === null && cursor === place;
 
-function put(parent, className, from, to) {
-  if (from >= to) return;
-  if (isCaretAt(from)) parent.append(caret());
-  const cut = lineEnd === null && cursor > from && cursor < to ? cursor : to;
-  const it = element('span', className, textOf(from, cut));
-  it.dataset.from = from;
-  parent.append(it);
-  if (cut < to) put(parent, className, cut, to);
-}
+// What is drawn of a line: bytes one behind another, each with a class and perhaps a mark, and the cursor between them.
+class Pieces {
+  all = [];
 
-// The character that the fault is reported at. A mark stands for a line end, and for the text's end.
-function putFault(parent, to) {
-  const at = found.offset;
-  const end = Math.min(lines.on(at + 1), to);
-  if (isCaretAt(at) && at < to) parent.append(caret());
-  const it = element('span', 'fault', textOf(at, end));
-  it.id = 'fault';
-  it.dataset.from = at;
-  if (at === bytes.length) it.dataset.mark = '▏';
-  else if (bytes[at] === 10 || bytes[at] === 13) it.dataset.mark = '↵';
-  parent.append(it);
-  return end;
+  put(className, from, to, mark = '') {
+    if (from > to || (from === to && className !== 'fault')) return;
+    if (isCaretAt(from) && from < bytes.length) this.putCaret();
+    const cut = lineEnd === null && cursor > from && cursor < to ? cursor : to;
+    this.all.push({ className, from, to: cut, mark });
+    if (cut < to) this.put(className, cut, to);
+  }
+
+  putCaret() { this.all.push({ className: 'caret', from: cursor, to: cursor, mark: '' }); }
+
+  // The character that the fault is reported at. A mark stands for a line end, and for the text's end.
+  putFault(to) {
+    const at = reader.offset;
+    const end = Math.min(lines.on(at + 1), to);
+    const mark = at === bytes.length ? '▏' : bytes[at] === 10 || bytes[at] === 13 ? '↵' : '';
+    this.put('fault', at, end, mark);
+    return end;
+  }
 }
 
 // Of a long line the bytes that are drawn, and where they stand: in the text area those in sight, otherwise those about the cursor.
@@ -73,7 +81,7 @@ function partOf(line, from, to) {
   if (to - from <= LONGEST) return { from, to };
   if (lineEnd !== null) return columns.part(bytes, from, to, view.left - view.width / 2, view.left + 1.5 * view.width);
   const isHere = cursor >= from && cursor < to;
-  const middle = isHere ? cursor : found.ending === 'faulty' && found.line === line ? found.offset : from;
+  const middle = isHere ? cursor : reader.ending === 'faulty' && reader.line === line ? reader.offset : from;
   const first = lines.back(Math.max(from, Math.min(middle - LONGEST / 2, to - LONGEST)));
   return { from: first, to: lines.on(Math.min(to, first + LONGEST)) };
 }
@@ -85,28 +93,73 @@ function classOf(i, held, matched) {
   return i === held ? `${kind} held` : kind;
 }
 
-function drawLine(line, held, matched) {
-  const parent = element('div', 'line');
-  const part = partOf(line, lines.start(line), lines.end(line));
-  // The browser counts the stops of tabs from the padding's end.
-  if (part.stop > 0) parent.style.paddingLeft = `${part.stop}px`;
-  if (part.beyond > 0) parent.style.textIndent = `${part.beyond}px`;
-  if (lineEnd === null && part.from > lines.start(line)) parent.append('…');
+function piecesOf(line, part, held, matched) {
+  const pieces = new Pieces();
   let at = part.from;
   for (let i = tokens.at(at); i < tokens.count && at < part.to; i += 1) {
     const end = Math.min(tokens.end(i), part.to);
-    put(parent, classOf(i, held, matched), at, end);
+    pieces.put(classOf(i, held, matched), at, end);
     at = end;
   }
-  if (found.ending === 'faulty' && found.line === line && found.offset >= at && (found.offset < part.to || part.to === bytes.length)) {
-    put(parent, 'unread', at, found.offset);
-    at = putFault(parent, part.to);
+  if (reader.ending === 'faulty' && reader.line === line && reader.offset >= at && (reader.offset < part.to || part.to === bytes.length)) {
+    pieces.put('unread', at, reader.offset);
+    at = pieces.putFault(part.to);
   }
-  put(parent, 'unread', at, part.to);
-  if (isCaretAt(bytes.length) && line === lines.count - 1) parent.append(caret());
-  if (lineEnd === null && part.to < lines.end(line)) parent.append('…\n');
-  return parent;
+  pieces.put('unread', at, part.to);
+  if (isCaretAt(bytes.length) && line === lines.count - 1) pieces.putCaret();
+  return pieces.all;
 }
+
+function drawPiece({ className, from, to, mark }) {
+  if (className === 'caret') return caret();
+  const it = element('span', className, textOf(from, to));
+  it.dataset.from = from;
+  if (className === 'fault') it.id = className;
+  if (mark) it.dataset.mark = mark;
+  return it;
+}
+
+// The lines that are drawn, by what they show. One that shows the same as one before is that one, since a browser takes long for new ones.
+class DrawnLines {
+  #before = new Map();
+  #now = new Map();
+
+  begin() {
+    this.#before = this.#now;
+    this.#now = new Map();
+  }
+
+  line(line, held, matched) {
+    const start = lines.start(line), end = lines.end(line);
+    const part = partOf(line, start, end);
+    const isCut = lineEnd === null ? [part.from > start, part.to < end] : [false, false];
+    const pieces = piecesOf(line, part, held, matched);
+    const key = [textOf(part.from, part.to), part.stop, part.beyond, ...isCut, ...pieces.map((it) => `${it.className} ${it.to - part.from} ${it.mark}`)].join('\0');
+    const drawn = this.#before.get(key)?.shift() ?? { from: part.from, element: this.#draw(part, isCut, pieces) };
+    if (drawn.from !== part.from) this.#move(drawn, part.from, pieces);
+    if (!this.#now.has(key)) this.#now.set(key, []);
+    this.#now.get(key).push(drawn);
+    return drawn.element;
+  }
+
+  #draw(part, [isCutBefore, isCutBehind], pieces) {
+    const parent = element('div', 'line');
+    // The browser counts the stops of tabs from the padding's end.
+    if (part.stop > 0) parent.style.paddingLeft = `${part.stop}px`;
+    if (part.beyond > 0) parent.style.textIndent = `${part.beyond}px`;
+    if (isCutBefore) parent.append('…');
+    parent.append(...pieces.map(drawPiece));
+    if (isCutBehind) parent.append('…\n');
+    return parent;
+  }
+
+  #move(drawn, from, pieces) {
+    drawn.from = from;
+    for (const [i, it] of [...drawn.element.children].entries()) if (it.dataset.from) it.dataset.from = pieces[i].from;
+  }
+}
+
+const drawnLines = new DrawnLines();
 
 function drawView(first, last, offset) {
   const held = tokens.held(cursor), matched = tokens.pair(cursor);
@@ -114,7 +167,8 @@ function drawView(first, last, offset) {
   const numbers = $('numbers').firstElementChild;
   numbers.style.top = `${offset}px`;
   numbers.textContent = rows.map((line) => line + 1).join('\n');
-  return rows.map((line) => drawLine(line, held, matched));
+  drawnLines.begin();
+  return rows.map((line) => drawnLines.line(line, held, matched));
 }
 
 const visible = (text) => text.replace(/\r/g, '␍').replace(/\n/g, '↵').replace(/\t/g, '⇥');
@@ -181,6 +235,7 @@ function revealCaret() {
 }
 
 function moveTo(offset, from) {
+  if (from !== 'file') isUntouched = false;
   cursor = lines.back(offset);
   if (from !== 'text') reveal();
   view.redraw();
@@ -261,20 +316,21 @@ function say(text, isWrong = false) {
 
 // The fault's place as its message has it: the column is where the mark stands.
 function sayFault() {
-  const [what, place] = found.message.split('\n');
+  const [what, place] = reader.message.split('\n');
   const [line, column] = place.split(':').slice(-2);
   tell('said', '');
   tell('go', `Line ${line}, column ${column}: ${what}`);
 }
 
 function sayEnding() {
-  if (found.ending === 'faulty') sayFault();
-  else if (found.ending === 'whole') say('No fault.');
-  else if (found.ending === 'not UTF-8') say(`The text is not UTF-8 from byte ${found.offset} on.`, true);
-  else say(`The text is ${found.ending}.`, true);
+  if (reader.ending === 'faulty') sayFault();
+  else if (reader.ending === 'whole') say('No fault.');
+  else if (reader.ending === null) say('The text is being read.');
+  else if (reader.ending === 'not UTF-8') say(`The text is not UTF-8 from byte ${reader.offset} on.`, true);
+  else say(`The text is ${reader.ending}.`, true);
   tell('size', `${plural(tokens.count, 'token')}, ${plural(bytes.length, 'byte')}.`);
-  tell('message', found.ending === 'faulty' ? found.message.split('\n').map((line) => line.slice(0, 2 * LONGEST)).join('\n') : '');
-  document.body.dataset.ending = found.ending;
+  tell('message', reader.ending === 'faulty' ? reader.message.split('\n').map((line) => line.slice(0, 2 * LONGEST)).join('\n') : '');
+  document.body.dataset.ending = reader.ending ?? 'unread';
 }
 
 function sayCounted() {
@@ -302,7 +358,7 @@ function showCounts() {
 
 // The bytes of a module of types, which is read as the standard has it and under no names.
 function showBytes() {
-  const module = found.ending === 'whole' && !$('allow').checked ? compileTypes(tokens, bytes) : null;
+  const module = reader.ending === 'whole' && !$('allow').checked ? compileTypes(tokens, bytes) : null;
   $('bytes-part').hidden = !module;
   if (!module) return;
   const rest = module.length > 16 * DUMPED ? `, of which the first ${16 * DUMPED} are shown` : '';
@@ -310,17 +366,17 @@ function showBytes() {
   tell('bytes', dumped(module, DUMPED));
 }
 
-// Reads the text of so many bytes in the reader's memory whole.
-function read(length) {
-  found = reader.read(length, { allow: $('allow').checked, strict: $('strict').checked });
-  bytes = found.bytes;
-  lines = new Lines(bytes);
-  tokens = new Tokens(found);
+const flags = () => ({ allow: $('allow').checked, strict: $('strict').checked });
+
+// Reads on for a while.
+function readOn() {
+  reader.readOn(performance.now() + AT_ONCE);
+  ({ bytes, lines } = reader);
+  tokens = new Tokens(reader);
 }
 
-// Draws what is in sight of a text that was read. What a change of the text costs is measured from its start.
-function show(place, start) {
-  cursor = lines.back(place);
+// Draws what is in sight.
+function draw() {
   $('numbers').style.width = `${Math.max(3, String(lines.count).length) + 2}ch`;
   view.set(lines.count);
   count();
@@ -329,8 +385,53 @@ function show(place, start) {
   follow();
   view.redraw();
   list.redraw();
-  performance.measure('show', { start });
 }
+
+// Draws a text that is read, or its front, behind which the rest is then read. What a change of the text costs is measured from its
+// start, until what is in sight is drawn, and until the whole is read and drawn.
+function show(place, start) {
+  cursor = lines.back(place);
+  draw();
+  performance.measure('show', { start });
+  rest.begin(start);
+}
+
+// What is left of a text is read between the browser's other tasks.
+const rest = {
+  channel: new MessageChannel(),
+  start: 0,
+  isAwaited: false,
+
+  begin(start) {
+    this.start = start;
+    if (reader.ending !== null) this.end(); else this.await();
+  },
+
+  await() {
+    if (!this.isAwaited) this.channel.port2.postMessage(null);
+    this.isAwaited = true;
+  },
+
+  // A change may have had the text read to its end since this was awaited.
+  goOn() {
+    this.isAwaited = false;
+    if (reader.ending !== null) return;
+    readOn();
+    if (reader.ending !== null) {
+      draw();
+      this.end();
+    } else {
+      if ($('seen').querySelector('.unread')) view.redraw();
+      this.await();
+    }
+  },
+
+  end() {
+    performance.measure('read', { start: this.start });
+    if (isUntouched && reader.ending === 'faulty') moveTo(reader.offset, 'file');
+    isUntouched = false;
+  },
+};
 
 // The one line end of a text that a text area can stand for, or null.
 function lineEndOf(text) {
@@ -343,7 +444,7 @@ function lineEndOf(text) {
 // Why a text is only shown, or nothing.
 function refusal(given) {
   if (given.length > EDITABLE) return 'A text of more than a megabyte is shown, and not edited.';
-  if (found.ending === 'not UTF-8') return 'Only a text in UTF-8 can be edited here.';
+  if (reader.ending === 'not UTF-8') return 'Only a text in UTF-8 can be edited here.';
   return lineEndOf(decoder.decode(given)) ? '' : 'A text with line ends of two kinds is shown, and not edited.';
 }
 
@@ -354,6 +455,8 @@ function lend(given) {
   lineEnd = note ? null : lineEndOf(text);
   $('text').hidden = Boolean(note);
   $('text').value = text;
+  typed = $('text').value;
+  places = new Places();
   tell('note', note && `${note} Arrow keys, Home, End and the page keys move the cursor, and so does a click.`);
   const said = { tabindex: '0', role: 'group', 'aria-labelledby': 'text-name', 'aria-describedby': 'note' };
   for (const [name, value] of Object.entries(said)) if (note) $('view').setAttribute(name, value); else $('view').removeAttribute(name);
@@ -363,52 +466,47 @@ function lend(given) {
   view.restart();
 }
 
-// A text from elsewhere. It may be edited where the text area can hold it as it is.
+// A text from elsewhere. It may be edited where the text area can hold it as it is. The cursor goes to its fault, unless it was moved before.
 function open(given) {
   const start = performance.now();
-  reader.room(given.length).set(given);
-  read(given.length);
+  reader.open(given, flags());
+  readOn();
   lend(given);
+  isUntouched = true;
   show(0, start);
-  moveTo(found.ending === 'faulty' ? found.offset : 0, 'file');
-}
-
-// The byte that the text area's place of so many UTF-16 units stands for. A line end is one unit there, CR LF as well.
-function byteAt(units) {
-  let at = 0;
-  for (let left = units; left > 0 && at < bytes.length;) {
-    const first = bytes[at];
-    if (first !== 13) left -= first < 0xf0 ? 1 : 2;
-    at += first < 0x80 ? 1 : first < 0xe0 ? 2 : first < 0xf0 ? 3 : 4;
-  }
-  return at;
+  if (cursor === 0) moveTo(0, 'file');
 }
 
 function onInput() {
   const start = performance.now();
   const { value, selectionEnd } = $('text');
-  const text = lineEnd === '\r\n' ? value.replaceAll('\n', lineEnd) : value;
-  // A UTF-16 unit has three bytes at most.
-  const { written } = encoder.encodeInto(text, reader.room(3 * text.length));
-  read(written);
-  show(byteAt(selectionEnd), start);
+  const { from, to, text } = changeOf(typed, value);
+  typed = value;
+  isUntouched = false;
+  // The last place that is asked for stands in front of the change, and so holds.
+  const end = places.byteAt(bytes, to), begin = places.byteAt(bytes, from);
+  reader.change(begin, end, encoder.encode(lineEnd === '\r\n' ? text.replaceAll('\n', lineEnd) : text));
+  readOn();
+  show(places.byteAt(bytes, selectionEnd), start);
 }
 
 function onSelect() {
   if (document.activeElement !== $('text') || lineEnd === null) return;
-  const place = byteAt($('text').selectionEnd);
+  const place = places.byteAt(bytes, $('text').selectionEnd);
   // A change of the text has moved the cursor already.
   if (place !== cursor) moveTo(place, 'text');
 }
 
 function onFlag() {
-  read(bytes.length);
-  show(cursor, performance.now());
+  const start = performance.now();
+  reader.restart(flags());
+  readOn();
+  show(cursor, start);
 }
 
 // The press on the fault that is told.
 function goToFault() {
-  moveTo(found.offset, 'told');
+  moveTo(reader.offset, 'told');
   view.box.focus({ preventScroll: true });
   view.box.scrollIntoView({ block: 'nearest' });
 }
@@ -459,6 +557,7 @@ function listen() {
   $('counts').addEventListener('change', showCounts);
   $('names').addEventListener('input', showCounts);
   $('example').addEventListener('change', openExample);
+  rest.channel.port1.onmessage = () => rest.goOn();
   $('share').addEventListener('click', share);
   $('go').addEventListener('click', goToFault);
   window.addEventListener('hashchange', openLink);
@@ -480,7 +579,7 @@ async function start() {
     for (const it of document.querySelectorAll('main input, main select, main button, main textarea')) it.disabled = true;
     return;
   }
-  reader = await load();
+  reader = new Reader(await load());
   columns = new Columns(getComputedStyle($('text')));
   view = new Sight([$('text'), $('view')], $('seen'), drawView);
   list = new Sight([$('list')], $('list').querySelector('.seen'), drawList);

@@ -11,7 +11,7 @@ import sys
 
 folder = pathlib.Path(sys.argv[1])
 # Each behind those that it imports.
-SCRIPTS = ["lexer.js", "lines.js", "columns.js", "tokens.js", "names.js", "counts.js", "types.js", "examples.js", "link.js", "page.js"]
+SCRIPTS = ["lexer.js", "lines.js", "columns.js", "reader.js", "edits.js", "tokens.js", "names.js", "counts.js", "types.js", "examples.js", "link.js", "page.js"]
 
 
 def read(name):

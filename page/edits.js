@@ -1,0 +1,72 @@
+// What was typed: which part of a text is another now, and where the text area's places lie in the text's bytes.
+const CARRIAGE_RETURN = 13;
+
+// How many units two texts have in common from these places on, at most so many. Slices are compared since the engine does so by words.
+function common(one, other, oneFrom, otherFrom, most) {
+  let low = 0, high = most;
+  while (low < high) {
+    const middle = (low + high + 1) >>> 1;
+    if (one.slice(oneFrom + low, oneFrom + middle) === other.slice(otherFrom + low, otherFrom + middle)) low = middle; else high = middle - 1;
+  }
+  return low;
+}
+
+// The same back from their ends.
+function commonAtEnd(one, other, most) {
+  let low = 0, high = most;
+  while (low < high) {
+    const middle = (low + high + 1) >>> 1;
+    const isSame = one.slice(one.length - middle, one.length - low) === other.slice(other.length - middle, other.length - low);
+    if (isSame) low = middle; else high = middle - 1;
+  }
+  return low;
+}
+
+const isFirstOfPair = (unit) => unit >= 0xd800 && unit < 0xdc00;
+const isSecondOfPair = (unit) => unit >= 0xdc00 && unit < 0xe000;
+
+// The part of a text, from one unit to another, in whose place another part stands in a new text. No pair of surrogates is parted.
+export function changeOf(before, after) {
+  const least = Math.min(before.length, after.length);
+  let from = common(before, after, 0, 0, least);
+  if (from > 0 && isFirstOfPair(before.charCodeAt(from - 1))) from -= 1;
+  let same = commonAtEnd(before, after, least - from);
+  if (same > 0 && isSecondOfPair(before.charCodeAt(before.length - same))) same -= 1;
+  return { from, to: before.length - same, text: after.slice(from, after.length - same) };
+}
+
+const sizeOf = (first) => (first < 0x80 ? 1 : first < 0xe0 ? 2 : first < 0xf0 ? 3 : 4);
+
+// How many UTF-16 units a character counts in a text area, by its first byte. A line end is one unit there, CR LF as well.
+function unitsOf(first) {
+  if (first === CARRIAGE_RETURN) return 0;
+  return first < 0xf0 ? 1 : 2;
+}
+
+// The byte that a text area's place stands for. The last one is kept, since the next is mostly near it; it holds as long as the text in
+// front of it does.
+export class Places {
+  #units = 0;
+  #at = 0;
+
+  byteAt(bytes, units) {
+    if (this.#units < units) this.#goOn(bytes, units); else this.#goBack(bytes, units);
+    return this.#at;
+  }
+
+  #goOn(bytes, units) {
+    while (this.#units < units && this.#at < bytes.length) {
+      const first = bytes[this.#at];
+      this.#units += unitsOf(first);
+      this.#at += sizeOf(first);
+    }
+  }
+
+  #goBack(bytes, units) {
+    while (this.#units > units) {
+      do this.#at -= 1; while ((bytes[this.#at] & 0xc0) === 0x80);
+      this.#units -= unitsOf(bytes[this.#at]);
+    }
+    if (this.#at > 0 && bytes[this.#at - 1] === CARRIAGE_RETURN) this.#at -= 1;
+  }
+}

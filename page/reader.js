@@ -1,0 +1,199 @@
+// A text and what the lexer reads in it, part by part. What is read of a text that changes is little: what a token is depends on its own
+// characters and the one behind it, so those that end in front of a change stay; and from a place on at which a token began before, behind
+// the change, the tokens are those from before, moved.
+import { LINE_FEED, Lines } from './lines.js';
+
+// In bytes: how much is read at once, at first behind a change, and of a whole text.
+const FIRST_PART = 512;
+const PART = 1 << 16;
+
+// The first of `count` numbers, told by their places, that is not less; or how many there are.
+function firstFrom(count, numberAt, least) {
+  let low = 0, high = count;
+  while (low < high) {
+    const middle = (low + high) >>> 1;
+    if (numberAt(middle) < least) low = middle + 1; else high = middle;
+  }
+  return low;
+}
+
+// Has the tokens of these rows end so many bytes further on.
+function move(rows, first, last, by) {
+  if (by === 0) return;
+  for (let i = 2 * first; i < 2 * last; i += 2) rows[i] += by;
+}
+
+// The tokens that are read lie in the first rows, `count` of them. In the last rows, from `#kept` on, lie those of an earlier reading that
+// stand behind all changes since: the first of them begins at `#keptFrom`, and `#moved` is to be added to where each ends. So many bytes
+// as there are rows at least, and each token has one: the two never meet.
+export class Reader {
+  #lexer;
+  #flags = {};
+  #place = 0;
+  #kept = 0;
+  #keptFrom = 0;
+  #moved = 0;
+  #step = PART;
+
+  constructor(lexer) {
+    this.#lexer = lexer;
+    this.open(new Uint8Array(), {});
+  }
+
+  // A text of which nothing is read yet, or nothing ever where it is no UTF-8 or too long.
+  open(given, flags) {
+    this.#lexer.reserve(given.length);
+    this.#look(given.length);
+    this.bytes.set(given);
+    this.lines = new Lines(this.bytes);
+    this.restart(flags);
+  }
+
+  // Has the text be read anew.
+  restart(flags) {
+    this.#flags = flags;
+    this.#forget();
+    const told = this.#lexer.tell(0, this.bytes.length, 0, 0, flags);
+    if (told.ending === 'not UTF-8' || told.ending === 'too long') this.#end(told);
+  }
+
+  // Puts a piece of text in the place of the bytes from one to another. All three are whole characters, and the text is UTF-8.
+  change(from, to, piece) {
+    const { length } = this.bytes;
+    const more = piece.length - (to - from);
+    if (this.#lexer.reserve(length + more)) this.#forget(); else this.#keep(from, to, more);
+    this.#look(Math.max(length, length + more));
+    this.bytes.copyWithin(from + piece.length, to, length);
+    this.bytes.set(piece, from);
+    this.#look(length + more);
+    this.lines = new Lines(this.bytes);
+  }
+
+  // Reads on until the text or the time ends, and tells whether the text did.
+  readOn(until = Infinity) {
+    while (this.ending === null) {
+      this.#readPart();
+      if (this.ending === null && performance.now() >= until) return false;
+    }
+    return true;
+  }
+
+  endOf(i) { return this.rows[2 * i]; }
+
+  #look(length) {
+    this.bytes = this.#lexer.bytes(length);
+    this.rows = this.#lexer.rows();
+    if (this.lines) this.lines.bytes = this.bytes;
+  }
+
+  #end({ ending, offset = 0, line = 0, column = 0, message = '' }) { Object.assign(this, { ending, offset, line, column, message }); }
+
+  #forget() {
+    this.count = 0;
+    this.#place = 0;
+    this.#kept = this.#lexer.capacity;
+    this.#step = PART;
+    this.#end({ ending: null });
+  }
+
+  // Keeps the tokens in front of a change and those behind it.
+  #keep(from, to, more) {
+    const behind = to === 0 ? 0 : firstFrom(this.count, (i) => this.endOf(i), to) + 1;
+    if (behind < this.count) {
+      this.#kept = this.#lexer.capacity - (this.count - behind);
+      this.#keptFrom = behind > 0 ? this.endOf(behind - 1) : 0;
+      this.#moved = 0;
+      this.rows.copyWithin(2 * this.#kept, 2 * behind, 2 * this.count);
+    } else {
+      this.#leave(to);
+    }
+    this.#keptFrom += more;
+    this.#moved += more;
+    this.count = firstFrom(this.count, (i) => this.endOf(i), from);
+    this.#place = this.count > 0 ? this.endOf(this.count - 1) : 0;
+    this.#step = FIRST_PART;
+    this.#end({ ending: null });
+  }
+
+  // Leaves off those of the kept tokens that begin in front of a place.
+  #leave(place) {
+    while (this.#kept < this.#lexer.capacity && this.#keptFrom < place) {
+      this.#keptFrom = this.endOf(this.#kept) + this.#moved;
+      this.#kept += 1;
+    }
+  }
+
+  // Puts the kept tokens behind those that are read, where they begin there, and tells whether.
+  #join() {
+    this.#leave(this.#place);
+    if (this.#kept === this.#lexer.capacity || this.#keptFrom !== this.#place) return false;
+    const { capacity } = this.#lexer;
+    const last = this.count + capacity - this.#kept;
+    this.rows.copyWithin(2 * this.count, 2 * this.#kept, 2 * capacity);
+    move(this.rows, this.count, last, this.#moved);
+    this.count = last;
+    this.#kept = this.#lexer.capacity;
+    this.#place = this.endOf(this.count - 1);
+    return true;
+  }
+
+  // Reads a part of the text. Of the tokens of a part all stay but the last one, which what follows may change; so does a fault, which
+  // is one only where it is the text's as well.
+  #readPart() {
+    if (this.#join()) return;
+    const { length } = this.bytes;
+    const from = this.#place;
+    const to = this.lines.back(Math.min(length, from + this.#step));
+    let told = this.#lexer.tell(from, to, this.count, this.#kept - this.count, this.#flags);
+    let isPart = to < length;
+    if (isPart && told.ending === 'whole') told.count -= 1;
+    // A single token that is longer than the part, or a fault.
+    if (isPart && told.count === 0) {
+      told = this.#lexer.tell(from, length, this.count, 1, this.#flags);
+      isPart = false;
+    }
+    this.#step = Math.min(PART, 2 * this.#step);
+    if (this.#take(told.count, from) || isPart) return;
+    if (told.ending === 'whole') this.#end(told);
+    if (told.ending === 'faulty') this.#endAt(from + told.offset);
+  }
+
+  // Takes so many tokens that are written behind those that are read, at most until kept ones follow, and tells whether they do.
+  #take(count, from) {
+    const last = this.count + count;
+    move(this.rows, this.count, last, from);
+    while (this.count < last) {
+      // Where none are kept one takes all at once.
+      this.count = this.#kept < this.#lexer.capacity ? this.count + 1 : last;
+      this.#place = this.endOf(this.count - 1);
+      if (this.#join()) return true;
+    }
+    return false;
+  }
+
+  // Ends with a fault at a place. So that its line has its number in the message, the module reads as many line feeds as stand in front of the
+  // token that the line begins in, and the text from there on.
+  #endAt(offset) {
+    const line = this.lines.start(this.lines.at(offset));
+    const token = firstFrom(this.count, (i) => this.endOf(i), line + 1);
+    const from = token > 0 ? this.endOf(token - 1) : 0;
+    const first = from - this.lines.at(from);
+    const covered = this.bytes.slice(first, from).fill(LINE_FEED);
+    const { length } = this.bytes;
+    this.#swap(covered, first);
+    try {
+      this.#end(this.#lexer.render(first, length, this.count - token + 1, this.#flags));
+      this.offset += first;
+    } finally {
+      this.#look(length);
+      this.#swap(covered, first);
+    }
+  }
+
+  // Puts bytes in the place of the text's from one on, which it takes.
+  #swap(given, at) {
+    const those = this.bytes.slice(at, at + given.length);
+    this.bytes.set(given, at);
+    given.set(those);
+  }
+}
