@@ -476,30 +476,26 @@ async function retyping() {
 
 const best = (all) => {
   all.sort((one, other) => one - other);
-  return `${all[0].toFixed(1)} ms at best, ${all[Math.floor(all.length / 2)].toFixed(1)} in the middle of ${all.length}`;
+  return `${all[0].toFixed(1)} ms at best, ${all[Math.floor(all.length / 2)].toFixed(1)} in the middle`;
 };
+const LAST = "['show', 'read'].map((name) => performance.getEntriesByName(name).at(-1).duration)";
 
-// The page's own work, as it measures it: until what is in sight is drawn, and until all is read.
-async function timesOf(times, change) {
-  const shown = [], read = [];
+// Runs in the page: types a piece at a place and takes it away again, in turn. Nothing is laid out between, which for a megabyte takes a second
+// in a text area.
+async function typeOften(times, place, piece, last) {
+  const it = document.querySelector('#text');
+  const all = [];
   for (let i = 0; i < times; i += 1) {
-    await change(i);
-    shown.push(await ask("performance.getEntriesByName('show').at(-1).duration"));
-    read.push(await ask("performance.getEntriesByName('read').at(-1).duration"));
-    await pause(20);
+    const before = performance.getEntriesByName('read').length;
+    if (i % 2 === 0) it.setRangeText(piece, place, place, 'end'); else it.setRangeText('', place, place + piece.length, 'end');
+    it.dispatchEvent(new Event('input'));
+    while (performance.getEntriesByName('read').length === before) await new Promise((done) => setTimeout(done));
+    all.push(last());
   }
-  return `drawn: ${best(shown)}; read: ${best(read)}`;
+  return all;
 }
 
-// Puts a piece in the text area at a place, or takes as much away, and waits until all is read.
-const retype = (place, taken, piece) => ask(`(async () => {
-  const it = document.querySelector('#text');
-  it.setRangeText('${piece}', ${place}, ${place} + ${taken}, 'end');
-  const before = performance.getEntriesByName('read').length;
-  it.dispatchEvent(new Event('input'));
-  while (performance.getEntriesByName('read').length === before) await new Promise((done) => setTimeout(done));
-})()`);
-
+// The page's own work, as it measures it: until what is in sight is drawn, and until all is read.
 async function times() {
   for (const megabytes of [1, 10]) {
     const bytes = spawnSync('python3', [here('../tools/generate.py'), String(megabytes)], { maxBuffer: 2 ** 30 }).stdout;
@@ -513,22 +509,29 @@ async function times() {
     const at = bytes.toString().indexOf(shown.text);
     assert.ok(shown.text.length > 100 && at >= 0, 'the middle of the text');
     assert.equal(shown.numbers[0], bytes.toString().slice(0, at).split('\n').length);
-    const tell = async (name, times, change) => console.log(`  ${bytes.length} bytes, ${name}: ${await timesOf(times, change)}`);
-    if (megabytes === 10) {
-      await tell('opened', 25, () => drop(bytes));
-      continue;
+    const tell = (name, all) => console.log(`  ${bytes.length} bytes, ${name}: ${best(all.map((it) => it[0]))}; all read ${best(all.map((it) => it[1]))}`);
+    const tellEach = async (name, times, change) => {
+      const all = [];
+      for (let i = 0; i < times; i += 1) {
+        await change();
+        all.push(await ask(LAST));
+        await pause(20);
+      }
+      tell(name, all);
+    };
+    if (page.isEdited) {
+      const line = (place) => bytes.toString().indexOf('\n', place) + 1;
+      for (const [name, place, piece] of [['a letter in the middle', bytes.length / 2, 'x'], ['a quote in the middle', bytes.length / 2, '"'], ['a letter in front', 0, 'x'], ['a quote in front', 0, '"'], ['a comment in front', 0, '(;']]) {
+        tell(name, await ask(`(${typeOften})(26, ${line(place)}, ${JSON.stringify(piece)}, () => ${LAST})`));
+      }
+      await tellEach('read anew', 25, () => ask(`(async () => {
+        const before = performance.getEntriesByName('read').length;
+        document.querySelector('#strict').click();
+        while (performance.getEntriesByName('read').length === before) await new Promise((done) => setTimeout(done));
+      })()`));
+      await ask("document.querySelector('#strict').checked = false");
     }
-    await tell('opened', 9, () => drop(bytes));
-    await tell('read anew', 24, () => ask(`(async () => {
-      const before = performance.getEntriesByName('read').length;
-      document.querySelector('#strict').click();
-      while (performance.getEntriesByName('read').length === before) await new Promise((done) => setTimeout(done));
-    })()`));
-    // Each piece is typed and taken away again, in turn.
-    for (const [name, place, piece] of [['a letter in front', 0, 'x'], ['a letter in the middle', bytes.length / 2, 'x'], ['a quote in front', 0, '"'], ['a comment in front', 0, '(;']]) {
-      const where = bytes.indexOf('\n', place) + 1;
-      await tell(name, 26, (i) => retype(where, i % 2 === 0 ? 0 : piece.length, i % 2 === 0 ? piece : ''));
-    }
+    await tellEach('opened', page.isEdited ? 5 : 25, () => drop(bytes));
   }
 }
 

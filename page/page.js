@@ -213,7 +213,7 @@ function drawList(first, last) {
 // Has the list stand at the cursor's token, or the nearest one.
 function follow() {
   const held = tokens.held(cursor);
-  if (listedCount() > 0) list.reveal(Math.min(placeOf(tokens.at(cursor)), listedCount() - 1));
+  if (listedCount() > 0) list.revealSoon(Math.min(placeOf(tokens.at(cursor)), listedCount() - 1));
   if (held >= 0 && isListed(held)) list.box.setAttribute('aria-activedescendant', `token-${held}`);
   else list.box.removeAttribute('aria-activedescendant');
   const line = lines.at(cursor);
