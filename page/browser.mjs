@@ -521,8 +521,8 @@ async function times() {
     };
     if (page.isEdited) {
       const line = (place) => bytes.toString().indexOf('\n', place) + 1;
-      for (const [name, place, piece] of [['a letter in the middle', bytes.length / 2, 'x'], ['a quote in the middle', bytes.length / 2, '"'], ['a letter in front', 0, 'x'], ['a quote in front', 0, '"'], ['a comment in front', 0, '(;']]) {
-        tell(name, await ask(`(${typeOften})(26, ${line(place)}, ${JSON.stringify(piece)}, () => ${LAST})`));
+      for (const [times, name, place, piece] of [[26, 'a letter in the middle', bytes.length / 2, 'x'], [12, 'a letter in front', 0, 'x'], [12, 'a quote in the middle', bytes.length / 2, '"'], [12, 'a comment in front', 0, '(;']]) {
+        tell(name, await ask(`(${typeOften})(${times}, ${line(place)}, ${JSON.stringify(piece)}, () => ${LAST})`));
       }
       await tellEach('read anew', 25, () => ask(`(async () => {
         const before = performance.getEntriesByName('read').length;
