@@ -481,11 +481,11 @@ function onInput() {
   const start = performance.now();
   const { value, selectionEnd } = $('text');
   const { from, to, text } = changeOf(typed, value);
-  typed = value;
   isUntouched = false;
   // The last place that is asked for stands in front of the change, and so holds.
   const end = places.byteAt(bytes, to), begin = places.byteAt(bytes, from);
   reader.change(begin, end, encoder.encode(lineEnd === '\r\n' ? text.replaceAll('\n', lineEnd) : text));
+  typed = value;
   readOn();
   show(places.byteAt(bytes, selectionEnd), start);
 }
