@@ -86,15 +86,19 @@ const heldAt = (place) => ask(`{ const it = document.querySelector('#text'); it.
 // Types into the text area, which an example brings back where a text was only shown.
 const type = (text) => ask(`{ const it = document.querySelector('#text'); if (it.hidden) document.querySelector('#example').dispatchEvent(new Event('change')); it.value = ${JSON.stringify(text)}; it.setSelectionRange(0, 0); it.dispatchEvent(new Event('input')); } ${SHOWN}`);
 
+// How many changes of the text are read to its end; and to wait in the page for a further one.
+const READ = "performance.getEntriesByName('read').length";
+const untilReadSince = (before) => `(async () => { while (${READ} === ${before}) await new Promise((done) => setTimeout(done, 4)); })()`;
+
 async function drop(bytes) {
   const path = join(room, 'text.wat');
   writeFileSync(path, bytes);
-  const before = await ask("performance.getEntriesByName('read').length");
+  const before = await ask(READ);
   const { root } = await send('DOM.getDocument');
   const { nodeId } = await send('DOM.querySelector', { nodeId: root.nodeId, selector: '#file' });
   await ask("document.querySelector('#file').value = ''");
   await send('DOM.setFileInputFiles', { nodeId, files: [path] });
-  while ((await ask("performance.getEntriesByName('read').length")) === before) await pause(5);
+  await ask(untilReadSince(before));
   return ask(SHOWN);
 }
 
@@ -521,14 +525,14 @@ async function times() {
     };
     if (page.isEdited) {
       const line = (place) => bytes.toString().indexOf('\n', place) + 1;
-      for (const [times, name, place, piece] of [[26, 'a letter in the middle', bytes.length / 2, 'x'], [12, 'a letter in front', 0, 'x'], [12, 'a quote in the middle', bytes.length / 2, '"'], [12, 'a comment in front', 0, '(;']]) {
+      for (const [times, name, place, piece] of [[26, 'a letter in the middle', bytes.length / 2, 'x'], [10, 'a letter in front', 0, 'x'], [10, 'a quote in the middle', bytes.length / 2, '"'], [6, 'a comment in front', 0, '(;']]) {
         tell(name, await ask(`(${typeOften})(${times}, ${line(place)}, ${JSON.stringify(piece)}, () => ${LAST})`));
       }
-      await tellEach('read anew', 25, () => ask(`(async () => {
-        const before = performance.getEntriesByName('read').length;
-        document.querySelector('#strict').click();
-        while (performance.getEntriesByName('read').length === before) await new Promise((done) => setTimeout(done));
-      })()`));
+      await tellEach('read anew', 25, async () => {
+        const before = await ask(READ);
+        await ask("document.querySelector('#strict').click()");
+        await ask(untilReadSince(before));
+      });
       await ask("document.querySelector('#strict').checked = false");
     }
     await tellEach('opened', page.isEdited ? 5 : 25, () => drop(bytes));
