@@ -134,7 +134,8 @@ class DrawnLines {
     const part = partOf(line, start, end);
     const isCut = lineEnd === null ? [part.from > start, part.to < end] : [false, false];
     const pieces = piecesOf(line, part, held, matched);
-    const key = [textOf(part.from, part.to), part.stop, part.beyond, ...isCut, ...pieces.map((it) => `${it.className} ${it.to - part.from} ${it.mark}`)].join('\0');
+    const shapes = pieces.map((it) => `${it.className} ${it.to - part.from} ${it.mark}`);
+    const key = [textOf(part.from, part.to), part.stop, part.beyond, ...isCut, ...shapes].join('\0');
     const drawn = this.#before.get(key)?.shift() ?? { from: part.from, element: this.#draw(part, isCut, pieces) };
     if (drawn.from !== part.from) this.#move(drawn, part.from, pieces);
     if (!this.#now.has(key)) this.#now.set(key, []);
