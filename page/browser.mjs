@@ -150,20 +150,25 @@ async function droppedTexts() {
   await ask("{ const it = document.querySelector('#text'); it.value += 'c'; it.dispatchEvent(new Event('input')); }");
   assert.equal((await ask(SHOWN)).text, '(a)\r\n\t(b "\u{1f600}")\r\nc');
   assert.deepEqual([await heldAt(3), await heldAt(4), await heldAt(11), await heldAt(12), await heldAt(14)], ['3..6', '3..6', '9..15', '15..16', '18..19']);
-  const dropped = async (size) => {
+  // What is shown once this text is, or after some seconds.
+  const dropped = async (size, text) => {
     await ask(`{ const given = new DataTransfer(); given.items.add(new File(['(dropped)'.repeat(${size})], 'a.wat')); document.dispatchEvent(new DragEvent('drop', { dataTransfer: given, bubbles: true, cancelable: true })); }`);
-    await pause(200);
-    return ask(SHOWN);
+    for (let i = 0; i < 50; i += 1) {
+      await pause(200);
+      page = await ask(SHOWN);
+      if (page.text === text) break;
+    }
+    return page;
   };
-  assert.equal((await dropped(1)).text, '(dropped)');
+  assert.equal((await dropped(1, '(dropped)')).text, '(dropped)');
   // A file that cannot be read leaves the text; one that there is no memory for leaves none.
   for (const [refused, size, text] of [['Blob.prototype.arrayBuffer', 2, '(dropped)'], ['WebAssembly.Memory.prototype.grow', 1e6, '']]) {
     await ask(`window.kept = ${refused}; ${refused} = () => { throw new RangeError('refused'); };`);
-    page = await dropped(size);
+    page = await dropped(size, text);
     assert.deepEqual([page.told, page.text], ['The file could not be read: RangeError: refused', text]);
     await ask(`${refused} = window.kept;`);
   }
-  assert.equal((await dropped(1)).text, '(dropped)');
+  assert.equal((await dropped(1, '(dropped)')).text, '(dropped)');
   page = await drop('a\rb\n');
   assert.deepEqual([page.text, page.isEdited], ['a\rb\n', false]);
   page = await drop(Buffer.from([40, 255]));
