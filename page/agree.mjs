@@ -1,24 +1,29 @@
 // Compares the module and what the page makes of its answers with the program, under node, on all stored texts and on 10 MB of generated
-// text: every token and every fault with its message; which tokens count, under several names; and the bytes of modules of types.
+// text: every token and every fault with its message; which tokens count, under several names; and the bytes of modules of types. And what is
+// read part by part, of a whole text and after each of many edits, with what is read of the whole in one call.
 // usage: node --experimental-wasm-memory64 agree.mjs PROGRAM, once build.sh has made the module
 import { spawnSync } from 'node:child_process';
 import { existsSync, readFileSync, readdirSync } from 'node:fs';
 import { fileURLToPath } from 'node:url';
 import { whatCounts } from './counts.js';
-import { KINDS, lexer } from './lexer.js';
+import { Chance, compare, editOften, readOnce } from './edited.mjs';
+import { KINDS, Lexer } from './lexer.js';
+import { Reader } from './reader.js';
 import { Tokens } from './tokens.js';
 import { compileTypes } from './types.js';
 
 const program = process.argv[2];
 if (!program) throw new Error('usage: node --experimental-wasm-memory64 agree.mjs PROGRAM');
 const here = (name) => fileURLToPath(new URL(name, import.meta.url));
-const { room, read } = lexer(new WebAssembly.Instance(new WebAssembly.Module(readFileSync(here('out/wat_page.wasm')))));
+const module = new WebAssembly.Module(readFileSync(here('out/wat_page.wasm')));
+const lexer = new Lexer(new WebAssembly.Instance(module));
+const reader = new Reader(new Lexer(new WebAssembly.Instance(module)));
 const FLAGS = { '--allow-confusing': 'allow', '--strict-underscores': 'strict' };
 const MUTATIONS = 40;
+const EDITS = 60;
 
 function readWhole(bytes, flags) {
-  room(bytes.length).set(bytes);
-  const found = read(bytes.length, flags);
+  const found = readOnce(lexer, bytes, flags);
   if (found.ending !== 'whole' && found.ending !== 'faulty') throw new Error(`a text that is ${found.ending}`);
   return found;
 }
@@ -33,7 +38,7 @@ function ran(words, input) {
 const flagsOf = (words) => Object.fromEntries(words.filter((word) => word in FLAGS).map((word) => [FLAGS[word], true]));
 const lineOf = (tokens, i) => `${tokens.start(i)}..${tokens.end(i)} ${tokens.kind(i)}\n`;
 
-const told = { stored: 0, tokens: 0, faults: 0, signatures: 0, counting: 0, wrong: 0, modules: 0, refused: 0, other: [] };
+const told = { stored: 0, tokens: 0, faults: 0, edits: 0, signatures: 0, counting: 0, wrong: 0, modules: 0, refused: 0, other: [] };
 
 // What the program prints, on both streams.
 function compareTokens(name, bytes, words) {
@@ -52,6 +57,15 @@ function compareTokens(name, bytes, words) {
   told.faults += fault ? 1 : 0;
   if (list !== its.list || fault !== its.fault) told.other.push(name);
   return list;
+}
+
+// What is read part by part, and after edits.
+function compareParts(bytes, flags, times, chance) {
+  reader.open(bytes, flags);
+  reader.readOn();
+  compare(reader, lexer, flags);
+  if (times > 0) editOften(reader, lexer, bytes.toString(), times, chance);
+  told.edits += times;
 }
 
 // How the program tells what is wrong with an annotation, as far as that is compared: not the rendered line.
@@ -85,13 +99,9 @@ function compareTypes(name, bytes) {
   if (its.isRefused ? mine !== null : mine === null || !its.output.equals(mine)) told.other.push(`${name}: types`);
 }
 
-let seed = 1;
-function chosen(count) {
-  seed = (seed * 48271) % 2147483647;
-  return seed % count;
-}
-
-const oneOf = (parts) => parts[chosen(parts.length)];
+const chance = new Chance(1), editing = new Chance(2);
+const chosen = (count) => chance.below(count);
+const oneOf = (parts) => chance.oneOf(parts);
 const many = (most, make) => Array.from({ length: chosen(most + 1) }, make);
 
 // The tokens of a module of up to so many types, with what does not count between them.
@@ -131,6 +141,7 @@ for (const name of readdirSync(folder).filter((it) => existsSync(`${folder}${it}
   }
   for (const names of isSignature ? [words.slice(flags.length + 1), ...NAMES] : NAMES) compareCounts(name, bytes, flags, names);
   compareTypes(name, bytes);
+  compareParts(bytes, flagsOf(flags), EDITS, editing);
 }
 for (const text of modules()) {
   const bytes = Buffer.from(text);
@@ -141,6 +152,8 @@ const generated = spawnSync('python3', [here('../tools/generate.py'), '10'], { m
 if (generated.error) throw generated.error;
 const text = generated.stdout;
 compareTokens('generated', text, []);
+compareParts(text, {}, 0);
+for (let at = 0; at < 20; at += 1) compareParts(text.subarray(at * 400_000, at * 400_000 + (at % 4 === 0 ? 300_000 : 20_000)), {}, 2 * EDITS, editing);
 for (const names of [[], ['custom']]) compareCounts('generated', text, [], names);
 for (const strict of [false, true]) {
   const times = [];

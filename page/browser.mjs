@@ -86,15 +86,19 @@ const heldAt = (place) => ask(`{ const it = document.querySelector('#text'); it.
 // Types into the text area, which an example brings back where a text was only shown.
 const type = (text) => ask(`{ const it = document.querySelector('#text'); if (it.hidden) document.querySelector('#example').dispatchEvent(new Event('change')); it.value = ${JSON.stringify(text)}; it.setSelectionRange(0, 0); it.dispatchEvent(new Event('input')); } ${SHOWN}`);
 
+// How many changes of the text are read to its end; and to wait in the page for a further one.
+const READ = "performance.getEntriesByName('read').length";
+const untilReadSince = (before) => `(async () => { while (${READ} === ${before}) await new Promise((done) => setTimeout(done, 4)); })()`;
+
 async function drop(bytes) {
   const path = join(room, 'text.wat');
   writeFileSync(path, bytes);
-  const before = await ask("performance.getEntriesByName('read').length");
+  const before = await ask(READ);
   const { root } = await send('DOM.getDocument');
   const { nodeId } = await send('DOM.querySelector', { nodeId: root.nodeId, selector: '#file' });
   await ask("document.querySelector('#file').value = ''");
   await send('DOM.setFileInputFiles', { nodeId, files: [path] });
-  while ((await ask("performance.getEntriesByName('read').length")) === before) await pause(5);
+  await ask(untilReadSince(before));
   return ask(SHOWN);
 }
 
@@ -146,20 +150,25 @@ async function droppedTexts() {
   await ask("{ const it = document.querySelector('#text'); it.value += 'c'; it.dispatchEvent(new Event('input')); }");
   assert.equal((await ask(SHOWN)).text, '(a)\r\n\t(b "\u{1f600}")\r\nc');
   assert.deepEqual([await heldAt(3), await heldAt(4), await heldAt(11), await heldAt(12), await heldAt(14)], ['3..6', '3..6', '9..15', '15..16', '18..19']);
-  const dropped = async (size) => {
+  // What is shown once this text is, or after some seconds.
+  const dropped = async (size, text) => {
     await ask(`{ const given = new DataTransfer(); given.items.add(new File(['(dropped)'.repeat(${size})], 'a.wat')); document.dispatchEvent(new DragEvent('drop', { dataTransfer: given, bubbles: true, cancelable: true })); }`);
-    await pause(200);
-    return ask(SHOWN);
+    for (let i = 0; i < 50; i += 1) {
+      await pause(200);
+      page = await ask(SHOWN);
+      if (page.text === text) break;
+    }
+    return page;
   };
-  assert.equal((await dropped(1)).text, '(dropped)');
+  assert.equal((await dropped(1, '(dropped)')).text, '(dropped)');
   // A file that cannot be read leaves the text; one that there is no memory for leaves none.
   for (const [refused, size, text] of [['Blob.prototype.arrayBuffer', 2, '(dropped)'], ['WebAssembly.Memory.prototype.grow', 1e6, '']]) {
     await ask(`window.kept = ${refused}; ${refused} = () => { throw new RangeError('refused'); };`);
-    page = await dropped(size);
+    page = await dropped(size, text);
     assert.deepEqual([page.told, page.text], ['The file could not be read: RangeError: refused', text]);
     await ask(`${refused} = window.kept;`);
   }
-  assert.equal((await dropped(1)).text, '(dropped)');
+  assert.equal((await dropped(1, '(dropped)')).text, '(dropped)');
   page = await drop('a\rb\n');
   assert.deepEqual([page.text, page.isEdited], ['a\rb\n', false]);
   page = await drop(Buffer.from([40, 255]));
@@ -476,30 +485,26 @@ async function retyping() {
 
 const best = (all) => {
   all.sort((one, other) => one - other);
-  return `${all[0].toFixed(1)} ms at best, ${all[Math.floor(all.length / 2)].toFixed(1)} in the middle of ${all.length}`;
+  return `${all[0].toFixed(1)} ms at best, ${all[Math.floor(all.length / 2)].toFixed(1)} in the middle`;
 };
+const LAST = "['show', 'read'].map((name) => performance.getEntriesByName(name).at(-1).duration)";
 
-// The page's own work, as it measures it: until what is in sight is drawn, and until all is read.
-async function timesOf(times, change) {
-  const shown = [], read = [];
+// Runs in the page: types a piece at a place and takes it away again, in turn. Nothing is laid out between, which for a megabyte takes a second
+// in a text area.
+async function typeOften(times, place, piece, last) {
+  const it = document.querySelector('#text');
+  const all = [];
   for (let i = 0; i < times; i += 1) {
-    await change(i);
-    shown.push(await ask("performance.getEntriesByName('show').at(-1).duration"));
-    read.push(await ask("performance.getEntriesByName('read').at(-1).duration"));
-    await pause(20);
+    const before = performance.getEntriesByName('read').length;
+    if (i % 2 === 0) it.setRangeText(piece, place, place, 'end'); else it.setRangeText('', place, place + piece.length, 'end');
+    it.dispatchEvent(new Event('input'));
+    while (performance.getEntriesByName('read').length === before) await new Promise((done) => setTimeout(done));
+    all.push(last());
   }
-  return `drawn: ${best(shown)}; read: ${best(read)}`;
+  return all;
 }
 
-// Puts a piece in the text area at a place, or takes as much away, and waits until all is read.
-const retype = (place, taken, piece) => ask(`(async () => {
-  const it = document.querySelector('#text');
-  it.setRangeText('${piece}', ${place}, ${place} + ${taken}, 'end');
-  const before = performance.getEntriesByName('read').length;
-  it.dispatchEvent(new Event('input'));
-  while (performance.getEntriesByName('read').length === before) await new Promise((done) => setTimeout(done));
-})()`);
-
+// The page's own work, as it measures it: until what is in sight is drawn, and until all is read.
 async function times() {
   for (const megabytes of [1, 10]) {
     const bytes = spawnSync('python3', [here('../tools/generate.py'), String(megabytes)], { maxBuffer: 2 ** 30 }).stdout;
@@ -513,22 +518,29 @@ async function times() {
     const at = bytes.toString().indexOf(shown.text);
     assert.ok(shown.text.length > 100 && at >= 0, 'the middle of the text');
     assert.equal(shown.numbers[0], bytes.toString().slice(0, at).split('\n').length);
-    const tell = async (name, times, change) => console.log(`  ${bytes.length} bytes, ${name}: ${await timesOf(times, change)}`);
-    if (megabytes === 10) {
-      await tell('opened', 25, () => drop(bytes));
-      continue;
+    const tell = (name, all) => console.log(`  ${bytes.length} bytes, ${name}: ${best(all.map((it) => it[0]))}; all read ${best(all.map((it) => it[1]))}`);
+    const tellEach = async (name, times, change) => {
+      const all = [];
+      for (let i = 0; i < times; i += 1) {
+        await change();
+        all.push(await ask(LAST));
+        await pause(20);
+      }
+      tell(name, all);
+    };
+    if (page.isEdited) {
+      const line = (place) => bytes.toString().indexOf('\n', place) + 1;
+      for (const [times, name, place, piece] of [[26, 'a letter in the middle', bytes.length / 2, 'x'], [10, 'a letter in front', 0, 'x'], [10, 'a quote in the middle', bytes.length / 2, '"'], [6, 'a comment in front', 0, '(;']]) {
+        tell(name, await ask(`(${typeOften})(${times}, ${line(place)}, ${JSON.stringify(piece)}, () => ${LAST})`));
+      }
+      await tellEach('read anew', 25, async () => {
+        const before = await ask(READ);
+        await ask("document.querySelector('#strict').click()");
+        await ask(untilReadSince(before));
+      });
+      await ask("document.querySelector('#strict').checked = false");
     }
-    await tell('opened', 9, () => drop(bytes));
-    await tell('read anew', 24, () => ask(`(async () => {
-      const before = performance.getEntriesByName('read').length;
-      document.querySelector('#strict').click();
-      while (performance.getEntriesByName('read').length === before) await new Promise((done) => setTimeout(done));
-    })()`));
-    // Each piece is typed and taken away again, in turn.
-    for (const [name, place, piece] of [['a letter in front', 0, 'x'], ['a letter in the middle', bytes.length / 2, 'x'], ['a quote in front', 0, '"'], ['a comment in front', 0, '(;']]) {
-      const where = bytes.indexOf('\n', place) + 1;
-      await tell(name, 26, (i) => retype(where, i % 2 === 0 ? 0 : piece.length, i % 2 === 0 ? piece : ''));
-    }
+    await tellEach('opened', page.isEdited ? 5 : 25, () => drop(bytes));
   }
 }
 

@@ -1,11 +1,9 @@
-// Texts that are edited at random, over and over: what is read after each edit has to be what is read of the whole text anew, in one call of the
-// module. Half of the edits come as units of a text area's text, as they do in the page.
+// Texts that are edited at random, over and over: what is read after each edit has to be what the module says of the whole text in one call.
 import assert from 'node:assert/strict';
 import { changeOf, Places } from './edits.js';
 import { Lines } from './lines.js';
-import { Reader } from './reader.js';
 
-const PIECES = ['"', '""', '\\', '\\"', '\\q', '\\u{e9}', '(;', ';)', ';;', ';', '(', ')', '(@', '@', '@"', '$', '$"', ',', '[', '0x', '1_000', '1__0', '_', 'nan:0x', '+', 'a', 'i32', ' ', '  ', '\n', '\n\n', '\t', '\r\n', '\r', '\u00e9', '\u202e', '\u6f22', '\u{1f600}', '\u{1f600}\u{1f601}', '\0', '\x7f'];
+const PIECES = ['"', '""', '\\', '\\"', '\\q', '\\u{e9}', '(;', ';)', ';;', ';', '(', ')', '(@', '@', '@"', '$', '$"', ',', '[', '0x', '1_000', '1__0', '_', 'nan:0x', '+', 'a', 'i32', ' ', '  ', '\n', '\n\n', '\t', '\r\n', '\r', '\u00e9', '\u202e', '\u6f22', '\u{1f600}', '\u{1fa00}', '\u{1f600}\u{1fa00}', '\0', '\x7f'];
 const LONG = ['x'.repeat(3000), ' '.repeat(2000), '(; (; \u{1f600} ;) ', `"${'\u6f22'.repeat(400)}"`, '(a $b "c" ;; d\n'.repeat(100), ';; e\n'.repeat(40)];
 
 export class Chance {
@@ -23,64 +21,75 @@ export class Chance {
 export function readOnce(lexer, bytes, flags) {
   lexer.reserve(bytes.length);
   lexer.bytes(bytes.length).set(bytes);
-  return lexer.render(0, bytes.length, bytes.length, flags);
+  const told = lexer.render(0, bytes.length, bytes.length, flags);
+  return { ...told, bytes: lexer.bytes(bytes.length) };
 }
 
-// Whether a reader says the same.
+const isSame = (one, other) => Buffer.from(one.slice().buffer).equals(Buffer.from(other.slice().buffer));
+
+// Whether a reader says the same; and where it has not read all, whether what it says is the beginning.
 export function compare(reader, lexer, flags) {
-  const { bytes } = reader;
-  const whole = readOnce(lexer, bytes, flags);
-  for (const it of ['ending', 'count', 'offset', 'line', 'column', 'message']) assert.equal(reader[it], whole[it], it);
-  assert.ok(Buffer.from(reader.rows.slice(0, 2 * reader.count).buffer).equals(Buffer.from(whole.rows.slice().buffer)), 'rows');
-  const lines = new Lines(bytes);
+  const whole = readOnce(lexer, reader.bytes, flags);
+  const isRead = reader.ending !== null;
+  for (const it of isRead ? ['ending', 'count', 'offset', 'line', 'column', 'message'] : []) assert.equal(reader[it], whole[it], it);
+  assert.ok(reader.count <= whole.count && isSame(reader.rows.subarray(0, 2 * reader.count), whole.rows.subarray(0, 2 * reader.count)), 'rows');
+  const lines = new Lines(reader.bytes);
   assert.deepEqual([reader.lines.count, reader.lines.before], [lines.count, lines.before], 'lines');
 }
 
-// Another text, and which part of the one before it is replaced by what: units of a string.
-function edit(text, chance) {
-  const isNear = chance.below(4) > 0;
-  edit.at = isNear && edit.at <= text.length ? edit.at : chance.below(text.length + 1);
-  const from = Math.max(0, edit.at - (chance.below(3) === 0 ? chance.below(5) : 0));
-  const length = [0, 0, 1, 1, 2, chance.below(20), chance.below(6) === 0 ? chance.below(4000) : 0][chance.below(7)];
-  const far = chance.below(40) === 0 ? text.slice(chance.below(text.length + 1)).slice(0, chance.below(3000)) : '';
-  const piece = far || (chance.below(30) === 0 ? chance.oneOf(LONG) : chance.below(4) === 0 ? '' : chance.oneOf(PIECES));
-  edit.at = from + piece.length;
-  return text.slice(0, from) + piece + text.slice(from + length);
+// Edits, most of which are where the one before ended.
+class Edits {
+  constructor(chance) {
+    this.chance = chance;
+    this.at = 0;
+  }
+
+  piece(text) {
+    const { chance } = this;
+    if (chance.below(4) === 0) return '';
+    if (chance.below(30) === 0) return chance.oneOf(LONG);
+    return chance.below(40) > 0 ? chance.oneOf(PIECES) : text.slice(chance.below(text.length + 1)).slice(0, chance.below(3000));
+  }
+
+  taken() {
+    const { chance } = this;
+    return chance.oneOf([0, 0, 0, 1, 1, 2, chance.below(20), chance.below(6) === 0 ? chance.below(4000) : 0]);
+  }
+
+  next(text) {
+    const { chance } = this;
+    if (chance.below(4) === 0 || this.at > text.length) this.at = chance.below(text.length + 1);
+    const from = Math.max(0, this.at - chance.oneOf([0, 0, 1, 4]));
+    const piece = this.piece(text);
+    this.at = from + piece.length;
+    return text.slice(0, from) + piece + text.slice(from + this.taken());
+  }
 }
-edit.at = 0;
 
-// What a text area makes of a text.
-const normal = (text) => text.replace(/\r\n?/g, '\n').toWellFormed();
-
-// Edits a text so many times, of which each is read on from the last. Where the line ends are CR LF, the text area holds LF.
+// Edits a text so many times. Half of the texts are those of a text area, which holds LF also where the bytes have CR LF, and finds the bytes by
+// its units, as the page does.
 export function editOften(reader, lexer, given, times, chance) {
   const encoder = new TextEncoder();
   const flags = { allow: chance.below(4) === 0, strict: chance.below(4) === 0 };
-  const lineEnd = chance.below(3) === 0 ? '\r\n' : '\n';
   const isTyped = chance.below(2) === 0;
-  const bytesOf = (text) => encoder.encode(isTyped ? text.replaceAll('\n', lineEnd) : text);
-  let text = isTyped ? normal(given) : given.toWellFormed();
-  const places = new Places();
+  const lineEnd = isTyped && chance.below(2) === 0 ? '\r\n' : '\n';
+  const held = (text) => (isTyped ? text.replace(/\r\n?/g, '\n') : text).toWellFormed();
+  const bytesOf = (text) => encoder.encode(text.replaceAll('\n', lineEnd));
+  const edits = new Edits(chance), places = new Places();
+  let text = held(given);
+  const byteAt = (units) => (isTyped ? places.byteAt(reader.bytes, units) : encoder.encode(text.slice(0, units)).length);
   reader.open(bytesOf(text), flags);
-  reader.readOn();
-  compare(reader, lexer, flags);
   for (let i = 0; i < times; i += 1) {
-    const next = isTyped ? normal(edit(text, chance)) : edit(text, chance).toWellFormed();
+    // Now and then the next edit comes before all is read.
+    reader.readOn(chance.below(5) === 0 ? 0 : Infinity);
+    compare(reader, lexer, flags);
+    const next = held(edits.next(text));
     const change = changeOf(text, next);
     assert.equal(text.slice(0, change.from) + change.text + text.slice(change.to), next);
-    // Without a text area a place is counted by encoding what stands in front of it.
-    const at = (units) => (isTyped ? places.byteAt(reader.bytes, units) : encoder.encode(text.slice(0, units)).length);
-    const to = at(change.to), from = at(change.from);
+    const to = byteAt(change.to), from = byteAt(change.from);
     reader.change(from, to, bytesOf(change.text));
     text = next;
-    assert.ok(Buffer.from(reader.bytes).equals(bytesOf(text)), 'the text');
-    // Some readings end early, and the next edit comes.
-    if (chance.below(5) === 0) {
-      reader.readOn(0);
-      continue;
-    }
-    reader.readOn();
-    compare(reader, lexer, flags);
+    assert.ok(isSame(reader.bytes, bytesOf(text)), 'the text');
   }
   reader.readOn();
   compare(reader, lexer, flags);

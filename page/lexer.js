@@ -2,7 +2,7 @@
 // rows its fault takes. The module allocates nothing.
 // The words of the kinds, at the numbers that the module tells: 0 is none, 12 to 15 are the kinds of floats.
 export const KINDS = [null, 'LineComment', 'BlockComment', 'Whitespace', 'LParen', 'RParen', 'String', 'Id', 'Keyword', 'Annotation', 'Reserved', 'Integer', 'Float', 'Float', 'Float', 'Float'];
-export const ENDINGS = ['whole', 'faulty', 'full', 'not UTF-8', 'too long'];
+const ENDINGS = ['whole', 'faulty', 'full', 'not UTF-8', 'too long'];
 
 const PAGE = 65536;
 const REPORT = 48;

@@ -149,13 +149,33 @@ export class Sight {
     }
   }
 
-  // Scrolls until an item is in sight.
-  reveal(item) {
+  // Where the box stands once an item is in sight.
+  #topFor(item) {
     const top = this.top * this.scale;
     const low = item * Sight.HEIGHT, high = low + Sight.HEIGHT;
-    if (low >= top && high <= top + this.height) return;
-    this.box.scrollTop = low < top ? low / this.scale : (high - this.height) / this.scale + 1;
+    if (low >= top && high <= top + this.height) return this.top;
+    return low < top ? Math.floor(low / this.scale) : Math.ceil((high - this.height) / this.scale) + 1;
+  }
+
+  // Scrolls until an item is in sight.
+  reveal(item) {
+    const top = this.#topFor(item);
+    if (top === this.top) return;
+    this.box.scrollTop = top;
     this.top = this.box.scrollTop;
+  }
+
+  // Has an item be drawn in sight now, and the box scroll to it with the next frame: at once the browser would have to lay out all of the
+  // page, a text area of a megabyte as well.
+  revealSoon(item) {
+    const top = this.#topFor(item);
+    if (top === this.top) return;
+    this.top = top;
+    requestAnimationFrame(() => {
+      if (this.top !== top) return;
+      this.box.scrollTop = top;
+      this.follow(this.box);
+    });
   }
 
   // The same for what stands so many pixels behind the line's start.

@@ -134,7 +134,8 @@ class DrawnLines {
     const part = partOf(line, start, end);
     const isCut = lineEnd === null ? [part.from > start, part.to < end] : [false, false];
     const pieces = piecesOf(line, part, held, matched);
-    const key = [textOf(part.from, part.to), part.stop, part.beyond, ...isCut, ...pieces.map((it) => `${it.className} ${it.to - part.from} ${it.mark}`)].join('\0');
+    const shapes = pieces.map((it) => `${it.className} ${it.to - part.from} ${it.mark}`);
+    const key = [textOf(part.from, part.to), part.stop, part.beyond, ...isCut, ...shapes].join('\0');
     const drawn = this.#before.get(key)?.shift() ?? { from: part.from, element: this.#draw(part, isCut, pieces) };
     if (drawn.from !== part.from) this.#move(drawn, part.from, pieces);
     if (!this.#now.has(key)) this.#now.set(key, []);
@@ -213,7 +214,7 @@ function drawList(first, last) {
 // Has the list stand at the cursor's token, or the nearest one.
 function follow() {
   const held = tokens.held(cursor);
-  if (listedCount() > 0) list.reveal(Math.min(placeOf(tokens.at(cursor)), listedCount() - 1));
+  if (listedCount() > 0) list.revealSoon(Math.min(placeOf(tokens.at(cursor)), listedCount() - 1));
   if (held >= 0 && isListed(held)) list.box.setAttribute('aria-activedescendant', `token-${held}`);
   else list.box.removeAttribute('aria-activedescendant');
   const line = lines.at(cursor);
@@ -481,11 +482,11 @@ function onInput() {
   const start = performance.now();
   const { value, selectionEnd } = $('text');
   const { from, to, text } = changeOf(typed, value);
-  typed = value;
   isUntouched = false;
   // The last place that is asked for stands in front of the change, and so holds.
   const end = places.byteAt(bytes, to), begin = places.byteAt(bytes, from);
   reader.change(begin, end, encoder.encode(lineEnd === '\r\n' ? text.replaceAll('\n', lineEnd) : text));
+  typed = value;
   readOn();
   show(places.byteAt(bytes, selectionEnd), start);
 }

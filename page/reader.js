@@ -96,7 +96,7 @@ export class Reader {
     this.#end({ ending: null });
   }
 
-  // Keeps the tokens in front of a change and those behind it.
+  // Keeps the tokens in front of a change and those behind it: where there are none of this reading, those that were kept before.
   #keep(from, to, more) {
     const behind = to === 0 ? 0 : firstFrom(this.count, (i) => this.endOf(i), to) + 1;
     if (behind < this.count) {
@@ -137,8 +137,8 @@ export class Reader {
     return true;
   }
 
-  // Reads a part of the text. Of the tokens of a part all stay but the last one, which what follows may change; so does a fault, which
-  // is one only where it is the text's as well.
+  // Reads a part of the text. All of its tokens stay but the last one, which may depend on what follows. So may a fault, which is believed
+  // only of a part that goes to the text's end.
   #readPart() {
     if (this.#join()) return;
     const { length } = this.bytes;
@@ -147,7 +147,7 @@ export class Reader {
     let told = this.#lexer.tell(from, to, this.count, this.#kept - this.count, this.#flags);
     let isPart = to < length;
     if (isPart && told.ending === 'whole') told.count -= 1;
-    // A single token that is longer than the part, or a fault.
+    // A token that is as long as the part or longer, or a fault.
     if (isPart && told.count === 0) {
       told = this.#lexer.tell(from, length, this.count, 1, this.#flags);
       isPart = false;
