@@ -559,7 +559,7 @@ async function takePictures() {
 }
 
 let failed = 1;
-const limit = setTimeout(() => { console.error('no answer in 300 seconds'); browser.kill('SIGKILL'); process.exit(1); }, 300_000);
+const limit = setTimeout(() => { console.error('no answer in 600 seconds'); browser.kill('SIGKILL'); process.exit(1); }, 600_000);
 try {
   const { targetId } = await send('Target.createTarget', { url: 'about:blank' });
   session = (await send('Target.attachToTarget', { targetId, flatten: true })).sessionId;
