@@ -71,8 +71,14 @@ fn strings(rt: HostRuntime) -> Result<(), Fail> {
         ("", ""),
         ("( module\n(func)\r\n\r\n\n )", "(module\n  (func)\n)\n"),
         ("a;;b\n)", "a ;;b\n)\n"),
-        ("block\nbr 0\nelse\nend\n( end", "block\n  br 0\nelse\nend\n(end\n"),
-        ("a \u{e9}", "unexpected character '\\u{e9}' at byte offset 2"),
+        (
+            "block\nbr 0\nelse\nend\n( end",
+            "block\n  br 0\nelse\nend\n(end\n",
+        ),
+        (
+            "a \u{e9}",
+            "unexpected character '\\u{e9}' at byte offset 2",
+        ),
         ("(; ;) (;", "unterminated block comment at byte offset 6"),
     ];
     for (text, want) in rows {
@@ -92,7 +98,13 @@ fn writers(rt: HostRuntime) -> Result<(), Fail> {
         (text, 100, false, "(a\n  b)\n", ""),
         (text, 4, false, "(a\n ", "write failed"),
         (text, 4, true, "(a\n ", "write failed"),
-        ("( a\n \"", 100, false, "", "unexpected end-of-file at byte offset 6"),
+        (
+            "( a\n \"",
+            100,
+            false,
+            "",
+            "unexpected end-of-file at byte offset 6",
+        ),
     ];
     for (text, room, fails, want, error) in rows {
         let held = Vec::new(rt.alloc());
