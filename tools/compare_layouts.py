@@ -19,8 +19,10 @@ import tempfile
 
 import layout
 
-PIECES = ["(", ")", ";;x\n", ";;x", "(;x;)", "(;\n;)", '"s"', "a", "$x", "@a", "(@a", "\n\n\n", " ", "\r\n", "\r", ";", ",", "@", "end", "block", "\t"]
-MORE = PIECES + ["\n", "  ", "else", "if", "try_table", "catch_all", "delegate", "1", "-0x1p3", "[", "]", "{", "}", '"', "(;", "é", '"é\\n"', "\n  ", " ;; y\n"]
+PIECES = ["(", ")", ";;x\n", ";;x", "(;x;)", "(;\n;)", '"s"', "a", "$x", "@a", "(@a", "\n\n\n", " ", "\r\n", "\r", ";", ","]
+PIECES += ["@", "end", "block", "\t"]
+MORE = PIECES + ["\n", "  ", "else", "if", "try_table", "catch_all", "delegate", "1", "-0x1p3", "[", "]", "{", "}", '"', "(;", "é"]
+MORE += ['"é\\n"', "\n  ", " ;; y\n"]
 MOST_AT_ONCE = 50_000
 ESCAPES = str.maketrans({"\n": "\\n", "\r": "\\r", "\t": "\\t", "\\": "\\\\"})
 

@@ -24,6 +24,7 @@ use Rattle.wat_format.specs.declared.sort.Sort.{Sort}
 use Rattle.wat_format.proofs.Pieces.{Piece, pieces, joined, AllStand, utf8_joined, Cut, cut_text, placed, placed_tiling, pieces_placed}
 use Rattle.wat_format.proofs.LaidPieces.{gapped, laid_pieces, bool_cases, joined_laid, no_white, words_laid, laid_again, laid_white, laid_word}
 use Rattle.wat_format.proofs.LaidStands.{begins}
+use Rattle.wat_format.proofs.Marks.{marks_laid, marks_of_text, marks_placed}
 
 -- blanks are no line end
 no_feed : (n : ℕ) (back : List ℕ) → replicate n 32 ≢ line_feed ∷ back
@@ -98,8 +99,11 @@ module _ (bounds : TokensEndAtBoundaries) (s : Setting) (ts : List Token) (utf8 
   whole : joined out ≡ answer
   whole = joined_laid s.text start ts
 
+  text_cut : Cut s 0 ts
+  text_cut = cut_text s utf8 bounds 0 m.to ts (IsCharBoundary-start s.text utf8) m.tiling m.ends
+
   stand : AllStand s.flags out
-  stand = begins s.flags start (pieces s.text ts) refl (cut_text s utf8 bounds 0 m.to ts (IsCharBoundary-start s.text utf8) m.tiling m.ends).stand
+  stand = begins s.flags start (pieces s.text ts) refl text_cut.stand
 
   pub utf8_answer : IsUtf8 answer
   utf8_answer = subst IsUtf8 whole (utf8_joined s.flags out stand)
@@ -117,6 +121,8 @@ module _ (bounds : TokensEndAtBoundaries) (s : Setting) (ts : List Token) (utf8 
   keeps = record {
     no_fault = refl;
     same = words_of_pieces answer (placed 0 out) ∙ ap no_white pieces_of ∙ words_laid start (pieces s.text ts) ∙ sym (words_of_pieces s.text ts);
+    marked = marks_placed (over s answer) 0 out (sym whole) ∙ marks_laid s.flags start (pieces s.text ts) text_cut.stand
+        ∙ sym (marks_of_text s utf8 bounds 0 m.to ts (IsCharBoundary-start s.text utf8) m.tiling m.ends);
     white = white_of_pieces answer (placed 0 out) (subst AllWritten (sym pieces_of) (written_laid start (pieces s.text ts)));
   }
 

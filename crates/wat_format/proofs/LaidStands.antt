@@ -78,7 +78,7 @@ pub data Prior : Piece → State → List Piece → Type 0 where
   direct : {x : Piece} {s : State} {ps : List Piece} → s.gap ≡ Touching → MayFollow x.0 (chars x.1) (chars (joined ps)) → Prior x s ps
   apart : {x : Piece} {s : State} {ps : List Piece} → (s.gap ≡ Touching → ⊥) → (x.0 ≡ LineComment → is_break s.gap ≡ true) → (Begins is_whitespace (chars (joined ps)) → ⊥) → Prior x s ps
 
-white_stands : (flags : Settings) (c : ℕ) (w rest : List ℕ) → Each is_whitespace (c ∷ w) → (Begins is_whitespace (chars rest) → ⊥) → Stands flags Whitespace (c ∷ w) rest
+pub white_stands : (flags : Settings) (c : ℕ) (w rest : List ℕ) → Each is_whitespace (c ∷ w) → (Begins is_whitespace (chars rest) → ⊥) → Stands flags Whitespace (c ∷ w) rest
 white_stands flags c w rest h n =
     let e = white_chars (c ∷ w) h in
     record {
@@ -95,13 +95,13 @@ nothing_begins : (p : ℕ → Bool) → Begins p (chars []) → ⊥
 nothing_begins p h = subst (λ x. Begins p x) chars-nil h
 
 -- the characters behind a white one
-behind_white : (c : ℕ) (bs : List ℕ) → IsTrue (is_whitespace c) → IsUtf8 bs → chars (c ∷ bs) ≡ c ∷ chars bs
+pub behind_white : (c : ℕ) (bs : List ℕ) → IsTrue (is_whitespace c) → IsUtf8 bs → chars (c ∷ bs) ≡ c ∷ chars bs
 behind_white c bs h u = chars_append (c ∷ []) bs (white_utf8 (c ∷ []) (h, tt)) u ∙ ap (λ x. x ++ chars bs) (white_chars (c ∷ []) (h, tt))
 
 last_stands : (flags : Settings) → AllStand flags ((Whitespace, line_feed ∷ []) ∷ [])
 last_stands flags = (white_stands flags line_feed [] [] (refl, tt) (nothing_begins is_whitespace), tt)
 
-laid_end : (s : State) (x : Sort) → s.before ≡ Some x → laid_pieces s [] ≡ (Whitespace, line_feed ∷ []) ∷ []
+pub laid_end : (s : State) (x : Sort) → s.before ≡ Some x → laid_pieces s [] ≡ (Whitespace, line_feed ∷ []) ∷ []
 laid_end s x e = rw e refl
 
 line_end_is_white : (c : ℕ) → IsTrue (is_line_end c) → IsTrue (is_whitespace c)
@@ -186,7 +186,7 @@ apart_by x s (c ∷ w) ps u n e h k (Prior.apart g i m) =
     let v = behind_white c (w ++ joined ps) h.0 (IsUtf8-append w (joined ps) (white_utf8 w h.1) u) in
     absurd (m (subst (λ z. Begins is_whitespace z) (sym v) h.0))
 
-apart_kind : (x : Piece) (s : State) (kind : TokenKind) (bytes : List ℕ) (ps : List Piece) (flags : Settings) → is_white kind ≡ true → Stands flags kind bytes (joined ps) → AllStand flags ps → Prior x s ((kind, bytes) ∷ ps) → Prior x (record s { gap = gap_of bytes }) ps
+pub apart_kind : (x : Piece) (s : State) (kind : TokenKind) (bytes : List ℕ) (ps : List Piece) (flags : Settings) → is_white kind ≡ true → Stands flags kind bytes (joined ps) → AllStand flags ps → Prior x s ((kind, bytes) ∷ ps) → Prior x (record s { gap = gap_of bytes }) ps
 apart_kind x s Whitespace bytes ps flags e h a pr =
     let i = white_bytes bytes h.utf8 h.word.1 in
     apart_by x s bytes ps (utf8_joined flags ps a) h.word.0 i (subst (λ z. Each is_whitespace z) i h.word.1) h.ends pr

@@ -5,6 +5,7 @@ mod KeptTokens
 mod LaidPieces
 mod LaidStands
 mod Laying
+mod Marks
 mod Pieces
 mod Streaming
 mod WhiteSpace

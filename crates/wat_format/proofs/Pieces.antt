@@ -87,7 +87,7 @@ placed p [] = []
 placed p (q ∷ qs) = record { offset = p; len = length q.1; kind = q.0 } ∷ placed (p + length q.1) qs
 
 module _ (s : Setting) where
-  drop_piece : (p : ℕ) (q : Piece) (qs : List Piece) → drop p s.text ≡ joined (q ∷ qs) → drop (p + length q.1) s.text ≡ joined qs
+  pub drop_piece : (p : ℕ) (q : Piece) (qs : List Piece) → drop p s.text ≡ joined (q ∷ qs) → drop (p + length q.1) s.text ≡ joined qs
   drop_piece p q qs e = sym (drop-drop (length q.1) p s.text) ∙ ap (λ x. drop (length q.1) x) e ∙ drop-append_seam q.1 (joined qs)
 
   pub placed_tiling : (p : ℕ) (qs : List Piece) → AllStand s.flags qs → drop p s.text ≡ joined qs → p + length (joined qs) ≡ length s.text → Tiling s p (length s.text) (placed p qs)

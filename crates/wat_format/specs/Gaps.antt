@@ -13,7 +13,11 @@ line_ends p (c ∷ w) = (if c == carriage_return || (c == line_feed && not (p ==
 
 -- the gap of the white space between two tokens: how many bytes it has, a line end, or more than one
 abbrev pub gap_of : List ℕ → Gap
-gap_of w = if nat_lt 1 (line_ends 0 w) then EmptyLine else if line_ends 0 w == 1 then LineEnd else if length w == 0 then Touching else Blanks (length w)
+gap_of w =
+    if nat_lt 1 (line_ends 0 w) then EmptyLine
+    else if line_ends 0 w == 1 then LineEnd
+    else if length w == 0 then Touching
+    else Blanks (length w)
 
 abbrev pub is_break : Gap → Bool
 is_break LineEnd = true

@@ -1,15 +1,15 @@
 -- WebAssembly specification, text format, lexical format: tokens, white space, comments. What holds of each layout, which is no part of the
 -- standard, and of its raw tokens.
-use Rattle.std.specs.Prelude.{◌≡◌, ◌≢◌, ◌⊎◌, ℕ, List, [], ◌∷◌, ◌++◌, Option, Some, None, if◌then◌else◌}
+use Rattle.std.specs.Prelude.{◌≡◌, ◌≢◌, ◌⊎◌, ℕ, ◌+◌, ◌==◌, Bool, true, false, drop, List, [], ◌∷◌, ◌++◌, Option, Some, None, if◌then◌else◌}
 use Rattle.std.specs.Str.{IsUtf8}
-use Rattle.wat_lex.specs.grammar.Classes.{line_feed}
+use Rattle.wat_lex.specs.grammar.Classes.{line_feed, at_sign}
 use Rattle.wat_lex.specs.tokens.ReadableTokens.{token_text}
 use Rattle.wat_lex.specs.tokens.Setting.{Setting}
 use Rattle.wat_lex.specs.tokens.Tiling.{MaximalTiling}
 use Rattle.wat_lex.specs.declared.lexer.faults.LexFault.{LexFault}
 use Rattle.wat_lex.specs.declared.lexer.kinds.Token.{Token}
 use Rattle.wat_lex.specs.declared.lexer.kinds.TokenKind.{TokenKind}
-use Rattle.wat_lex.specs.declared.lexer.kinds.TokenKind.TheVariants.{Whitespace}
+use Rattle.wat_lex.specs.declared.lexer.kinds.TokenKind.TheVariants.{LParen, Whitespace}
 use Rattle.wat_format.specs.Formatting.{Formatted, Refuses}
 use Rattle.wat_format.specs.Gaps.{gap_text}
 use Rattle.wat_format.specs.Layout.{is_white, layout}
@@ -33,6 +33,19 @@ abbrev pub words : List ℕ → List Token → List (TokenKind × List ℕ)
 words text [] = []
 words text (t ∷ ts) = if is_white t.kind then words text ts else (t.kind, token_text text t) ∷ words text ts
 
+abbrev pub begins_at : List ℕ → Bool
+begins_at [] = false
+begins_at (c ∷ w) = c == at_sign
+
+abbrev pub is_opening : TokenKind → Bool
+is_opening LParen = true
+is_opening kind = false
+
+-- of each `(`, whether `@` stands directly behind it, which makes it the start of an annotation
+abbrev pub marks : List ℕ → List Token → List Bool
+marks text [] = []
+marks text (t ∷ ts) = if is_opening t.kind then begins_at (drop (t.offset + t.len) text) ∷ marks text ts else marks text ts
+
 -- no blank stands directly before a line end
 abbrev pub EndsClean : List ℕ → Type 0
 EndsClean w = (front back : List ℕ) → w ≢ front ++ 32 ∷ line_feed ∷ back
@@ -53,10 +66,11 @@ abbrev pub over : Setting → List ℕ → Setting
 over s answer = record s { text = answer }
 
 -- These are the raw tokens of the layout: there is no fault, without white space they are those of the text, kind by kind and byte by byte in
--- their order, and each white space token is a gap as it is written.
+-- their order, what is marked stays marked, and each white space token is a gap as it is written.
 pub record Keeps (s : Setting) (tokens : List Token) (laid : List Token) (ending : Option LexFault) : Type 0 where
   pub no_fault : ending ≡ None
   pub same : words (layout s.text tokens) laid ≡ words s.text tokens
+  pub marked : marks (layout s.text tokens) laid ≡ marks s.text tokens
   pub white : WhiteIsWritten (layout s.text tokens) laid
 
 abbrev pub LayoutsKeepTokens : Type 0
