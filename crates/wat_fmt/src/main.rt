@@ -15,7 +15,8 @@ use std::{env, fs, io};
 use wat_format::format::format;
 use wat_format::stream::format_to;
 
-const USAGE: &str = "usage: wat_fmt [--check | --write] [--allow-confusing] [--strict-underscores] [--] [FILE..]
+const USAGE: &str =
+    "usage: wat_fmt [--check | --write] [--allow-confusing] [--strict-underscores] [--] [FILE..]
 Lays out the text of each FILE, or of standard input, and writes it on standard output.
   --check   writes nothing, names the files that are not laid out, and ends with status 1 if there is one
   --write   writes these files anew
