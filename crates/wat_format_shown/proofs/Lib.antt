@@ -1,0 +1,5 @@
+mod Alike
+mod Places
+mod Same
+mod Shows
+mod Tokens
