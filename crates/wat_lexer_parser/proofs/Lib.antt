@@ -1,6 +1,7 @@
 mod groups
 mod names
 mod shown
+mod words
 mod places
 mod inside
 mod calls

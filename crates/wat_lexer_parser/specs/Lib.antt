@@ -1,6 +1,7 @@
 pub mod groups
 pub mod names
 pub mod shown
+pub mod words
 pub mod places
 pub mod parser
 pub mod calls

@@ -14,6 +14,8 @@ ghost use Rattle.wat_lexer_parser.specs.shown.ShownLaws.{SomethingShown, OneThin
 ghost use Rattle.wat_lexer_parser.specs.shown.ShownLaws.{SomethingIsAllShown, AllShownIsOne};
 ghost use Rattle.wat_lexer_parser.specs.shown.ShownLaws.{LooksAreAllShown};
 ghost use Rattle.wat_lexer_parser.specs.shown.ShownLaws.{ShownIsTaken, MarksEndInFaults};
+ghost use Rattle.wat_lexer_parser.specs.words.Idchars.{WordsAreIdchars};
+ghost use Rattle.wat_words.specs.Words.{annotation_word, standard_word};
 
 use std::alloc::{AllocError, Global};
 use wat_lex::lexer::Token;
@@ -66,6 +68,13 @@ pub fn counting()
 {
     wat_lex::laws::tokens();
 }
+
+/// Each standard word is idchars alone, a keyword as well as an annotation's name: a text has it as
+/// it is, without a string.
+pub fn words_are_idchars()
+    ensures keywords { WordsAreIdchars standard_word }
+    ensures annotations { WordsAreIdchars annotation_word }
+{}
 
 /// Looks and refused calls change nothing else.
 pub fn calls()

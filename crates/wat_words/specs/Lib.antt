@@ -1,2 +1,1 @@
-pub mod Idchars
 pub mod Words

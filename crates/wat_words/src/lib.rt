@@ -3,7 +3,6 @@
 #![tactic(auto)]
 
 ghost use Rattle.std.specs.Prelude.{◌≡◌, ℕ, Bool, true, false, List};
-ghost use Rattle.wat_words.specs.Idchars.{WordsAreIdchars};
 ghost use Rattle.wat_words.specs.Words.{annotation_word, quoted, standard_word};
 
 mod table;
@@ -69,10 +68,3 @@ impl<const I: usize> Word for StdAnnotation<I> {
         table::annotation_display(I)
     }
 }
-
-/// Each standard word is idchars alone, a keyword as well as an annotation's name: a text has it as it is, without a string. The function does
-/// nothing: its contract is the law.
-pub fn words_are_idchars()
-    ensures keywords { WordsAreIdchars standard_word }
-    ensures annotations { WordsAreIdchars annotation_word }
-{}

@@ -1,6 +1,6 @@
 use Rattle.wat_words.specs.Words.{annotation_word, annotation_words, standard_word, standard_words}
-use Rattle.wat_words.proofs.Spelling.{annotation_idchars, idchars_at, standard_idchars}
-use Rattle.wat_words.proofs.words_are_idchars.Goals as goal
+use Rattle.wat_lexer_parser.proofs.words.Spelling.{annotation_idchars, idchars_at, standard_idchars}
+use Rattle.wat_lexer_parser.proofs.laws.words_are_idchars.Goals as goal
 
 pub returns-clause-keywords : goal.returns-clause-keywords
 unfolding standard_word

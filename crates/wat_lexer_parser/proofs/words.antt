@@ -1,0 +1,2 @@
+-- Lemmas on words that tokens spell.
+pub mod Spelling

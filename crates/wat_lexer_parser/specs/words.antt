@@ -1,0 +1,2 @@
+-- Words that tokens spell.
+pub mod Idchars
