@@ -42,7 +42,7 @@ pub use reads::{Parse, Result};
 use std::alloc::Global;
 use std::marker::Model;
 use wat_lex::error::Error;
-use wat_lex::lexer::Token;
+use wat_lex::lexer::{Token, TokenKind};
 use wat_lex::token::Span;
 pub use whole::parse;
 
@@ -53,11 +53,14 @@ pub struct Parser<'a> {
     place: usize,
     depth: usize,
     names: Names,
+    /// The token that is shown at the place, with the place behind it, where that is known.
+    next: Option<(Token, usize)>,
 }
 
 impl<'a> Model for Parser<'a> {
-    ghost use Rattle.std.specs.Prelude.{◌≤◌, length};
+    ghost use Rattle.std.specs.Prelude.{◌≤◌, length, IfSome};
     ghost use Rattle.wat_lexer_parser.specs.inside.Codes.{state_code};
+    ghost use Rattle.wat_lexer_parser.specs.inside.Next.{IsNext};
     ghost use Rattle.wat_lexer_parser.specs.parser.State.{State};
 
     ghost Value = { State };
@@ -71,7 +74,8 @@ impl<'a> Model for Parser<'a> {
       depth = p.depth;
     } };
 
-    ghost invariant = { λ p. (p.depth ≤ p.place) × (p.place ≤ length p.table.tokens) };
+    ghost invariant = { λ p. (p.depth ≤ p.place) × (p.place ≤ length p.table.tokens)
+        × IfSome p.next (IsNext p.table p.place p.names) };
 }
 
 impl<'a> Parser<'a> {
@@ -89,6 +93,7 @@ impl<'a> Parser<'a> {
             place: 0,
             depth: 0,
             names: Names::new(alloc),
+            next: None,
         }
     }
 
@@ -126,16 +131,41 @@ impl<'a> Parser<'a> {
         ensures reader { IfOk result (λ found. IfSome found (λ v.
             IsTokenOf self.now.source.setting.text v.0)) }
     {
+        match self.next {
+            Some(next) if place == self.place => Ok(Some(next)),
+            _ => {
+                let table = &self.table;
+                table.look(place, &self.names)
+            }
+        }
+    }
+
+    /// Moves to a place further on, and notes the token that is shown there.
+    fn move_to(&mut self, place: usize)
+        requires on { self.old.place ≤ place }
+        requires within { place ≤ length self.old.source.tokens }
+        ensures { self.new ≡ record self.old { place = place } }
+    {
         let table = &self.table;
-        table.look(place, &self.names)
+        self.next = match table.look(place, &self.names) {
+            Ok(next) => next,
+            Err(_) => None,
+        };
+        self.place = place;
     }
 
     /// The current span at a place.
+    #[tactic(auto, unfolding(crate::specs::places::Places::current_span))]
     pub(crate) fn span_from(&self, place: usize) -> Span
         ensures { result ≡ current_span self.now.source place self.now.names }
     {
         let table = &self.table;
-        Span::from_offset(table.current_span(place, &self.names))
+        let offset = match self.look(place) {
+            Ok(None) => table.text().len(),
+            Ok(Some((token, _))) => token.offset,
+            Err(_) => table.offset_at(place),
+        };
+        Span::from_offset(offset)
     }
 
     /// The state is sound, over a text of UTF-8 that is not too long.
@@ -159,8 +189,11 @@ impl<'a> Parser<'a> {
         ensures short { length self.now.source.setting.text < 2 ^ 32 }
     {
         self.is_sound();
-        let table = &self.table;
-        table.is_empty(self.place, &self.names)
+        match self.look(self.place) {
+            Ok(None) => true,
+            Ok(Some((token, _))) => matches!(token.kind, TokenKind::RParen),
+            Err(_) => false,
+        }
     }
 
     /// The current span: that of the token that is shown, the text's length at the end, or the
@@ -246,6 +279,7 @@ impl<'a> Parser<'a> {
         ensures there { OnOk result (0 < count self.new.names name.now) }
     {
         let alloc = self.alloc();
+        self.next = None;
         match self.names.register(alloc, name) {
             Ok(()) => Ok(()),
             Err(RegisterError::TooOften) => Err(self.too_often()),
@@ -270,6 +304,7 @@ impl<'a> Parser<'a> {
         requires some { 0 < times }
         ensures { self.new ≡ record self.old { names = map.insert self.old.names name.now times } }
     {
+        self.next = None;
         self.names.set(name, times);
     }
 
@@ -278,6 +313,7 @@ impl<'a> Parser<'a> {
         requires { 0 < count self.old.names name.now }
         ensures { self.new ≡ record self.old { names = fewer self.old.names name.now } }
     {
+        self.next = None;
         self.names.unregister(name);
     }
 
@@ -304,7 +340,7 @@ impl<'a> Parser<'a> {
         match f(Cursor::new(self)) {
             Ok((value, next)) => {
                 let at = next.place();
-                self.place = at;
+                self.move_to(at);
                 Ok(value)
             }
             Err(e) => Err(e),
@@ -326,7 +362,7 @@ impl<'a> Parser<'a> {
         match cursor.lparen()? {
             Some(next) => {
                 let at = next.place();
-                self.place = at;
+                self.move_to(at);
                 Ok(())
             }
             None => Err(cursor.error("expected `(`")),
@@ -348,7 +384,7 @@ impl<'a> Parser<'a> {
         match cursor.rparen()? {
             Some(next) => {
                 let at = next.place();
-                self.place = at;
+                self.move_to(at);
                 Ok(())
             }
             None => Err(cursor.error("expected `)`")),
@@ -394,12 +430,14 @@ impl<'a> Parser<'a> {
                 Err(e) => {
                     self.depth = depth;
                     self.place = place;
+                    self.next = None;
                     Err(e)
                 }
             },
             Err(e) => {
                 self.depth = depth;
                 self.place = place;
+                self.next = None;
                 Err(e)
             }
         }

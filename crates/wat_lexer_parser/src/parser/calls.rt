@@ -170,20 +170,22 @@ impl<'a> Parser<'a> {
             Call::Look => Ok(shown_reply(self.look(self.place))),
             Call::Take => {
                 let found = self.look(self.place);
-                self.place = place_after(found, self.place);
+                let next = place_after(found, self.place);
+                self.move_to(next);
                 Ok(shown_reply(found))
             }
             Call::Comment => {
                 let table = &self.table;
                 let found = table.comment_at(self.place);
-                self.place = place_after(found, self.place);
+                let next = place_after(found, self.place);
+                self.move_to(next);
                 Ok(comment_reply(found))
             }
             Call::Register(name) => self.answer_register(name.as_str()),
             Call::Unregister(name) => Ok(self.answer_unregister(name.as_str())),
             Call::Parens(count) => {
                 let (reply, place) = self.group(*count);
-                self.place = place;
+                self.move_to(place);
                 Ok(reply)
             }
         }
@@ -195,6 +197,7 @@ impl<'a> Parser<'a> {
         ensures refused { OnErr result (self.new ≡ self.old) }
     {
         let alloc = self.alloc();
+        self.next = None;
         match self.names.register(alloc, name) {
             Ok(()) => Ok(Reply::Done),
             Err(RegisterError::TooOften) => Ok(Reply::TooOften),
@@ -207,6 +210,7 @@ impl<'a> Parser<'a> {
         ensures state { self.new ≡ (unregister self.old name.now).1 }
     {
         if self.names.is_registered(name) {
+            self.next = None;
             self.names.unregister(name);
             Reply::Done
         } else {

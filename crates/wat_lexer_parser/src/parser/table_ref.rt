@@ -15,7 +15,7 @@ ghost use Rattle.wat_lexer_parser.specs.groups.Sorts.{is_blank, is_comment, is_m
 ghost use Rattle.wat_lexer_parser.specs.inside.Table.{HeadsAnnotation, IsTable, Pair};
 ghost use Rattle.wat_lexer_parser.specs.inside.TableNames.{name_view, written_view};
 ghost use Rattle.wat_lexer_parser.specs.parser.State.{message_at, report_of};
-ghost use Rattle.wat_lexer_parser.specs.places.Places.{offset_at, current_span, empty_of};
+ghost use Rattle.wat_lexer_parser.specs.places.Places.{offset_at};
 ghost use Rattle.wat_lexer_parser.specs.places.Places.{comment_at, past_space, is_meaningful};
 ghost use Rattle.wat_lexer_parser.specs.places.Source.{IsRead};
 ghost use Rattle.wat_lexer_parser.specs.shown.Shown.{ended, left_open};
@@ -431,29 +431,6 @@ impl<'a> TableRef<'a> {
                 token.offset + token.len as usize
             }
             None => 0,
-        }
-    }
-
-    /// The current span at a place.
-    #[tactic(auto, unfolding(crate::specs::places::Places::current_span))]
-    pub fn current_span(&self, place: usize, names: &Names) -> usize
-        ensures { result ≡ current_span self.now place names.now }
-    {
-        match self.look(place, names) {
-            Ok(None) => self.text().len(),
-            Ok(Some((token, _))) => token.offset,
-            Err(_) => self.offset_at(place),
-        }
-    }
-
-    /// Whether the end or `)` is shown.
-    pub fn is_empty(&self, place: usize, names: &Names) -> bool
-        ensures { result ≡ empty_of (shown self.now place names.now) }
-    {
-        match self.look(place, names) {
-            Ok(None) => true,
-            Ok(Some((token, _))) => matches!(token.kind, TokenKind::RParen),
-            Err(_) => false,
         }
     }
 }

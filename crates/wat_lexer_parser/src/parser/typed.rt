@@ -93,11 +93,13 @@ impl<'a> Parser<'a> {
                 Ok(()) => Ok(value),
                 Err(e) => {
                     self.place = place;
+                    self.next = None;
                     Err(e)
                 }
             },
             Err(e) => {
                 self.place = place;
+                self.next = None;
                 Err(e)
             }
         }
