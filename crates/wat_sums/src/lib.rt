@@ -8,7 +8,7 @@ ghost use Rattle.std.specs.Prelude.{◌≡◌, ◌≤◌, ◌<◌, ◌^◌, leng
 ghost use Rattle.wat_lexer_parser.specs.parser.State.{Answers};
 ghost use Rattle.wat_lexer_parser.specs.places.Source.{Source, IsRead};
 ghost use Rattle.wat_lexer_parser.specs.readings.Readings.{many, whole};
-ghost use Rattle.wat_lexer_parser.specs.readings.Reads.{IsKept, Reads, reading_at};
+ghost use Rattle.wat_lexer_parser.specs.readings.Reads.{IsKept, Reads};
 ghost use Rattle.wat_sums.specs.Sums.{negative, sum, term};
 
 pub mod kw;
@@ -47,8 +47,6 @@ impl<'a> Parse<'a> for Term {
         }
         Err(lookahead.error())
     }
-
-    ghost forward = { forward_term };
 }
 
 /// A number behind `neg`, which stands for its negative.
@@ -56,7 +54,7 @@ impl<'a> Parse<'a> for Term {
 fn negative(parser: &mut Parser<'_>) -> Result<Term, Error>
     ensures kept { IsKept parser.old parser.new }
     ensures on { parser.old.place ≤ parser.new.place }
-    ensures reads { Reads (λ t. t.0) (reading_at negative parser.old) result parser.new.place }
+    ensures reads { Reads (λ t. t.0) negative parser.old result parser.new.place }
 {
     parser.parse::<kw::neg>()?;
     Ok(Term(-i64::from(parser.parse::<u32>()?)))
@@ -86,15 +84,13 @@ impl<'a> Parse<'a> for Sum {
             Ok(Sum { terms: terms(p)? })
         })
     }
-
-    ghost forward = { forward_sum };
 }
 
 /// All terms before `)`.
 fn terms(parser: &mut Parser<'_>) -> Result<Vec<Term>, Error>
     ensures kept { IsKept parser.old parser.new }
     ensures on { parser.old.place ≤ parser.new.place }
-    ensures reads { Reads (λ v. map (λ t. t.0) v.items) (reading_at (many term) parser.old) result
+    ensures reads { Reads (λ v. map (λ t. t.0) v.items) (many term) parser.old result
         parser.new.place }
 {
     let mut terms = Vec::new(parser.alloc());

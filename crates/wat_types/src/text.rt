@@ -1,6 +1,6 @@
 //! How a text spells the types of a module.
 ghost use Rattle.std.specs.Prelude.{◌≤◌, map};
-ghost use Rattle.wat_lexer_parser.specs.readings.Reads.{IsKept, Reads, reading_at};
+ghost use Rattle.wat_lexer_parser.specs.readings.Reads.{IsKept, Reads};
 ghost use Rattle.wat_lexer_parser.specs.readings.Readings.{mapped};
 ghost use Rattle.wat_types.specs.Meanings.{definitions, params, results, vals};
 ghost use Rattle.wat_types.specs.Signatures.{signature};
@@ -41,15 +41,13 @@ impl<'a> Parse<'a> for ValType {
         }
         Err(lookahead.error())
     }
-
-    ghost forward = { forward_val };
 }
 
 /// The number type that a keyword stands for, which is read.
 fn number_type<'a, K: Parse<'a>>(parser: &mut Parser<'a>, of: ValType) -> Result<ValType, Error>
     ensures kept { IsKept parser.old parser.new }
     ensures on { parser.old.place ≤ parser.new.place }
-    ensures reads { Reads (λ v. v) (reading_at (mapped (λ _. of) K.meaning) parser.old) result
+    ensures reads { Reads (λ v. v) (mapped (λ _. of) K.meaning) parser.old result
         parser.new.place }
 {
     parser.parse::<K>()?;
@@ -60,7 +58,7 @@ fn number_type<'a, K: Parse<'a>>(parser: &mut Parser<'a>, of: ValType) -> Result
 fn vals(parser: &mut Parser<'_>) -> Result<Vec<ValType>, Error>
     ensures kept { IsKept parser.old parser.new }
     ensures on { parser.old.place ≤ parser.new.place }
-    ensures reads { Reads (λ v. v.items) (reading_at vals parser.old) result parser.new.place }
+    ensures reads { Reads (λ v. v.items) vals parser.old result parser.new.place }
 {
     let mut types = Vec::new(parser.alloc());
     while !parser.is_empty() {
@@ -98,8 +96,6 @@ impl<'a> Parse<'a> for Param {
         types.push(parser.parse::<ValType>()?)?;
         Ok(Param { types })
     }
-
-    ghost forward = { forward_param };
 }
 
 /// What stands within the parentheses of a `result`.
@@ -126,15 +122,13 @@ impl<'a> Parse<'a> for Returns {
             types: vals(parser)?,
         })
     }
-
-    ghost forward = { forward_returns };
 }
 
 /// The types of all `param`s.
 fn params(parser: &mut Parser<'_>) -> Result<Vec<ValType>, Error>
     ensures kept { IsKept parser.old parser.new }
     ensures on { parser.old.place ≤ parser.new.place }
-    ensures reads { Reads (λ v. v.items) (reading_at params parser.old) result parser.new.place }
+    ensures reads { Reads (λ v. v.items) params parser.old result parser.new.place }
 {
     let mut types = Vec::new(parser.alloc());
     while parser.peek2::<kw::param>()? {
@@ -148,7 +142,7 @@ fn params(parser: &mut Parser<'_>) -> Result<Vec<ValType>, Error>
 fn results(parser: &mut Parser<'_>) -> Result<Vec<ValType>, Error>
     ensures kept { IsKept parser.old parser.new }
     ensures on { parser.old.place ≤ parser.new.place }
-    ensures reads { Reads (λ v. v.items) (reading_at results parser.old) result parser.new.place }
+    ensures reads { Reads (λ v. v.items) results parser.old result parser.new.place }
 {
     let mut types = Vec::new(parser.alloc());
     while !parser.is_empty() {
@@ -176,8 +170,6 @@ impl<'a> Parse<'a> for FuncType {
         let results = results(parser)?;
         Ok(FuncType { params, results })
     }
-
-    ghost forward = { forward_func };
 }
 
 /// What stands within the parentheses of a `type`. Its identifier is read and dropped.
@@ -204,15 +196,13 @@ impl<'a> Parse<'a> for Definition {
             func: parser.parens_of::<FuncType>()?,
         })
     }
-
-    ghost forward = { forward_definition };
 }
 
 /// All types before `)`.
 fn definitions(parser: &mut Parser<'_>) -> Result<Vec<FuncType>, Error>
     ensures kept { IsKept parser.old parser.new }
     ensures on { parser.old.place ≤ parser.new.place }
-    ensures reads { Reads (λ v. map signature v.items) (reading_at definitions parser.old) result
+    ensures reads { Reads (λ v. map signature v.items) definitions parser.old result
         parser.new.place }
 {
     let mut types = Vec::new(parser.alloc());
@@ -247,8 +237,6 @@ impl<'a> Parse<'a> for Fields {
             types: definitions(parser)?,
         })
     }
-
-    ghost forward = { forward_fields };
 }
 
 /// A module that holds nothing but function types.
@@ -259,7 +247,6 @@ pub(crate) struct Module {
 
 impl<'a> Parse<'a> for Module {
     ghost use Rattle.std.specs.Prelude.{List, map};
-    ghost use Rattle.wat_lexer_parser.specs.lemmas.ReadingLaws.{forward_group};
     ghost use Rattle.wat_types.specs.Meanings.{fields, forward_fields, module_types};
     ghost use Rattle.wat_types.specs.Signatures.{Signature, signature};
 
@@ -275,6 +262,4 @@ impl<'a> Parse<'a> for Module {
             types: fields.types,
         })
     }
-
-    ghost forward = { forward_group fields forward_fields };
 }
