@@ -1,17 +1,20 @@
 //! How a text spells the types of a module.
-ghost use Rattle.std.specs.Prelude.{◌≤◌, map};
+ghost use Rattle.std.specs.Prelude.{◌≡◌, ◌≤◌, ◌<◌, IfOk, OnErr, length, map};
+ghost use Rattle.std.specs.List.{flat_map};
 ghost use Rattle.wat_lexer_parser.specs.readings.Reads.{IsKept, Reads};
 ghost use Rattle.wat_lexer_parser.specs.readings.Readings.{mapped};
 ghost use Rattle.wat_types.specs.Meanings.{definitions, params, results, vals};
 ghost use Rattle.wat_types.specs.Signatures.{signature};
 
 use crate::types::{FuncType, ValType};
+use std::alloc::{AllocError, Global};
+use std::marker::PhantomData;
 use wat_lexer_parser::parser::{Parse, Parser};
-use wat_lexer_parser::token::Id;
+use wat_lexer_parser::token::{Id, Parens};
 use wat_lexer_parser::{Error, kw};
 
 impl<'a> Parse<'a> for ValType {
-    ghost use Rattle.wat_types.specs.Meanings.{forward_val, val};
+    ghost use Rattle.wat_types.specs.Meanings.{val};
     ghost use Rattle.wat_types.specs.declared.types.ValType.{ValType};
 
     ghost Value = { ValType };
@@ -60,22 +63,33 @@ fn vals(parser: &mut Parser<'_>) -> Result<Vec<ValType>, Error>
     ensures on { parser.old.place ≤ parser.new.place }
     ensures reads { Reads (λ v. v.items) vals parser.old result parser.new.place }
 {
-    let mut types = Vec::new(parser.alloc());
-    while !parser.is_empty() {
-        types.push(parser.parse::<ValType>()?)?;
+    parser.all_of::<ValType>()
+}
+
+/// The number types that stand behind a keyword, within the parentheses of both.
+#[derive(Drop)]
+struct Listed<K> {
+    types: Vec<ValType>,
+    of: PhantomData<K>,
+}
+
+/// The types of all these lists.
+fn joined<K>(alloc: Global, lists: &[Parens<Listed<K>>]) -> Result<Vec<ValType>, AllocError>
+    ensures types { IfOk result (λ types.
+        types.items ≡ flat_map (λ l. l.inner.types.items) lists.now) }
+    ensures some { OnErr result (0 < length lists.now) }
+{
+    let mut types = Vec::new(alloc);
+    for list in lists {
+        types.extend_from_slice(&list.inner.types)?;
     }
     Ok(types)
 }
 
 /// What stands within the parentheses of a `param`.
-#[derive(Drop)]
-struct Param {
-    types: Vec<ValType>,
-}
-
-impl<'a> Parse<'a> for Param {
+impl<'a> Parse<'a> for Listed<kw::param> {
     ghost use Rattle.std.specs.Prelude.{List};
-    ghost use Rattle.wat_types.specs.Meanings.{forward_param, param};
+    ghost use Rattle.wat_types.specs.Meanings.{param};
     ghost use Rattle.wat_types.specs.declared.types.ValType.{ValType};
 
     ghost Value = { List ValType };
@@ -85,28 +99,27 @@ impl<'a> Parse<'a> for Param {
     ghost meaning = { param };
 
     #[tactic(auto, unfolding(crate::specs::Meanings::param))]
-    fn parse(parser: &mut Parser<'a>) -> Result<Param, Error> {
+    fn parse(parser: &mut Parser<'a>) -> Result<Self, Error> {
         parser.parse::<kw::param>()?;
         if parser.parse::<Option<Id<'a>>>()?.is_none() {
-            return Ok(Param {
+            return Ok(Listed {
                 types: vals(parser)?,
+                of: PhantomData,
             });
         }
         let mut types = Vec::new(parser.alloc());
         types.push(parser.parse::<ValType>()?)?;
-        Ok(Param { types })
+        Ok(Listed {
+            types,
+            of: PhantomData,
+        })
     }
 }
 
 /// What stands within the parentheses of a `result`.
-#[derive(Drop)]
-struct Returns {
-    types: Vec<ValType>,
-}
-
-impl<'a> Parse<'a> for Returns {
+impl<'a> Parse<'a> for Listed<kw::result> {
     ghost use Rattle.std.specs.Prelude.{List};
-    ghost use Rattle.wat_types.specs.Meanings.{forward_returns, returns};
+    ghost use Rattle.wat_types.specs.Meanings.{returns};
     ghost use Rattle.wat_types.specs.declared.types.ValType.{ValType};
 
     ghost Value = { List ValType };
@@ -116,10 +129,11 @@ impl<'a> Parse<'a> for Returns {
     ghost meaning = { returns };
 
     #[tactic(auto, unfolding(crate::specs::Meanings::returns))]
-    fn parse(parser: &mut Parser<'a>) -> Result<Returns, Error> {
+    fn parse(parser: &mut Parser<'a>) -> Result<Self, Error> {
         parser.parse::<kw::result>()?;
-        Ok(Returns {
+        Ok(Listed {
             types: vals(parser)?,
+            of: PhantomData,
         })
     }
 }
@@ -130,12 +144,8 @@ fn params(parser: &mut Parser<'_>) -> Result<Vec<ValType>, Error>
     ensures on { parser.old.place ≤ parser.new.place }
     ensures reads { Reads (λ v. v.items) params parser.old result parser.new.place }
 {
-    let mut types = Vec::new(parser.alloc());
-    while parser.peek2::<kw::param>()? {
-        let param = parser.parens_of::<Param>()?;
-        types.extend_from_slice(&param.types)?;
-    }
-    Ok(types)
+    let all = parser.all_behind::<kw::param, Parens<Listed<kw::param>>>()?;
+    Ok(joined(parser.alloc(), &all)?)
 }
 
 /// The types of all `result`s.
@@ -144,17 +154,13 @@ fn results(parser: &mut Parser<'_>) -> Result<Vec<ValType>, Error>
     ensures on { parser.old.place ≤ parser.new.place }
     ensures reads { Reads (λ v. v.items) results parser.old result parser.new.place }
 {
-    let mut types = Vec::new(parser.alloc());
-    while !parser.is_empty() {
-        let returns = parser.parens_of::<Returns>()?;
-        types.extend_from_slice(&returns.types)?;
-    }
-    Ok(types)
+    let all = parser.all_of::<Parens<Listed<kw::result>>>()?;
+    Ok(joined(parser.alloc(), &all)?)
 }
 
 /// What stands within the parentheses of a `func`.
 impl<'a> Parse<'a> for FuncType {
-    ghost use Rattle.wat_types.specs.Meanings.{forward_func, func};
+    ghost use Rattle.wat_types.specs.Meanings.{func};
     ghost use Rattle.wat_types.specs.Signatures.{Signature, signature};
 
     ghost Value = { Signature };
@@ -179,7 +185,7 @@ struct Definition {
 }
 
 impl<'a> Parse<'a> for Definition {
-    ghost use Rattle.wat_types.specs.Meanings.{definition, forward_definition};
+    ghost use Rattle.wat_types.specs.Meanings.{definition};
     ghost use Rattle.wat_types.specs.Signatures.{Signature, signature};
 
     ghost Value = { Signature };
@@ -221,7 +227,7 @@ struct Fields {
 
 impl<'a> Parse<'a> for Fields {
     ghost use Rattle.std.specs.Prelude.{List, map};
-    ghost use Rattle.wat_types.specs.Meanings.{fields, forward_fields};
+    ghost use Rattle.wat_types.specs.Meanings.{fields};
     ghost use Rattle.wat_types.specs.Signatures.{Signature, signature};
 
     ghost Value = { List Signature };
@@ -247,7 +253,7 @@ pub(crate) struct Module {
 
 impl<'a> Parse<'a> for Module {
     ghost use Rattle.std.specs.Prelude.{List, map};
-    ghost use Rattle.wat_types.specs.Meanings.{fields, forward_fields, module_types};
+    ghost use Rattle.wat_types.specs.Meanings.{fields, module_types};
     ghost use Rattle.wat_types.specs.Signatures.{Signature, signature};
 
     ghost Value = { List Signature };

@@ -45,6 +45,10 @@ abbrev pub integer : {V : Type 0} → List ℕ → (Bool × ℕ → Option V) �
 integer name fits =
     checked fits (codes "invalid " ++ name ++ codes " number: constant out of range") (token as_integer (codes "expected a " ++ name))
 
+-- one without a sign, of 32 bits
+abbrev pub u32 : Reading ℕ
+u32 = integer (codes "u32") (unsigned_below (2 ^ 32))
+
 abbrev pub an_integer : Sight
 an_integer = sight_of as_integer
 
@@ -61,7 +65,7 @@ reference (index.Id i) = Named (spelled i)
 abbrev pub an_index : Reading Reference
 an_index =
     where_seen an_identifier (mapped Named identifier)
-    (where_seen an_integer (mapped (λ v. Number v.0 v.1) (spanned (integer (codes "u32") (unsigned_below (2 ^ 32)))))
+    (where_seen an_integer (mapped (λ v. Number v.0 v.1) (spanned u32))
     (refuse (codes "unexpected token, expected an index or an identifier")))
 
 abbrev pub as_index : Reader (Unit {0})

@@ -23,7 +23,8 @@ ghost use Rattle.wat_lexer_parser.specs.parser.Takers.{as_open, as_close, as_key
 ghost use Rattle.wat_lexer_parser.specs.parser.Takers.{as_id, as_annotation, as_string};
 ghost use Rattle.wat_lexer_parser.specs.parser.Takers.{as_integer, as_float, number_of};
 ghost use Rattle.wat_lexer_parser.specs.parser.Takers.{name_takes};
-ghost use Rattle.wat_lexer_parser.specs.places.Places.{current_span};
+ghost use Rattle.wat_lexer_parser.specs.places.Places.{current_span, empty_of};
+ghost use Rattle.wat_lexer_parser.specs.shown.Showing.{shown};
 
 use crate::parser::Parser;
 use std::alloc::Global;
@@ -87,6 +88,15 @@ impl<'p, 'a> Cursor<'p, 'a> {
         let parser = self.parser;
         parser.is_sound();
         parser.span_from(self.at)
+    }
+
+    /// Whether the end or `)` is shown; false at a fault.
+    pub(crate) fn is_empty(self) -> bool
+        ensures { result ≡ empty_of (shown self.entry.parser.now.source self.entry.at
+            self.entry.parser.now.names) }
+    {
+        let parser = self.parser;
+        parser.is_empty_at(self.at)
     }
 
     /// The text in which the cursor stands.

@@ -23,6 +23,29 @@ impl<'a, T: Parse<'a> + Peek> Parse<'a> for Option<T> {
     }
 }
 
+/// A type in parentheses.
+#[derive(Debug, Drop)]
+pub struct Parens<T> {
+    /// What stands within them.
+    pub inner: T,
+}
+
+impl<'a, T: Parse<'a>> Parse<'a> for Parens<T> {
+    ghost use Rattle.wat_lexer_parser.specs.readings.Readings.{group};
+
+    ghost Value = { T.Value };
+
+    ghost value = { λ p. T.value p.inner };
+
+    ghost meaning = { group T.meaning };
+
+    fn parse(parser: &mut Parser<'a>) -> Result<Parens<T>, Error> {
+        Ok(Parens {
+            inner: parser.parens_of::<T>()?,
+        })
+    }
+}
+
 /// The type, in memory of its own.
 impl<'a, T: Parse<'a>> Parse<'a> for Box<T> {
     ghost use Rattle.wat_lexer_parser.specs.readings.Readings.{allocated};
