@@ -160,15 +160,8 @@ impl<'a> Parser<'a> {
         ensures short { length self.now.source.setting.text < 2 ^ 32 }
     {
         self.is_sound();
-        self.is_empty_at(self.place)
-    }
-
-    /// Whether the end or `)` is shown at a place.
-    pub(crate) fn is_empty_at(&self, place: usize) -> bool
-        ensures { result ≡ empty_of (shown self.now.source place self.now.names) }
-    {
         let table = &self.table;
-        table.is_empty(place, &self.names)
+        table.is_empty(self.place, &self.names)
     }
 
     /// The current span: that of the token that is shown, the text's length at the end, or the

@@ -96,7 +96,7 @@ impl<'p, 'a> Cursor<'p, 'a> {
             self.entry.parser.now.names) }
     {
         let parser = self.parser;
-        parser.is_empty_at(self.at)
+        parser.table().is_empty(self.at, &parser.names)
     }
 
     /// The text in which the cursor stands.

@@ -1,7 +1,7 @@
 use Rattle.std.proofs.Common.{◌≤◌, ◌-◌, suc, length, map}
 use Rattle.wat_lexer_parser.specs.lemmas.WhileLaws.{IsSoFar}
 use Rattle.wat_lexer_parser.specs.readings.Reads.{IsKept}
-use Rattle.wat_lexer_parser.proofs.parser.lists.Parser.all_while.Given as goal
+use Rattle.wat_lexer_parser.proofs.parser.Parser.all_while.Given as goal
 
 abbrev pub invariant-each : goal.invariant-each
 invariant-each g l = record {

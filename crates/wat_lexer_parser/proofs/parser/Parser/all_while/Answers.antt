@@ -4,7 +4,7 @@ use Rattle.wat_lexer_parser.specs.lemmas.WhileLaws.{IsSoFar, none_so_far, one_mo
 use Rattle.wat_lexer_parser.specs.parser.Sights.{Tells}
 use Rattle.wat_lexer_parser.specs.readings.Readings.{while_seen}
 use Rattle.wat_lexer_parser.specs.readings.Reads.{Reads}
-use Rattle.wat_lexer_parser.proofs.parser.lists.Parser.all_while.Goals as goal
+use Rattle.wat_lexer_parser.proofs.parser.Parser.all_while.Goals as goal
 
 pub each-init : goal.each-init
 each-init g c =
