@@ -6,8 +6,8 @@ usage: tools/make_quick_start.py [--check]
 
 A file, or some lines of it, goes between `<!-- file PATH [FIRST-LAST] -->` and `<!-- end -->`, and all files of a folder that are not empty,
 each behind its name, between `<!-- files FOLDER -->` and `<!-- end -->`. Between `<!-- laws -->` and `<!-- end -->` stands a table of words, each with
-what it reads; its last two columns are the laws that the specs have of the word. With --check nothing is written, and the status is 1
-where a page differs from the files. It is also 1 where the table has a word that has no law, or lacks one that has.
+what it reads; its last column is the law that the specs have of the word. With --check nothing is written, and the status is 1 where a
+page differs from the files. It is also 1 where the table lacks a word that has a law.
 """
 import pathlib
 import re
@@ -18,7 +18,7 @@ ROOT = pathlib.Path(__file__).resolve().parent.parent
 PAGES = ["README.md", "docs/A-TYPE-OF-ONES-OWN.md"]
 LAWS = ROOT / "crates/wat_lexer_parser/specs/lemmas"
 PART = re.compile(r"<!-- (file (?P<path>\S+)( (?P<first>\d+)-(?P<last>\d+))?|files (?P<folder>\S+)|laws) -->\n(?P<body>.*?)<!-- end -->\n", re.S)
-LAW = re.compile(r"^pub (?P<name>(forward|advances)_\w+) : (.* → )?(?P<says>IsForward|Advances) \(?(?P<word>\w+)[^→\n]*$", re.M)
+LAW = re.compile(r"^pub (?P<name>advances_\w+) : (.* → )?Advances \(?(?P<word>\w+)[^→\n]*$", re.M)
 ROW = re.compile(r"^\| `(?P<term>(?P<word>\w+)[^`]*)` \| (?P<reads>[^|]+) \|")
 LANGUAGES = {".rt": "rust", ".rs": "rust", ".c": "c", ".antt": "", ".edit": ""}
 
@@ -39,26 +39,21 @@ def folder(path):
 
 
 def laws():
-    """The laws of each word: that of `IsForward`, and that of `Advances`."""
-    found = {}
-    for path in sorted(LAWS.glob("*.antt")):
-        for law in LAW.finditer(path.read_text()):
-            found.setdefault(law["word"], {})[law["says"]] = law["name"]
-    return found
+    """The law of each word that has one."""
+    return {law["word"]: law["name"] for path in sorted(LAWS.glob("*.antt")) for law in LAW.finditer(path.read_text())}
 
 
 def row(line, found):
-    """A row of the table with the laws of its word."""
+    """A row of the table with the law of its word."""
     cells = ROW.match(line)
-    if not cells or cells["word"] not in found:
-        sys.exit(f"make_quick_start.py: a row without a law: {line}")
-    names = [found[cells["word"]].get(says) for says in ("IsForward", "Advances")]
-    forward, advances = (f"`{name}`" if name else "" for name in names)
-    return f"| `{cells['term']}` | {cells['reads']} | {forward} | {advances} |\n"
+    if not cells:
+        sys.exit(f"make_quick_start.py: no row of the table: {line}")
+    name = found.get(cells["word"])
+    return f"| `{cells['term']}` | {cells['reads']} | {f'`{name}`' if name else ''} |\n"
 
 
 def table(body):
-    """The table of words, with the laws that the specs have."""
+    """The table of words, with the law that the specs have of each."""
     head, lines = body.splitlines(keepends=True)[:2], body.splitlines()[2:]
     found = laws()
     missing = found.keys() - {ROW.match(line)["word"] for line in lines if ROW.match(line)}

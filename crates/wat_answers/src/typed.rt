@@ -8,7 +8,7 @@ use wat_lex_answers::tokens::short;
 use wat_lexer_parser::kw;
 use wat_lexer_parser::parser::{Lookahead1, ParseBuffer, Parser, Peek};
 use wat_lexer_parser::token::{
-    Id, Index, ItemRef, LParen, NameAnnotation, RParen, ReservedSymbol, Word,
+    Id, Index, ItemRef, LParen, NameAnnotation, Parens, RParen, ReservedSymbol, Word,
 };
 use wat_words::{Std, StdAnnotation};
 
@@ -119,6 +119,19 @@ fn report(alloc: Global, parser: &Parser<'_>, count: usize) -> Result<String, Er
     Err(lookahead.error())
 }
 
+/// The numbers of a list: all, as long as one is seen, or as long as one is seen in parentheses.
+#[tactic(auto, using(wat_lexer_parser::specs::lemmas::TypeLaws::advances_u32, wat_lexer_parser::specs::lemmas::ReadingLaws::advances_group))]
+fn list(alloc: Global, call: &str, parser: &mut Parser<'_>) -> Result<String, Error> {
+    Ok(match call {
+        "all-of" => format!(in alloc; "{:?}", parser.all_of::<u32>()?.as_slice())?,
+        "all-while" => format!(in alloc; "{:?}", parser.all_while::<u32, u32>()?.as_slice())?,
+        _ => {
+            let numbers = parser.all_behind::<u32, Parens<u32>>()?;
+            format!(in alloc; "{:?}", numbers.as_slice())?
+        }
+    })
+}
+
 /// How types are displayed.
 fn display(alloc: Global, name: &str) -> Result<String, AllocError> {
     String::from_str(
@@ -166,6 +179,7 @@ fn called(alloc: Global, row: &Row<'_>, parser: &mut Parser<'_>) -> Result<Optio
         "identifier" => identifier(alloc, parser)?,
         "item" => item(alloc, parser)?,
         "optional-name" => optional_name(alloc, parser)?,
+        "all-of" | "all-while" | "all-behind" => list(alloc, row.call, parser)?,
         "too-often" => too_often(alloc, parser)?,
         "once-more" => once_more(alloc, parser)?,
         "report" => report(alloc, parser, row.at())?,

@@ -13,7 +13,7 @@ use Rattle.wat_lex.specs.tokens.ReadableTokens.{IsTokenOf}
 use Rattle.wat_lex.specs.declared.lexer.kinds.Token.{Token}
 use Rattle.wat_lexer_parser.specs.declared.parser.fault.Fault.{Fault}
 use Rattle.wat_lexer_parser.specs.names.RegisteredNames.{Names}
-use Rattle.wat_lexer_parser.specs.parser.State.{State, Answers, report_of, told, seen, seen_from}
+use Rattle.wat_lexer_parser.specs.parser.State.{State, Answers, report_of, told, seen, at_place, seen_at}
 use Rattle.wat_lexer_parser.specs.places.Source.{Source, IsRead}
 use Rattle.wat_lexer_parser.specs.shown.AllShown.{AllShown}
 use Rattle.wat_lexer_parser.specs.shown.Showing.{Look, shown}
@@ -87,10 +87,10 @@ reported looks each s names from to text f None is_memory u r h a e k = let d : 
 reported looks each s names from to text f (Some e) is_memory u r h a d k = shown_refused looks each s names from to text e u r h a
 
 -- an error that is no want of memory is the report of a fault
-pub shown_reported : {T : Type 0} → LooksAreAllShown → (each : Token → List ℕ) (a b : State) (from to : ℕ) (text : List ℕ) (f : T → Option (Token × ℕ)) (result : Result T (Option Report)) (error : Option Report) (is_memory : Bool) → IsUtf8 b.source.setting.text → IsRead b.source → ShownSoFar each b.source b.names from to text → Answers false f (seen_from a to) result → result ≡ Err error → a ≡ b → is_memory ≡ false → (IsNone error → IsTrue is_memory) → ShownBy each b.source b.names from text (Some error)
+pub shown_reported : {T : Type 0} → LooksAreAllShown → (each : Token → List ℕ) (a b : State) (from to : ℕ) (text : List ℕ) (f : T → Option (Token × ℕ)) (result : Result T (Option Report)) (error : Option Report) (is_memory : Bool) → IsUtf8 b.source.setting.text → IsRead b.source → ShownSoFar each b.source b.names from to text → Answers false f (seen_at (at_place a to)) result → result ≡ Err error → a ≡ b → is_memory ≡ false → (IsNone error → IsTrue is_memory) → ShownBy each b.source b.names from text (Some error)
 shown_reported looks each a b from to text f result error is_memory u r h m i e n k =
-    let answered = subst (λ (x : State). Answers false f (seen_from x to) result) e m in
-    reported looks each b.source b.names from to text f error is_memory u r h (subst (λ x. Answers false f (seen_from b to) x) i answered) n k
+    let answered = subst (λ (x : State). Answers false f (seen_at (at_place x to)) result) e m in
+    reported looks each b.source b.names from to text f error is_memory u r h (subst (λ x. Answers false f (seen_at (at_place b to)) x) i answered) n k
 
 told_found : (text : List ℕ) (a : Look) (found : Option (Token × ℕ)) → told text a ≡ Ok found → a ≡ Ok found
 told_found text (Ok x) found h = let k : x ≡ found = cc in ap Ok k

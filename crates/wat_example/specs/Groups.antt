@@ -3,8 +3,8 @@ use Rattle.std.specs.Prelude.{ℕ, Bool, List, codes, Option, Some, None, Result
 use Rattle.wat_lex.specs.errors.Errors.{Report}
 use Rattle.wat_lexer_parser.specs.parser.Closures.{opened, closed, inside}
 use Rattle.wat_lexer_parser.specs.parser.Sights.{sight_of}
-use Rattle.wat_lexer_parser.specs.parser.State.{State, registered, report_here}
-use Rattle.wat_lexer_parser.specs.parser.Takers.{as_keyword, as_open, taken_from}
+use Rattle.wat_lexer_parser.specs.parser.State.{State, at_place, registered, report_here}
+use Rattle.wat_lexer_parser.specs.parser.Takers.{as_keyword, as_open, taken_at}
 
 -- a keyword with the place behind it, or what is wrong
 abbrev pub Word : Type 0
@@ -17,7 +17,7 @@ word_or refusal (Err f) = Err f
 
 -- the keyword that is shown at a place
 unfoldable pub keyword_from : State → ℕ → Word
-keyword_from a p = word_or (report_here a.source p a.names (codes "expected a keyword")) (taken_from as_keyword a p)
+keyword_from a p = word_or (report_here a.source p a.names (codes "expected a keyword")) (taken_at as_keyword (at_place a p))
 
 -- the same at the parser's own place
 abbrev pub keyword_read : State → Word
@@ -40,7 +40,7 @@ abbrev pub group_read : State → Word
 group_read a = read_inside a (opened a.source a.place a.names)
 
 abbrev pub sees_open : Result State Report → Result Bool Report
-sees_open (Ok a) = sight_of as_open a.source a.place a.names
+sees_open (Ok a) = (sight_of as_open a).told
 sees_open (Err f) = Err f
 
 -- whether `(` is shown where a name is registered once more

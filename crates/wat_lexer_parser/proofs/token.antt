@@ -1,3 +1,2 @@
 -- Lemmas on the values of tokens.
 pub mod Utf8
-pub mod WordMemory

@@ -3,6 +3,4 @@ pub mod Behind
 pub mod AnswerLaws
 pub mod ReadingLaws
 pub mod TypeLaws
-pub mod ManyLaws
-pub mod LoopLaws
-pub mod ReadingParts
+pub mod WhileLaws

@@ -3,4 +3,4 @@ pub mod Readings
 pub mod Reads
 pub mod Types
 pub mod Attempts
-pub mod Loops
+pub mod Choices

@@ -8,7 +8,7 @@ ghost use Rattle.wat_lex.specs.errors.Errors.{IsUnlessMemory};
 ghost use Rattle.wat_lexer_parser.specs.names.RegisteredNames.{no_names, is_registered};
 ghost use Rattle.wat_lexer_parser.specs.names.RegisteredNames.{count, fewer};
 ghost use Rattle.wat_lexer_parser.specs.parser.Closures.{opened, closed, ParensOk, ParensErr};
-ghost use Rattle.wat_lexer_parser.specs.parser.Sights.{second, takes_second};
+ghost use Rattle.wat_lexer_parser.specs.parser.Sights.{Tells, second};
 ghost use Rattle.wat_lexer_parser.specs.parser.State.{Answers, IsRefusal, IsSound};
 ghost use Rattle.wat_lexer_parser.specs.parser.State.{report_here, message_at, depth_checked};
 ghost use Rattle.wat_lexer_parser.specs.parser.State.{registered, too_often};
@@ -20,6 +20,7 @@ mod buffer;
 mod calls;
 mod cursor;
 mod fault;
+mod lists;
 mod lookahead;
 mod names;
 mod peek;
@@ -445,27 +446,21 @@ impl<'a> Parser<'a> {
 
     /// Whether a type is seen at the place.
     pub fn peek<T: Peek>(&self) -> Result<bool, Error>
-        ensures { Answers (T.takes self.now.source self.now.place self.now.names) (λ b. b)
-            (T.sight self.now.source self.now.place self.now.names) result }
+        ensures { Tells (T.sight self.now) result }
     {
         T::peek(Cursor::new(self))
     }
 
     /// Whether a type is seen behind the token that is shown; false where none is shown.
     pub fn peek2<T: Peek>(&self) -> Result<bool, Error>
-        ensures { Answers
-            (takes_second T.takes self.now.source self.now.place self.now.names) (λ b. b)
-            (second T.sight self.now.source self.now.place self.now.names) result }
+        ensures { Tells (second T.sight self.now) result }
     {
         T::peek2(Cursor::new(self))
     }
 
     /// Whether a type is seen behind the next two tokens; false where one of them is missing.
     pub fn peek3<T: Peek>(&self) -> Result<bool, Error>
-        ensures { Answers
-            (takes_second (takes_second T.takes) self.now.source self.now.place self.now.names)
-            (λ b. b)
-            (second (second T.sight) self.now.source self.now.place self.now.names) result }
+        ensures { Tells (second (second T.sight) self.now) result }
     {
         match Cursor::new(self).any()? {
             Some((_, next)) => T::peek2(next),

@@ -9,6 +9,7 @@ mod references;
 mod strings;
 mod words;
 
+pub use containers::Parens;
 pub use names::NameAnnotation;
 pub use parens::{LParen, RParen};
 pub use references::ItemRef;

@@ -76,7 +76,6 @@ impl<'a> Parse<'a> for OptionalName<'a> {
     ghost use Rattle.std.specs.Prelude.{List, ℕ, Option};
     ghost use Rattle.std.specs.Cow.{cow_str_bytes};
     ghost use Rattle.std.specs.Option.{option_map};
-    ghost use Rattle.wat_lexer_parser.specs.lemmas.TypeLaws.{forward_optional_name};
     ghost use Rattle.wat_lexer_parser.specs.readings.Types.{optional_name};
 
     ghost Value = { Option (List ℕ) };
@@ -88,8 +87,6 @@ impl<'a> Parse<'a> for OptionalName<'a> {
     fn parse(parser: &mut Parser<'a>) -> Result<OptionalName<'a>, Error> {
         Ok(OptionalName(NameAnnotation::parse_option(parser)?))
     }
-
-    ghost forward = { forward_optional_name };
 }
 
 /// Reads a type where one name is shown, which is taken back on both outcomes.

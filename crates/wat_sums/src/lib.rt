@@ -7,9 +7,9 @@
 ghost use Rattle.std.specs.Prelude.{◌≡◌, ◌≤◌, ◌<◌, ◌^◌, length, map, true, false};
 ghost use Rattle.wat_lexer_parser.specs.parser.State.{Answers};
 ghost use Rattle.wat_lexer_parser.specs.places.Source.{Source, IsRead};
-ghost use Rattle.wat_lexer_parser.specs.readings.Readings.{many, whole};
-ghost use Rattle.wat_lexer_parser.specs.readings.Reads.{IsKept, Reads, reading_at};
-ghost use Rattle.wat_sums.specs.Sums.{negative, sum, term};
+ghost use Rattle.wat_lexer_parser.specs.readings.Readings.{whole};
+ghost use Rattle.wat_lexer_parser.specs.readings.Reads.{IsKept, Reads};
+ghost use Rattle.wat_sums.specs.Sums.{negative, sum};
 
 pub mod kw;
 #[cfg(test)]
@@ -26,7 +26,7 @@ pub struct Term(pub i64);
 
 impl<'a> Parse<'a> for Term {
     ghost use Rattle.std.specs.Prelude.{ℤ};
-    ghost use Rattle.wat_sums.specs.Sums.{forward_term, term};
+    ghost use Rattle.wat_sums.specs.Sums.{term};
 
     ghost Value = { ℤ };
 
@@ -47,8 +47,6 @@ impl<'a> Parse<'a> for Term {
         }
         Err(lookahead.error())
     }
-
-    ghost forward = { forward_term };
 }
 
 /// A number behind `neg`, which stands for its negative.
@@ -56,7 +54,7 @@ impl<'a> Parse<'a> for Term {
 fn negative(parser: &mut Parser<'_>) -> Result<Term, Error>
     ensures kept { IsKept parser.old parser.new }
     ensures on { parser.old.place ≤ parser.new.place }
-    ensures reads { Reads (λ t. t.0) (reading_at negative parser.old) result parser.new.place }
+    ensures reads { Reads (λ t. t.0) negative parser.old result parser.new.place }
 {
     parser.parse::<kw::neg>()?;
     Ok(Term(-i64::from(parser.parse::<u32>()?)))
@@ -71,7 +69,7 @@ pub struct Sum {
 
 impl<'a> Parse<'a> for Sum {
     ghost use Rattle.std.specs.Prelude.{List, ℤ, map};
-    ghost use Rattle.wat_sums.specs.Sums.{forward_sum, sum};
+    ghost use Rattle.wat_sums.specs.Sums.{sum};
 
     ghost Value = { List ℤ };
 
@@ -79,29 +77,15 @@ impl<'a> Parse<'a> for Sum {
 
     ghost meaning = { sum };
 
-    #[tactic(auto, unfolding(crate::specs::Sums::sum))]
+    #[tactic(auto, using(crate::proofs::Terms::advances_term), unfolding(crate::specs::Sums::sum))]
     fn parse(parser: &mut Parser<'a>) -> Result<Sum, Error> {
         parser.parens(|p| {
             p.parse::<kw::sum>()?;
-            Ok(Sum { terms: terms(p)? })
+            Ok(Sum {
+                terms: p.all_of::<Term>()?,
+            })
         })
     }
-
-    ghost forward = { forward_sum };
-}
-
-/// All terms before `)`.
-fn terms(parser: &mut Parser<'_>) -> Result<Vec<Term>, Error>
-    ensures kept { IsKept parser.old parser.new }
-    ensures on { parser.old.place ≤ parser.new.place }
-    ensures reads { Reads (λ v. map (λ t. t.0) v.items) (reading_at (many term) parser.old) result
-        parser.new.place }
-{
-    let mut terms = Vec::new(parser.alloc());
-    while !parser.is_empty() {
-        terms.push(parser.parse::<Term>()?)?;
-    }
-    Ok(terms)
 }
 
 /// The sum that a text spells: its terms exactly where the text is a sum, and else what is wrong.

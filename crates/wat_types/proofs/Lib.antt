@@ -1,3 +1,4 @@
+mod Lists
 mod StandardWords
 mod Looks
 mod Bytes

@@ -1,17 +1,20 @@
 //! How a text spells the types of a module.
-ghost use Rattle.std.specs.Prelude.{◌≤◌, map};
-ghost use Rattle.wat_lexer_parser.specs.readings.Reads.{IsKept, Reads, reading_at};
+ghost use Rattle.std.specs.Prelude.{◌≡◌, ◌≤◌, ◌<◌, IfOk, OnErr, length, map};
+ghost use Rattle.std.specs.List.{flat_map};
+ghost use Rattle.wat_lexer_parser.specs.readings.Reads.{IsKept, Reads};
 ghost use Rattle.wat_lexer_parser.specs.readings.Readings.{mapped};
 ghost use Rattle.wat_types.specs.Meanings.{definitions, params, results, vals};
 ghost use Rattle.wat_types.specs.Signatures.{signature};
 
 use crate::types::{FuncType, ValType};
+use std::alloc::{AllocError, Global};
+use std::marker::PhantomData;
 use wat_lexer_parser::parser::{Parse, Parser};
-use wat_lexer_parser::token::Id;
+use wat_lexer_parser::token::{Id, Parens};
 use wat_lexer_parser::{Error, kw};
 
 impl<'a> Parse<'a> for ValType {
-    ghost use Rattle.wat_types.specs.Meanings.{forward_val, val};
+    ghost use Rattle.wat_types.specs.Meanings.{val};
     ghost use Rattle.wat_types.specs.declared.types.ValType.{ValType};
 
     ghost Value = { ValType };
@@ -41,15 +44,13 @@ impl<'a> Parse<'a> for ValType {
         }
         Err(lookahead.error())
     }
-
-    ghost forward = { forward_val };
 }
 
 /// The number type that a keyword stands for, which is read.
 fn number_type<'a, K: Parse<'a>>(parser: &mut Parser<'a>, of: ValType) -> Result<ValType, Error>
     ensures kept { IsKept parser.old parser.new }
     ensures on { parser.old.place ≤ parser.new.place }
-    ensures reads { Reads (λ v. v) (reading_at (mapped (λ _. of) K.meaning) parser.old) result
+    ensures reads { Reads (λ v. v) (mapped (λ _. of) K.meaning) parser.old result
         parser.new.place }
 {
     parser.parse::<K>()?;
@@ -60,24 +61,35 @@ fn number_type<'a, K: Parse<'a>>(parser: &mut Parser<'a>, of: ValType) -> Result
 fn vals(parser: &mut Parser<'_>) -> Result<Vec<ValType>, Error>
     ensures kept { IsKept parser.old parser.new }
     ensures on { parser.old.place ≤ parser.new.place }
-    ensures reads { Reads (λ v. v.items) (reading_at vals parser.old) result parser.new.place }
+    ensures reads { Reads (λ v. v.items) vals parser.old result parser.new.place }
 {
-    let mut types = Vec::new(parser.alloc());
-    while !parser.is_empty() {
-        types.push(parser.parse::<ValType>()?)?;
+    parser.all_of::<ValType>()
+}
+
+/// The number types that stand behind a keyword, within the parentheses of both.
+#[derive(Drop)]
+struct Listed<K> {
+    types: Vec<ValType>,
+    of: PhantomData<K>,
+}
+
+/// The types of all these lists.
+fn joined<K>(alloc: Global, lists: &[Parens<Listed<K>>]) -> Result<Vec<ValType>, AllocError>
+    ensures types { IfOk result (λ types.
+        types.items ≡ flat_map (λ l. l.inner.types.items) lists.now) }
+    ensures some { OnErr result (0 < length lists.now) }
+{
+    let mut types = Vec::new(alloc);
+    for list in lists {
+        types.extend_from_slice(&list.inner.types)?;
     }
     Ok(types)
 }
 
 /// What stands within the parentheses of a `param`.
-#[derive(Drop)]
-struct Param {
-    types: Vec<ValType>,
-}
-
-impl<'a> Parse<'a> for Param {
+impl<'a> Parse<'a> for Listed<kw::param> {
     ghost use Rattle.std.specs.Prelude.{List};
-    ghost use Rattle.wat_types.specs.Meanings.{forward_param, param};
+    ghost use Rattle.wat_types.specs.Meanings.{param};
     ghost use Rattle.wat_types.specs.declared.types.ValType.{ValType};
 
     ghost Value = { List ValType };
@@ -87,30 +99,27 @@ impl<'a> Parse<'a> for Param {
     ghost meaning = { param };
 
     #[tactic(auto, unfolding(crate::specs::Meanings::param))]
-    fn parse(parser: &mut Parser<'a>) -> Result<Param, Error> {
+    fn parse(parser: &mut Parser<'a>) -> Result<Self, Error> {
         parser.parse::<kw::param>()?;
         if parser.parse::<Option<Id<'a>>>()?.is_none() {
-            return Ok(Param {
+            return Ok(Listed {
                 types: vals(parser)?,
+                of: PhantomData,
             });
         }
         let mut types = Vec::new(parser.alloc());
         types.push(parser.parse::<ValType>()?)?;
-        Ok(Param { types })
+        Ok(Listed {
+            types,
+            of: PhantomData,
+        })
     }
-
-    ghost forward = { forward_param };
 }
 
 /// What stands within the parentheses of a `result`.
-#[derive(Drop)]
-struct Returns {
-    types: Vec<ValType>,
-}
-
-impl<'a> Parse<'a> for Returns {
+impl<'a> Parse<'a> for Listed<kw::result> {
     ghost use Rattle.std.specs.Prelude.{List};
-    ghost use Rattle.wat_types.specs.Meanings.{forward_returns, returns};
+    ghost use Rattle.wat_types.specs.Meanings.{returns};
     ghost use Rattle.wat_types.specs.declared.types.ValType.{ValType};
 
     ghost Value = { List ValType };
@@ -120,47 +129,38 @@ impl<'a> Parse<'a> for Returns {
     ghost meaning = { returns };
 
     #[tactic(auto, unfolding(crate::specs::Meanings::returns))]
-    fn parse(parser: &mut Parser<'a>) -> Result<Returns, Error> {
+    fn parse(parser: &mut Parser<'a>) -> Result<Self, Error> {
         parser.parse::<kw::result>()?;
-        Ok(Returns {
+        Ok(Listed {
             types: vals(parser)?,
+            of: PhantomData,
         })
     }
-
-    ghost forward = { forward_returns };
 }
 
 /// The types of all `param`s.
 fn params(parser: &mut Parser<'_>) -> Result<Vec<ValType>, Error>
     ensures kept { IsKept parser.old parser.new }
     ensures on { parser.old.place ≤ parser.new.place }
-    ensures reads { Reads (λ v. v.items) (reading_at params parser.old) result parser.new.place }
+    ensures reads { Reads (λ v. v.items) params parser.old result parser.new.place }
 {
-    let mut types = Vec::new(parser.alloc());
-    while parser.peek2::<kw::param>()? {
-        let param = parser.parens_of::<Param>()?;
-        types.extend_from_slice(&param.types)?;
-    }
-    Ok(types)
+    let all = parser.all_behind::<kw::param, Parens<Listed<kw::param>>>()?;
+    Ok(joined(parser.alloc(), &all)?)
 }
 
 /// The types of all `result`s.
 fn results(parser: &mut Parser<'_>) -> Result<Vec<ValType>, Error>
     ensures kept { IsKept parser.old parser.new }
     ensures on { parser.old.place ≤ parser.new.place }
-    ensures reads { Reads (λ v. v.items) (reading_at results parser.old) result parser.new.place }
+    ensures reads { Reads (λ v. v.items) results parser.old result parser.new.place }
 {
-    let mut types = Vec::new(parser.alloc());
-    while !parser.is_empty() {
-        let returns = parser.parens_of::<Returns>()?;
-        types.extend_from_slice(&returns.types)?;
-    }
-    Ok(types)
+    let all = parser.all_of::<Parens<Listed<kw::result>>>()?;
+    Ok(joined(parser.alloc(), &all)?)
 }
 
 /// What stands within the parentheses of a `func`.
 impl<'a> Parse<'a> for FuncType {
-    ghost use Rattle.wat_types.specs.Meanings.{forward_func, func};
+    ghost use Rattle.wat_types.specs.Meanings.{func};
     ghost use Rattle.wat_types.specs.Signatures.{Signature, signature};
 
     ghost Value = { Signature };
@@ -176,8 +176,6 @@ impl<'a> Parse<'a> for FuncType {
         let results = results(parser)?;
         Ok(FuncType { params, results })
     }
-
-    ghost forward = { forward_func };
 }
 
 /// What stands within the parentheses of a `type`. Its identifier is read and dropped.
@@ -187,7 +185,7 @@ struct Definition {
 }
 
 impl<'a> Parse<'a> for Definition {
-    ghost use Rattle.wat_types.specs.Meanings.{definition, forward_definition};
+    ghost use Rattle.wat_types.specs.Meanings.{definition};
     ghost use Rattle.wat_types.specs.Signatures.{Signature, signature};
 
     ghost Value = { Signature };
@@ -204,15 +202,13 @@ impl<'a> Parse<'a> for Definition {
             func: parser.parens_of::<FuncType>()?,
         })
     }
-
-    ghost forward = { forward_definition };
 }
 
 /// All types before `)`.
 fn definitions(parser: &mut Parser<'_>) -> Result<Vec<FuncType>, Error>
     ensures kept { IsKept parser.old parser.new }
     ensures on { parser.old.place ≤ parser.new.place }
-    ensures reads { Reads (λ v. map signature v.items) (reading_at definitions parser.old) result
+    ensures reads { Reads (λ v. map signature v.items) definitions parser.old result
         parser.new.place }
 {
     let mut types = Vec::new(parser.alloc());
@@ -231,7 +227,7 @@ struct Fields {
 
 impl<'a> Parse<'a> for Fields {
     ghost use Rattle.std.specs.Prelude.{List, map};
-    ghost use Rattle.wat_types.specs.Meanings.{fields, forward_fields};
+    ghost use Rattle.wat_types.specs.Meanings.{fields};
     ghost use Rattle.wat_types.specs.Signatures.{Signature, signature};
 
     ghost Value = { List Signature };
@@ -247,8 +243,6 @@ impl<'a> Parse<'a> for Fields {
             types: definitions(parser)?,
         })
     }
-
-    ghost forward = { forward_fields };
 }
 
 /// A module that holds nothing but function types.
@@ -259,8 +253,7 @@ pub(crate) struct Module {
 
 impl<'a> Parse<'a> for Module {
     ghost use Rattle.std.specs.Prelude.{List, map};
-    ghost use Rattle.wat_lexer_parser.specs.lemmas.ReadingLaws.{forward_group};
-    ghost use Rattle.wat_types.specs.Meanings.{fields, forward_fields, module_types};
+    ghost use Rattle.wat_types.specs.Meanings.{fields, module_types};
     ghost use Rattle.wat_types.specs.Signatures.{Signature, signature};
 
     ghost Value = { List Signature };
@@ -275,6 +268,4 @@ impl<'a> Parse<'a> for Module {
             types: fields.types,
         })
     }
-
-    ghost forward = { forward_group fields forward_fields };
 }

@@ -1,5 +1,5 @@
 -- What calls with closures answer, and what taking a parenthesis does. No part of the standard.
-use Rattle.std.specs.Prelude.{ℕ, ◌+◌, ◌≡◌, ◌⊎◌, codes, Option, Some, None, Result, Ok, Err}
+use Rattle.std.specs.Prelude.{ℕ, ◌+◌, ◌≡◌, ◌<◌, ◌⊎◌, codes, Option, Some, None, Result, Ok, Err}
 use Rattle.wat_lex.specs.errors.Errors.{Report}
 use Rattle.wat_lexer_parser.specs.names.RegisteredNames.{Names}
 use Rattle.wat_lexer_parser.specs.parser.State.{State, IsRefusal, report_here, seen}
@@ -25,10 +25,10 @@ abbrev pub inside : State → ℕ → State
 inside a p = record { source = a.source; place = p; names = a.names; depth = a.depth + 1 }
 
 module _ {T : Type 0} where
-  -- R says what the closure answers, and the state that it leaves. Behind it `)` is taken.
+  -- R says what the closure answers, and the state that it leaves. Behind it `)` is taken. Each parenthesis is a token more.
   abbrev pub ParensOk : (State → Result T (Option Report) → State → Type 0) → State → T → State → Type 0
   ParensOk R a t b =
-      (p : ℕ) × (q : State) × (opened a.source a.place a.names ≡ Ok p) × R (inside a p) (Ok t) q × (closed a.source q.place q.names ≡ Ok b.place) × (b ≡ record a { place = b.place; names = q.names })
+      (p : ℕ) × (q : State) × (opened a.source a.place a.names ≡ Ok p) × (a.place < p) × R (inside a p) (Ok t) q × (closed a.source q.place q.names ≡ Ok b.place) × (q.place < b.place) × (b ≡ record a { place = b.place; names = q.names })
 
   -- no `(` is shown, or the closure refuses, or no `)` is shown behind it; place and depth are what they were
   abbrev pub ParensErr : (State → Result T (Option Report) → State → Type 0) → State → Option Report → State → Type 0

@@ -1,36 +1,42 @@
--- What peeking tells: whether a type is seen at a place, or behind the token there. No part of the standard.
-use Rattle.std.specs.Prelude.{ℕ, Bool, false, Some, None, Result, Ok, Err}
+-- What peeking tells: whether a type is seen, here or behind the token that is shown. No part of the standard.
+use Rattle.std.specs.Prelude.{ℕ, Bool, false, not, Option, Some, None, Result, Ok, Err}
 use Rattle.wat_lex.specs.errors.Errors.{Report}
-use Rattle.wat_lexer_parser.specs.names.RegisteredNames.{Names}
-use Rattle.wat_lexer_parser.specs.parser.State.{Seen, seen}
-use Rattle.wat_lexer_parser.specs.parser.Takers.{Reader, sees}
-use Rattle.wat_lexer_parser.specs.places.Source.{Source}
+use Rattle.wat_lexer_parser.specs.parser.State.{State, Answers, at_place, seen_at}
+use Rattle.wat_lexer_parser.specs.parser.Takers.{Reader, sees_at}
+use Rattle.wat_lexer_parser.specs.places.Places.{empty_of}
+use Rattle.wat_lexer_parser.specs.shown.Showing.{shown}
 
--- whether a type is seen at a place, under names, or the report of the fault that is shown
+-- whether a type is seen, or the report of the fault that is shown; and whether telling it may take memory
+pub record Sighting : Type 0 where
+  pub told : Result Bool Report
+  pub takes : Bool
+
+-- at a parser's place, under its names
 abbrev pub Sight : Type 0
-Sight = Source → ℕ → Names → Result Bool Report
+Sight = State → Sighting
 
--- whether telling it may take memory
-abbrev pub TakesAt : Type 0
-TakesAt = Source → ℕ → Names → Bool
+-- the answer of a call that looks
+abbrev pub Tells : Sighting → Result Bool (Option Report) → Type 0
+Tells s result = Answers s.takes (λ b. b) s.told result
+
+-- told without memory
+abbrev pub freely : Result Bool Report → Sighting
+freely told = record { told = told; takes = false }
 
 -- a token of one kind
 abbrev pub sight_of : {V : Type 0} → Reader V → Sight
-sight_of read s p names = sees read s.setting.text (seen s p names)
+sight_of read a = freely (sees_at read a)
 
-abbrev pub second_by : (ℕ → Result Bool Report) → Seen → Result Bool Report
-second_by f (Ok None) = Ok false
-second_by f (Ok (Some (t, q))) = f q
-second_by f (Err r) = Err r
+-- neither `)` nor the end is shown
+abbrev pub more_comes : Sight
+more_comes a = freely (Ok (not (empty_of (shown a.source a.place a.names))))
 
--- the same behind the token that is shown; not where none is shown
+-- what is seen behind what was found here; where nothing was, it is not seen
+abbrev pub seen_behind : {A : Type 0} → Sight → State → Result (Option (A × ℕ)) Report → Sighting
+seen_behind sight a (Ok None) = freely (Ok false)
+seen_behind sight a (Ok (Some (found, q))) = sight (at_place a q)
+seen_behind sight a (Err f) = freely (Err f)
+
+-- behind the token that is shown
 abbrev pub second : Sight → Sight
-second sight s p names = second_by (λ q. sight s q names) (seen s p names)
-
-abbrev pub takes_second_by : (ℕ → Bool) → Seen → Bool
-takes_second_by f (Ok None) = false
-takes_second_by f (Ok (Some (t, q))) = f q
-takes_second_by f (Err r) = false
-
-abbrev pub takes_second : TakesAt → TakesAt
-takes_second takes s p names = takes_second_by (λ q. takes s q names) (seen s p names)
+second sight a = seen_behind sight a (seen_at a)

@@ -53,9 +53,13 @@ told text (Err f) = Err (report_of text f)
 unfoldable pub seen : Source → ℕ → Names → Seen
 seen s p names = told s.setting.text (shown s p names)
 
--- the same from a parser's state, under its names
-abbrev pub seen_from : State → ℕ → Seen
-seen_from a p = seen a.source p a.names
+-- the same from a parser's state
+abbrev pub seen_at : State → Seen
+seen_at a = seen a.source a.place a.names
+
+-- the state at another place, as a cursor has it
+abbrev pub at_place : State → ℕ → State
+at_place a p = record { source = a.source; place = p; names = a.names; depth = a.depth }
 
 -- The answer of a call: the value, of which callers see what f tells, or the report; or memory was wanting, which comes only in place of a
 -- report, or where the value itself may take memory.

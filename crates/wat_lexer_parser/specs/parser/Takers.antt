@@ -17,7 +17,7 @@ use Rattle.wat_lex.specs.declared.lexer.kinds.Token.{Token}
 use Rattle.wat_lex.specs.declared.lexer.kinds.TokenKind.{TokenKind}
 use Rattle.wat_lex.specs.declared.lexer.kinds.TokenKind.TheVariants.{LParen, RParen, String, Id, Keyword, Annotation, Reserved, Integer, Float}
 use Rattle.wat_lex.specs.declared.lexer.read.numbers.Integer.{Integer as Number}
-use Rattle.wat_lexer_parser.specs.parser.State.{State, Seen, seen_from, told}
+use Rattle.wat_lexer_parser.specs.parser.State.{State, Seen, seen_at, told}
 use Rattle.wat_lexer_parser.specs.places.Places.{comment_at}
 
 -- how tokens of one kind are read: None for another kind, else a value or a refusal
@@ -41,12 +41,12 @@ sees read text (Ok None) = Ok false
 sees read text (Ok (Some (t, q))) = Ok (is_some (read text t t.kind))
 sees read text (Err f) = Err f
 
--- the same at a place, from a parser's state
-abbrev pub taken_from : {V : Type 0} → Reader V → State → ℕ → Result (Option (V × ℕ)) Report
-taken_from read a p = taken read a.source.setting.text (seen_from a p)
+-- the same from a parser's state
+abbrev pub taken_at : {V : Type 0} → Reader V → State → Result (Option (V × ℕ)) Report
+taken_at read a = taken read a.source.setting.text (seen_at a)
 
-abbrev pub sees_from : {V : Type 0} → Reader V → State → ℕ → Result Bool Report
-sees_from read a p = sees read a.source.setting.text (seen_from a p)
+abbrev pub sees_at : {V : Type 0} → Reader V → State → Result Bool Report
+sees_at read a = sees read a.source.setting.text (seen_at a)
 
 -- the token alone
 abbrev pub token_of : Seen → Result (Option Token) Report
@@ -111,8 +111,8 @@ comment_by text (Ok None) = Ok None
 comment_by text (Ok (Some (t, q))) = Ok (Some (token_text text t, q))
 comment_by text (Err f) = Err f
 
-abbrev pub comment_from : State → ℕ → Result (Option (List ℕ × ℕ)) Report
-comment_from a p = comment_by a.source.setting.text (told a.source.setting.text (comment_at a.source p))
+abbrev pub comment_taken : State → Result (Option (List ℕ × ℕ)) Report
+comment_taken a = comment_by a.source.setting.text (told a.source.setting.text (comment_at a.source a.place))
 
 abbrev pub contains : ℕ → List ℕ → Bool
 contains c w = list_any (λ d. d == c) w
@@ -140,5 +140,5 @@ may_take read text (Ok None) = false
 may_take read text (Ok (Some (t, q))) = is_some (read text t t.kind) && word_takes text t t.kind
 may_take read text (Err f) = false
 
-abbrev pub may_take_from : {V : Type 0} → Reader V → State → ℕ → Bool
-may_take_from read a p = may_take read a.source.setting.text (seen_from a p)
+abbrev pub may_take_at : {V : Type 0} → Reader V → State → Bool
+may_take_at read a = may_take read a.source.setting.text (seen_at a)

@@ -7,15 +7,10 @@ use Rattle.wat_lex.specs.identifiers.Identifiers.{Identifier}
 use Rattle.wat_lex.specs.declared.lexer.kinds.TokenKind.TheVariants as kind
 use Rattle.wat_lex.specs.declared.token.Index.{Index}
 use Rattle.wat_lex.specs.declared.token.Index.TheVariants as index
-use Rattle.wat_lexer_parser.specs.parser.Sights.{Sight, TakesAt, sight_of, second, takes_second}
-use Rattle.wat_lexer_parser.specs.parser.State.{seen}
-use Rattle.wat_lexer_parser.specs.parser.Takers.{Reader, taken, may_take, as_id, as_integer, as_string, as_keyword, as_reserved, as_annotation, as_open}
+use Rattle.wat_lexer_parser.specs.parser.Sights.{Sight, freely, sight_of, seen_behind, second}
+use Rattle.wat_lexer_parser.specs.parser.Takers.{Reader, taken_at, may_take_at, as_id, as_integer, as_string, as_keyword, as_reserved, as_annotation, as_open}
 use Rattle.wat_lexer_parser.specs.readings.Readings.{Reading, token, refuse, refuse_behind, give, and_then, mapped, pair, spanned, allocated, checked, where_seen, optional, group, under}
 use Rattle.wat_words.specs.Words.{quoted, annotation_word}
-
--- looks that take no memory
-abbrev pub free : TakesAt
-free s p names = false
 
 -- Identifiers: the name, the generation, and the byte at which it stands.
 
@@ -50,6 +45,10 @@ abbrev pub integer : {V : Type 0} → List ℕ → (Bool × ℕ → Option V) �
 integer name fits =
     checked fits (codes "invalid " ++ name ++ codes " number: constant out of range") (token as_integer (codes "expected a " ++ name))
 
+-- one without a sign, of 32 bits
+abbrev pub u32 : Reading ℕ
+u32 = integer (codes "u32") (unsigned_below (2 ^ 32))
+
 abbrev pub an_integer : Sight
 an_integer = sight_of as_integer
 
@@ -65,8 +64,8 @@ reference (index.Id i) = Named (spelled i)
 
 abbrev pub an_index : Reading Reference
 an_index =
-    where_seen an_identifier free (mapped Named identifier)
-    (where_seen an_integer free (mapped (λ v. Number v.0 v.1) (spanned (integer (codes "u32") (unsigned_below (2 ^ 32)))))
+    where_seen an_identifier (mapped Named identifier)
+    (where_seen an_integer (mapped (λ v. Number v.0 v.1) (spanned u32))
     (refuse (codes "unexpected token, expected an index or an identifier")))
 
 abbrev pub as_index : Reader (Unit {0})
@@ -81,22 +80,9 @@ sees_index = sight_of as_index
 abbrev pub item : {V : Type 0} → Reading V → Reading (V × Reference)
 item m = group (pair m an_index)
 
-abbrev pub behind_open_by : (ℕ → Result Bool Report) → Result (Option (Unit {0} × ℕ)) Report → Result Bool Report
-behind_open_by look (Ok None) = Ok false
-behind_open_by look (Ok (Some (v, q))) = look q
-behind_open_by look (Err f) = Err f
-
 -- what is seen behind a `(`
 abbrev pub behind_open : Sight → Sight
-behind_open sight s p names = behind_open_by (λ q. sight s q names) (taken as_open s.setting.text (seen s p names))
-
-abbrev pub behind_open_takes_by : (ℕ → Bool) → Result (Option (Unit {0} × ℕ)) Report → Bool
-behind_open_takes_by takes (Ok None) = false
-behind_open_takes_by takes (Ok (Some (v, q))) = takes q
-behind_open_takes_by takes (Err f) = false
-
-abbrev pub behind_open_takes : TakesAt → TakesAt
-behind_open_takes takes s p names = behind_open_takes_by (λ q. takes s q names) (taken as_open s.setting.text (seen s p names))
+behind_open sight a = seen_behind sight a (taken_at as_open a)
 
 -- Strings: bytes, or a text of UTF-8, which may be kept in memory of its own.
 
@@ -135,7 +121,7 @@ abbrev pub word : Reader (List ℕ) → List ℕ → List ℕ → Reading ℕ
 word read w expected = mapped (λ v. v.1) (spanned (token (spelling read w) expected))
 
 abbrev pub sees_word : Reader (List ℕ) → List ℕ → Sight
-sees_word read w s p names = is_taken (taken (spelling read w) s.setting.text (seen s p names))
+sees_word read w a = freely (is_taken (taken_at (spelling read w) a))
 
 unfoldable pub keyword : Bool → List ℕ → Reading ℕ
 keyword at w = word as_keyword w (codes "expected keyword " ++ quoted at w)
@@ -146,16 +132,16 @@ reserved_symbol at w = word as_reserved w (codes "expected reserved symbol " ++ 
 unfoldable pub annotation : Bool → List ℕ → Reading ℕ
 annotation at w = word as_annotation w (codes "expected annotation " ++ quoted at w)
 
--- peeking compares each annotation's name, which may be decoded for it
-abbrev pub annotation_takes : TakesAt
-annotation_takes s p names = may_take as_annotation s.setting.text (seen s p names)
+-- an annotation of this name; each annotation's name is compared with it, and may be decoded for that
+abbrev pub sees_annotation : List ℕ → Sight
+sees_annotation w a = record { told = is_taken (taken_at (spelling as_annotation w) a); takes = may_take_at as_annotation a }
 
 -- the name that an annotation gives, behind `@name`; and such an annotation in a group, where `@name` is the second token
 abbrev pub name_annotation : Reading (List ℕ)
 name_annotation = and_then (annotation true (annotation_word 1)) (λ at. text)
 
 abbrev pub optional_name : Reading (Option (List ℕ))
-optional_name = optional (second (sees_word as_annotation (annotation_word 1))) (takes_second annotation_takes) (group name_annotation)
+optional_name = optional (second (sees_annotation (annotation_word 1))) (group name_annotation)
 
 -- under the standard annotations' names
 abbrev pub under_standard : {V : Type 0} → Reading V → Reading V

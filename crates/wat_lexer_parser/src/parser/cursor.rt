@@ -16,14 +16,15 @@ ghost use Rattle.wat_lex.specs.declared.lexer.kinds.FloatKind.{FloatKind};
 ghost use Rattle.wat_lex.specs.declared.lexer.kinds.IntegerKind.{IntegerKind};
 ghost use Rattle.wat_lex.specs.declared.lexer.kinds.Token.{Token};
 ghost use Rattle.wat_lex.specs.declared.lexer.kinds.TokenKind.TheVariants as variant;
-ghost use Rattle.wat_lexer_parser.specs.parser.State.{Answers, IsSound, report_here, seen_from};
-ghost use Rattle.wat_lexer_parser.specs.parser.Takers.{taken_from, sees_from, token_of};
-ghost use Rattle.wat_lexer_parser.specs.parser.Takers.{comment_from, may_take_from, name_or_report};
+ghost use Rattle.wat_lexer_parser.specs.parser.State.{Answers, IsSound, at_place, report_here, seen_at};
+ghost use Rattle.wat_lexer_parser.specs.parser.Takers.{taken_at, sees_at, token_of};
+ghost use Rattle.wat_lexer_parser.specs.parser.Takers.{comment_taken, may_take_at, name_or_report};
 ghost use Rattle.wat_lexer_parser.specs.parser.Takers.{as_open, as_close, as_keyword, as_reserved};
 ghost use Rattle.wat_lexer_parser.specs.parser.Takers.{as_id, as_annotation, as_string};
 ghost use Rattle.wat_lexer_parser.specs.parser.Takers.{as_integer, as_float, number_of};
 ghost use Rattle.wat_lexer_parser.specs.parser.Takers.{name_takes};
-ghost use Rattle.wat_lexer_parser.specs.places.Places.{current_span};
+ghost use Rattle.wat_lexer_parser.specs.places.Places.{current_span, empty_of};
+ghost use Rattle.wat_lexer_parser.specs.shown.Showing.{shown};
 
 use crate::parser::Parser;
 use std::alloc::Global;
@@ -45,6 +46,7 @@ impl<'p, 'a> Cursor<'p, 'a> {
     pub(crate) fn new(parser: &'p Parser<'a>) -> Cursor<'p, 'a>
         ensures parser { result.parser.now ≡ parser.now }
         ensures at { result.at ≡ parser.now.place }
+        ensures here { at_place result.parser.now result.at ≡ parser.now }
     {
         Cursor {
             parser,
@@ -61,8 +63,7 @@ impl<'p, 'a> Cursor<'p, 'a> {
     /// What is shown here, with the place behind it.
     #[tactic(auto, unfolding(crate::specs::parser::State::seen))]
     fn look(self) -> Result<Option<(Token, usize)>, Error>
-        ensures value { Answers false (λ found. found) (seen_from self.entry.parser.now
-            self.entry.at) result }
+        ensures value { Answers false (λ found. found) (seen_at (at_place self.entry.parser.now self.entry.at)) result }
         ensures on { IfOk result (λ found. IfSome found (λ v.
             (self.entry.at < v.1) × (v.1 ≤ length self.entry.parser.now.source.tokens))) }
         ensures reader { IfOk result (λ found. IfSome found (λ v.
@@ -89,6 +90,15 @@ impl<'p, 'a> Cursor<'p, 'a> {
         parser.span_from(self.at)
     }
 
+    /// Whether the end or `)` is shown; false at a fault.
+    pub(crate) fn is_empty(self) -> bool
+        ensures { result ≡ empty_of (shown self.entry.parser.now.source self.entry.at
+            self.entry.parser.now.names) }
+    {
+        let parser = self.parser;
+        parser.table().is_empty(self.at, &parser.names)
+    }
+
     /// The text in which the cursor stands.
     pub(crate) fn text(self) -> &'a str
         ensures { result.now ≡ self.entry.parser.now.source.setting.text }
@@ -100,7 +110,7 @@ impl<'p, 'a> Cursor<'p, 'a> {
     /// The current span, where this token is shown.
     #[tactic(auto, using(crate::proofs::places::TakenSpans::taken_span))]
     pub(crate) fn span_of(self, token: Token) -> Span
-        requires { (q : ℕ) × (seen_from self.parser.now self.at ≡ Ok (Some (token, q))) }
+        requires { (q : ℕ) × (seen_at (at_place self.parser.now self.at) ≡ Ok (Some (token, q))) }
         ensures { result ≡ current_span self.entry.parser.now.source self.entry.at
             self.entry.parser.now.names }
     {
@@ -130,8 +140,7 @@ impl<'p, 'a> Cursor<'p, 'a> {
 
     /// The token that is shown, or None at the end, or the error of the fault that is shown.
     pub fn token(&self) -> Result<Option<Token>, Error>
-        ensures value { Answers false (λ t. t) (token_of (seen_from self.now.parser.now
-            self.now.at)) result }
+        ensures value { Answers false (λ t. t) (token_of (seen_at (at_place self.now.parser.now self.now.at))) result }
         ensures reader { IfOk result (λ found. IfSome found (
             IsTokenOf self.now.parser.now.source.setting.text)) }
     {
@@ -144,8 +153,7 @@ impl<'p, 'a> Cursor<'p, 'a> {
 
     /// Takes the token that is shown, whatever its kind.
     pub fn any(self) -> Result<Option<(Token, Self)>, Error>
-        ensures value { Answers false (option_map (λ v. (v.0, v.1.at))) (seen_from
-            self.entry.parser.now self.entry.at) result }
+        ensures value { Answers false (option_map (λ v. (v.0, v.1.at))) (seen_at (at_place self.entry.parser.now self.entry.at)) result }
         ensures parser { IfOk result (λ found. IfSome found (λ v. v.1.parser ≡ self.entry.parser)) }
         ensures on { IfOk result (λ found. IfSome found (λ v. self.entry.at < v.1.at)) }
         ensures reader { IfOk result (λ found. IfSome found (λ v.
@@ -172,7 +180,7 @@ impl<'p, 'a> Cursor<'p, 'a> {
     /// Whether `(` is shown.
     pub fn peek_lparen(self) -> Result<bool, Error>
         ensures { Answers false (λ b. b)
-            (sees_from as_open self.entry.parser.now self.entry.at) result }
+            (sees_at as_open (at_place self.entry.parser.now self.entry.at)) result }
     {
         match self.look()? {
             Some((token, _)) => Ok(matches!(token.kind, TokenKind::LParen)),
@@ -183,7 +191,7 @@ impl<'p, 'a> Cursor<'p, 'a> {
     /// Whether `)` is shown.
     pub fn peek_rparen(self) -> Result<bool, Error>
         ensures { Answers false (λ b. b)
-            (sees_from as_close self.entry.parser.now self.entry.at) result }
+            (sees_at as_close (at_place self.entry.parser.now self.entry.at)) result }
     {
         match self.look()? {
             Some((token, _)) => Ok(matches!(token.kind, TokenKind::RParen)),
@@ -194,7 +202,7 @@ impl<'p, 'a> Cursor<'p, 'a> {
     /// Whether an identifier, whatever its name, is shown.
     pub fn peek_id(self) -> Result<bool, Error>
         ensures { Answers false (λ b. b)
-            (sees_from as_id self.entry.parser.now self.entry.at) result }
+            (sees_at as_id (at_place self.entry.parser.now self.entry.at)) result }
     {
         match self.look()? {
             Some((token, _)) => Ok(matches!(token.kind, TokenKind::Id)),
@@ -205,7 +213,7 @@ impl<'p, 'a> Cursor<'p, 'a> {
     /// Whether a reserved token is shown.
     pub fn peek_reserved(self) -> Result<bool, Error>
         ensures { Answers false (λ b. b)
-            (sees_from as_reserved self.entry.parser.now self.entry.at) result }
+            (sees_at as_reserved (at_place self.entry.parser.now self.entry.at)) result }
     {
         match self.look()? {
             Some((token, _)) => Ok(matches!(token.kind, TokenKind::Reserved)),
@@ -216,7 +224,7 @@ impl<'p, 'a> Cursor<'p, 'a> {
     /// Whether a keyword is shown.
     pub fn peek_keyword(self) -> Result<bool, Error>
         ensures { Answers false (λ b. b)
-            (sees_from as_keyword self.entry.parser.now self.entry.at) result }
+            (sees_at as_keyword (at_place self.entry.parser.now self.entry.at)) result }
     {
         match self.look()? {
             Some((token, _)) => Ok(matches!(token.kind, TokenKind::Keyword)),
@@ -227,7 +235,7 @@ impl<'p, 'a> Cursor<'p, 'a> {
     /// Whether an integer is shown.
     pub fn peek_integer(self) -> Result<bool, Error>
         ensures { Answers false (λ b. b)
-            (sees_from as_integer self.entry.parser.now self.entry.at) result }
+            (sees_at as_integer (at_place self.entry.parser.now self.entry.at)) result }
     {
         match self.look()? {
             Some((token, _)) => Ok(matches!(token.kind, TokenKind::Integer(_))),
@@ -238,7 +246,7 @@ impl<'p, 'a> Cursor<'p, 'a> {
     /// Whether a floating-point number is shown.
     pub fn peek_float(self) -> Result<bool, Error>
         ensures { Answers false (λ b. b)
-            (sees_from as_float self.entry.parser.now self.entry.at) result }
+            (sees_at as_float (at_place self.entry.parser.now self.entry.at)) result }
     {
         match self.look()? {
             Some((token, _)) => Ok(matches!(token.kind, TokenKind::Float(_))),
@@ -249,7 +257,7 @@ impl<'p, 'a> Cursor<'p, 'a> {
     /// Whether a string is shown.
     pub fn peek_string(self) -> Result<bool, Error>
         ensures { Answers false (λ b. b)
-            (sees_from as_string self.entry.parser.now self.entry.at) result }
+            (sees_at as_string (at_place self.entry.parser.now self.entry.at)) result }
     {
         match self.look()? {
             Some((token, _)) => Ok(matches!(token.kind, TokenKind::String)),
@@ -260,7 +268,7 @@ impl<'p, 'a> Cursor<'p, 'a> {
     /// Takes `(`.
     pub fn lparen(self) -> Result<Option<Self>, Error>
         ensures value { Answers false (option_map (λ next. (tt, next.at)))
-            (taken_from as_open self.entry.parser.now self.entry.at) result }
+            (taken_at as_open (at_place self.entry.parser.now self.entry.at)) result }
         ensures parser { IfOk result (λ found. IfSome found (λ next.
             next.parser ≡ self.entry.parser)) }
         ensures on { IfOk result (λ found. IfSome found (λ next. self.entry.at < next.at)) }
@@ -277,7 +285,7 @@ impl<'p, 'a> Cursor<'p, 'a> {
     /// Takes `)`.
     pub fn rparen(self) -> Result<Option<Self>, Error>
         ensures value { Answers false (option_map (λ next. (tt, next.at)))
-            (taken_from as_close self.entry.parser.now self.entry.at) result }
+            (taken_at as_close (at_place self.entry.parser.now self.entry.at)) result }
         ensures parser { IfOk result (λ found. IfSome found (λ next.
             next.parser ≡ self.entry.parser)) }
         ensures on { IfOk result (λ found. IfSome found (λ next. self.entry.at < next.at)) }
@@ -293,11 +301,11 @@ impl<'p, 'a> Cursor<'p, 'a> {
 
     /// Takes an identifier, and answers its name, without the `$`.
     pub fn id(self) -> Result<Option<(CowStr<'a>, Self)>, Error>
-        ensures value { Answers (may_take_from as_id self.entry.parser.now self.entry.at)
+        ensures value { Answers (may_take_at as_id (at_place self.entry.parser.now self.entry.at))
             (option_map (λ v. (cow_str_bytes v.0, v.1.at)))
-            (taken_from as_id self.entry.parser.now self.entry.at) result }
+            (taken_at as_id (at_place self.entry.parser.now self.entry.at)) result }
         ensures borrowed { (t : Token) (q : ℕ) →
-            seen_from self.entry.parser.now self.entry.at ≡ Ok (Some (t, q)) →
+            seen_at (at_place self.entry.parser.now self.entry.at) ≡ Ok (Some (t, q)) →
             IfOk result (λ found. IfSome found (λ v. IsBorrowedStr v.0 ↔
             HasNoEscape (word_of self.entry.parser.now.source.setting.text t))) }
         ensures parser { IfOk result (λ found. IfSome found (λ v.
@@ -320,7 +328,7 @@ impl<'p, 'a> Cursor<'p, 'a> {
     /// Takes a keyword.
     pub fn keyword(self) -> Result<Option<(&'a str, Self)>, Error>
         ensures value { Answers false (option_map (λ v. (v.0.now, v.1.at)))
-            (taken_from as_keyword self.entry.parser.now self.entry.at) result }
+            (taken_at as_keyword (at_place self.entry.parser.now self.entry.at)) result }
         ensures parser { IfOk result (λ found. IfSome found (λ v.
             v.1.parser ≡ self.entry.parser)) }
         ensures on { IfOk result (λ found. IfSome found (λ v. self.entry.at < v.1.at)) }
@@ -339,11 +347,11 @@ impl<'p, 'a> Cursor<'p, 'a> {
 
     /// Takes an annotation, and answers its name, without the `@`.
     pub fn annotation(self) -> Result<Option<(CowStr<'a>, Self)>, Error>
-        ensures value { Answers (may_take_from as_annotation self.entry.parser.now self.entry.at)
+        ensures value { Answers (may_take_at as_annotation (at_place self.entry.parser.now self.entry.at))
             (option_map (λ v. (cow_str_bytes v.0, v.1.at)))
-            (taken_from as_annotation self.entry.parser.now self.entry.at) result }
+            (taken_at as_annotation (at_place self.entry.parser.now self.entry.at)) result }
         ensures borrowed { (t : Token) (q : ℕ) →
-            seen_from self.entry.parser.now self.entry.at ≡ Ok (Some (t, q)) →
+            seen_at (at_place self.entry.parser.now self.entry.at) ≡ Ok (Some (t, q)) →
             IfOk result (λ found. IfSome found (λ v. IsBorrowedStr v.0 ↔
             HasNoEscape (word_of self.entry.parser.now.source.setting.text t))) }
         ensures parser { IfOk result (λ found. IfSome found (λ v.
@@ -366,7 +374,7 @@ impl<'p, 'a> Cursor<'p, 'a> {
     /// Takes a reserved token.
     pub fn reserved(self) -> Result<Option<(&'a str, Self)>, Error>
         ensures value { Answers false (option_map (λ v. (v.0.now, v.1.at)))
-            (taken_from as_reserved self.entry.parser.now self.entry.at) result }
+            (taken_at as_reserved (at_place self.entry.parser.now self.entry.at)) result }
         ensures parser { IfOk result (λ found. IfSome found (λ v.
             v.1.parser ≡ self.entry.parser)) }
         ensures on { IfOk result (λ found. IfSome found (λ v. self.entry.at < v.1.at)) }
@@ -385,11 +393,11 @@ impl<'p, 'a> Cursor<'p, 'a> {
 
     /// Takes an integer.
     pub fn integer(self) -> Result<Option<(Integer<'a>, Self)>, Error>
-        ensures value { Answers (may_take_from as_integer self.entry.parser.now self.entry.at)
+        ensures value { Answers (may_take_at as_integer (at_place self.entry.parser.now self.entry.at))
             (option_map (λ v. (number_of v.0, v.1.at)))
-            (taken_from as_integer self.entry.parser.now self.entry.at) result }
+            (taken_at as_integer (at_place self.entry.parser.now self.entry.at)) result }
         ensures word { (t : Token) (q : ℕ) (k : IntegerKind) →
-            seen_from self.entry.parser.now self.entry.at ≡ Ok (Some (t, q)) →
+            seen_at (at_place self.entry.parser.now self.entry.at) ≡ Ok (Some (t, q)) →
             t.kind ≡ variant.Integer k → IfOk result (λ found. IfSome found (λ v.
             IsIntegerOf k (word_of self.entry.parser.now.source.setting.text t) v.0
             × IsNumeralOf k (word_of self.entry.parser.now.source.setting.text t) v.0)) }
@@ -399,7 +407,7 @@ impl<'p, 'a> Cursor<'p, 'a> {
             v.1.parser ≡ self.entry.parser)) }
         ensures on { IfOk result (λ found. IfSome found (λ v. self.entry.at < v.1.at)) }
         ensures taken { IfOk result (λ found. IfSome found (λ v. (t : Token)
-            × (seen_from self.entry.parser.now self.entry.at ≡ Ok (Some (t, v.1.at))))) }
+            × (seen_at (at_place self.entry.parser.now self.entry.at) ≡ Ok (Some (t, v.1.at))))) }
     {
         match self.look()? {
             Some((token, at)) => match token.kind {
@@ -416,11 +424,11 @@ impl<'p, 'a> Cursor<'p, 'a> {
 
     /// Takes a floating-point number.
     pub fn float(self) -> Result<Option<(Float<'a>, Self)>, Error>
-        ensures value { Answers (may_take_from as_float self.entry.parser.now self.entry.at)
+        ensures value { Answers (may_take_at as_float (at_place self.entry.parser.now self.entry.at))
             (option_map (λ v. (tt, v.1.at)))
-            (taken_from as_float self.entry.parser.now self.entry.at) result }
+            (taken_at as_float (at_place self.entry.parser.now self.entry.at)) result }
         ensures word { (t : Token) (q : ℕ) (k : FloatKind) →
-            seen_from self.entry.parser.now self.entry.at ≡ Ok (Some (t, q)) →
+            seen_at (at_place self.entry.parser.now self.entry.at) ≡ Ok (Some (t, q)) →
             t.kind ≡ variant.Float k → IfOk result (λ found. IfSome found (λ v.
             IsFloatOf k (word_of self.entry.parser.now.source.setting.text t) v.0)) }
         ensures parser { IfOk result (λ found. IfSome found (λ v.
@@ -442,11 +450,11 @@ impl<'p, 'a> Cursor<'p, 'a> {
 
     /// Takes a string, and answers its value.
     pub fn string(self) -> Result<Option<(CowSlice<'a, u8>, Self)>, Error>
-        ensures value { Answers (may_take_from as_string self.entry.parser.now self.entry.at)
+        ensures value { Answers (may_take_at as_string (at_place self.entry.parser.now self.entry.at))
             (option_map (λ v. (cow_slice_items v.0, v.1.at)))
-            (taken_from as_string self.entry.parser.now self.entry.at) result }
+            (taken_at as_string (at_place self.entry.parser.now self.entry.at)) result }
         ensures borrowed { (t : Token) (q : ℕ) →
-            seen_from self.entry.parser.now self.entry.at ≡ Ok (Some (t, q)) →
+            seen_at (at_place self.entry.parser.now self.entry.at) ≡ Ok (Some (t, q)) →
             IfOk result (λ found. IfSome found (λ v. IsBorrowedSlice v.0 ↔
             HasNone backslash (word_of self.entry.parser.now.source.setting.text t))) }
         ensures parser { IfOk result (λ found. IfSome found (λ v.
@@ -470,7 +478,7 @@ impl<'p, 'a> Cursor<'p, 'a> {
     /// None where the end or another token comes next; the error where a fault does.
     pub fn comment(self) -> Result<Option<(&'a str, Self)>, Error>
         ensures value { Answers false (option_map (λ v. (v.0.now, v.1.at)))
-            (comment_from self.entry.parser.now self.entry.at) result }
+            (comment_taken (at_place self.entry.parser.now self.entry.at)) result }
         ensures parser { IfOk result (λ found. IfSome found (λ v.
             v.1.parser ≡ self.entry.parser)) }
         ensures on { IfOk result (λ found. IfSome found (λ v. self.entry.at < v.1.at)) }

@@ -49,11 +49,9 @@ impl<'p, 'a> Lookahead1<'p, 'a> {
     /// Whether a type is seen at the parser's place. One that is not is remembered, from the fifth on
     /// in memory.
     pub fn peek<T: Peek>(&mut self) -> Result<bool, Error>
-        ensures value { Answers
-            (T.takes self.old.0.source self.old.0.place self.old.0.names
-            || needs_memory self.old.1
-            (T.sight self.old.0.source self.old.0.place self.old.0.names)) (λ b. b)
-            (T.sight self.old.0.source self.old.0.place self.old.0.names) result }
+        ensures value { Answers ((T.sight self.old.0).takes
+            || needs_memory self.old.1 (T.sight self.old.0).told) (λ b. b)
+            (T.sight self.old.0).told result }
         ensures kept { IfOk result (λ seen. self.new ≡
             (self.old.0, cond seen self.old.1 (self.old.1 ++ T.shows ∷ []))) }
         ensures refused { OnErr result (self.new ≡ self.old) }

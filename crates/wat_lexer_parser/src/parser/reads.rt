@@ -1,7 +1,7 @@
 //! What can be read.
 ghost use Rattle.std.specs.Prelude.{◌≤◌};
 ghost use Rattle.wat_lexer_parser.specs.readings.Readings.{Reading};
-ghost use Rattle.wat_lexer_parser.specs.readings.Reads.{IsForward, IsKept, Reads, reading_at};
+ghost use Rattle.wat_lexer_parser.specs.readings.Reads.{IsKept, Reads};
 
 use crate::parser::Parser;
 use wat_lex::error::Error;
@@ -20,7 +20,7 @@ pub trait Parse<'a>: Sized + Drop {
 
     ghost value: { Self → Value };
 
-    // What the type reads at a place, or how it refuses.
+    // What the type reads from a parser's place on, or how it refuses, and how far it goes.
     ghost meaning: { Reading Value };
 
     /// Reads a value. Buffer, names and depth stay as they were, and the place never goes back,
@@ -28,8 +28,5 @@ pub trait Parse<'a>: Sized + Drop {
     fn parse(parser: &mut Parser<'a>) -> Result<Self, Error>
         ensures kept { IsKept parser.old parser.new }
         ensures on { parser.old.place ≤ parser.new.place }
-        ensures reads { Reads value (reading_at meaning parser.old) result parser.new.place };
-
-    // The meaning's place never goes back.
-    ghost forward: { IsForward meaning };
+        ensures reads { Reads value meaning parser.old result parser.new.place };
 }

@@ -1,7 +1,7 @@
 //! Calls of a parser that read a type.
 ghost use Rattle.std.specs.Prelude.{◌≡◌, ◌≤◌, [], OnErr};
 ghost use Rattle.wat_lexer_parser.specs.readings.Readings.{group, pair, under};
-ghost use Rattle.wat_lexer_parser.specs.readings.Reads.{IsKept, Reads, reading_at};
+ghost use Rattle.wat_lexer_parser.specs.readings.Reads.{IsKept, Reads};
 ghost use Rattle.wat_lexer_parser.specs.readings.Types.{under_standard};
 
 use crate::parser::{Lookahead1, Parse, Parser};
@@ -17,7 +17,6 @@ struct Under<N: Word, T> {
 }
 
 impl<'a, N: Word, T: Parse<'a>> Parse<'a> for Under<N, T> {
-    ghost use Rattle.wat_lexer_parser.specs.lemmas.ReadingLaws.{forward_under};
     ghost use Rattle.wat_lexer_parser.specs.readings.Readings.{under};
 
     ghost Value = { T.Value };
@@ -32,8 +31,6 @@ impl<'a, N: Word, T: Parse<'a>> Parse<'a> for Under<N, T> {
             of: PhantomData,
         })
     }
-
-    ghost forward = { forward_under N.text T.meaning T.forward };
 }
 
 /// One type behind another.
@@ -44,7 +41,6 @@ struct Pair<T, U> {
 }
 
 impl<'a, T: Parse<'a>, U: Parse<'a>> Parse<'a> for Pair<T, U> {
-    ghost use Rattle.wat_lexer_parser.specs.lemmas.ReadingLaws.{forward_pair};
     ghost use Rattle.wat_lexer_parser.specs.readings.Readings.{pair};
 
     ghost Value = { T.Value × U.Value };
@@ -59,8 +55,6 @@ impl<'a, T: Parse<'a>, U: Parse<'a>> Parse<'a> for Pair<T, U> {
             second: parser.parse::<U>()?,
         })
     }
-
-    ghost forward = { forward_pair T.meaning U.meaning T.forward U.forward };
 }
 
 impl<'a> Parser<'a> {
@@ -68,7 +62,7 @@ impl<'a> Parser<'a> {
     pub fn parse<T: Parse<'a>>(&mut self) -> Result<T, Error>
         ensures kept { IsKept self.old self.new }
         ensures on { self.old.place ≤ self.new.place }
-        ensures reads { Reads T.value (reading_at T.meaning self.old) result self.new.place }
+        ensures reads { Reads T.value T.meaning self.old result self.new.place }
     {
         T::parse(self)
     }
@@ -78,7 +72,7 @@ impl<'a> Parser<'a> {
     pub fn parens_of<T: Parse<'a>>(&mut self) -> Result<T, Error>
         ensures kept { IsKept self.old self.new }
         ensures on { self.old.place ≤ self.new.place }
-        ensures reads { Reads T.value (reading_at (group T.meaning) self.old) result self.new.place }
+        ensures reads { Reads T.value (group T.meaning) self.old result self.new.place }
         ensures back { OnErr result (self.new ≡ self.old) }
     {
         let place = self.place;
@@ -110,7 +104,7 @@ impl<'a> Parser<'a> {
     pub fn with_annotation<T: Parse<'a>>(&mut self, name: &str) -> Result<T, Error>
         ensures kept { IsKept self.old self.new }
         ensures on { self.old.place ≤ self.new.place }
-        ensures reads { Reads T.value (reading_at (under name.now T.meaning) self.old) result
+        ensures reads { Reads T.value (under name.now T.meaning) self.old result
             self.new.place }
     {
         self.register_annotation(name)?;
@@ -127,7 +121,7 @@ impl<'a> Parser<'a> {
         ensures kept { IsKept self.old self.new }
         ensures on { self.old.place ≤ self.new.place }
         ensures reads { Reads T.value
-            (reading_at (under_standard T.meaning) self.old) result self.new.place }
+            (under_standard T.meaning) self.old result self.new.place }
     {
         let value = self.parse::<
             Under<
@@ -146,7 +140,7 @@ impl<'a> Parser<'a> {
         ensures kept { IsKept self.old self.new }
         ensures on { self.old.place ≤ self.new.place }
         ensures reads { Reads (λ v. (T.value v.0, U.value v.1))
-            (reading_at (group (pair T.meaning U.meaning)) self.old) result self.new.place }
+            (group (pair T.meaning U.meaning)) self.old result self.new.place }
     {
         let both = self.parens_of::<Pair<T, U>>()?;
         Ok((both.first, both.second))

@@ -6,14 +6,13 @@ use wat_lex::error::Error;
 /// The type where it is seen; else None, and nothing is taken.
 impl<'a, T: Parse<'a> + Peek> Parse<'a> for Option<T> {
     ghost use Rattle.std.specs.Prelude.{Option, option_map};
-    ghost use Rattle.wat_lexer_parser.specs.lemmas.ReadingLaws.{forward_optional};
     ghost use Rattle.wat_lexer_parser.specs.readings.Readings.{optional};
 
     ghost Value = { Option T.Value };
 
     ghost value = { λ v. option_map T.value v };
 
-    ghost meaning = { optional T.sight T.takes T.meaning };
+    ghost meaning = { optional T.sight T.meaning };
 
     fn parse(parser: &mut Parser<'a>) -> Result<Option<T>, Error> {
         if parser.peek::<T>()? {
@@ -22,13 +21,33 @@ impl<'a, T: Parse<'a> + Peek> Parse<'a> for Option<T> {
             Ok(None)
         }
     }
+}
 
-    ghost forward = { forward_optional T.sight T.takes T.meaning T.forward };
+/// A type in parentheses.
+#[derive(Debug, Drop)]
+pub struct Parens<T> {
+    /// What stands within them.
+    pub inner: T,
+}
+
+impl<'a, T: Parse<'a>> Parse<'a> for Parens<T> {
+    ghost use Rattle.wat_lexer_parser.specs.readings.Readings.{group};
+
+    ghost Value = { T.Value };
+
+    ghost value = { λ p. T.value p.inner };
+
+    ghost meaning = { group T.meaning };
+
+    fn parse(parser: &mut Parser<'a>) -> Result<Parens<T>, Error> {
+        Ok(Parens {
+            inner: parser.parens_of::<T>()?,
+        })
+    }
 }
 
 /// The type, in memory of its own.
 impl<'a, T: Parse<'a>> Parse<'a> for Box<T> {
-    ghost use Rattle.wat_lexer_parser.specs.lemmas.ReadingLaws.{forward_allocated};
     ghost use Rattle.wat_lexer_parser.specs.readings.Readings.{allocated};
 
     ghost Value = { T.Value };
@@ -41,6 +60,4 @@ impl<'a, T: Parse<'a>> Parse<'a> for Box<T> {
         let alloc = parser.alloc();
         Ok(Box::new(alloc, parser.parse::<T>()?)?)
     }
-
-    ghost forward = { forward_allocated T.meaning T.forward };
 }

@@ -5,8 +5,9 @@ ghost use Rattle.wat_lex.specs.grammar.Numbers.{sign_token};
 ghost use Rattle.wat_lex.specs.tokens.ReadableTokens.{IsTokenOf, word_of};
 ghost use Rattle.wat_lex.specs.values.NumberValues.{integer_value};
 ghost use Rattle.wat_lex.specs.declared.lexer.kinds.TokenKind.TheVariants as variant;
+ghost use Rattle.wat_lexer_parser.specs.parser.State.{at_place};
 ghost use Rattle.wat_lexer_parser.specs.parser.Takers.{as_integer, is_minus};
-ghost use Rattle.wat_lexer_parser.specs.readings.Reads.{CursorReads, IsKept, Reads, reading_at};
+ghost use Rattle.wat_lexer_parser.specs.readings.Reads.{CursorReads, IsKept, Reads};
 ghost use Rattle.wat_lexer_parser.specs.readings.Readings.{checked, spanned, token};
 ghost use Rattle.wat_lexer_parser.specs.readings.Types.{integer, signed_within, unsigned_below};
 
@@ -48,9 +49,8 @@ fn unsigned<'p, 'a>(
     out_of_range: &str,
 ) -> Result<((u64, Span), Cursor<'p, 'a>), Error>
     ensures value { CursorReads (λ v. v) (spanned (checked (unsigned_below (most + 1))
-        out_of_range.now (token as_integer expected.now))
-        cursor.entry.parser.now.source cursor.entry.at cursor.entry.parser.now.names 0)
-        (λ next. next.at) cursor.entry.at result }
+        out_of_range.now (token as_integer expected.now)))
+        (at_place cursor.entry.parser.now cursor.entry.at) (λ next. next.at) result }
     ensures fits { IfOk result (λ v. v.0.0 ≤ most) }
     ensures parser { IfOk result (λ v. v.1.parser ≡ cursor.entry.parser) }
     ensures on { IfOk result (λ v. cursor.entry.at < v.1.at) }
@@ -76,8 +76,8 @@ fn parse_unsigned(
 ) -> Result<(u64, Span), Error>
     ensures kept { IsKept parser.old parser.new }
     ensures on { parser.old.place ≤ parser.new.place }
-    ensures reads { Reads (λ v. v) (reading_at (spanned (checked (unsigned_below (most + 1))
-        out_of_range.now (token as_integer expected.now))) parser.old) result parser.new.place }
+    ensures reads { Reads (λ v. v) (spanned (checked (unsigned_below (most + 1))
+        out_of_range.now (token as_integer expected.now))) parser.old result parser.new.place }
     ensures fits { IfOk result (λ v. v.0 ≤ most) }
 {
     parser.step(|c| unsigned(c, most, expected, out_of_range))
@@ -147,9 +147,8 @@ fn signed<'p, 'a>(
     requires least { 0 < half }
     requires most { half ≤ 2 ^ 63 }
     ensures value { CursorReads (λ v. v) (spanned (checked (signed_within half)
-        out_of_range.now (token as_integer expected.now))
-        cursor.entry.parser.now.source cursor.entry.at cursor.entry.parser.now.names 0)
-        (λ next. next.at) cursor.entry.at result }
+        out_of_range.now (token as_integer expected.now)))
+        (at_place cursor.entry.parser.now cursor.entry.at) (λ next. next.at) result }
     ensures low { IfOk result (λ v. neg_ℤ (pos half) ≤ℤ v.0.0) }
     ensures high { IfOk result (λ v. v.0.0 <ℤ pos half) }
     ensures parser { IfOk result (λ v. v.1.parser ≡ cursor.entry.parser) }
@@ -178,8 +177,8 @@ fn parse_signed(
     requires most { half ≤ 2 ^ 63 }
     ensures kept { IsKept parser.old parser.new }
     ensures on { parser.old.place ≤ parser.new.place }
-    ensures reads { Reads (λ v. v) (reading_at (spanned (checked (signed_within half)
-        out_of_range.now (token as_integer expected.now))) parser.old) result parser.new.place }
+    ensures reads { Reads (λ v. v) (spanned (checked (signed_within half)
+        out_of_range.now (token as_integer expected.now))) parser.old result parser.new.place }
     ensures low { IfOk result (λ v. neg_ℤ (pos half) ≤ℤ v.0) }
     ensures high { IfOk result (λ v. v.0 <ℤ pos half) }
 {
@@ -187,7 +186,6 @@ fn parse_signed(
 }
 
 impl<'a> Parse<'a> for (u8, Span) {
-    ghost use Rattle.wat_lexer_parser.specs.lemmas.TypeLaws.{forward_integer};
 
     ghost Value = { ℕ × ℕ };
 
@@ -204,12 +202,9 @@ impl<'a> Parse<'a> for (u8, Span) {
         )?;
         Ok((value as u8, span))
     }
-
-    ghost forward = { forward_integer (codes "u8") (unsigned_below (2 ^ 8)) };
 }
 
 impl<'a> Parse<'a> for u8 {
-    ghost use Rattle.wat_lexer_parser.specs.lemmas.TypeLaws.{forward_integer};
 
     ghost Value = { ℕ };
 
@@ -220,16 +215,12 @@ impl<'a> Parse<'a> for u8 {
     fn parse(parser: &mut Parser<'a>) -> Result<u8, Error> {
         Ok(parser.parse::<(u8, Span)>()?.0)
     }
-
-    ghost forward = { forward_integer (codes "u8") (unsigned_below (2 ^ 8)) };
 }
 
 impl Peek for u8 {
-    ghost use Rattle.wat_lexer_parser.specs.readings.Types.{an_integer, free};
+    ghost use Rattle.wat_lexer_parser.specs.readings.Types.{an_integer};
 
     ghost sight = { an_integer };
-
-    ghost takes = { free };
 
     ghost shows = { codes "u8" };
 
@@ -243,7 +234,6 @@ impl Peek for u8 {
 }
 
 impl<'a> Parse<'a> for (u16, Span) {
-    ghost use Rattle.wat_lexer_parser.specs.lemmas.TypeLaws.{forward_integer};
 
     ghost Value = { ℕ × ℕ };
 
@@ -260,12 +250,9 @@ impl<'a> Parse<'a> for (u16, Span) {
         )?;
         Ok((value as u16, span))
     }
-
-    ghost forward = { forward_integer (codes "u16") (unsigned_below (2 ^ 16)) };
 }
 
 impl<'a> Parse<'a> for u16 {
-    ghost use Rattle.wat_lexer_parser.specs.lemmas.TypeLaws.{forward_integer};
 
     ghost Value = { ℕ };
 
@@ -276,16 +263,12 @@ impl<'a> Parse<'a> for u16 {
     fn parse(parser: &mut Parser<'a>) -> Result<u16, Error> {
         Ok(parser.parse::<(u16, Span)>()?.0)
     }
-
-    ghost forward = { forward_integer (codes "u16") (unsigned_below (2 ^ 16)) };
 }
 
 impl Peek for u16 {
-    ghost use Rattle.wat_lexer_parser.specs.readings.Types.{an_integer, free};
+    ghost use Rattle.wat_lexer_parser.specs.readings.Types.{an_integer};
 
     ghost sight = { an_integer };
-
-    ghost takes = { free };
 
     ghost shows = { codes "u16" };
 
@@ -299,7 +282,6 @@ impl Peek for u16 {
 }
 
 impl<'a> Parse<'a> for (u32, Span) {
-    ghost use Rattle.wat_lexer_parser.specs.lemmas.TypeLaws.{forward_integer};
 
     ghost Value = { ℕ × ℕ };
 
@@ -316,12 +298,9 @@ impl<'a> Parse<'a> for (u32, Span) {
         )?;
         Ok((value as u32, span))
     }
-
-    ghost forward = { forward_integer (codes "u32") (unsigned_below (2 ^ 32)) };
 }
 
 impl<'a> Parse<'a> for u32 {
-    ghost use Rattle.wat_lexer_parser.specs.lemmas.TypeLaws.{forward_integer};
 
     ghost Value = { ℕ };
 
@@ -332,16 +311,12 @@ impl<'a> Parse<'a> for u32 {
     fn parse(parser: &mut Parser<'a>) -> Result<u32, Error> {
         Ok(parser.parse::<(u32, Span)>()?.0)
     }
-
-    ghost forward = { forward_integer (codes "u32") (unsigned_below (2 ^ 32)) };
 }
 
 impl Peek for u32 {
-    ghost use Rattle.wat_lexer_parser.specs.readings.Types.{an_integer, free};
+    ghost use Rattle.wat_lexer_parser.specs.readings.Types.{an_integer};
 
     ghost sight = { an_integer };
-
-    ghost takes = { free };
 
     ghost shows = { codes "u32" };
 
@@ -355,7 +330,6 @@ impl Peek for u32 {
 }
 
 impl<'a> Parse<'a> for (u64, Span) {
-    ghost use Rattle.wat_lexer_parser.specs.lemmas.TypeLaws.{forward_integer};
 
     ghost Value = { ℕ × ℕ };
 
@@ -371,12 +345,9 @@ impl<'a> Parse<'a> for (u64, Span) {
             "invalid u64 number: constant out of range",
         )
     }
-
-    ghost forward = { forward_integer (codes "u64") (unsigned_below (2 ^ 64)) };
 }
 
 impl<'a> Parse<'a> for u64 {
-    ghost use Rattle.wat_lexer_parser.specs.lemmas.TypeLaws.{forward_integer};
 
     ghost Value = { ℕ };
 
@@ -387,16 +358,12 @@ impl<'a> Parse<'a> for u64 {
     fn parse(parser: &mut Parser<'a>) -> Result<u64, Error> {
         Ok(parser.parse::<(u64, Span)>()?.0)
     }
-
-    ghost forward = { forward_integer (codes "u64") (unsigned_below (2 ^ 64)) };
 }
 
 impl Peek for u64 {
-    ghost use Rattle.wat_lexer_parser.specs.readings.Types.{an_integer, free};
+    ghost use Rattle.wat_lexer_parser.specs.readings.Types.{an_integer};
 
     ghost sight = { an_integer };
-
-    ghost takes = { free };
 
     ghost shows = { codes "u64" };
 
@@ -410,7 +377,6 @@ impl Peek for u64 {
 }
 
 impl<'a> Parse<'a> for (i8, Span) {
-    ghost use Rattle.wat_lexer_parser.specs.lemmas.TypeLaws.{forward_integer};
 
     ghost Value = { ℤ × ℕ };
 
@@ -427,12 +393,9 @@ impl<'a> Parse<'a> for (i8, Span) {
         )?;
         Ok((value as i8, span))
     }
-
-    ghost forward = { forward_integer (codes "i8") (signed_within (2 ^ 7)) };
 }
 
 impl<'a> Parse<'a> for i8 {
-    ghost use Rattle.wat_lexer_parser.specs.lemmas.TypeLaws.{forward_integer};
 
     ghost Value = { ℤ };
 
@@ -443,16 +406,12 @@ impl<'a> Parse<'a> for i8 {
     fn parse(parser: &mut Parser<'a>) -> Result<i8, Error> {
         Ok(parser.parse::<(i8, Span)>()?.0)
     }
-
-    ghost forward = { forward_integer (codes "i8") (signed_within (2 ^ 7)) };
 }
 
 impl Peek for i8 {
-    ghost use Rattle.wat_lexer_parser.specs.readings.Types.{an_integer, free};
+    ghost use Rattle.wat_lexer_parser.specs.readings.Types.{an_integer};
 
     ghost sight = { an_integer };
-
-    ghost takes = { free };
 
     ghost shows = { codes "i8" };
 
@@ -466,7 +425,6 @@ impl Peek for i8 {
 }
 
 impl<'a> Parse<'a> for (i16, Span) {
-    ghost use Rattle.wat_lexer_parser.specs.lemmas.TypeLaws.{forward_integer};
 
     ghost Value = { ℤ × ℕ };
 
@@ -483,12 +441,9 @@ impl<'a> Parse<'a> for (i16, Span) {
         )?;
         Ok((value as i16, span))
     }
-
-    ghost forward = { forward_integer (codes "i16") (signed_within (2 ^ 15)) };
 }
 
 impl<'a> Parse<'a> for i16 {
-    ghost use Rattle.wat_lexer_parser.specs.lemmas.TypeLaws.{forward_integer};
 
     ghost Value = { ℤ };
 
@@ -499,16 +454,12 @@ impl<'a> Parse<'a> for i16 {
     fn parse(parser: &mut Parser<'a>) -> Result<i16, Error> {
         Ok(parser.parse::<(i16, Span)>()?.0)
     }
-
-    ghost forward = { forward_integer (codes "i16") (signed_within (2 ^ 15)) };
 }
 
 impl Peek for i16 {
-    ghost use Rattle.wat_lexer_parser.specs.readings.Types.{an_integer, free};
+    ghost use Rattle.wat_lexer_parser.specs.readings.Types.{an_integer};
 
     ghost sight = { an_integer };
-
-    ghost takes = { free };
 
     ghost shows = { codes "i16" };
 
@@ -522,7 +473,6 @@ impl Peek for i16 {
 }
 
 impl<'a> Parse<'a> for (i32, Span) {
-    ghost use Rattle.wat_lexer_parser.specs.lemmas.TypeLaws.{forward_integer};
 
     ghost Value = { ℤ × ℕ };
 
@@ -539,12 +489,9 @@ impl<'a> Parse<'a> for (i32, Span) {
         )?;
         Ok((value as i32, span))
     }
-
-    ghost forward = { forward_integer (codes "i32") (signed_within (2 ^ 31)) };
 }
 
 impl<'a> Parse<'a> for i32 {
-    ghost use Rattle.wat_lexer_parser.specs.lemmas.TypeLaws.{forward_integer};
 
     ghost Value = { ℤ };
 
@@ -555,16 +502,12 @@ impl<'a> Parse<'a> for i32 {
     fn parse(parser: &mut Parser<'a>) -> Result<i32, Error> {
         Ok(parser.parse::<(i32, Span)>()?.0)
     }
-
-    ghost forward = { forward_integer (codes "i32") (signed_within (2 ^ 31)) };
 }
 
 impl Peek for i32 {
-    ghost use Rattle.wat_lexer_parser.specs.readings.Types.{an_integer, free};
+    ghost use Rattle.wat_lexer_parser.specs.readings.Types.{an_integer};
 
     ghost sight = { an_integer };
-
-    ghost takes = { free };
 
     ghost shows = { codes "i32" };
 
@@ -578,7 +521,6 @@ impl Peek for i32 {
 }
 
 impl<'a> Parse<'a> for (i64, Span) {
-    ghost use Rattle.wat_lexer_parser.specs.lemmas.TypeLaws.{forward_integer};
 
     ghost Value = { ℤ × ℕ };
 
@@ -594,12 +536,9 @@ impl<'a> Parse<'a> for (i64, Span) {
             "invalid i64 number: constant out of range",
         )
     }
-
-    ghost forward = { forward_integer (codes "i64") (signed_within (2 ^ 63)) };
 }
 
 impl<'a> Parse<'a> for i64 {
-    ghost use Rattle.wat_lexer_parser.specs.lemmas.TypeLaws.{forward_integer};
 
     ghost Value = { ℤ };
 
@@ -610,16 +549,12 @@ impl<'a> Parse<'a> for i64 {
     fn parse(parser: &mut Parser<'a>) -> Result<i64, Error> {
         Ok(parser.parse::<(i64, Span)>()?.0)
     }
-
-    ghost forward = { forward_integer (codes "i64") (signed_within (2 ^ 63)) };
 }
 
 impl Peek for i64 {
-    ghost use Rattle.wat_lexer_parser.specs.readings.Types.{an_integer, free};
+    ghost use Rattle.wat_lexer_parser.specs.readings.Types.{an_integer};
 
     ghost sight = { an_integer };
-
-    ghost takes = { free };
 
     ghost shows = { codes "i64" };
 

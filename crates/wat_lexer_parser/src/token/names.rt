@@ -18,7 +18,7 @@ impl<'a> NameAnnotation<'a> {
     ghost use Rattle.std.specs.Cow.{cow_str_bytes, IsBorrowedStr};
     ghost use Rattle.std.specs.Prelude.{IsOk};
     ghost use Rattle.std.specs.Option.{option_map};
-    ghost use Rattle.wat_lexer_parser.specs.readings.Reads.{IsKept, Reads, reading_at};
+    ghost use Rattle.wat_lexer_parser.specs.readings.Reads.{IsKept, Reads};
     ghost use Rattle.wat_lexer_parser.specs.readings.Types.{optional_name};
 
     /// Reads `(@name "..")` where `@name` is the second token that is shown, which takes the name's
@@ -27,7 +27,7 @@ impl<'a> NameAnnotation<'a> {
         ensures kept { IsKept parser.old parser.new }
         ensures on { parser.old.place ≤ parser.new.place }
         ensures reads { Reads (option_map (λ n. cow_str_bytes n.name))
-            (reading_at optional_name parser.old) result parser.new.place }
+            optional_name parser.old result parser.new.place }
     {
         if parser.peek2::<annotation::name>()? {
             Ok(Some(parser.parens_of::<NameAnnotation>()?))
@@ -55,7 +55,6 @@ impl<'a> NameAnnotation<'a> {
 impl<'a> Parse<'a> for NameAnnotation<'a> {
     ghost use Rattle.std.specs.Prelude.{List, ℕ};
     ghost use Rattle.std.specs.Cow.{cow_str_bytes};
-    ghost use Rattle.wat_lexer_parser.specs.lemmas.TypeLaws.{forward_name_annotation};
     ghost use Rattle.wat_lexer_parser.specs.readings.Types.{name_annotation};
 
     ghost Value = { List ℕ };
@@ -69,6 +68,4 @@ impl<'a> Parse<'a> for NameAnnotation<'a> {
         let name = parser.parse::<CowStr>()?;
         Ok(NameAnnotation { name })
     }
-
-    ghost forward = { forward_name_annotation };
 }

@@ -7,13 +7,11 @@ use wat_lex::error::Error;
 pub struct LParen(());
 
 impl Peek for LParen {
-    ghost use Rattle.std.specs.Prelude.{codes, false};
+    ghost use Rattle.std.specs.Prelude.{codes};
     ghost use Rattle.wat_lexer_parser.specs.parser.Sights.{sight_of};
     ghost use Rattle.wat_lexer_parser.specs.parser.Takers.{as_open};
 
     ghost sight = { sight_of as_open };
-
-    ghost takes = { λ _ _ _. false };
 
     ghost shows = { codes "left paren" };
 
@@ -31,13 +29,11 @@ impl Peek for LParen {
 pub struct RParen(());
 
 impl Peek for RParen {
-    ghost use Rattle.std.specs.Prelude.{codes, false};
+    ghost use Rattle.std.specs.Prelude.{codes};
     ghost use Rattle.wat_lexer_parser.specs.parser.Sights.{sight_of};
     ghost use Rattle.wat_lexer_parser.specs.parser.Takers.{as_close};
 
     ghost sight = { sight_of as_close };
-
-    ghost takes = { λ _ _ _. false };
 
     ghost shows = { codes "right paren" };
 

@@ -1,6 +1,7 @@
 //! Identifiers and indices.
 ghost use Rattle.std.specs.Prelude.{◌≡◌, codes};
-ghost use Rattle.wat_lexer_parser.specs.parser.State.{Answers};
+ghost use Rattle.wat_lexer_parser.specs.parser.Sights.{Tells};
+ghost use Rattle.wat_lexer_parser.specs.parser.State.{at_place};
 
 use crate::parser::{Cursor, Parse, Parser, Peek};
 use std::alloc::{AllocError, Global};
@@ -9,7 +10,6 @@ use wat_lex::lexer::TokenKind;
 use wat_lex::token::{Id, Index, Span};
 
 impl<'a> Parse<'a> for Id<'a> {
-    ghost use Rattle.wat_lexer_parser.specs.lemmas.TypeLaws.{forward_identifier};
     ghost use Rattle.wat_lexer_parser.specs.readings.Types.{Spelled, identifier, spelled};
 
     ghost Value = { Spelled };
@@ -24,24 +24,17 @@ impl<'a> Parse<'a> for Id<'a> {
             None => Err(c.error("expected an identifier")),
         })
     }
-
-    ghost forward = { forward_identifier };
 }
 
 impl<'a> Peek for Id<'a> {
-    ghost use Rattle.wat_lexer_parser.specs.readings.Types.{an_identifier, free};
+    ghost use Rattle.wat_lexer_parser.specs.readings.Types.{an_identifier};
 
     ghost sight = { an_identifier };
-
-    ghost takes = { free };
 
     ghost shows = { codes "an identifier" };
 
     fn peek(cursor: Cursor<'_, '_>) -> Result<bool, Error>
-        ensures { Answers (free cursor.entry.parser.now.source cursor.entry.at
-            cursor.entry.parser.now.names) (λ b. b)
-            (an_identifier cursor.entry.parser.now.source cursor.entry.at
-            cursor.entry.parser.now.names) result }
+        ensures { Tells (an_identifier (at_place cursor.entry.parser.now cursor.entry.at)) result }
     {
         cursor.peek_id()
     }
@@ -54,7 +47,6 @@ impl<'a> Peek for Id<'a> {
 }
 
 impl<'a> Parse<'a> for Index<'a> {
-    ghost use Rattle.wat_lexer_parser.specs.lemmas.TypeLaws.{forward_index};
     ghost use Rattle.wat_lexer_parser.specs.readings.Types.{Reference, an_index, reference};
 
     ghost Value = { Reference };
@@ -73,24 +65,17 @@ impl<'a> Parse<'a> for Index<'a> {
         }
         Err(parser.error("unexpected token, expected an index or an identifier"))
     }
-
-    ghost forward = { forward_index };
 }
 
 impl<'a> Peek for Index<'a> {
-    ghost use Rattle.wat_lexer_parser.specs.readings.Types.{free, sees_index};
+    ghost use Rattle.wat_lexer_parser.specs.readings.Types.{sees_index};
 
     ghost sight = { sees_index };
-
-    ghost takes = { free };
 
     ghost shows = { codes "an index" };
 
     fn peek(cursor: Cursor<'_, '_>) -> Result<bool, Error>
-        ensures { Answers (free cursor.entry.parser.now.source cursor.entry.at
-            cursor.entry.parser.now.names) (λ b. b)
-            (sees_index cursor.entry.parser.now.source cursor.entry.at
-            cursor.entry.parser.now.names) result }
+        ensures { Tells (sees_index (at_place cursor.entry.parser.now cursor.entry.at)) result }
     {
         match cursor.token()? {
             Some(token) => Ok(matches!(token.kind, TokenKind::Id | TokenKind::Integer(_))),
@@ -132,7 +117,6 @@ impl<'a, K: Clone> ItemRef<'a, K> {
 }
 
 impl<'a, K: Parse<'a>> Parse<'a> for ItemRef<'a, K> {
-    ghost use Rattle.wat_lexer_parser.specs.lemmas.TypeLaws.{forward_item};
     ghost use Rattle.wat_lexer_parser.specs.readings.Types.{Reference, item, reference};
 
     ghost Value = { K.Value × Reference };
@@ -145,24 +129,17 @@ impl<'a, K: Parse<'a>> Parse<'a> for ItemRef<'a, K> {
         let (kind, idx) = parser.parens_of_two::<K, Index<'a>>()?;
         Ok(ItemRef { kind, idx })
     }
-
-    ghost forward = { forward_item K.meaning K.forward };
 }
 
 impl<'a, K: Peek> Peek for ItemRef<'a, K> {
-    ghost use Rattle.wat_lexer_parser.specs.readings.Types.{behind_open, behind_open_takes};
+    ghost use Rattle.wat_lexer_parser.specs.readings.Types.{behind_open};
 
     ghost sight = { behind_open K.sight };
-
-    ghost takes = { behind_open_takes K.takes };
 
     ghost shows = { codes "an item reference" };
 
     fn peek(cursor: Cursor<'_, '_>) -> Result<bool, Error>
-        ensures { Answers (behind_open_takes K.takes cursor.entry.parser.now.source cursor.entry.at
-            cursor.entry.parser.now.names) (λ b. b)
-            (behind_open K.sight cursor.entry.parser.now.source cursor.entry.at
-            cursor.entry.parser.now.names) result }
+        ensures { Tells (behind_open K.sight (at_place cursor.entry.parser.now cursor.entry.at)) result }
     {
         match cursor.lparen()? {
             Some(next) => K::peek(next),

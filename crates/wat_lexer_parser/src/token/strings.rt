@@ -2,7 +2,8 @@
 ghost use Rattle.std.specs.Prelude.{◌≡◌, true, false, codes, MatchOption};
 ghost use Rattle.std.specs.Cow.{cow_slice_items, cow_str_bytes};
 ghost use Rattle.std.specs.Str.{is_utf8};
-ghost use Rattle.wat_lexer_parser.specs.parser.State.{Answers};
+ghost use Rattle.wat_lexer_parser.specs.parser.Sights.{Tells};
+ghost use Rattle.wat_lexer_parser.specs.parser.State.{at_place};
 
 use crate::parser::{Cursor, Parse, Parser, Peek};
 use std::borrow::{CowSlice, CowStr};
@@ -12,7 +13,6 @@ use wat_lex::error::Error;
 impl<'a> Parse<'a> for CowSlice<'a, u8> {
     ghost use Rattle.std.specs.Prelude.{List, ℕ};
     ghost use Rattle.std.specs.Cow.{cow_slice_items};
-    ghost use Rattle.wat_lexer_parser.specs.lemmas.TypeLaws.{forward_bytes};
     ghost use Rattle.wat_lexer_parser.specs.readings.Types.{bytes};
 
     ghost Value = { List ℕ };
@@ -27,24 +27,17 @@ impl<'a> Parse<'a> for CowSlice<'a, u8> {
             None => Err(c.error("expected a string")),
         })
     }
-
-    ghost forward = { forward_bytes };
 }
 
 impl<'a> Peek for CowSlice<'a, u8> {
-    ghost use Rattle.wat_lexer_parser.specs.readings.Types.{a_string, free};
+    ghost use Rattle.wat_lexer_parser.specs.readings.Types.{a_string};
 
     ghost sight = { a_string };
-
-    ghost takes = { free };
 
     ghost shows = { codes "string" };
 
     fn peek(cursor: Cursor<'_, '_>) -> Result<bool, Error>
-        ensures { Answers (free cursor.entry.parser.now.source cursor.entry.at
-            cursor.entry.parser.now.names) (λ b. b)
-            (a_string cursor.entry.parser.now.source cursor.entry.at
-            cursor.entry.parser.now.names) result }
+        ensures { Tells (a_string (at_place cursor.entry.parser.now cursor.entry.at)) result }
     {
         cursor.peek_string()
     }
@@ -60,7 +53,6 @@ impl<'a> Peek for CowSlice<'a, u8> {
 impl<'a> Parse<'a> for CowStr<'a> {
     ghost use Rattle.std.specs.Prelude.{List, ℕ};
     ghost use Rattle.std.specs.Cow.{cow_str_bytes};
-    ghost use Rattle.wat_lexer_parser.specs.lemmas.TypeLaws.{forward_text};
     ghost use Rattle.wat_lexer_parser.specs.readings.Types.{text};
 
     ghost Value = { List ℕ };
@@ -76,24 +68,17 @@ impl<'a> Parse<'a> for CowStr<'a> {
             None => Err(parser.error_at(parser.prev_span(), "malformed UTF-8 encoding")),
         }
     }
-
-    ghost forward = { forward_text };
 }
 
 impl<'a> Peek for CowStr<'a> {
-    ghost use Rattle.wat_lexer_parser.specs.readings.Types.{a_string, free};
+    ghost use Rattle.wat_lexer_parser.specs.readings.Types.{a_string};
 
     ghost sight = { a_string };
-
-    ghost takes = { free };
 
     ghost shows = { codes "string" };
 
     fn peek(cursor: Cursor<'_, '_>) -> Result<bool, Error>
-        ensures { Answers (free cursor.entry.parser.now.source cursor.entry.at
-            cursor.entry.parser.now.names) (λ b. b)
-            (a_string cursor.entry.parser.now.source cursor.entry.at
-            cursor.entry.parser.now.names) result }
+        ensures { Tells (a_string (at_place cursor.entry.parser.now cursor.entry.at)) result }
     {
         cursor.peek_string()
     }
@@ -108,7 +93,6 @@ impl<'a> Peek for CowStr<'a> {
 /// The value of a string, which has to be UTF-8, in memory of its own.
 impl<'a> Parse<'a> for String {
     ghost use Rattle.std.specs.Prelude.{List, ℕ, string_bytes};
-    ghost use Rattle.wat_lexer_parser.specs.lemmas.TypeLaws.{forward_text};
     ghost use Rattle.wat_lexer_parser.specs.readings.Types.{owned_text};
 
     ghost Value = { List ℕ };
@@ -122,8 +106,6 @@ impl<'a> Parse<'a> for String {
         let text = parser.parse::<CowStr>()?;
         Ok(text.into_owned(alloc)?)
     }
-
-    ghost forward = { forward_text };
 }
 
 /// The text of these bytes, None where they are not UTF-8.

@@ -1,8 +1,8 @@
 //! Tokens that spell a word: keywords, reserved symbols and annotations.
 ghost use Rattle.std.specs.Prelude.{◌≡◌, ◌<◌, ℕ, IfOk, IfSome};
 ghost use Rattle.std.specs.Option.{option_map};
-ghost use Rattle.wat_lexer_parser.specs.parser.State.{Answers};
-ghost use Rattle.wat_lexer_parser.specs.parser.Takers.{as_annotation, may_take_from, taken_from};
+ghost use Rattle.wat_lexer_parser.specs.parser.State.{Answers, at_place};
+ghost use Rattle.wat_lexer_parser.specs.parser.Takers.{as_annotation, may_take_at, taken_at};
 ghost use Rattle.wat_lexer_parser.specs.readings.Types.{spelling};
 ghost use Rattle.wat_words.specs.Words.{quoted};
 
@@ -33,7 +33,6 @@ impl<N: Word> Keyword<N> {
 }
 
 impl<'a, N: Word> Parse<'a> for Keyword<N> {
-    ghost use Rattle.wat_lexer_parser.specs.lemmas.TypeLaws.{forward_keyword};
     ghost use Rattle.wat_lexer_parser.specs.readings.Types.{keyword};
 
     ghost Value = { ℕ };
@@ -49,17 +48,13 @@ impl<'a, N: Word> Parse<'a> for Keyword<N> {
             _ => Err(c.error_of("expected keyword ", N::display())),
         })
     }
-
-    ghost forward = { forward_keyword N.AT N.text };
 }
 
 impl<N: Word> Peek for Keyword<N> {
     ghost use Rattle.wat_lexer_parser.specs.parser.Takers.{as_keyword};
-    ghost use Rattle.wat_lexer_parser.specs.readings.Types.{free, sees_word};
+    ghost use Rattle.wat_lexer_parser.specs.readings.Types.{sees_word};
 
     ghost sight = { sees_word as_keyword N.text };
-
-    ghost takes = { free };
 
     ghost shows = { quoted N.AT N.text };
 
@@ -96,7 +91,6 @@ impl<N: Word> ReservedSymbol<N> {
 }
 
 impl<'a, N: Word> Parse<'a> for ReservedSymbol<N> {
-    ghost use Rattle.wat_lexer_parser.specs.lemmas.TypeLaws.{forward_reserved_symbol};
     ghost use Rattle.wat_lexer_parser.specs.readings.Types.{reserved_symbol};
 
     ghost Value = { ℕ };
@@ -114,17 +108,13 @@ impl<'a, N: Word> Parse<'a> for ReservedSymbol<N> {
             _ => Err(c.error_of("expected reserved symbol ", N::display())),
         })
     }
-
-    ghost forward = { forward_reserved_symbol N.AT N.text };
 }
 
 impl<N: Word> Peek for ReservedSymbol<N> {
     ghost use Rattle.wat_lexer_parser.specs.parser.Takers.{as_reserved};
-    ghost use Rattle.wat_lexer_parser.specs.readings.Types.{free, sees_word};
+    ghost use Rattle.wat_lexer_parser.specs.readings.Types.{sees_word};
 
     ghost sight = { sees_word as_reserved N.text };
-
-    ghost takes = { free };
 
     ghost shows = { quoted N.AT N.text };
 
@@ -161,7 +151,6 @@ impl<N: Word> AnnotationWord<N> {
 }
 
 impl<'a, N: Word> Parse<'a> for AnnotationWord<N> {
-    ghost use Rattle.wat_lexer_parser.specs.lemmas.TypeLaws.{forward_annotation};
     ghost use Rattle.wat_lexer_parser.specs.readings.Types.{annotation};
 
     ghost Value = { ℕ };
@@ -177,16 +166,12 @@ impl<'a, N: Word> Parse<'a> for AnnotationWord<N> {
             None => Err(c.error_of("expected annotation ", N::display())),
         })
     }
-
-    ghost forward = { forward_annotation N.AT N.text };
 }
 
 impl<N: Word> Peek for AnnotationWord<N> {
-    ghost use Rattle.wat_lexer_parser.specs.readings.Types.{annotation_takes, sees_word};
+    ghost use Rattle.wat_lexer_parser.specs.readings.Types.{sees_annotation};
 
-    ghost sight = { sees_word as_annotation N.text };
-
-    ghost takes = { annotation_takes };
+    ghost sight = { sees_annotation N.text };
 
     ghost shows = { quoted N.AT N.text };
 
@@ -204,9 +189,9 @@ impl<N: Word> Peek for AnnotationWord<N> {
 
 /// Takes an annotation of this name.
 fn annotation<'p, 'a>(cursor: Cursor<'p, 'a>, name: &str) -> Result<Option<Cursor<'p, 'a>>, Error>
-    ensures value { Answers (may_take_from as_annotation cursor.entry.parser.now cursor.entry.at)
+    ensures value { Answers (may_take_at as_annotation (at_place cursor.entry.parser.now cursor.entry.at))
         (option_map (λ next. (tt, next.at)))
-        (taken_from (spelling as_annotation name.now) cursor.entry.parser.now cursor.entry.at)
+        (taken_at (spelling as_annotation name.now) (at_place cursor.entry.parser.now cursor.entry.at))
         result }
     ensures parser { IfOk result (λ found. IfSome found (λ next.
         next.parser ≡ cursor.entry.parser)) }

@@ -1,11 +1,14 @@
-use Rattle.std.proofs.Common.{◌≡◌, ◌≤◌, ◌<◌, ◌∙◌, ◌++◌, ◌∷◌, [], length, true, false, arith, rules, sym, ap, subst, Ok}
+use Rattle.std.proofs.Common.{◌≡◌, ◌≤◌, ◌∙◌, ◌++◌, ◌∷◌, [], length, true, false, arith, rules, sym, ap, subst, Ok}
+use Rattle.std.specs.Prelude.{not}
 use Rattle.std.proofs.lemmas.List.{map-append}
-use Rattle.wat_lexer_parser.specs.lemmas.ManyLaws.{IsSoFar, none_so_far, one_more, all_read}
 use Rattle.wat_lexer_parser.specs.lemmas.ReadingLaws.{advances_group}
+use Rattle.wat_lexer_parser.specs.lemmas.WhileLaws.{IsSoFar, none_so_far, one_more_read, all_read_at}
+use Rattle.wat_lexer_parser.specs.parser.Sights.{more_comes}
 use Rattle.wat_lexer_parser.specs.places.Places.{empty_of}
 use Rattle.wat_lexer_parser.specs.readings.Readings.{group}
+use Rattle.wat_lexer_parser.specs.readings.Reads.{Reads}
 use Rattle.wat_lexer_parser.specs.shown.Showing.{shown}
-use Rattle.wat_types.specs.Meanings.{definition, forward_definition}
+use Rattle.wat_types.specs.Meanings.{definition}
 use Rattle.wat_types.specs.Signatures.{signature, signatures}
 use Rattle.wat_types.proofs.text.definitions.Goals as goal
 
@@ -15,49 +18,43 @@ loop-parser-init c =
     record {
       kept = search rules;
       on = search rules;
-      so_far = subst (λ vs. IsSoFar (group definition) a.source a.place a.names a.depth (signatures vs) a.place) (sym c.new-types.ensures.items) (none_so_far (group definition) a.source a.place a.names a.depth);
+      so_far = subst (λ vs. IsSoFar more_comes (group definition) a (signatures vs) a.place) (sym c.new-types.ensures.items) (none_so_far more_comes (group definition) a);
     }
 
 pub loop-parser-preserved : goal.loop-parser-preserved
 loop-parser-preserved c =
     let a = c.args.parser.now in
-    let l = c.loop-parser.parser in
+    let b = c.loop-parser.parser in
     let i = c.loop-parser.invariant in
-    let empty : empty_of (shown a.source l.place a.names) ≡ false = search rules in
-    let within : l.place ≤ length a.source.tokens = search rules in
-    let f = c.in_ok-definition.definition.func in
-    let v = signature f in
-    let read : (group definition a.source l.place a.names a.depth).answer ≡ Ok v = search rules in
-    let behind : (group definition a.source l.place a.names a.depth).behind ≡ c.parens_of.new.self.place = search rules in
-    let items : c.push.new.self.items ≡ c.loop-parser.types.items ++ (f ∷ []) = search rules in
-    let told : signatures c.push.new.self.items ≡ signatures c.loop-parser.types.items ++ (v ∷ []) = ap signatures items ∙ map-append signature c.loop-parser.types.items (f ∷ []) in
-    let more = one_more (group definition) a.source a.place a.names a.depth (signatures c.loop-parser.types.items) l.place v i.so_far within empty read (advances_group definition forward_definition a.source l.place a.names a.depth v read) in
+    let empty : empty_of (shown b.source b.place b.names) ≡ false = search rules in
+    let within : b.place ≤ length a.source.tokens = search rules in
+    let d = c.in_ok-definition.definition in
+    let q = c.parens_of.new.self.place in
+    let read : Reads (λ d. signature d.func) (group definition) b (Ok d) q = search rules in
+    let items : c.push.new.self.items ≡ c.loop-parser.types.items ++ (d.func ∷ []) = search rules in
+    let told : signatures c.push.new.self.items ≡ signatures c.loop-parser.types.items ++ (signature d.func ∷ []) = ap signatures items ∙ map-append signature c.loop-parser.types.items (d.func ∷ []) in
     record {
       kept = search rules;
       on = search rules;
-      so_far = subst (λ vs. IsSoFar (group definition) a.source a.place a.names a.depth vs c.parens_of.new.self.place) (sym told) (subst (IsSoFar (group definition) a.source a.place a.names a.depth (signatures c.loop-parser.types.items ++ (v ∷ []))) behind more);
+      so_far = subst (λ vs. IsSoFar more_comes (group definition) a vs q) (sym told)
+        (one_more_read (λ d. signature d.func) more_comes (group definition) a b (signatures c.loop-parser.types.items) d q (advances_group definition) i.so_far i.kept within (ap (λ e. Ok (not e)) empty) read);
     }
 
 pub loop-parser-smaller : goal.loop-parser-smaller
 loop-parser-smaller c =
-    let a = c.args.parser.now in
-    let l = c.loop-parser.parser in
-    let within : l.place ≤ length a.source.tokens = search rules in
+    let b = c.loop-parser.parser in
+    let d = c.parens_of.new.self in
     let v = signature c.in_ok-definition.definition.func in
-    let read : (group definition a.source l.place a.names a.depth).answer ≡ Ok v = search rules in
-    let behind : (group definition a.source l.place a.names a.depth).behind ≡ c.parens_of.new.self.place = search rules in
-    let on : l.place < c.parens_of.new.self.place = subst (λ q. l.place < q) behind (advances_group definition forward_definition a.source l.place a.names a.depth v read) in
-    let one : l.source ≡ a.source = search rules in
-    let other : c.parens_of.new.self.source ≡ a.source = search rules in
-    let one_size : length l.source.tokens ≡ length a.source.tokens = ap (λ s. length s.tokens) one in
-    let other_size : length c.parens_of.new.self.source.tokens ≡ length a.source.tokens = ap (λ s. length s.tokens) other in
-    omega (arith, within, on, one_size, other_size)
+    let within : b.place ≤ length b.source.tokens = search rules in
+    let read : (group definition b).answer ≡ Ok v = search rules in
+    let far : b.place + (group definition b).passed ≡ d.place = search rules in
+    let some = advances_group definition b v read in
+    let same : length d.source.tokens ≡ length b.source.tokens = search rules in
+    omega (arith, within, far, some, same)
 
 pub returns-clause-reads : goal.returns-clause-reads
 returns-clause-reads c =
-    let a = c.args.parser.now in
-    let l = c.loop-parser.parser in
-    let i = c.loop-parser.invariant in
-    let empty : empty_of (shown a.source l.place a.names) ≡ true = search rules in
-    let within : l.place ≤ length a.source.tokens = search rules in
-    all_read (group definition) a.source a.place a.names a.depth (signatures c.loop-parser.types.items) l.place i.so_far within empty
+    let b = c.loop-parser.parser in
+    let empty : empty_of (shown b.source b.place b.names) ≡ true = search rules in
+    let within : b.place ≤ length c.args.parser.now.source.tokens = search rules in
+    all_read_at more_comes (group definition) c.args.parser.now b (signatures c.loop-parser.types.items) c.loop-parser.invariant.so_far c.loop-parser.invariant.kept within (ap (λ e. Ok (not e)) empty)

@@ -1,5 +1,6 @@
 use Rattle.std.proofs.Common.{◌≤◌, ◌-◌, suc, length}
-use Rattle.wat_lexer_parser.specs.lemmas.ManyLaws.{IsSoFar}
+use Rattle.wat_lexer_parser.specs.lemmas.WhileLaws.{IsSoFar}
+use Rattle.wat_lexer_parser.specs.parser.Sights.{more_comes}
 use Rattle.wat_lexer_parser.specs.readings.Readings.{group}
 use Rattle.wat_lexer_parser.specs.readings.Reads.{IsKept}
 use Rattle.wat_types.specs.Meanings.{definition}
@@ -10,7 +11,7 @@ abbrev pub invariant-loop-parser : goal.invariant-loop-parser
 invariant-loop-parser l = record {
   kept : IsKept l.fn.parser l.parser;
   on : l.fn.parser.place ≤ l.parser.place;
-  so_far : IsSoFar (group definition) l.fn.parser.source l.fn.parser.place l.fn.parser.names l.fn.parser.depth (signatures l.types.items) l.parser.place;
+  so_far : IsSoFar more_comes (group definition) l.fn.parser (signatures l.types.items) l.parser.place;
 }
 
 abbrev pub decreases-loop-parser : goal.decreases-loop-parser
