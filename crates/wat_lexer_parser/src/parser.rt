@@ -190,7 +190,14 @@ impl<'a> Parser<'a> {
         ensures short { length self.now.source.setting.text < 2 ^ 32 }
     {
         self.is_sound();
-        match self.look(self.place) {
+        self.is_empty_from(self.place)
+    }
+
+    /// The same at a place.
+    pub(crate) fn is_empty_from(&self, place: usize) -> bool
+        ensures { result ≡ empty_of (shown self.now.source place self.now.names) }
+    {
+        match self.look(place) {
             Ok(None) => true,
             Ok(Some((token, _))) => matches!(token.kind, TokenKind::RParen),
             Err(_) => false,

@@ -96,7 +96,7 @@ impl<'p, 'a> Cursor<'p, 'a> {
             self.entry.parser.now.names) }
     {
         let parser = self.parser;
-        parser.table().is_empty(self.at, &parser.names)
+        parser.is_empty_from(self.at)
     }
 
     /// The text in which the cursor stands.
