@@ -41,6 +41,10 @@ signed_within half (true, n) = if nat_le n half then Some (neg_ℤ (pos n)) else
 signed_within half (false, n) =
     if nat_lt n half then Some (pos n) else if nat_lt n (2 * half) then Some (pos n -ℤ pos (2 * half)) else None
 
+-- the same, which the search for proofs does not take apart
+unfoldable pub signed_number : ℕ → Bool × ℕ → Option ℤ
+signed_number half n = signed_within half n
+
 abbrev pub integer : {V : Type 0} → List ℕ → (Bool × ℕ → Option V) → Reading V
 integer name fits =
     checked fits (codes "invalid " ++ name ++ codes " number: constant out of range") (token as_integer (codes "expected a " ++ name))

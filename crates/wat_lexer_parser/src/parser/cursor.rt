@@ -16,7 +16,8 @@ ghost use Rattle.wat_lex.specs.declared.lexer.kinds.FloatKind.{FloatKind};
 ghost use Rattle.wat_lex.specs.declared.lexer.kinds.IntegerKind.{IntegerKind};
 ghost use Rattle.wat_lex.specs.declared.lexer.kinds.Token.{Token};
 ghost use Rattle.wat_lex.specs.declared.lexer.kinds.TokenKind.TheVariants as variant;
-ghost use Rattle.wat_lexer_parser.specs.parser.State.{Answers, IsSound, at_place, report_here, seen_at};
+ghost use Rattle.wat_lexer_parser.specs.parser.State.{Answers, IsSound, at_place};
+ghost use Rattle.wat_lexer_parser.specs.parser.State.{report_here, seen_at};
 ghost use Rattle.wat_lexer_parser.specs.parser.Takers.{taken_at, sees_at, token_of};
 ghost use Rattle.wat_lexer_parser.specs.parser.Takers.{comment_taken, may_take_at, name_or_report};
 ghost use Rattle.wat_lexer_parser.specs.parser.Takers.{as_open, as_close, as_keyword, as_reserved};
@@ -63,7 +64,8 @@ impl<'p, 'a> Cursor<'p, 'a> {
     /// What is shown here, with the place behind it.
     #[tactic(auto, unfolding(crate::specs::parser::State::seen))]
     fn look(self) -> Result<Option<(Token, usize)>, Error>
-        ensures value { Answers false (λ found. found) (seen_at (at_place self.entry.parser.now self.entry.at)) result }
+        ensures value { Answers false (λ found. found)
+            (seen_at (at_place self.entry.parser.now self.entry.at)) result }
         ensures on { IfOk result (λ found. IfSome found (λ v.
             (self.entry.at < v.1) × (v.1 ≤ length self.entry.parser.now.source.tokens))) }
         ensures reader { IfOk result (λ found. IfSome found (λ v.
@@ -140,7 +142,8 @@ impl<'p, 'a> Cursor<'p, 'a> {
 
     /// The token that is shown, or None at the end, or the error of the fault that is shown.
     pub fn token(&self) -> Result<Option<Token>, Error>
-        ensures value { Answers false (λ t. t) (token_of (seen_at (at_place self.now.parser.now self.now.at))) result }
+        ensures value { Answers false (λ t. t)
+            (token_of (seen_at (at_place self.now.parser.now self.now.at))) result }
         ensures reader { IfOk result (λ found. IfSome found (
             IsTokenOf self.now.parser.now.source.setting.text)) }
     {
@@ -153,7 +156,8 @@ impl<'p, 'a> Cursor<'p, 'a> {
 
     /// Takes the token that is shown, whatever its kind.
     pub fn any(self) -> Result<Option<(Token, Self)>, Error>
-        ensures value { Answers false (option_map (λ v. (v.0, v.1.at))) (seen_at (at_place self.entry.parser.now self.entry.at)) result }
+        ensures value { Answers false (option_map (λ v. (v.0, v.1.at)))
+            (seen_at (at_place self.entry.parser.now self.entry.at)) result }
         ensures parser { IfOk result (λ found. IfSome found (λ v. v.1.parser ≡ self.entry.parser)) }
         ensures on { IfOk result (λ found. IfSome found (λ v. self.entry.at < v.1.at)) }
         ensures reader { IfOk result (λ found. IfSome found (λ v.
@@ -347,7 +351,8 @@ impl<'p, 'a> Cursor<'p, 'a> {
 
     /// Takes an annotation, and answers its name, without the `@`.
     pub fn annotation(self) -> Result<Option<(CowStr<'a>, Self)>, Error>
-        ensures value { Answers (may_take_at as_annotation (at_place self.entry.parser.now self.entry.at))
+        ensures value { Answers
+            (may_take_at as_annotation (at_place self.entry.parser.now self.entry.at))
             (option_map (λ v. (cow_str_bytes v.0, v.1.at)))
             (taken_at as_annotation (at_place self.entry.parser.now self.entry.at)) result }
         ensures borrowed { (t : Token) (q : ℕ) →
@@ -393,7 +398,8 @@ impl<'p, 'a> Cursor<'p, 'a> {
 
     /// Takes an integer.
     pub fn integer(self) -> Result<Option<(Integer<'a>, Self)>, Error>
-        ensures value { Answers (may_take_at as_integer (at_place self.entry.parser.now self.entry.at))
+        ensures value { Answers
+            (may_take_at as_integer (at_place self.entry.parser.now self.entry.at))
             (option_map (λ v. (number_of v.0, v.1.at)))
             (taken_at as_integer (at_place self.entry.parser.now self.entry.at)) result }
         ensures word { (t : Token) (q : ℕ) (k : IntegerKind) →
@@ -424,7 +430,8 @@ impl<'p, 'a> Cursor<'p, 'a> {
 
     /// Takes a floating-point number.
     pub fn float(self) -> Result<Option<(Float<'a>, Self)>, Error>
-        ensures value { Answers (may_take_at as_float (at_place self.entry.parser.now self.entry.at))
+        ensures value { Answers
+            (may_take_at as_float (at_place self.entry.parser.now self.entry.at))
             (option_map (λ v. (tt, v.1.at)))
             (taken_at as_float (at_place self.entry.parser.now self.entry.at)) result }
         ensures word { (t : Token) (q : ℕ) (k : FloatKind) →
@@ -450,7 +457,8 @@ impl<'p, 'a> Cursor<'p, 'a> {
 
     /// Takes a string, and answers its value.
     pub fn string(self) -> Result<Option<(CowSlice<'a, u8>, Self)>, Error>
-        ensures value { Answers (may_take_at as_string (at_place self.entry.parser.now self.entry.at))
+        ensures value { Answers
+            (may_take_at as_string (at_place self.entry.parser.now self.entry.at))
             (option_map (λ v. (cow_slice_items v.0, v.1.at)))
             (taken_at as_string (at_place self.entry.parser.now self.entry.at)) result }
         ensures borrowed { (t : Token) (q : ℕ) →

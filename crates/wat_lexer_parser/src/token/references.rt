@@ -139,7 +139,8 @@ impl<'a, K: Peek> Peek for ItemRef<'a, K> {
     ghost shows = { codes "an item reference" };
 
     fn peek(cursor: Cursor<'_, '_>) -> Result<bool, Error>
-        ensures { Tells (behind_open K.sight (at_place cursor.entry.parser.now cursor.entry.at)) result }
+        ensures { Tells (behind_open K.sight
+            (at_place cursor.entry.parser.now cursor.entry.at)) result }
     {
         match cursor.lparen()? {
             Some(next) => K::peek(next),
