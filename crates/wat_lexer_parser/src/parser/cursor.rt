@@ -3,10 +3,10 @@ ghost use Rattle.std.specs.Prelude.{◌≡◌, ◌⊎◌, ◌↔◌, ◌≤◌, 
 ghost use Rattle.std.specs.Prelude.{Some, Ok};
 ghost use Rattle.std.specs.Cow.{cow_str_bytes, cow_slice_items, IsBorrowedSlice, IsBorrowedStr};
 ghost use Rattle.std.specs.Option.{option_map};
-ghost use Rattle.std.specs.Str.{IsUtf8};
 ghost use Rattle.std.specs.Str.Parse.{IsNumeral, without_leading_sign};
 ghost use Rattle.wat_lex.specs.errors.Errors.{IsUnlessMemory};
 ghost use Rattle.wat_lex.specs.grammar.Classes.{backslash};
+ghost use Rattle.wat_lex.specs.identifiers.Identifiers.{is_owned_str};
 ghost use Rattle.wat_lex.specs.tokens.ReadableTokens.{IsTokenOf, word_of};
 ghost use Rattle.wat_lex.specs.values.Names.{HasNone, HasNoEscape};
 ghost use Rattle.wat_lex.specs.values.NumberValues.{IsFloatOf, IsIntegerOf, IsNumeralOf};
@@ -78,17 +78,25 @@ impl<'p, 'a> Cursor<'p, 'a> {
         }
     }
 
+    /// What holds of every cursor: what [`Parser::is_sound`] says of its parser, and it stands among
+    /// the tokens. The call does nothing.
+    pub fn is_sound(&self)
+        ensures sound { IsSound self.now.parser.now }
+        ensures within { self.now.at ≤ length self.now.parser.now.source.tokens }
+    {
+        let parser = self.parser;
+        parser.is_sound();
+    }
+
     /// The current span: that of the token that is shown, the text's length at the end, or the
     /// place itself where a fault is shown.
     pub fn cur_span(&self) -> Span
         ensures value { result ≡ current_span self.now.parser.now.source self.now.at
             self.now.parser.now.names }
         ensures sound { IsSound self.now.parser.now }
-        ensures utf8 { IsUtf8 self.now.parser.now.source.setting.text }
-        ensures short { length self.now.parser.now.source.setting.text < 2 ^ 32 }
     {
+        self.is_sound();
         let parser = self.parser;
-        parser.is_sound();
         parser.span_from(self.at)
     }
 
@@ -312,6 +320,10 @@ impl<'p, 'a> Cursor<'p, 'a> {
             seen_at (at_place self.entry.parser.now self.entry.at) ≡ Ok (Some (t, q)) →
             IfOk result (λ found. IfSome found (λ v. IsBorrowedStr v.0 ↔
             HasNoEscape (word_of self.entry.parser.now.source.setting.text t))) }
+        ensures owned { (t : Token) (q : ℕ) →
+            seen_at (at_place self.entry.parser.now self.entry.at) ≡ Ok (Some (t, q)) →
+            IfOk result (λ found. IfSome found (λ v. is_owned_str v.0 ≡
+            name_takes self.entry.parser.now.source.setting.text t)) }
         ensures parser { IfOk result (λ found. IfSome found (λ v.
             v.1.parser ≡ self.entry.parser)) }
         ensures on { IfOk result (λ found. IfSome found (λ v. self.entry.at < v.1.at)) }
@@ -509,6 +521,7 @@ fn name_of<'a>(alloc: Global, text: &'a str, token: &Token) -> Result<CowStr<'a>
         (name_value (empty_name token.now.kind) (word_of text.now token.now))) result }
     ensures borrowed { IfOk result (λ name.
         IsBorrowedStr name ↔ HasNoEscape (word_of text.now token.now)) }
+    ensures owned { IfOk result (λ name. is_owned_str name ≡ name_takes text.now token.now) }
 {
     match token.name(alloc, text)? {
         Ok(name) => Ok(name),
