@@ -141,6 +141,7 @@ requests 0 '(@a (b' play reg=a parens=3 look unreg=a look
 requests 0 'x (@b "' play take look reg=b look parens=1 look
 requests 0 '(a) b' play parens=0 parens=1 parens=1 take take
 requests 0 '(a (b) c)' play parens=9 parens=5 look
+requests 0 "$(printf '(@a%.0s' {1..10000})" play look
 check 2 $'a \377'
 echo "check_runs.sh: $runs runs, each with its whole answer or the line of what failed; $faults faults"
 [ "$faults" = 0 ]

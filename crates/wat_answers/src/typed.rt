@@ -2,9 +2,11 @@
 use crate::replaying::register_fully;
 use crate::spaceship::Spaceship;
 use std::alloc::{AllocError, Global};
+use std::borrow::{CowSlice, CowStr};
 use wat_lex::error::Error;
 use wat_lex_answers::row::Row;
 use wat_lex_answers::tokens::short;
+use wat_lexer_parser::annotation;
 use wat_lexer_parser::kw;
 use wat_lexer_parser::parser::{Lookahead1, ParseBuffer, Parser, Peek};
 use wat_lexer_parser::token::{
@@ -119,6 +121,34 @@ fn report(alloc: Global, parser: &Parser<'_>, count: usize) -> Result<String, Er
     Err(lookahead.error())
 }
 
+/// How types of numbers are displayed; None for another type.
+fn display_of_number(name: &str) -> Option<&'static str> {
+    Some(match name {
+        "u8" => <u8 as Peek>::display(),
+        "u16" => <u16 as Peek>::display(),
+        "u32" => <u32 as Peek>::display(),
+        "u64" => <u64 as Peek>::display(),
+        "i8" => <i8 as Peek>::display(),
+        "i16" => <i16 as Peek>::display(),
+        "i32" => <i32 as Peek>::display(),
+        "i64" => <i64 as Peek>::display(),
+        _ => return None,
+    })
+}
+
+/// How types of strings and names are displayed; None for another type.
+fn display_of_name(name: &str) -> Option<&'static str> {
+    Some(match name {
+        "bytes" => <CowSlice<'_, u8> as Peek>::display(),
+        "text" => <CowStr<'_> as Peek>::display(),
+        "id" => <Id<'_> as Peek>::display(),
+        "index" => <Index<'_> as Peek>::display(),
+        "item" => <ItemRef<'_, kw::func> as Peek>::display(),
+        "annotation" => <annotation::name as Peek>::display(),
+        _ => return None,
+    })
+}
+
 /// The numbers of a list: all, as long as one is seen, or as long as one is seen in parentheses.
 #[tactic(auto, using(wat_lexer_parser::specs::lemmas::TypeLaws::advances_u32, wat_lexer_parser::specs::lemmas::ReadingLaws::advances_group))]
 fn list(alloc: Global, call: &str, parser: &mut Parser<'_>) -> Result<String, Error> {
@@ -134,6 +164,12 @@ fn list(alloc: Global, call: &str, parser: &mut Parser<'_>) -> Result<String, Er
 
 /// How types are displayed.
 fn display(alloc: Global, name: &str) -> Result<String, AllocError> {
+    if let Some(shown) = display_of_number(name) {
+        return String::from_str(alloc, shown);
+    }
+    if let Some(shown) = display_of_name(name) {
+        return String::from_str(alloc, shown);
+    }
     String::from_str(
         alloc,
         match name {

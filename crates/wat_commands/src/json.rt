@@ -1,7 +1,5 @@
 //! The lists as JSON: a line for each raw token, or for each token that counts.
 ghost use Rattle.std.specs.Prelude.{◌≡◌, ◌≤◌, ◌<◌, ◌^◌, length, IfOk, IfErr, OnOk, OnErr, None};
-ghost use Rattle.std.specs.Str.{IsUtf8};
-ghost use Rattle.wat_lexer_parser.specs.places.Source.{IsRead};
 ghost use Rattle.wat_commands.specs.Blocks.{AppendsEach, AppendsEachCut};
 ghost use Rattle.wat_commands.specs.JsonLists.{JsonShownFrom, JsonShownText};
 ghost use Rattle.wat_commands.specs.JsonRows.{json_line};
@@ -49,9 +47,6 @@ fn rows_from<'p, 'a>(
     text: &str,
     from: Cursor<'p, 'a>,
 ) -> Result<(Showing, Cursor<'p, 'a>), Error>
-    requires read { IsRead from.parser.now.source }
-    requires utf8 { IsUtf8 from.parser.now.source.setting.text }
-    requires short { length from.parser.now.source.setting.text < 2 ^ 32 }
     requires text { text.now ≡ from.parser.now.source.setting.text }
     ensures shown { IfOk result (λ r.
         JsonShownFrom from.entry.parser.now.source from.entry.parser.now.names from.entry.at
@@ -61,6 +56,7 @@ fn rows_from<'p, 'a>(
     ensures refused { IfErr result (λ e. e ≡ None) }
 {
     laws::all_shown();
+    from.is_sound();
     let mut positions = Positions::new(text);
     let mut lines = Vec::new(alloc);
     let mut cursor = from;

@@ -1,7 +1,5 @@
 //! The list of the tokens that count: what a parser shows of a text.
 ghost use Rattle.std.specs.Prelude.{◌≡◌, ◌≤◌, ◌<◌, ◌^◌, length, IfOk, IfErr, OnOk, None};
-ghost use Rattle.std.specs.Str.{IsUtf8};
-ghost use Rattle.wat_lexer_parser.specs.places.Source.{IsRead};
 ghost use Rattle.wat_commands.specs.Shows.{with_name, with_names, ShownFrom, ShownText};
 
 use crate::list::{buffer_of, push_line, refusal_of};
@@ -49,9 +47,6 @@ fn lines_from<'p, 'a>(
     alloc: Global,
     from: Cursor<'p, 'a>,
 ) -> Result<(Showing, Cursor<'p, 'a>), Error>
-    requires read { IsRead from.parser.now.source }
-    requires utf8 { IsUtf8 from.parser.now.source.setting.text }
-    requires short { length from.parser.now.source.setting.text < 2 ^ 32 }
     ensures shown { IfOk result (λ r.
         ShownFrom from.entry.parser.now.source from.entry.parser.now.names from.entry.at
         r.0.lines.items r.0.error) }
@@ -60,6 +55,7 @@ fn lines_from<'p, 'a>(
     ensures refused { IfErr result (λ e. e ≡ None) }
 {
     laws::all_shown();
+    from.is_sound();
     let mut lines = Vec::new(alloc);
     let mut cursor = from;
     'tokens: loop {

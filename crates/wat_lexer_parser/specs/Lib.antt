@@ -8,3 +8,4 @@ pub mod calls
 pub mod readings
 pub mod lemmas
 pub mod inside
+pub mod rules

@@ -4,3 +4,5 @@ pub mod AnswerLaws
 pub mod ReadingLaws
 pub mod TypeLaws
 pub mod WhileLaws
+pub mod RuleLaws
+pub mod SpellingLaws

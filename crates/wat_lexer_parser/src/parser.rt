@@ -2,7 +2,6 @@
 ghost use Rattle.std.specs.Prelude.{◌≡◌, ◌≤◌, ◌<◌, ◌+◌, ◌^◌, false, not, length, Ok};
 ghost use Rattle.std.specs.Prelude.{IfOk, IfErr, IfSome, OnOk, OnErr};
 ghost use Rattle.std.specs.FinMap as map;
-ghost use Rattle.std.specs.Str.{IsUtf8};
 ghost use Rattle.wat_lex.specs.tokens.ReadableTokens.{IsTokenOf};
 ghost use Rattle.wat_lex.specs.errors.Errors.{IsUnlessMemory};
 ghost use Rattle.wat_lexer_parser.specs.names.RegisteredNames.{no_names, is_registered};
@@ -169,11 +168,11 @@ impl<'a> Parser<'a> {
         Span::from_offset(offset)
     }
 
-    /// The state is sound, over a text of UTF-8 that is not too long.
-    pub(crate) fn is_sound(&self)
+    /// What holds of every parser: its tokens are those of its text, which is UTF-8 and of fewer than
+    /// 2^32 bytes. So the laws of the module [`laws`](crate::laws) hold of what it shows. The call
+    /// does nothing; it is for the proofs of crates above.
+    pub fn is_sound(&self)
         ensures sound { IsSound self.now }
-        ensures utf8 { IsUtf8 self.now.source.setting.text }
-        ensures short { length self.now.source.setting.text < 2 ^ 32 }
     {
         let table = &self.table;
         table.is_read();
@@ -186,8 +185,6 @@ impl<'a> Parser<'a> {
         ensures value { result ≡
             empty_of (shown self.now.source self.now.place self.now.names) }
         ensures sound { IsSound self.now }
-        ensures utf8 { IsUtf8 self.now.source.setting.text }
-        ensures short { length self.now.source.setting.text < 2 ^ 32 }
     {
         self.is_sound();
         self.is_empty_from(self.place)
@@ -421,8 +418,10 @@ impl<'a> Parser<'a> {
             ParensErr (FnOnceReturnsAtMut F.FnOnce f) self.old e self.new) }
         ensures back { OnErr result
             ((self.new.place ≡ self.old.place) × (self.new.depth ≡ self.old.depth)) }
-        ensures on { ((p : _) (r : _) (q : _) → F.post f p r q → p.now.place ≤ q.now.place) →
-            self.old.place ≤ self.new.place }
+        ensures on { ((p : _) (r : _) (q : _) → p.now.source ≡ self.old.source →
+            p.now.names ≡ self.old.names → p.now.depth ≡ self.old.depth + 1 →
+            opened self.old.source self.old.place self.old.names ≡ Ok p.now.place →
+            F.post f p r q → p.now.place ≤ q.now.place) → self.old.place ≤ self.new.place }
     {
         let place = self.place;
         let depth = self.depth;

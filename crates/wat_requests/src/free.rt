@@ -2,14 +2,16 @@
 use crate::buffers::buffer_of;
 use crate::cursors::{Look, looked_at, looked_under};
 use crate::types::{As, part_as, peeked, peeked_behind, whole_as};
+use std::borrow::{CowSlice, CowStr};
 use std::io;
 use wat_lex::error::Error;
+use wat_lex::lexer::{Float, Integer};
 use wat_lex::token::Id;
 use wat_lex_requests::free::reported;
 use wat_lex_requests::run::{Ending, Expected, Run};
 use wat_lexer_parser::kw;
 use wat_lexer_parser::parser::Parser;
-use wat_lexer_parser::token::LParen;
+use wat_lexer_parser::token::{LParen, RParen};
 
 pub fn rows(run: &mut Run<'_>) -> io::Result<()> {
     parsers(run)?;
@@ -21,7 +23,8 @@ pub fn rows(run: &mut Run<'_>) -> io::Result<()> {
     others(run)?;
     whole_texts(run)?;
     parts(run)?;
-    peeks(run)
+    peeks(run)?;
+    steps_and_ends(run)
 }
 
 /// What a buffer answers, and a parser of it.
@@ -339,6 +342,66 @@ fn peeks(run: &mut Run<'_>) -> io::Result<()> {
     if run.is_asked("free-group") {
         let ended = group(run);
         run.report("free-group", ended)?;
+    }
+    Ok(())
+}
+
+/// Peeks up to the text's end.
+fn peeks_behind(run: &mut Run<'_>) -> Result<Ending, Error> {
+    let buffer = buffer_of(run.alloc(), "x)")?;
+    let parser = buffer.parser();
+    let second = parser.peek2::<RParen>();
+    let third = parser.peek3::<RParen>();
+    let is_empty = parser.is_empty();
+    run.call_has_ended();
+    let is_right = matches!(second, Ok(true)) && matches!(third, Ok(false)) && !is_empty;
+    Ok(Ending::answer_where(is_right && parser.prev_span().offset() == 0))
+}
+
+/// What five steps take, one behind the other.
+type Values<'a> = (
+    Float<'a>,
+    Integer<'a>,
+    CowStr<'a>,
+    CowSlice<'a, u8>,
+    CowStr<'a>,
+);
+
+fn values<'a>(parser: &mut Parser<'a>) -> Result<Values<'a>, Error> {
+    Ok((
+        parser.step(|cursor| cursor.float()?.ok_or_else(|| cursor.error("no float")))?,
+        parser.step(|cursor| cursor
+            .integer()?
+            .ok_or_else(|| cursor.error("no integer")))?,
+        parser.step(|cursor| cursor.id()?.ok_or_else(|| cursor.error("no identifier")))?,
+        parser.step(|cursor| cursor.string()?.ok_or_else(|| cursor.error("no string")))?,
+        parser.step(|cursor| cursor.annotation()?.ok_or_else(|| cursor.error("no name")))?,
+    ))
+}
+
+/// A step for each kind of value, each of which is a part of the text.
+fn steps(run: &mut Run<'_>) -> Result<Ending, Error> {
+    let buffer = buffer_of(run.alloc(), "1.5 2 $a \"b\" @c")?;
+    let mut parser = buffer.parser();
+    let values = values(&mut parser);
+    run.call_has_ended();
+    let shown = "(Val { hex: false, integral: \"1\", fractional: Some(\"5\"), exponent: None }, \
+                 Integer { sign: None, digits: \"2\", hex: false }, \"a\", [98], \"c\")";
+    let is_behind = parser.prev_span().offset() == 15;
+    Ok(
+        run.ending(&values, Expected::Value(shown))
+            .with_state(is_behind),
+    )
+}
+
+fn steps_and_ends(run: &mut Run<'_>) -> io::Result<()> {
+    if run.is_asked("free-peeks-behind") {
+        let ended = peeks_behind(run);
+        run.report("free-peeks-behind", ended)?;
+    }
+    if run.is_asked("free-steps") {
+        let ended = steps(run);
+        run.report("free-steps", ended)?;
     }
     Ok(())
 }

@@ -1,5 +1,8 @@
 //! Calls of parsers that take no type: groups, errors, looks at several types, and lists of calls.
+ghost use Rattle.wat_lexer_parser.specs.readings.Reads.{IsKept};
+
 use crate::buffers::buffer_of;
+use crate::names::register_fully;
 use std::alloc::{AllocError, Global};
 use std::io;
 use wat_lex::error::Error;
@@ -61,7 +64,43 @@ fn refused_group_of(
     Ok(run.ending(&result, expected).with_state(is_at(&parser, 0)))
 }
 
+/// Takes so many groups, each in the one before, and asks in each whether it is too deep.
+fn nested(parser: &mut Parser<'_>, count: usize) -> Result<(), Error>
+    ensures kept { IsKept parser.old parser.new }
+{
+    if count == 0 {
+        return Ok(());
+    }
+    let left = count - 1;
+    parser.parens(
+        |parser: &mut Parser<'_>| -> Result<(), Error>
+            ensures { IsKept parser.old parser.new }
+        {
+            parser.depth_check()?;
+            nested(parser, left)
+        },
+    )
+}
+
+/// So many parentheses.
+const MANY: &str = "((((((((((((((((((((((((((((((((((((((((((((((((((\
+                    ((((((((((((((((((((((((((((((((((((((((((((((((((((";
+
+/// Groups past the limit are refused, which puts place and depth back.
+fn too_deep(run: &mut Run<'_>) -> Result<Ending, Error> {
+    let buffer = buffer_of(run.alloc(), MANY)?;
+    let mut parser = buffer.parser();
+    let result = nested(&mut parser, 101);
+    run.call_has_ended();
+    let expected = Expected::Refusal("item nesting too deep", 101);
+    Ok(run.ending(&result, expected).with_state(is_at(&parser, 0)))
+}
+
 pub fn groups(run: &mut Run<'_>) -> io::Result<()> {
+    if run.is_asked("parens-too-deep") {
+        let ended = too_deep(run);
+        run.report("parens-too-deep", ended)?;
+    }
     if run.is_asked("step") {
         let ended = refused_step(run);
         run.report("step", ended)?;
@@ -275,7 +314,28 @@ fn replayed(run: &mut Run<'_>) -> Result<Ending, Error> {
     )
 }
 
+/// A name that is registered as often as can be is not registered once more.
+fn replayed_fully(run: &mut Run<'_>) -> Result<Ending, Error> {
+    let alloc = run.alloc();
+    let name = String::from_str(alloc, "b")?;
+    let calls = vec![in alloc; Call::Register(name)]?;
+    let buffer = buffer_of(run.alloc(), "x")?;
+    let mut parser = buffer.parser();
+    register_fully(&mut parser)?;
+    let result = replay(run.alloc(), &mut parser, &calls).map_err(Error::from);
+    run.call_has_ended();
+    let is_kept = is_at(&parser, 0) && parser.is_registered("b");
+    Ok(
+        run.ending(&result, Expected::Value("[TooOften]"))
+            .with_state(is_kept),
+    )
+}
+
 pub fn replays(run: &mut Run<'_>) -> io::Result<()> {
+    if run.is_asked("replay-too-often") {
+        let ended = replayed_fully(run);
+        run.report("replay-too-often", ended)?;
+    }
     if run.is_asked("replay") {
         let ended = replayed(run);
         run.report("replay", ended)?;

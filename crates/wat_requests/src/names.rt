@@ -56,7 +56,32 @@ fn register_more(run: &mut Run<'_>) -> Result<Ending, Error> {
     Ok(Ending::answer_where(is_kept && parser.is_registered("b")))
 }
 
+/// A name that is registered as often as can be is refused, and stays so.
+fn register_too_often(run: &mut Run<'_>) -> Result<Ending, Error> {
+    let buffer = buffer_of(run.alloc(), "x")?;
+    let mut parser = buffer.parser();
+    register_fully(&mut parser)?;
+    let result = parser.register_annotation("b");
+    run.call_has_ended();
+    let expected = Expected::Refusal("annotation registered too often at byte offset 0", 0);
+    let is_kept = is_at_start(&parser) && parser.is_registered("b");
+    Ok(run.ending(&result, expected).with_state(is_kept))
+}
+
+/// Registers `b` as often as a name may be registered.
+pub fn register_fully(parser: &mut Parser<'_>) -> Result<(), Error> {
+    parser.register_annotation("b")?;
+    if parser.is_registered("b") {
+        parser.set_registrations("b", usize::MAX);
+    }
+    Ok(())
+}
+
 pub fn registered(run: &mut Run<'_>) -> io::Result<()> {
+    if run.is_asked("register-too-often") {
+        let ended = register_too_often(run);
+        run.report("register-too-often", ended)?;
+    }
     if run.is_asked("register") {
         let ended = register(run);
         run.report("register", ended)?;

@@ -1,1 +1,2 @@
-pub mod Terms
+mod Terms
+mod Reading

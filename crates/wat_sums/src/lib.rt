@@ -4,14 +4,16 @@
 //! comments and numbers are those of WebAssembly.
 #![tactic(auto)]
 
-ghost use Rattle.std.specs.Prelude.{◌≡◌, ◌≤◌, ◌<◌, ◌^◌, length, map, true, false};
+ghost use Rattle.std.specs.Prelude.{◌≡◌, ◌≤◌, ◌<◌, ◌^◌, ℤ, List, length, map, true, false, IfOk, Ok};
 ghost use Rattle.wat_lexer_parser.specs.parser.State.{Answers};
 ghost use Rattle.wat_lexer_parser.specs.places.Source.{Source, IsRead};
 ghost use Rattle.wat_lexer_parser.specs.readings.Readings.{whole};
 ghost use Rattle.wat_lexer_parser.specs.readings.Reads.{IsKept, Reads};
+ghost use Rattle.wat_sums.specs.Spelling.{SpellsSum};
 ghost use Rattle.wat_sums.specs.Sums.{negative, sum};
 
 pub mod kw;
+pub mod laws;
 #[cfg(test)]
 mod tests;
 
@@ -32,7 +34,7 @@ impl<'a> Parse<'a> for Term {
 
     ghost value = { λ t. t.0 };
 
-    ghost meaning = { term };
+    ghost meaning = { term.reading };
 
     #[tactic(auto, unfolding(crate::specs::Sums::term))]
     fn parse(parser: &mut Parser<'a>) -> Result<Term, Error> {
@@ -54,7 +56,7 @@ impl<'a> Parse<'a> for Term {
 fn negative(parser: &mut Parser<'_>) -> Result<Term, Error>
     ensures kept { IsKept parser.old parser.new }
     ensures on { parser.old.place ≤ parser.new.place }
-    ensures reads { Reads (λ t. t.0) negative parser.old result parser.new.place }
+    ensures reads { Reads (λ t. t.0) negative.reading parser.old result parser.new.place }
 {
     parser.parse::<kw::neg>()?;
     Ok(Term(-i64::from(parser.parse::<u32>()?)))
@@ -75,7 +77,7 @@ impl<'a> Parse<'a> for Sum {
 
     ghost value = { λ s. map (λ t. t.0) s.terms.items };
 
-    ghost meaning = { sum };
+    ghost meaning = { sum.reading };
 
     #[tactic(auto, using(crate::proofs::Terms::advances_term), unfolding(crate::specs::Sums::sum))]
     fn parse(parser: &mut Parser<'a>) -> Result<Sum, Error> {
@@ -95,15 +97,23 @@ pub fn read(alloc: Global, text: &str) -> Result<Sum, Error>
       text = text.now;
       flags = record { allow = false; strict = false };
     } → s.track ≡ false →
-        Answers true (λ v. map (λ t. t.0) v.terms.items) (whole sum s) result }
+        Answers true (λ v. map (λ t. t.0) v.terms.items) (whole sum.reading s) result }
 
     // There are such raw tokens.
     ensures some { (s : Source) × IsRead s × (s.setting ≡ record {
       text = text.now;
       flags = record { allow = false; strict = false };
     }) × (s.track ≡ false) }
+
+    // The terms are those that the text spells.
+    ensures spells { IfOk result (λ v. SpellsSum text.now (map (λ t. t.0) v.terms.items)) }
+
+    // Where it spells terms, the answer is these.
+    ensures spelled { (terms : List ℤ) → SpellsSum text.now terms →
+        Answers true (λ v. map (λ t. t.0) v.terms.items) (Ok terms) result }
 {
     has_tokens(text);
+    laws::reading_is_spelling();
     let buffer = ParseBuffer::new(alloc, text)?;
     parse::<Sum>(&buffer)
 }

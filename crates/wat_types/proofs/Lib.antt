@@ -1,8 +1,6 @@
 mod Lists
-mod StandardWords
-mod Looks
 mod Bytes
-mod Read
+mod Formats
 mod Spelled
 mod Joins
 mod Answering

@@ -1,323 +1,256 @@
--- What is spelled is read: where the tokens of a rule are shown, its reading gets the value, and the place before the tokens behind it.
-use Rattle.std.proofs.Common.{◌≡◌, ◌∙◌, ◌<◌, ◌+◌, ℕ, zero, suc, List, [], ◌∷◌, ◌++◌, Bool, true, false, arith, refl, sym, ap, subst, length, Some, None, Ok}
-use Rattle.std.specs.Prelude.{Option, bytes_eq, codes, not, if◌then◌else◌}
+-- The rules of function types are those of their grammar.
+use Rattle.std.proofs.Common.{◌≡◌, ◌∙◌, inl, inr, ℕ, List, [], ◌∷◌, Bool, true, false, refl, sym, ap, subst, Some, None, Ok, Err}
+use Rattle.std.specs.Prelude.{Option, Result, codes, bytes_eq, is_some, not, if◌then◌else◌}
 use Rattle.std.specs.List.{flat_map}
+use Rattle.std.proofs.lemmas.Slice.Eq.{bytes_eq-Decides}
+use Rattle.wat_lex.specs.errors.Errors.{Report}
+use Rattle.wat_lex.specs.tokens.ReadableTokens.{token_text, word_of}
+use Rattle.wat_lex.specs.values.WordValues.{name_value}
+use Rattle.wat_lex.specs.declared.lexer.faults.LexError.{LexError}
+use Rattle.wat_lex.specs.declared.lexer.faults.LexError.TheVariants.{EmptyId}
 use Rattle.wat_lex.specs.declared.lexer.kinds.Token.{Token}
-use Rattle.wat_lex.specs.declared.lexer.kinds.TokenKind.TheVariants.{LParen, RParen, Keyword, Id}
-use Rattle.wat_lexer_parser.specs.lemmas.Behind.{forward_shown}
-use Rattle.wat_lexer_parser.specs.lemmas.ReadingLaws.{advances_group}
-use Rattle.wat_lexer_parser.specs.names.RegisteredNames.{no_names}
-use Rattle.wat_lexer_parser.specs.parser.Sights.{Sight, TakesAt, second, takes_second}
-use Rattle.wat_lexer_parser.specs.parser.Takers.{as_id, as_keyword}
-use Rattle.wat_lexer_parser.specs.places.Places.{current_span, empty_of}
-use Rattle.wat_lexer_parser.specs.places.Source.{Source}
-use Rattle.wat_lexer_parser.specs.readings.Readings.{Reading, also_first, and_then, group, give, many, mapped, spanned, token, up_to, value_at, where_seen}
-use Rattle.wat_lexer_parser.specs.readings.Reads.{Advances}
-use Rattle.wat_lexer_parser.specs.readings.Types.{Spelled, an_identifier, free, identifier, keyword, spelling}
-use Rattle.wat_lexer_parser.specs.shown.Showing.{shown}
-use Rattle.wat_types.specs.Grammar.{IsOpen, IsClose, IsWord, IsName, Star, none, more, Val, i32, i64, f32, f64, Param, Returns, Func, signature_of, Definition, Module}
-use Rattle.wat_types.specs.Grammar as grammar
-use Rattle.wat_lexer_parser.specs.readings.Loops.{also_joined, joined_up_to, joined_while, more_comes}
-use Rattle.wat_types.specs.Meanings.{kw, name, named_or_all, number_type, no_val, val, vals, param, returns, params, results, func, definition, definitions, fields, sees, advances_val, forward_param, forward_returns, forward_definition, i32_word, i64_word, f32_word, f64_word, module_word, type_word, func_word, param_word, result_word}
+use Rattle.wat_lex.specs.declared.lexer.kinds.TokenKind.{TokenKind}
+use Rattle.wat_lex.specs.declared.lexer.kinds.TokenKind.TheVariants.{Keyword, Id}
+use Rattle.wat_lexer_parser.specs.groups.Sorts.{is_close}
+use Rattle.wat_lexer_parser.specs.parser.Takers.{as_id, as_owned_id, as_keyword, name_or_report, name_takes, named_by}
+use Rattle.wat_lexer_parser.specs.readings.Types.{Spelled, spelling}
+use Rattle.wat_lexer_parser.specs.rules.Rules.{Ground, Rule, Telling, One, one, Group, While, told_word, tells_kind, tells_second, tells_more}
+use Rattle.wat_lexer_parser.specs.rules.Rules as rules
+use Rattle.wat_types.proofs.Formats.{val, vals, name, named_or_all, param, returns, func, definition, module_types}
 use Rattle.wat_types.specs.Signatures.{Signature}
 use Rattle.wat_types.specs.declared.types.ValType.{ValType}
 use Rattle.wat_types.specs.declared.types.ValType.TheVariants.{I32, I64, F32, F64}
-use Rattle.wat_words.specs.Words.{quoted}
-use Rattle.wat_lexer_parser.specs.lemmas.ReadingParts.{Got, read_both, read_mapped, read_also, read_seen, read_unseen, read_group, read_token}
-use Rattle.wat_types.proofs.Looks.{At, opens, closes, takes_word, word_seen, close_no_word, second_word, takes_name, name_seen, close_empty, open_filled, word_filled}
-use Rattle.wat_types.proofs.Read.{Rule, word_is}
-use Rattle.wat_types.proofs.StandardWords.{i32_is, i64_is, f32_is, f64_is, module_is, type_is, func_is, param_is, result_is}
+use Rattle.wat_lexer_parser.specs.rules.FormatTypes.{keyword, a_keyword}
+use Rattle.wat_types.specs.Grammar.{IsOpen, IsClose, IsWord, IsName, Star, Val, i32, i64, f32, f64, Param, Returns, returns as returned, Func, signature_of, Definition, Module}
+use Rattle.wat_types.specs.Grammar as grammar
 
--- A keyword, and a number type.
+abbrev spells_by : Bool → Option (Result (Unit {0}) Report)
+spells_by b = if b then Some (Ok tt) else None
 
-keyword_spelled : (s : Source) (p d : ℕ) (w : List ℕ) (t : Token) (q : ℕ) → shown s p no_names ≡ Ok (Some (t, q)) → IsWord s.setting.text w t → (v : ℕ) × Got (kw w s p no_names d) v q
+same_word : (a w : List ℕ) (b : Bool) (v : Unit {0}) → bytes_eq a w ≡ b → spells_by b ≡ Some (Ok v) → a ≡ w
+same_word a w true v e h = (bytes_eq-Decides a w).0 e
+same_word a w false v e h = cc
+
+spelled_word : (x w : List ℕ) (t : Token) (k : TokenKind) (v : Unit {0}) → spelling as_keyword w x t k ≡ Some (Ok v) → (k ≡ Keyword) × (token_text x t ≡ w)
+spelled_word x w t Keyword v e = (refl, same_word (token_text x t) w (bytes_eq (token_text x t) w) v refl e)
+spelled_word x w t k v e = cc
+
+word_read : (x w u : List ℕ) (t : Token) → IsWord x u t → spelling as_keyword w x t t.kind ≡ spells_by (bytes_eq u w)
+word_read x w u t h = ap (spelling as_keyword w x t) h.kind ∙ ap (λ a. spells_by (bytes_eq a w)) h.spells
+
+-- A keyword.
+
+one_word : (g : Ground) (w : List ℕ) (ts : List Token) (v : Unit {0}) (r : List Token) → One (spelling as_keyword w) g ts v r → (t : Token) × (t ∷ r ≡ ts) × IsWord g.text w t
+one_word g w _ v r (one {t = t} e) = let k = spelled_word g.text w t t.kind v e in (t, refl, record { kind = k.0; spells = k.1 })
+
+word_of_rule : (g : Ground) (w : List ℕ) (ts : List Token) (n : ℕ) (r : List Token) → (keyword w).rule g ts n r → (t : Token) × (t ∷ r ≡ ts) × IsWord g.text w t
 unfolding keyword
-keyword_spelled s p d w t q e h =
-    let message = codes "expected keyword " ++ quoted false w in
-    let one = token (spelling as_keyword w) message in
-    let a = read_token (spelling as_keyword w) message s p no_names d tt q (takes_word s p no_names w t q e h) in
-    let b = read_mapped {W = Unit {0} × ℕ} (λ v. (v, current_span s p no_names)) (one s p no_names d) tt q a in
-    (current_span s p no_names, read_mapped {V = Unit {0} × ℕ} (λ v. v.1) (spanned one s p no_names d) (tt, current_span s p no_names) q b)
+word_of_rule g w ts n r h = one_word g w ts h.1.0 r h.1.1
 
--- the same of a standard word
-standard_spelled : (s : Source) (p d : ℕ) (w u : List ℕ) (t : Token) (q : ℕ) → w ≡ u → shown s p no_names ≡ Ok (Some (t, q)) → IsWord s.setting.text u t → (v : ℕ) × Got (kw w s p no_names d) v q
-standard_spelled s p d w u t q i e h = keyword_spelled s p d w t q e (word_is s.setting.text u w t (sym i) h)
+rule_of_word : (g : Ground) (w : List ℕ) (t : Token) (r : List Token) → IsWord g.text w t → (keyword w).rule g (t ∷ r) t.offset r
+unfolding keyword
+rule_of_word g w t r h = ((tt, t.offset), (tt, one (word_read g.text w w t h ∙ ap spells_by ((bytes_eq-Decides w w).1 refl)), refl), refl)
 
-number_type_spelled : (s : Source) (p d : ℕ) (v : ValType) (w u : List ℕ) (t : Token) (q : ℕ) → w ≡ u → shown s p no_names ≡ Ok (Some (t, q)) → IsWord s.setting.text u t → Got (number_type v w s p no_names d) v q
-number_type_spelled s p d v w u t q i e h =
-    let k = standard_spelled s p d w u t q i e h in
-    read_mapped (λ at. v) (kw w s p no_names d) k.0 q k.1
+seen_by : (b : Bool) → told_word (spells_by b) ≡ Ok b
+seen_by true = refl
+seen_by false = refl
 
--- whether a standard word is seen where a keyword spells another, or it
-seen_as : (s : Source) (p : ℕ) (w u z : List ℕ) (t : Token) (q : ℕ) (b : Bool) → w ≡ u → bytes_eq z u ≡ b → shown s p no_names ≡ Ok (Some (t, q)) → IsWord s.setting.text z t → sees w s p no_names ≡ Ok b
-seen_as s p w u z t q b i c e h = word_seen s p no_names w z t q e h ∙ ap (λ w. Ok (bytes_eq z w)) i ∙ ap Ok c
+sees_other : (g : Ground) (w u : List ℕ) (b : Bool) (t : Token) (r : List Token) → bytes_eq u w ≡ b → IsWord g.text u t → (a_keyword w).look g (t ∷ r) ≡ Ok b
+sees_other g w u b t r e h = ap told_word (word_read g.text w u t h) ∙ seen_by (bytes_eq u w) ∙ ap Ok e
 
--- wherever the tokens of a rule are shown, the reading gets its value
-abbrev IsRead : {V : Type 0} → Source → ℕ → Reading V → Rule V → Type 0
-IsRead {V} s d m One = (p : ℕ) (us : List Token) (v : V) (r : List Token) → At s p us → One us v r → (q : ℕ) × Got (m s p no_names d) v q × At s q r
+-- Values.
 
-val_spelled : (s : Source) (d : ℕ) → IsRead s d val (Val s.setting.text)
+val_is : (g : Ground) (ts : List Token) (v : ValType) (r : List Token) → val.rule g ts v r → Val g.text ts v r
 unfolding val
-val_spelled s d p us v r at (i32 {t} h) =
-    let fourth = where_seen (sees f64_word) free (number_type F64 f64_word) no_val in
-    let third = where_seen (sees f32_word) free (number_type F32 f32_word) fourth in
-    let second = where_seen (sees i64_word) free (number_type I64 i64_word) third in
-    let g = number_type_spelled s p d I32 i32_word (codes "i32") t at.0 i32_is at.1 h in
-    (at.0, read_seen (sees i32_word) free (number_type I32 i32_word) second s p no_names d I32 at.0 (seen_as s p i32_word (codes "i32") (codes "i32") t at.0 true i32_is refl at.1 h) g, at.2)
-val_spelled s d p us v r at (i64 {t} h) =
-    let fourth = where_seen (sees f64_word) free (number_type F64 f64_word) no_val in
-    let third = where_seen (sees f32_word) free (number_type F32 f32_word) fourth in
-    let second = where_seen (sees i64_word) free (number_type I64 i64_word) third in
-    let g = number_type_spelled s p d I64 i64_word (codes "i64") t at.0 i64_is at.1 h in
-    let k = read_seen (sees i64_word) free (number_type I64 i64_word) third s p no_names d I64 at.0 (seen_as s p i64_word (codes "i64") (codes "i64") t at.0 true i64_is refl at.1 h) g in
-    (at.0, read_unseen (sees i32_word) free (number_type I32 i32_word) second s p no_names d I64 at.0 (seen_as s p i32_word (codes "i32") (codes "i64") t at.0 false i32_is refl at.1 h) k, at.2)
-val_spelled s d p us v r at (f32 {t} h) =
-    let fourth = where_seen (sees f64_word) free (number_type F64 f64_word) no_val in
-    let third = where_seen (sees f32_word) free (number_type F32 f32_word) fourth in
-    let second = where_seen (sees i64_word) free (number_type I64 i64_word) third in
-    let g = number_type_spelled s p d F32 f32_word (codes "f32") t at.0 f32_is at.1 h in
-    let k = read_seen (sees f32_word) free (number_type F32 f32_word) fourth s p no_names d F32 at.0 (seen_as s p f32_word (codes "f32") (codes "f32") t at.0 true f32_is refl at.1 h) g in
-    let l = read_unseen (sees i64_word) free (number_type I64 i64_word) third s p no_names d F32 at.0 (seen_as s p i64_word (codes "i64") (codes "f32") t at.0 false i64_is refl at.1 h) k in
-    (at.0, read_unseen (sees i32_word) free (number_type I32 i32_word) second s p no_names d F32 at.0 (seen_as s p i32_word (codes "i32") (codes "f32") t at.0 false i32_is refl at.1 h) l, at.2)
-val_spelled s d p us v r at (f64 {t} h) =
-    let fourth = where_seen (sees f64_word) free (number_type F64 f64_word) no_val in
-    let third = where_seen (sees f32_word) free (number_type F32 f32_word) fourth in
-    let second = where_seen (sees i64_word) free (number_type I64 i64_word) third in
-    let g = number_type_spelled s p d F64 f64_word (codes "f64") t at.0 f64_is at.1 h in
-    let k = read_seen (sees f64_word) free (number_type F64 f64_word) no_val s p no_names d F64 at.0 (seen_as s p f64_word (codes "f64") (codes "f64") t at.0 true f64_is refl at.1 h) g in
-    let l = read_unseen (sees f32_word) free (number_type F32 f32_word) fourth s p no_names d F64 at.0 (seen_as s p f32_word (codes "f32") (codes "f64") t at.0 false f32_is refl at.1 h) k in
-    let n = read_unseen (sees i64_word) free (number_type I64 i64_word) third s p no_names d F64 at.0 (seen_as s p i64_word (codes "i64") (codes "f64") t at.0 false i64_is refl at.1 h) l in
-    (at.0, read_unseen (sees i32_word) free (number_type I32 i32_word) second s p no_names d F64 at.0 (seen_as s p i32_word (codes "i32") (codes "f64") t at.0 false i32_is refl at.1 h) n, at.2)
+val_is g ts v r h = elim h [
+  | inl k ↦ let w = word_of_rule g (codes "i32") ts k.1.0 r k.1.1 in subst (λ v. Val g.text ts v r) k.1.2 (subst (λ ts. Val g.text ts I32 r) w.1 (i32 w.2))
+  | inr h ↦ elim h.1 [
+    | inl k ↦ let w = word_of_rule g (codes "i64") ts k.1.0 r k.1.1 in subst (λ v. Val g.text ts v r) k.1.2 (subst (λ ts. Val g.text ts I64 r) w.1 (i64 w.2))
+    | inr h ↦ elim h.1 [
+      | inl k ↦ let w = word_of_rule g (codes "f32") ts k.1.0 r k.1.1 in subst (λ v. Val g.text ts v r) k.1.2 (subst (λ ts. Val g.text ts F32 r) w.1 (f32 w.2))
+      | inr h ↦ elim h.1 [
+        | inl k ↦ let w = word_of_rule g (codes "f64") ts k.1.0 r k.1.1 in subst (λ v. Val g.text ts v r) k.1.2 (subst (λ ts. Val g.text ts F64 r) w.1 (f64 w.2))
+        | inr h ↦ absurd h.1
+      ]
+    ]
+  ]
+]
 
--- what a rule begins with is neither `)` nor the end, nor an identifier
-val_filled : (s : Source) (p : ℕ) (us : List Token) (v : ValType) (r : List Token) → At s p us → Val s.setting.text us v r → empty_of (shown s p no_names) ≡ false
-val_filled s p us v r at (i32 {t} h) = word_filled s p no_names (codes "i32") t at.0 at.1 h
-val_filled s p us v r at (i64 {t} h) = word_filled s p no_names (codes "i64") t at.0 at.1 h
-val_filled s p us v r at (f32 {t} h) = word_filled s p no_names (codes "f32") t at.0 at.1 h
-val_filled s p us v r at (f64 {t} h) = word_filled s p no_names (codes "f64") t at.0 at.1 h
+is_val : (g : Ground) (ts : List Token) (v : ValType) (r : List Token) → Val g.text ts v r → val.rule g ts v r
+unfolding val
+is_val g _ _ r (i32 {t = t} h) = inl (sees_other g (codes "i32") (codes "i32") true t r refl h, (t.offset, rule_of_word g (codes "i32") t r h, refl))
+is_val g _ _ r (i64 {t = t} h) =
+    inr (sees_other g (codes "i32") (codes "i64") false t r refl h, inl (sees_other g (codes "i64") (codes "i64") true t r refl h, (t.offset, rule_of_word g (codes "i64") t r h, refl)))
+is_val g _ _ r (f32 {t = t} h) =
+    inr (sees_other g (codes "i32") (codes "f32") false t r refl h, inr (sees_other g (codes "i64") (codes "f32") false t r refl h, inl (sees_other g (codes "f32") (codes "f32") true t r refl h, (t.offset, rule_of_word g (codes "f32") t r h, refl))))
+is_val g _ _ r (f64 {t = t} h) =
+    inr (sees_other g (codes "i32") (codes "f64") false t r refl h, inr (sees_other g (codes "i64") (codes "f64") false t r refl h, inr (sees_other g (codes "f32") (codes "f64") false t r refl h,
+    inl (sees_other g (codes "f64") (codes "f64") true t r refl h, (t.offset, rule_of_word g (codes "f64") t r h, refl)))))
 
-val_no_name : (s : Source) (p : ℕ) (us : List Token) (v : ValType) (r : List Token) → At s p us → Val s.setting.text us v r → an_identifier s p no_names ≡ Ok false
-val_no_name s p us v r at (i32 {t} h) = name_seen s p no_names t at.0 Keyword at.1 h.kind
-val_no_name s p us v r at (i64 {t} h) = name_seen s p no_names t at.0 Keyword at.1 h.kind
-val_no_name s p us v r at (f32 {t} h) = name_seen s p no_names t at.0 Keyword at.1 h.kind
-val_no_name s p us v r at (f64 {t} h) = name_seen s p no_names t at.0 Keyword at.1 h.kind
+-- Lists: one lemma each way for any rule.
 
-vals_no_name : (s : Source) (p : ℕ) (us : List Token) (vs : List ValType) (c : Token) (r : List Token) → At s p us → Star (Val s.setting.text) us vs (c ∷ r) → IsClose c → an_identifier s p no_names ≡ Ok false
-vals_no_name s p us vs c r at none h = name_seen s p no_names c at.0 RParen at.1 h
-vals_no_name s p us vs c r at (more {r = q} {v = v} one others) h = val_no_name s p us v q at one
+star_of : {V : Type 0} (g : Ground) (look : Telling) (R : Rule V) (One : List Token → V → List Token → Type 0) → ((ts : List Token) (v : V) (r : List Token) → R g ts v r → One ts v r)
+    → (ts : List Token) (vs : List V) (r : List Token) → While look R g ts vs r → Star One ts vs r
+star_of g look R One f ts _ _ (rules.none e) = grammar.none
+star_of g look R One f ts _ r (rules.more {r = us} {v = v} {vs = vs} e h w) = grammar.more (f ts v us h) (star_of g look R One f us vs r w)
 
--- where neither is shown, tokens are left
-within_tokens : (s : Source) (p : ℕ) (us : List Token) → At s p us → empty_of (shown s p no_names) ≡ false → p < length s.tokens
-within_tokens s p [] at e = let k : true ≡ false = sym (ap empty_of at) ∙ e in cc
-within_tokens s p (t ∷ us) at e =
-    let k = forward_shown s p no_names t at.0 at.1 in
-    let a = k.0 in
-    let b = k.1 in
-    omega (arith, a, b)
+while_of : {V : Type 0} (g : Ground) (look : Telling) (R : Rule V) (One : List Token → V → List Token → Type 0) → ((ts : List Token) (v : V) (r : List Token) → One ts v r → R g ts v r × (look g ts ≡ Ok true))
+    → (ts : List Token) (vs : List V) (r : List Token) → look g r ≡ Ok false → Star One ts vs r → While look R g ts vs r
+while_of g look R One f ts _ _ e grammar.none = rules.none e
+while_of g look R One f ts _ r e (grammar.more {r = us} {v = v} {vs = vs} h w) = let k = f ts v us h in rules.more k.1 k.0 (while_of g look R One f us vs r e w)
 
--- Many: a reading gets what is spelled before a place where `)` is shown.
+vals_is : (g : Ground) (ts : List Token) (vs : List ValType) (r : List Token) → vals.rule g ts vs r → Star (Val g.text) ts vs r
+vals_is g ts vs r w = star_of g tells_more val.rule (Val g.text) (val_is g) ts vs r w
 
-abbrev IsFilled : {V : Type 0} → Source → Rule V → Type 0
-IsFilled {V} s One = (p : ℕ) (us : List Token) (v : V) (r : List Token) → At s p us → One us v r → empty_of (shown s p no_names) ≡ false
-
-got_nothing : {V : Type 0} (m : Reading V) (n : ℕ) (s : Source) (p d : ℕ) → empty_of (shown s p no_names) ≡ true → Got (up_to n m s p no_names d) [] p
-got_nothing m zero s p d e = record { answer = refl; behind = refl }
-got_nothing m (suc n) s p d e =
-    let o = also_first m (up_to n m) s p no_names d in
-    record { answer = ap (λ b. (if b then value_at [] p false else o).answer) e; behind = ap (λ b. (if b then value_at [] p false else o).behind) e }
-
-got_more : {V : Type 0} (m : Reading V) (n : ℕ) (s : Source) (p d : ℕ) (v : V) (a : ℕ) (vs : List V) (q : ℕ) → empty_of (shown s p no_names) ≡ false → Got (m s p no_names d) v a → Got (up_to n m s a no_names d) vs q
-    → Got (up_to (suc n) m s p no_names d) (v ∷ vs) q
-got_more {V} m n s p d v a vs q e g h =
-    let rest : V → Reading (List V) = λ v. mapped (λ vs. v ∷ vs) (up_to n m) in
-    let o = also_first m (up_to n m) s p no_names d in
-    let k = read_both m rest s p no_names d v a (v ∷ vs) q g (read_mapped (λ vs. v ∷ vs) (up_to n m s a no_names d) vs q h) in
-    record { answer = ap (λ b. (if b then value_at [] p false else o).answer) e ∙ k.answer; behind = ap (λ b. (if b then value_at [] p false else o).behind) e ∙ k.behind }
-
-up_to_spelled : {V : Type 0} (m : Reading V) (One : Rule V) (s : Source) (d : ℕ) → Advances m → IsRead s d m One → IsFilled s One → (r : List Token) → ((q : ℕ) → At s q r → empty_of (shown s q no_names) ≡ true)
-    → (n p : ℕ) (us : List Token) (vs : List V) → At s p us → Star One us vs r → length s.tokens < n + p → (q : ℕ) × Got (up_to n m s p no_names d) vs q × At s q r
-up_to_spelled m One s d adv one filled r stops n p us vs at none l = (p, got_nothing m n s p d (stops p at), at)
-up_to_spelled m One s d adv one filled r stops zero p us vs at (more {r = t} {v = v} first others) l =
-    absurd (omega (arith, l, within_tokens s p us at (filled p us v t at first)))
-up_to_spelled m One s d adv one filled r stops (suc n) p us vs at (more {r = t} {v = v} {vs = ws} first others) l =
-    let e = filled p us v t at first in
-    let a = one p us v t at first in
-    let on = adv s p no_names d v a.1.answer in
-    let behind = a.1.behind in
-    let k = up_to_spelled m One s d adv one filled r stops n a.0 t ws a.2 others (omega (arith, l, on, behind)) in
-    (k.0, got_more m n s p d v a.0 ws k.0 e a.1 k.1, k.2)
-
-many_spelled : {V : Type 0} (m : Reading V) (One : Rule V) (s : Source) (d : ℕ) → Advances m → IsRead s d m One → IsFilled s One → (p : ℕ) (us : List Token) (vs : List V) (c : Token) (r : List Token) → At s p us
-    → Star One us vs (c ∷ r) → IsClose c → (q : ℕ) × Got (many m s p no_names d) vs q × At s q (c ∷ r)
-unfolding many
-many_spelled m One s d adv one filled p us vs c r at h close =
-    up_to_spelled m One s d adv one filled (c ∷ r) (λ q at. close_empty s q no_names c at.0 at.1 close) (suc (length s.tokens)) p us vs at h (omega arith)
-
--- The same as long as a type is seen.
-
-abbrev IsSeen : {V : Type 0} → Source → Sight → Rule V → Type 0
-IsSeen {V} s sight One = (p : ℕ) (us : List Token) (v : V) (r : List Token) → At s p us → One us v r → sight s p no_names ≡ Ok true
-
-joined_nothing : {V : Type 0} (n : ℕ) (sight : Sight) (takes : TakesAt) (m : Reading (List V)) (s : Source) (p d : ℕ) → sight s p no_names ≡ Ok false → Got (joined_up_to n sight takes m s p no_names d) [] p
-joined_nothing zero sight takes m s p d e = record { answer = refl; behind = refl }
-joined_nothing (suc n) sight takes m s p d e =
-    read_unseen sight takes (also_joined m (joined_up_to n sight takes m)) (give []) s p no_names d [] p e (record { answer = refl; behind = refl })
-
-joined_more : {V : Type 0} (n : ℕ) (sight : Sight) (takes : TakesAt) (m : Reading (List V)) (s : Source) (p d : ℕ) (vs : List V) (a : ℕ) (ws : List V) (q : ℕ) → sight s p no_names ≡ Ok true → Got (m s p no_names d) vs a
-    → Got (joined_up_to n sight takes m s a no_names d) ws q → Got (joined_up_to (suc n) sight takes m s p no_names d) (vs ++ ws) q
-joined_more {V} n sight takes m s p d vs a ws q e g h =
-    let rest : List V → Reading (List V) = λ vs. mapped (λ ws. vs ++ ws) (joined_up_to n sight takes m) in
-    let k = read_both m rest s p no_names d vs a (vs ++ ws) q g (read_mapped (λ ws. vs ++ ws) (joined_up_to n sight takes m s a no_names d) ws q h) in
-    read_seen sight takes (also_joined m (joined_up_to n sight takes m)) (give []) s p no_names d (vs ++ ws) q e (read_also true (and_then m rest s p no_names d) (vs ++ ws) q k)
-
-joined_up_to_spelled : {V : Type 0} (sight : Sight) (takes : TakesAt) (m : Reading (List V)) (One : Rule (List V)) (s : Source) (d : ℕ) → Advances m → IsRead s d m One → IsFilled s One → IsSeen s sight One
-    → (r : List Token) → ((q : ℕ) → At s q r → sight s q no_names ≡ Ok false) → (n p : ℕ) (us : List Token) (vss : List (List V)) → At s p us → Star One us vss r → length s.tokens < n + p
-    → (q : ℕ) × Got (joined_up_to n sight takes m s p no_names d) (flat_map (λ vs. vs) vss) q × At s q r
-joined_up_to_spelled sight takes m One s d adv one filled seen r stops n p us vss at none l = (p, joined_nothing n sight takes m s p d (stops p at), at)
-joined_up_to_spelled sight takes m One s d adv one filled seen r stops zero p us vss at (more {r = t} {v = v} first others) l =
-    absurd (omega (arith, l, within_tokens s p us at (filled p us v t at first)))
-joined_up_to_spelled sight takes m One s d adv one filled seen r stops (suc n) p us vss at (more {r = t} {v = v} {vs = wss} first others) l =
-    let e = seen p us v t at first in
-    let a = one p us v t at first in
-    let on = adv s p no_names d v a.1.answer in
-    let behind = a.1.behind in
-    let k = joined_up_to_spelled sight takes m One s d adv one filled seen r stops n a.0 t wss a.2 others (omega (arith, l, on, behind)) in
-    (k.0, joined_more n sight takes m s p d v a.0 (flat_map (λ vs. vs) wss) k.0 e a.1 k.1, k.2)
-
-joined_spelled : {V : Type 0} (sight : Sight) (takes : TakesAt) (m : Reading (List V)) (One : Rule (List V)) (s : Source) (d : ℕ) → Advances m → IsRead s d m One → IsFilled s One → IsSeen s sight One
-    → (r : List Token) → ((q : ℕ) → At s q r → sight s q no_names ≡ Ok false) → (p : ℕ) (us : List Token) (vss : List (List V)) → At s p us → Star One us vss r
-    → (q : ℕ) × Got (joined_while sight takes m s p no_names d) (flat_map (λ vs. vs) vss) q × At s q r
-unfolding joined_while
-joined_spelled sight takes m One s d adv one filled seen r stops p us vss at h = joined_up_to_spelled sight takes m One s d adv one filled seen r stops (suc (length s.tokens)) p us vss at h (omega arith)
-
--- An identifier or none.
-
-name_spelled : (s : Source) (p d : ℕ) (t : Token) (q : ℕ) → shown s p no_names ≡ Ok (Some (t, q)) → IsName s.setting.text t → (i : Spelled) × Got (name s p no_names d) (Some i) q
-name_spelled s p d t q e h =
-    let one = token as_id (codes "expected an identifier") in
-    let f : List ℕ × ℕ → Spelled = λ v. record { name = v.0; generation = 0; span = v.1 } in
-    let a = read_token as_id (codes "expected an identifier") s p no_names d h.name q (takes_name s p no_names t q e h) in
-    let b = read_mapped {W = List ℕ × ℕ} (λ v. (v, current_span s p no_names)) (one s p no_names d) h.name q a in
-    let i = f (h.name, current_span s p no_names) in
-    let c = read_mapped {V = List ℕ × ℕ} f (spanned one s p no_names d) (h.name, current_span s p no_names) q b in
-    let k = read_mapped {V = Spelled} {W = Option Spelled} Some (identifier s p no_names d) i q c in
-    (i, read_seen an_identifier free (mapped Some identifier) (give None) s p no_names d (Some i) q (name_seen s p no_names t q Id e h.kind) k)
-
-no_name_spelled : (s : Source) (p d : ℕ) → an_identifier s p no_names ≡ Ok false → Got (name s p no_names d) None p
-no_name_spelled s p d e = read_unseen an_identifier free (mapped Some identifier) (give None) s p no_names d None p e (record { answer = refl; behind = refl })
-
--- The rules with parentheses.
-
-vals_spelled : (s : Source) (p d : ℕ) (us : List Token) (vs : List ValType) (c : Token) (r : List Token) → At s p us → Star (Val s.setting.text) us vs (c ∷ r) → IsClose c → (q : ℕ) × Got (vals s p no_names d) vs q × At s q (c ∷ r)
-vals_spelled s p d us vs c r at h close = many_spelled val (Val s.setting.text) s d advances_val (val_spelled s d) (val_filled s) p us vs c r at h close
-
-param_spelled : (s : Source) (d : ℕ) → IsRead s d (group param) (Param s.setting.text)
-unfolding param
-param_spelled s d p us vs r at (grammar.named {o} {w} {n} {c} {ts} {v = v} opening word is one close) =
-    let b = at.2 in
-    let e = b.2 in
-    let k = standard_spelled s at.0 (d + 1) param_word (codes "param") w b.0 param_is b.1 word in
-    let i = name_spelled s b.0 (d + 1) n e.0 e.1 is in
-    let g = val_spelled s (d + 1) e.0 ts v (c ∷ r) e.2 one in
-    let x = read_also true (mapped (λ v. v ∷ []) val s e.0 no_names (d + 1)) (v ∷ []) g.0 (read_mapped (λ v. v ∷ []) (val s e.0 no_names (d + 1)) v g.0 g.1) in
-    let y = read_both name named_or_all s b.0 no_names (d + 1) (Some i.0) e.0 (v ∷ []) g.0 i.1 x in
-    let z = read_both (kw param_word) (λ at. and_then name named_or_all) s at.0 no_names (d + 1) k.0 b.0 (v ∷ []) g.0 k.1 y in
-    (g.2.0, read_group param s p no_names d at.0 g.0 (v ∷ []) g.2.0 (opens s p no_names o at.0 at.1 opening) z (closes s g.0 no_names c g.2.0 g.2.1 close), g.2.2)
-param_spelled s d p us vs r at (grammar.listed {o} {w} {c} {ts} opening word all close) =
-    let b = at.2 in
-    let k = standard_spelled s at.0 (d + 1) param_word (codes "param") w b.0 param_is b.1 word in
-    let i = no_name_spelled s b.0 (d + 1) (vals_no_name s b.0 ts vs c r b.2 all close) in
-    let g = vals_spelled s b.0 (d + 1) ts vs c r b.2 all close in
-    let y = read_both name named_or_all s b.0 no_names (d + 1) None b.0 vs g.0 i g.1 in
-    let z = read_both (kw param_word) (λ at. and_then name named_or_all) s at.0 no_names (d + 1) k.0 b.0 vs g.0 k.1 y in
-    (g.2.0, read_group param s p no_names d at.0 g.0 vs g.2.0 (opens s p no_names o at.0 at.1 opening) z (closes s g.0 no_names c g.2.0 g.2.1 close), g.2.2)
-
-returns_spelled : (s : Source) (d : ℕ) → IsRead s d (group returns) (Returns s.setting.text)
+-- (result val*)
+returns_is : (g : Ground) (ts : List Token) (vs : List ValType) (r : List Token) → Group returns.rule g ts vs r → Returns g.text ts vs r
 unfolding returns
-returns_spelled s d p us vs r at (grammar.returns {o} {w} {c} {ts} opening word all close) =
-    let b = at.2 in
-    let k = standard_spelled s at.0 (d + 1) result_word (codes "result") w b.0 result_is b.1 word in
-    let g = vals_spelled s b.0 (d + 1) ts vs c r b.2 all close in
-    let z = read_both (kw result_word) (λ at. vals) s at.0 no_names (d + 1) k.0 b.0 vs g.0 k.1 g.1 in
-    (g.2.0, read_group returns s p no_names d at.0 g.0 vs g.2.0 (opens s p no_names o at.0 at.1 opening) z (closes s g.0 no_names c g.2.0 g.2.1 close), g.2.2)
+returns_is g _ vs r (rules.group {o = o} {c = c} {ts = ts} opens h closes) =
+    let w = word_of_rule g (codes "result") ts h.0 h.1 h.2 in
+    subst (λ ts. Returns g.text (o ∷ ts) vs r) w.1 (returned opens w.2 (vals_is g h.1 vs (c ∷ r) h.3) closes)
 
-param_filled : (s : Source) → IsFilled s (Param s.setting.text)
-param_filled s p us v r at (grammar.named {o} opening word is one close) = open_filled s p no_names o at.0 at.1 opening
-param_filled s p us v r at (grammar.listed {o} opening word all close) = open_filled s p no_names o at.0 at.1 opening
-
-returns_filled : (s : Source) → IsFilled s (Returns s.setting.text)
-returns_filled s p us v r at (grammar.returns {o} opening word all close) = open_filled s p no_names o at.0 at.1 opening
-
-definition_filled : (s : Source) → IsFilled s (Definition s.setting.text)
-definition_filled s p us v r at (grammar.identified {o} opening word is one close) = open_filled s p no_names o at.0 at.1 opening
-definition_filled s p us v r at (grammar.plain {o} opening word one close) = open_filled s p no_names o at.0 at.1 opening
-
-param_seen : (s : Source) → IsSeen s (second (sees param_word)) (Param s.setting.text)
-param_seen s p us v r at (grammar.named {o} {w} opening word is one close) =
-    second_word s p no_names param_word o at.0 at.1 ∙ seen_as s at.0 param_word (codes "param") (codes "param") w at.2.0 true param_is refl at.2.1 word
-param_seen s p us v r at (grammar.listed {o} {w} opening word all close) =
-    second_word s p no_names param_word o at.0 at.1 ∙ seen_as s at.0 param_word (codes "param") (codes "param") w at.2.0 true param_is refl at.2.1 word
-
-returns_seen : (s : Source) → IsSeen s more_comes (Returns s.setting.text)
-returns_seen s p us v r at h = ap (λ b. Ok (not b)) (returns_filled s p us v r at h)
-
--- no param is seen where a result stands, nor at the end of a func
-no_param : (s : Source) (us : List Token) (rs : List (List ValType)) (c e : Token) (r : List Token) → Star (Returns s.setting.text) us rs (c ∷ e ∷ r) → IsClose c → IsClose e → (q : ℕ) → At s q us → second (sees param_word) s q no_names ≡ Ok false
-no_param s us rs c e r none close end q at = second_word s q no_names param_word c at.0 at.1 ∙ close_no_word s at.0 no_names param_word e at.2.0 at.2.1 end
-no_param s us rs c e r (more first others) close end q at = by first at
+is_returns : (g : Ground) (ts : List Token) (vs : List ValType) (r : List Token) → Returns g.text ts vs r → Group returns.rule g ts vs r × (tells_more g ts ≡ Ok true)
+unfolding returns
+is_returns g _ vs r (returned {w = w} {c = c} {ts = ts} opens h vals closes) =
+    (rules.group opens (w.offset, ts, rule_of_word g (codes "result") w ts h, while_of g tells_more val.rule (Val g.text) (λ ts v r k. (is_val g ts v r k, val_more g ts v r k)) ts vs (c ∷ r) (ap (λ k. Ok (not (is_close k))) closes) vals) closes, ap (λ k. Ok (not (is_close k))) opens)
   where
-    by : {us t : List Token} {v : List ValType} → Returns s.setting.text us v t → At s q us → second (sees param_word) s q no_names ≡ Ok false
-    by (grammar.returns {o} {w} opening word all close) at =
-        second_word s q no_names param_word o at.0 at.1 ∙ seen_as s at.0 param_word (codes "param") (codes "result") w at.2.0 false param_is refl at.2.1 word
+    val_more : (g : Ground) (ts : List Token) (v : ValType) (r : List Token) → Val g.text ts v r → tells_more g ts ≡ Ok true
+    val_more g _ _ r (i32 h) = ap (λ k. Ok (not (is_close k))) h.kind
+    val_more g _ _ r (i64 h) = ap (λ k. Ok (not (is_close k))) h.kind
+    val_more g _ _ r (f32 h) = ap (λ k. Ok (not (is_close k))) h.kind
+    val_more g _ _ r (f64 h) = ap (λ k. Ok (not (is_close k))) h.kind
 
-func_spelled : (s : Source) (p d : ℕ) (us : List Token) (f : Signature) (e : Token) (r : List Token) → At s p us → Func s.setting.text us f (e ∷ r) → IsClose e → (q : ℕ) × Got (group func s p no_names d) f q × At s q (e ∷ r)
+-- An identifier.
+
+name_good : (x : List ℕ) (t : Token) (a : Result (List ℕ) LexError) (v : List ℕ) → ◌≡◌ {A = Option (Result (List ℕ) Report)} (Some (name_or_report x t a)) (Some (Ok v)) → a ≡ Ok v
+name_good x t (Ok n) v e = let k : n ≡ v = cc in ap Ok k
+name_good x t (Err f) v e = cc
+
+named_id : (x : List ℕ) (t : Token) (k : TokenKind) (v : List ℕ) → as_id x t k ≡ Some (Ok v) → (k ≡ Id) × (name_value EmptyId (word_of x t) ≡ Ok v)
+named_id x t Id v e = (refl, name_good x t (name_value EmptyId (word_of x t)) v e)
+named_id x t k v e = cc
+
+named_got : (b : Bool) (o : Option (Result (List ℕ) Report)) (v : List ℕ × Bool) → named_by b o ≡ Some (Ok v) → o ≡ Some (Ok v.0)
+named_got b None v e = cc
+named_got b (Some (Ok n)) v e = let k : ◌≡◌ {A = List ℕ × Bool} (n, b) v = cc in ap (λ v. Some (Ok v.0)) k
+named_got b (Some (Err f)) v e = cc
+
+one_name : (g : Ground) (ts : List Token) (v : List ℕ × Bool) (r : List Token) → One as_owned_id g ts v r → (t : Token) × (t ∷ r ≡ ts) × IsName g.text t
+one_name g _ v r (one {t = t} e) =
+    let k = named_id g.text t t.kind v.0 (named_got (name_takes g.text t) (as_id g.text t t.kind) v e) in
+    (t, refl, record { kind = k.0; name = v.0; named = k.1 })
+
+-- (param id val) or (param val*)
+param_by : (g : Ground) (o w c : Token) (ts us : List Token) (n : Option Spelled) (vs : List ValType) (r : List Token) → IsOpen o → IsWord g.text (codes "param") w → IsClose c → name.rule g ts n us → (named_or_all n).rule g us vs (c ∷ r) → Param g.text (o ∷ w ∷ ts) vs r
+param_by g o w c ts us (Some n) vs r opens word closes h k = elim h [
+  | inl h ↦
+    let i = one_name g ts h.1.1.1.0 us h.1.1.1.1 in
+    subst (λ vs. Param g.text (o ∷ w ∷ ts) vs r) k.2 (subst (λ ts. Param g.text (o ∷ w ∷ ts) (k.0 ∷ []) r) i.1 (grammar.named opens word i.2 (val_is g us k.0 (c ∷ r) k.1) closes))
+  | inr h ↦ let e = h.1.0 in cc
+]
+param_by g o w c ts us None vs r opens word closes h k = elim h [
+  | inl h ↦ let e = h.1.2 in cc
+  | inr h ↦ grammar.listed opens word (subst (λ ts. Star (Val g.text) ts vs (c ∷ r)) (sym h.1.1) (vals_is g us vs (c ∷ r) k)) closes
+]
+
+param_is : (g : Ground) (ts : List Token) (vs : List ValType) (r : List Token) → Group param.rule g ts vs r → Param g.text ts vs r
+unfolding param
+param_is g _ vs r (rules.group {o = o} {c = c} {ts = ts} opens h closes) =
+    let w = word_of_rule g (codes "param") ts h.0 h.1 h.2 in
+    subst (λ ts. Param g.text (o ∷ ts) vs r) w.1 (param_by g o w.0 c h.1 h.3.1 h.3.0 vs r opens w.2 closes h.3.2 h.3.3)
+
+-- (func param* result*)
+func_is : (g : Ground) (ts : List Token) (f : Signature) (r : List Token) → Group func.rule g ts f r → Func g.text ts f r
 unfolding func
-func_spelled s p d us f e r at (grammar.func {o} {w} {c} {ts} {us = ws} {ps = ps} {rs = rs} opening word all_params all_results close is) end =
-    let text = s.setting.text in
-    let next : List ValType → Reading Signature = λ ps. mapped (λ rs. record { params = ps; results = rs }) results in
-    let b = at.2 in
-    let k = standard_spelled s at.0 (d + 1) func_word (codes "func") w b.0 func_is b.1 word in
-    let x = joined_spelled (second (sees param_word)) (takes_second free) (group param) (Param text) s (d + 1) (advances_group param forward_param) (param_spelled s (d + 1)) (param_filled s) (param_seen s) ws
-    (no_param s ws rs c e r all_results close end) b.0 ts ps b.2 all_params in
-    let stops : (q : ℕ) → At s q (c ∷ e ∷ r) → more_comes s q no_names ≡ Ok false = λ q at. ap (λ b. Ok (not b)) (close_empty s q no_names c at.0 at.1 close) in
-    let y = joined_spelled more_comes free (group returns) (Returns text) s (d + 1) (advances_group returns forward_returns) (returns_spelled s (d + 1)) (returns_filled s) (returns_seen s) (c ∷ e ∷ r)
-    stops x.0 ws rs x.2 all_results in
-    let pvs = flat_map (λ vs. vs) ps in
-    let rvs = flat_map (λ vs. vs) rs in
-    let g = read_mapped {W = Signature} (λ rs. record { params = pvs; results = rs }) (results s x.0 no_names (d + 1)) rvs y.0 y.1 in
-    let h = read_both params next s b.0 no_names (d + 1) pvs x.0 (signature_of ps rs) y.0 x.1 g in
-    let z = read_both (kw func_word) (λ at. and_then params next) s at.0 no_names (d + 1) k.0 b.0 (signature_of ps rs) y.0 k.1 h in
-    let v = subst (λ f. Got (func s at.0 no_names (d + 1)) f y.0) (sym is) z in
-    (y.2.0, read_group func s p no_names d at.0 y.0 f y.2.0 (opens s p no_names o at.0 at.1 opening) v (closes s y.0 no_names c y.2.0 y.2.1 close), y.2.2)
+func_is g _ f r (rules.group {o = o} {c = c} {ts = ts} opens h closes) =
+    let w = word_of_rule g (codes "func") ts h.0 h.1 h.2 in
+    let ps = h.3.2 in
+    let rs = h.3.3 in
+    let is : f ≡ signature_of ps.0 rs.1.0 =
+        sym rs.2 ∙ ap (λ x. record { params = x; results = rs.0 }) (sym ps.2) ∙ ap (λ x. record { params = flat_map (λ vs. vs) ps.0; results = x }) (sym rs.1.2) in
+    subst (λ ts. Func g.text (o ∷ ts) f r) w.1
+    (grammar.func opens w.2 (star_of g _ (Group param.rule) (Param g.text) (param_is g) h.1 ps.0 h.3.1 ps.1) (star_of g tells_more (Group returns.rule) (Returns g.text) (returns_is g) h.3.1 rs.1.0 (c ∷ r) rs.1.1) closes is)
 
-definition_spelled : (s : Source) (d : ℕ) → IsRead s d (group definition) (Definition s.setting.text)
+definition_is : (g : Ground) (ts : List Token) (f : Signature) (r : List Token) → Group definition.rule g ts f r → Definition g.text ts f r
 unfolding definition
-definition_spelled s d p us f r at (grammar.identified {o} {w} {n} {c} {ts} opening word is one close) =
-    let b = at.2 in
-    let e = b.2 in
-    let k = standard_spelled s at.0 (d + 1) type_word (codes "type") w b.0 type_is b.1 word in
-    let i = name_spelled s b.0 (d + 1) n e.0 e.1 is in
-    let g = func_spelled s e.0 (d + 1) ts f c r e.2 one close in
-    let y = read_both name (λ n. group func) s b.0 no_names (d + 1) (Some i.0) e.0 f g.0 i.1 g.1 in
-    let z = read_both (kw type_word) (λ at. and_then name (λ n. group func)) s at.0 no_names (d + 1) k.0 b.0 f g.0 k.1 y in
-    (g.2.0, read_group definition s p no_names d at.0 g.0 f g.2.0 (opens s p no_names o at.0 at.1 opening) z (closes s g.0 no_names c g.2.0 g.2.1 close), g.2.2)
-definition_spelled s d p us f r at (grammar.plain {o} {w} {c} {ts} opening word one close) =
-    let b = at.2 in
-    let k = standard_spelled s at.0 (d + 1) type_word (codes "type") w b.0 type_is b.1 word in
-    let i = no_name_spelled s b.0 (d + 1) (begins b.0 one b.2) in
-    let g = func_spelled s b.0 (d + 1) ts f c r b.2 one close in
-    let y = read_both name (λ n. group func) s b.0 no_names (d + 1) None b.0 f g.0 i g.1 in
-    let z = read_both (kw type_word) (λ at. and_then name (λ n. group func)) s at.0 no_names (d + 1) k.0 b.0 f g.0 k.1 y in
-    (g.2.0, read_group definition s p no_names d at.0 g.0 f g.2.0 (opens s p no_names o at.0 at.1 opening) z (closes s g.0 no_names c g.2.0 g.2.1 close), g.2.2)
-  where
-    begins : {ts t : List Token} {f : Signature} (q : ℕ) → Func s.setting.text ts f t → At s q ts → an_identifier s q no_names ≡ Ok false
-    begins q (grammar.func {o} opening word all_params all_results close is) at = name_seen s q no_names o at.0 LParen at.1 opening
+definition_is g _ f r (rules.group {o = o} {c = c} {ts = ts} opens h closes) =
+    let w = word_of_rule g (codes "type") ts h.0 h.1 h.2 in
+    subst (λ ts. Definition g.text (o ∷ ts) f r) w.1 (elim h.3.2 [
+      | inl k ↦ let i = one_name g h.1 k.1.1.1.0 h.3.1 k.1.1.1.1 in subst (λ ts. Definition g.text (o ∷ w.0 ∷ ts) f r) i.1 (grammar.identified opens w.2 i.2 (func_is g h.3.1 f (c ∷ r) h.3.3) closes)
+      | inr k ↦ grammar.plain opens w.2 (subst (λ ts. Func g.text ts f (c ∷ r)) (sym k.1.1) (func_is g h.3.1 f (c ∷ r) h.3.3)) closes
+    ])
 
-pub module_spelled : (s : Source) (us : List Token) (fs : List Signature) → At s 0 us → Module s.setting.text us fs → (q : ℕ) × Got (group fields s 0 no_names 0) fs q × At s q []
-unfolding fields
-module_spelled s us fs at (grammar.definitions {o} {w} {c} {ts} opening word all close) =
-    let b = at.2 in
-    let k = standard_spelled s at.0 (0 + 1) module_word (codes "module") w b.0 module_is b.1 word in
-    let g = many_spelled (group definition) (Definition s.setting.text) s (0 + 1) (advances_group definition forward_definition) (definition_spelled s (0 + 1)) (definition_filled s) b.0 ts fs c [] b.2 all close in
-    let z = read_both (kw module_word) (λ at. definitions) s at.0 no_names (0 + 1) k.0 b.0 fs g.0 k.1 g.1 in
-    (g.2.0, read_group fields s 0 no_names 0 at.0 g.0 fs g.2.0 (opens s 0 no_names o at.0 at.1 opening) z (closes s g.0 no_names c g.2.0 g.2.1 close), g.2.2)
+pub module_is : (g : Ground) (ts : List Token) (fs : List Signature) → module_types.rule g ts fs [] → Module g.text ts fs
+module_is g _ fs (rules.group {o = o} {c = c} {ts = ts} opens h closes) =
+    let w = word_of_rule g (codes "module") ts h.0 h.1 h.2 in
+    subst (λ ts. Module g.text (o ∷ ts) fs) w.1 (grammar.definitions opens w.2 (star_of g tells_more (Group definition.rule) (Definition g.text) (definition_is g) h.1 fs (c ∷ []) h.3) closes)
+
+-- The other way round.
+
+val_first : (g : Ground) (ts : List Token) (v : ValType) (r : List Token) → Val g.text ts v r → (t : Token) × (us : List Token) × (t ∷ us ≡ ts) × (t.kind ≡ Keyword)
+val_first g _ _ r (i32 {t = t} h) = (t, r, refl, h.kind)
+val_first g _ _ r (i64 {t = t} h) = (t, r, refl, h.kind)
+val_first g _ _ r (f32 {t = t} h) = (t, r, refl, h.kind)
+val_first g _ _ r (f64 {t = t} h) = (t, r, refl, h.kind)
+
+val_more : (g : Ground) (ts : List Token) (v : ValType) (r : List Token) → Val g.text ts v r → tells_more g ts ≡ Ok true
+val_more g ts v r h = let k = val_first g ts v r h in subst (λ ts. tells_more g ts ≡ Ok true) k.2 (ap (λ k. Ok (not (is_close k))) k.3)
+
+is_vals : (g : Ground) (ts : List Token) (vs : List ValType) (c : Token) (r : List Token) → IsClose c → Star (Val g.text) ts vs (c ∷ r) → vals.rule g ts vs (c ∷ r)
+is_vals g ts vs c r closes w = while_of g tells_more val.rule (Val g.text) (λ ts v r k. (is_val g ts v r k, val_more g ts v r k)) ts vs (c ∷ r) (ap (λ k. Ok (not (is_close k))) closes) w
+
+abbrev no_name_by : Ground → Token → TokenKind → Result Bool Report
+no_name_by g t k = Ok (is_some (as_id g.text t k))
+
+vals_no_name : (g : Ground) (ts : List Token) (vs : List ValType) (c : Token) (r : List Token) → IsClose c → Star (Val g.text) ts vs (c ∷ r) → tells_kind as_id g ts ≡ Ok false
+vals_no_name g _ _ c r closes grammar.none = ap (no_name_by g c) closes
+vals_no_name g ts _ c r closes (grammar.more {r = us} {v = v} h w) = let k = val_first g ts v us h in subst (λ ts. tells_kind as_id g ts ≡ Ok false) k.2 (ap (no_name_by g k.0) k.3)
+
+abbrev identified_by : Ground → List ℕ → Token → Spelled
+identified_by g n t = record { name = n; owned = name_takes g.text t; generation = 0; span = t.offset }
+
+rule_of_name : (g : Ground) (t : Token) (r : List Token) → (h : IsName g.text t) → name.rule g (t ∷ r) (Some (identified_by g h.name t)) r
+rule_of_name g t r h =
+    let owned = name_takes g.text t in
+    let is = ap (as_id g.text t) h.kind ∙ ap (λ a. Some (name_or_report g.text t a)) h.named in
+    let read = one (ap (named_by owned) is) in
+    inl (ap (no_name_by g t) h.kind, (identified_by g h.name t, (((h.name, owned), t.offset), ((h.name, owned), read, refl), refl), refl))
+
+abbrev behind_open : Telling
+behind_open = tells_second (a_keyword (codes "param")).look
+
+is_param : (g : Ground) (ts : List Token) (vs : List ValType) (r : List Token) → Param g.text ts vs r → Group param.rule g ts vs r × (behind_open g ts ≡ Ok true)
+unfolding param
+is_param g _ _ r (grammar.named {w = w} {n = n} {c = c} {ts = ts} {v = v} opens h i k closes) =
+    (rules.group opens (w.offset, n ∷ ts, rule_of_word g (codes "param") w (n ∷ ts) h, (Some (identified_by g i.name n), ts, rule_of_name g n ts i, (v, is_val g ts v (c ∷ r) k, refl))) closes, sees_other g (codes "param") (codes "param") true w (n ∷ ts) refl h)
+is_param g _ vs r (grammar.listed {w = w} {c = c} {ts = ts} opens h k closes) =
+    (rules.group opens (w.offset, ts, rule_of_word g (codes "param") w ts h, (None, ts, inr (vals_no_name g ts vs c r closes k, (refl, refl)), is_vals g ts vs c r closes k)) closes, sees_other g (codes "param") (codes "param") true w ts refl h)
+
+-- no param stands behind a returns, nor behind what is behind the func
+returns_no_param : (g : Ground) (ts : List Token) (rs : List (List ValType)) (c : Token) (r : List Token) → (a_keyword (codes "param")).look g r ≡ Ok false → Star (Returns g.text) ts rs (c ∷ r) → behind_open g ts ≡ Ok false
+returns_no_param g _ _ c r e grammar.none = e
+returns_no_param g _ _ c r e (grammar.more (returned {w = w} {ts = ts} opens h listed closes) others) = sees_other g (codes "param") (codes "result") false w ts refl h
+
+is_func : (g : Ground) (ts : List Token) (f : Signature) (r : List Token) → (a_keyword (codes "param")).look g r ≡ Ok false → Func g.text ts f r → Group func.rule g ts f r
+unfolding func
+is_func g _ f r e (grammar.func {w = w} {c = c} {ts = ts} {us = us} {ps = ps} {rs = rs} opens h params results closes is) =
+    let first = while_of g behind_open (Group param.rule) (Param g.text) (is_param g) ts ps us (returns_no_param g us rs c r e results) params in
+    let others = while_of g tells_more (Group returns.rule) (Returns g.text) (is_returns g) us rs (c ∷ r) (ap (λ k. Ok (not (is_close k))) closes) results in
+    rules.group opens (w.offset, ts, rule_of_word g (codes "func") w ts h, (flat_map (λ vs. vs) ps, us, (ps, first, refl), (flat_map (λ vs. vs) rs, (rs, others, refl), sym is))) closes
+
+no_word_at : (g : Ground) (c : Token) (r : List Token) → IsClose c → (a_keyword (codes "param")).look g (c ∷ r) ≡ Ok false
+no_word_at g c r closes = ap (λ k. told_word (spelling as_keyword (codes "param") g.text c k)) closes
+
+func_no_name : (g : Ground) (ts : List Token) (f : Signature) (r : List Token) → Func g.text ts f r → tells_kind as_id g ts ≡ Ok false
+func_no_name g _ f r (grammar.func {o = o} opens h params results closes is) = ap (no_name_by g o) opens
+
+is_definition : (g : Ground) (ts : List Token) (f : Signature) (r : List Token) → Definition g.text ts f r → Group definition.rule g ts f r × (tells_more g ts ≡ Ok true)
+unfolding definition
+is_definition g _ f r (grammar.identified {w = w} {n = n} {c = c} {ts = ts} opens h i k closes) =
+    (rules.group opens (w.offset, n ∷ ts, rule_of_word g (codes "type") w (n ∷ ts) h, (Some (identified_by g i.name n), ts, rule_of_name g n ts i, is_func g ts f (c ∷ r) (no_word_at g c r closes) k)) closes, ap (λ k. Ok (not (is_close k))) opens)
+is_definition g _ f r (grammar.plain {w = w} {c = c} {ts = ts} opens h k closes) =
+    (rules.group opens (w.offset, ts, rule_of_word g (codes "type") w ts h, (None, ts, inr (func_no_name g ts f (c ∷ r) k, (refl, refl)), is_func g ts f (c ∷ r) (no_word_at g c r closes) k)) closes, ap (λ k. Ok (not (is_close k))) opens)
+
+pub is_module : (g : Ground) (ts : List Token) (fs : List Signature) → Module g.text ts fs → module_types.rule g ts fs []
+is_module g _ fs (grammar.definitions {w = w} {c = c} {ts = ts} opens h types closes) =
+    rules.group opens (w.offset, ts, rule_of_word g (codes "module") w ts h, while_of g tells_more (Group definition.rule) (Definition g.text) (is_definition g) ts fs (c ∷ []) (ap (λ k. Ok (not (is_close k))) closes) types) closes

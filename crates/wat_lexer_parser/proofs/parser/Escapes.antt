@@ -1,11 +1,15 @@
 -- Words in which no escape stands.
-use Rattle.std.proofs.Common.{◌≡◌, ℕ, Bool, true, false, List, [], ◌∷◌, inl, inr, Err, Ok, Some, None, subst, ap, ◌∙◌, sym}
-use Rattle.std.specs.Prelude.{◌==◌, ◌&&◌, ◌||◌, Option, Result, is_err, is_some}
+use Rattle.std.proofs.Common.{◌≡◌, ℕ, Bool, true, false, List, [], ◌∷◌, inl, inr, Err, Ok, Some, None, refl, subst, ap, ◌∙◌, sym}
+use Rattle.std.specs.Cow.{IsBorrowedStr}
+use Rattle.std.specs.declared.borrow.CowStr.{CowStr}
+use Rattle.std.specs.declared.borrow.CowStr.TheVariants.{Borrowed, Owned}
+use Rattle.std.specs.Prelude.{◌==◌, ◌&&◌, ◌||◌, ◌↔◌, Option, Result, is_err, is_some}
 use Rattle.std.specs.List.{list_any}
 use Rattle.std.specs.Str.{NonePass}
 use Rattle.std.proofs.lemmas.Bool.{cases_Bool}
 use Rattle.wat_lex.specs.errors.Errors.{Report}
 use Rattle.wat_lex.specs.grammar.Classes.{quote, backslash}
+use Rattle.wat_lex.specs.identifiers.Identifiers.{is_owned_str}
 use Rattle.wat_lex.specs.values.Names.{HasNone, HasNoEscape}
 use Rattle.wat_lex.specs.declared.lexer.kinds.Token.{Token}
 use Rattle.wat_lex.specs.declared.lexer.kinds.TokenKind.TheVariants.{String}
@@ -48,3 +52,22 @@ wanting takes f m r e h = subst (Answers takes f m) (sym e) (ap (λ b. b || is_e
 pub may_take_string : (a : State) (p q : ℕ) (t : Token) → seen_at (at_place a p) ≡ Ok (Some (t, q)) → t.kind ≡ String → may_take_at as_string (at_place a p) ≡ string_takes a.source.setting.text t
 may_take_string a p q t e k =
     let x = a.source.setting.text in ap (may_take as_string x) e ∙ ap (λ k. is_some (as_string x t k) && word_takes x t k) k
+
+none_in : (p : ℕ → Bool) (w : List ℕ) → NonePass p w → list_any p w ≡ false
+none_in p [] h = refl
+none_in p (c ∷ w) h = ap (λ b. b || list_any p w) h.0 ∙ none_in p w h.1
+
+no_backslash : (b : Bool) → (b && false) ≡ false
+no_backslash true = refl
+no_backslash false = refl
+
+not_escaped : (w : List ℕ) → HasNoEscape w → (contains quote w && contains backslash w) ≡ false
+not_escaped w h = elim h [
+  | inl k ↦ ap (λ b. b && contains backslash w) (none_in (λ d. d == quote) w k)
+  | inr k ↦ ap (λ b. contains quote w && b) (none_in (λ d. d == backslash) w k) ∙ no_backslash (contains quote w)
+]
+
+-- a name that is borrowed where no escape stands is owned where one does
+pub owned_where_escaped : {Z : Type 0} (name : CowStr Z) (w : List ℕ) → (IsBorrowedStr name ↔ HasNoEscape w) → is_owned_str name ≡ (contains quote w && contains backslash w)
+owned_where_escaped (Borrowed text) w h = sym (not_escaped w (h.0 tt))
+owned_where_escaped (Owned text) w h = sym (escapes w (λ e. h.1 e))

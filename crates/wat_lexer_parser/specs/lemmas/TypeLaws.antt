@@ -2,7 +2,7 @@
 use Rattle.std.proofs.Common.{◌^◌, ℕ, List, [], ◌∷◌, Bool, true}
 use Rattle.std.specs.Prelude.{◌++◌, codes, length, nat_le, Option}
 use Rattle.wat_lexer_parser.specs.lemmas.ReadingLaws.{advances_token, advances_and_then, advances_mapped, advances_spanned, advances_checked, advances_where_seen, advances_refuse, advances_group}
-use Rattle.wat_lexer_parser.specs.parser.Takers.{Reader, as_id, as_integer, as_string, as_annotation, as_keyword, as_reserved}
+use Rattle.wat_lexer_parser.specs.parser.Takers.{Reader, as_owned_id, as_integer, as_string, as_annotation, as_keyword, as_reserved}
 use Rattle.wat_lexer_parser.specs.readings.Attempts.{attempts_held}
 use Rattle.wat_lexer_parser.specs.readings.Choices.{Choice, one_behind, one_of}
 use Rattle.wat_lexer_parser.specs.readings.Readings.{Reading, also_taking, token, refuse, mapped, pair, spanned, where_seen}
@@ -25,8 +25,8 @@ advances_one_of cs h = one_behind_advances [] cs h
 
 pub advances_identifier : Advances identifier
 advances_identifier =
-    let m = token as_id (codes "expected an identifier") in
-    advances_mapped {W = Spelled} (λ v. record { name = v.0; generation = 0; span = v.1 }) (spanned m) (advances_spanned m (advances_token as_id (codes "expected an identifier")))
+    let m = token as_owned_id (codes "expected an identifier") in
+    advances_mapped {W = Spelled} (λ v. record { name = v.0.0; owned = v.0.1; generation = 0; span = v.1 }) (spanned m) (advances_spanned m (advances_token as_owned_id (codes "expected an identifier")))
 
 pub advances_integer : {V : Type 0} (name : List ℕ) (fits : Bool × ℕ → Option V) → Advances (integer name fits)
 advances_integer name fits = advances_checked fits _ _ (advances_token as_integer (codes "expected a " ++ name))

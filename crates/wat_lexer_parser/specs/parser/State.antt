@@ -1,5 +1,6 @@
 -- What a parser is to its callers, and what a call answers. No part of the standard.
 use Rattle.std.specs.Prelude.{ℕ, ◌≤◌, ◌<◌, ◌^◌, List, length, Bool, ◌≡◌, ◌||◌, is_err, IsTrue, codes, if◌then◌else◌, nat_lt, nat_eq, Option, Some, None, Result, Ok, Err}
+use Rattle.std.specs.Str.{IsUtf8}
 use Rattle.wat_lex.specs.errors.Errors.{Report, Custom, lexical, report_in, IsUnlessMemory}
 use Rattle.wat_lex.specs.declared.lexer.kinds.Token.{Token}
 use Rattle.wat_lexer_parser.specs.declared.parser.fault.Fault.{Fault}
@@ -17,10 +18,12 @@ pub record State : Type 0 where
   pub names : Names
   pub depth : ℕ
 
--- The tokens are those of the text, and their number fits a machine word; the place is among them; no more groups are open than tokens
--- were passed; and no count is 0.
+-- The tokens are those of the text, which is UTF-8 and not too long, and their number fits a machine word; the place is among them; no more
+-- groups are open than tokens were passed; and no count is 0.
 pub record IsSound (a : State) : Type 0 where
   pub read : IsRead a.source
+  pub utf8 : IsUtf8 a.source.setting.text
+  pub short : length a.source.setting.text < 2 ^ 32
   pub within : a.place ≤ length a.source.tokens
   pub small : length a.source.tokens < 2 ^ 63
   pub deep : a.depth ≤ a.place

@@ -125,6 +125,15 @@ string_takes text t = contains backslash (word_of text t)
 abbrev pub name_takes : List ℕ → Token → Bool
 name_takes text t = contains quote (word_of text t) && contains backslash (word_of text t)
 
+-- the name of an identifier, and whether it is decoded, so that it stands in memory of its own
+abbrev pub named_by : Bool → Option (Result (List ℕ) Report) → Option (Result (List ℕ × Bool) Report)
+named_by owned None = None
+named_by owned (Some (Ok name)) = Some (Ok (name, owned))
+named_by owned (Some (Err f)) = Some (Err f)
+
+abbrev pub as_owned_id : Reader (List ℕ × Bool)
+as_owned_id text t kind = named_by (name_takes text t) (as_id text t kind)
+
 -- whether reading a word takes memory; numbers with underscores or `0x` are written anew
 abbrev pub word_takes : List ℕ → Token → TokenKind → Bool
 word_takes text t String = string_takes text t

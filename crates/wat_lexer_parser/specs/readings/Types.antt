@@ -8,22 +8,23 @@ use Rattle.wat_lex.specs.declared.lexer.kinds.TokenKind.TheVariants as kind
 use Rattle.wat_lex.specs.declared.token.Index.{Index}
 use Rattle.wat_lex.specs.declared.token.Index.TheVariants as index
 use Rattle.wat_lexer_parser.specs.parser.Sights.{Sight, freely, sight_of, seen_behind, second}
-use Rattle.wat_lexer_parser.specs.parser.Takers.{Reader, taken_at, may_take_at, as_id, as_integer, as_string, as_keyword, as_reserved, as_annotation, as_open}
+use Rattle.wat_lexer_parser.specs.parser.Takers.{Reader, taken_at, may_take_at, as_id, as_owned_id, as_integer, as_string, as_keyword, as_reserved, as_annotation, as_open}
 use Rattle.wat_lexer_parser.specs.readings.Readings.{Reading, token, refuse, refuse_behind, give, and_then, mapped, pair, spanned, allocated, checked, where_seen, optional, group, under}
 use Rattle.wat_words.specs.Words.{quoted, annotation_word}
 
--- Identifiers: the name, the generation, and the byte at which it stands.
+-- Identifiers: the name, whether it is owned, the generation, and the byte at which it stands.
 
 pub record Spelled : Type 0 where
   pub name : List ℕ
+  pub owned : Bool
   pub generation : ℕ
   pub span : ℕ
 
 abbrev pub spelled : Identifier → Spelled
-spelled i = record { name = i.name; generation = i.generation; span = i.span }
+spelled i = record { name = i.name; owned = i.owned; generation = i.generation; span = i.span }
 
 abbrev pub identifier : Reading Spelled
-identifier = mapped (λ v. record { name = v.0; generation = 0; span = v.1 }) (spanned (token as_id (codes "expected an identifier")))
+identifier = mapped (λ v. record { name = v.0.0; owned = v.0.1; generation = 0; span = v.1 }) (spanned (token as_owned_id (codes "expected an identifier")))
 
 abbrev pub an_identifier : Sight
 an_identifier = sight_of as_id
@@ -40,6 +41,10 @@ abbrev pub signed_within : ℕ → Bool × ℕ → Option ℤ
 signed_within half (true, n) = if nat_le n half then Some (neg_ℤ (pos n)) else None
 signed_within half (false, n) =
     if nat_lt n half then Some (pos n) else if nat_lt n (2 * half) then Some (pos n -ℤ pos (2 * half)) else None
+
+-- the same, which the search for proofs does not take apart
+unfoldable pub signed_number : ℕ → Bool × ℕ → Option ℤ
+signed_number half n = signed_within half n
 
 abbrev pub integer : {V : Type 0} → List ℕ → (Bool × ℕ → Option V) → Reading V
 integer name fits =

@@ -1,5 +1,6 @@
 //! The buffer of a text.
 ghost use Rattle.std.specs.Prelude.{◌≡◌, ◌<◌, ◌^◌, false, length, IfOk, IfErr};
+ghost use Rattle.std.specs.Str.{IsUtf8};
 ghost use Rattle.wat_lexer_parser.specs.names.RegisteredNames.{no_names};
 ghost use Rattle.wat_lexer_parser.specs.places.Source.{IsRead, Source};
 
@@ -117,6 +118,17 @@ impl<'a> ParseBuffer<'a> {
         ensures read { IsRead self.now }
     {
         Parser::new(self.table_ref())
+    }
+
+    /// What holds of every buffer: its tokens are those of its text, which is UTF-8 and of fewer than
+    /// 2^32 bytes. The call does nothing, as [`Parser::is_sound`], which says the same of a parser.
+    pub fn is_sound(&self)
+        ensures read { IsRead self.now }
+        ensures utf8 { IsUtf8 self.now.setting.text }
+        ensures short { length self.now.setting.text < 2 ^ 32 }
+    {
+        let table = self.table_ref();
+        let _text = table.text();
     }
 
     /// The tokens are those of the text, which has no others.

@@ -3,10 +3,10 @@ ghost use Rattle.std.specs.Prelude.{◌≡◌, ◌⊎◌, ◌↔◌, ◌≤◌, 
 ghost use Rattle.std.specs.Prelude.{Some, Ok};
 ghost use Rattle.std.specs.Cow.{cow_str_bytes, cow_slice_items, IsBorrowedSlice, IsBorrowedStr};
 ghost use Rattle.std.specs.Option.{option_map};
-ghost use Rattle.std.specs.Str.{IsUtf8};
 ghost use Rattle.std.specs.Str.Parse.{IsNumeral, without_leading_sign};
 ghost use Rattle.wat_lex.specs.errors.Errors.{IsUnlessMemory};
 ghost use Rattle.wat_lex.specs.grammar.Classes.{backslash};
+ghost use Rattle.wat_lex.specs.identifiers.Identifiers.{is_owned_str};
 ghost use Rattle.wat_lex.specs.tokens.ReadableTokens.{IsTokenOf, word_of};
 ghost use Rattle.wat_lex.specs.values.Names.{HasNone, HasNoEscape};
 ghost use Rattle.wat_lex.specs.values.NumberValues.{IsFloatOf, IsIntegerOf, IsNumeralOf};
@@ -16,7 +16,8 @@ ghost use Rattle.wat_lex.specs.declared.lexer.kinds.FloatKind.{FloatKind};
 ghost use Rattle.wat_lex.specs.declared.lexer.kinds.IntegerKind.{IntegerKind};
 ghost use Rattle.wat_lex.specs.declared.lexer.kinds.Token.{Token};
 ghost use Rattle.wat_lex.specs.declared.lexer.kinds.TokenKind.TheVariants as variant;
-ghost use Rattle.wat_lexer_parser.specs.parser.State.{Answers, IsSound, at_place, report_here, seen_at};
+ghost use Rattle.wat_lexer_parser.specs.parser.State.{Answers, IsSound, at_place};
+ghost use Rattle.wat_lexer_parser.specs.parser.State.{report_here, seen_at};
 ghost use Rattle.wat_lexer_parser.specs.parser.Takers.{taken_at, sees_at, token_of};
 ghost use Rattle.wat_lexer_parser.specs.parser.Takers.{comment_taken, may_take_at, name_or_report};
 ghost use Rattle.wat_lexer_parser.specs.parser.Takers.{as_open, as_close, as_keyword, as_reserved};
@@ -63,7 +64,8 @@ impl<'p, 'a> Cursor<'p, 'a> {
     /// What is shown here, with the place behind it.
     #[tactic(auto, unfolding(crate::specs::parser::State::seen))]
     fn look(self) -> Result<Option<(Token, usize)>, Error>
-        ensures value { Answers false (λ found. found) (seen_at (at_place self.entry.parser.now self.entry.at)) result }
+        ensures value { Answers false (λ found. found)
+            (seen_at (at_place self.entry.parser.now self.entry.at)) result }
         ensures on { IfOk result (λ found. IfSome found (λ v.
             (self.entry.at < v.1) × (v.1 ≤ length self.entry.parser.now.source.tokens))) }
         ensures reader { IfOk result (λ found. IfSome found (λ v.
@@ -76,17 +78,25 @@ impl<'p, 'a> Cursor<'p, 'a> {
         }
     }
 
+    /// What holds of every cursor: what [`Parser::is_sound`] says of its parser, and it stands among
+    /// the tokens. The call does nothing.
+    pub fn is_sound(&self)
+        ensures sound { IsSound self.now.parser.now }
+        ensures within { self.now.at ≤ length self.now.parser.now.source.tokens }
+    {
+        let parser = self.parser;
+        parser.is_sound();
+    }
+
     /// The current span: that of the token that is shown, the text's length at the end, or the
     /// place itself where a fault is shown.
     pub fn cur_span(&self) -> Span
         ensures value { result ≡ current_span self.now.parser.now.source self.now.at
             self.now.parser.now.names }
         ensures sound { IsSound self.now.parser.now }
-        ensures utf8 { IsUtf8 self.now.parser.now.source.setting.text }
-        ensures short { length self.now.parser.now.source.setting.text < 2 ^ 32 }
     {
+        self.is_sound();
         let parser = self.parser;
-        parser.is_sound();
         parser.span_from(self.at)
     }
 
@@ -140,7 +150,8 @@ impl<'p, 'a> Cursor<'p, 'a> {
 
     /// The token that is shown, or None at the end, or the error of the fault that is shown.
     pub fn token(&self) -> Result<Option<Token>, Error>
-        ensures value { Answers false (λ t. t) (token_of (seen_at (at_place self.now.parser.now self.now.at))) result }
+        ensures value { Answers false (λ t. t)
+            (token_of (seen_at (at_place self.now.parser.now self.now.at))) result }
         ensures reader { IfOk result (λ found. IfSome found (
             IsTokenOf self.now.parser.now.source.setting.text)) }
     {
@@ -153,7 +164,8 @@ impl<'p, 'a> Cursor<'p, 'a> {
 
     /// Takes the token that is shown, whatever its kind.
     pub fn any(self) -> Result<Option<(Token, Self)>, Error>
-        ensures value { Answers false (option_map (λ v. (v.0, v.1.at))) (seen_at (at_place self.entry.parser.now self.entry.at)) result }
+        ensures value { Answers false (option_map (λ v. (v.0, v.1.at)))
+            (seen_at (at_place self.entry.parser.now self.entry.at)) result }
         ensures parser { IfOk result (λ found. IfSome found (λ v. v.1.parser ≡ self.entry.parser)) }
         ensures on { IfOk result (λ found. IfSome found (λ v. self.entry.at < v.1.at)) }
         ensures reader { IfOk result (λ found. IfSome found (λ v.
@@ -308,6 +320,10 @@ impl<'p, 'a> Cursor<'p, 'a> {
             seen_at (at_place self.entry.parser.now self.entry.at) ≡ Ok (Some (t, q)) →
             IfOk result (λ found. IfSome found (λ v. IsBorrowedStr v.0 ↔
             HasNoEscape (word_of self.entry.parser.now.source.setting.text t))) }
+        ensures owned { (t : Token) (q : ℕ) →
+            seen_at (at_place self.entry.parser.now self.entry.at) ≡ Ok (Some (t, q)) →
+            IfOk result (λ found. IfSome found (λ v. is_owned_str v.0 ≡
+            name_takes self.entry.parser.now.source.setting.text t)) }
         ensures parser { IfOk result (λ found. IfSome found (λ v.
             v.1.parser ≡ self.entry.parser)) }
         ensures on { IfOk result (λ found. IfSome found (λ v. self.entry.at < v.1.at)) }
@@ -347,7 +363,8 @@ impl<'p, 'a> Cursor<'p, 'a> {
 
     /// Takes an annotation, and answers its name, without the `@`.
     pub fn annotation(self) -> Result<Option<(CowStr<'a>, Self)>, Error>
-        ensures value { Answers (may_take_at as_annotation (at_place self.entry.parser.now self.entry.at))
+        ensures value { Answers
+            (may_take_at as_annotation (at_place self.entry.parser.now self.entry.at))
             (option_map (λ v. (cow_str_bytes v.0, v.1.at)))
             (taken_at as_annotation (at_place self.entry.parser.now self.entry.at)) result }
         ensures borrowed { (t : Token) (q : ℕ) →
@@ -393,7 +410,8 @@ impl<'p, 'a> Cursor<'p, 'a> {
 
     /// Takes an integer.
     pub fn integer(self) -> Result<Option<(Integer<'a>, Self)>, Error>
-        ensures value { Answers (may_take_at as_integer (at_place self.entry.parser.now self.entry.at))
+        ensures value { Answers
+            (may_take_at as_integer (at_place self.entry.parser.now self.entry.at))
             (option_map (λ v. (number_of v.0, v.1.at)))
             (taken_at as_integer (at_place self.entry.parser.now self.entry.at)) result }
         ensures word { (t : Token) (q : ℕ) (k : IntegerKind) →
@@ -424,7 +442,8 @@ impl<'p, 'a> Cursor<'p, 'a> {
 
     /// Takes a floating-point number.
     pub fn float(self) -> Result<Option<(Float<'a>, Self)>, Error>
-        ensures value { Answers (may_take_at as_float (at_place self.entry.parser.now self.entry.at))
+        ensures value { Answers
+            (may_take_at as_float (at_place self.entry.parser.now self.entry.at))
             (option_map (λ v. (tt, v.1.at)))
             (taken_at as_float (at_place self.entry.parser.now self.entry.at)) result }
         ensures word { (t : Token) (q : ℕ) (k : FloatKind) →
@@ -450,7 +469,8 @@ impl<'p, 'a> Cursor<'p, 'a> {
 
     /// Takes a string, and answers its value.
     pub fn string(self) -> Result<Option<(CowSlice<'a, u8>, Self)>, Error>
-        ensures value { Answers (may_take_at as_string (at_place self.entry.parser.now self.entry.at))
+        ensures value { Answers
+            (may_take_at as_string (at_place self.entry.parser.now self.entry.at))
             (option_map (λ v. (cow_slice_items v.0, v.1.at)))
             (taken_at as_string (at_place self.entry.parser.now self.entry.at)) result }
         ensures borrowed { (t : Token) (q : ℕ) →
@@ -501,6 +521,7 @@ fn name_of<'a>(alloc: Global, text: &'a str, token: &Token) -> Result<CowStr<'a>
         (name_value (empty_name token.now.kind) (word_of text.now token.now))) result }
     ensures borrowed { IfOk result (λ name.
         IsBorrowedStr name ↔ HasNoEscape (word_of text.now token.now)) }
+    ensures owned { IfOk result (λ name. is_owned_str name ≡ name_takes text.now token.now) }
 {
     match token.name(alloc, text)? {
         Ok(name) => Ok(name),

@@ -9,7 +9,7 @@ use std::marker::PhantomData;
 use wat_lex::error::Error;
 
 /// Anything but `)` and the end.
-struct Something(());
+pub struct Something(());
 
 impl Peek for Something {
     ghost use Rattle.std.specs.Prelude.{codes};
@@ -29,7 +29,7 @@ impl Peek for Something {
 }
 
 /// A type behind the token that is shown.
-struct Behind<P> {
+pub struct Behind<P> {
     of: PhantomData<P>,
 }
 

@@ -9,7 +9,8 @@ ghost use Rattle.wat_lexer_parser.specs.parser.State.{at_place};
 ghost use Rattle.wat_lexer_parser.specs.parser.Takers.{as_integer, is_minus};
 ghost use Rattle.wat_lexer_parser.specs.readings.Reads.{CursorReads, IsKept, Reads};
 ghost use Rattle.wat_lexer_parser.specs.readings.Readings.{checked, spanned, token};
-ghost use Rattle.wat_lexer_parser.specs.readings.Types.{integer, signed_within, unsigned_below};
+ghost use Rattle.wat_lexer_parser.specs.readings.Types.{integer, signed_number};
+ghost use Rattle.wat_lexer_parser.specs.readings.Types.{signed_within, unsigned_below};
 
 use crate::parser::{Cursor, Parse, Parser, Peek};
 use wat_lex::error::Error;
@@ -84,12 +85,13 @@ fn parse_unsigned(
 }
 
 /// The value of an integer token in a type with a sign, which goes from `-half` up to `half - 1`.
+#[tactic(auto, unfolding(crate::specs::readings::Types::signed_number))]
 fn signed_value(text: &str, token: &Token, kind: IntegerKind, half: u64) -> Option<i64>
     requires token { IsTokenOf text.now token.now }
     requires kind { token.now.kind ≡ variant.Integer kind }
     requires least { 0 < half }
     requires most { half ≤ 2 ^ 63 }
-    ensures value { result ≡ signed_within half
+    ensures value { result ≡ signed_number half
         (is_minus (sign_token kind.sign), integer_value kind.hex (word_of text.now token.now)) }
     ensures low { IfSome result (λ n. neg_ℤ (pos half) ≤ℤ n) }
     ensures high { IfSome result (λ n. n <ℤ pos half) }
@@ -146,7 +148,7 @@ fn signed<'p, 'a>(
 ) -> Result<((i64, Span), Cursor<'p, 'a>), Error>
     requires least { 0 < half }
     requires most { half ≤ 2 ^ 63 }
-    ensures value { CursorReads (λ v. v) (spanned (checked (signed_within half)
+    ensures value { CursorReads (λ v. v) (spanned (checked (signed_number half)
         out_of_range.now (token as_integer expected.now)))
         (at_place cursor.entry.parser.now cursor.entry.at) (λ next. next.at) result }
     ensures low { IfOk result (λ v. neg_ℤ (pos half) ≤ℤ v.0.0) }
@@ -177,7 +179,7 @@ fn parse_signed(
     requires most { half ≤ 2 ^ 63 }
     ensures kept { IsKept parser.old parser.new }
     ensures on { parser.old.place ≤ parser.new.place }
-    ensures reads { Reads (λ v. v) (spanned (checked (signed_within half)
+    ensures reads { Reads (λ v. v) (spanned (checked (signed_number half)
         out_of_range.now (token as_integer expected.now))) parser.old result parser.new.place }
     ensures low { IfOk result (λ v. neg_ℤ (pos half) ≤ℤ v.0) }
     ensures high { IfOk result (λ v. v.0 <ℤ pos half) }
@@ -186,7 +188,6 @@ fn parse_signed(
 }
 
 impl<'a> Parse<'a> for (u8, Span) {
-
     ghost Value = { ℕ × ℕ };
 
     ghost value = { λ v. v };
@@ -205,7 +206,6 @@ impl<'a> Parse<'a> for (u8, Span) {
 }
 
 impl<'a> Parse<'a> for u8 {
-
     ghost Value = { ℕ };
 
     ghost value = { λ v. v };
@@ -234,7 +234,6 @@ impl Peek for u8 {
 }
 
 impl<'a> Parse<'a> for (u16, Span) {
-
     ghost Value = { ℕ × ℕ };
 
     ghost value = { λ v. v };
@@ -253,7 +252,6 @@ impl<'a> Parse<'a> for (u16, Span) {
 }
 
 impl<'a> Parse<'a> for u16 {
-
     ghost Value = { ℕ };
 
     ghost value = { λ v. v };
@@ -282,7 +280,6 @@ impl Peek for u16 {
 }
 
 impl<'a> Parse<'a> for (u32, Span) {
-
     ghost Value = { ℕ × ℕ };
 
     ghost value = { λ v. v };
@@ -301,7 +298,6 @@ impl<'a> Parse<'a> for (u32, Span) {
 }
 
 impl<'a> Parse<'a> for u32 {
-
     ghost Value = { ℕ };
 
     ghost value = { λ v. v };
@@ -330,7 +326,6 @@ impl Peek for u32 {
 }
 
 impl<'a> Parse<'a> for (u64, Span) {
-
     ghost Value = { ℕ × ℕ };
 
     ghost value = { λ v. v };
@@ -348,7 +343,6 @@ impl<'a> Parse<'a> for (u64, Span) {
 }
 
 impl<'a> Parse<'a> for u64 {
-
     ghost Value = { ℕ };
 
     ghost value = { λ v. v };
@@ -377,13 +371,13 @@ impl Peek for u64 {
 }
 
 impl<'a> Parse<'a> for (i8, Span) {
-
     ghost Value = { ℤ × ℕ };
 
     ghost value = { λ v. v };
 
     ghost meaning = { spanned (integer (codes "i8") (signed_within (2 ^ 7))) };
 
+    #[tactic(auto, unfolding(crate::specs::readings::Types::signed_number))]
     fn parse(parser: &mut Parser<'a>) -> Result<(i8, Span), Error> {
         let (value, span) = parse_signed(
             parser,
@@ -396,7 +390,6 @@ impl<'a> Parse<'a> for (i8, Span) {
 }
 
 impl<'a> Parse<'a> for i8 {
-
     ghost Value = { ℤ };
 
     ghost value = { λ v. v };
@@ -425,13 +418,13 @@ impl Peek for i8 {
 }
 
 impl<'a> Parse<'a> for (i16, Span) {
-
     ghost Value = { ℤ × ℕ };
 
     ghost value = { λ v. v };
 
     ghost meaning = { spanned (integer (codes "i16") (signed_within (2 ^ 15))) };
 
+    #[tactic(auto, unfolding(crate::specs::readings::Types::signed_number))]
     fn parse(parser: &mut Parser<'a>) -> Result<(i16, Span), Error> {
         let (value, span) = parse_signed(
             parser,
@@ -444,7 +437,6 @@ impl<'a> Parse<'a> for (i16, Span) {
 }
 
 impl<'a> Parse<'a> for i16 {
-
     ghost Value = { ℤ };
 
     ghost value = { λ v. v };
@@ -473,13 +465,13 @@ impl Peek for i16 {
 }
 
 impl<'a> Parse<'a> for (i32, Span) {
-
     ghost Value = { ℤ × ℕ };
 
     ghost value = { λ v. v };
 
     ghost meaning = { spanned (integer (codes "i32") (signed_within (2 ^ 31))) };
 
+    #[tactic(auto, unfolding(crate::specs::readings::Types::signed_number))]
     fn parse(parser: &mut Parser<'a>) -> Result<(i32, Span), Error> {
         let (value, span) = parse_signed(
             parser,
@@ -492,7 +484,6 @@ impl<'a> Parse<'a> for (i32, Span) {
 }
 
 impl<'a> Parse<'a> for i32 {
-
     ghost Value = { ℤ };
 
     ghost value = { λ v. v };
@@ -521,13 +512,13 @@ impl Peek for i32 {
 }
 
 impl<'a> Parse<'a> for (i64, Span) {
-
     ghost Value = { ℤ × ℕ };
 
     ghost value = { λ v. v };
 
     ghost meaning = { spanned (integer (codes "i64") (signed_within (2 ^ 63))) };
 
+    #[tactic(auto, unfolding(crate::specs::readings::Types::signed_number))]
     fn parse(parser: &mut Parser<'a>) -> Result<(i64, Span), Error> {
         parse_signed(
             parser,
@@ -539,7 +530,6 @@ impl<'a> Parse<'a> for (i64, Span) {
 }
 
 impl<'a> Parse<'a> for i64 {
-
     ghost Value = { ℤ };
 
     ghost value = { λ v. v };

@@ -1,10 +1,15 @@
 //! Identifiers and indices.
-ghost use Rattle.std.specs.Prelude.{◌≡◌, codes};
+ghost use Rattle.std.specs.Prelude.{◌≡◌, ◌<◌, codes, IfOk, IfSome};
+ghost use Rattle.std.specs.Cow.{cow_str_bytes};
+ghost use Rattle.std.specs.Option.{option_map};
+ghost use Rattle.wat_lex.specs.identifiers.Identifiers.{is_owned_str};
 ghost use Rattle.wat_lexer_parser.specs.parser.Sights.{Tells};
-ghost use Rattle.wat_lexer_parser.specs.parser.State.{at_place};
+ghost use Rattle.wat_lexer_parser.specs.parser.State.{Answers, at_place};
+ghost use Rattle.wat_lexer_parser.specs.parser.Takers.{as_owned_id, may_take_at, taken_at};
 
 use crate::parser::{Cursor, Parse, Parser, Peek};
 use std::alloc::{AllocError, Global};
+use std::borrow::CowStr;
 use wat_lex::error::Error;
 use wat_lex::lexer::TokenKind;
 use wat_lex::token::{Id, Index, Span};
@@ -19,11 +24,25 @@ impl<'a> Parse<'a> for Id<'a> {
     ghost meaning = { identifier };
 
     fn parse(parser: &mut Parser<'a>) -> Result<Id<'a>, Error> {
-        parser.step(|c| match c.id()? {
+        parser.step(|c| match named(c)? {
             Some((name, next)) => Ok((Id::from_cow(name, c.cur_span()), next)),
             None => Err(c.error("expected an identifier")),
         })
     }
+}
+
+/// Takes an identifier, of which callers see whether its name is owned.
+fn named<'p, 'a>(
+    cursor: Cursor<'p, 'a>,
+) -> Result<Option<(CowStr<'a>, Cursor<'p, 'a>)>, Error>
+    ensures value { Answers (may_take_at as_owned_id (at_place cursor.entry.parser.now cursor.entry.at))
+        (option_map (λ v. ((cow_str_bytes v.0, is_owned_str v.0), v.1.at)))
+        (taken_at as_owned_id (at_place cursor.entry.parser.now cursor.entry.at)) result }
+    ensures parser { IfOk result (λ found. IfSome found (λ v.
+        v.1.parser ≡ cursor.entry.parser)) }
+    ensures on { IfOk result (λ found. IfSome found (λ v. cursor.entry.at < v.1.at)) }
+{
+    cursor.id()
 }
 
 impl<'a> Peek for Id<'a> {
@@ -139,7 +158,8 @@ impl<'a, K: Peek> Peek for ItemRef<'a, K> {
     ghost shows = { codes "an item reference" };
 
     fn peek(cursor: Cursor<'_, '_>) -> Result<bool, Error>
-        ensures { Tells (behind_open K.sight (at_place cursor.entry.parser.now cursor.entry.at)) result }
+        ensures { Tells (behind_open K.sight
+            (at_place cursor.entry.parser.now cursor.entry.at)) result }
     {
         match cursor.lparen()? {
             Some(next) => K::peek(next),

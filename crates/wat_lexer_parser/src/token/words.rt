@@ -189,9 +189,11 @@ impl<N: Word> Peek for AnnotationWord<N> {
 
 /// Takes an annotation of this name.
 fn annotation<'p, 'a>(cursor: Cursor<'p, 'a>, name: &str) -> Result<Option<Cursor<'p, 'a>>, Error>
-    ensures value { Answers (may_take_at as_annotation (at_place cursor.entry.parser.now cursor.entry.at))
+    ensures value { Answers
+        (may_take_at as_annotation (at_place cursor.entry.parser.now cursor.entry.at))
         (option_map (λ next. (tt, next.at)))
-        (taken_at (spelling as_annotation name.now) (at_place cursor.entry.parser.now cursor.entry.at))
+        (taken_at (spelling as_annotation name.now)
+        (at_place cursor.entry.parser.now cursor.entry.at))
         result }
     ensures parser { IfOk result (λ found. IfSome found (λ next.
         next.parser ≡ cursor.entry.parser)) }

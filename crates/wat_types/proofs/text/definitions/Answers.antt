@@ -37,7 +37,7 @@ loop-parser-preserved c =
       kept = search rules;
       on = search rules;
       so_far = subst (λ vs. IsSoFar more_comes (group definition) a vs q) (sym told)
-        (one_more_read (λ d. signature d.func) more_comes (group definition) a b (signatures c.loop-parser.types.items) d q (advances_group definition) i.so_far i.kept within (ap (λ e. Ok (not e)) empty) read);
+          (one_more_read (λ d. signature d.func) more_comes (group definition) a b (signatures c.loop-parser.types.items) d q (advances_group definition) i.so_far i.kept within (ap (λ e. Ok (not e)) empty) read);
     }
 
 pub loop-parser-smaller : goal.loop-parser-smaller

@@ -1,4 +1,6 @@
 use Rattle.std.proofs.Common.{◌≡◌, ◌≤◌, ◌<◌, ◌∙◌, ◌++◌, ◌∷◌, [], length, map, true, false, arith, rules, sym, ap, subst, None, Ok, Err}
+use Rattle.std.specs.Prelude.{Vec}
+use Rattle.std.specs.declared.alloc.Global.{Global}
 use Rattle.std.proofs.lemmas.List.{map-append}
 use Rattle.wat_lexer_parser.specs.lemmas.WhileLaws.{IsSoFar, none_so_far, one_more_read, one_refused_read, look_refused_read, all_read_at, asks_at}
 use Rattle.wat_lexer_parser.specs.parser.Sights.{Tells}
@@ -70,7 +72,7 @@ returns-in_err-value-clause-reads g c =
     let e = c.in_err-value.field-0.0 in
     let is : c.from_residual-in_err-value.result ≡ Err e = search rules in
     let read : Reads g.T.Parse.value g.T.Parse.meaning b (Err e) q = search rules in
-    subst (λ r. Reads (λ v. map g.T.Parse.value v.items) (while_seen g.P.Peek.sight g.T.Parse.meaning) a r q) (sym is) (one_refused_read g.T.Parse.value (λ v. map g.T.Parse.value v.items) g.P.Peek.sight g.T.Parse.meaning a b (map g.T.Parse.value c.each.values.items) e q c.each.invariant.so_far c.each.invariant.kept c.each.invariant.within seen read)
+    subst (λ r. Reads (λ v. map g.T.Parse.value v.items) (while_seen g.P.Peek.sight g.T.Parse.meaning) a r q) (sym is) (one_refused_read g.T.Parse.value (λ (v : Vec _ Global). map g.T.Parse.value v.items) g.P.Peek.sight g.T.Parse.meaning a b (map g.T.Parse.value c.each.values.items) e q c.each.invariant.so_far c.each.invariant.kept c.each.invariant.within seen read)
 
 pub returns-in_err-peek-clause-reads : goal.returns-in_err-peek-clause-reads
 returns-in_err-peek-clause-reads g c =
@@ -79,4 +81,4 @@ returns-in_err-peek-clause-reads g c =
     let e = c.in_err-peek.field-0.0 in
     let is : c.from_residual.result ≡ Err e = search rules in
     let told : Tells (g.P.Peek.sight b) (Err e) = search rules in
-    subst (λ r. Reads (λ v. map g.T.Parse.value v.items) (while_seen g.P.Peek.sight g.T.Parse.meaning) a r b.place) (sym is) (look_refused_read (λ v. map g.T.Parse.value v.items) g.P.Peek.sight g.T.Parse.meaning a b (map g.T.Parse.value c.each.values.items) e c.each.invariant.so_far c.each.invariant.kept c.each.invariant.within told)
+    subst (λ r. Reads (λ v. map g.T.Parse.value v.items) (while_seen g.P.Peek.sight g.T.Parse.meaning) a r b.place) (sym is) (look_refused_read (λ (v : Vec _ Global). map g.T.Parse.value v.items) g.P.Peek.sight g.T.Parse.meaning a b (map g.T.Parse.value c.each.values.items) e c.each.invariant.so_far c.each.invariant.kept c.each.invariant.within told)

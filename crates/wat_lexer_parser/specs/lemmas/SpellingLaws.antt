@@ -1,0 +1,85 @@
+-- What is read of a whole text is what a rule spells of it. These are proofs, which a reader may skip.
+use Rattle.std.proofs.Common.{◌≡◌, ◌∙◌, ◌+◌, ◌-◌, ℕ, List, [], ◌∷◌, refl, sym, ap, subst, length, drop, Some, None, Ok, Err}
+use Rattle.std.specs.Prelude.{Option, Result}
+use Rattle.std.specs.Option.{option_map}
+use Rattle.wat_lex.specs.tokens.EverySetting.{TilingsAreOne}
+use Rattle.wat_lex.specs.declared.lexer.kinds.Token.{Token}
+use Rattle.wat_lexer_parser.specs.declared.parser.fault.Fault.{Fault}
+use Rattle.wat_lexer_parser.specs.lemmas.Behind.{Behind, behind_in, behind_place, shown_is_taken}
+use Rattle.wat_lexer_parser.specs.names.RegisteredNames.{Names, no_names}
+use Rattle.wat_lexer_parser.specs.parser.State.{report_of, seen, told}
+use Rattle.wat_lexer_parser.specs.places.Places.{current_span, offset_at}
+use Rattle.wat_lexer_parser.specs.places.Places as places
+use Rattle.wat_lexer_parser.specs.places.Source.{Source, IsRead}
+use Rattle.wat_lexer_parser.specs.shown.AllShown.{AllShown}
+use Rattle.wat_lexer_parser.specs.shown.AllShown as all_shown
+use Rattle.wat_lexer_parser.specs.shown.Shown.{Shown, Finding}
+use Rattle.wat_lexer_parser.specs.shown.Showing.{Look, Showing, placed, shown, shown_in}
+use Rattle.wat_lexer_parser.specs.shown.ShownLaws.{SomethingIsAllShown, OneThingShown}
+use Rattle.wat_lexer_parser.specs.readings.Readings.{Reading}
+use Rattle.wat_lexer_parser.specs.lemmas.RuleLaws.{At, Follows, left, spelled_is_whole, whole_is_spelled}
+use Rattle.wat_lexer_parser.specs.rules.Rules.{Rule}
+use Rattle.wat_lexer_parser.specs.rules.Spelling.{Spells, ReadsAsSpelled, behind_value, end_from, ground_of}
+
+shown_is : OneThingShown → (s : Source) (names : Names) (p : ℕ) (ts : List Token) (a : Finding) → ts ≡ drop p s.tokens → Shown s.setting.text s.ending names ts a → shown s p names ≡ placed s.tokens a
+unfolding shown
+shown_is one s names p ts a e shows =
+    ap (λ ts. placed s.tokens (shown_in s.setting.text s.ending names Showing ts)) (sym e) ∙ ap (placed s.tokens) (sym (one s.setting.text s.ending names ts a shows))
+
+seen_is : (s : Source) (names : Names) (p : ℕ) (l : Look) → shown s p names ≡ l → seen s p names ≡ told s.setting.text l
+unfolding seen
+seen_is s names p l e = ap (told s.setting.text) e
+
+span_is : (s : Source) (names : Names) (p : ℕ) (l : Look) → shown s p names ≡ l → current_span s p names ≡ places.span_of s p l
+unfolding current_span
+span_is s names p l e = ap (places.span_of s p) e
+
+end_more : (text : List ℕ) (p q : ℕ) (t : Token) (us : List Token) (f : Option Fault) → q ≡ t.offset + t.len → end_from text q us f ≡ end_from text p (t ∷ us) f
+end_more text p q t us None e = refl
+end_more text p q t us (Some f) e = ap (λ n. end_from text n us (Some f)) e
+
+-- all that is shown from a place on, as looks show it one by one
+at_by : OneThingShown → (s : Source) (names : Names) (p : ℕ) (ts us : List Token) (f : Option Fault) → AllShown s.setting.text s.ending names ts us f → ts ≡ drop p s.tokens → At s names (end_from s.setting.text (offset_at s.tokens p) us f) p us
+at_by one s names p ts _ _ (all_shown.end shows) e =
+    let is = shown_is one s names p ts (Ok None) e shows in
+    (seen_is s names p (Ok None) is, span_is s names p (Ok None) is)
+at_by one s names p ts _ _ (all_shown.fault {f = f} shows) e =
+    let is = shown_is one s names p ts (Err f) e shows in
+    (seen_is s names p (Err f) is, span_is s names p (Err f) is)
+at_by one s names p ts _ f (all_shown.next {r = r} {us = us} {t = t} shows others) e =
+    let x = s.setting.text in
+    let q = length s.tokens - length r in
+    let is = shown_is one s names p ts (Ok (Some (t, r))) e shows in
+    let here : shown_in x s.ending names Showing ts ≡ Ok (Some (t, r)) = sym (one x s.ending names ts (Ok (Some (t, r))) shows) in
+    let behind = behind_place t s.tokens p r (subst (λ ts. Behind t ts r) e (behind_in x s.ending names Showing ts t r here)) in
+    let more = end_more x (offset_at s.tokens p) (offset_at s.tokens q) t us f (shown_is_taken s p names t q is).3 in
+    (q, is, subst (λ e. At s names e q us) more (at_by one s names q r us f others behind.tail))
+
+spells_of : {V : Type 0} (R : Rule V) (s : Source) (v : V) (us : List Token) (f : Option Fault) → IsRead s → AllShown s.setting.text s.ending no_names s.tokens us f → R (ground_of s.setting.text us f) us v []
+    → option_map (report_of s.setting.text) f ≡ None → Spells R s.setting v
+spells_of R s v us None r all h e = record { tokens = us; shown = record { tokens = s.tokens; ending = s.ending; tiling = r; all = all }; begins = h }
+spells_of R s v us (Some f) r all h e = cc
+
+left_is : {V : Type 0} (s : Source) (v : V) (us l : List Token) (f : Option Fault) → left s (end_from s.setting.text 0 us f) v l ≡ behind_value v s.setting l f
+left_is s v us [] None = refl
+left_is s v us [] (Some f) = refl
+left_is s v us (t ∷ l) f = refl
+
+pub reads_as_spelled : {V : Type 0} → TilingsAreOne → SomethingIsAllShown → OneThingShown → (m : Reading V) (R : Rule V) → Follows m R → ReadsAsSpelled m R
+reads_as_spelled one_tiling some one m R law = record {
+  read = λ s v u r e.
+    let k = some s no_names 0 u r in
+    let at = at_by one s no_names 0 s.tokens k.0 k.1 k.2 refl in
+    let h = whole_is_spelled m R law s (end_from s.setting.text 0 k.0 k.1) k.0 v at e in
+    spells_of R s v k.0 k.1 r k.2 h.1 h.0;
+  spelled = λ s v l f r h.
+    let x = s.setting.text in
+    let is = one_tiling s.setting 0 h.shown.tokens s.tokens h.shown.ending s.ending h.shown.tiling r in
+    let all = subst (λ ts. AllShown x s.ending no_names ts h.tokens f) is.0 (subst (λ e. AllShown x e no_names h.shown.tokens h.tokens f) is.1 h.shown.all) in
+    let at = at_by one s no_names 0 s.tokens h.tokens f all refl in
+    spelled_is_whole m R law s (end_from x 0 h.tokens f) h.tokens v l at h.begins ∙ left_is s v h.tokens l f;
+}
+
+-- a text spells one value
+pub spelled_once : {V : Type 0} (m : Reading V) (R : Rule V) → ReadsAsSpelled m R → (s : Source) (v w : V) → IsRead s → Spells R s.setting v → Spells R s.setting w → v ≡ w
+spelled_once m R h s v w r first other = let k : ◌≡◌ {A = Result _ _} (Ok v) (Ok w) = sym (h.spelled s v [] None r first) ∙ h.spelled s w [] None r other in cc

@@ -1,0 +1,76 @@
+-- WebAssembly specification, text format: values (integers, strings, names, identifiers), lexical format (keywords), modules (indices);
+-- and the annotations proposal. What types of the library read, as formats: the reading of each is the one that `readings/Types` has.
+use Rattle.std.proofs.Common.{◌≡◌, ap, refl}
+use Rattle.std.specs.Prelude.{ℕ, ◌^◌, Bool, true, false, if◌then◌else◌, List, ◌++◌, codes, Option}
+use Rattle.std.specs.Str.{is_utf8}
+use Rattle.wat_lexer_parser.specs.parser.Takers.{Reader, as_keyword, as_integer, as_open, as_id, as_string, as_annotation, as_owned_id}
+use Rattle.wat_lexer_parser.specs.rules.Formats.{Format, Lookout, a_token, a_word, a_named, as_read, token, mapped, spanned, checked, and_then, give, refuse, refuse_behind, allocated, where_seen, optional, group, second}
+use Rattle.wat_lexer_parser.specs.readings.Readings as words
+use Rattle.wat_lexer_parser.specs.readings.Types.{Reference, Named, Number, Spelled, spelling, unsigned_below, utf8_or_refused}
+use Rattle.wat_lexer_parser.specs.readings.Types as types
+use Rattle.wat_words.specs.Words.{annotation_word, quoted}
+
+abbrev pub integer : {V : Type 0} → List ℕ → (Bool × ℕ → Option V) → Format V
+integer name fits = checked fits (codes "invalid " ++ name ++ codes " number: constant out of range") (token as_integer (codes "expected a " ++ name))
+
+abbrev pub u32 : Format ℕ
+u32 = integer (codes "u32") (unsigned_below (2 ^ 32))
+
+abbrev pub identifier : Format Spelled
+identifier = mapped (λ v. record { name = v.0.0; owned = v.0.1; generation = 0; span = v.1 }) (spanned (token as_owned_id (codes "expected an identifier")))
+
+abbrev pub bytes : Format (List ℕ)
+bytes = token as_string (codes "expected a string")
+
+abbrev pub utf8_by : Bool → List ℕ → Format (List ℕ)
+utf8_by true v = give v
+utf8_by false v = refuse_behind (codes "malformed UTF-8 encoding")
+
+pub utf8_is : (v : List ℕ) → (utf8_by (is_utf8 v) v).reading ≡ utf8_or_refused v
+utf8_is v = by_test (is_utf8 v)
+  where
+    by_test : (b : Bool) → (utf8_by b v).reading ≡ (if b then words.give v else words.refuse_behind (codes "malformed UTF-8 encoding"))
+    by_test true = refl
+    by_test false = refl
+
+-- a string of UTF-8
+abbrev pub text : Format (List ℕ)
+text = as_read (and_then bytes (λ v. utf8_by (is_utf8 v) v)) types.text (ap (λ next. words.and_then types.bytes next) (λ at v. utf8_is v at))
+
+abbrev pub owned_text : Format (List ℕ)
+owned_text = allocated text
+
+-- a token that spells a word; the value is the byte at which it stands
+abbrev pub word : Reader (List ℕ) → List ℕ → List ℕ → Format ℕ
+word read w expected = mapped (λ v. v.1) (spanned (token (spelling read w) expected))
+
+unfoldable pub keyword : List ℕ → Format ℕ
+keyword w = word as_keyword w (codes "expected keyword " ++ quoted false w)
+
+unfoldable pub annotation : List ℕ → Format ℕ
+annotation w = word as_annotation w (codes "expected annotation " ++ quoted true w)
+
+abbrev pub an_integer : Lookout
+an_integer = a_token as_integer
+
+abbrev pub an_identifier : Lookout
+an_identifier = a_token as_id
+
+abbrev pub a_string : Lookout
+a_string = a_token as_string
+
+abbrev pub a_group : Lookout
+a_group = a_token as_open
+
+abbrev pub a_keyword : List ℕ → Lookout
+a_keyword w = a_word as_keyword w
+
+-- an identifier, or a number of 32 bits with the byte at which it stands
+abbrev pub an_index : Format Reference
+an_index =
+    where_seen an_identifier (mapped Named identifier)
+    (where_seen an_integer (mapped (λ v. Number v.0 v.1) (spanned u32)) (refuse (codes "unexpected token, expected an index or an identifier")))
+
+-- the name that an annotation gives, in a group, where `@name` is the second token
+abbrev pub optional_name : Format (Option (List ℕ))
+optional_name = optional (second (a_named (annotation_word 1))) (group (and_then (annotation (annotation_word 1)) (λ at. text)))
