@@ -54,7 +54,7 @@ expect_wrong() {
     expect "the words $*" 2 '' "wat_tokens: $complaint: $wrong\n$usage" "$program" "$@" < <(printf x)
 }
 
-usage='usage: wat_tokens [OPTION..] [list | sig NAME.. | play CALL.. | blank | types] [--] [FILE..]; --help says more\n'
+usage='usage: wat_tokens [OPTION..] [list | sig NAME.. | play CALL.. | blank | types | fmt [--check | --write]] [--] [FILE..]; --help says more\n'
 confusing=$';;\u202e'
 confusing_fault=$(fault "likely-confusing unicode character found '\\\\u{202e}'" 3 ';;' '  ')
 underscores='"\u{1__0}"'

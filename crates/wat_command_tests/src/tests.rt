@@ -6,6 +6,7 @@ mod blocks;
 mod compiled;
 mod cuts;
 mod json;
+mod laid;
 mod named;
 mod refused;
 mod responses;

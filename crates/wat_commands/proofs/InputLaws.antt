@@ -58,6 +58,10 @@ text_known (Ok t) bs n u h = (λ e. cc, λ v. absurd (valid_is_no_text bs n v u)
 text_known (Err e) bs n u h =
     (λ is. absurd (elim h [ inl w ↦ not_write n w.0 (Err e) (ap (λ x. Err x) w.1) is | inr m ↦ not_memory n (Err e) (ap (λ x. Err x) m) is ]), λ v. absurd (valid_is_no_text bs n v u))
 
+pub or_write : {T : Type 0} (r : Result T RunError) → IfErr r (λ e. e ≡ Memory alloc_error) → IfErr r (λ e. IsWrite e ⊎ (e ≡ Memory alloc_error))
+or_write (Ok t) h = tt
+or_write (Err e) h = inr h
+
 abbrev offset_of : RunError → ℕ
 offset_of (Read failed) = 0
 offset_of TooLong = 0

@@ -2,10 +2,11 @@
 use Rattle.std.proofs.Common.{◌≡◌, ◌⊎◌, inl, inr, ◌+◌, ◌<◌, ◌≤◌, ℕ, List, [], ◌∷◌, ◌++◌, length, length-append, take, get_or, refl, sym, ap, ◌∙◌, subst, arith}
 use Rattle.std.proofs.Math.Nat.{max_comm, max-le, le-max_left, le-max_right}
 use Rattle.std.proofs.lemmas.List.{take_more}
-use Rattle.std.specs.Prelude.{max, string_bytes, Option, IsSome}
+use Rattle.std.specs.Prelude.{max, string_bytes, Option, IsSome, IfSome}
 use Rattle.wat_commands.specs.Options.{Word}
 use Rattle.wat_commands.specs.Outcomes.{status}
-use Rattle.wat_commands.specs.Responses.{Runner, RanEach, RanFiles, worst}
+use Rattle.wat_commands.specs.Responses.{GreatestOfEach, Runner, RanEach, RanFiles, worst}
+use Rattle.wat_commands.specs.Responses.GreatestOfEach.{one_more}
 use Rattle.wat_commands.specs.Responses.RanEach.{none, more}
 use Rattle.wat_commands.specs.declared.ends.Failed.{Failed}
 use Rattle.wat_commands.specs.declared.outcome.Outcome.{Outcome}
@@ -47,3 +48,10 @@ all_ran run failure files n output output' greatest h whole = record {
   whole = elim whole [ inl e ↦ inl (h.count ∙ e) | inr f ↦ inr f ];
   greatest = h.greatest;
 }
+
+-- the status of one file more
+pub one_more_status : (known : List ℕ → Option ℕ) (files : List Word) (n : ℕ) (file : Word) (worst status worst' : ℕ) → n < length files → file ≡ get_or files n file → GreatestOfEach known (take n files) worst → IfSome (known (string_bytes file)) (λ s. status ≡ s)
+    → worst' ≡ max worst status → GreatestOfEach known (take (n + 1) files) worst'
+one_more_status known files n file worst status worst' lt at h k e =
+    subst (λ m. GreatestOfEach known (take (n + 1) files) m) (sym e)
+    (one_more (take n files) (take (n + 1) files) file worst status (take_more files n file lt ∙ ap (λ f. take n files ++ f ∷ []) (sym at)) h k)

@@ -8,6 +8,7 @@ pub mod Inputs
 pub mod JsonLists
 pub mod JsonRows
 pub mod JsonStrings
+pub mod Layouts
 pub mod Lists
 pub mod Options
 pub mod Outcomes

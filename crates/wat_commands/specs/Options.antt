@@ -8,6 +8,8 @@ use Rattle.wat_lexer_parser.specs.declared.parser.calls.Call.{Call}
 use Rattle.wat_commands.specs.Calls.{SpellsCall}
 use Rattle.wat_commands.specs.declared.options.Command.{Command}
 use Rattle.wat_commands.specs.declared.options.Command.TheVariants as command
+use Rattle.wat_commands.specs.declared.options.Mode.{Mode}
+use Rattle.wat_commands.specs.declared.options.Mode.TheVariants as mode
 use Rattle.wat_commands.specs.declared.options.Task.{Task}
 use Rattle.wat_commands.specs.declared.options.Task.TheVariants as task
 use Rattle.wat_commands.specs.declared.options.Verb.{Verb}
@@ -57,6 +59,7 @@ verb_named word =
     else if bytes_eq word (codes "play") then Some verb.Play
     else if bytes_eq word (codes "blank") then Some verb.Blank
     else if bytes_eq word (codes "types") then Some verb.Types
+    else if bytes_eq word (codes "fmt") then Some verb.Fmt
     else None
 
 -- the command that the words begin with, the list where they name none, and the words behind its name
@@ -67,6 +70,22 @@ verb_of (word ∷ words) = unwrap_or (verb_named (string_bytes word)) verb.List
 abbrev pub behind_verb : List Word → List Word
 behind_verb [] = []
 behind_verb (word ∷ words) = if is_some (verb_named (string_bytes word)) then words else word ∷ words
+
+-- what is done with layouts, by the name of an option
+abbrev pub mode_named : List ℕ → Option Mode
+mode_named word =
+    if bytes_eq word (codes "--check") then Some mode.Check
+    else if bytes_eq word (codes "--write") then Some mode.Write
+    else None
+
+-- what is done with layouts, by the words behind `fmt`: they are written where these say nothing else; and the words behind that
+abbrev pub mode_of : List Word → Mode
+mode_of [] = mode.Print
+mode_of (word ∷ words) = unwrap_or (mode_named (string_bytes word)) mode.Print
+
+abbrev pub behind_mode : List Word → List Word
+behind_mode [] = []
+behind_mode (word ∷ words) = if is_some (mode_named (string_bytes word)) then words else word ∷ words
 
 -- how many words stand in front of `--`
 abbrev pub own_len : List Word → ℕ
@@ -115,14 +134,16 @@ owns_files verb.Sig = false
 owns_files verb.Play = false
 owns_files verb.Blank = true
 owns_files verb.Types = true
+owns_files verb.Fmt = true
 
--- the lists take any number of files, the others one at most
+-- the lists and `fmt` take any number of files, the others one at most
 abbrev pub takes_many : Verb → Bool
 takes_many verb.List = true
 takes_many verb.Sig = true
 takes_many verb.Play = false
 takes_many verb.Blank = false
 takes_many verb.Types = false
+takes_many verb.Fmt = true
 
 -- a command's files: the words behind `--`, or else, where they are files, those in front of it
 pub record AsksFiles (v : Verb) (own behind files : List Word) : Type 0 where
@@ -141,6 +162,18 @@ pub record AsksRun (words : List Word) (settings : Settings) (task : Task) (file
   pub asks : AsksBehind (wants_json (options_of words)) (behind_options words) task files
   pub bare : verb_of (behind_options words) ≡ verb.Types → length (options_of words) ≡ 0
 
+-- the words behind `fmt` say what is done with layouts, of which there is no JSON, and name the files
+pub record AsksLayouts (json : Bool) (words : List Word) (m : Mode) (files : List Word) : Type 0 where
+  pub plain : json ≡ false
+  pub done : m ≡ mode_of words
+  pub named : AsksFiles verb.Fmt (own_words (behind_mode words)) (file_words (behind_mode words)) files
+
+-- the words are options, and then `fmt` with its words and files
+pub record AsksFormat (words : List Word) (settings : Settings) (m : Mode) (files : List Word) : Type 0 where
+  pub selects : Selects (options_of words) settings
+  pub command : verb_of (behind_options words) ≡ verb.Fmt
+  pub asks : AsksLayouts (wants_json (options_of words)) (behind_verb (behind_options words)) m files
+
 -- the first word
 abbrev pub begins_with : List ℕ → List Word → Bool
 begins_with word [] = false
@@ -151,6 +184,7 @@ abbrev pub Asks : List Word → Command → Type 0
 Asks words command.Help = begins_with (codes "--help") words || begins_with (codes "-h") words ≡ true
 Asks words command.Version = begins_with (codes "--version") words ≡ true
 Asks words (command.Run settings task files) = AsksRun words settings task files.now
+Asks words (command.Format settings m files) = AsksFormat words settings m files.now
 
 -- the words are options, `play`, and then others
 abbrev pub AsksPlay : List Word → Type 0
@@ -161,9 +195,9 @@ pub record BeginsToPlay (words : List Word) : Type 0 where
   pub n : ℕ
   pub play : AsksPlay (take n words)
 
--- the words ask for help, the version, or a run
+-- the words ask for help, the version, a run, or layouts
 abbrev pub AsksSomething : List Word → Type 0
-AsksSomething words = Asks words command.Help ⊎ (Asks words command.Version ⊎ ((settings : Settings) × (task : Task) × (files : List Word) × AsksRun words settings task files))
+AsksSomething words = Asks words command.Help ⊎ (Asks words command.Version ⊎ (((settings : Settings) × (task : Task) × (files : List Word) × AsksRun words settings task files) ⊎ ((settings : Settings) × (m : Mode) × (files : List Word) × AsksFormat words settings m files)))
 
 abbrev pub AsksNothing : List Word → Type 0
 AsksNothing words = ¬ AsksSomething words

@@ -71,12 +71,12 @@ hint error = if is_marked error then codes "\nthe text begins with a byte order 
 -- what is said of a wrong word
 abbrev pub complaint : List ℕ → List ℕ
 complaint word =
-    if is_option word || (bytes_eq word (codes "--help") || (bytes_eq word (codes "-h") || bytes_eq word (codes "--version"))) then codes "misplaced option"
+    if is_option word || (bytes_eq word (codes "--check") || (bytes_eq word (codes "--write") || (bytes_eq word (codes "--help") || (bytes_eq word (codes "-h") || bytes_eq word (codes "--version"))))) then codes "misplaced option"
     else if is_file word then codes "unexpected word"
     else codes "unknown option"
 
 abbrev pub usage : List ℕ
-usage = codes "usage: wat_tokens [OPTION..] [list | sig NAME.. | play CALL.. | blank | types] [--] [FILE..]; --help says more"
+usage = codes "usage: wat_tokens [OPTION..] [list | sig NAME.. | play CALL.. | blank | types | fmt [--check | --write]] [--] [FILE..]; --help says more"
 
 -- what stands on standard error: of a file's text, or of that of standard input
 abbrev pub report : Option (List ℕ) → Outcome → List ℕ

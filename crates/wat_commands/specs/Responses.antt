@@ -4,12 +4,13 @@ use Rattle.std.specs.Io.KnownBytes.{Appends}
 use Rattle.std.specs.Str.{bytes_eq}
 use Rattle.wat_lex.specs.declared.lexer.settings.Settings.{Settings}
 use Rattle.wat_commands.specs.Help.{help, version}
-use Rattle.wat_commands.specs.Options.{Word, Asks, AsksRun, AsksNothing, BeginsToPlay, IsWrong}
+use Rattle.wat_commands.specs.Options.{Word, Asks, AsksRun, AsksFormat, AsksNothing, BeginsToPlay, IsWrong}
 use Rattle.wat_commands.specs.Outcomes.{Ran, status}
 use Rattle.wat_commands.specs.Printed.{Prints}
 use Rattle.wat_commands.specs.Streams.{AppendsPrefix}
 use Rattle.wat_commands.specs.declared.ends.Failed.{Failed}
 use Rattle.wat_commands.specs.declared.options.Command.TheVariants.{Help, Version}
+use Rattle.wat_commands.specs.declared.options.Mode.{Mode}
 use Rattle.wat_commands.specs.declared.options.Task.{Task}
 use Rattle.wat_commands.specs.declared.outcome.Outcome.{Outcome}
 use Rattle.wat_commands.specs.declared.outcome.Outcome.TheVariants.{Listed, Refused, Unopened}
@@ -63,17 +64,28 @@ pub data RanAll {T : Type 0} (run : Runner T) (write_failed : T → Option Faile
   alone : (outcome : Outcome) → length files ≡ 0 → run (codes "-") output output' outcome → exit ≡ status outcome → RanAll run write_failed files output output' exit
   each : 0 < length files → RanFiles run write_failed files output output' exit → RanAll run write_failed files output output' exit
 
+-- The greatest of the statuses of files, of which each is this, where it is known.
+pub data GreatestOfEach (known : List ℕ → Option ℕ) : List Word → ℕ → Type 0 where
+  no_file : GreatestOfEach known [] 0
+  one_more : (front files : List Word) (file : Word) (worst status : ℕ) → files ≡ front ++ file ∷ [] → GreatestOfEach known front worst → IfSome (known (string_bytes file)) (λ s. status ≡ s) → GreatestOfEach known files (max worst status)
+
+-- The same, or that of standard input where there are none.
+pub data GreatestOfAll (known : List ℕ → Option ℕ) (files : List Word) (exit : ℕ) : Type 0 where
+  standard : length files ≡ 0 → IfSome (known (codes "-")) (λ s. exit ≡ s) → GreatestOfAll known files exit
+  named : 0 < length files → GreatestOfEach known files exit → GreatestOfAll known files exit
+
 -- a text of the program's own was written, or a prefix of it where the write failed
 abbrev pub Says : {T : Type 0} → (T → Option (List ℕ)) → (T → Option Failed) → List ℕ → T → T → Outcome → Type 0
 Says held write_failed text output output' outcome =
     ((outcome ≡ Listed) × Appends (held output) (held output') text)
     ⊎ ((failed : Failed) × (outcome ≡ Refused (Write failed)) × (write_failed output' ≡ Some failed) × AppendsPrefix (held output) (held output') text)
 
--- What the words came to, and the exit status. What they ask for was run; or the program said what they ask of it; or they ask for nothing,
--- or there was no memory for the calls of `play`, and nothing was written.
-pub data Responded {T : Type 0} (held : T → Option (List ℕ)) (write_failed : T → Option Failed) (run : Settings → Task → Runner T) (words : List Word) (output output' : T) (exit : ℕ) : Type 0 where
-  ran : (settings : Settings) (task : Task) (files : List Word) → AsksRun words settings task files → RanAll (run settings task) write_failed files output output' exit → Responded held write_failed run words output output' exit
-  helped : (outcome : Outcome) → Asks words Help → Says held write_failed help output output' outcome → exit ≡ status outcome → Responded held write_failed run words output output' exit
-  versioned : (outcome : Outcome) → Asks words Version → Says held write_failed version output output' outcome → exit ≡ status outcome → Responded held write_failed run words output output' exit
-  wrong : (word : List ℕ) → AsksNothing words → IsWrong words word → exit ≡ 2 → output' ≡ output → Responded held write_failed run words output output' exit
-  unread : BeginsToPlay words → exit ≡ 2 → output' ≡ output → Responded held write_failed run words output output' exit
+-- What the words came to, and the exit status. What they ask for was run, or done with layouts; or the program said what they ask of it; or they
+-- ask for nothing, or there was no memory for the calls of `play`, and nothing was written.
+pub data Responded {T : Type 0} (held : T → Option (List ℕ)) (write_failed : T → Option Failed) (run : Settings → Task → Runner T) (laid_out : Settings → Mode → List ℕ → Option ℕ) (words : List Word) (output output' : T) (exit : ℕ) : Type 0 where
+  ran : (settings : Settings) (task : Task) (files : List Word) → AsksRun words settings task files → RanAll (run settings task) write_failed files output output' exit → Responded held write_failed run laid_out words output output' exit
+  formatted : (settings : Settings) (m : Mode) (files : List Word) → AsksFormat words settings m files → GreatestOfAll (laid_out settings m) files exit → output' ≡ output → Responded held write_failed run laid_out words output output' exit
+  helped : (outcome : Outcome) → Asks words Help → Says held write_failed help output output' outcome → exit ≡ status outcome → Responded held write_failed run laid_out words output output' exit
+  versioned : (outcome : Outcome) → Asks words Version → Says held write_failed version output output' outcome → exit ≡ status outcome → Responded held write_failed run laid_out words output output' exit
+  wrong : (word : List ℕ) → AsksNothing words → IsWrong words word → exit ≡ 2 → output' ≡ output → Responded held write_failed run laid_out words output output' exit
+  unread : BeginsToPlay words → exit ≡ 2 → output' ≡ output → Responded held write_failed run laid_out words output output' exit

@@ -30,8 +30,10 @@ commands, `list` where none is named:
   play CALL..  the replies of a parser to calls, a line each
   blank        the text with spaces over its comments
   types        the bytes of the module, where it holds nothing but function types
+  fmt          the text laid out; with `--check` behind it the names of the files that are not,
+               with `--write` nothing: these files are written anew
 
-`list` and `sig` take any number of files, the others one. Behind the words of `sig` and `play`
+`list`, `sig` and `fmt` take any number of files, the others one. Behind the words of `sig` and `play`
 the files stand behind `--`.
 
 options, which stand in front of the command:
@@ -50,11 +52,13 @@ calls of a parser:
   unreg=NAME  hide them again
   parens=N    take a group in parentheses with up to N tokens in it
 
-exit status: 0 where all is written, 1 where a text has a fault or is no module, 2 otherwise.
+exit status: 0 where all is written, 1 where a text has a fault, is no module or is not laid out,
+2 otherwise.
 
 examples:
   wat_tokens a.wat
   wat_tokens sig name -- a.wat b.wat
   wat_tokens --json sig -- a.wat
+  wat_tokens fmt --write a.wat b.wat
   printf '(@a x) (func)' | wat_tokens play look reg=a take
 ";

@@ -1,12 +1,14 @@
 //! The commands of `wat_tokens`, over any source and sink: what they read, write and end in. They
 //! list the raw tokens of a WebAssembly text, or those that count, or what a parser replies to calls;
-//! or write the text with its comments blanked, or the bytes of the module that the text spells.
+//! or write the text with its comments blanked, or laid out, or the bytes of the module that the text
+//! spells.
 #![tactic(auto)]
 
 pub mod blank;
 mod block;
 pub mod calls;
 pub mod ends;
+pub mod fmt;
 pub mod help;
 pub mod json;
 mod line;

@@ -6,14 +6,16 @@ ghost use Rattle.std.specs.declared.string.String.{String};
 ghost use Rattle.wat_lex.specs.declared.lexer.settings.Settings.{Settings};
 ghost use Rattle.wat_lexer_parser.specs.declared.parser.calls.Call.{Call};
 ghost use Rattle.wat_commands.specs.declared.options.Command.{Command};
+ghost use Rattle.wat_commands.specs.declared.options.Mode.{Mode};
 ghost use Rattle.wat_commands.specs.declared.options.Task.{Task};
 ghost use Rattle.wat_commands.specs.declared.options.Verb.TheVariants as verbs;
 ghost use Rattle.wat_commands.specs.Options.{occurrences, is_option, options_len, Selects};
 ghost use Rattle.wat_commands.specs.Options.{wants_json};
 ghost use Rattle.wat_commands.specs.Options.{verb_named, verb_of, behind_verb, own_len, own_words};
-ghost use Rattle.wat_commands.specs.Options.{file_words};
+ghost use Rattle.wat_commands.specs.Options.{file_words, mode_named, mode_of, behind_mode};
 ghost use Rattle.wat_commands.specs.Options.{is_name, is_file, owns_files, takes_many, AllPass};
 ghost use Rattle.wat_commands.specs.Options.{SpellsCalls, AsksTask, AsksFiles, AsksBehind, AsksRun};
+ghost use Rattle.wat_commands.specs.Options.{AsksLayouts, AsksFormat};
 ghost use Rattle.wat_commands.specs.Options.{begins_with, Asks, AsksPlay, AsksNothing};
 ghost use Rattle.wat_commands.specs.Options.{AsksSomething, BeginsToPlay, IsWrong};
 
@@ -41,6 +43,17 @@ pub enum Task<'a> {
     Types,
 }
 
+/// What is done with the layout of a text.
+#[derive(Clone, Copy, Debug, PartialEq, Eq)]
+pub enum Mode {
+    /// It is written.
+    Print,
+    /// It is compared with the text.
+    Check,
+    /// The file becomes it, where it is not that already.
+    Write,
+}
+
 /// What the words of the command line ask for.
 #[derive(Drop)]
 pub enum Command<'a> {
@@ -51,6 +64,9 @@ pub enum Command<'a> {
     /// What is written of the texts of these files, which are read with these settings; of standard
     /// input where there is none.
     Run(Settings, Task<'a>, &'a [String]),
+    /// What is done with the layouts of the texts of these files, which are read with these settings;
+    /// of standard input where there is none.
+    Format(Settings, Mode, &'a [String]),
 }
 
 /// The name of a command.
@@ -61,6 +77,7 @@ enum Verb {
     Play,
     Blank,
     Types,
+    Fmt,
 }
 
 /// How often a word stands among the words.
@@ -118,6 +135,7 @@ fn verb_named(word: &str) -> Option<Verb>
         "play" => Some(Verb::Play),
         "blank" => Some(Verb::Blank),
         "types" => Some(Verb::Types),
+        "fmt" => Some(Verb::Fmt),
         _ => None,
     }
 }
@@ -133,6 +151,31 @@ fn split_verb(words: &[String]) -> (Verb, &[String])
     match verb_named(word) {
         Some(verb) => (verb, rest),
         None => (Verb::List, words),
+    }
+}
+
+/// What is done with layouts, by the name of an option.
+fn mode_named(word: &str) -> Option<Mode>
+    ensures { result ≡ mode_named word.now }
+{
+    match word {
+        "--check" => Some(Mode::Check),
+        "--write" => Some(Mode::Write),
+        _ => None,
+    }
+}
+
+/// What is done with layouts, by the words behind `fmt`, and those of them that stand behind that.
+fn split_mode(words: &[String]) -> (Mode, &[String])
+    ensures mode { result.0 ≡ mode_of words.now }
+    ensures behind { result.1.now ≡ behind_mode words.now }
+{
+    let Some((word, rest)) = words.split_first() else {
+        return (Mode::Print, words);
+    };
+    match mode_named(word) {
+        Some(mode) => (mode, rest),
+        None => (Mode::Print, words),
     }
 }
 
@@ -190,7 +233,7 @@ impl Verb {
         ensures { result ≡ owns_files self }
     {
         match self {
-            Verb::List | Verb::Blank | Verb::Types => true,
+            Verb::List | Verb::Blank | Verb::Types | Verb::Fmt => true,
             Verb::Sig | Verb::Play => false,
         }
     }
@@ -200,7 +243,7 @@ impl Verb {
         ensures { result ≡ takes_many self }
     {
         match self {
-            Verb::List | Verb::Sig => true,
+            Verb::List | Verb::Sig | Verb::Fmt => true,
             Verb::Play | Verb::Blank | Verb::Types => false,
         }
     }
@@ -230,7 +273,7 @@ fn json_task_of(verb: Verb, own: &[String]) -> Option<Task<'_>>
     match verb {
         Verb::List => Some(Task::JsonList),
         Verb::Sig if are_names(own) => Some(Task::JsonSig(own)),
-        Verb::Sig | Verb::Play | Verb::Blank | Verb::Types => None,
+        Verb::Sig | Verb::Play | Verb::Blank | Verb::Types | Verb::Fmt => None,
     }
 }
 
@@ -255,6 +298,7 @@ fn task_of<'a>(
         Verb::Play => read_calls(alloc, own)?.map(|calls| Task::Play(calls)),
         Verb::Blank => Some(Task::Blank),
         Verb::Types => Some(Task::Types),
+        Verb::Fmt => None,
     })
 }
 
@@ -297,6 +341,44 @@ fn behind_options<'a>(
         return Ok(None);
     };
     Ok(Some((task, files)))
+}
+
+/// What the words behind `fmt` ask for. There is no JSON of layouts.
+fn layouts_of(json: bool, words: &[String]) -> Option<(Mode, &[String])>
+    ensures { MatchOption result
+        ((mode : Mode) (files : List (String Global)) → ¬ AsksLayouts json words.now mode files)
+        (λ r. AsksLayouts json words.now r.0 r.1.now) }
+{
+    if json {
+        return None;
+    }
+    let (mode, rest) = split_mode(words);
+    let (own, others) = split_files(rest);
+    let Some(files) = files_of(Verb::Fmt, own, others) else {
+        return None;
+    };
+    Some((mode, files))
+}
+
+/// The formatting that the words ask for: options, each at most once, in any order, and then `fmt`
+/// with its words and files.
+fn format_of(words: &[String]) -> Option<Command<'_>>
+    ensures { MatchOption result
+        ((s : Settings) (m : Mode) (files : List (String Global)) → ¬ AsksFormat words.now s m files)
+        (Asks words.now) }
+{
+    let (options, rest) = words.split_at(options_len(words));
+    let Some(settings) = settings_of(options) else {
+        return None;
+    };
+    let (verb, behind) = split_verb(rest);
+    if verb != Verb::Fmt {
+        return None;
+    }
+    let Some((mode, files)) = layouts_of(wants_json(options), behind) else {
+        return None;
+    };
+    Some(Command::Format(settings, mode, files))
 }
 
 /// The run that the words ask for: options, each at most once, in any order, and then a command
@@ -344,6 +426,9 @@ pub fn command_of<'a>(alloc: Global, words: &'a [String]) -> Result<Option<Comma
     }
     if begins_with("--version", words) {
         return Ok(Some(Command::Version));
+    }
+    if let Some(command) = format_of(words) {
+        return Ok(Some(command));
     }
     run_of(alloc, words)
 }

@@ -16,8 +16,8 @@ use wat_lex::error::Error;
 use wat_lex::lexer::{LexError, Settings};
 
 const USAGE: &str =
-    "usage: wat_tokens [OPTION..] [list | sig NAME.. | play CALL.. | blank | types] \
-     [--] [FILE..]; --help says more";
+    "usage: wat_tokens [OPTION..] [list | sig NAME.. | play CALL.. | blank | types | \
+     fmt [--check | --write]] [--] [FILE..]; --help says more";
 
 /// What a run of the program ends in.
 #[derive(Drop)]
@@ -68,7 +68,13 @@ fn is_unread(error: RunError) -> bool
 fn complaint(word: &str) -> &'static str
     ensures { result.now ≡ complaint word.now }
 {
-    if is_option(word) || word == "--help" || word == "-h" || word == "--version" {
+    if is_option(word)
+        || word == "--check"
+        || word == "--write"
+        || word == "--help"
+        || word == "-h"
+        || word == "--version"
+    {
         "misplaced option"
     } else if is_file(word) {
         "unexpected word"

@@ -202,7 +202,7 @@ fn print_of<W: Sink>(
 }
 
 /// The text that bytes are.
-fn text_of(bytes: &[u8]) -> Result<&str, RunError>
+pub(crate) fn text_of(bytes: &[u8]) -> Result<&str, RunError>
     ensures text { IfOk result (λ text. text.now ≡ bytes.now) }
     ensures utf8 { OnOk result (IsUtf8 bytes.now) }
     ensures not_utf8 { (offset : ℕ) →

@@ -1,13 +1,16 @@
 //! What the program answers to the words of its command line.
-ghost use Rattle.std.specs.Prelude.{◌≡◌, ℕ, List, Option, None, MatchResult};
+ghost use Rattle.std.specs.Prelude.{◌≡◌, ℕ, List, Option, None, IfSome, MatchResult};
 ghost use Rattle.std.specs.Option.{option_map};
 ghost use Rattle.wat_commands.specs.Outcomes.{status, task_prints};
 ghost use Rattle.wat_commands.specs.Responses.{Found, Gives, Fails, name_of, RanFile};
 ghost use Rattle.wat_commands.specs.Responses.{RanAll, RanFiles, Responded, Says};
+ghost use Rattle.wat_commands.specs.Responses.{GreatestOfAll, GreatestOfEach};
+ghost use Rattle.wat_commands.specs.declared.options.Mode.{Mode};
+ghost use Rattle.wat_lex.specs.declared.lexer.settings.Settings.{Settings};
 
 use crate::ends::{Failed, Sink, Source};
 use crate::help::{help, version};
-use crate::options::{Command, Task, read_words};
+use crate::options::{Command, Mode, Task, read_words};
 use crate::outcome::{Outcome, carry_out};
 use crate::run::RunError;
 use std::alloc::Global;
@@ -21,12 +24,20 @@ pub trait Inputs {
     // What opening each file gives, where that is known.
     ghost found: { Self → List ℕ → Found };
 
+    // The exit status of what is done with the layout of each, where that is known.
+    ghost laid_out: { Self → Settings → Mode → List ℕ → Option ℕ };
+
     /// Opens a file; `-` is standard input.
     fn open(&self, file: &str) -> Result<Self::Input, Failed>
         ensures { MatchResult result
             (λ input. Gives (found self.now file.now) (Self.Input.left input)
             × (Self.Input.failure input ≡ None))
             (λ failed. Fails (found self.now file.now) failed) };
+
+    /// Writes the layout of a file's text, or compares the text with it, or makes it that, and answers
+    /// the exit status; `-` is standard input.
+    fn lay_out(&self, settings: Settings, mode: Mode, file: &str) -> u8
+        ensures { IfSome (laid_out self.now settings mode file.now) (λ status. result ≡ status) };
 }
 
 /// The name that reports give to a file: none to standard input.
@@ -118,6 +129,28 @@ fn run_all<I: Inputs, W: Sink, E: io::Write>(
     told(alloc, &outcome, None, errors)
 }
 
+/// Does what is asked with the layout of the text of each file, and answers the greatest status.
+fn lay_out_files<I: Inputs>(settings: Settings, mode: Mode, inputs: &I, files: &[String]) -> u8
+    ensures { GreatestOfEach (I.laid_out inputs.now settings mode) files.now result }
+{
+    let mut worst = 0;
+    for name in files {
+        worst = worst.max(inputs.lay_out(settings, mode, name));
+    }
+    worst
+}
+
+/// Does what is asked with the layout of the text of each file, or of standard input where there is
+/// none, and answers the greatest status.
+fn lay_out_all<I: Inputs>(settings: Settings, mode: Mode, inputs: &I, files: &[String]) -> u8
+    ensures { GreatestOfAll (I.laid_out inputs.now settings mode) files.now result }
+{
+    if !files.is_empty() {
+        return lay_out_files(settings, mode, inputs, files);
+    }
+    inputs.lay_out(settings, mode, "-")
+}
+
 /// Writes a text of the program's own.
 fn say<W: Sink>(text: &str, output: &mut W) -> Outcome<'static>
     requires { W.failure output.old ≡ None }
@@ -142,11 +175,14 @@ pub fn respond<I: Inputs, W: Sink, E: io::Write>(
     ensures { Responded W.held W.failure
         (λ settings task file. RanFile I.Input.left I.Input.failure I.Input.has_ended W.held W.failure
         (task_prints settings task) (I.found inputs.now file))
-        words.now output.old output.new result }
+        (I.laid_out inputs.now) words.now output.old output.new result }
 {
     match read_words(alloc, words) {
         Ok(Ok(Command::Run(settings, task, files))) => {
             run_all(alloc, settings, &task, inputs, files, output, errors)
+        }
+        Ok(Ok(Command::Format(settings, mode, files))) => {
+            lay_out_all(settings, mode, inputs, files)
         }
         Ok(Ok(Command::Help)) => told(alloc, &say(help(), output), None, errors),
         Ok(Ok(Command::Version)) => told(alloc, &say(version(), output), None, errors),

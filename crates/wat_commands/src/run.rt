@@ -61,7 +61,7 @@ const STANDARD: Settings = Settings {
 
 /// All that a source has left, or the refusal: it is read to its end, or to one byte past the
 /// longest text.
-fn read_whole<R: Source>(alloc: Global, input: &mut R) -> Result<Vec<u8>, RunError>
+pub(crate) fn read_whole<R: Source>(alloc: Global, input: &mut R) -> Result<Vec<u8>, RunError>
     requires { R.failure input.old ≡ None }
     ensures whole { IfOk result (λ bytes.
         ReadsWhole (R.left input.old) (R.left input.new) bytes.items) }

@@ -1,12 +1,12 @@
 -- What words begin with.
-use Rattle.std.proofs.Common.{◌≡◌, ◌≢◌, ℕ, Bool, true, false, ◌||◌, eqb, List, [], ◌∷◌, ◌++◌, refl, sym, ap, ◌∙◌, subst, inl, inr, arith}
+use Rattle.std.proofs.Common.{◌≡◌, ◌≢◌, ℕ, Bool, true, false, ◌||◌, eqb, List, [], ◌∷◌, refl, sym, subst, inl, inr, arith}
 use Rattle.std.proofs.lemmas.Bool.{false≢true}
 use Rattle.std.proofs.lemmas.Bool.Decides.{nat_tests}
 use Rattle.std.specs.Prelude.{IsTrue, ◌⊎◌}
 use Rattle.wat_lex.specs.grammar.Classes.{is_whitespace, is_run_char, is_idchar, is_punctuation, quote, semicolon, open_paren, close_paren}
 use Rattle.wat_lex.specs.grammar.Comments.{BlockComment as Commented, LineComment as CommentedLine}
 use Rattle.wat_lex.specs.grammar.Runs.{Piece, Run}
-use Rattle.wat_lex.specs.grammar.Words.{Word, Punctuation}
+use Rattle.wat_lex.specs.grammar.Words.{Word}
 use Rattle.wat_lex.specs.declared.lexer.settings.Settings.{Settings}
 use Rattle.wat_lex.specs.declared.lexer.kinds.TokenKind.{TokenKind}
 use Rattle.wat_lex.specs.declared.lexer.kinds.TokenKind.TheVariants.{LineComment, BlockComment, Whitespace, LParen, RParen, String, Id, Keyword, Annotation, Reserved, Integer, Float}

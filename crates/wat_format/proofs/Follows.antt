@@ -1,19 +1,18 @@
 -- What may follow a word, in a layout.
-use Rattle.std.proofs.Common.{◌≡◌, ◌≢◌, ℕ, Bool, true, false, ◌||◌, eqb, List, [], ◌∷◌, ◌++◌, refl, sym, ap, ◌∙◌, subst, inl, inr, arith}
+use Rattle.std.proofs.Common.{◌≡◌, ◌≢◌, ℕ, Bool, true, false, eqb, List, [], ◌∷◌, refl, sym, ◌∙◌, subst, inl, inr}
 use Rattle.std.proofs.lemmas.Bool.{false≢true}
-use Rattle.std.specs.Prelude.{IsTrue, ◌⊎◌, Option, Some, None, if◌then◌else◌}
-use Rattle.wat_lex.specs.grammar.Classes.{Begins, is_line_end, is_run_char, is_whitespace, semicolon, close_paren, line_feed}
-use Rattle.wat_lex.specs.grammar.Words.{MayFollow, EndsRun, Punctuation}
+use Rattle.std.specs.Prelude.{IsTrue, Option, Some, if◌then◌else◌}
+use Rattle.wat_lex.specs.grammar.Classes.{is_run_char, semicolon, line_feed}
+use Rattle.wat_lex.specs.grammar.Words.{MayFollow}
 use Rattle.wat_lex.specs.declared.lexer.kinds.TokenKind.{TokenKind}
 use Rattle.wat_lex.specs.declared.lexer.kinds.TokenKind.TheVariants.{LineComment, BlockComment, Whitespace, LParen, RParen, String, Id, Keyword, Annotation, Reserved, Integer, Float}
-use Rattle.wat_format.specs.Gaps.{settled, is_break, kept}
+use Rattle.wat_format.specs.Gaps.{settled, is_break}
 use Rattle.wat_format.specs.Layout.{is_white}
 use Rattle.wat_format.specs.Sorts.{sort_of, sort_of_keyword, sort_by_first, begins_block, ends_block, parts_block, is_mark_byte}
 use Rattle.wat_format.specs.declared.gap.Gap.{Gap}
 use Rattle.wat_format.specs.declared.gap.Gap.TheVariants.{Touching, Blanks, LineEnd, EmptyLine}
 use Rattle.wat_format.specs.declared.sort.Sort.{Sort}
 use Rattle.wat_format.specs.declared.sort.Sort.TheVariants.{Open, Close, Comment, Mark, At, Begins as BeginsBlock, Ends, Parts, Other}
-use Rattle.wat_format.proofs.FirstCharacters.{IsFirst}
 
 -- a character that goes on with no word but a line comment
 pub record GoesOnWithNone (c : ℕ) : Type 0 where

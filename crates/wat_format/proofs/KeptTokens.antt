@@ -1,5 +1,5 @@
 -- The laws of layouts, from their pieces.
-use Rattle.std.proofs.Common.{◌≡◌, ◌≢◌, ◌+◌, ◌*◌, ℕ, zero, suc, Bool, true, false, List, [], ◌∷◌, ◌++◌, length, drop, replicate, refl, sym, ap, ◌∙◌, subst, inl, inr, arith}
+use Rattle.std.proofs.Common.{◌≡◌, ◌≢◌, ◌*◌, ℕ, zero, suc, Bool, true, false, List, [], ◌∷◌, length, replicate, refl, sym, ap, ◌∙◌, subst, inl, inr, arith}
 use Rattle.std.proofs.lemmas.Str.{IsCharBoundary-start}
 use Rattle.std.specs.Prelude.{◌⊎◌, Option, Some, None, is_some, if◌then◌else◌}
 use Rattle.std.specs.Str.{IsUtf8}
@@ -15,7 +15,7 @@ use Rattle.wat_lex.specs.declared.lexer.kinds.TokenKind.TheVariants.{Whitespace}
 use Rattle.wat_format.specs.Formatting.{Formatted, Refuses}
 use Rattle.wat_format.specs.Gaps.{gap_of, gap_text}
 use Rattle.wat_format.specs.Laws.{EachTextIsAnswered, LayoutsAreOne, LayoutsHaveNoFault, words, EndsClean, Written, WhiteIsWritten, over, Keeps, LayoutsKeepTokens, LayoutsAreUtf8, LayoutsStay}
-use Rattle.wat_format.specs.Layout.{State, start, laid, layout, is_white, gap_before, line_level, behind}
+use Rattle.wat_format.specs.Layout.{State, start, layout, is_white, gap_before, line_level, behind}
 use Rattle.wat_format.specs.Sorts.{sort_of}
 use Rattle.wat_format.specs.declared.error.Error.TheVariants.{Fault}
 use Rattle.wat_format.specs.declared.gap.Gap.{Gap}
@@ -81,7 +81,7 @@ white_of_pieces : (text : List ℕ) (ts : List Token) → AllWritten (pieces tex
 white_of_pieces text [] h = tt
 white_of_pieces text (t ∷ ts) h = (h.0, white_of_pieces text ts h.1)
 
-words_of_pieces : (text : List ℕ) (ts : List Token) → words text ts ≡ no_white (pieces text ts)
+pub words_of_pieces : (text : List ℕ) (ts : List Token) → words text ts ≡ no_white (pieces text ts)
 words_of_pieces text [] = refl
 words_of_pieces text (t ∷ ts) =
     let w : List ℕ = token_text text t in

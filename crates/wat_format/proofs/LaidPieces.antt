@@ -1,29 +1,19 @@
 -- A layout as pieces: they stand one behind the other, but for white space they are those of the text, and laid out again they are the same.
-use Rattle.std.proofs.Common.{◌≡◌, ◌≢◌, ◌<◌, ℕ, zero, suc, Bool, true, false, eqb, List, [], ◌∷◌, ◌++◌, replicate, refl, sym, ap, ◌∙◌, subst, inl, inr, arith, append_assoc}
-use Rattle.std.proofs.lemmas.Bool.{false≢true}
-use Rattle.std.proofs.lemmas.Bool.Decides.{nat_tests}
-use Rattle.std.proofs.lemmas.List.{append-nil}
-use Rattle.std.proofs.lemmas.Str.{encodes-chars, chars-nil}
-use Rattle.std.specs.Prelude.{IsTrue, ◌⊎◌, Option, Some, None, is_some, if◌then◌else◌, encode_utf8_all}
-use Rattle.std.specs.Str.{IsUtf8, chars}
-use Rattle.wat_lex.specs.grammar.Classes.{Begins, Each, is_line_end, is_run_char, is_whitespace, is_punctuation, line_feed, semicolon}
-use Rattle.wat_lex.specs.grammar.Words.{Word, MayFollow}
+use Rattle.std.proofs.Common.{◌≡◌, ◌<◌, ℕ, zero, suc, Bool, true, false, List, [], ◌∷◌, ◌++◌, refl, sym, ap, ◌∙◌, inl, inr, arith, append_assoc}
+use Rattle.std.specs.Prelude.{◌⊎◌, Option, Some, None, is_some, if◌then◌else◌}
+use Rattle.wat_lex.specs.grammar.Classes.{line_feed}
 use Rattle.wat_lex.specs.tokens.ReadableTokens.{token_text}
 use Rattle.wat_lex.specs.declared.lexer.kinds.Token.{Token}
-use Rattle.wat_lex.specs.declared.lexer.kinds.TokenKind.{TokenKind}
-use Rattle.wat_lex.specs.declared.lexer.kinds.TokenKind.TheVariants.{LineComment, BlockComment, Whitespace, LParen, RParen, String, Id, Keyword, Annotation, Reserved, Integer, Float}
-use Rattle.wat_lex.specs.declared.lexer.settings.Settings.{Settings}
-use Rattle.wat_format.specs.Gaps.{gap_of, gap_text, is_break, settled}
-use Rattle.wat_format.specs.Layout.{State, start, laid, gap_before, gap_behind, line_level, behind, is_white}
+use Rattle.wat_lex.specs.declared.lexer.kinds.TokenKind.TheVariants.{Whitespace}
+use Rattle.wat_format.specs.Gaps.{gap_of, gap_text}
+use Rattle.wat_format.specs.Layout.{State, laid, gap_before, gap_behind, line_level, behind, is_white}
 use Rattle.wat_format.specs.Sorts.{sort_of}
 use Rattle.wat_format.specs.declared.gap.Gap.{Gap}
 use Rattle.wat_format.specs.declared.gap.Gap.TheVariants.{Touching, Blanks, LineEnd, EmptyLine}
 use Rattle.wat_format.specs.declared.sort.Sort.{Sort}
-use Rattle.wat_format.specs.declared.sort.Sort.TheVariants.{Open, Close, Comment, Mark, At}
-use Rattle.wat_format.proofs.FirstCharacters.{IsFirst, First, first_of_word, first_is_no_white}
-use Rattle.wat_format.proofs.Follows.{GoesOnWithNone, ends_words, feed_ends_words, same_first, NoSemicolon, NoComment, Touches, touches, breaks_behind, settled_again, kind_of_comment, kind_of_open, kind_of_close}
-use Rattle.wat_format.proofs.Pieces.{Piece, pieces, joined, Stands, AllStand, utf8_joined, chars_append}
-use Rattle.wat_format.proofs.WhiteSpace.{white_utf8, white_chars, white_bytes, each_gap, Filled, gap_filled, settled_filled, white_is_apart, breaks, gap_again}
+use Rattle.wat_format.proofs.Follows.{settled_again}
+use Rattle.wat_format.proofs.Pieces.{Piece, pieces, joined}
+use Rattle.wat_format.proofs.WhiteSpace.{Filled, gap_filled, settled_filled, gap_again}
 
 -- pieces behind white space, or behind none
 abbrev pub gapped : List ℕ → List Piece → List Piece
@@ -43,7 +33,7 @@ pub bool_cases : (b : Bool) → (b ≡ true) ⊎ (b ≡ false)
 bool_cases true = inl refl
 bool_cases false = inr refl
 
-joined_gapped : (w : List ℕ) (ps : List Piece) → joined (gapped w ps) ≡ w ++ joined ps
+pub joined_gapped : (w : List ℕ) (ps : List Piece) → joined (gapped w ps) ≡ w ++ joined ps
 joined_gapped [] ps = refl
 joined_gapped (c ∷ w) ps = refl
 
@@ -74,7 +64,7 @@ abbrev pub no_white : List Piece → List Piece
 no_white [] = []
 no_white (p ∷ ps) = if is_white p.0 then no_white ps else p ∷ no_white ps
 
-no_white_gapped : (w : List ℕ) (ps : List Piece) → no_white (gapped w ps) ≡ no_white ps
+pub no_white_gapped : (w : List ℕ) (ps : List Piece) → no_white (gapped w ps) ≡ no_white ps
 no_white_gapped [] ps = refl
 no_white_gapped (c ∷ w) ps = refl
 

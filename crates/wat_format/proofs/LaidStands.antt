@@ -1,24 +1,24 @@
 -- The pieces of a layout stand one behind the other.
-use Rattle.std.proofs.Common.{◌≡◌, ◌≢◌, ◌<◌, ℕ, zero, suc, Bool, true, false, eqb, ◌||◌, ◌*◌, List, [], ◌∷◌, ◌++◌, replicate, refl, sym, ap, ◌∙◌, subst, inl, inr, arith, append_assoc}
+use Rattle.std.proofs.Common.{◌≡◌, ◌≢◌, ◌<◌, ℕ, zero, suc, Bool, true, false, eqb, ◌*◌, List, [], ◌∷◌, ◌++◌, replicate, refl, sym, ap, ◌∙◌, subst, inl, inr, arith}
 use Rattle.std.proofs.lemmas.Bool.{false≢true}
 use Rattle.std.proofs.lemmas.Bool.Decides.{nat_tests}
 use Rattle.std.proofs.lemmas.Str.{encodes-chars, chars-nil, encode_ascii, IsUtf8-append, IsUtf8-nil}
-use Rattle.std.specs.Prelude.{IsTrue, ◌⊎◌, Option, Some, None, is_some, if◌then◌else◌, encode_utf8_all}
+use Rattle.std.specs.Prelude.{IsTrue, Option, Some, None, encode_utf8_all}
 use Rattle.std.specs.Str.{IsUtf8, chars}
-use Rattle.wat_lex.specs.grammar.Classes.{Begins, Each, is_line_end, is_run_char, is_whitespace, is_punctuation, line_feed, semicolon, close_paren}
+use Rattle.wat_lex.specs.grammar.Classes.{Begins, Each, is_line_end, is_run_char, is_whitespace, line_feed, semicolon, close_paren}
 use Rattle.wat_lex.specs.grammar.Words.{Word, MayFollow}
 use Rattle.wat_lex.specs.declared.lexer.kinds.TokenKind.{TokenKind}
 use Rattle.wat_lex.specs.declared.lexer.kinds.TokenKind.TheVariants.{LineComment, BlockComment, Whitespace, LParen, RParen, String, Id, Keyword, Annotation, Reserved, Integer, Float}
 use Rattle.wat_lex.specs.declared.lexer.settings.Settings.{Settings}
 use Rattle.wat_format.specs.Gaps.{gap_of, gap_text, is_break, settled}
-use Rattle.wat_format.specs.Layout.{State, start, gap_before, gap_behind, line_level, behind, is_white}
+use Rattle.wat_format.specs.Layout.{State, gap_before, gap_behind, line_level, behind, is_white}
 use Rattle.wat_format.specs.Sorts.{sort_of, sort_by_first}
 use Rattle.wat_format.specs.declared.gap.Gap.{Gap}
 use Rattle.wat_format.specs.declared.gap.Gap.TheVariants.{Touching, Blanks, LineEnd, EmptyLine}
 use Rattle.wat_format.specs.declared.sort.Sort.{Sort}
-use Rattle.wat_format.specs.declared.sort.Sort.TheVariants.{Open, Close, Comment, Mark}
+use Rattle.wat_format.specs.declared.sort.Sort.TheVariants.{Open, Close, Comment}
 use Rattle.wat_format.proofs.FirstCharacters.{IsFirst, First, first_of_word, first_is_no_white}
-use Rattle.wat_format.proofs.Follows.{GoesOnWithNone, ends_words, feed_ends_words, same_first, NoSemicolon, NoComment, Touches, touches, breaks_behind, kind_of_open, kind_of_close}
+use Rattle.wat_format.proofs.Follows.{ends_words, feed_ends_words, same_first, NoSemicolon, NoComment, Touches, touches, breaks_behind, kind_of_open, kind_of_close}
 use Rattle.wat_format.proofs.Pieces.{Piece, joined, Stands, AllStand, utf8_joined, chars_append}
 use Rattle.wat_format.proofs.WhiteSpace.{white_utf8, white_chars, white_bytes, each_gap, Filled, gap_filled, settled_filled, white_is_apart, breaks, line_end_cases}
 use Rattle.wat_format.proofs.LaidPieces.{gapped, laid_pieces, bool_cases, laid_white, laid_word}
@@ -87,7 +87,7 @@ white_stands flags c w rest h n =
       ends = n;
     }
 
-gapped_stand : (flags : Settings) (w : List ℕ) (ps : List Piece) → Each is_whitespace w → AllStand flags ps → (Begins is_whitespace (chars (joined ps)) → ⊥) → AllStand flags (gapped w ps)
+pub gapped_stand : (flags : Settings) (w : List ℕ) (ps : List Piece) → Each is_whitespace w → AllStand flags ps → (Begins is_whitespace (chars (joined ps)) → ⊥) → AllStand flags (gapped w ps)
 gapped_stand flags [] ps h a n = a
 gapped_stand flags (c ∷ w) ps h a n = (white_stands flags c w (joined ps) h n, a)
 
@@ -104,7 +104,7 @@ last_stands flags = (white_stands flags line_feed [] [] (refl, tt) (nothing_begi
 pub laid_end : (s : State) (x : Sort) → s.before ≡ Some x → laid_pieces s [] ≡ (Whitespace, line_feed ∷ []) ∷ []
 laid_end s x e = rw e refl
 
-line_end_is_white : (c : ℕ) → IsTrue (is_line_end c) → IsTrue (is_whitespace c)
+pub line_end_is_white : (c : ℕ) → IsTrue (is_line_end c) → IsTrue (is_whitespace c)
 line_end_is_white c h = elim (line_end_cases c h) [ inl e ↦ subst (λ x. is_whitespace x ≡ true) (sym e) refl | inr e ↦ subst (λ x. is_whitespace x ≡ true) (sym e) refl ]
 
 -- What is written of a word p behind the word x, where these pieces follow it in the text, and those in the layout.

@@ -7,5 +7,7 @@ mod LaidStands
 mod Laying
 mod Marks
 mod Pieces
+mod Spacing
 mod Streaming
+mod Touching
 mod WhiteSpace

@@ -1,19 +1,19 @@
 -- What is marked stays marked: `@` stands directly behind a `(` of a layout exactly where it did in the text.
-use Rattle.std.proofs.Common.{◌≡◌, ◌≢◌, ◌+◌, ◌<◌, ℕ, zero, suc, Bool, true, false, eqb, List, [], ◌∷◌, ◌++◌, length, drop, replicate, get_or, refl, sym, ap, ◌∙◌, subst, inl, inr, arith}
+use Rattle.std.proofs.Common.{◌≡◌, ◌≢◌, ◌+◌, ◌<◌, ℕ, zero, suc, Bool, true, false, eqb, List, [], ◌∷◌, ◌++◌, length, drop, refl, sym, ap, ◌∙◌, subst, inl, inr, arith}
 use Rattle.std.proofs.lemmas.Bool.{false≢true}
 use Rattle.std.proofs.lemmas.Bool.Decides.{nat_tests}
 use Rattle.std.proofs.lemmas.Str.{encodes-chars, char_from_byte, chars-nil}
-use Rattle.std.specs.Prelude.{IsTrue, ◌⊎◌, Option, Some, None, is_some, MatchOption, option_map, if◌then◌else◌, encode_utf8_all}
+use Rattle.std.specs.Prelude.{IsTrue, Option, Some, None, is_some, MatchOption, option_map, if◌then◌else◌, encode_utf8_all}
 use Rattle.std.specs.Str.{IsUtf8, IsCharBoundary, chars}
 use Rattle.wat_lex.specs.grammar.Classes.{Each, is_whitespace, at_sign, quote}
 use Rattle.wat_lex.specs.grammar.Runs.{Piece as RunPiece, Idchar, Quoted, Run, RunKind, WordKind, idchars}
 use Rattle.wat_lex.specs.grammar.Words.{Word}
 use Rattle.wat_lex.specs.tokens.EverySetting.{TokensEndAtBoundaries}
 use Rattle.wat_lex.specs.tokens.Setting.{Setting}
-use Rattle.wat_lex.specs.tokens.Tiling.{TokenAt, Tiling}
+use Rattle.wat_lex.specs.tokens.Tiling.{Tiling}
 use Rattle.wat_lex.specs.declared.lexer.kinds.Token.{Token}
 use Rattle.wat_lex.specs.declared.lexer.kinds.TokenKind.{TokenKind}
-use Rattle.wat_lex.specs.declared.lexer.kinds.TokenKind.TheVariants.{LineComment, BlockComment, Whitespace, LParen, RParen, String, Id, Keyword, Annotation, Reserved, Integer, Float}
+use Rattle.wat_lex.specs.declared.lexer.kinds.TokenKind.TheVariants.{LineComment, Whitespace, LParen, RParen, Keyword, Reserved}
 use Rattle.wat_lex.specs.declared.lexer.settings.Settings.{Settings}
 use Rattle.wat_format.specs.Gaps.{gap_of, gap_text, settled}
 use Rattle.wat_format.specs.Laws.{begins_at, is_opening, marks}
@@ -22,9 +22,9 @@ use Rattle.wat_format.specs.Sorts.{sort_of, sort_by_first}
 use Rattle.wat_format.specs.declared.gap.Gap.{Gap}
 use Rattle.wat_format.specs.declared.gap.Gap.TheVariants.{Touching, Blanks, LineEnd, EmptyLine}
 use Rattle.wat_format.specs.declared.sort.Sort.{Sort}
-use Rattle.wat_format.specs.declared.sort.Sort.TheVariants.{Open, Close, Comment, Mark, At}
-use Rattle.wat_format.proofs.FirstCharacters.{First, first_of_word, white_cases}
-use Rattle.wat_format.proofs.Pieces.{Piece, pieces, joined, Stands, AllStand, Cut, cut_text, placed, drop_piece}
+use Rattle.wat_format.specs.declared.sort.Sort.TheVariants.{Open, At}
+use Rattle.wat_format.proofs.FirstCharacters.{first_of_word, white_cases}
+use Rattle.wat_format.proofs.Pieces.{Piece, pieces, joined, Stands, AllStand, cut_text, placed, drop_piece}
 use Rattle.wat_format.proofs.LaidPieces.{gapped, laid_pieces, bool_cases, laid_white, laid_word}
 use Rattle.wat_format.proofs.LaidStands.{laid_end}
 use Rattle.wat_format.proofs.WhiteSpace.{white_bytes, Filled, gap_filled, settled_filled, white_is_apart}
@@ -48,7 +48,7 @@ run_at t (Run.idchar {c = c} {ps = ps} i k) n e h = let f : c ≡ at_sign = cc i
 run_at t (Run.string i k) n e h = let f : ◌≡◌ {A = ℕ} quote at_sign = cc in omega arith
 
 -- the first byte of a word that may touch the `(` before it
-first_byte : (b c : ℕ) (bytes others : List ℕ) → IsUtf8 (b ∷ bytes) → chars (b ∷ bytes) ≡ c ∷ others → b < 128 → c ≡ b
+pub first_byte : (b c : ℕ) (bytes others : List ℕ) → IsUtf8 (b ∷ bytes) → chars (b ∷ bytes) ≡ c ∷ others → b < 128 → c ≡ b
 first_byte b c bytes others u e lt = char_from_byte (b ∷ bytes) (encode_utf8_all others) c (sym (encodes-chars (b ∷ bytes) u) ∙ ap encode_utf8_all e) lt (omega arith)
 
 plain_at : (bytes : List ℕ) → sort_by_first (at_sign ∷ bytes) ≡ At
@@ -72,7 +72,7 @@ no_at before kind flags bytes u e w n = n
 no_at_byte : (b : ℕ) → (b ≡ at_sign → ⊥) → eqb b at_sign ≡ false
 no_at_byte b n = elim (bool_cases (eqb b at_sign)) [ inl e ↦ absurd (n (let k : b ≡ at_sign = grind (arith, nat_tests) in k)) | inr e ↦ e ]
 
-no_characters : (bytes : List ℕ) (c : ℕ) (others : List ℕ) → bytes ≡ [] → chars bytes ≡ c ∷ others → ⊥
+pub no_characters : (bytes : List ℕ) (c : ℕ) (others : List ℕ) → bytes ≡ [] → chars bytes ≡ c ∷ others → ⊥
 no_characters bytes c others e h = let k : chars [] ≡ c ∷ others = subst (λ x. chars x ≡ c ∷ others) e h in let n = chars-nil in cc
 
 word_no_at : (before : Option Sort) (kind : TokenKind) (flags : Settings) (bytes r : List ℕ) → IsUtf8 bytes → is_white kind ≡ false → Word kind (chars bytes) flags → NotAt (sort_of before kind bytes) → begins_at (bytes ++ r) ≡ false
@@ -84,7 +84,7 @@ word_same_at : (kind : TokenKind) (flags : Settings) (bytes r r' : List ℕ) →
 word_same_at kind flags [] r r' e w = let f = first_of_word kind (chars []) flags e w in absurd (no_characters [] f.char f.others refl f.cut)
 word_same_at kind flags (b ∷ bytes) r r' e w = refl
 
-white_is_no_at : (c : ℕ) → IsTrue (is_whitespace c) → eqb c at_sign ≡ false
+pub white_is_no_at : (c : ℕ) → IsTrue (is_whitespace c) → eqb c at_sign ≡ false
 white_is_no_at c h = elim (white_cases c h) [
   | inl e ↦ subst (λ x. eqb x at_sign ≡ false) (sym e) refl
   | inr f ↦ elim f [
@@ -169,7 +169,7 @@ abbrev pub mark_list : List Piece → List Bool
 mark_list [] = []
 mark_list (p ∷ ps) = if is_opening p.0 then begins_at (joined ps) ∷ mark_list ps else mark_list ps
 
-mark_gapped : (w : List ℕ) (ps : List Piece) → mark_list (gapped w ps) ≡ mark_list ps
+pub mark_gapped : (w : List ℕ) (ps : List Piece) → mark_list (gapped w ps) ≡ mark_list ps
 mark_gapped [] ps = refl
 mark_gapped (c ∷ w) ps = refl
 

@@ -1,12 +1,11 @@
 -- White space: its characters are its bytes, and what is written in a gap reads as that gap.
-use Rattle.std.proofs.Common.{◌≡◌, ◌≢◌, ◌+◌, ◌*◌, ◌≤◌, ◌<◌, ℕ, zero, suc, Bool, true, false, eqb, List, [], ◌∷◌, ◌++◌, length, get_or, replicate, refl, sym, ap, ◌∙◌, subst, inl, inr, arith}
-use Rattle.std.proofs.lemmas.Bool.{false≢true}
+use Rattle.std.proofs.Common.{◌≡◌, ◌+◌, ◌*◌, ◌<◌, ℕ, zero, suc, Bool, true, false, eqb, List, [], ◌∷◌, length, get_or, replicate, refl, sym, ap, ◌∙◌, subst, inl, inr, arith}
 use Rattle.std.proofs.lemmas.Bool.Decides.{nat_tests}
 use Rattle.std.proofs.lemmas.List.{length-replicate}
-use Rattle.std.proofs.lemmas.Str.{IsUtf8-from_ascii, encodes-IsAscii, encodes-chars, chars_from_encodes, chars-nil}
+use Rattle.std.proofs.lemmas.Str.{IsUtf8-from_ascii, encodes-IsAscii, encodes-chars, chars_from_encodes}
 use Rattle.std.specs.Prelude.{IsTrue, ◌⊎◌, nat_lt, if◌then◌else◌}
-use Rattle.std.specs.Str.{IsUtf8, IsAscii, chars}
-use Rattle.wat_lex.specs.grammar.Classes.{Begins, Each, is_line_end, is_whitespace, line_feed}
+use Rattle.std.specs.Str.{IsUtf8, chars}
+use Rattle.wat_lex.specs.grammar.Classes.{Each, is_line_end, is_whitespace, line_feed}
 use Rattle.wat_format.specs.Gaps.{line_ends, gap_of, is_break, gap_text, settled}
 use Rattle.wat_format.specs.declared.gap.Gap.{Gap}
 use Rattle.wat_format.specs.declared.gap.Gap.TheVariants.{Touching, Blanks, LineEnd, EmptyLine}
@@ -14,7 +13,7 @@ use Rattle.wat_format.specs.declared.sort.Sort.{Sort}
 use Rattle.wat_format.specs.declared.sort.Sort.TheVariants.{Open, Close, Comment, Mark, At}
 use Rattle.wat_format.proofs.FirstCharacters.{white_cases}
 
-small : (c : ℕ) → IsTrue (is_whitespace c) → c < 128
+pub small : (c : ℕ) → IsTrue (is_whitespace c) → c < 128
 small c h = elim (white_cases c h) [
   | inl e ↦ omega arith
   | inr f ↦ elim f [

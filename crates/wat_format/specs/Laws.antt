@@ -1,6 +1,6 @@
 -- WebAssembly specification, text format, lexical format: tokens, white space, comments. What holds of each layout, which is no part of the
 -- standard, and of its raw tokens.
-use Rattle.std.specs.Prelude.{◌≡◌, ◌≢◌, ◌⊎◌, ℕ, ◌+◌, ◌==◌, Bool, true, false, drop, List, [], ◌∷◌, ◌++◌, Option, Some, None, if◌then◌else◌}
+use Rattle.std.specs.Prelude.{◌≡◌, ◌≢◌, ◌⊎◌, ℕ, ◌+◌, ◌==◌, Bool, true, false, drop, List, [], ◌∷◌, ◌++◌, Option, None, if◌then◌else◌}
 use Rattle.std.specs.Str.{IsUtf8}
 use Rattle.wat_lex.specs.grammar.Classes.{line_feed, at_sign}
 use Rattle.wat_lex.specs.tokens.ReadableTokens.{token_text}

@@ -5,4 +5,5 @@ pub mod Formatting
 pub mod Streams
 pub mod Errors
 pub mod Laws
+pub mod Spaces
 pub mod inside

@@ -1,7 +1,8 @@
-//! Laws of layouts, for every text of UTF-8 and all settings. Each function does nothing: its
+//! Laws of layouts, and of white space between words, for every text of UTF-8 and all settings. Each function does nothing: its
 //! contract is the law, for the proofs of crates above.
 ghost use Rattle.wat_format.specs.Laws.{EachTextIsAnswered, LayoutsAreOne, LayoutsHaveNoFault};
 ghost use Rattle.wat_format.specs.Laws.{LayoutsAreUtf8, LayoutsKeepTokens, LayoutsStay};
+ghost use Rattle.wat_format.specs.Spaces.{GapsAreExact, MarksGoByGaps};
 
 /// A text has one layout, or else a fault.
 pub fn one_answer()
@@ -25,6 +26,15 @@ pub fn kept_tokens()
 /// A layout that is laid out again stays as it is.
 pub fn formatted_again()
     ensures { LayoutsStay }
+{
+    wat_lex::laws::tokens();
+}
+
+/// Where white space may go or come: words with white space between them are read as these words
+/// exactly where each gap is legal. Which parentheses are marked goes by the gaps too.
+pub fn gaps()
+    ensures exact { GapsAreExact }
+    ensures marked { MarksGoByGaps }
 {
     wat_lex::laws::tokens();
 }

@@ -2,31 +2,21 @@
 //! asks for beside them.
 #![tactic(auto)]
 
+mod input;
+mod layout;
+mod replace;
+
+use input::{Input, open};
+use layout::lay_out;
 use std::alloc::AllocError;
-use std::fs::File;
 use std::process::ExitCode;
-use std::rt::{Stdin, Stdout};
 use std::{env, io};
+use wat_commands::Settings;
 use wat_commands::ends::{Failed, Plain};
+use wat_commands::options::Mode;
 use wat_commands::outcome::Outcome;
 use wat_commands::respond::{Inputs, respond};
 use wat_commands::run::RunError;
-
-/// Standard input, or a file.
-#[derive(Drop)]
-enum Input {
-    Standard(Stdin),
-    File(File),
-}
-
-impl io::Read for Input {
-    fn read(&mut self, buffer: &mut [u8]) -> io::Result<usize> {
-        match self {
-            Input::Standard(input) => input.read(buffer),
-            Input::File(file) => file.read(buffer),
-        }
-    }
-}
 
 /// The files of the machine.
 #[derive(Drop)]
@@ -39,14 +29,14 @@ impl Inputs for Files<'_> {
 
     ghost found = { λ _ _. None };
 
+    ghost laid_out = { λ _ _ _ _. None };
+
     fn open(&self, file: &str) -> Result<Plain<Input>, Failed> {
-        if file == "-" {
-            return Ok(Plain::new(Input::Standard(self.0.stdin())));
-        }
-        match File::open(self.0, file) {
-            Ok(file) => Ok(Plain::new(Input::File(file))),
-            Err(error) => Err(Failed::of(&error)),
-        }
+        open(self.0, file)
+    }
+
+    fn lay_out(&self, settings: Settings, mode: Mode, file: &str) -> u8 {
+        lay_out(self.0, settings, mode, file)
     }
 }
 

@@ -5,12 +5,12 @@ use std::alloc::{AllocError, Global};
 use std::str;
 use std::test::Fail;
 use wat_commands::ends::{Failed, Plain};
-use wat_commands::options::{Command, Task, read_words};
+use wat_commands::options::{Command, Mode, Task, read_words};
 use wat_commands::outcome::Outcome;
 use wat_commands::respond::{Inputs, respond};
 use wat_commands::run::RunError;
 use wat_lex::error::Error;
-use wat_lex::lexer::LexError;
+use wat_lex::lexer::{LexError, Settings};
 use wat_lex::token::Span;
 
 /// A text that each file has.
@@ -24,8 +24,14 @@ impl<'a> Inputs for Alone<'a> {
 
     ghost found = { λ t _. Some (Ok t.0.now) };
 
+    ghost laid_out = { λ _ _ _ _. Some 0 };
+
     fn open(&self, _file: &str) -> Result<Plain<&'a [u8]>, Failed> {
         Ok(Plain::new(self.0.as_bytes()))
+    }
+
+    fn lay_out(&self, _settings: Settings, _mode: Mode, _file: &str) -> u8 {
+        0
     }
 }
 
@@ -39,6 +45,19 @@ impl<'a> Inputs for Folder<'a> {
     type Input = Plain<&'a [u8]>;
 
     ghost found = { λ _ _. None };
+
+    ghost laid_out = { λ _ _ _ _. None };
+
+    // A status of its own for each way to ask.
+    fn lay_out(&self, settings: Settings, mode: Mode, file: &str) -> u8 {
+        let asked = match mode {
+            Mode::Print => 10,
+            Mode::Check => 20,
+            Mode::Write => 30,
+        };
+        let strict = if settings.strict { 1 } else { 0 };
+        asked + strict + if file == "a" { 5 } else { 0 }
+    }
 
     fn open(&self, file: &str) -> Result<Plain<&'a [u8]>, Failed> {
         for (name, bytes) in self.0 {
@@ -68,6 +87,13 @@ fn spelled(alloc: Global, command: &Command<'_>) -> Result<String, Fail> {
         Command::Help => return Ok(String::from_str(alloc, "help")?),
         Command::Version => return Ok(String::from_str(alloc, "version")?),
         Command::Run(settings, task, files) => (settings, task, files),
+        Command::Format(settings, mode, files) => {
+            let mut text = format!(in alloc; "{} {} {mode:?}", settings.allow, settings.strict)?;
+            for file in files.iter() {
+                write!(text, " {file:?}")?;
+            }
+            return Ok(text);
+        }
     };
     let mut text = format!(in alloc; "{} {}", settings.allow, settings.strict)?;
     match task {
@@ -135,6 +161,16 @@ fn words(rt: HostRuntime) -> Result<(), Fail> {
         ("sig -a", "false false <-a>"),
         ("--allow-confusing sig a a", "true false <a> <a>"),
         ("--strict-underscores --allow-confusing play", "true true"),
+        ("fmt", "false false Print"),
+        ("fmt a - b", "false false Print \"a\" \"-\" \"b\""),
+        ("fmt --check", "false false Check"),
+        ("fmt --write a", "false false Write \"a\""),
+        ("fmt --check -- --write", "false false Check \"--write\""),
+        ("fmt --check --write", "!--write"),
+        ("fmt a --check", "!--check"),
+        ("--check fmt", "!--check"),
+        ("--json fmt", "!fmt"),
+        ("--allow-confusing fmt --check", "true false Check"),
         (
             "play look take comment parens=12 reg=b unreg= -- a",
             "false false Look Take Comment Parens(12) Register(\"b\") Unregister(\"\") \"a\"",
@@ -223,6 +259,10 @@ fn files(rt: HostRuntime) -> Result<(), Fail> {
         ),
         ("blank a", "0\nx"),
         ("play take -- a", "0\n0..1 Keyword\n"),
+        ("fmt", "10\n"),
+        ("--strict-underscores fmt a", "16\n"),
+        ("fmt --check -- b", "20\n"),
+        ("fmt --write b a c", "35\n"),
     ];
     for (words, want) in rows {
         let got = answered(rt.alloc(), words, &folder)?;
@@ -234,9 +274,8 @@ fn files(rt: HostRuntime) -> Result<(), Fail> {
 #[test]
 fn outcomes(rt: HostRuntime) -> Result<(), Fail> {
     let message = String::from_str(rt.alloc(), "m")?;
-    let usage =
-        "usage: wat_tokens [OPTION..] [list | sig NAME.. | play CALL.. | blank | types] [--] \
-         [FILE..]; --help says more\n";
+    let usage = "usage: wat_tokens [OPTION..] [list | sig NAME.. | play CALL.. | blank | types | \
+         fmt [--check | --write]] [--] [FILE..]; --help says more\n";
     let rows = [
         (Outcome::of_run(Ok(None)), 0, ""),
         (

@@ -1,4 +1,4 @@
-use Rattle.std.proofs.Common.{◌+◌, string_bytes, ap, sym, ◌∙◌}
+use Rattle.std.proofs.Common.{◌+◌, string_bytes}
 use Rattle.std.proofs.lemmas.Str.{IsCharBoundary-start}
 use Rattle.wat_format.specs.Layout.{layout}
 use Rattle.wat_format.specs.inside.Writing.{CutsShort}

@@ -8,7 +8,7 @@ use std::{fs, io};
 pub fn replace(rt: &HostRuntime, file: &str, text: &str) -> io::Result<()> {
     let target = fs::canonicalize(rt, file)?;
     let permissions = fs::metadata(rt, target.as_str())?.permissions();
-    let temporary = format!(in rt.alloc(); "{}.wat_fmt", target.as_str())?;
+    let temporary = format!(in rt.alloc(); "{}.wat_tokens", target.as_str())?;
     let mut beside = File::create_new(rt, temporary.as_str())?;
     let mut done = fill(&mut beside, permissions, text);
     if done.is_ok() {
