@@ -419,6 +419,15 @@ async function formatting() {
     assert.equal(await ask("document.querySelector('#formatted').textContent"), '');
     await heldAt(text.indexOf('end') + 1);
   }
+  // Whatever stands in it, the layout comes as it is, and goes again.
+  for (const given of ['\n\n( a "&lt;<b>&#60;" )  ;; \t&amp; \u00a0\u2028\u000c x \n\n\n(b)\t', '( a ;; \0\n)', '\t\n', `( a )\n${'(b\n( c )\n\n\n)'.repeat(2000)}`]) {
+    await type(given);
+    await press('#format');
+    assert.equal(await valueOf('text'), layoutBy(given));
+    await key('z', CONTROL);
+    await pause(300);
+    assert.equal(await valueOf('text'), given);
+  }
   // What cannot be formatted stays as it is, and the page says why.
   const deep = '(a\n'.repeat(25_000);
   for (const [given, told] of [[laid, 'The text is formatted already.'], ['', 'The text is formatted already.'], ['( a "', 'A text with a fault is not formatted.'], [deep, 'Formatted it would have more than a megabyte, and is left as it is.']]) {

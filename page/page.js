@@ -520,10 +520,13 @@ function unformatted() {
 }
 
 // Puts a piece in the place of a part of the text area's text as if it was typed, so that it can be undone, and tells whether the browser did.
+// As HTML, of which plain text is left here, Chromium takes 10,000 lines in the time of a hundred; but HTML has no NUL.
 function retype(from, to, piece) {
   $('text').focus();
   $('text').setSelectionRange(from, to);
-  return piece ? document.execCommand('insertText', false, piece) : document.execCommand('delete');
+  if (!piece) return document.execCommand('delete');
+  const html = piece.replace(/[&<]/g, (one) => `&#${one.charCodeAt(0)};`);
+  return (!piece.includes('\0') && document.execCommand('insertHTML', false, html)) || document.execCommand('insertText', false, piece);
 }
 
 // Puts the layout in the place of the text. The cursor stays at its token, and line ends of CR LF stay so.
