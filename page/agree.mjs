@@ -1,12 +1,13 @@
 // Compares the module and what the page makes of its answers with the program, under node, on all stored texts and on 10 MB of generated
 // text: every token and every fault with its message; which tokens count, under several names; and the bytes of modules of types. And what is
-// read part by part, of a whole text and after each of many edits, with what is read of the whole in one call.
+// read part by part, in order or ahead, of a whole text and after each of many edits, with what is read of the whole in one call. And the layouts
+// with tools/layout.py, on all joins of up to three hostile pieces, on longer ones at random, and on these texts.
 // usage: node --experimental-wasm-memory64 agree.mjs PROGRAM, once build.sh has made the module
 import { spawnSync } from 'node:child_process';
 import { existsSync, readFileSync, readdirSync } from 'node:fs';
 import { fileURLToPath } from 'node:url';
 import { whatCounts } from './counts.js';
-import { Chance, compare, editOften, readOnce } from './edited.mjs';
+import { Chance, compare, editOften, readAhead, readOnce } from './edited.mjs';
 import { KINDS, Lexer } from './lexer.js';
 import { Reader } from './reader.js';
 import { Tokens } from './tokens.js';
@@ -21,6 +22,7 @@ const reader = new Reader(new Lexer(new WebAssembly.Instance(module)));
 const FLAGS = { '--allow-confusing': 'allow', '--strict-underscores': 'strict' };
 const MUTATIONS = 40;
 const EDITS = 60;
+const AHEAD = 5;
 
 function readWhole(bytes, flags) {
   const found = readOnce(lexer, bytes, flags);
@@ -38,7 +40,7 @@ function ran(words, input) {
 const flagsOf = (words) => Object.fromEntries(words.filter((word) => word in FLAGS).map((word) => [FLAGS[word], true]));
 const lineOf = (tokens, i) => `${tokens.start(i)}..${tokens.end(i)} ${tokens.kind(i)}\n`;
 
-const told = { stored: 0, tokens: 0, faults: 0, edits: 0, signatures: 0, counting: 0, wrong: 0, modules: 0, refused: 0, other: [] };
+const told = { stored: 0, tokens: 0, faults: 0, edits: 0, stretches: 0, signatures: 0, counting: 0, wrong: 0, modules: 0, refused: 0, other: [] };
 
 // What the program prints, on both streams.
 function compareTokens(name, bytes, words) {
@@ -65,7 +67,15 @@ function compareParts(bytes, flags, times, chance) {
   reader.readOn();
   compare(reader, lexer, flags);
   if (times > 0) editOften(reader, lexer, bytes.toString(), times, chance);
+  for (let i = 0; i < AHEAD; i += 1) told.stretches += readAhead(reader, lexer, bytes, flags, chance);
   told.edits += times;
+}
+
+// What tools/layout.py answers.
+function compareLayouts(files) {
+  const its = spawnSync('python3', [here('../tools/compare_layouts.py'), here('laid.mjs'), ...files], { maxBuffer: 2 ** 30 });
+  console.log(its.stdout.toString().trim());
+  if (its.status !== 0) told.other.push(`layouts: ${its.stderr}`);
 }
 
 // How the program tells what is wrong with an annotation, as far as that is compared: not the rendered line.
@@ -152,9 +162,11 @@ const generated = spawnSync('python3', [here('../tools/generate.py'), '10'], { m
 if (generated.error) throw generated.error;
 const text = generated.stdout;
 compareTokens('generated', text, []);
-compareParts(text, {}, 0);
+compareParts(text, {}, 0, editing);
+told.stretches += readAhead(reader, lexer, text, {}, editing, 200_000);
 for (let at = 0; at < 20; at += 1) compareParts(text.subarray(at * 400_000, at * 400_000 + (at % 4 === 0 ? 300_000 : 20_000)), {}, 2 * EDITS, editing);
 for (const names of [[], ['custom']]) compareCounts('generated', text, [], names);
+compareLayouts(readdirSync(folder).filter((it) => existsSync(`${folder}${it}.stdout`)).map((it) => folder + it));
 for (const strict of [false, true]) {
   const times = [];
   for (let i = 0; i < 9; i += 1) {

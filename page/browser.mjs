@@ -14,9 +14,12 @@ const here = (name) => fileURLToPath(new URL(name, import.meta.url));
 const TYPES = { '.html': 'text/html', '.js': 'text/javascript', '.css': 'text/css', '.wasm': 'application/wasm' };
 const pause = (milliseconds) => new Promise((done) => setTimeout(done, milliseconds));
 
+// What the page is handed under the name `generated`, where it asks for it.
+let generated = null;
 const server = createServer((request, response) => {
   try {
-    const bytes = readFileSync(here(`out/${new URL(request.url, 'http://page').pathname.slice(1) || 'index.html'}`));
+    const name = new URL(request.url, 'http://page').pathname.slice(1) || 'index.html';
+    const bytes = name === 'generated' ? generated : readFileSync(here(`out/${name}`));
     response.writeHead(200, { 'content-type': TYPES[extname(request.url)] ?? 'text/html' }).end(bytes);
   } catch {
     response.writeHead(404).end();
@@ -102,15 +105,17 @@ async function drop(bytes) {
   return ask(SHOWN);
 }
 
-const CODES = { Tab: 9, Enter: 13, ' ': 32, End: 35, Home: 36, ArrowLeft: 37, ArrowUp: 38, ArrowRight: 39, ArrowDown: 40 };
+const CODES = { Tab: 9, Enter: 13, ' ': 32, End: 35, Home: 36, ArrowLeft: 37, ArrowUp: 38, ArrowRight: 39, ArrowDown: 40, y: 89, z: 90 };
+const NAMES = { ' ': 'Space', y: 'KeyY', z: 'KeyZ' };
+const CONTROL = { modifiers: 2 };
 async function key(name, options = {}) {
   const text = { Enter: '\r', ' ': ' ' }[name];
-  for (const kind of ['keyDown', 'keyUp']) await send('Input.dispatchKeyEvent', { type: kind, key: name, code: name === ' ' ? 'Space' : name, windowsVirtualKeyCode: CODES[name], text: kind === 'keyDown' ? text : undefined, ...options });
+  for (const kind of ['keyDown', 'keyUp']) await send('Input.dispatchKeyEvent', { type: kind, key: name, code: NAMES[name] ?? name, windowsVirtualKeyCode: CODES[name], text: kind === 'keyDown' ? text : undefined, ...options });
   await pause(20);
 }
 
-// The middle of an element, or its left edge.
-const spotOf = (selector) => ask(`(() => { const it = document.querySelector('${selector}').getBoundingClientRect(); return [it.left + 2, it.top + it.height / 2]; })()`);
+// The middle of an element's left edge, once it is in sight.
+const spotOf = (selector) => ask(`(() => { document.querySelector('${selector}').scrollIntoView({ block: 'nearest' }); const it = document.querySelector('${selector}').getBoundingClientRect(); return [it.left + 2, it.top + it.height / 2]; })()`);
 
 async function press(selector) {
   const [x, y] = await spotOf(selector);
@@ -237,14 +242,14 @@ async function theCursorOfShownTexts() {
   await key('ArrowRight');
   await key('ArrowDown');
   assert.equal((await ask(SHOWN)).held, '8..9');
-  await key('End', { modifiers: 2 });
+  await key('End', CONTROL);
   page = await ask(SHOWN);
   assert.deepEqual([page.held, page.carets], ['14..16', 1]);
   assert.equal((await press('#seen .Id')).held, '3..5');
   page = await drop(`${'x\n'.repeat(200)}\r\n`);
   for (const [name, isScrolled] of [['Home', false], ['End', true]]) {
     await ask("document.querySelector('#view').focus()");
-    await key(name, { modifiers: 2 });
+    await key(name, CONTROL);
     assert.deepEqual(await ask("[document.querySelectorAll('.caret').length, document.querySelector('#view').scrollTop > 0]"), [1, isScrolled], name);
   }
   await drop(`;; ${'x'.repeat(5000)}\r\n\ny`);
@@ -272,7 +277,7 @@ async function scrolling() {
   }
   await type('x\n'.repeat(200));
   await ask("document.querySelector('#text').focus()");
-  await key('End', { modifiers: 2 });
+  await key('End', CONTROL);
   await pause(100);
   const page = await ask(SHOWN);
   assert.deepEqual([page.carets, page.numbers.at(-1), await ask("document.querySelector('#text').scrollTop > 0")], [0, 201, true]);
@@ -311,7 +316,7 @@ async function metrics() {
     await pause(150);
     const [dark, other] = await otherDots();
     console.log(`  ${name}: ${dark} dark dots, ${other} other`);
-    assert.ok(dark > 500 && other <= dark / 100, name);
+    assert.ok(dark > 200 && other <= dark / 100, name);
   }
 }
 
@@ -391,20 +396,107 @@ async function links() {
   await visit(origin);
 }
 
-// All controls in their order, by the keyboard alone.
+const valueOf = (id) => ask(`document.querySelector('#${id}').value`);
+const layoutBy = (text) => spawnSync('python3', [here('../tools/layout.py')], { input: text }).stdout.toString();
+
+// The button that formats the text, by mouse and by keyboard, and what undoes it.
+async function formatting() {
+  const text = '(module\n(func ( param i32 )(;\u{1f600};) nop\nif nop ;; \u{e9}\nend))\n\n\n';
+  const laid = layoutBy(text);
+  assert.equal(laid, '(module\n  (func (param i32) (;\u{1f600};) nop\n    if nop ;; \u{e9}\n    end))\n');
+  await type(text);
+  await heldAt(text.indexOf('end') + 1);
+  for (const start of [() => press('#format'), () => ask("document.querySelector('#format').focus()").then(() => key('Enter'))]) {
+    await start();
+    const page = await ask(SHOWN);
+    const place = laid.indexOf('end') + 1;
+    assert.deepEqual([await valueOf('text'), page.text, page.pieces.at(-4)[1], page.held], [laid, laid, 'end', `${Buffer.byteLength(laid.slice(0, place - 1))}..${Buffer.byteLength(laid.slice(0, place + 2))}`]);
+    assert.deepEqual(await ask("[document.querySelector('#formatted').textContent, document.activeElement.id, document.querySelector('#text').selectionStart]"), ['The text is formatted.', 'text', place]);
+    for (const [name, value] of [['z', text], ['y', laid], ['z', text]]) {
+      await key(name, CONTROL);
+      assert.deepEqual([await valueOf('text'), (await ask(SHOWN)).text], [value, value], name);
+    }
+    assert.equal(await ask("document.querySelector('#formatted').textContent"), '');
+    await heldAt(text.indexOf('end') + 1);
+  }
+  // Whatever stands in it, the layout comes as it is, and goes again.
+  for (const given of ['\n\n( a "&lt;<b>&#60;" )  ;; \t&amp; \u00a0\u2028\u000c x \n\n\n(b)\t', '( a ;; \0\n)', '\t\n', `( a )\n${'(b\n( c )\n\n\n)'.repeat(2000)}`]) {
+    await type(given);
+    await press('#format');
+    assert.equal(await valueOf('text'), layoutBy(given));
+    await key('z', CONTROL);
+    await pause(300);
+    assert.equal(await valueOf('text'), given);
+  }
+  // What cannot be formatted stays as it is, and the page says why.
+  const deep = '(a\n'.repeat(25_000);
+  for (const [given, told] of [[laid, 'The text is formatted already.'], ['', 'The text is formatted already.'], ['( a "', 'A text with a fault is not formatted.'], [deep, 'Formatted it would have more than a megabyte, and is left as it is.']]) {
+    await type(given);
+    await press('#format');
+    assert.deepEqual([await ask("document.querySelector('#formatted').textContent"), await valueOf('text')], [told, given]);
+  }
+  await drop('( a )\r');
+  assert.equal((await press('#format')).text, '( a )\r');
+  assert.equal(await ask("document.querySelector('#formatted').textContent"), 'A text that is only shown is not formatted.');
+  // CR LF stays so.
+  await drop(text.replaceAll('\n', '\r\n'));
+  assert.equal((await press('#format')).text, laid.replaceAll('\n', '\r\n'));
+  await key('z', CONTROL);
+  assert.equal((await ask(SHOWN)).text, text.replaceAll('\n', '\r\n'));
+}
+
+// Everything that the page offers, by the keyboard alone.
 async function byKeyboard() {
-  await type('(a "\\q")');
-  await ask("document.querySelector('#example').focus()");
+  await visit(origin);
+  const here = () => ask('document.activeElement.id');
+  const goTo = async (id) => {
+    for (let i = 0; i < 30 && (await here()) !== id; i += 1) await key('Tab');
+    assert.equal(await here(), id);
+  };
+  const told = (id) => ask(`document.querySelector('#${id}').textContent`);
+  await goTo('example');
+  await key('End');
   const reached = [];
-  for (let i = 0; i < 11; i += 1) {
-    reached.push(await ask('document.activeElement.id'));
+  for (let i = 0; i < 12; i += 1) {
+    reached.push(await here());
     await key('Tab');
   }
-  assert.deepEqual(reached, ['example', 'file', 'share', 'allow', 'strict', 'go', 'text', 'message', 'counts', 'names', 'list']);
-  await ask("document.querySelector('#strict').focus()");
+  assert.deepEqual(reached, ['example', 'file', 'format', 'share', 'allow', 'strict', 'go', 'text', 'message', 'counts', 'names', 'list']);
+  await goTo('share');
+  await key('Enter');
+  for (let i = 0; i < 100 && !(await told('shared')); i += 1) await pause(20);
+  assert.match(await told('shared'), /^The link is/);
+  await goTo('go');
+  await key('Enter');
+  assert.deepEqual([await here(), (await ask(SHOWN)).fault], ['text', await ask("new TextEncoder().encode(document.querySelector('#text').value.slice(0, document.querySelector('#text').selectionStart)).length")]);
+  for (const [id, ending] of [['allow', 'whole'], ['strict', 'whole'], ['strict', 'whole'], ['allow', 'faulty']]) {
+    await goTo(id);
+    await key(' ');
+    assert.equal((await ask(SHOWN)).ending, ending, id);
+  }
+  await goTo('text');
+  await key('Home', CONTROL);
+  await send('Input.insertText', { text: '(@a ( b )) ' });
+  await goTo('format');
+  await key('Enter');
+  assert.equal(await told('formatted'), 'A text with a fault is not formatted.');
+  await goTo('allow');
   await key(' ');
-  assert.equal(await ask("document.querySelector('#strict').checked"), true);
+  await goTo('format');
+  await key('Enter');
+  assert.ok((await valueOf('text')).startsWith('(@a (b)) (module\n'));
+  await goTo('counts');
   await key(' ');
+  assert.equal((await ask(SHOWN)).options[0][2], '(');
+  const before = (await ask(SHOWN)).options.length;
+  await goTo('names');
+  await send('Input.insertText', { text: 'a' });
+  assert.equal((await ask(SHOWN)).options.length, before + 6);
+  await goTo('list');
+  await key('Home');
+  await key('ArrowDown');
+  assert.equal((await ask(SHOWN)).held, '1..3');
+  await visit(origin);
 }
 
 // Roles and names of all that takes the focus, and the contrast of all text in sight.
@@ -427,7 +519,7 @@ async function access() {
   await type('(module ;; c\n (@a "b" $c -1 0x1p3 [ ) (; d ;)\n é x');
   const { nodes } = await send('Accessibility.getFullAXTree');
   const named = Object.fromEntries(nodes.filter((it) => !it.ignored).map((it) => [`${it.role?.value} ${it.name?.value}`, it]));
-  for (const wanted of ['heading WebAssembly text, as the lexer sees it', 'switch Allow confusing characters', 'switch Strict underscores', 'textbox Text', 'listbox Tokens', 'combobox Example', 'button Make a link to this text', 'switch Only what counts', 'textbox Registered annotations']) assert.ok(wanted in named, `${wanted}: ${Object.keys(named).filter((it) => !it.includes('StaticText') && !it.includes('Inline')).slice(0, 40).join(', ')}`);
+  for (const wanted of ['heading WebAssembly text, as the lexer sees it', 'switch Allow confusing characters', 'switch Strict underscores', 'textbox Text', 'listbox Tokens', 'combobox Example', 'button Format the text', 'button Make a link to this text', 'switch Only what counts', 'textbox Registered annotations']) assert.ok(wanted in named, `${wanted}: ${Object.keys(named).filter((it) => !it.includes('StaticText') && !it.includes('Inline')).slice(0, 40).join(', ')}`);
   assert.ok(nodes.some((it) => it.role?.value === 'status'));
   assert.ok(nodes.some((it) => it.role?.value === 'option' && it.properties?.some((of) => of.name === 'selected' && of.value.value === true)));
   assert.ok(nodes.every((it) => it.ignored || !it.properties?.some((of) => of.name === 'focusable' && of.value.value) || it.role?.value === 'RootWebArea' || it.name?.value), 'a name for all that takes the focus');
@@ -504,44 +596,114 @@ async function typeOften(times, place, piece, last) {
   return all;
 }
 
-// The page's own work, as it measures it: until what is in sight is drawn, and until all is read.
-async function times() {
-  for (const megabytes of [1, 10]) {
-    const bytes = spawnSync('python3', [here('../tools/generate.py'), String(megabytes)], { maxBuffer: 2 ** 30 }).stdout;
-    const page = await drop(bytes);
-    assert.equal(page.ending, 'whole', page.told);
-    const box = page.isEdited ? '#text' : '#view';
-    assert.equal(page.isEdited, megabytes === 1);
-    await ask(`document.querySelector('${box}').scrollTop = document.querySelector('${box}').scrollHeight / 2`);
-    await pause(200);
-    const shown = await ask(SHOWN);
-    const at = bytes.toString().indexOf(shown.text);
-    assert.ok(shown.text.length > 100 && at >= 0, 'the middle of the text');
-    assert.equal(shown.numbers[0], bytes.toString().slice(0, at).split('\n').length);
-    const tell = (name, all) => console.log(`  ${bytes.length} bytes, ${name}: ${best(all.map((it) => it[0]))}; all read ${best(all.map((it) => it[1]))}`);
-    const tellEach = async (name, times, change) => {
-      const all = [];
-      for (let i = 0; i < times; i += 1) {
-        await change();
-        all.push(await ask(LAST));
-        await pause(20);
-      }
-      tell(name, all);
-    };
-    if (page.isEdited) {
-      const line = (place) => bytes.toString().indexOf('\n', place) + 1;
-      for (const [times, name, place, piece] of [[26, 'a letter in the middle', bytes.length / 2, 'x'], [10, 'a letter in front', 0, 'x'], [10, 'a quote in the middle', bytes.length / 2, '"'], [6, 'a comment in front', 0, '(;']]) {
-        tell(name, await ask(`(${typeOften})(${times}, ${line(place)}, ${JSON.stringify(piece)}, () => ${LAST})`));
-      }
-      await tellEach('read anew', 25, async () => {
-        const before = await ask(READ);
-        await ask("document.querySelector('#strict').click()");
-        await ask(untilReadSince(before));
-      });
-      await ask("document.querySelector('#strict').checked = false");
-    }
-    await tellEach('opened', page.isEdited ? 5 : 25, () => drop(bytes));
+// Runs in the page: the module alone, over all of what the server hands out.
+async function readOften(times) {
+  const { load } = await import('./lexer.js');
+  const { lexer } = await load();
+  const given = new Uint8Array(await fetch('generated').then((it) => it.arrayBuffer()));
+  lexer.reserve(given.length);
+  lexer.bytes(given.length).set(given);
+  const all = [];
+  for (let i = 0; i < times; i += 1) {
+    const start = performance.now();
+    lexer.tell(0, given.length, 0, given.length, {});
+    all.push(performance.now() - start);
+    await new Promise((done) => setTimeout(done, 20));
   }
+  return all;
+}
+
+// The page's own work, as it measures it: until what is in sight is drawn, and until all is read.
+const tell = (bytes, name, all) => console.log(`  ${bytes.length} bytes, ${name}: ${best(all.map((it) => it[0]))}; all read ${best(all.map((it) => it[1]))}`);
+
+async function tellEach(bytes, name, times, change) {
+  const all = [];
+  for (let i = 0; i < times; i += 1) {
+    await change();
+    all.push(await ask(LAST));
+    await pause(20);
+  }
+  tell(bytes, name, all);
+}
+
+const generatedText = (megabytes) => spawnSync('python3', [here('../tools/generate.py'), String(megabytes)], { maxBuffer: 2 ** 30 }).stdout;
+
+// A long text that is opened: its tokens and its fault are those of the program.
+async function openLong(name, text) {
+  const given = Buffer.from(text);
+  const page = await drop(given);
+  const ran = spawnSync(program, { input: given, maxBuffer: 2 ** 30 });
+  const rows = ran.stdout.toString().split('\n').slice(0, -1);
+  assert.deepEqual([page.size, page.message + (page.message && '\n')], [`${rows.length.toLocaleString('en')} tokens, ${given.length.toLocaleString('en')} bytes.`, ran.stderr.toString()], name);
+  for (const [end, row] of [['End', rows.at(-1)], ['Home', rows[0]]]) {
+    await ask("document.querySelector('#list').focus()");
+    await key(end);
+    assert.equal((await ask(SHOWN)).held, row.split(' ')[0], `${name} ${end}`);
+  }
+}
+
+// Texts that workers read ahead, whatever stands where a stretch begins; and one where the workers fail.
+async function longTexts() {
+  const text = generatedText(4).toString();
+  const middle = text.indexOf('\n', text.length / 2);
+  const pieces = ['', ` (; ${'x ;; " (@ '.repeat(60_000)} ;) `, ` "${'\u6f22(;'.repeat(60_000)}" `, ` ;; ${'"('.repeat(300_000)}`, ` ${'word'.repeat(200_000)} `, ' (; ', ' "', ' \u{1f600} '];
+  const started = "window.workers = 0; window.Worker = class extends Worker { constructor(...given) { super(...given); window.workers += 1; } };";
+  const failing = "window.workers = 0; window.Worker = class extends Worker { constructor() { super('nowhere.js'); window.workers += 1; } };";
+  for (const [source, those] of [[started, pieces], [failing, pieces.slice(0, 2)]]) {
+    const { identifier } = await send('Page.addScriptToEvaluateOnNewDocument', { source });
+    await visit(origin);
+    for (const piece of those) await openLong(piece.slice(0, 10), text.slice(0, middle) + piece + text.slice(middle));
+    assert.equal(await ask('window.workers'), Math.min(4, (await ask('navigator.hardwareConcurrency')) - 1));
+    await send('Page.removeScriptToEvaluateOnNewDocument', { identifier });
+  }
+  await visit(origin);
+}
+
+// What stands in the middle of a long text.
+async function theMiddle(bytes, box) {
+  await ask(`document.querySelector('${box}').scrollTop = document.querySelector('${box}').scrollHeight / 2`);
+  await pause(200);
+  const shown = await ask(SHOWN);
+  const at = bytes.toString().indexOf(shown.text);
+  assert.ok(shown.text.length > 100 && at >= 0, 'the middle of the text');
+  assert.equal(shown.numbers[0], bytes.toString().slice(0, at).split('\n').length);
+}
+
+// A text that is edited.
+async function timesOfTyping() {
+  const bytes = generatedText(1);
+  const page = await drop(bytes);
+  assert.deepEqual([page.ending, page.isEdited], ['whole', true], page.told);
+  await theMiddle(bytes, '#text');
+  const line = (place) => bytes.toString().indexOf('\n', place) + 1;
+  for (const [times, name, place, piece] of [[26, 'a letter in the middle', bytes.length / 2, 'x'], [10, 'a letter in front', 0, 'x'], [10, 'a quote in the middle', bytes.length / 2, '"'], [6, 'a comment in front', 0, '(;']]) {
+    tell(bytes, name, await ask(`(${typeOften})(${times}, ${line(place)}, ${JSON.stringify(piece)}, () => ${LAST})`));
+  }
+  await tellEach(bytes, 'read anew', 25, async () => {
+    const before = await ask(READ);
+    await ask("document.querySelector('#strict').click()");
+    await ask(untilReadSince(before));
+  });
+  await ask("document.querySelector('#strict').checked = false");
+  await tellEach(bytes, 'opened', 5, () => drop(bytes));
+}
+
+// A long text that is opened, with workers and without, and the module alone, in turn.
+async function timesOfOpening() {
+  generated = generatedText(10);
+  const processors = await ask('navigator.hardwareConcurrency');
+  for (let round = 0; round < 3; round += 1) {
+    for (const hardwareConcurrency of [processors, 1]) {
+      await send('Emulation.setHardwareConcurrencyOverride', { hardwareConcurrency });
+      await visit(origin);
+      console.log(`  ${generated.length} bytes, the module alone: ${best(await ask(`(${readOften})(15)`))}`);
+      const page = await drop(generated);
+      assert.deepEqual([page.ending, page.isEdited], ['whole', false], page.told);
+      await tellEach(generated, `opened, ${hardwareConcurrency} processors told`, 15, () => drop(generated));
+    }
+  }
+  await send('Emulation.setHardwareConcurrencyOverride', { hardwareConcurrency: processors });
+  await theMiddle(generated, '#view');
 }
 
 async function takePictures() {
@@ -559,7 +721,7 @@ async function takePictures() {
 }
 
 let failed = 1;
-const limit = setTimeout(() => { console.error('no answer in 600 seconds'); browser.kill('SIGKILL'); process.exit(1); }, 600_000);
+const limit = setTimeout(() => { console.error('no answer in half an hour'); browser.kill('SIGKILL'); process.exit(1); }, 1_800_000);
 try {
   const { targetId } = await send('Target.createTarget', { url: 'about:blank' });
   session = (await send('Target.attachToTarget', { targetId, flatten: true })).sessionId;
@@ -567,12 +729,19 @@ try {
   await visit(origin);
   await typedTexts();
   console.log(await droppedTexts());
-  for (const check of [theCursor, theCursorOfShownTexts, scrolling, metrics, examples, theFault, retyping, whatCounts, bytesOfTypes, links, byKeyboard]) {
-    await check();
-    console.log(check.name);
+  await retyping();
+  await longTexts();
+  for (const width of [1200, 360]) {
+    await send('Emulation.setDeviceMetricsOverride', { width, height: 900, deviceScaleFactor: 1, mobile: false });
+    for (const check of [theCursor, theCursorOfShownTexts, scrolling, metrics, examples, theFault, whatCounts, bytesOfTypes, formatting, links, byKeyboard]) {
+      await check();
+      console.log(`${check.name}, ${width} pixels`);
+    }
   }
+  await send('Emulation.clearDeviceMetricsOverride');
   await access();
-  await times();
+  await timesOfTyping();
+  await timesOfOpening();
   if (pictures) await takePictures();
   await visit(pathToFileURL(here('out/wat.html')).href);
   await typedTexts();

@@ -1,9 +1,8 @@
 // Which tokens count: no white space, no comments, and no groups `(@name ..)` whose names are not registered.
 import { decoder } from './lexer.js';
 import { nameOf } from './names.js';
-import { ANNOTATION, OPENING } from './tokens.js';
+import { ANNOTATION, AT_SIGN, OPENING } from './tokens.js';
 
-const AT_SIGN = 64;
 const SHOWN = {};
 
 // What becomes of a parenthesis with `@` directly behind it: it is shown, or one skips to the token behind its group, or something is wrong

@@ -1,6 +1,7 @@
 // Texts that are edited at random, over and over: what is read after each edit has to be what the module says of the whole text in one call.
 import assert from 'node:assert/strict';
 import { changeOf, Places } from './edits.js';
+import { rowsOfPart } from './lexer.js';
 import { Lines } from './lines.js';
 
 const PIECES = ['"', '""', '\\', '\\"', '\\q', '\\u{e9}', '(;', ';)', ';;', ';', '(', ')', '(@', '@', '@"', '$', '$"', ',', '[', '0x', '1_000', '1__0', '_', 'nan:0x', '+', 'a', 'i32', ' ', '  ', '\n', '\n\n', '\t', '\r\n', '\r', '\u00e9', '\u202e', '\u6f22', '\u{1f600}', '\u{1fa00}', '\u{1f600}\u{1fa00}', '\0', '\x7f'];
@@ -35,6 +36,34 @@ export function compare(reader, lexer, flags) {
   assert.ok(reader.count <= whole.count && isSame(reader.rows.subarray(0, 2 * reader.count), whole.rows.subarray(0, 2 * reader.count)), 'rows');
   const lines = new Lines(reader.bytes);
   assert.deepEqual([reader.lines.count, reader.lines.before], [lines.count, lines.before], 'lines');
+}
+
+// Reads a text of which stretches are read elsewhere, wherever they begin, told in any order, and some of them not at all. Tells how many were told.
+export function readAhead(reader, lexer, bytes, flags, chance, least = 0) {
+  const awaited = [];
+  const size = () => 1 + least + chance.below(chance.oneOf([4000, 300, 20]));
+  let next = 0, count = 0;
+  const expect = () => {
+    const from = Math.max(next, reader.lines.back(reader.place + chance.below(Math.min(2000, bytes.length + 1))));
+    const to = reader.lines.back(from + size());
+    next = Math.max(next, reader.lines.back(to + chance.oneOf([0, 0, chance.below(600)])));
+    if (from >= to) return;
+    reader.expect(from, to);
+    awaited.push({ from, to });
+  };
+  const tell = () => {
+    const [{ from, to }] = awaited.splice(chance.below(awaited.length), 1);
+    const isRead = chance.below(10) > 0;
+    reader.give(from, isRead ? rowsOfPart(lexer, reader.bytes.slice(from, to), from, flags) : null);
+    count += isRead ? 1 : 0;
+  };
+  reader.open(bytes, flags);
+  do {
+    for (let i = chance.below(5); i > 0; i -= 1) expect();
+    while (awaited.length > 0 && chance.below(5) > 0) tell();
+  } while (!reader.readOn(chance.below(8) === 0 ? Infinity : 0));
+  compare(reader, lexer, flags);
+  return count;
 }
 
 // Edits, most of which are where the one before ended.

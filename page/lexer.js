@@ -88,6 +88,17 @@ export class Lexer {
   }
 }
 
+// The rows of a part of a text that begins at a place, whose ends count from the text's start: all tokens in front of a fault, and all but the
+// last in front of the part's end, which may depend on what follows.
+export function rowsOfPart(lexer, part, from, flags) {
+  lexer.reserve(part.length);
+  lexer.bytes(part.length).set(part);
+  const { ending, count } = lexer.tell(0, part.length, 0, part.length, flags);
+  const rows = lexer.rows().slice(0, 2 * (ending === 'whole' ? Math.max(0, count - 1) : count));
+  for (let i = 0; i < rows.length; i += 2) rows[i] += from;
+  return rows;
+}
+
 // Reads half a megabyte, which takes some milliseconds, so that an engine compiles the module for speed before the first long text
 // comes.
 function warmUp(lexer) {
@@ -97,8 +108,8 @@ function warmUp(lexer) {
 }
 
 export async function load() {
-  const { instance } = await WebAssembly.instantiate(await fetch('wat_page.wasm').then((answer) => answer.arrayBuffer()));
+  const { module, instance } = await WebAssembly.instantiate(await fetch('wat_page.wasm').then((answer) => answer.arrayBuffer()));
   const lexer = new Lexer(instance);
   warmUp(lexer);
-  return lexer;
+  return { module, lexer };
 }

@@ -1,6 +1,7 @@
 // A text in bytes, and where its lines begin. How many lines end before each block of bytes is counted beforehand; where one of them
 // begins is looked for in its block.
 export const LINE_FEED = 10;
+export const CARRIAGE_RETURN = 13;
 const BLOCK = 512;
 
 // How many line feeds there are in a block of rows of four bytes. Each lane of `feeds` counts those at its place in a row.
@@ -81,9 +82,10 @@ export class Sight {
     this.use(boxes[0]);
   }
 
-  // Takes this box from now on.
+  // Takes this box from now on. The one before it may hold the items of this one, and is to stand at its start.
   use(box) {
     if (box === this.box) return;
+    this.box?.scrollTo(0, 0);
     this.box = box;
     this.all = box.querySelector('.all');
     this.isBeside = !box.contains(this.seen);

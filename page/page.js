@@ -1,8 +1,10 @@
 // The page: a text in colours, its tokens, and one cursor in both.
+import { Ahead } from './ahead.js';
 import { Columns } from './columns.js';
 import { whatCounts } from './counts.js';
 import { changeOf, Places } from './edits.js';
 import { EXAMPLES } from './examples.js';
+import { layoutOf } from './layout.js';
 import { decoder, isSupported, load } from './lexer.js';
 import { Lines, Sight } from './lines.js';
 import { fragmentOf, givenBy } from './link.js';
@@ -23,7 +25,7 @@ const encoder = new TextEncoder();
 const textOf = (from, to) => decoder.decode(bytes.subarray(from, to));
 const plural = (count, word) => `${count.toLocaleString('en')} ${word}${count === 1 ? '' : 's'}`;
 
-let reader, view, list, columns;
+let reader, ahead, view, list, columns;
 let bytes, lines, tokens, cursor = 0;
 // The tokens that count, where only these are listed.
 let counted = null;
@@ -392,6 +394,7 @@ function draw() {
 // start, until what is in sight is drawn, and until the whole is read and drawn.
 function show(place, start) {
   cursor = lines.back(place);
+  tell('formatted', '');
   draw();
   performance.measure('show', { start });
   rest.begin(start);
@@ -471,6 +474,7 @@ function lend(given) {
 function open(given) {
   const start = performance.now();
   reader.open(given, flags());
+  ahead.begin(reader, flags());
   readOn();
   lend(given);
   isUntouched = true;
@@ -501,8 +505,43 @@ function onSelect() {
 function onFlag() {
   const start = performance.now();
   reader.restart(flags());
+  ahead.begin(reader, flags());
   readOn();
   show(cursor, start);
+}
+
+// ---- the layout
+
+// Why the text is not formatted, or nothing.
+function unformatted() {
+  if (lineEnd === null) return 'A text that is only shown is not formatted.';
+  if (reader.ending === null) return 'The text is still being read.';
+  return reader.ending === 'whole' ? '' : 'A text with a fault is not formatted.';
+}
+
+// Puts a piece in the place of a part of the text area's text as if it was typed, so that it can be undone, and tells whether the browser did.
+// As HTML, of which plain text is left here, Chromium takes 10,000 lines in the time of a hundred; but HTML has no NUL.
+function retype(from, to, piece) {
+  $('text').focus();
+  $('text').setSelectionRange(from, to);
+  if (!piece) return document.execCommand('delete');
+  const html = piece.replace(/[&<]/g, (one) => `&#${one.charCodeAt(0)};`);
+  return (!piece.includes('\0') && document.execCommand('insertHTML', false, html)) || document.execCommand('insertText', false, piece);
+}
+
+// Puts the layout in the place of the text. The cursor stays at its token, and line ends of CR LF stay so.
+function format() {
+  const why = unformatted();
+  if (why) return tell('formatted', why);
+  const laid = layoutOf(tokens, bytes, cursor, EDITABLE);
+  if (laid === null) return tell('formatted', 'Formatted it would have more than a megabyte, and is left as it is.');
+  const typedAs = (given) => decoder.decode(given).replaceAll('\r\n', '\n');
+  const { from, to, text } = changeOf(typed, typedAs(laid.bytes));
+  if (from === to && !text) return tell('formatted', 'The text is formatted already.');
+  const place = typedAs(laid.bytes.subarray(0, laid.place)).length;
+  if (!retype(from, to, text)) return tell('formatted', 'The browser refuses to change the text.');
+  moveTo(places.byteAt(bytes, place), 'formatted');
+  return tell('formatted', 'The text is formatted.');
 }
 
 // The press on the fault that is told.
@@ -559,6 +598,7 @@ function listen() {
   $('names').addEventListener('input', showCounts);
   $('example').addEventListener('change', openExample);
   rest.channel.port1.onmessage = () => rest.goOn();
+  $('format').addEventListener('click', format);
   $('share').addEventListener('click', share);
   $('go').addEventListener('click', goToFault);
   window.addEventListener('hashchange', openLink);
@@ -580,7 +620,9 @@ async function start() {
     for (const it of document.querySelectorAll('main input, main select, main button, main textarea')) it.disabled = true;
     return;
   }
-  reader = new Reader(await load());
+  const { module, lexer } = await load();
+  reader = new Reader(lexer);
+  ahead = new Ahead(module);
   columns = new Columns(getComputedStyle($('text')));
   view = new Sight([$('text'), $('view')], $('seen'), drawView);
   list = new Sight([$('list')], $('list').querySelector('.seen'), drawList);

@@ -34,6 +34,8 @@ export class Reader {
   #keptFrom = 0;
   #moved = 0;
   #step = PART;
+  // Stretches of the text that are read elsewhere, one behind another, with their rows once they are known.
+  #ahead = [];
 
   constructor(lexer) {
     this.#lexer = lexer;
@@ -69,11 +71,32 @@ export class Reader {
     this.lines = new Lines(this.bytes);
   }
 
-  // Reads on until the text or the time ends, and tells whether the text did.
+  // The place that the text is read to.
+  get place() { return this.#place; }
+
+  // Tells that what stands between two places is read elsewhere, behind what is so already.
+  expect(from, to) { this.#ahead.push({ from, to, rows: null }); }
+
+  // Tells the rows of what is read elsewhere from a place on, whose first token begins there, or that nobody does.
+  give(from, rows) {
+    const at = this.#ahead.findIndex((it) => it.from === from);
+    if (at < 0) return;
+    if (rows?.length > 0) this.#ahead[at].rows = rows; else this.#ahead.splice(at, 1);
+  }
+
+  // Whether what stands at the place is read elsewhere and may be told soon.
+  get #isAwaiting() {
+    while (this.#ahead.length > 0 && this.#ahead[0].to <= this.#place) this.#ahead.shift();
+    const [next] = this.#ahead;
+    return next !== undefined && next.rows === null && next.from <= this.#place;
+  }
+
+  // Reads on until the text or the time ends, or a part of what may be told soon is read, and tells whether the text ended.
   readOn(until = Infinity) {
     while (this.ending === null) {
+      const isAwaiting = this.#isAwaiting;
       this.#readPart();
-      if (this.ending === null && performance.now() >= until) return false;
+      if (this.ending === null && (isAwaiting || performance.now() >= until)) return false;
     }
     return true;
   }
@@ -89,6 +112,7 @@ export class Reader {
   #end({ ending, offset = 0, line = 0, column = 0, message = '' }) { Object.assign(this, { ending, offset, line, column, message }); }
 
   #forget() {
+    this.#ahead = [];
     this.count = 0;
     this.#place = 0;
     this.#kept = this.#lexer.capacity;
@@ -98,6 +122,7 @@ export class Reader {
 
   // Keeps the tokens in front of a change and those behind it: where there are none of this reading, those that were kept before.
   #keep(from, to, more) {
+    this.#ahead = [];
     const behind = to === 0 ? 0 : firstFrom(this.count, (i) => this.endOf(i), to) + 1;
     if (behind < this.count) {
       this.#kept = this.#lexer.capacity - (this.count - behind);
@@ -123,8 +148,28 @@ export class Reader {
     }
   }
 
+  #join() { return this.#joinKept() || this.#joinAhead(); }
+
+  // Puts tokens that were read elsewhere behind those that are read, where they begin there, and tells whether.
+  #joinAhead() {
+    while (this.#ahead.length > 0 && this.#ahead[0].rows !== null) {
+      const { from, rows } = this.#ahead[0];
+      const behind = from < this.#place ? firstFrom(rows.length / 2, (i) => rows[2 * i], this.#place) + 1 : 0;
+      if (2 * behind < rows.length) {
+        if ((behind > 0 ? rows[2 * behind - 2] : from) !== this.#place) return false;
+        this.rows.set(rows.subarray(2 * behind), 2 * this.count);
+        this.count += rows.length / 2 - behind;
+        this.#place = this.endOf(this.count - 1);
+        this.#ahead.shift();
+        return true;
+      }
+      this.#ahead.shift();
+    }
+    return false;
+  }
+
   // Puts the kept tokens behind those that are read, where they begin there, and tells whether.
-  #join() {
+  #joinKept() {
     this.#leave(this.#place);
     if (this.#kept === this.#lexer.capacity || this.#keptFrom !== this.#place) return false;
     const { capacity } = this.#lexer;
@@ -137,13 +182,20 @@ export class Reader {
     return true;
   }
 
+  // Where the part ends that is read next: soon behind where something begins that was read elsewhere.
+  #partEnd() {
+    const [next] = this.#ahead;
+    const near = next?.rows ? Math.max(next.from, this.#place) + FIRST_PART : Infinity;
+    return this.lines.back(Math.min(this.bytes.length, this.#place + this.#step, near));
+  }
+
   // Reads a part of the text. All of its tokens stay but the last one, which may depend on what follows. So may a fault, which is believed
   // only of a part that goes to the text's end.
   #readPart() {
     if (this.#join()) return;
     const { length } = this.bytes;
     const from = this.#place;
-    const to = this.lines.back(Math.min(length, from + this.#step));
+    const to = this.#partEnd();
     let told = this.#lexer.tell(from, to, this.count, this.#kept - this.count, this.#flags);
     let isPart = to < length;
     if (isPart && told.ending === 'whole') told.count -= 1;
@@ -158,13 +210,21 @@ export class Reader {
     if (told.ending === 'faulty') this.#endAt(from + told.offset);
   }
 
+  // The first of the tokens behind those that are read, up to one, behind which others may stand already.
+  #firstToJoin(last) {
+    const [next] = this.#ahead;
+    if (this.#kept < this.#lexer.capacity) return this.count;
+    if (!next?.rows) return last;
+    return this.count + firstFrom(last - this.count, (i) => this.endOf(this.count + i), next.from);
+  }
+
   // Takes so many tokens that are written behind those that are read, at most until kept ones follow, and tells whether they do.
   #take(count, from) {
     const last = this.count + count;
     move(this.rows, this.count, last, from);
+    const alone = this.#firstToJoin(last);
     while (this.count < last) {
-      // Where none are kept one takes all at once.
-      this.count = this.#kept < this.#lexer.capacity ? this.count + 1 : last;
+      this.count = Math.max(this.count + 1, alone);
       this.#place = this.endOf(this.count - 1);
       if (this.#join()) return true;
     }

@@ -5,13 +5,15 @@ usage: single.py FOLDER > wat.html
 """
 import base64
 import hashlib
+import json
 import pathlib
 import re
 import sys
 
 folder = pathlib.Path(sys.argv[1])
 # Each behind those that it imports.
-SCRIPTS = ["lexer.js", "lines.js", "columns.js", "reader.js", "edits.js", "tokens.js", "names.js", "counts.js", "types.js", "examples.js", "link.js", "page.js"]
+SCRIPTS = ["lexer.js", "lines.js", "columns.js", "reader.js", "ahead.js", "edits.js", "tokens.js", "names.js", "counts.js", "types.js", "layout.js", "examples.js", "link.js", "page.js"]
+WORKER = ["lexer.js", "worker.js"]
 
 
 def read(name):
@@ -24,14 +26,24 @@ def replaced(text, old, new):
     return text.replace(old, new)
 
 
+def joined(names):
+    """The scripts of these names as one, in which each sees what the others export."""
+    script = "".join(read(name) for name in names)
+    script = re.sub(r"^import .*\n", "", script, flags=re.M)
+    return re.sub(r"^export ", "", script, flags=re.M)
+
+
 module = base64.b64encode((folder / "wat_page.wasm").read_bytes()).decode()
-script = "".join(read(name) for name in SCRIPTS)
-script = re.sub(r"^import .*\n", "", script, flags=re.M)
-script = re.sub(r"^export ", "", script, flags=re.M)
+script = joined(SCRIPTS)
 script = replaced(
     script,
     "fetch('wat_page.wasm').then((answer) => answer.arrayBuffer())",
     f"Uint8Array.from(atob('{module}'), (it) => it.charCodeAt(0))",
+)
+script = replaced(
+    script,
+    "new Worker('worker.js', { type: 'module' })",
+    f"new Worker(URL.createObjectURL(new Blob([{json.dumps(joined(WORKER))}], {{ type: 'text/javascript' }})))",
 )
 script = f"\n{script}"
 style = f"\n{read('style.css')}"
@@ -45,5 +57,5 @@ def source(text):
 page = replaced(read("index.html"), '<link rel="stylesheet" href="style.css">', f"<style>{style}</style>")
 page = replaced(page, '<script type="module" src="page.js"></script>', f'<script type="module">{script}</script>')
 page = replaced(page, "script-src 'self'", f"script-src {source(script)}")
-page = replaced(page, "style-src 'self'; connect-src 'self'", f"style-src {source(style)}")
+page = replaced(page, "style-src 'self'; connect-src 'self'; worker-src 'self'", f"style-src {source(style)}; worker-src blob:")
 sys.stdout.write(page)

@@ -1,9 +1,13 @@
 // The tokens of a text by their numbers: where each begins and ends, and what kind it is of.
 import { KINDS } from './lexer.js';
 
+export const LINE_COMMENT = 1;
+export const WHITE_SPACE = 3;
 export const OPENING = 4;
 export const CLOSING = 5;
+export const KEYWORD = 8;
 export const ANNOTATION = 9;
+export const AT_SIGN = 64;
 
 export class Tokens {
   constructor(found) {

@@ -1,0 +1,13 @@
+// Reads parts of a text for the page.
+import { Lexer, rowsOfPart } from './lexer.js';
+
+let lexer;
+
+onmessage = ({ data: { module, part, from, flags } }) => {
+  if (module) {
+    lexer = new Lexer(new WebAssembly.Instance(module));
+  } else {
+    const rows = rowsOfPart(lexer, part, from, flags);
+    postMessage(rows, [rows.buffer]);
+  }
+};
