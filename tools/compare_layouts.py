@@ -5,7 +5,7 @@ on the files that are named.
 Of each answer it also asks what the layout promises: the same raw tokens but for white space, no blank before a line end, and the same answer
 when it is laid out again. Where `wat2wasm` is there and takes a file, it has to write the same bytes for the answer.
 
-usage: compare_layouts.py [--joins LENGTH] [--random COUNT] PROGRAM [FILE..]
+usage: compare_layouts.py [--joins LENGTH] [--random COUNT] [--alone] PROGRAM [FILE..], where --alone leaves `wat2wasm` out
 """
 
 import argparse
@@ -96,11 +96,14 @@ def file_texts(names):
 
 
 def assembled(text):
-    """The bytes that `wat2wasm` writes for a text, or None where it refuses the text."""
+    """The bytes that `wat2wasm` writes for a text, or None where it refuses the text, or does not end."""
     with tempfile.TemporaryDirectory() as room:
         source, target = pathlib.Path(room, "text.wat"), pathlib.Path(room, "text.wasm")
         source.write_bytes(text.encode())
-        ran = subprocess.run(["wat2wasm", "--enable-all", source, "-o", target], capture_output=True)
+        try:
+            ran = subprocess.run(["wat2wasm", "--enable-all", source, "-o", target], capture_output=True, timeout=20)
+        except subprocess.TimeoutExpired:
+            return None
         return None if ran.returncode else target.read_bytes()
 
 
@@ -124,13 +127,14 @@ def main():
     parser = argparse.ArgumentParser()
     parser.add_argument("--joins", type=int, default=3)
     parser.add_argument("--random", type=int, default=20_000)
+    parser.add_argument("--alone", action="store_true")
     parser.add_argument("program")
     parser.add_argument("files", nargs="*")
     options = parser.parse_args()
     print("joins:", compare(options.program, joins(options.joins)))
     print("random joins:", compare(options.program, random_joins(options.random)))
     print("files:", compare(options.program, file_texts(options.files)))
-    if shutil.which("wat2wasm"):
+    if shutil.which("wat2wasm") and not options.alone:
         print("wat2wasm:", compare_assembled(options.files))
 
 
