@@ -12,3 +12,4 @@ pub mod Starts
 pub mod Outlines
 pub mod NumberSteps
 pub mod Blocks
+pub mod Nesting

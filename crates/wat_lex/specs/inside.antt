@@ -5,3 +5,4 @@ pub mod Outlines
 pub mod ScannedLexemes
 pub mod ScannedRuns
 pub mod Blocks
+pub mod Nesting

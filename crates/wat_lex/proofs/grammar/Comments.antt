@@ -4,17 +4,8 @@ use Rattle.std.proofs.lemmas.List.{drop_more}
 use Rattle.std.proofs.lemmas.List.Sums.{prefix_len_passes}
 use Rattle.std.proofs.lemmas.Bool.{cases_eq, both_ways}
 use Rattle.wat_lex.specs.inside.Blocks.{other_than_semicolon}
+use Rattle.wat_lex.specs.inside.Nesting.{Closings, Reaches}
 use Rattle.wat_lex.specs.grammar.Comments.{Closes, close, plain, lone_semicolon, lone_paren, nested}
-
--- n comments are open in the text: it closes them one after another, and then comes the rest
-abbrev pub Closings : ℕ → List ℕ → List ℕ → Type 0
-Closings zero t r = t ≡ r
-Closings (suc n) t r = (m : List ℕ) × Closes t m × Closings n m r
-
--- what closes the text s is what closes n comments in t
-pub record Reaches (s : List ℕ) (n : ℕ) (t : List ℕ) : Type 0 where
-  pub into : (r : List ℕ) → Closings n t r → Closes s r
-  pub from : (r : List ℕ) → Closes s r → Closings n t r
 
 pub reaches_start : (s : List ℕ) → Reaches s 1 s
 reaches_start s = record { into = λ r h. subst (λ x. Closes s x) h.2 h.1; from = λ r h. (r, h, refl) }

@@ -16,7 +16,8 @@ use Rattle.wat_lex.specs.declared.lexer.kinds.TokenKind.TheVariants.{LineComment
 use Rattle.wat_lex.specs.declared.lexer.faults.LexError.{LexError}
 use Rattle.wat_lex.proofs.inside.BlockComments.{closes_cut}
 use Rattle.wat_lex.proofs.inside.CheckedComments.{clear_word}
-use Rattle.wat_lex.proofs.grammar.Comments.{Reaches, reaches_start, step_plain, step_semicolon, step_paren, step_open, step_close, step_last, none_closes, all_closed}
+use Rattle.wat_lex.specs.inside.Nesting.{Reaches}
+use Rattle.wat_lex.proofs.grammar.Comments.{reaches_start, step_plain, step_semicolon, step_paren, step_open, step_close, step_last, none_closes, all_closed}
 use Rattle.wat_lex.proofs.grammar.Remainders.{run_taken}
 use Rattle.wat_lex.proofs.grammar.RunKinds.{kind_of_run, word_of_run, ends_of_run, no_semicolon, some_pieces}
 use Rattle.wat_lex.proofs.grammar.SomeRun.{SomeRun, run, some_run, some_kind}

@@ -1,7 +1,7 @@
 //! Tests of 16 bytes at once.
-ghost use Rattle.std.specs.Prelude.{◌≡◌, ◌≤◌, ◌+◌, length};
+ghost use Rattle.std.specs.Prelude.{◌≡◌, ◌≤◌, ◌+◌, ◌==◌, length, map};
 ghost use Rattle.std.specs.Char.{is_ascii_digit};
-ghost use Rattle.std.specs.Simd.Lanes.{chunk};
+ghost use Rattle.std.specs.Simd.Lanes.{chunk, mask_l};
 ghost use Rattle.wat_lex.specs.grammar.Classes.{is_hex, is_idchar, is_whitespace};
 ghost use Rattle.wat_lex.specs.inside.Blocks.{failures, is_plain_in_line, is_surely_plain};
 ghost use Rattle.wat_lex.specs.inside.Blocks.{other_than_semicolon};
@@ -79,6 +79,14 @@ pub fn semicolons(block: u8x16) -> u64
     ensures { result ≡ failures other_than_semicolon block }
 {
     block.simd_eq(u8x16::splat(b';')).to_bitmask()
+}
+
+/// A bit for each byte that is this one, the lowest for the first.
+#[inline(always)]
+pub fn equal_to(block: u8x16, byte: u8) -> u64
+    ensures { result ≡ mask_l (map (λ b. b == byte) block) }
+{
+    block.simd_eq(u8x16::splat(byte)).to_bitmask()
 }
 
 /// A bit for each byte that ends a line or may begin a confusing character, the lowest for the

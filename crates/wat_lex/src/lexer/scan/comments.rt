@@ -1,5 +1,5 @@
 //! Comments.
-ghost use Rattle.std.specs.Prelude.{◌≡◌, ◌≤◌, ◌+◌, ℕ, List, not, length, drop, slice_index, IfSome};
+ghost use Rattle.std.specs.Prelude.{◌≡◌, ◌<◌, ◌≤◌, ◌+◌, ℕ, List, not, length, drop, slice_index, IfSome};
 ghost use Rattle.std.specs.Prelude.{IfNone, MatchOption, IfOk, IfErr, IsTrue};
 ghost use Rattle.std.specs.List.{prefix_len};
 ghost use Rattle.std.specs.Str.{chars, NonePass};
@@ -10,13 +10,14 @@ ghost use Rattle.wat_lex.specs.inside.ScannedLexemes.{LexemeFound, Refused, Firs
 ghost use Rattle.wat_lex.specs.declared.lexer.kinds.TokenKind.TheVariants.{LineComment};
 ghost use Rattle.wat_lex.specs.declared.lexer.kinds.TokenKind.TheVariants.{BlockComment};
 ghost use Rattle.wat_lex.specs.inside.Blocks.{GoesOn, is_plain_in_line, other_than_semicolon};
+ghost use Rattle.wat_lex.specs.inside.Nesting.{Reaches, opens_at, closes_at, passing};
 ghost use Rattle.wat_lex.specs.inside.Outlines.{Outlined};
 ghost use Rattle.wat_lex.specs.tokens.Setting.{allowing};
 
 use crate::lexer::faults::{LexError, LexFault};
 use crate::lexer::kinds::{Lexeme, Outline, Shape, TokenKind};
 use crate::lexer::scan::blocks::{
-    block_at, other_than_plain_in_line, other_than_surely_plain, semicolons,
+    block_at, equal_to, other_than_plain_in_line, other_than_surely_plain, semicolons,
 };
 use crate::lexer::scan::classes::is_confusing;
 use crate::lexer::settings::Settings;
@@ -144,6 +145,50 @@ fn semicolon_by_block(text: &[u8]) -> usize
     i + semicolon_by_search(&text[i..])
 }
 
+/// A bit for each of 16 places where `(;` stands, and for each where `;)` does, the lowest for the
+/// first.
+#[inline(always)]
+fn delimiters(text: &[u8], i: usize) -> (u64, u64)
+    requires { i + 17 ≤ length text.now }
+    ensures opens { result.0 ≡ passing (opens_at text.now) i 16 }
+    ensures closes { result.1 ≡ passing (closes_at text.now) i 16 }
+{
+    let here = block_at(text, i);
+    let next = block_at(text, i + 1);
+    let opens = equal_to(here, b'(') & equal_to(next, b';');
+    let closes = equal_to(here, b';') & equal_to(next, b')');
+    (opens, closes)
+}
+
+/// How many comments are open further on, and where, with so many open at a place. It counts by
+/// blocks while more are open than a block can close, up to a `(;)`, of whose two delimiters only the
+/// first is one.
+#[inline(never)]
+fn past_blocks(text: &[u8], place: usize, opened: usize) -> (usize, usize)
+    requires some { 0 < opened }
+    requires few { opened ≤ place + 1 }
+    requires range { place ≤ length text.now }
+    requires reaches { Reaches text.now opened (drop place text.now) }
+    ensures some { 0 < result.0 }
+    ensures few { result.0 ≤ result.1 + 1 }
+    ensures on { place ≤ result.1 }
+    ensures range { result.1 ≤ length text.now }
+    ensures reaches { Reaches text.now result.0 (drop result.1 text.now) }
+{
+    let mut level = opened;
+    let mut i = place;
+    while level > 16 && text.len() - i > 16 {
+        let (opens, closes) = delimiters(text, i);
+        if opens & (closes >> 1) != 0 {
+            return (level, i);
+        }
+        level += opens.count_ones() as usize;
+        level -= closes.count_ones() as usize;
+        i += 16 + ((opens | closes) >> 15) as usize;
+    }
+    (level, i)
+}
+
 /// How many bytes the items of a block comment and its `;)` take, behind its `(;`.
 fn closing_len(text: &[u8]) -> Option<usize>
     ensures range { IfSome result (λ n. n ≤ length text.now) }
@@ -154,8 +199,9 @@ fn closing_len(text: &[u8]) -> Option<usize>
     let mut i = 0usize;
     while i < text.len() {
         if text[i] == b'(' && i + 1 < text.len() && text[i + 1] == b';' {
-            level += 1;
-            i += 2;
+            let (opened, next) = past_blocks(text, i + 2, level + 1);
+            level = opened;
+            i = next;
         } else if text[i] == b';' && i + 1 < text.len() && text[i + 1] == b')' {
             level -= 1;
             i += 2;

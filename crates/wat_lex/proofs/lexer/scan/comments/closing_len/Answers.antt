@@ -3,7 +3,8 @@ use Rattle.std.specs.List.{prefix_len}
 use Rattle.std.proofs.lemmas.List.{drop_all, take_rest}
 use Rattle.std.proofs.lemmas.List.Sums.{prefix_len-le-length}
 use Rattle.wat_lex.specs.inside.Blocks.{other_than_semicolon}
-use Rattle.wat_lex.proofs.grammar.Comments.{Reaches, open_at, close_at, other_at, semicolon_reached, before_semicolon_reached, none_closes, all_closed}
+use Rattle.wat_lex.specs.inside.Nesting.{Reaches}
+use Rattle.wat_lex.proofs.grammar.Comments.{open_at, close_at, other_at, semicolon_reached, before_semicolon_reached, none_closes, all_closed}
 use Rattle.wat_lex.proofs.lexer.scan.comments.closing_len.Goals as goal
 use Rattle.wat_lex.proofs.lexer.scan.comments.closing_len.Goals.{else-text-i-eq40-via-then-text-i-eq40+then-i-text+else-text-i-eq59, else-text-i-eq40-via-then-text-i-eq40+else-i-text, else-text-i-eq40-via-else-text-i-eq40}
 use Rattle.wat_lex.proofs.lexer.scan.comments.closing_len.Goals.{else-text-i-eq59-2-via-then-text-i-eq59-2+then-i-text-2+else-text-i-eq41, else-text-i-eq59-2-via-then-text-i-eq59-2+else-i-text-2, else-text-i-eq59-2-via-else-text-i-eq59-2}
@@ -15,13 +16,9 @@ counted s i m e = e ∙ ap (prefix_len other_than_semicolon) (take_rest s i)
 within : (s : List ℕ) (i m : ℕ) → i ≤ length s → m ≡ prefix_len other_than_semicolon (take (length s - i) (drop i s)) → i + m ≤ length s
 within s i m l e = omega (arith, counted s i m e, prefix_len-le-length other_than_semicolon (drop i s), length-drop i s)
 
-pub loop-i-preserved-then-text-i-eq59 : goal.loop-i-preserved-then-text-i-eq59
-loop-i-preserved-then-text-i-eq59 c = record {
-  some = omega arith;
-  few = omega arith;
-  range = omega arith;
-  reaches = open_at c.args.text.now c.loop-i.i c.loop-i.level c.if-i-text.true c.if-text-i-eq40.true c.if-text-i-eq59.true c.loop-i.invariant.some c.loop-i.invariant.reaches;
-}
+pub past_blocks-opened-requires-clause-reaches : goal.past_blocks-opened-requires-clause-reaches
+past_blocks-opened-requires-clause-reaches c =
+    open_at c.args.text.now c.loop-i.i c.loop-i.level c.if-i-text.true c.if-text-i-eq40.true c.if-text-i-eq59.true c.loop-i.invariant.some c.loop-i.invariant.reaches
 
 pub returns-then-level-eq0-clause-found : goal.returns-then-level-eq0-clause-found
 returns-then-level-eq0-clause-found c =

@@ -1,5 +1,5 @@
 use Rattle.std.proofs.Common.{◌≤◌, ◌<◌, ◌+◌, ◌-◌, length, drop}
-use Rattle.wat_lex.proofs.grammar.Comments.{Reaches}
+use Rattle.wat_lex.specs.inside.Nesting.{Reaches}
 use Rattle.wat_lex.proofs.lexer.scan.comments.closing_len.Given as goal
 
 abbrev pub invariant-loop-i : goal.invariant-loop-i
