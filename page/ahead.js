@@ -1,8 +1,10 @@
 // Workers that read parts of a long text ahead of the page, each with the module over a memory of its own. What they tell is believed only
 // where the reader comes to a place at which one of their tokens begins.
 
-// In bytes: what a worker reads at once, and the least text for which there are workers.
+// In bytes: what a worker reads at once, how far ahead of the reader it begins, which reads some itself before it draws, and the least text for
+// which there are workers.
 const STRETCH = 1 << 18;
+const LEAD = 1 << 20;
 const LEAST_TEXT = 1 << 21;
 // How many workers there are at most, and how many stretches each has at a time, so that none waits while the page draws.
 const MOST = 4;
@@ -15,7 +17,6 @@ export class Ahead {
   #flags = {};
   #round = 0;
   #next = 0;
-  #assigned = 0;
 
   constructor(module) { this.#module = module; }
 
@@ -45,16 +46,15 @@ export class Ahead {
     });
   }
 
-  // The next stretch, where one is left that the reader has not come to. Of as many as there are workers and one more, one is left to the reader.
+  // The next stretch, where one is left. A worker that is alone leaves every second one to the reader.
   #assign(worker) {
     const reader = this.#reader;
     if (reader?.ending !== null || worker.stretches.length === AT_A_TIME) return;
-    const from = Math.max(this.#next, reader.lines.back(reader.place + STRETCH));
+    const from = Math.max(this.#next, reader.lines.back(reader.place + LEAD));
     const to = reader.lines.back(from + STRETCH);
     if (from >= to) return;
     const part = reader.bytes.slice(from, to);
-    this.#assigned += 1;
-    this.#next = this.#assigned % this.#workers.length > 0 ? to : reader.lines.back(to + STRETCH);
+    this.#next = this.#workers.length > 1 ? to : reader.lines.back(to + STRETCH);
     worker.stretches.push({ round: this.#round, from });
     reader.expect(from, to);
     worker.postMessage({ part, from, flags: this.#flags }, [part.buffer]);
