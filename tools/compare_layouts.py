@@ -96,11 +96,14 @@ def file_texts(names):
 
 
 def assembled(text):
-    """The bytes that `wat2wasm` writes for a text, or None where it refuses the text."""
+    """The bytes that `wat2wasm` writes for a text, or None where it refuses the text, or does not end."""
     with tempfile.TemporaryDirectory() as room:
         source, target = pathlib.Path(room, "text.wat"), pathlib.Path(room, "text.wasm")
         source.write_bytes(text.encode())
-        ran = subprocess.run(["wat2wasm", "--enable-all", source, "-o", target], capture_output=True)
+        try:
+            ran = subprocess.run(["wat2wasm", "--enable-all", source, "-o", target], capture_output=True, timeout=20)
+        except subprocess.TimeoutExpired:
+            return None
         return None if ran.returncode else target.read_bytes()
 
 
