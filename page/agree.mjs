@@ -73,7 +73,7 @@ function compareParts(bytes, flags, times, chance) {
 
 // What tools/layout.py answers.
 function compareLayouts(files) {
-  const its = spawnSync('python3', [here('../tools/compare_layouts.py'), here('laid.mjs'), ...files], { maxBuffer: 2 ** 30 });
+  const its = spawnSync('python3', [here('../tools/compare_layouts.py'), '--alone', here('laid.mjs'), ...files], { maxBuffer: 2 ** 30 });
   console.log(its.stdout.toString().trim());
   if (its.status !== 0) told.other.push(`layouts: ${its.stderr}`);
 }

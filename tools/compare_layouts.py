@@ -5,7 +5,7 @@ on the files that are named.
 Of each answer it also asks what the layout promises: the same raw tokens but for white space, no blank before a line end, and the same answer
 when it is laid out again. Where `wat2wasm` is there and takes a file, it has to write the same bytes for the answer.
 
-usage: compare_layouts.py [--joins LENGTH] [--random COUNT] PROGRAM [FILE..]
+usage: compare_layouts.py [--joins LENGTH] [--random COUNT] [--alone] PROGRAM [FILE..], where --alone leaves `wat2wasm` out
 """
 
 import argparse
@@ -127,13 +127,14 @@ def main():
     parser = argparse.ArgumentParser()
     parser.add_argument("--joins", type=int, default=3)
     parser.add_argument("--random", type=int, default=20_000)
+    parser.add_argument("--alone", action="store_true")
     parser.add_argument("program")
     parser.add_argument("files", nargs="*")
     options = parser.parse_args()
     print("joins:", compare(options.program, joins(options.joins)))
     print("random joins:", compare(options.program, random_joins(options.random)))
     print("files:", compare(options.program, file_texts(options.files)))
-    if shutil.which("wat2wasm"):
+    if shutil.which("wat2wasm") and not options.alone:
         print("wat2wasm:", compare_assembled(options.files))
 
 
