@@ -1,4 +1,4 @@
-use Rattle.std.proofs.Common.{◌≡◌, ◌≤◌, ◌∙◌, ◌++◌, ◌∷◌, [], length, true, false, arith, rules, sym, ap, subst, Ok}
+use Rattle.std.proofs.Common.{◌≡◌, ◌≤◌, ◌+◌, ◌∙◌, ◌++◌, ◌∷◌, [], length, true, false, arith, rules, sym, ap, subst, Ok}
 use Rattle.std.specs.Prelude.{not}
 use Rattle.std.proofs.lemmas.List.{map-append}
 use Rattle.wat_lexer_parser.specs.lemmas.ReadingLaws.{advances_group}

@@ -1,4 +1,4 @@
-use Rattle.std.proofs.Common.{◌≡◌, rules, sym, subst, None, Err}
+use Rattle.std.proofs.Common.{◌≡◌, refl, rules, sym, subst, None, Err}
 use Rattle.std.specs.Prelude.{Vec}
 use Rattle.std.specs.declared.alloc.Global.{Global}
 use Rattle.wat_lexer_parser.specs.lemmas.ReadingLaws.{advances_group}
@@ -11,7 +11,7 @@ use Rattle.wat_types.proofs.Lists.{joined_read, joined_takes}
 use Rattle.wat_types.proofs.text.results.Goals as goal
 
 pub all_of-requires : goal.all_of-requires
-all_of-requires c = advances_group returns
+all_of-requires c = λ k. ((refl, tt), advances_group returns)
 
 pub returns-in_err-joined-clause-reads : goal.returns-in_err-joined-clause-reads
 returns-in_err-joined-clause-reads c =

@@ -1,4 +1,4 @@
-use Rattle.std.proofs.Common.{map}
+use Rattle.std.proofs.Common.{map, refl}
 use Rattle.std.specs.Prelude.{Vec}
 use Rattle.std.specs.declared.alloc.Global.{Global}
 use Rattle.std.proofs.lemmas.List.{map-id}
@@ -9,7 +9,7 @@ use Rattle.wat_types.proofs.Lists.{advances_val}
 use Rattle.wat_types.proofs.text.vals.Goals as goal
 
 pub all_of-requires : goal.all_of-requires
-all_of-requires c = advances_val
+all_of-requires c = λ k. ((refl, tt), advances_val)
 
 pub returns-clause-reads : goal.returns-clause-reads
 returns-clause-reads c =
