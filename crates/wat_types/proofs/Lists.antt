@@ -1,8 +1,10 @@
 -- Lists of number types that are read: each takes a token, and all are joined.
-use Rattle.std.proofs.Common.{◌≡◌, ◌∙◌, ℕ, List, [], ◌∷◌, ◌++◌, false, map, refl, sym, ap, Ok}
+use Rattle.std.proofs.Common.{◌≡◌, ◌∙◌, ◌<◌, ℕ, List, [], ◌∷◌, ◌++◌, true, false, arith, length, map, refl, sym, ap, Ok}
 use Rattle.std.specs.List.{flat_map}
+use Rattle.std.proofs.lemmas.List.{length-map}
 use Rattle.wat_lexer_parser.specs.lemmas.ReadingLaws.{advances_mapped}
 use Rattle.wat_lexer_parser.specs.lemmas.TypeLaws.{advances_keyword, advances_one_of}
+use Rattle.wat_lexer_parser.specs.lemmas.WhileLaws.{some_takes}
 use Rattle.wat_lexer_parser.specs.parser.Sights.{Sight}
 use Rattle.wat_lexer_parser.specs.parser.State.{State}
 use Rattle.wat_lexer_parser.specs.readings.Readings.{Reading, joined_while, mapped, told_as, while_seen}
@@ -25,3 +27,7 @@ joined_map f (x ∷ xs) = ap (λ vs. f x ++ vs) (joined_map f xs)
 -- the values of lists that were read, joined
 pub joined_read : {X V : Type 0} (f : X → List V) (sight : Sight) (m : Reading (List V)) (a : State) (xs : List X) (vs : List V) → (while_seen sight m a).answer ≡ Ok (map f xs) → vs ≡ flat_map f xs → (joined_while sight m a).answer ≡ Ok vs
 joined_read f sight m a xs vs h e = ap (told_as (λ vss. flat_map (λ vs. vs) vss)) h ∙ ap Ok (joined_map f xs ∙ sym e)
+
+-- where there is one, memory may have been asked for
+pub joined_takes : {X V : Type 0} (f : X → List V) (sight : Sight) (m : Reading (List V)) (a : State) (xs : List X) → (while_seen sight m a).answer ≡ Ok (map f xs) → 0 < length xs → (joined_while sight m a).takes_memory ≡ true
+joined_takes f sight m a xs h l = some_takes sight m a (map f xs) h (omega (arith, l, length-map xs f))

@@ -1,4 +1,4 @@
-use Rattle.std.proofs.Common.{◌≡◌, ◌≤◌, ◌∙◌, ◌++◌, ◌∷◌, [], length, true, false, arith, rules, sym, ap, subst, Ok}
+use Rattle.std.proofs.Common.{◌≡◌, ◌≤◌, ◌+◌, ◌∙◌, ◌++◌, ◌∷◌, [], length, true, false, arith, rules, sym, ap, subst, Ok}
 use Rattle.std.specs.Prelude.{not}
 use Rattle.std.proofs.lemmas.List.{map-append}
 use Rattle.wat_lexer_parser.specs.lemmas.ReadingLaws.{advances_group}
@@ -10,6 +10,7 @@ use Rattle.wat_lexer_parser.specs.readings.Reads.{Reads}
 use Rattle.wat_lexer_parser.specs.shown.Showing.{shown}
 use Rattle.wat_types.specs.Meanings.{definition}
 use Rattle.wat_types.specs.Signatures.{signature, signatures}
+use Rattle.wat_types.specs.declared.text.Definition.{Definition}
 use Rattle.wat_types.proofs.text.definitions.Goals as goal
 
 pub loop-parser-init : goal.loop-parser-init
@@ -30,14 +31,14 @@ loop-parser-preserved c =
     let within : b.place ≤ length a.source.tokens = search rules in
     let d = c.in_ok-definition.definition in
     let q = c.parens_of.new.self.place in
-    let read : Reads (λ d. signature d.func) (group definition) b (Ok d) q = search rules in
+    let read : Reads (λ (d : Definition). signature d.func) (group definition) b (Ok d) q = search rules in
     let items : c.push.new.self.items ≡ c.loop-parser.types.items ++ (d.func ∷ []) = search rules in
     let told : signatures c.push.new.self.items ≡ signatures c.loop-parser.types.items ++ (signature d.func ∷ []) = ap signatures items ∙ map-append signature c.loop-parser.types.items (d.func ∷ []) in
     record {
       kept = search rules;
       on = search rules;
       so_far = subst (λ vs. IsSoFar more_comes (group definition) a vs q) (sym told)
-          (one_more_read (λ d. signature d.func) more_comes (group definition) a b (signatures c.loop-parser.types.items) d q (advances_group definition) i.so_far i.kept within (ap (λ e. Ok (not e)) empty) read);
+          (one_more_read (λ (d : Definition). signature d.func) more_comes (group definition) a b (signatures c.loop-parser.types.items) d q (advances_group definition) i.so_far i.kept within (ap (λ e. Ok (not e)) empty) read);
     }
 
 pub loop-parser-smaller : goal.loop-parser-smaller
