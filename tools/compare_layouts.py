@@ -5,7 +5,10 @@ on the files that are named.
 Of each answer it also asks what the layout promises: the same raw tokens but for white space, no blank before a line end, and the same answer
 when it is laid out again. Where `wat2wasm` is there and takes a file, it has to write the same bytes for the answer.
 
-usage: compare_layouts.py [--joins LENGTH] [--random COUNT] [--alone] PROGRAM [FILE..], where --alone leaves `wat2wasm` out
+With --command the files are laid out by `fmt` of that program, however long they are; `wat_format_rows` takes a million bytes. --alone leaves
+`wat2wasm` out.
+
+usage: compare_layouts.py [--joins LENGTH] [--random COUNT] [--command WAT_TOKENS] [--alone] PROGRAM [FILE..]
 """
 
 import argparse
@@ -95,6 +98,21 @@ def file_texts(names):
                 print(f"{name}: not UTF-8, left out")
 
 
+def compare_files(command, names):
+    """Compares what the command writes for files, and counts them, those that have no fault and those that are laid out."""
+    count, fine, same = 0, 0, 0
+    for name in names:
+        for text in file_texts([name]):
+            ran = subprocess.run([command, "fmt", "--", name], capture_output=True)
+            want = wanted(text)
+            if (ran.returncode, ran.stdout) != ((1, b"") if want is None else (0, want.encode())):
+                sys.exit(f"{name} is laid out otherwise, with status {ran.returncode}")
+            if want is not None and not keeps_promises(text, want):
+                sys.exit(f"{name} does not keep its tokens, or its layout is laid out otherwise")
+            count, fine, same = count + 1, fine + (want is not None), same + (want == text)
+    return f"{count} files, {fine} without a fault, {same} laid out already"
+
+
 def assembled(text):
     """The bytes that `wat2wasm` writes for a text, or None where it refuses the text, or does not end."""
     with tempfile.TemporaryDirectory() as room:
@@ -128,12 +146,16 @@ def main():
     parser.add_argument("--joins", type=int, default=3)
     parser.add_argument("--random", type=int, default=20_000)
     parser.add_argument("--alone", action="store_true")
+    parser.add_argument("--command")
     parser.add_argument("program")
     parser.add_argument("files", nargs="*")
     options = parser.parse_args()
     print("joins:", compare(options.program, joins(options.joins)))
     print("random joins:", compare(options.program, random_joins(options.random)))
-    print("files:", compare(options.program, file_texts(options.files)))
+    if options.command:
+        print("files:", compare_files(options.command, options.files))
+    else:
+        print("files:", compare(options.program, file_texts(options.files)))
     if shutil.which("wat2wasm") and not options.alone:
         print("wat2wasm:", compare_assembled(options.files))
 
