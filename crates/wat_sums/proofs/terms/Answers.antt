@@ -1,5 +1,5 @@
 use Rattle.std.proofs.Common.{refl}
-use Rattle.wat_sums.proofs.Terms.{advances_term}
+use Rattle.wat_sums.proofs.Advancing.{advances_term}
 use Rattle.wat_sums.proofs.terms.Goals as goal
 
 pub all_of-requires : goal.all_of-requires
