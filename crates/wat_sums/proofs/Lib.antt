@@ -1,2 +1,2 @@
-mod Terms
+mod Advancing
 mod Reading

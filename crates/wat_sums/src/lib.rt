@@ -7,10 +7,10 @@
 ghost use Rattle.std.specs.Prelude.{◌≡◌, ◌≤◌, ◌<◌, ◌^◌, ℤ, List, length, map, true, false, IfOk, Ok};
 ghost use Rattle.wat_lexer_parser.specs.parser.State.{Answers};
 ghost use Rattle.wat_lexer_parser.specs.places.Source.{Source, IsRead};
-ghost use Rattle.wat_lexer_parser.specs.readings.Readings.{whole};
+ghost use Rattle.wat_lexer_parser.specs.readings.Readings.{many, whole};
 ghost use Rattle.wat_lexer_parser.specs.readings.Reads.{IsKept, Reads};
 ghost use Rattle.wat_sums.specs.Spelling.{SpellsSum};
-ghost use Rattle.wat_sums.specs.Sums.{negative, sum};
+ghost use Rattle.wat_sums.specs.Sums.{negative, sum, term};
 
 pub mod kw;
 pub mod laws;
@@ -79,15 +79,23 @@ impl<'a> Parse<'a> for Sum {
 
     ghost meaning = { sum.reading };
 
-    #[tactic(auto, using(crate::proofs::Terms::advances_term), unfolding(crate::specs::Sums::sum))]
+    #[tactic(auto, unfolding(crate::specs::Sums::sum))]
     fn parse(parser: &mut Parser<'a>) -> Result<Sum, Error> {
         parser.parens(|p| {
             p.parse::<kw::sum>()?;
-            Ok(Sum {
-                terms: p.all_of::<Term>()?,
-            })
+            Ok(Sum { terms: terms(p)? })
         })
     }
+}
+
+/// All terms before `)`.
+fn terms(parser: &mut Parser<'_>) -> Result<Vec<Term>, Error>
+    ensures kept { IsKept parser.old parser.new }
+    ensures on { parser.old.place ≤ parser.new.place }
+    ensures reads { Reads (λ v. map (λ t. t.0) v.items) (many term.reading) parser.old result
+        parser.new.place }
+{
+    parser.all_of::<Term>()
 }
 
 /// The sum that a text spells: its terms exactly where the text is a sum, and else what is wrong.

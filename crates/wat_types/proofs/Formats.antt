@@ -18,11 +18,10 @@ abbrev pub number_type : ValType → List ℕ → Choices ValType → Choices Va
 number_type v w rest = choice (a_keyword w) (quoted false w) (mapped (λ at. v) (keyword w)) rest
 
 unfoldable pub val : Format ValType
-unfolding keyword
 val = one_of (number_type I32 (codes "i32") (number_type I64 (codes "i64") (number_type F32 (codes "f32") (number_type F64 (codes "f64") nothing_else))))
 
 pub val_takes : val.takes ≡ true
-unfolding keyword val
+unfolding val
 val_takes = refl
 
 abbrev pub vals : Format (List ValType)
@@ -55,7 +54,7 @@ module_types = group (and_then (keyword (codes "module")) (λ at. many (group de
 -- These are the readings that the calls have.
 
 val_is : val.reading ≡ meanings.val
-unfolding val meanings.val keyword types.keyword standard_word standard_words
+unfolding val meanings.val types.keyword standard_word standard_words
 val_is = refl
 
 named_is : (i : Option Spelled) → (named_or_all i).reading ≡ meanings.named_or_all i
@@ -63,13 +62,13 @@ named_is (Some i) = ap (λ m. readings.allocated (readings.mapped (λ v. v ∷ [
 named_is None = ap (λ m. readings.many m) val_is
 
 param_is : param.reading ≡ meanings.param
-unfolding param meanings.param keyword types.keyword standard_word standard_words
+unfolding param meanings.param types.keyword standard_word standard_words
 param_is =
     let each : (λ i. (named_or_all i).reading) ≡ meanings.named_or_all = λ at i. named_is i at in
     ap (λ next. readings.and_then (meanings.kw meanings.param_word) (λ at. readings.and_then meanings.name next)) each
 
 returns_is : returns.reading ≡ meanings.returns
-unfolding returns meanings.returns keyword types.keyword standard_word standard_words
+unfolding returns meanings.returns types.keyword standard_word standard_words
 returns_is = ap (λ m. readings.and_then (meanings.kw meanings.result_word) (λ at. readings.many m)) val_is
 
 abbrev func_of : Reading (List ValType) → Reading (List ValType) → Reading Signature
@@ -78,13 +77,13 @@ func_of p r =
     (λ ps. readings.mapped (λ rs. record { params = ps; results = rs }) (readings.joined_while more_sight (readings.group r))))
 
 func_is : func.reading ≡ meanings.func
-unfolding func meanings.func keyword types.keyword standard_word standard_words
+unfolding func meanings.func types.keyword standard_word standard_words
 func_is = ap (λ p. func_of p returns.reading) param_is ∙ ap (λ r. func_of meanings.param r) returns_is
 
 definition_is : definition.reading ≡ meanings.definition
-unfolding definition meanings.definition keyword types.keyword standard_word standard_words
+unfolding definition meanings.definition types.keyword standard_word standard_words
 definition_is = ap (λ f. readings.and_then (meanings.kw meanings.type_word) (λ at. readings.and_then meanings.name (λ n. readings.group f))) func_is
 
 pub module_is : module_types.reading ≡ meanings.module_types
-unfolding meanings.fields keyword types.keyword standard_word standard_words
+unfolding meanings.fields types.keyword standard_word standard_words
 module_is = ap (λ d. readings.group (readings.and_then (meanings.kw meanings.module_word) (λ at. readings.many (readings.group d)))) definition_is

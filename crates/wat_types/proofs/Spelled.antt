@@ -44,11 +44,9 @@ one_word : (g : Ground) (w : List ℕ) (ts : List Token) (v : Unit {0}) (r : Lis
 one_word g w _ v r (one {t = t} e) = let k = spelled_word g.text w t t.kind v e in (t, refl, record { kind = k.0; spells = k.1 })
 
 word_of_rule : (g : Ground) (w : List ℕ) (ts : List Token) (n : ℕ) (r : List Token) → (keyword w).rule g ts n r → (t : Token) × (t ∷ r ≡ ts) × IsWord g.text w t
-unfolding keyword
 word_of_rule g w ts n r h = one_word g w ts h.1.0 r h.1.1
 
 rule_of_word : (g : Ground) (w : List ℕ) (t : Token) (r : List Token) → IsWord g.text w t → (keyword w).rule g (t ∷ r) t.offset r
-unfolding keyword
 rule_of_word g w t r h = ((tt, t.offset), (tt, one (word_read g.text w w t h ∙ ap spells_by ((bytes_eq-Decides w w).1 refl)), refl), refl)
 
 seen_by : (b : Bool) → told_word (spells_by b) ≡ Ok b

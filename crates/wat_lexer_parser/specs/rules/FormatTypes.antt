@@ -44,11 +44,25 @@ owned_text = allocated text
 abbrev pub word : Reader (List ℕ) → List ℕ → List ℕ → Format ℕ
 word read w expected = mapped (λ v. v.1) (spanned (token (spelling read w) expected))
 
-unfoldable pub keyword : List ℕ → Format ℕ
-keyword w = word as_keyword w (codes "expected keyword " ++ quoted false w)
+abbrev pub a_keyword_of : List ℕ → Format ℕ
+a_keyword_of w = word as_keyword w (codes "expected keyword " ++ quoted false w)
 
-unfoldable pub annotation : List ℕ → Format ℕ
-annotation w = word as_annotation w (codes "expected annotation " ++ quoted true w)
+pub keyword_is : (w : List ℕ) → (a_keyword_of w).reading ≡ types.keyword false w
+unfolding types.keyword
+keyword_is w = refl
+
+abbrev pub keyword : List ℕ → Format ℕ
+keyword w = as_read (a_keyword_of w) (types.keyword false w) (keyword_is w)
+
+abbrev pub an_annotation_of : List ℕ → Format ℕ
+an_annotation_of w = word as_annotation w (codes "expected annotation " ++ quoted true w)
+
+pub annotation_is : (w : List ℕ) → (an_annotation_of w).reading ≡ types.annotation true w
+unfolding types.annotation
+annotation_is w = refl
+
+abbrev pub annotation : List ℕ → Format ℕ
+annotation w = as_read (an_annotation_of w) (types.annotation true w) (annotation_is w)
 
 abbrev pub an_integer : Lookout
 an_integer = a_token as_integer
