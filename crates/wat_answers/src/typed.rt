@@ -150,7 +150,6 @@ fn display_of_name(name: &str) -> Option<&'static str> {
 }
 
 /// The numbers of a list: all, as long as one is seen, or as long as one is seen in parentheses.
-#[tactic(auto, using(wat_lexer_parser::specs::lemmas::TypeLaws::advances_u32, wat_lexer_parser::specs::lemmas::ReadingLaws::advances_group))]
 fn list(alloc: Global, call: &str, parser: &mut Parser<'_>) -> Result<String, Error> {
     Ok(match call {
         "all-of" => format!(in alloc; "{:?}", parser.all_of::<u32>()?.as_slice())?,
