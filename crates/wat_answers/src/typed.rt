@@ -6,12 +6,11 @@ use std::borrow::{CowSlice, CowStr};
 use wat_lex::error::Error;
 use wat_lex_answers::row::Row;
 use wat_lex_answers::tokens::short;
-use wat_lexer_parser::annotation;
-use wat_lexer_parser::kw;
 use wat_lexer_parser::parser::{Lookahead1, ParseBuffer, Parser, Peek};
 use wat_lexer_parser::token::{
     Id, Index, ItemRef, LParen, NameAnnotation, Parens, RParen, ReservedSymbol, Word,
 };
+use wat_lexer_parser::{annotation, kw};
 use wat_words::{Std, StdAnnotation};
 
 /// An identifier, its place, and whether a copy has both.

@@ -370,9 +370,7 @@ type Values<'a> = (
 fn values<'a>(parser: &mut Parser<'a>) -> Result<Values<'a>, Error> {
     Ok((
         parser.step(|cursor| cursor.float()?.ok_or_else(|| cursor.error("no float")))?,
-        parser.step(|cursor| cursor
-            .integer()?
-            .ok_or_else(|| cursor.error("no integer")))?,
+        parser.step(|cursor| cursor.integer()?.ok_or_else(|| cursor.error("no integer")))?,
         parser.step(|cursor| cursor.id()?.ok_or_else(|| cursor.error("no identifier")))?,
         parser.step(|cursor| cursor.string()?.ok_or_else(|| cursor.error("no string")))?,
         parser.step(|cursor| cursor.annotation()?.ok_or_else(|| cursor.error("no name")))?,

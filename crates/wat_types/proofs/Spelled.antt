@@ -82,8 +82,16 @@ is_val g _ _ r (i64 {t = t} h) =
 is_val g _ _ r (f32 {t = t} h) =
     inr (sees_other g (codes "i32") (codes "f32") false t r refl h, inr (sees_other g (codes "i64") (codes "f32") false t r refl h, inl (sees_other g (codes "f32") (codes "f32") true t r refl h, (t.offset, rule_of_word g (codes "f32") t r h, refl))))
 is_val g _ _ r (f64 {t = t} h) =
-    inr (sees_other g (codes "i32") (codes "f64") false t r refl h, inr (sees_other g (codes "i64") (codes "f64") false t r refl h, inr (sees_other g (codes "f32") (codes "f64") false t r refl h,
-    inl (sees_other g (codes "f64") (codes "f64") true t r refl h, (t.offset, rule_of_word g (codes "f64") t r h, refl)))))
+    inr (
+      sees_other g (codes "i32") (codes "f64") false t r refl h,
+      inr (
+        sees_other g (codes "i64") (codes "f64") false t r refl h,
+        inr (
+          sees_other g (codes "f32") (codes "f64") false t r refl h,
+          inl (sees_other g (codes "f64") (codes "f64") true t r refl h, (t.offset, rule_of_word g (codes "f64") t r h, refl)),
+        ),
+      ),
+    )
 
 -- Lists: one lemma each way for any rule.
 
@@ -142,8 +150,8 @@ one_name g _ v r (one {t = t} e) =
 param_by : (g : Ground) (o w c : Token) (ts us : List Token) (n : Option Spelled) (vs : List ValType) (r : List Token) → IsOpen o → IsWord g.text (codes "param") w → IsClose c → name.rule g ts n us → (named_or_all n).rule g us vs (c ∷ r) → Param g.text (o ∷ w ∷ ts) vs r
 param_by g o w c ts us (Some n) vs r opens word closes h k = elim h [
   | inl h ↦
-    let i = one_name g ts h.1.1.1.0 us h.1.1.1.1 in
-    subst (λ vs. Param g.text (o ∷ w ∷ ts) vs r) k.2 (subst (λ ts. Param g.text (o ∷ w ∷ ts) (k.0 ∷ []) r) i.1 (grammar.named opens word i.2 (val_is g us k.0 (c ∷ r) k.1) closes))
+      let i = one_name g ts h.1.1.1.0 us h.1.1.1.1 in
+      subst (λ vs. Param g.text (o ∷ w ∷ ts) vs r) k.2 (subst (λ ts. Param g.text (o ∷ w ∷ ts) (k.0 ∷ []) r) i.1 (grammar.named opens word i.2 (val_is g us k.0 (c ∷ r) k.1) closes))
   | inr h ↦ let e = h.1.0 in cc
 ]
 param_by g o w c ts us None vs r opens word closes h k = elim h [
@@ -165,7 +173,7 @@ func_is g _ f r (rules.group {o = o} {c = c} {ts = ts} opens h closes) =
     let ps = h.3.2 in
     let rs = h.3.3 in
     let is : f ≡ signature_of ps.0 rs.1.0 =
-        sym rs.2 ∙ ap (λ x. record { params = x; results = rs.0 }) (sym ps.2) ∙ ap (λ x. record { params = flat_map (λ vs. vs) ps.0; results = x }) (sym rs.1.2) in
+    sym rs.2 ∙ ap (λ x. record { params = x; results = rs.0 }) (sym ps.2) ∙ ap (λ x. record { params = flat_map (λ vs. vs) ps.0; results = x }) (sym rs.1.2) in
     subst (λ ts. Func g.text (o ∷ ts) f r) w.1
     (grammar.func opens w.2 (star_of g _ (Group param.rule) (Param g.text) (param_is g) h.1 ps.0 h.3.1 ps.1) (star_of g tells_more (Group returns.rule) (Returns g.text) (returns_is g) h.3.1 rs.1.0 (c ∷ r) rs.1.1) closes is)
 

@@ -62,17 +62,17 @@ then_got (Err f) n takes next a w e = cc
 pub follows_and_then : {V W : Type 0} (m : Reading V) (next : V → Reading W) (R : Rule V) (S : V → Rule W) → Follows m R → ((v : V) → Follows (next v) (S v)) → Follows (and_then m next) (Then R S)
 follows_and_then m next R S f h = record {
   sound = λ a e us w at got.
-    let n = (m a).passed in
-    let k = then_got (m a).answer n (m a).takes_memory next a w got in
-    let i = f.sound a e us k.0 at k.1 in
-    let j = (h k.0).sound (on a n) e i.0 w i.1 k.3 in
-    (j.0, move a.source a.names e (a.place + n + (next k.0 (on a n)).passed) (a.place + (and_then m next a).passed) j.0 (omega (arith, k.2)) j.1, (k.0, i.0, i.2, j.2));
+      let n = (m a).passed in
+      let k = then_got (m a).answer n (m a).takes_memory next a w got in
+      let i = f.sound a e us k.0 at k.1 in
+      let j = (h k.0).sound (on a n) e i.0 w i.1 k.3 in
+      (j.0, move a.source a.names e (a.place + n + (next k.0 (on a n)).passed) (a.place + (and_then m next a).passed) j.0 (omega (arith, k.2)) j.1, (k.0, i.0, i.2, j.2));
   complete = λ a e us w r at g.
-    let i = f.complete a e us g.0 g.1 at g.2 in
-    let k = (h g.0).complete (on a (m a).passed) e g.1 w r i.1 g.3 in
-    let o = and_then m next a in
-    let is : o ≡ behind (m a).passed (m a).takes_memory (next g.0 (on a (m a).passed)) = ap (λ x. and_then_by x (m a).passed (m a).takes_memory next a) i.0 in
-    (ap (λ o. o.answer) is ∙ k.0, move a.source a.names e _ (a.place + o.passed) r (omega (arith, ap (λ o. o.passed) is)) k.1);
+      let i = f.complete a e us g.0 g.1 at g.2 in
+      let k = (h g.0).complete (on a (m a).passed) e g.1 w r i.1 g.3 in
+      let o = and_then m next a in
+      let is : o ≡ behind (m a).passed (m a).takes_memory (next g.0 (on a (m a).passed)) = ap (λ x. and_then_by x (m a).passed (m a).takes_memory next a) i.0 in
+      (ap (λ o. o.answer) is ∙ k.0, move a.source a.names e _ (a.place + o.passed) r (omega (arith, ap (λ o. o.passed) is)) k.1);
 }
 
 pub told_as_got : {V W : Type 0} (f : V → W) (x : Result V Report) (w : W) → told_as f x ≡ Ok w → (v : V) × (x ≡ Ok v) × (f v ≡ w)
@@ -82,12 +82,12 @@ told_as_got f (Err r) w e = cc
 pub follows_mapped : {V W : Type 0} (f : V → W) (m : Reading V) (R : Rule V) → Follows m R → Follows (mapped f m) (Told f R)
 follows_mapped f m R h = record {
   sound = λ a e us w at got.
-    let k = told_as_got f (m a).answer w got in
-    let j = h.sound a e us k.0 at k.1 in
-    (j.0, j.1, (k.0, j.2, k.2));
+      let k = told_as_got f (m a).answer w got in
+      let j = h.sound a e us k.0 at k.1 in
+      (j.0, j.1, (k.0, j.2, k.2));
   complete = λ a e us w r at g.
-    let k = h.complete a e us g.0 r at g.1 in
-    (ap (told_as f) k.0 ∙ ap Ok g.2, k.1);
+      let k = h.complete a e us g.0 r at g.1 in
+      (ap (told_as f) k.0 ∙ ap Ok g.2, k.1);
 }
 
 -- the span is one of the shown tokens, or stands in the ending
@@ -99,12 +99,12 @@ span_at a e (t ∷ us) at = ap (places.span_of a.source a.place) at.1
 pub follows_spanned : {V : Type 0} (m : Reading V) (R : Rule V) → Follows m R → Follows (spanned m) (Spanned R)
 follows_spanned {V} m R h = record {
   sound = λ a e us w at got.
-    let k = told_as_got {W = V × ℕ} (λ v. (v, current_span a.source a.place a.names)) (m a).answer w got in
-    let j = h.sound a e us k.0 at k.1 in
-    (j.0, j.1, (k.0, j.2, ap (λ n. (k.0, n)) (sym (span_at a e us at)) ∙ k.2));
+      let k = told_as_got {W = V × ℕ} (λ v. (v, current_span a.source a.place a.names)) (m a).answer w got in
+      let j = h.sound a e us k.0 at k.1 in
+      (j.0, j.1, (k.0, j.2, ap (λ n. (k.0, n)) (sym (span_at a e us at)) ∙ k.2));
   complete = λ a e us w r at g.
-    let k = h.complete a e us g.0 r at g.1 in
-    (ap (told_as {W = V × ℕ} (λ v. (v, current_span a.source a.place a.names))) k.0 ∙ ap Ok (ap (λ n. (g.0, n)) (span_at a e us at) ∙ g.2), k.1);
+      let k = h.complete a e us g.0 r at g.1 in
+      (ap (told_as {W = V × ℕ} (λ v. (v, current_span a.source a.place a.names))) k.0 ∙ ap Ok (ap (λ n. (g.0, n)) (span_at a e us at) ∙ g.2), k.1);
 }
 
 pub follows_also : {V : Type 0} (takes : Bool) (m : Reading V) (R : Rule V) → Follows m R → Follows (λ a. also_taking takes (m a)) R
@@ -125,14 +125,14 @@ checked_got (Err g) o check f w e = cc
 pub follows_checked : {V W : Type 0} (check : V → Option W) (message : List ℕ) (m : Reading V) (R : Rule V) → Follows m R → Follows (checked check message m) (Checked check R)
 follows_checked check message m R h = record {
   sound = λ a e us w at got.
-    let k = checked_got (m a).answer (m a) check _ w got in
-    let j = h.sound a e us k.0 at k.1 in
-    (j.0, move a.source a.names e (a.place + (m a).passed) (a.place + (checked check message m a).passed) j.0 (ap (λ n. a.place + n) (sym k.3)) j.1, (k.0, j.2, k.2));
+      let k = checked_got (m a).answer (m a) check _ w got in
+      let j = h.sound a e us k.0 at k.1 in
+      (j.0, move a.source a.names e (a.place + (m a).passed) (a.place + (checked check message m a).passed) j.0 (ap (λ n. a.place + n) (sym k.3)) j.1, (k.0, j.2, k.2));
   complete = λ a e us w r at g.
-    let k = h.complete a e us g.0 r at g.1 in
-    let is : checked check message m a ≡ given w (m a).passed (m a).takes_memory =
-        ap (λ x. checked_by x (m a) check (refuse message a)) k.0 ∙ ap (λ x. passed_by x (refuse message a) (m a).passed (m a).takes_memory) g.2 in
-    (ap (λ o. o.answer) is, move a.source a.names e _ _ r (ap (λ o. a.place + o.passed) (sym is)) k.1);
+      let k = h.complete a e us g.0 r at g.1 in
+      let is : checked check message m a ≡ given w (m a).passed (m a).takes_memory =
+      ap (λ x. checked_by x (m a) check (refuse message a)) k.0 ∙ ap (λ x. passed_by x (refuse message a) (m a).passed (m a).takes_memory) g.2 in
+      (ap (λ o. o.answer) is, move a.source a.names e _ _ r (ap (λ o. a.place + o.passed) (sym is)) k.1);
 }
 
 -- A token.
@@ -181,9 +181,9 @@ one_of_shown read a e (u ∷ r) v t q n at is takes k =
 pub follows_token : {V : Type 0} (read : Reader V) (message : List ℕ) → Follows (token read message) (One read)
 follows_token {V} read message = record {
   sound = λ a e us v at got.
-    let k = token_got (taken read a.source.setting.text (seen_at a)) _ _ a.place v got in
-    let t = taken_token read a.source.setting.text (seen_at a) v k.0 k.1 in
-    one_of_shown read a e us v t.0 k.0 _ at t.1 t.2 k.2;
+      let k = token_got (taken read a.source.setting.text (seen_at a)) _ _ a.place v got in
+      let t = taken_token read a.source.setting.text (seen_at a) v k.0 k.1 in
+      one_of_shown read a e us v t.0 k.0 _ at t.1 t.2 k.2;
   complete = λ a e us v r at g. takes a e us v r at g;
 }
   where
@@ -282,13 +282,13 @@ follows_where_seen sight look m n R S t f g = record {
   ];
   complete = λ a e us v r at h. elim h [
     | inl h ↦
-      let k = f.complete a e us v r at h.1 in
-      let o : where_seen sight m n a ≡ also_taking (sight a).takes (m a) = ap (λ x. where_seen_by x (sight a).takes (m a) (n a)) (t a e us at ∙ h.0) in
-      (ap (λ o. o.answer) o ∙ k.0, move a.source a.names e _ _ r (omega (arith, ap (λ o. o.passed) o)) k.1)
+        let k = f.complete a e us v r at h.1 in
+        let o : where_seen sight m n a ≡ also_taking (sight a).takes (m a) = ap (λ x. where_seen_by x (sight a).takes (m a) (n a)) (t a e us at ∙ h.0) in
+        (ap (λ o. o.answer) o ∙ k.0, move a.source a.names e _ _ r (omega (arith, ap (λ o. o.passed) o)) k.1)
     | inr h ↦
-      let k = g.complete a e us v r at h.1 in
-      let o : where_seen sight m n a ≡ also_taking (sight a).takes (n a) = ap (λ x. where_seen_by x (sight a).takes (m a) (n a)) (t a e us at ∙ h.0) in
-      (ap (λ o. o.answer) o ∙ k.0, move a.source a.names e _ _ r (omega (arith, ap (λ o. o.passed) o)) k.1)
+        let k = g.complete a e us v r at h.1 in
+        let o : where_seen sight m n a ≡ also_taking (sight a).takes (n a) = ap (λ x. where_seen_by x (sight a).takes (m a) (n a)) (t a e us at ∙ h.0) in
+        (ap (λ o. o.answer) o ∙ k.0, move a.source a.names e _ _ r (omega (arith, ap (λ o. o.passed) o)) k.1)
   ];
 }
 
@@ -338,12 +338,12 @@ pub follows_while : {V : Type 0} (sight : Sight) (look : Telling) (m : Reading V
 unfolding while_seen
 follows_while sight look m R h t f = record {
   sound = λ a e us vs at got.
-    let n = suc (length a.source.tokens) in
-    let k = (follows_up_to n sight look m R t f).sound a e us vs at got in
-    (k.0, k.1, while_of n look R (ground a e) us vs k.0 k.2);
+      let n = suc (length a.source.tokens) in
+      let k = (follows_up_to n sight look m R t f).sound a e us vs at got in
+      (k.0, k.1, while_of n look R (ground a e) us vs k.0 k.2);
   complete = λ a e us vs r at w.
-    let n = suc (length a.source.tokens) in
-    (follows_up_to n sight look m R t f).complete a e us vs r at (rounds_of n look R (ground a e) us vs r h (omega (arith, at_length a.source a.names e a.place us at)) w);
+      let n = suc (length a.source.tokens) in
+      (follows_up_to n sight look m R t f).complete a e us vs r at (rounds_of n look R (ground a e) us vs r h (omega (arith, at_length a.source a.names e a.place us at)) w);
 }
 
 -- Groups.
@@ -421,14 +421,14 @@ group_passed m a v got =
 pub follows_group : {V : Type 0} (m : Reading V) (R : Rule V) → Follows m R → Follows (group m) (Group R)
 follows_group {V} m R f = record {
   sound = λ a e us v at got.
-    let k = group_got (opened a.source a.place a.names) m a v got in
-    let i = (m (inside a k.0)).passed in
-    let o = opened_got a k.0 k.2 in
-    let z = closed_got (at_place a (k.0 + i)) k.1 k.4 in
-    let p = paren_taken as_open a e us o.0 k.0 at o.1 in
-    let b = f.sound (inside a k.0) e p.0 v p.1 k.3 in
-    let c = paren_taken as_close (at_place a (k.0 + i)) e b.0 z.0 k.1 b.1 z.1 in
-    (c.0, move a.source a.names e k.1 (a.place + (group m a).passed) c.0 (omega (arith, k.5, p.3, c.3)) c.1, grouped R (ground a e) us p.0 b.0 c.0 o.0 z.0 v p.2 b.2 c.2);
+      let k = group_got (opened a.source a.place a.names) m a v got in
+      let i = (m (inside a k.0)).passed in
+      let o = opened_got a k.0 k.2 in
+      let z = closed_got (at_place a (k.0 + i)) k.1 k.4 in
+      let p = paren_taken as_open a e us o.0 k.0 at o.1 in
+      let b = f.sound (inside a k.0) e p.0 v p.1 k.3 in
+      let c = paren_taken as_close (at_place a (k.0 + i)) e b.0 z.0 k.1 b.1 z.1 in
+      (c.0, move a.source a.names e k.1 (a.place + (group m a).passed) c.0 (omega (arith, k.5, p.3, c.3)) c.1, grouped R (ground a e) us p.0 b.0 c.0 o.0 z.0 v p.2 b.2 c.2);
   complete = λ a e us v r at g. reads a e us v r at g;
 }
   where
@@ -441,7 +441,7 @@ follows_group {V} m R f = record {
         let k = f.complete b e ts v (c ∷ r) p.2 h in
         let q = taken_paren as_close (at_place a (p.0 + i.passed)) e c r k.1 (ap (as_close text c) closes) in
         let is : group m a ≡ given v (q.0 - a.place) i.takes_memory =
-            ap (λ x. opened_by x m a) (opened_of a p.0 p.1) ∙ ap (λ x. inside_by x i b a) k.0 ∙ ap (λ x. closed_by x v i.takes_memory a.place) (closed_of (at_place a (p.0 + i.passed)) q.0 q.1) in
+        ap (λ x. opened_by x m a) (opened_of a p.0 p.1) ∙ ap (λ x. inside_by x i b a) k.0 ∙ ap (λ x. closed_by x v i.takes_memory a.place) (closed_of (at_place a (p.0 + i.passed)) q.0 q.1) in
         (ap (λ o. o.answer) is, move a.source a.names e q.0 _ r (omega (arith, ap (λ o. o.passed) is, p.3, q.3)) q.2)
 
 -- A whole text.

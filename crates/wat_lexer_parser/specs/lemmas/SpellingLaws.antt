@@ -68,16 +68,16 @@ left_is s v us (t ∷ l) f = refl
 pub reads_as_spelled : {V : Type 0} → TilingsAreOne → SomethingIsAllShown → OneThingShown → (m : Reading V) (R : Rule V) → Follows m R → ReadsAsSpelled m R
 reads_as_spelled one_tiling some one m R law = record {
   read = λ s v u r e.
-    let k = some s no_names 0 u r in
-    let at = at_by one s no_names 0 s.tokens k.0 k.1 k.2 refl in
-    let h = whole_is_spelled m R law s (end_from s.setting.text 0 k.0 k.1) k.0 v at e in
-    spells_of R s v k.0 k.1 r k.2 h.1 h.0;
+      let k = some s no_names 0 u r in
+      let at = at_by one s no_names 0 s.tokens k.0 k.1 k.2 refl in
+      let h = whole_is_spelled m R law s (end_from s.setting.text 0 k.0 k.1) k.0 v at e in
+      spells_of R s v k.0 k.1 r k.2 h.1 h.0;
   spelled = λ s v l f r h.
-    let x = s.setting.text in
-    let is = one_tiling s.setting 0 h.shown.tokens s.tokens h.shown.ending s.ending h.shown.tiling r in
-    let all = subst (λ ts. AllShown x s.ending no_names ts h.tokens f) is.0 (subst (λ e. AllShown x e no_names h.shown.tokens h.tokens f) is.1 h.shown.all) in
-    let at = at_by one s no_names 0 s.tokens h.tokens f all refl in
-    spelled_is_whole m R law s (end_from x 0 h.tokens f) h.tokens v l at h.begins ∙ left_is s v h.tokens l f;
+      let x = s.setting.text in
+      let is = one_tiling s.setting 0 h.shown.tokens s.tokens h.shown.ending s.ending h.shown.tiling r in
+      let all = subst (λ ts. AllShown x s.ending no_names ts h.tokens f) is.0 (subst (λ e. AllShown x e no_names h.shown.tokens h.tokens f) is.1 h.shown.all) in
+      let at = at_by one s no_names 0 s.tokens h.tokens f all refl in
+      spelled_is_whole m R law s (end_from x 0 h.tokens f) h.tokens v l at h.begins ∙ left_is s v h.tokens l f;
 }
 
 -- a text spells one value

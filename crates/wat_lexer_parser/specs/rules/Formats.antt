@@ -63,42 +63,66 @@ more_comes = record { sight = sights.more_comes; look = tells_more; agrees = agr
 
 abbrev pub give : {V : Type 0} → V → Format V
 give v = record {
-  reading = words.give v; rule = Nothing v; takes = false; law = follows_give v;
+  reading = words.give v;
+  rule = Nothing v;
+  takes = false;
+  law = follows_give v;
   keeps = λ g ts w r h. omega (arith, ap length h.1);
-  shrinks = never_takes; advances = never_takes;
+  shrinks = never_takes;
+  advances = never_takes;
 }
 
 abbrev pub refuse : {V : Type 0} → List ℕ → Format V
 refuse {V} message = record {
-  reading = words.refuse message; rule = Never; takes = true; law = follows_refuse V message;
+  reading = words.refuse message;
+  rule = Never;
+  takes = true;
+  law = follows_refuse V message;
   keeps = λ g ts w r h. absurd h;
-  shrinks = λ e g ts w r h. absurd h; advances = λ e a v h. never_reads _ v h;
+  shrinks = λ e g ts w r h. absurd h;
+  advances = λ e a v h. never_reads _ v h;
 }
 
 abbrev pub refuse_behind : {V : Type 0} → List ℕ → Format V
 refuse_behind {V} message = record {
-  reading = words.refuse_behind message; rule = Never; takes = true; law = follows_refuse_behind V message;
+  reading = words.refuse_behind message;
+  rule = Never;
+  takes = true;
+  law = follows_refuse_behind V message;
   keeps = λ g ts w r h. absurd h;
-  shrinks = λ e g ts w r h. absurd h; advances = λ e a v h. never_reads _ v h;
+  shrinks = λ e g ts w r h. absurd h;
+  advances = λ e a v h. never_reads _ v h;
 }
 
 -- the same format of a reading that is the same
 abbrev pub as_read : {V : Type 0} → (m : Format V) (n : Reading V) → m.reading ≡ n → Format V
 as_read m n e = record {
-  reading = n; rule = m.rule; takes = m.takes; law = subst (λ n. Follows n m.rule) e m.law; keeps = m.keeps; shrinks = m.shrinks;
+  reading = n;
+  rule = m.rule;
+  takes = m.takes;
+  law = subst (λ n. Follows n m.rule) e m.law;
+  keeps = m.keeps;
+  shrinks = m.shrinks;
   advances = λ k. subst (λ n. Advances n) e (m.advances k);
 }
 
 abbrev pub token : {V : Type 0} → Reader V → List ℕ → Format V
 token read message = record {
-  reading = words.token read message; rule = One read; takes = true; law = follows_token read message;
+  reading = words.token read message;
+  rule = One read;
+  takes = true;
+  law = follows_token read message;
   keeps = λ g ts v r h. omega (arith, shrinks_one read g ts v r h);
-  shrinks = λ e. shrinks_one read; advances = λ e. advances_token read message;
+  shrinks = λ e. shrinks_one read;
+  advances = λ e. advances_token read message;
 }
 
 abbrev pub mapped : {V W : Type 0} → (V → W) → Format V → Format W
 mapped f m = record {
-  reading = words.mapped f m.reading; rule = Told f m.rule; takes = m.takes; law = follows_mapped f m.reading m.rule m.law;
+  reading = words.mapped f m.reading;
+  rule = Told f m.rule;
+  takes = m.takes;
+  law = follows_mapped f m.reading m.rule m.law;
   keeps = λ g ts w r h. m.keeps g ts h.0 r h.1;
   shrinks = λ e g ts w r h. m.shrinks e g ts h.0 r h.1;
   advances = λ e a w h. let k = told_as_got f (m.reading a).answer w h in m.advances e a k.0 k.1;
@@ -106,7 +130,10 @@ mapped f m = record {
 
 abbrev pub spanned : {V : Type 0} → Format V → Format (V × ℕ)
 spanned {V} m = record {
-  reading = words.spanned m.reading; rule = Spanned m.rule; takes = m.takes; law = follows_spanned m.reading m.rule m.law;
+  reading = words.spanned m.reading;
+  rule = Spanned m.rule;
+  takes = m.takes;
+  law = follows_spanned m.reading m.rule m.law;
   keeps = λ g ts w r h. m.keeps g ts h.0 r h.1;
   shrinks = λ e g ts w r h. m.shrinks e g ts h.0 r h.1;
   advances = λ e a w h. let k = told_as_got {W = V × ℕ} _ (m.reading a).answer w h in m.advances e a k.0 k.1;
@@ -114,19 +141,27 @@ spanned {V} m = record {
 
 abbrev pub checked : {V W : Type 0} → (V → Option W) → List ℕ → Format V → Format W
 checked check message m = record {
-  reading = words.checked check message m.reading; rule = Checked check m.rule; takes = m.takes; law = follows_checked check message m.reading m.rule m.law;
+  reading = words.checked check message m.reading;
+  rule = Checked check m.rule;
+  takes = m.takes;
+  law = follows_checked check message m.reading m.rule m.law;
   keeps = λ g ts w r h. m.keeps g ts h.0 r h.1;
   shrinks = λ e g ts w r h. m.shrinks e g ts h.0 r h.1;
   advances = λ e a w h.
-    let k = checked_got (m.reading a).answer (m.reading a) check _ w h in
-    omega (arith, m.advances e a k.0 k.1, k.3);
+      let k = checked_got (m.reading a).answer (m.reading a) check _ w h in
+      omega (arith, m.advances e a k.0 k.1, k.3);
 }
 
 -- the same value, for which memory may be asked
 abbrev pub also : {V : Type 0} → Bool → Format V → Format V
 also takes m = record {
-  reading = λ a. also_taking takes (m.reading a); rule = m.rule; takes = m.takes; law = follows_also takes m.reading m.rule m.law;
-  keeps = m.keeps; shrinks = m.shrinks; advances = m.advances;
+  reading = λ a. also_taking takes (m.reading a);
+  rule = m.rule;
+  takes = m.takes;
+  law = follows_also takes m.reading m.rule m.law;
+  keeps = m.keeps;
+  shrinks = m.shrinks;
+  advances = m.advances;
 }
 
 abbrev pub allocated : {V : Type 0} → Format V → Format V
@@ -134,13 +169,15 @@ allocated m = also true m
 
 abbrev pub and_then : {V W : Type 0} → Format V → (V → Format W) → Format W
 and_then m next = record {
-  reading = words.and_then m.reading (λ v. (next v).reading); rule = Then m.rule (λ v. (next v).rule); takes = m.takes;
+  reading = words.and_then m.reading (λ v. (next v).reading);
+  rule = Then m.rule (λ v. (next v).rule);
+  takes = m.takes;
   law = follows_and_then m.reading (λ v. (next v).reading) m.rule (λ v. (next v).rule) m.law (λ v. (next v).law);
   keeps = λ g ts w r h. omega (arith, m.keeps g ts h.0 h.1 h.2, (next h.0).keeps g h.1 w r h.3);
   shrinks = λ e g ts w r h. omega (arith, m.shrinks e g ts h.0 h.1 h.2, (next h.0).keeps g h.1 w r h.3);
   advances = λ e a w h.
-    let k = then_got (m.reading a).answer (m.reading a).passed (m.reading a).takes_memory (λ v. (next v).reading) a w h in
-    omega (arith, m.advances e a k.0 k.1, k.2);
+      let k = then_got (m.reading a).answer (m.reading a).passed (m.reading a).takes_memory (λ v. (next v).reading) a w h in
+      omega (arith, m.advances e a k.0 k.1, k.2);
 }
 
 pub one_true : (a b : Bool) → (a || b) ≡ true → (a ≡ true) ⊎ (b ≡ true)
@@ -150,7 +187,9 @@ one_true false b e = inr e
 -- one, and then another that does not go by the first value: it takes a token where either does
 abbrev pub followed_by : {V W : Type 0} → Format V → Format W → Format W
 followed_by {V} {W} m n = record {
-  reading = words.and_then m.reading (λ v. n.reading); rule = Then m.rule (λ v. n.rule); takes = m.takes || n.takes;
+  reading = words.and_then m.reading (λ v. n.reading);
+  rule = Then m.rule (λ v. n.rule);
+  takes = m.takes || n.takes;
   law = follows_and_then m.reading (λ v. n.reading) m.rule (λ v. n.rule) m.law (λ v. n.law);
   keeps = λ g ts w r h. omega (arith, m.keeps g ts h.0 h.1 h.2, n.keeps g h.1 w r h.3);
   shrinks = λ e g ts w r h. elim (one_true m.takes n.takes e) [
@@ -158,11 +197,11 @@ followed_by {V} {W} m n = record {
     | inr k ↦ omega (arith, m.keeps g ts h.0 h.1 h.2, n.shrinks k g h.1 w r h.3)
   ];
   advances = λ e a w h.
-    let k = then_got {W = W} (m.reading a).answer (m.reading a).passed (m.reading a).takes_memory (λ v. n.reading) a w h in
-    elim (one_true m.takes n.takes e) [
-      | inl j ↦ omega (arith, m.advances j a k.0 k.1, k.2)
-      | inr j ↦ omega (arith, n.advances j (on a (m.reading a).passed) w k.3, k.2)
-    ];
+      let k = then_got {W = W} (m.reading a).answer (m.reading a).passed (m.reading a).takes_memory (λ v. n.reading) a w h in
+      elim (one_true m.takes n.takes e) [
+        | inl j ↦ omega (arith, m.advances j a k.0 k.1, k.2)
+        | inr j ↦ omega (arith, n.advances j (on a (m.reading a).passed) w k.3, k.2)
+      ];
 }
 
 pub both_true : (a b : Bool) → (a && b) ≡ true → (a ≡ true) × (b ≡ true)
@@ -171,7 +210,9 @@ both_true false b e = cc
 
 abbrev pub where_seen : {V : Type 0} → Lookout → Format V → Format V → Format V
 where_seen l m n = record {
-  reading = words.where_seen l.sight m.reading n.reading; rule = Seen l.look m.rule n.rule; takes = m.takes && n.takes;
+  reading = words.where_seen l.sight m.reading n.reading;
+  rule = Seen l.look m.rule n.rule;
+  takes = m.takes && n.takes;
   law = follows_where_seen l.sight l.look m.reading n.reading m.rule n.rule l.agrees m.law n.law;
   keeps = λ g ts v r h. elim h [
     | inl k ↦ m.keeps g ts v r k.1
@@ -197,10 +238,13 @@ while_keeps look R k g ts _ r (more {r = us} {v = v} {vs = vs} e h w) = omega (a
 -- all as long as it is seen, of a format that takes a token
 abbrev pub while_seen : {V : Type 0} → Lookout → (m : Format V) → m.takes ≡ true → Format (List V)
 while_seen l m e = record {
-  reading = words.while_seen l.sight m.reading; rule = While l.look m.rule; takes = false;
+  reading = words.while_seen l.sight m.reading;
+  rule = While l.look m.rule;
+  takes = false;
   law = follows_while l.sight l.look m.reading m.rule (m.shrinks e) l.agrees m.law;
   keeps = while_keeps l.look m.rule m.keeps;
-  shrinks = never_takes; advances = never_takes;
+  shrinks = never_takes;
+  advances = never_takes;
 }
 
 -- all before `)` or the end
@@ -216,7 +260,10 @@ group_shrinks R k g _ v r (rules.group {c = c} {ts = ts} o h e) = omega (arith, 
 
 abbrev pub group : {V : Type 0} → Format V → Format V
 group m = record {
-  reading = words.group m.reading; rule = Group m.rule; takes = true; law = follows_group m.reading m.rule m.law;
+  reading = words.group m.reading;
+  rule = Group m.rule;
+  takes = true;
+  law = follows_group m.reading m.rule m.law;
   keeps = λ g ts v r h. omega (arith, group_shrinks m.rule m.keeps g ts v r h);
   shrinks = λ e. group_shrinks m.rule m.keeps;
   advances = λ e a v h. group_passed m.reading a v h;
@@ -230,9 +277,13 @@ pub data Choices (V : Type 0) : Type 1 where
 
 abbrev pub one_behind : {V : Type 0} → List (List ℕ) → Choices V → Format V
 one_behind {V} missed nothing_else = record {
-  reading = choices.one_behind missed []; rule = Never; takes = true; law = follows_none V missed;
+  reading = choices.one_behind missed [];
+  rule = Never;
+  takes = true;
+  law = follows_none V missed;
   keeps = λ g ts w r h. absurd h;
-  shrinks = λ e g ts w r h. absurd h; advances = λ e a v h. never_reads _ v h;
+  shrinks = λ e g ts w r h. absurd h;
+  advances = λ e a v h. never_reads _ v h;
 }
 one_behind missed (choice l x m c) = where_seen l m (also (nat_le attempts_held (length missed)) (one_behind (missed ++ (x ∷ [])) c))
 

@@ -32,9 +32,7 @@ impl<'a> Parse<'a> for Id<'a> {
 }
 
 /// Takes an identifier, of which callers see whether its name is owned.
-fn named<'p, 'a>(
-    cursor: Cursor<'p, 'a>,
-) -> Result<Option<(CowStr<'a>, Cursor<'p, 'a>)>, Error>
+fn named<'p, 'a>(cursor: Cursor<'p, 'a>) -> Result<Option<(CowStr<'a>, Cursor<'p, 'a>)>, Error>
     ensures value { Answers (may_take_at as_owned_id (at_place cursor.entry.parser.now cursor.entry.at))
         (option_map (λ v. ((cow_str_bytes v.0, is_owned_str v.0), v.1.at)))
         (taken_at as_owned_id (at_place cursor.entry.parser.now cursor.entry.at)) result }

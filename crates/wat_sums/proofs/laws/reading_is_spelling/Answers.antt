@@ -12,5 +12,5 @@ pub returns-clause-one : goal.returns-clause-one
 returns-clause-one c =
     let law = reads_as_spelled c.one_tiling.ensures.one c.all_shown.ensures.all_some c.shown.ensures.one sum.reading sum.rule sum.law in
     λ text v w h k.
-      let s : Source = record { setting = plain text; track = false; tokens = h.shown.tokens; ending = h.shown.ending } in
-      spelled_once sum.reading sum.rule law s v w h.shown.tiling h k
+    let s : Source = record { setting = plain text; track = false; tokens = h.shown.tokens; ending = h.shown.ending } in
+    spelled_once sum.reading sum.rule law s v w h.shown.tiling h k
