@@ -1,0 +1,47 @@
+-- The format of import lists, over the tokens of the WebAssembly text format that count. No part of the standard.
+use Rattle.std.specs.Prelude.{ℕ, false, List, Option, codes, refl}
+use Rattle.wat_imports.specs.declared.Kind.{Kind}
+use Rattle.wat_imports.specs.declared.Kind.TheVariants.{Code, Pages}
+use Rattle.wat_lexer_parser.specs.readings.Types.{Spelled}
+use Rattle.wat_lexer_parser.specs.rules.Formats.{Format, and_then, choice, group, many, mapped, nothing_else, one_of, optional}
+use Rattle.wat_lexer_parser.specs.rules.FormatTypes.{a_keyword, an_identifier, identifier, keyword, optional_name, text, u32}
+use Rattle.wat_words.specs.Words.{quoted}
+
+-- an entry, as callers see it
+pub record Read : Type 0 where
+  pub place : List ℕ
+  pub field : List ℕ
+  pub id : Option Spelled
+  pub kind : Kind
+  pub name : Option (List ℕ)
+
+-- `code N` or `pages N`
+unfoldable pub kind : Format Kind
+kind =
+    one_of (choice (a_keyword (codes "code")) (quoted false (codes "code")) (and_then (keyword (codes "code")) (λ at. mapped Code u32))
+    (choice (a_keyword (codes "pages")) (quoted false (codes "pages")) (and_then (keyword (codes "pages")) (λ at. mapped Pages u32)) nothing_else))
+
+-- a kind, and a name or none, behind what was read before
+unfoldable pub described : List ℕ → List ℕ → Option Spelled → Format Read
+described p f i = and_then kind (λ k. mapped (λ n. record { place = p; field = f; id = i; kind = k; name = n }) optional_name)
+
+-- an identifier or none, and these
+unfoldable pub called : List ℕ → List ℕ → Format Read
+called p f = and_then (optional an_identifier identifier) (λ i. described p f i)
+
+-- two strings, and these
+unfoldable pub details : Format Read
+details = and_then text (λ p. and_then text (λ f. called p f))
+
+unfoldable pub inner : Format Read
+inner = and_then (keyword (codes "entry")) (λ at. details)
+
+abbrev pub entry : Format Read
+entry = group inner
+
+-- the entries behind `imports`
+unfoldable pub list : Format (List Read)
+list = and_then (keyword (codes "imports")) (λ at. many entry refl)
+
+abbrev pub imports : Format (List Read)
+imports = group list

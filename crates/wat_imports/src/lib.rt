@@ -1,0 +1,203 @@
+//! Import lists: a format of its own, over the parser of WebAssembly text, that nobody of the library had
+//! in mind.
+//!
+//! A text is `(imports ENTRY*)`. An entry is `(entry STRING STRING ID? KIND NAME?)`: a place and a
+//! field in it, an identifier or none, `code N` or `pages N`, and `(@name STRING)` or none, which is
+//! shown where `name` is registered.
+#![tactic(auto)]
+
+ghost use Rattle.std.specs.Prelude.{◌≤◌, map};
+ghost use Rattle.wat_lexer_parser.specs.readings.Readings.{many};
+ghost use Rattle.wat_lexer_parser.specs.readings.Reads.{IsKept, Reads};
+ghost use Rattle.std.specs.Cow.{cow_str_bytes};
+ghost use Rattle.std.specs.Option.{option_map};
+ghost use Rattle.wat_lexer_parser.specs.readings.Types.{spelled};
+ghost use Rattle.wat_imports.specs.Imports.{called, described, details, entry, inner, list};
+ghost use Rattle.wat_imports.specs.Values.{read_of};
+
+pub mod kw;
+pub mod laws;
+#[cfg(test)]
+mod tests;
+
+use std::borrow::CowStr;
+use wat_lexer_parser::Error;
+use wat_lexer_parser::parser::{Parse, Parser};
+use wat_lexer_parser::token::{Id, NameAnnotation};
+
+/// What is imported.
+#[derive(Debug, Clone, Copy, PartialEq, Eq)]
+pub enum Kind {
+    /// Code of a type.
+    Code(u32),
+    /// So many pages.
+    Pages(u32),
+}
+
+impl<'a> Parse<'a> for Kind {
+    ghost use Rattle.wat_imports.specs.Imports.{kind};
+    ghost use Rattle.wat_imports.specs.declared.Kind.{Kind as Value};
+
+    ghost Value = { Value };
+
+    ghost value = { λ k. k };
+
+    ghost meaning = { kind.reading };
+
+    #[tactic(auto, unfolding(crate::specs::Imports::kind))]
+    fn parse(parser: &mut Parser<'a>) -> Result<Kind, Error> {
+        let mut lookahead = parser.lookahead1();
+        if lookahead.peek::<kw::code>()? {
+            drop(lookahead);
+            parser.parse::<kw::code>()?;
+            return Ok(Kind::Code(parser.parse::<u32>()?));
+        }
+        if lookahead.peek::<kw::pages>()? {
+            drop(lookahead);
+            parser.parse::<kw::pages>()?;
+            return Ok(Kind::Pages(parser.parse::<u32>()?));
+        }
+        Err(lookahead.error())
+    }
+}
+
+/// An entry of a list.
+#[derive(Debug, Drop)]
+pub struct Entry<'a> {
+    /// Where it comes from.
+    pub place: CowStr<'a>,
+    /// What it is called there.
+    pub field: CowStr<'a>,
+    /// What it is called here.
+    pub id: Option<Id<'a>>,
+    /// What it is.
+    pub kind: Kind,
+    /// The name that an annotation gives it.
+    pub name: Option<NameAnnotation<'a>>,
+}
+
+impl<'a> Parse<'a> for Entry<'a> {
+    ghost use Rattle.wat_imports.specs.Imports.{Read, entry};
+    ghost use Rattle.wat_imports.specs.Values.{read_of};
+
+    ghost Value = { Read };
+
+    ghost value = { λ e. read_of e };
+
+    ghost meaning = { entry.reading };
+
+    fn parse(parser: &mut Parser<'a>) -> Result<Entry<'a>, Error> {
+        parser.parens(inner)
+    }
+}
+
+/// What stands within the parentheses of an entry.
+#[tactic(auto, unfolding(crate::specs::Imports::inner))]
+fn inner<'a>(parser: &mut Parser<'a>) -> Result<Entry<'a>, Error>
+    ensures kept { IsKept parser.old parser.new }
+    ensures on { parser.old.place ≤ parser.new.place }
+    ensures reads { Reads (λ e. read_of e) inner.reading parser.old result parser.new.place }
+{
+    parser.parse::<kw::entry>()?;
+    details(parser)
+}
+
+/// What stands behind the word of an entry.
+#[tactic(auto, unfolding(crate::specs::Imports::details))]
+fn details<'a>(parser: &mut Parser<'a>) -> Result<Entry<'a>, Error>
+    ensures kept { IsKept parser.old parser.new }
+    ensures on { parser.old.place ≤ parser.new.place }
+    ensures reads { Reads (λ e. read_of e) details.reading parser.old result parser.new.place }
+{
+    let place = parser.parse::<CowStr>()?;
+    let field = parser.parse::<CowStr>()?;
+    called(parser, place, field)
+}
+
+/// An identifier or none, and the rest, behind the strings.
+#[tactic(auto, unfolding(crate::specs::Imports::called))]
+fn called<'a>(
+    parser: &mut Parser<'a>,
+    place: CowStr<'a>,
+    field: CowStr<'a>,
+) -> Result<Entry<'a>, Error>
+    ensures kept { IsKept parser.old parser.new }
+    ensures on { parser.old.place ≤ parser.new.place }
+    ensures reads { Reads (λ e. read_of e) (called (cow_str_bytes place.entry)
+        (cow_str_bytes field.entry)).reading parser.old result parser.new.place }
+{
+    let id = parser.parse::<Option<Id>>()?;
+    described(parser, place, field, id)
+}
+
+/// A kind, and a name or none, behind what was read before.
+#[tactic(auto, unfolding(crate::specs::Imports::described))]
+fn described<'a>(
+    parser: &mut Parser<'a>,
+    place: CowStr<'a>,
+    field: CowStr<'a>,
+    id: Option<Id<'a>>,
+) -> Result<Entry<'a>, Error>
+    ensures kept { IsKept parser.old parser.new }
+    ensures on { parser.old.place ≤ parser.new.place }
+    ensures reads { Reads (λ e. read_of e) (described (cow_str_bytes place.entry)
+        (cow_str_bytes field.entry) (option_map (λ i. spelled i) id.entry)).reading parser.old
+        result parser.new.place }
+{
+    let kind = parser.parse::<Kind>()?;
+    let name = NameAnnotation::parse_option(parser)?;
+    Ok(Entry {
+        place,
+        field,
+        id,
+        kind,
+        name,
+    })
+}
+
+/// A list of imports.
+#[derive(Debug, Drop)]
+pub struct Imports<'a> {
+    /// The entries, in their order.
+    pub entries: Vec<Entry<'a>>,
+}
+
+impl<'a> Parse<'a> for Imports<'a> {
+    ghost use Rattle.std.specs.Prelude.{List, map};
+    ghost use Rattle.wat_imports.specs.Imports.{Read, imports};
+    ghost use Rattle.wat_imports.specs.Values.{read_of};
+
+    ghost Value = { List Read };
+
+    ghost value = { λ l. map (λ e. read_of e) l.entries.items };
+
+    ghost meaning = { imports.reading };
+
+    fn parse(parser: &mut Parser<'a>) -> Result<Imports<'a>, Error> {
+        parser.parens(list)
+    }
+}
+
+/// What stands within the parentheses of a list.
+#[tactic(auto, unfolding(crate::specs::Imports::list))]
+fn list<'a>(parser: &mut Parser<'a>) -> Result<Imports<'a>, Error>
+    ensures kept { IsKept parser.old parser.new }
+    ensures on { parser.old.place ≤ parser.new.place }
+    ensures reads { Reads (λ l. map (λ e. read_of e) l.entries.items) list.reading parser.old result
+        parser.new.place }
+{
+    parser.parse::<kw::imports>()?;
+    Ok(Imports {
+        entries: entries(parser)?,
+    })
+}
+
+/// All entries before `)`.
+fn entries<'a>(parser: &mut Parser<'a>) -> Result<Vec<Entry<'a>>, Error>
+    ensures kept { IsKept parser.old parser.new }
+    ensures on { parser.old.place ≤ parser.new.place }
+    ensures reads { Reads (λ v. map (λ e. read_of e) v.items) (many entry.reading) parser.old
+        result parser.new.place }
+{
+    parser.all_of::<Entry<'a>>()
+}
