@@ -161,16 +161,6 @@ fn words(rt: HostRuntime) -> Result<(), Fail> {
         ("sig -a", "false false <-a>"),
         ("--allow-confusing sig a a", "true false <a> <a>"),
         ("--strict-underscores --allow-confusing play", "true true"),
-        ("fmt", "false false Print"),
-        ("fmt a - b", "false false Print \"a\" \"-\" \"b\""),
-        ("fmt --check", "false false Check"),
-        ("fmt --write a", "false false Write \"a\""),
-        ("fmt --check -- --write", "false false Check \"--write\""),
-        ("fmt --check --write", "!--write"),
-        ("fmt a --check", "!--check"),
-        ("--check fmt", "!--check"),
-        ("--json fmt", "!fmt"),
-        ("--allow-confusing fmt --check", "true false Check"),
         (
             "play look take comment parens=12 reg=b unreg= -- a",
             "false false Look Take Comment Parens(12) Register(\"b\") Unregister(\"\") \"a\"",
@@ -212,6 +202,27 @@ fn words(rt: HostRuntime) -> Result<(), Fail> {
         ("-h sig", "help"),
         ("--version", "version"),
         ("--allow-confusing --help", "!--help"),
+    ];
+    for (text, want) in rows {
+        let got = asked(rt.alloc(), text)?;
+        assert_eq!(rt; got.as_str(), want, "{text}");
+    }
+    Ok(())
+}
+
+#[test]
+fn words_of_layouts(rt: HostRuntime) -> Result<(), Fail> {
+    let rows = [
+        ("fmt", "false false Print"),
+        ("fmt a - b", "false false Print \"a\" \"-\" \"b\""),
+        ("fmt --check", "false false Check"),
+        ("fmt --write a", "false false Write \"a\""),
+        ("fmt --check -- --write", "false false Check \"--write\""),
+        ("fmt --check --write", "!--write"),
+        ("fmt a --check", "!--check"),
+        ("--check fmt", "!--check"),
+        ("--json fmt", "!fmt"),
+        ("--allow-confusing fmt --check", "true false Check"),
     ];
     for (text, want) in rows {
         let got = asked(rt.alloc(), text)?;
