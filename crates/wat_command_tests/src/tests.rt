@@ -1,16 +1,10 @@
 //! Texts with their lists, from outside, and readers, writers, sources and sinks that fail.
 ghost use Rattle.std.specs.Prelude.{Option, Some, None};
 
-mod blanked;
 mod blocks;
-mod compiled;
 mod cuts;
-mod json;
 mod laid;
-mod named;
 mod refused;
-mod responses;
-mod shown;
 
 use std::alloc::Global;
 use std::io;
@@ -408,15 +402,6 @@ fn an_empty_output_is_flushed(rt: HostRuntime) {
         let writer = output.into_inner();
         assert_eq!(rt; (writer.writes, writer.flushes), (0, 1));
     }
-}
-
-/// The words of a command line.
-fn words_of(alloc: Global, text: &str) -> Result<Vec<String>, Fail> {
-    let mut words = Vec::new(alloc);
-    for word in text.split_whitespace() {
-        words.push(String::from_str(alloc, word)?)?;
-    }
-    Ok(words)
 }
 
 #[test]

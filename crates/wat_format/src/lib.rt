@@ -11,4 +11,3 @@ mod group;
 pub mod laws;
 mod sort;
 pub mod stream;
-mod tests;

@@ -3,6 +3,9 @@
 //! carriage return, a tab and a backslash.
 #![tactic(auto)]
 
+#[cfg(test)]
+mod tests;
+
 use std::alloc::{AllocError, Global};
 use std::io;
 use wat_format::error::Error;

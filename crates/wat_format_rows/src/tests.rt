@@ -1,10 +1,10 @@
 //! Texts as they are laid out, into a string and into writers, and what is refused.
-use crate::error::Error;
-use crate::format::format;
-use crate::stream::{WriteError, format_to};
 use std::alloc::Global;
 use std::io;
 use std::test::Fail;
+use wat_format::error::Error;
+use wat_format::format::format;
+use wat_format::stream::{WriteError, format_to};
 use wat_lex::lexer::Settings;
 
 const PLAIN: Settings = Settings {
