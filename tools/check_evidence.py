@@ -15,7 +15,7 @@ import sys
 
 ROOT = pathlib.Path(__file__).resolve().parent.parent
 # Crates of tests, and the programs that refuse requests from outside.
-HARNESS = {"wat_answers", "wat_command_tests", "wat_format_rows", "wat_response_tests", "wat_lex_answers", "wat_lex_requests", "wat_lex_tests", "wat_requests", "wat_row_tests", "wat_type_tests"}
+HARNESS = {"wat_answers", "wat_command_tests", "wat_response_tests", "wat_lex_answers", "wat_lex_requests", "wat_lex_tests", "wat_requests", "wat_row_tests", "wat_type_tests"}
 
 # The places that may write one, each with why.
 MAY = {
