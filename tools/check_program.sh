@@ -1,6 +1,6 @@
 #!/usr/bin/env bash
 # Builds the program, proved, and runs it: its exit status, standard output and standard error must be the ones that stand
-# here. An input that is too long is left out, since it takes 4 GiB of memory; a test of wat_command_tests has its line and status.
+# here. An input that is too long is left out, since it takes 4 GiB of memory; a test of wat_response_tests has its line and status.
 #
 # usage: tools/check_program.sh [PROGRAM]
 set -eu

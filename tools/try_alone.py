@@ -6,8 +6,10 @@ The libraries have to stand in crates/NAME/out, as `rt ci` leaves them. Where `r
 for the lexer and 14 for the parser, this proves what the edit needs: half a minute to one and a half for the first edit of a crate, and half of
 that for the next ones, which take from it what they share.
 
-usage: tools/try_alone.py [--lanes N] EDIT..
-       tools/try_alone.py [--lanes N] --sample N SEED     N edits of one crate, which SEED chooses, as it does them
+With --sample come N edits of one crate besides, which SEED chooses, a crate with more edits more often: those whose paths have the least hashes
+together with SEED. So the same seed gives the same edits, and each has its turn as seeds change. They are of one crate since those share most.
+
+usage: tools/try_alone.py [--lanes N] [--sample N SEED] [EDIT..]
 """
 import collections
 import concurrent.futures
@@ -76,15 +78,17 @@ def function_at(text, line, module):
 
 
 def wanted(texts, places):
-    """The functions, and behind them the modules, that an edit of code changes; None where it changes something else."""
+    """The functions whose code an edit changes, and behind them the modules; nothing of an edit of definitions alone."""
     names, modules = [], []
     for file, line in places:
         if not file.startswith("src/"):
-            return None
+            continue
         module = "::".join(pathlib.Path(file).with_suffix("").parts[1:])
         module = "" if module in ("lib", "main") else module
         names.append(function_at(texts[file], line, module))
         modules.append(module)
+    if not names:
+        return []
     return [names, modules] if all(modules) else [names]
 
 
@@ -99,6 +103,8 @@ def libraries(crate):
     words = ["--crate-type", "staticlib"] if kind else []
     for it in below:
         built = ROOT / "crates" / it / "out" / "rlib" / f"{it}.rlib" if it in lines else KIT / "rlibs" / f"{it}.rlib"
+        if not built.exists():
+            sys.exit(f"try_alone.py: {built.relative_to(ROOT)} is not there: run rt ci, or rt ci {it}, first")
         words += ["--extern", f"{it}={built}"]
     for it in lines:
         words += ["-L", f"dependency={ROOT / 'crates' / it / 'out' / 'rlib'}"]
@@ -125,7 +131,7 @@ def check(crate, texts, only, kept):
 def tried(edit, kept):
     """What became of an edit: refused, of a text that can't be read, or proved; and what was said of it."""
     crate, (texts, places) = crate_of(edit), edited(edit)
-    for only in [*(wanted(texts, places) or []), []]:
+    for only in [*wanted(texts, places), []]:
         status, said = check(crate, texts, only, kept)
         if only and LOST.search(said):
             continue
@@ -158,14 +164,13 @@ def sample(number, seed):
 
 
 def main(words):
-    lanes = os.cpu_count() or 1
+    lanes, edits = os.cpu_count() or 1, []
     if words[:1] == ["--lanes"] and len(words) > 1:
         lanes, words = int(words[1]), words[2:]
-    if words[:1] == ["--sample"] and len(words) == 3:
-        edits = sample(int(words[1]), words[2])
-    elif words and not words[0].startswith("--"):
-        edits = [pathlib.Path(it).resolve() for it in words]
-    else:
+    if words[:1] == ["--sample"] and len(words) > 2:
+        edits, words = sample(int(words[1]), words[2]), words[3:]
+    edits += [it for it in (pathlib.Path(word).resolve() for word in words) if it not in edits]
+    if not edits or any(word.startswith("--") for word in words):
         print(__doc__.rsplit("\n\n", 1)[1].strip(), file=sys.stderr)
         return 2
     rows = collections.defaultdict(list)

@@ -133,102 +133,103 @@ fn asked(alloc: Global, text: &str) -> Result<String, Fail> {
     }
 }
 
-#[test]
-fn words(rt: HostRuntime) -> Result<(), Fail> {
-    let rows = [
-        ("", "false false list"),
-        ("list", "false false list"),
-        ("--allow-confusing", "true false list"),
-        ("--strict-underscores list", "false true list"),
-        ("--allow-confusing --strict-underscores", "true true list"),
-        ("--strict-underscores --allow-confusing", "true true list"),
-        ("--allow-confusing --allow-confusing", "!--allow-confusing"),
-        ("a", "false false list \"a\""),
-        ("list a - b", "false false list \"a\" \"-\" \"b\""),
-        ("-- a --b", "false false list \"a\" \"--b\""),
-        ("a --", "false false list \"a\""),
-        ("a -- b", "!b"),
-        ("a -b", "!-b"),
-        ("a --allow-confusing", "!--allow-confusing"),
-        ("-x", "!-x"),
-        ("--nothing a", "!--nothing"),
-        ("sig", "false false"),
-        ("sig a play", "false false <a> <play>"),
-        ("sig a -- play sig", "false false <a> \"play\" \"sig\""),
-        ("sig b --allow-confusing", "!--allow-confusing"),
-        ("sig b --help a", "!--help"),
-        ("sig -h", "!-h"),
-        ("sig -a", "false false <-a>"),
-        ("--allow-confusing sig a a", "true false <a> <a>"),
-        ("--strict-underscores --allow-confusing play", "true true"),
-        (
-            "play look take comment parens=12 reg=b unreg= -- a",
-            "false false Look Take Comment Parens(12) Register(\"b\") Unregister(\"\") \"a\"",
-        ),
-        ("play look -- a b", "!b"),
-        ("play look Look", "!Look"),
-        ("play --allow-confusing", "!--allow-confusing"),
-        ("play blank", "!blank"),
-        ("blank", "false false blank"),
-        ("--allow-confusing blank x", "true false blank \"x\""),
-        ("sig blank", "false false <blank>"),
-        ("blank x y", "!y"),
-        ("blank -- x y", "!y"),
-        ("blank --allow-confusing", "!--allow-confusing"),
-        ("types", "false false types"),
-        ("types x", "false false types \"x\""),
-        ("types x y", "!y"),
-        ("--allow-confusing types", "!types"),
-        ("--strict-underscores types", "!types"),
-        ("types --allow-confusing", "!--allow-confusing"),
-        ("blank types", "false false blank \"types\""),
-        ("Types", "false false list \"Types\""),
-        ("--json", "false false json list"),
-        ("--json list a b", "false false json list \"a\" \"b\""),
-        ("--json sig a -- b", "false false json <a> \"b\""),
-        ("--json --allow-confusing sig", "true false json"),
-        ("--strict-underscores --json", "false true json list"),
-        ("--json --json", "!--json"),
-        ("--json --allow-confusing --json", "!--json"),
-        ("--json play", "!play"),
-        ("--json blank", "!blank"),
-        ("--json types", "!types"),
-        ("--json -- play", "false false json list \"play\""),
-        ("list --json", "!--json"),
-        ("sig a --json", "!--json"),
-        ("--json sig --json", "!--json"),
-        ("--json=x", "!--json=x"),
-        ("--help", "help"),
-        ("-h sig", "help"),
-        ("--version", "version"),
-        ("--allow-confusing --help", "!--help"),
-    ];
-    for (text, want) in rows {
-        let got = asked(rt.alloc(), text)?;
-        assert_eq!(rt; got.as_str(), want, "{text}");
+/// Whether the words of each row ask for what stands behind them.
+fn each_asks(rt: &HostRuntime, rows: &str) -> Result<(), Fail> {
+    for row in rows.lines() {
+        let (words, want) = row.split_once("-> ").unwrap_or((row, ""));
+        let got = asked(rt.alloc(), words)?;
+        assert_eq!(rt; got.as_str(), want, "{words}");
     }
     Ok(())
 }
 
+/// Words, and what they ask for, a row a line.
+const WORDS: &str = "\
+    -> false false list\n\
+    list -> false false list\n\
+    --allow-confusing -> true false list\n\
+    --strict-underscores list -> false true list\n\
+    --allow-confusing --strict-underscores -> true true list\n\
+    --strict-underscores --allow-confusing -> true true list\n\
+    --allow-confusing --allow-confusing -> !--allow-confusing\n\
+    a -> false false list \"a\"\n\
+    list a - b -> false false list \"a\" \"-\" \"b\"\n\
+    -- a --b -> false false list \"a\" \"--b\"\n\
+    a -- -> false false list \"a\"\n\
+    a -- b -> !b\n\
+    a -b -> !-b\n\
+    a --allow-confusing -> !--allow-confusing\n\
+    -x -> !-x\n\
+    --nothing a -> !--nothing\n\
+    sig -> false false\n\
+    sig a play -> false false <a> <play>\n\
+    sig a -- play sig -> false false <a> \"play\" \"sig\"\n\
+    sig b --allow-confusing -> !--allow-confusing\n\
+    sig b --help a -> !--help\n\
+    sig -h -> !-h\n\
+    sig -a -> false false <-a>\n\
+    --allow-confusing sig a a -> true false <a> <a>\n\
+    --strict-underscores --allow-confusing play -> true true\n\
+    play look take comment parens=12 reg=b unreg= -- a -> false false Look Take Comment Parens(12) Register(\"b\") Unregister(\"\") \"a\"\n\
+    play look -- a b -> !b\n\
+    play look Look -> !Look\n\
+    play --allow-confusing -> !--allow-confusing\n\
+    play blank -> !blank\n\
+    blank -> false false blank\n\
+    --allow-confusing blank x -> true false blank \"x\"\n\
+    sig blank -> false false <blank>\n\
+    blank x y -> !y\n\
+    blank -- x y -> !y\n\
+    blank --allow-confusing -> !--allow-confusing\n\
+    types -> false false types\n\
+    types x -> false false types \"x\"\n\
+    types x y -> !y\n\
+    --allow-confusing types -> !types\n\
+    --strict-underscores types -> !types\n\
+    types --allow-confusing -> !--allow-confusing\n\
+    blank types -> false false blank \"types\"\n\
+    Types -> false false list \"Types\"\n\
+    --json -> false false json list\n\
+    --json list a b -> false false json list \"a\" \"b\"\n\
+    --json sig a -- b -> false false json <a> \"b\"\n\
+    --json --allow-confusing sig -> true false json\n\
+    --strict-underscores --json -> false true json list\n\
+    --json --json -> !--json\n\
+    --json --allow-confusing --json -> !--json\n\
+    --json play -> !play\n\
+    --json blank -> !blank\n\
+    --json types -> !types\n\
+    --json -- play -> false false json list \"play\"\n\
+    list --json -> !--json\n\
+    sig a --json -> !--json\n\
+    --json sig --json -> !--json\n\
+    --json=x -> !--json=x\n\
+    --help -> help\n\
+    -h sig -> help\n\
+    --version -> version\n\
+    --allow-confusing --help -> !--help";
+
+#[test]
+fn words(rt: HostRuntime) -> Result<(), Fail> {
+    each_asks(&rt, WORDS)
+}
+
+/// Words of layouts, and what they ask for.
+const LAYOUTS: &str = "\
+    fmt -> false false Print\n\
+    fmt a - b -> false false Print \"a\" \"-\" \"b\"\n\
+    fmt --check -> false false Check\n\
+    fmt --write a -> false false Write \"a\"\n\
+    fmt --check -- --write -> false false Check \"--write\"\n\
+    fmt --check --write -> !--write\n\
+    fmt a --check -> !--check\n\
+    --check fmt -> !--check\n\
+    --json fmt -> !fmt\n\
+    --allow-confusing fmt --check -> true false Check";
+
 #[test]
 fn words_of_layouts(rt: HostRuntime) -> Result<(), Fail> {
-    let rows = [
-        ("fmt", "false false Print"),
-        ("fmt a - b", "false false Print \"a\" \"-\" \"b\""),
-        ("fmt --check", "false false Check"),
-        ("fmt --write a", "false false Write \"a\""),
-        ("fmt --check -- --write", "false false Check \"--write\""),
-        ("fmt --check --write", "!--write"),
-        ("fmt a --check", "!--check"),
-        ("--check fmt", "!--check"),
-        ("--json fmt", "!fmt"),
-        ("--allow-confusing fmt --check", "true false Check"),
-    ];
-    for (text, want) in rows {
-        let got = asked(rt.alloc(), text)?;
-        assert_eq!(rt; got.as_str(), want, "{text}");
-    }
-    Ok(())
+    each_asks(&rt, LAYOUTS)
 }
 
 #[test]
