@@ -404,30 +404,32 @@ fn an_empty_output_is_flushed(rt: HostRuntime) {
     }
 }
 
+/// Words, and the calls that they stand for.
+const CALLS: &str = "\
+    look -> Some(Look)\n\
+    take -> Some(Take)\n\
+    comment -> Some(Comment)\n\
+    reg= -> Some(Register(\"\"))\n\
+    reg=a=b -> Some(Register(\"a=b\"))\n\
+    unreg=reg -> Some(Unregister(\"reg\"))\n\
+    parens=0 -> Some(Parens(0))\n\
+    parens=000000007 -> Some(Parens(7))\n\
+    parens=123456789 -> Some(Parens(123456789))\n\
+    parens= -> None\n\
+    parens=1234567890 -> None\n\
+    parens=+1 -> None\n\
+    parens=-1 -> None\n\
+    parens=1a -> None\n\
+    parens=١ -> None\n\
+    Look -> None\n\
+    look  -> None\n\
+    reg -> None\n\
+    \x20-> None";
+
 #[test]
 fn calls(rt: HostRuntime) -> Result<(), Fail> {
-    let rows = [
-        ("look", "Some(Look)"),
-        ("take", "Some(Take)"),
-        ("comment", "Some(Comment)"),
-        ("reg=", "Some(Register(\"\"))"),
-        ("reg=a=b", "Some(Register(\"a=b\"))"),
-        ("unreg=reg", "Some(Unregister(\"reg\"))"),
-        ("parens=0", "Some(Parens(0))"),
-        ("parens=000000007", "Some(Parens(7))"),
-        ("parens=123456789", "Some(Parens(123456789))"),
-        ("parens=", "None"),
-        ("parens=1234567890", "None"),
-        ("parens=+1", "None"),
-        ("parens=-1", "None"),
-        ("parens=1a", "None"),
-        ("parens=١", "None"),
-        ("Look", "None"),
-        ("look ", "None"),
-        ("reg", "None"),
-        ("", "None"),
-    ];
-    for (word, want) in rows {
+    for row in CALLS.lines() {
+        let (word, want) = row.split_once(" -> ").unwrap_or((row, ""));
         let call = read_call(rt.alloc(), word)?;
         assert_eq!(rt;
             format!(in rt.alloc(); "{call:?}")?.as_str(),

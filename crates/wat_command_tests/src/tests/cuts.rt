@@ -40,69 +40,70 @@ fn cut(rt: &impl Abort, alloc: Global, text: &str, settings: Settings) -> Result
     Ok(())
 }
 
+/// Texts of each kind of token and fault, parted by a record separator.
+const TEXTS: &str = "\
+    (module (func $foo))\x1e\
+    \x1e\
+    (; (;;) ;)\x1e\
+    (;)\x1e\
+    (;;);;x\r\n$0^;;\x1e\
+    1_ 1__0 1._5 1e 0x 0x1e5 1. inf nan:0x\x1e\
+    \"x\"$ @a\"b\" $\"x\" $ @\x1e\
+    \"\\u{110000}\"\x1e\
+    \"\\u{100000000}\"\x1e\
+    \"\\u{1_\x1e\
+    \"\\u{0_f_3}\"\x1e\
+    \"ab\x1e\
+    \"a\n\x1e\
+    ;;\u{202e}\x1e\
+    \"\\u{202e}\"\x1e\
+    \"\u{202e}\"\x1e\
+    (;\u{202e}\x1e\
+    -1_2.1_1E+0_1\x1e\
+    -0x10\x1e\
+    +0x1_2.3_4P-5_6\x1e\
+    (@a \")\" (; ) ;)) 7\x1e\
+    (@a (@)) 1\x1e\
+    (@)\x1e\
+    (@a 1\x1e\
+    (@\"bad\x1e\
+    (\"bad\x1e\
+    ( @a)\x1e\
+    module (@name \"m\") x\x1e\
+    (a b\x1e\
+    x ;;c\x1e\
+    4294967295\x1e\
+    4294967296\x1e\
+    -2147483649\x1e\
+    -0\x1e\
+    \"\\ff\"\x1e\
+    12 13\x1e\
+    \t(;\x1e\
+    \"é\" \"\\q\"\x1e\
+    a\n\x1e\
+    $\"\\ff\"\x1e\
+    x\x1e\
+    )\x1e\
+    (func $f)\x1e\
+    (func)\x1e\
+    \"\\u{1_0}\"\x1e\
+    \"\\u{1__0}\\n\\7f\\u{d800}\" x\x1e\
+    (; (; x ;) ;;) ;;) y\x1e\
+    ;; a\r\n;;b\n;c;;\x1e\
+    $\"a\" @\"b\"c $d\"e\" \"f\"\"g\"\x1e\
+    -0x1_2.8p+3 1e5 +nan:0x7f inf 1_ 0x\x1e\
+    ,[]{};)(\t\n\r \x1e\
+    a é b\x1e\
+    (;\u{2066};) ;;\u{206c}\nz\x1e\
+    é@a\x1e\
+    (;\x1e\
+    (@name \"m\")\x1e\
+    12\x1e\
+    a";
+
 #[test]
 fn prefixes_begin_the_whole(rt: HostRuntime) -> Result<(), Fail> {
-    let texts = [
-        "(module (func $foo))",
-        "",
-        "(; (;;) ;)",
-        "(;)",
-        "(;;);;x\r\n$0^;;",
-        "1_ 1__0 1._5 1e 0x 0x1e5 1. inf nan:0x",
-        "\"x\"$ @a\"b\" $\"x\" $ @",
-        "\"\\u{110000}\"",
-        "\"\\u{100000000}\"",
-        "\"\\u{1_",
-        "\"\\u{0_f_3}\"",
-        "\"ab",
-        "\"a\n",
-        ";;\u{202e}",
-        "\"\\u{202e}\"",
-        "\"\u{202e}\"",
-        "(;\u{202e}",
-        "-1_2.1_1E+0_1",
-        "-0x10",
-        "+0x1_2.3_4P-5_6",
-        "(@a \")\" (; ) ;)) 7",
-        "(@a (@)) 1",
-        "(@)",
-        "(@a 1",
-        "(@\"bad",
-        "(\"bad",
-        "( @a)",
-        "module (@name \"m\") x",
-        "(a b",
-        "x ;;c",
-        "4294967295",
-        "4294967296",
-        "-2147483649",
-        "-0",
-        "\"\\ff\"",
-        "12 13",
-        "\t(;",
-        "\"é\" \"\\q\"",
-        "a\n",
-        "$\"\\ff\"",
-        "x",
-        ")",
-        "(func $f)",
-        "(func)",
-        "\"\\u{1_0}\"",
-        "\"\\u{1__0}\\n\\7f\\u{d800}\" x",
-        "(; (; x ;) ;;) ;;) y",
-        ";; a\r\n;;b\n;c;;",
-        "$\"a\" @\"b\"c $d\"e\" \"f\"\"g\"",
-        "-0x1_2.8p+3 1e5 +nan:0x7f inf 1_ 0x",
-        ",[]{};)(\t\n\r ",
-        "a é b",
-        "(;\u{2066};) ;;\u{206c}\nz",
-        "é@a",
-        "(;",
-        "(@name \"m\")",
-        "12",
-        "a",
-    ];
-    for text in texts {
+    for text in TEXTS.split('\x1e') {
         for allow in [false, true] {
             for strict in [false, true] {
                 cut(&rt, rt.alloc(), text, Settings { allow, strict })?;

@@ -2,6 +2,7 @@
 //! reported.
 use super::{FAILED, words_of};
 use std::alloc::{AllocError, Global};
+use std::process::Abort;
 use std::str;
 use std::test::Fail;
 use wat_commands::ends::{Failed, Plain};
@@ -12,6 +13,7 @@ use wat_commands::run::RunError;
 use wat_lex::error::Error;
 use wat_lex::lexer::{LexError, Settings};
 use wat_lex::token::Span;
+use wat_lexer_parser::parser::Call;
 
 /// A text that each file has.
 #[derive(Drop)]
@@ -81,45 +83,61 @@ fn answered(alloc: Global, words: &str, folder: &Folder<'_>) -> Result<String, F
     Ok(format!(in alloc; "{status}\n{written}{reported}")?)
 }
 
-/// A command as its words, the options and the task spelled out, and its files.
-fn spelled(alloc: Global, command: &Command<'_>) -> Result<String, Fail> {
-    let (settings, task, files) = match command {
-        Command::Help => return Ok(String::from_str(alloc, "help")?),
-        Command::Version => return Ok(String::from_str(alloc, "version")?),
-        Command::Run(settings, task, files) => (settings, task, files),
-        Command::Format(settings, mode, files) => {
-            let mut text = format!(in alloc; "{} {} {mode:?}", settings.allow, settings.strict)?;
-            for file in files.iter() {
-                write!(text, " {file:?}")?;
-            }
-            return Ok(text);
-        }
-    };
-    let mut text = format!(in alloc; "{} {}", settings.allow, settings.strict)?;
+/// Each in quotes, behind what stands there.
+fn push_files(text: &mut String, files: &[String]) -> Result<(), AllocError> {
+    for file in files {
+        write!(text, " {file:?}")?;
+    }
+    Ok(())
+}
+
+/// Each in angle brackets, behind what stands there.
+fn push_names(text: &mut String, names: &[String]) -> Result<(), AllocError> {
+    for name in names {
+        write!(text, " <{name}>")?;
+    }
+    Ok(())
+}
+
+/// Each call, behind what stands there.
+fn push_calls(text: &mut String, calls: &[Call]) -> Result<(), AllocError> {
+    for call in calls {
+        write!(text, " {call:?}")?;
+    }
+    Ok(())
+}
+
+/// A task as its words.
+fn push_task(text: &mut String, task: &Task<'_>) -> Result<(), AllocError> {
     match task {
-        Task::List => text.push_str(" list")?,
-        Task::Sig(names) => {
-            for name in names.iter() {
-                write!(text, " <{name}>")?;
-            }
-        }
-        Task::JsonList => text.push_str(" json list")?,
+        Task::List => text.push_str(" list"),
+        Task::Sig(names) => push_names(text, names),
+        Task::JsonList => text.push_str(" json list"),
         Task::JsonSig(names) => {
             text.push_str(" json")?;
-            for name in names.iter() {
-                write!(text, " <{name}>")?;
-            }
+            push_names(text, names)
         }
-        Task::Play(calls) => {
-            for call in calls.iter() {
-                write!(text, " {call:?}")?;
-            }
-        }
-        Task::Blank => text.push_str(" blank")?,
-        Task::Types => text.push_str(" types")?,
+        Task::Play(calls) => push_calls(text, calls),
+        Task::Blank => text.push_str(" blank"),
+        Task::Types => text.push_str(" types"),
     }
-    for file in files.iter() {
-        write!(text, " {file:?}")?;
+}
+
+/// A command as its words, the options and the task spelled out, and its files.
+fn spelled(alloc: Global, command: &Command<'_>) -> Result<String, AllocError> {
+    let mut text = String::new(alloc);
+    match command {
+        Command::Help => text.push_str("help")?,
+        Command::Version => text.push_str("version")?,
+        Command::Run(settings, task, files) => {
+            write!(text, "{} {}", settings.allow, settings.strict)?;
+            push_task(&mut text, task)?;
+            push_files(&mut text, files)?;
+        }
+        Command::Format(settings, mode, files) => {
+            write!(text, "{} {} {mode:?}", settings.allow, settings.strict)?;
+            push_files(&mut text, files)?;
+        }
     }
     Ok(text)
 }
@@ -128,16 +146,16 @@ fn spelled(alloc: Global, command: &Command<'_>) -> Result<String, Fail> {
 fn asked(alloc: Global, text: &str) -> Result<String, Fail> {
     let words = words_of(alloc, text)?;
     match read_words(alloc, &words)? {
-        Ok(command) => spelled(alloc, &command),
+        Ok(command) => Ok(spelled(alloc, &command)?),
         Err(word) => Ok(format!(in alloc; "!{word}")?),
     }
 }
 
 /// Whether the words of each row ask for what stands behind them.
-fn each_asks(rt: &HostRuntime, rows: &str) -> Result<(), Fail> {
+fn each_asks(rt: &impl Abort, alloc: Global, rows: &str) -> Result<(), Fail> {
     for row in rows.lines() {
         let (words, want) = row.split_once("-> ").unwrap_or((row, ""));
-        let got = asked(rt.alloc(), words)?;
+        let got = asked(alloc, words)?;
         assert_eq!(rt; got.as_str(), want, "{words}");
     }
     Ok(())
@@ -211,7 +229,7 @@ const WORDS: &str = "\
 
 #[test]
 fn words(rt: HostRuntime) -> Result<(), Fail> {
-    each_asks(&rt, WORDS)
+    each_asks(&rt, rt.alloc(), WORDS)
 }
 
 /// Words of layouts, and what they ask for.
@@ -229,8 +247,28 @@ const LAYOUTS: &str = "\
 
 #[test]
 fn words_of_layouts(rt: HostRuntime) -> Result<(), Fail> {
-    each_asks(&rt, LAYOUTS)
+    each_asks(&rt, rt.alloc(), LAYOUTS)
 }
+
+/// Words, and what is answered over a folder.
+const FILES: &str = "\
+    \x20=> 0\n0..1 Keyword\n\x1e\
+    a => 0\n0..1 Keyword\n\x1e\
+    a - a => 0\n0..1 Keyword\n0..1 Keyword\n0..1 Keyword\n\x1e\
+    bad a => 1\n0..1 Keyword\n0..1 Keyword\nunterminated block comment\n     --> bad:1:2\n      |\n\
+    \x20   1 | x(;\n      |  ^\n\x1e\
+    a none bad => 2\n0..1 Keyword\n0..1 Keyword\nwat_tokens: none: open failed: no such file or directory\n\
+    unterminated block comment\n     --> bad:1:2\n      |\n    1 | x(;\n      |  ^\n\x1e\
+    sig -- open => 1\nopen: unclosed annotation at byte offset 1\n\x1e\
+    bytes => 2\nwat_tokens: bytes: input is not UTF-8 at byte 2\n\x1e\
+    mark => 1\nunexpected character '\\u{feff}'\n     --> mark:1:1\n      |\n    1 | \u{feff}\n      | ^\n\
+    the text begins with a byte order mark, which has to go\n\x1e\
+    blank a => 0\nx\x1e\
+    play take -- a => 0\n0..1 Keyword\n\x1e\
+    fmt => 10\n\x1e\
+    --strict-underscores fmt a => 16\n\x1e\
+    fmt --check -- b => 20\n\x1e\
+    fmt --write b a c => 35\n";
 
 #[test]
 fn files(rt: HostRuntime) -> Result<(), Fail> {
@@ -242,135 +280,132 @@ fn files(rt: HostRuntime) -> Result<(), Fail> {
         ("bytes", b"ab\xff"),
         ("mark", b"\xef\xbb\xbf"),
     ]);
-    let rows = [
-        ("", "0\n0..1 Keyword\n"),
-        ("a", "0\n0..1 Keyword\n"),
-        ("a - a", "0\n0..1 Keyword\n0..1 Keyword\n0..1 Keyword\n"),
-        (
-            "bad a",
-            "1\n0..1 Keyword\n0..1 Keyword\nunterminated block comment\n     --> bad:1:2\n      |\n\
-             \x20   1 | x(;\n      |  ^\n",
-        ),
-        (
-            "a none bad",
-            "2\n0..1 Keyword\n0..1 Keyword\nwat_tokens: none: open failed: no such file or directory\n\
-             unterminated block comment\n     --> bad:1:2\n      |\n    1 | x(;\n      |  ^\n",
-        ),
-        (
-            "sig -- open",
-            "1\nopen: unclosed annotation at byte offset 1\n",
-        ),
-        (
-            "bytes",
-            "2\nwat_tokens: bytes: input is not UTF-8 at byte 2\n",
-        ),
-        (
-            "mark",
-            "1\nunexpected character '\\u{feff}'\n     --> mark:1:1\n      |\n    1 | \u{feff}\n      | ^\n\
-             the text begins with a byte order mark, which has to go\n",
-        ),
-        ("blank a", "0\nx"),
-        ("play take -- a", "0\n0..1 Keyword\n"),
-        ("fmt", "10\n"),
-        ("--strict-underscores fmt a", "16\n"),
-        ("fmt --check -- b", "20\n"),
-        ("fmt --write b a c", "35\n"),
-    ];
-    for (words, want) in rows {
+    for row in FILES.split('\x1e') {
+        let (words, want) = row.split_once(" => ").unwrap_or((row, ""));
         let got = answered(rt.alloc(), words, &folder)?;
         assert_eq!(rt; got.as_str(), want, "{words}");
     }
     Ok(())
 }
 
+/// Whether an outcome has this status, and reports this line.
+fn reports(
+    rt: &impl Abort,
+    alloc: Global,
+    outcome: &Outcome<'_>,
+    status: u8,
+    line: &str,
+) -> Result<(), Fail> {
+    let mut errors = Vec::new(alloc);
+    outcome.report(alloc, None, &mut errors)?;
+    assert_eq!(rt; errors.as_slice(), line.as_bytes());
+    assert_eq!(rt; outcome.status(), status);
+    Ok(())
+}
+
+/// Whether a run that is refused ends in status 2, and says why.
+fn is_refused(rt: &impl Abort, alloc: Global, error: RunError, why: &str) -> Result<(), Fail> {
+    let line = format!(in alloc; "wat_tokens: {why}\n")?;
+    reports(rt, alloc, &Outcome::Refused(error), 2, &line)
+}
+
 #[test]
-fn outcomes(rt: HostRuntime) -> Result<(), Fail> {
+fn refused_runs(rt: HostRuntime) -> Result<(), Fail> {
+    let alloc = rt.alloc();
+    let code = |code| Failed { code: Some(code) };
+    is_refused(
+        &rt,
+        alloc,
+        RunError::Read(code(5)),
+        "read failed: input/output error",
+    )?;
+    is_refused(
+        &rt,
+        alloc,
+        RunError::Read(code(107)),
+        "read failed: error 107 of the system",
+    )?;
+    is_refused(&rt, alloc, RunError::TooLong, "input is too long")?;
+    is_refused(
+        &rt,
+        alloc,
+        RunError::NotUtf8(7),
+        "input is not UTF-8 at byte 7",
+    )?;
+    is_refused(&rt, alloc, RunError::from(AllocError), "out of memory")
+}
+
+#[test]
+fn outcomes_of_runs(rt: HostRuntime) -> Result<(), Fail> {
+    let alloc = rt.alloc();
+    reports(&rt, alloc, &Outcome::of_run(Ok(None)), 0, "")?;
+    let failed = Outcome::of_run(Err(RunError::Write(FAILED)));
+    reports(&rt, alloc, &failed, 2, "wat_tokens: write failed\n")?;
+    let broken_pipe = Failed { code: Some(32) };
+    reports(
+        &rt,
+        alloc,
+        &Outcome::of_run(Err(RunError::Write(broken_pipe))),
+        0,
+        "",
+    )?;
+    let unopened = Outcome::Unopened(Failed { code: Some(13) });
+    reports(
+        &rt,
+        alloc,
+        &unopened,
+        2,
+        "wat_tokens: open failed: permission denied\n",
+    )
+}
+
+#[test]
+fn faults_of_runs(rt: HostRuntime) -> Result<(), Fail> {
+    let alloc = rt.alloc();
     let message = String::from_str(rt.alloc(), "m")?;
+    let fault = Outcome::of_run(Ok(Some(Error::new(Span::from_offset(3), message))));
+    reports(&rt, alloc, &fault, 1, "m at byte offset 3\n")?;
+    let unexpected = LexError::Unexpected('\u{feff}');
+    let mark = Error::lex(rt.alloc(), Span::from_offset(0), "\u{feff}", unexpected);
+    reports(
+        &rt,
+        alloc,
+        &Outcome::of_run(Ok(Some(mark))),
+        1,
+        "unexpected character '\\u{feff}'\n     --> <anon>:1:1\n      |\n    1 | \u{feff}\n      | ^\n\
+         the text begins with a byte order mark, which has to go\n",
+    )
+}
+
+/// Whether wrong words end in status 2, and say what is wrong and how the words go.
+fn shows_usage(
+    rt: &impl Abort,
+    alloc: Global,
+    outcome: &Outcome<'_>,
+    why: &str,
+) -> Result<(), Fail> {
     let usage = "usage: wat_tokens [OPTION..] [list | sig NAME.. | play CALL.. | blank | types | \
          fmt [--check | --write]] [--] [FILE..]; --help says more\n";
-    let rows = [
-        (Outcome::of_run(Ok(None)), 0, ""),
-        (
-            Outcome::Refused(RunError::Read(Failed { code: Some(5) })),
-            2,
-            "wat_tokens: read failed: input/output error\n",
-        ),
-        (
-            Outcome::Refused(RunError::Read(Failed { code: Some(107) })),
-            2,
-            "wat_tokens: read failed: error 107 of the system\n",
-        ),
-        (
-            Outcome::Refused(RunError::TooLong),
-            2,
-            "wat_tokens: input is too long\n",
-        ),
-        (
-            Outcome::Refused(RunError::NotUtf8(7)),
-            2,
-            "wat_tokens: input is not UTF-8 at byte 7\n",
-        ),
-        (
-            Outcome::of_run(Err(RunError::Write(FAILED))),
-            2,
-            "wat_tokens: write failed\n",
-        ),
-        (
-            Outcome::of_run(Err(RunError::Write(Failed { code: Some(32) }))),
-            0,
-            "",
-        ),
-        (
-            Outcome::Refused(RunError::from(AllocError)),
-            2,
-            "wat_tokens: out of memory\n",
-        ),
-        (
-            Outcome::Unopened(Failed { code: Some(13) }),
-            2,
-            "wat_tokens: open failed: permission denied\n",
-        ),
-        (
-            Outcome::of_run(Ok(Some(Error::new(Span::from_offset(3), message)))),
-            1,
-            "m at byte offset 3\n",
-        ),
-        (
-            Outcome::of_run(Ok(Some(Error::lex(
-                rt.alloc(),
-                Span::from_offset(0),
-                "\u{feff}",
-                LexError::Unexpected('\u{feff}'),
-            )))),
-            1,
-            "unexpected character '\\u{feff}'\n     --> <anon>:1:1\n      |\n    1 | \u{feff}\n      | ^\n\
-             the text begins with a byte order mark, which has to go\n",
-        ),
-    ];
-    for (outcome, status, line) in rows {
-        let mut errors = Vec::new(rt.alloc());
-        outcome.report(rt.alloc(), None, &mut errors)?;
-        assert_eq!(rt; errors.as_slice(), line.as_bytes());
-        assert_eq!(rt; outcome.status(), status);
-    }
-    for (outcome, begins) in [
-        (
-            Outcome::Wrong("--json=x"),
-            "wat_tokens: unknown option: --json=x\n",
-        ),
-        (
-            Outcome::Wrong("--json"),
-            "wat_tokens: misplaced option: --json\n",
-        ),
-        (Outcome::Wrong("-h"), "wat_tokens: misplaced option: -h\n"),
-        (Outcome::Wrong("x"), "wat_tokens: unexpected word: x\n"),
-        (Outcome::Unread, "wat_tokens: the words are no text\n"),
-    ] {
-        let mut errors = Vec::new(rt.alloc());
-        outcome.report(rt.alloc(), None, &mut errors)?;
-        let want = format!(in rt.alloc(); "{begins}{usage}")?;
-        assert_eq!(rt; errors.as_slice(), want.as_bytes());
-        assert_eq!(rt; outcome.status(), 2);
-    }
-    Ok(())
+    let lines = format!(in alloc; "wat_tokens: {why}\n{usage}")?;
+    reports(rt, alloc, outcome, 2, &lines)
+}
+
+#[test]
+fn wrong_words(rt: HostRuntime) -> Result<(), Fail> {
+    let alloc = rt.alloc();
+    shows_usage(
+        &rt,
+        alloc,
+        &Outcome::Wrong("--json=x"),
+        "unknown option: --json=x",
+    )?;
+    shows_usage(
+        &rt,
+        alloc,
+        &Outcome::Wrong("--json"),
+        "misplaced option: --json",
+    )?;
+    shows_usage(&rt, alloc, &Outcome::Wrong("-h"), "misplaced option: -h")?;
+    shows_usage(&rt, alloc, &Outcome::Wrong("x"), "unexpected word: x")?;
+    shows_usage(&rt, alloc, &Outcome::Unread, "the words are no text")
 }
