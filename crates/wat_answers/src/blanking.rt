@@ -1,10 +1,11 @@
 //! Texts with spaces over their comments, and whether they show the same.
-use crate::parsing::{blanked_at, take};
+use crate::parsing::{blanked_at, shown};
 use std::alloc::Global;
 use wat_lex::error::Error;
 use wat_lex::lexer::{Lexer, Token};
+use wat_lex_answers::refusals::Refusals;
 use wat_lex_answers::row::Row;
-use wat_lex_answers::tokens::{short, write_comma, write_token};
+use wat_lex_answers::tokens::short;
 use wat_lexer_parser::parser::ParseBuffer;
 
 /// The buffer of a text under two settings of its lexer.
@@ -20,28 +21,6 @@ fn buffer_of(
     ParseBuffer::new_with_lexer(alloc, lexer)
 }
 
-/// The tokens that are shown, with a name registered or none, and the fault behind them.
-fn listed(alloc: Global, buffer: &ParseBuffer<'_>, name: &str) -> Result<String, Error> {
-    let mut parser = buffer.parser();
-    if !name.is_empty() {
-        parser.register_annotation(name)?;
-    }
-    let mut listed = String::new(alloc);
-    for _ in 0..=buffer.raw().len() {
-        match take(&mut parser) {
-            Ok(Some(token)) => write_token(&mut listed, token)?,
-            Ok(None) => return Ok(listed),
-            Err(error) => {
-                let message = error.message(alloc)?;
-                write_comma(&mut listed)?;
-                write!(listed, "{} {message}", error.span().offset())?;
-                return Ok(listed);
-            }
-        }
-    }
-    Ok(listed)
-}
-
 /// Whether two texts show the same under two settings, with a name registered and without.
 fn both_show(
     alloc: Global,
@@ -49,8 +28,8 @@ fn both_show(
     other: &ParseBuffer<'_>,
 ) -> Result<bool, Error> {
     for name in ["", "a"] {
-        let want = listed(alloc, text, name)?;
-        let got = listed(alloc, other, name)?;
+        let want = shown(alloc, Refusals::Brief, text, name)?;
+        let got = shown(alloc, Refusals::Brief, other, name)?;
         if got.as_str() != want.as_str() {
             return Ok(false);
         }

@@ -19,29 +19,66 @@ fn keyword<'a>(parser: &mut Parser<'a>) -> Result<&'a str, Error>
     })
 }
 
-/// What the takers of numbers and of an identifier take, one behind the other.
-fn numbers(alloc: Global, parser: &mut Parser<'_>) -> Result<String, Error> {
-    let float = parser.step(|cursor| cursor.float()?.ok_or_else(|| cursor.error("no float")))?;
-    let integer = parser.step(|cursor| cursor
-        .integer()?
-        .ok_or_else(|| cursor.error("no integer")))?;
-    let id = parser.step(|cursor| cursor.id()?.ok_or_else(|| cursor.error("no identifier")))?;
-    let (digits, base) = integer.val();
-    Ok(format!(in alloc; "{float:?}, {digits} {base}, {id}")?)
+/// Takes a float.
+fn float(alloc: Global, parser: &mut Parser<'_>) -> Result<String, Error> {
+    let float = parser.step(|cursor| match cursor.float()? {
+        Some(found) => Ok(found),
+        None => Err(cursor.error("no float")),
+    })?;
+    Ok(format!(in alloc; "{float:?}")?)
 }
 
-/// The same of a string and a name.
-fn strings(alloc: Global, parser: &mut Parser<'_>) -> Result<String, Error> {
-    let string = parser.step(|cursor| cursor.string()?.ok_or_else(|| cursor.error("no string")))?;
-    let name = parser.step(|cursor| cursor.annotation()?.ok_or_else(|| cursor.error("no name")))?;
-    Ok(format!(in alloc; "{:?}, {name}", string.as_slice())?)
+/// Takes an integer.
+fn integer(alloc: Global, parser: &mut Parser<'_>) -> Result<String, Error> {
+    let integer = parser.step(|cursor| match cursor.integer()? {
+        Some(found) => Ok(found),
+        None => Err(cursor.error("no integer")),
+    })?;
+    let (digits, base) = integer.val();
+    Ok(format!(in alloc; "{digits} {base}")?)
+}
+
+/// Takes an identifier.
+fn identifier(alloc: Global, parser: &mut Parser<'_>) -> Result<String, Error> {
+    let id = parser.step(|cursor| match cursor.id()? {
+        Some(found) => Ok(found),
+        None => Err(cursor.error("no identifier")),
+    })?;
+    Ok(format!(in alloc; "{id}")?)
+}
+
+/// What the takers of numbers and of an identifier take, one behind the other.
+fn numbers(alloc: Global, parser: &mut Parser<'_>) -> Result<String, Error> {
+    let float = float(alloc, parser)?;
+    let integer = integer(alloc, parser)?;
+    let id = identifier(alloc, parser)?;
+    Ok(format!(in alloc; "{float}, {integer}, {id}")?)
+}
+
+/// Takes a string.
+fn string(alloc: Global, parser: &mut Parser<'_>) -> Result<String, Error> {
+    let string = parser.step(|cursor| match cursor.string()? {
+        Some(found) => Ok(found),
+        None => Err(cursor.error("no string")),
+    })?;
+    Ok(format!(in alloc; "{:?}", string.as_slice())?)
+}
+
+/// Takes an annotation's name.
+fn name(alloc: Global, parser: &mut Parser<'_>) -> Result<String, Error> {
+    let name = parser.step(|cursor| match cursor.annotation()? {
+        Some(found) => Ok(found),
+        None => Err(cursor.error("no name")),
+    })?;
+    Ok(format!(in alloc; "{name}")?)
 }
 
 /// What each taker of a value takes.
 fn values(alloc: Global, parser: &mut Parser<'_>) -> Result<String, Error> {
     let numbers = numbers(alloc, parser)?;
-    let strings = strings(alloc, parser)?;
-    Ok(format!(in alloc; "{numbers}, {strings}")?)
+    let string = string(alloc, parser)?;
+    let name = name(alloc, parser)?;
+    Ok(format!(in alloc; "{numbers}, {string}, {name}")?)
 }
 
 /// Takes two keywords.

@@ -26,6 +26,11 @@ pub fn seen(alloc: Global, cursor: Cursor<'_, '_>) -> Result<String, Error> {
     Ok(seen)
 }
 
+/// Where what is shown at a cursor begins.
+fn place_of(cursor: Cursor<'_, '_>) -> usize {
+    cursor.cur_span().offset()
+}
+
 /// Writes what a taker took, and what is shown behind it.
 fn write_taken(
     taken: &mut String,
@@ -33,8 +38,9 @@ fn write_taken(
     value: &str,
     next: Cursor<'_, '_>,
 ) -> Result<(), AllocError> {
+    let place = place_of(next);
     write_comma(taken)?;
-    write!(taken, "{kind} {value}, then {}", next.cur_span().offset())
+    write!(taken, "{kind} {value}, then {place}")
 }
 
 /// Writes what the takers of parentheses and words answer.
@@ -60,17 +66,27 @@ fn write_words(taken: &mut String, cursor: Cursor<'_, '_>) -> Result<(), Error> 
     Ok(())
 }
 
-/// Writes what the takers of strings and numbers answer.
-fn write_values(alloc: Global, taken: &mut String, cursor: Cursor<'_, '_>) -> Result<(), Error> {
+/// Writes what the taker of strings answers.
+fn write_string(alloc: Global, taken: &mut String, cursor: Cursor<'_, '_>) -> Result<(), Error> {
     if let Some((value, next)) = cursor.string()? {
         let value = format!(in alloc; "{:?}", value.as_slice())?;
         write_taken(taken, "string", value.as_str(), next)?;
     }
+    Ok(())
+}
+
+/// Writes what the taker of integers answers.
+fn write_integer(alloc: Global, taken: &mut String, cursor: Cursor<'_, '_>) -> Result<(), Error> {
     if let Some((integer, next)) = cursor.integer()? {
         let (digits, base) = integer.val();
         let value = format!(in alloc; "{digits} {base} {:?}", integer.sign())?;
         write_taken(taken, "integer", value.as_str(), next)?;
     }
+    Ok(())
+}
+
+/// Writes what the taker of floats answers.
+fn write_float(alloc: Global, taken: &mut String, cursor: Cursor<'_, '_>) -> Result<(), Error> {
     if let Some((float, next)) = cursor.float()? {
         let value = format!(in alloc; "{float:?}")?;
         write_taken(taken, "float", value.as_str(), next)?;
@@ -82,7 +98,9 @@ fn write_values(alloc: Global, taken: &mut String, cursor: Cursor<'_, '_>) -> Re
 pub fn taken(alloc: Global, cursor: Cursor<'_, '_>) -> Result<String, Error> {
     let mut taken = String::new(alloc);
     write_words(&mut taken, cursor)?;
-    write_values(alloc, &mut taken, cursor)?;
+    write_string(alloc, &mut taken, cursor)?;
+    write_integer(alloc, &mut taken, cursor)?;
+    write_float(alloc, &mut taken, cursor)?;
     Ok(taken)
 }
 

@@ -3,7 +3,8 @@ use crate::cursors::{annotation, comment, id, seen, taken};
 use crate::replaying::{full_replies, replies};
 use std::alloc::{AllocError, Global};
 use wat_lex::error::Error;
-use wat_lex::lexer::{Lexer, Token, TokenKind};
+use wat_lex::lexer::{LexFault, Lexer, Token, TokenKind};
+use wat_lex_answers::refusals::Refusals;
 use wat_lex_answers::row::Row;
 use wat_lex_answers::tokens::{short, write_comma, write_token};
 use wat_lexer_parser::laws;
@@ -18,20 +19,31 @@ pub fn take(parser: &mut Parser<'_>) -> Result<Option<Token>, Error> {
     })
 }
 
-/// The tokens that are shown where a name is registered or none, and the fault behind them.
-fn shown(alloc: Global, row: &Row<'_>, buffer: &ParseBuffer<'_>) -> Result<String, Error> {
+/// A parser of a text under a name, or under none.
+fn parser_under<'b>(buffer: &'b ParseBuffer<'_>, name: &str) -> Result<Parser<'b>, Error> {
     let mut parser = buffer.parser();
-    if !row.with.is_empty() {
-        parser.register_annotation(row.with)?;
+    if !name.is_empty() {
+        parser.register_annotation(name)?;
     }
+    Ok(parser)
+}
+
+/// The tokens that are shown where a name is registered or none, and the fault behind them.
+pub fn shown(
+    alloc: Global,
+    refusals: Refusals,
+    buffer: &ParseBuffer<'_>,
+    name: &str,
+) -> Result<String, Error> {
+    let mut parser = parser_under(buffer, name)?;
     let mut shown = String::new(alloc);
-    for _ in 0..=row.text.len() {
+    for _ in 0..=buffer.raw().len() {
         match take(&mut parser) {
             Ok(Some(token)) => write_token(&mut shown, token)?,
             Ok(None) => return Ok(shown),
             Err(error) => {
                 write_comma(&mut shown)?;
-                shown.push_str(&row.refusals.shown(alloc, &error)?)?;
+                shown.push_str(&refusals.shown(alloc, &error)?)?;
                 return Ok(shown);
             }
         }
@@ -39,16 +51,28 @@ fn shown(alloc: Global, row: &Row<'_>, buffer: &ParseBuffer<'_>) -> Result<Strin
     Ok(String::from_str(alloc, "no end")?)
 }
 
+/// Writes tokens, one behind the other.
+fn write_tokens(shown: &mut String, tokens: &[Token]) -> Result<(), AllocError> {
+    for token in tokens.iter() {
+        write_token(shown, *token)?;
+    }
+    Ok(())
+}
+
+/// Writes a fault behind what stands there, where there is one.
+fn write_fault(shown: &mut String, fault: Option<LexFault>) -> Result<(), AllocError> {
+    let Some(LexFault { offset, error }) = fault else {
+        return Ok(());
+    };
+    write_comma(shown)?;
+    write!(shown, "{error:?} at {offset}")
+}
+
 /// The raw tokens, and the fault behind them.
 fn raw(alloc: Global, buffer: &ParseBuffer<'_>) -> Result<String, AllocError> {
     let mut shown = String::new(alloc);
-    for token in buffer.raw().iter() {
-        write_token(&mut shown, *token)?;
-    }
-    if let Some(fault) = buffer.lex_fault() {
-        write_comma(&mut shown)?;
-        write!(shown, "{:?} at {}", fault.error, fault.offset)?;
-    }
+    write_tokens(&mut shown, buffer.raw())?;
+    write_fault(&mut shown, buffer.lex_fault())?;
     Ok(shown)
 }
 
@@ -83,10 +107,7 @@ fn blanked(alloc: Global, row: &Row<'_>) -> Result<String, Error> {
 
 /// How many tokens are shown where a name is registered or none, and the place behind them.
 fn counted(alloc: Global, row: &Row<'_>, buffer: &ParseBuffer<'_>) -> Result<String, Error> {
-    let mut parser = buffer.parser();
-    if !row.with.is_empty() {
-        parser.register_annotation(row.with)?;
-    }
+    let mut parser = parser_under(buffer, row.with)?;
     let mut count = 0usize;
     for _ in 0..row.text.len() {
         if take(&mut parser)?.is_none() {
@@ -145,7 +166,7 @@ pub fn answer(alloc: Global, row: &Row<'_>) -> Result<Option<String>, Error> {
     let buffer = ParseBuffer::new_with_lexer(alloc, lexer)?;
     let mut parser = buffer.parser();
     let answer = match row.call {
-        "shown" | "shown-allowing" => shown(alloc, row, &buffer)?,
+        "shown" | "shown-allowing" => shown(alloc, row.refusals, &buffer, row.with)?,
         "raw" => raw(alloc, &buffer)?,
         "blanked" => blanked(alloc, row)?,
         "counted" => counted(alloc, row, &buffer)?,

@@ -24,20 +24,19 @@ fn write_id(shown: &mut String, id: &Id<'_>, copy: &Id<'_>) -> Result<(), AllocE
     )
 }
 
+/// Whether a copy of an index has its name or number and its place.
+fn is_copied(alloc: Global, index: &Index<'_>) -> Result<bool, AllocError> {
+    let copy = index.clone(alloc)?;
+    Ok(copy == *index && copy.span() == index.span())
+}
+
 /// An index, its place, and whether a copy has both.
 fn write_index(alloc: Global, shown: &mut String, index: &Index<'_>) -> Result<(), AllocError> {
-    let copy = index.clone(alloc)?;
-    let is_same = copy == *index && copy.span() == index.span();
+    let place = index.span().offset();
+    let is_same = is_copied(alloc, index)?;
     match index {
-        Index::Num(number, span) => {
-            write!(shown, "{number} at {}, copied {is_same}", span.offset())
-        }
-        Index::Id(id) => write!(
-            shown,
-            "{} at {}, copied {is_same}",
-            id.name(),
-            id.span().offset()
-        ),
+        Index::Num(number, _) => write!(shown, "{number} at {place}, copied {is_same}"),
+        Index::Id(id) => write!(shown, "{} at {place}, copied {is_same}", id.name()),
     }
 }
 
@@ -197,13 +196,19 @@ fn word(alloc: Global, name: &str) -> Result<String, AllocError> {
     }
 }
 
+/// Whether a parser of the buffer tracks the spans of instructions.
+fn tracks(buffer: &ParseBuffer<'_>) -> bool {
+    buffer.parser().track_instr_spans()
+}
+
 /// Whether the spans of instructions are tracked: at first, where asked for, and no longer.
 fn tracked(alloc: Global, buffer: &mut ParseBuffer<'_>) -> Result<String, AllocError> {
-    let first = buffer.parser().track_instr_spans();
+    let first = tracks(buffer);
     buffer.track_instr_spans(true);
-    let then = buffer.parser().track_instr_spans();
+    let then = tracks(buffer);
     buffer.track_instr_spans(true).track_instr_spans(false);
-    format!(in alloc; "{first}, {then}, {}", buffer.parser().track_instr_spans())
+    let last = tracks(buffer);
+    format!(in alloc; "{first}, {then}, {last}")
 }
 
 /// What a call answers of a parser; None where none of these is asked.
