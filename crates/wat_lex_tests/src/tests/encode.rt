@@ -21,22 +21,37 @@ fn is_too_long<T: Encode>(rt: &impl Abort, alloc: Global, value: &T) -> Result<(
     Ok(())
 }
 
+/// Whether the bytes of a value are these.
+fn has_bytes<T: Encode>(
+    rt: &impl Abort,
+    alloc: Global,
+    value: &T,
+    bytes: &[u8],
+) -> Result<(), Fail> {
+    assert_eq!(rt; bytes_of(alloc, value)?.as_slice(), bytes);
+    Ok(())
+}
+
 #[test]
-fn lists_and_texts_stand_behind_their_length(rt: HostRuntime) -> Result<(), Fail> {
-    let alloc = rt.alloc();
-    let list = vec![in alloc; 1u32, 300]?;
-    let list_bytes: &[u8] = &[0x02, 0x01, 0xac, 0x02];
-    assert_eq!(rt; bytes_of(alloc, &list)?.as_slice(), list_bytes);
-    assert_eq!(rt; bytes_of(alloc, &&list)?.as_slice(), list_bytes);
-    let text = String::from_str(alloc, "ab")?;
-    let text_bytes: &[u8] = &[0x02, 0x61, 0x62];
-    assert_eq!(rt; bytes_of(alloc, &text)?.as_slice(), text_bytes);
-    assert_eq!(rt;
-        bytes_of(alloc, &Box::new(alloc, text)?)?.as_slice(),
-        text_bytes
-    );
-    let mut e = Vec::new(alloc);
-    encode_slice(list.as_slice(), &mut e)?;
+fn lists_stand_behind_their_length(rt: HostRuntime) -> Result<(), Fail> {
+    let list = vec![in rt.alloc(); 1u32, 300]?;
+    let bytes = &[0x02, 0x01, 0xac, 0x02];
+    has_bytes(&rt, rt.alloc(), &list, bytes)?;
+    has_bytes(&rt, rt.alloc(), &&list, bytes)
+}
+
+#[test]
+fn texts_stand_behind_their_length(rt: HostRuntime) -> Result<(), Fail> {
+    let text = String::from_str(rt.alloc(), "ab")?;
+    let bytes = &[0x02, 0x61, 0x62];
+    has_bytes(&rt, rt.alloc(), &text, bytes)?;
+    has_bytes(&rt, rt.alloc(), &Box::new(rt.alloc(), text)?, bytes)
+}
+
+#[test]
+fn slices_and_texts_stand_one_behind_the_other(rt: HostRuntime) -> Result<(), Fail> {
+    let mut e = Vec::new(rt.alloc());
+    encode_slice(&[1u32, 300], &mut e)?;
     encode_str("ab", &mut e)?;
     encode_slice::<u32>(&[], &mut e)?;
     encode_str("", &mut e)?;
@@ -48,27 +63,36 @@ fn lists_and_texts_stand_behind_their_length(rt: HostRuntime) -> Result<(), Fail
 #[test]
 fn parts_stand_one_behind_the_other(rt: HostRuntime) -> Result<(), Fail> {
     let alloc = rt.alloc();
-    let triple: &[u8] = &[0x01, 0x7f, 0x80, 0x01];
-    assert_eq!(rt;
-        bytes_of(alloc, &(1u8, -1i64, 128usize))?.as_slice(),
-        triple
-    );
-    let pair: &[u8] = &[0x05, 0xc0, 0x00];
-    assert_eq!(rt; bytes_of(alloc, &(5u8, 64i32))?.as_slice(), pair);
-    Ok(())
+    has_bytes(
+        &rt,
+        alloc,
+        &(1u8, -1i64, 128usize),
+        &[0x01, 0x7f, 0x80, 0x01],
+    )?;
+    has_bytes(&rt, alloc, &(5u8, 64i32), &[0x05, 0xc0, 0x00])
 }
 
 #[test]
-fn what_is_too_long_leaves_the_buffer(rt: HostRuntime) -> Result<(), Fail> {
+fn a_length_that_is_too_long_leaves_the_buffer(rt: HostRuntime) -> Result<(), Fail> {
     let alloc = rt.alloc();
     is_too_long(&rt, alloc, &4294967296usize)?;
     is_too_long(&rt, alloc, &&4294967296usize)?;
-    is_too_long(&rt, alloc, &Box::new(alloc, 4294967296usize)?)?;
+    is_too_long(&rt, alloc, &Box::new(alloc, 4294967296usize)?)
+}
+
+#[test]
+fn a_part_that_is_too_long_leaves_the_buffer(rt: HostRuntime) -> Result<(), Fail> {
+    let alloc = rt.alloc();
     is_too_long(&rt, alloc, &(5u8, 4294967296usize))?;
     is_too_long(&rt, alloc, &(usize::MAX, 5u8))?;
     is_too_long(&rt, alloc, &(usize::MAX, 5u8, 5u8))?;
     is_too_long(&rt, alloc, &(5u8, usize::MAX, 5u8))?;
-    is_too_long(&rt, alloc, &(5u8, 5u8, usize::MAX))?;
+    is_too_long(&rt, alloc, &(5u8, 5u8, usize::MAX))
+}
+
+#[test]
+fn an_item_that_is_too_long_leaves_the_buffer(rt: HostRuntime) -> Result<(), Fail> {
+    let alloc = rt.alloc();
     is_too_long(&rt, alloc, &vec![in alloc; 1usize, usize::MAX, 1]?)?;
     is_too_long(&rt, alloc, &(5u8, vec![in alloc; (5u8, usize::MAX)]?))
 }
@@ -85,16 +109,20 @@ fn a_list_that_is_too_long_leaves_the_buffer(rt: HostRuntime) -> Result<(), Fail
 }
 
 #[test]
-fn what_has_bytes_fits(rt: HostRuntime) -> Result<(), Fail> {
-    let alloc = rt.alloc();
+fn what_has_bytes_fits(rt: HostRuntime) {
     assert!(rt; (5u8, u32::MAX, u64::MAX).fits());
     assert!(rt; (i32::MIN, i64::MIN).fits());
     assert!(rt; 4294967295usize.fits());
+    assert!(rt; slice_fits::<usize>(&[]));
+    assert!(rt; str_fits(""));
+}
+
+#[test]
+fn what_has_bytes_on_the_heap_fits(rt: HostRuntime) -> Result<(), Fail> {
+    let alloc = rt.alloc();
     assert!(rt; Box::new(alloc, &4294967295usize)?.fits());
     assert!(rt; vec![in alloc; 4294967295usize, 0]?.fits());
     assert!(rt; String::from_str(alloc, "ab")?.fits());
-    assert!(rt; slice_fits::<usize>(&[]));
-    assert!(rt; str_fits(""));
     Ok(())
 }
 

@@ -29,7 +29,7 @@ fn answers(
 }
 
 #[test]
-fn messages_and_out_of_memory(rt: HostRuntime) -> Result<(), Fail> {
+fn a_message_is_told(rt: HostRuntime) -> Result<(), Fail> {
     let message = String::from_str(rt.alloc(), "no such thing")?;
     let error = Error::new(Span::from_offset(7), message);
     assert!(rt; error.lex_error().is_none());
@@ -40,7 +40,11 @@ fn messages_and_out_of_memory(rt: HostRuntime) -> Result<(), Fail> {
         &error,
         "no such thing",
         "no such thing at byte offset 7",
-    )?;
+    )
+}
+
+#[test]
+fn want_of_memory_is_told(rt: HostRuntime) -> Result<(), Fail> {
     let error = Error::out_of_memory();
     assert!(rt; error.is_out_of_memory());
     assert!(rt; error.lex_error().is_none());
@@ -124,11 +128,19 @@ fn a_text_is_set_once(rt: HostRuntime) -> Result<(), Fail> {
     error.set_text(rt.alloc(), "ab")?;
     answers(&rt, rt.alloc(), &error, "m", first)?;
     error.set_text(rt.alloc(), "x\ny")?;
-    answers(&rt, rt.alloc(), &error, "m", first)?;
+    answers(&rt, rt.alloc(), &error, "m", first)
+}
+
+#[test]
+fn a_fault_keeps_its_own_text(rt: HostRuntime) -> Result<(), Fail> {
     let mut error = known(Error::lex(rt.alloc(), Span::from_offset(0), "$", LexError::EmptyId))?;
     error.set_text(rt.alloc(), "x\ny")?;
     let of_its_own = "empty identifier\n     --> <anon>:1:1\n      |\n    1 | $\n      | ^";
-    answers(&rt, rt.alloc(), &error, "empty identifier", of_its_own)?;
+    answers(&rt, rt.alloc(), &error, "empty identifier", of_its_own)
+}
+
+#[test]
+fn want_of_memory_has_no_text(rt: HostRuntime) -> Result<(), Fail> {
     let mut error = Error::out_of_memory();
     error.set_text(rt.alloc(), "ab")?;
     answers(&rt, rt.alloc(), &error, "out of memory", "out of memory")

@@ -9,16 +9,20 @@ fn generated_identifiers_differ(rt: HostRuntime) -> Result<(), Fail> {
     let span = Span::from_offset(3);
     let mut gensym = Gensym::new();
     let first = gensym.generate(span)?;
-    let second = gensym.generate(span)?;
+    assert!(rt; first != gensym.generate(span)?);
+    assert_eq!(rt; first.name(), "gensym");
+    assert!(rt; first != Id::new("gensym", span));
+    Ok(())
+}
+
+#[test]
+fn a_reset_generates_the_first_identifier_again(rt: HostRuntime) -> Result<(), Fail> {
+    let mut gensym = Gensym::new();
+    let first = gensym.generate(Span::from_offset(3))?;
     gensym.reset();
-    let third = gensym.generate(Span::from_offset(5))?;
-    assert!(rt; first != second);
-    assert!(rt; third == first);
-    assert_eq!(rt; third.span().offset(), 5);
-    for id in [&first, &second, &third] {
-        assert_eq!(rt; id.name(), "gensym");
-        assert!(rt; *id != Id::new("gensym", span));
-    }
+    let again = gensym.generate(Span::from_offset(5))?;
+    assert!(rt; again == first);
+    assert_eq!(rt; again.span().offset(), 5);
     Ok(())
 }
 
@@ -85,14 +89,20 @@ fn the_last_generation_is_followed_by_none(rt: HostRuntime) -> Result<(), Fail> 
     let mut gensym = Gensym::with_generation(u32::MAX - 1);
     let last = gensym.generate(span)?;
     assert!(rt; matches!(gensym.generate(span), Err(GensymFull)));
-    let mut slot = None;
-    let refused = gensym.fill(alloc, span, &mut slot);
-    assert!(rt; matches!(&refused, Err(FillError::Full)));
-    assert!(rt; slot == None);
-    assert!(rt; matches!(gensym.generate(span), Err(GensymFull)));
     let mut slot = Some(last);
     let copy = gensym.fill(alloc, span, &mut slot)?;
     let shown = format!(in alloc; "{copy:?}")?;
     assert_eq!(rt; shown.as_str(), "Id { generation: 4294967295 }");
     Ok(())
+}
+
+#[test]
+fn no_slot_is_filled_behind_the_last_generation(rt: HostRuntime) {
+    let span = Span::from_offset(0);
+    let mut gensym = Gensym::with_generation(u32::MAX);
+    let mut slot = None;
+    let refused = gensym.fill(rt.alloc(), span, &mut slot);
+    assert!(rt; matches!(&refused, Err(FillError::Full)));
+    assert!(rt; slot == None);
+    assert!(rt; matches!(gensym.generate(span), Err(GensymFull)));
 }

@@ -17,6 +17,13 @@ fn parse_moves_to_the_end_of_a_token(rt: HostRuntime) -> Result<(), Fail> {
         Some(TokenKind::Whitespace)
     );
     assert_eq!(rt; pos, 2);
+    Ok(())
+}
+
+#[test]
+fn parse_stays_at_a_fault(rt: HostRuntime) -> Result<(), Fail> {
+    let lexer = Lexer::new("x \"");
+    let mut pos = 2;
     let Err(error) = lexer.parse(rt.alloc(), &mut pos) else {
         panic!(rt; "no fault");
     };
