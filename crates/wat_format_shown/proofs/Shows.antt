@@ -23,9 +23,9 @@ use Rattle.wat_format.specs.Laws.{over, Keeps, LayoutsKeepTokens, LayoutsAreUtf8
 use Rattle.wat_format.specs.Layout.{layout}
 use Rattle.wat_format_shown.specs.Moved.{fault_moved, ShowsMoved, LayoutsShowTheSame}
 use Rattle.wat_format_shown.proofs.Alike.{twins}
-use Rattle.wat_format_shown.proofs.Places.{moved, same_by}
+use Rattle.wat_format_shown.proofs.Places.{moved, moved_end, same_by}
 use Rattle.wat_format_shown.proofs.Same.{AllSame, Moved, all_moved}
-use Rattle.wat_format_shown.proofs.Tokens.{rising, all_measured}
+use Rattle.wat_format_shown.proofs.Tokens.{Before, before, rising, all_measured}
 
 pub record Laws : Type 0 where
   pub some_tiling : EachPlaceIsTiled
@@ -71,10 +71,10 @@ module _ (laws : Laws) (s : Setting) (ts : List Token) (utf8 : IsUtf8 s.text) (m
   tiling = subst (MaximalTiling r 0 us) keeps.no_fault raw.2
 
   abbrev move : ℕ → ℕ
-  move = moved (counting ts) (counting us)
+  move = moved (length r.text) (counting ts) (counting us)
 
   same : AllSame s.text r.text move (counting ts) (counting us)
-  same = same_by s.text r.text move 0 (counting ts) (counting us) (λ q le. refl) (rising s 0 m.to ts m.tiling)
+  same = same_by s.text r.text (length r.text) move 0 (counting ts) (counting us) (λ q le. refl) (rising s 0 m.to ts m.tiling)
       (twins s.text r.text ts us keeps.same keeps.marked (all_measured laws.readable laws.boundary laws.word s 0 m.to ts utf8 (IsCharBoundary-start s.text utf8) m.tiling)
       (all_measured laws.readable laws.boundary laws.word r 0 tiling.to us utf8_r (IsCharBoundary-start r.text utf8_r) tiling.tiling))
 
@@ -112,6 +112,7 @@ module _ (laws : Laws) (s : Setting) (ts : List Token) (utf8 : IsUtf8 s.text) (m
           all = subst (λ l. AllShown r.text None n us l (option_map (fault_moved move) f)) k.tokens (subst (λ g. AllShown r.text None n us a.0 g) k.last a.2);
         };
     texts = λ n vs f h. (moves n vs f h).texts;
+    end = moved_end (length r.text) (length s.text) (counting ts) (counting us) (subst (λ p. Before p (counting ts)) m.ends (before s 0 m.to ts m.tiling));
   }
 
   pub same_is_shown : (move : ℕ → ℕ) × ShowsMoved s r move

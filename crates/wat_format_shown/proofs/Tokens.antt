@@ -77,6 +77,26 @@ rising s p to (t ∷ ts) h =
           subst (Rising p) (sym (counting_other t ts b)) ((omega (arith, at), rising_from (t.offset + 1) (t.offset + t.len) (counting ts) (omega (arith, some, h.0.len)) ih))
     ]
 
+-- each stands before the place
+abbrev pub Before : ℕ → List Token → Type 0
+Before p [] = Unit {0}
+Before p (t ∷ ts) = (t.offset + 1 ≤ p) × Before p ts
+
+within : (s : Setting) (p to : ℕ) (ts : List Token) → Tiling s p to ts → p ≤ to
+within s p to [] h = omega (arith, h)
+within s p to (t ∷ ts) h = omega (arith, h.0.offset, within s (t.offset + t.len) to ts h.1)
+
+pub before : (s : Setting) (p to : ℕ) (ts : List Token) → Tiling s p to ts → Before to (counting ts)
+before s p to [] h = tt
+before s p to (t ∷ ts) h =
+    let ih = before s (t.offset + t.len) to ts h.1 in
+    elim (cases_Bool (is_blank t.kind)) [
+      | inl b ↦ subst (Before to) (sym (counting_blank t ts b)) ih
+      | inr b ↦
+          let some = size_some h.0.word (word_some t.kind h.0.word s.flags b h.0.stands.word) in
+          subst (Before to) (sym (counting_other t ts b)) ((omega (arith, some, h.0.len, within s (t.offset + t.len) to ts h.1), ih))
+    ]
+
 -- how long a token is, by its text
 pub record Measured (text : List ℕ) (t : Token) : Type 0 where
   pub len : t.len ≡ size (chars (token_text text t))

@@ -1,1 +1,4 @@
 pub mod Moved
+pub mod Reads
+pub mod Sides
+pub mod lemmas

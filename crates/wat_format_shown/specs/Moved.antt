@@ -1,6 +1,6 @@
 -- WebAssembly specification, text format, lexical format: white space, comments, annotations. What is shown of a layout is what is shown of the
 -- text, and stands elsewhere. The layout is no part of the standard.
-use Rattle.std.specs.Prelude.{◌≡◌, ◌+◌, ◌-◌, ℕ, List, map, Option, None}
+use Rattle.std.specs.Prelude.{◌≡◌, ◌+◌, ◌-◌, ℕ, List, length, map, Option, None}
 use Rattle.std.specs.List.{All}
 use Rattle.std.specs.Option.{option_map}
 use Rattle.std.specs.Str.{IsUtf8}
@@ -28,10 +28,12 @@ place_moved move Unclosed p = move (p - 1) + 1
 abbrev pub fault_moved : (ℕ → ℕ) → Fault → Fault
 fault_moved move f = record f { offset = place_moved move f.kind f.offset }
 
--- Under any names the second text shows the tokens that the first shows, with their bytes, and the same end or fault, each where the map says.
+-- Under any names the second text shows the tokens that the first shows, with their bytes, and the same end or fault, each where the map says; so it ends
+-- where the map says that the first ends.
 pub record ShowsMoved (s r : Setting) (move : ℕ → ℕ) : Type 0 where
   pub tokens : (names : Names) (us : List Token) (last : Option Fault) → TextShows s names us last → TextShows r names (map (token_moved move) us) (option_map (fault_moved move) last)
   pub texts : (names : Names) (us : List Token) (last : Option Fault) → TextShows s names us last → All (λ t. token_text r.text (token_moved move t) ≡ token_text s.text t) us
+  pub end : move (length s.text) ≡ length r.text
 
 -- A layout shows what the text shows: there is one such map for all names.
 abbrev pub LayoutsShowTheSame : Type 0

@@ -1,6 +1,10 @@
-//! A law of layouts, for every text of UTF-8 and all settings. The function does nothing: its contract
+//! Laws of layouts, for every text of UTF-8 and all settings. Each function does nothing: its contract
 //! is the law.
+ghost use Rattle.std.specs.Prelude.{ℕ};
 ghost use Rattle.wat_format_shown.specs.Moved.{LayoutsShowTheSame};
+ghost use Rattle.wat_format_shown.specs.Reads.{LayoutsReadTheSame, Moves, TextsReadTheSame};
+
+use wat_lexer_parser::parser::Parse;
 
 /// What is shown of a layout under any names is what is shown of the text, token by token, and the
 /// same end or fault: one map says where each stands.
@@ -13,4 +17,19 @@ pub fn shown()
     wat_lexer_parser::laws::shown();
     wat_lexer_parser::laws::all_shown();
     wat_lexer_parser::laws::counting();
+}
+
+/// What a type reads of a layout is what it reads of the text: the same value, with its spans moved
+/// by that map, or the same refusal at the same token. It holds of each type whose reading moves,
+/// and so does each word of the language of readings (`specs/lemmas`), but for registered names.
+pub fn read<'a, T: Parse<'a>>()
+    ensures texts { (n : ℕ) (moved : (ℕ → ℕ) → T.Value → T.Value) →
+        Moves n moved T.meaning → TextsReadTheSame moved T.meaning }
+    ensures layouts { (n : ℕ) (moved : (ℕ → ℕ) → T.Value → T.Value) →
+        Moves n moved T.meaning → LayoutsReadTheSame moved T.meaning }
+{
+    shown();
+    wat_lex::laws::one_tiling();
+    wat_lexer_parser::laws::shown();
+    wat_lexer_parser::laws::all_shown();
 }

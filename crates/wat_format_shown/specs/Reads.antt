@@ -1,0 +1,60 @@
+-- What a type reads of a text, and of one that shows the same tokens elsewhere, as a layout does. No part of the standard.
+use Rattle.std.specs.Prelude.{◌≡◌, ◌≤◌, ◌+◌, ℕ, Bool, List, length, Option, Some, None, Result, Ok, Err}
+use Rattle.std.specs.Str.{IsUtf8}
+use Rattle.wat_lex.specs.errors.Errors.{Report}
+use Rattle.wat_lex.specs.tokens.ReadableTokens.{token_text}
+use Rattle.wat_lex.specs.declared.lexer.kinds.Token.{Token}
+use Rattle.wat_lexer_parser.specs.parser.Sights.{Sight}
+use Rattle.wat_lexer_parser.specs.parser.Takers.{Reader}
+use Rattle.wat_lexer_parser.specs.places.Source.{Source, IsRead}
+use Rattle.wat_lexer_parser.specs.readings.Readings.{Outcome, Reading, whole}
+use Rattle.wat_format.specs.Laws.{over}
+use Rattle.wat_format.specs.Layout.{layout}
+use Rattle.wat_format_shown.specs.Moved.{token_moved, ShowsMoved}
+use Rattle.wat_format_shown.specs.Sides.{Sides, Alike, RefusalMoved, SameRefusal, passed}
+
+-- The other answers the same value, moved, before the same tokens, n fewer at least; or the same refusal.
+abbrev pub AnswerMoved : {V : Type 0} → (V → V) → ℕ → Sides → List Token → Result V Report → ℕ → Outcome V → Type 0
+AnswerMoved moved n s ts (Ok v) k o = (o.answer ≡ Ok (moved v)) × (r : List Token) × Alike (passed s k o.passed) r × (length r + n ≤ length ts)
+AnswerMoved moved n s ts (Err f) k o = (g : Report) × (o.answer ≡ Err g) × SameRefusal s f g
+
+abbrev pub OutcomeMoved : {V : Type 0} → (V → V) → ℕ → Sides → List Token → Outcome V → Outcome V → Type 0
+OutcomeMoved moved n s ts o q = AnswerMoved moved n s ts o.answer o.passed q
+
+-- A reading goes by the tokens that are shown, and by where they stand only as the value's spans do, which `moved` moves by a map. It takes n tokens
+-- at least.
+abbrev pub Moves : {V : Type 0} → ℕ → ((ℕ → ℕ) → V → V) → Reading V → Type 0
+Moves n moved m = (s : Sides) (ts : List Token) → Alike s ts → OutcomeMoved (moved s.move) n s ts (m s.here) (m s.there)
+
+-- The same of a look,
+abbrev pub ToldMoved : Sides → Result Bool Report → Result Bool Report → Type 0
+ToldMoved s (Ok told) r = r ≡ Ok told
+ToldMoved s (Err f) r = (g : Report) × (r ≡ Err g) × SameRefusal s f g
+
+abbrev pub MovesSight : Sight → Type 0
+MovesSight sight = (s : Sides) (ts : List Token) → Alike s ts → ToldMoved s (sight s.here).told (sight s.there).told
+
+-- and of how a token is read.
+abbrev pub ReadMoved : {V : Type 0} → (V → V) → Sides → Option (Result V Report) → Option (Result V Report) → Type 0
+ReadMoved moved s None o = o ≡ None
+ReadMoved moved s (Some (Ok v)) o = o ≡ Some (Ok (moved v))
+ReadMoved moved s (Some (Err f)) o = (g : Report) × (o ≡ Some (Err g)) × SameRefusal s f g
+
+abbrev pub MovesReader : {V : Type 0} → ((ℕ → ℕ) → V → V) → Reader V → Type 0
+MovesReader moved read = (s : Sides) (t : Token) → token_text s.there.source.setting.text (token_moved s.move t) ≡ token_text s.here.source.setting.text t
+    → ReadMoved (moved s.move) s (read s.here.source.setting.text t t.kind) (read s.there.source.setting.text (token_moved s.move t) t.kind)
+
+-- what is read of whole texts: the same value, moved, or the same refusal
+abbrev pub WholeMoved : {V : Type 0} → (V → V) → (ℕ → ℕ) → List Token → List ℕ → Result V Report → Result V Report → Type 0
+WholeMoved moved move tokens text (Ok v) r = r ≡ Ok (moved v)
+WholeMoved moved move tokens text (Err f) r = (g : Report) × (r ≡ Err g) × RefusalMoved move tokens text f g
+
+-- What is read of a text that shows the same elsewhere is the same, moved by the map that moves what is shown.
+abbrev pub TextsReadTheSame : {V : Type 0} → ((ℕ → ℕ) → V → V) → Reading V → Type 0
+TextsReadTheSame moved m = (s r : Source) (move : ℕ → ℕ) → IsUtf8 s.setting.text → IsRead s → IsRead r → ShowsMoved s.setting r.setting move
+    → WholeMoved (moved move) move s.tokens r.setting.text (whole m s) (whole m r)
+
+-- So it is of a layout.
+abbrev pub LayoutsReadTheSame : {V : Type 0} → ((ℕ → ℕ) → V → V) → Reading V → Type 0
+LayoutsReadTheSame moved m = (s r : Source) → IsUtf8 s.setting.text → IsRead s → s.ending ≡ None → IsRead r → r.setting ≡ over s.setting (layout s.setting.text s.tokens)
+    → (move : ℕ → ℕ) × ShowsMoved s.setting r.setting move × WholeMoved (moved move) move s.tokens r.setting.text (whole m s) (whole m r)

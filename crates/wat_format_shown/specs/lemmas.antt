@@ -1,0 +1,4 @@
+-- The laws of readings that move. These are proofs, which a reader may skip.
+pub mod Seeing
+pub mod Moving
+pub mod Types

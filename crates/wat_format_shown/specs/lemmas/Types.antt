@@ -1,0 +1,92 @@
+-- What types of the library read is moved: only where a value has spans does it change. These are proofs, which a reader may skip.
+use Rattle.std.proofs.Common.{◌≡◌, ℕ, List, Bool, true, false, arith, refl, Some, None}
+use Rattle.std.specs.Prelude.{◌^◌, ◌++◌, Option, codes, if◌then◌else◌}
+use Rattle.std.specs.Option.{option_map}
+use Rattle.std.specs.Str.{is_utf8}
+use Rattle.wat_lexer_parser.specs.parser.Sights.{second}
+use Rattle.wat_lexer_parser.specs.parser.Takers.{Reader, as_annotation, as_id, as_integer, as_keyword, as_owned_id, as_string}
+use Rattle.wat_lexer_parser.specs.readings.Readings.{Reading, give, group, mapped, refuse, refuse_behind, spanned, token, where_seen}
+use Rattle.wat_lexer_parser.specs.readings.Types.{Reference, Named, Number, Spelled, an_identifier, an_index, an_integer, annotation, bytes, identifier, integer, keyword, name_annotation, optional_name, owned_text, sees_annotation, spelling, text, u32, unsigned_below, utf8_or_refused, word}
+use Rattle.wat_words.specs.Words.{annotation_word, quoted}
+use Rattle.wat_format_shown.specs.Reads.{Moves, MovesReader}
+use Rattle.wat_format_shown.specs.lemmas.Moving.{moves_allocated, moves_and_then, moves_checked, moves_give, moves_group, moves_mapped, moves_optional, moves_refuse, moves_refuse_behind, moves_spanned, moves_token, moves_where_seen, spanned_moved}
+use Rattle.wat_format_shown.specs.lemmas.Seeing.{moves_annotation, moves_id, moves_integer, moves_keyword, moves_named, moves_owned_id, moves_second, moves_sight_of, moves_spelling, moves_string}
+
+-- a value without spans stays
+abbrev pub stays : {V : Type 0} → (ℕ → ℕ) → V → V
+stays move v = v
+
+-- an identifier's span is moved, and an index's
+abbrev pub spelled_moved : (ℕ → ℕ) → Spelled → Spelled
+spelled_moved move i = record i { span = move i.span }
+
+abbrev pub reference_moved : (ℕ → ℕ) → Reference → Reference
+reference_moved move (Number n span) = Number n (move span)
+reference_moved move (Named i) = Named (spelled_moved move i)
+
+-- the byte at which something stands
+abbrev pub span_moved : (ℕ → ℕ) → ℕ → ℕ
+span_moved move at = move at
+
+pub moves_identifier : Moves 1 spelled_moved identifier
+moves_identifier =
+    let m = token as_owned_id (codes "expected an identifier") in
+    moves_mapped (spanned_moved stays) spelled_moved (λ v. record { name = v.0.0; owned = v.0.1; generation = 0; span = v.1 }) 1 (spanned m) (λ move v. refl)
+    (moves_spanned stays 1 m (omega arith) (moves_token stays as_owned_id (codes "expected an identifier") moves_owned_id))
+
+same_option : {V : Type 0} (o : Option V) → o ≡ option_map (λ v. v) o
+same_option None = refl
+same_option (Some v) = refl
+
+-- a number of any type
+pub moves_number : {V : Type 0} (name : List ℕ) (fits : Bool × ℕ → Option V) → Moves 1 stays (integer name fits)
+moves_number name fits =
+    let m = token as_integer (codes "expected a " ++ name) in
+    moves_checked stays stays fits (codes "invalid " ++ name ++ codes " number: constant out of range") 1 m (λ move v. same_option (fits v)) (moves_token stays as_integer (codes "expected a " ++ name) moves_integer)
+
+pub moves_u32 : Moves 1 stays u32
+moves_u32 = moves_number (codes "u32") (unsigned_below (2 ^ 32))
+
+pub moves_index : Moves 1 reference_moved an_index
+moves_index =
+    let named : Reading Reference = mapped Named identifier in
+    let number : Reading Reference = mapped (λ v. Number v.0 v.1) (spanned u32) in
+    let other : Reading Reference = refuse (codes "unexpected token, expected an index or an identifier") in
+    let numbered : Moves 1 reference_moved number = moves_mapped (spanned_moved stays) reference_moved (λ v. Number v.0 v.1) 1 (spanned u32) (λ move v. refl) (moves_spanned stays 1 u32 (omega arith) moves_u32) in
+    moves_where_seen reference_moved 1 an_identifier named (where_seen an_integer number other) (moves_sight_of stays as_id moves_id) (moves_mapped spelled_moved reference_moved Named 1 identifier (λ move v. refl) moves_identifier)
+    (moves_where_seen reference_moved 1 an_integer number other (moves_sight_of stays as_integer moves_integer) numbered (moves_refuse reference_moved 1 (codes "unexpected token, expected an index or an identifier")))
+
+moves_word_at : (read : Reader (List ℕ)) (w expected : List ℕ) → MovesReader stays read → Moves 1 span_moved (word read w expected)
+moves_word_at read w expected r =
+    let m = token (spelling read w) expected in
+    moves_mapped (spanned_moved stays) span_moved (λ v. v.1) 1 (spanned m) (λ move v. refl) (moves_spanned stays 1 m (omega arith) (moves_token stays (spelling read w) expected (moves_spelling read w r)))
+
+pub moves_keyword_at : (at : Bool) (w : List ℕ) → Moves 1 span_moved (keyword at w)
+unfolding keyword
+moves_keyword_at at w = moves_word_at as_keyword w (codes "expected keyword " ++ quoted at w) moves_keyword
+
+pub moves_annotation_at : (at : Bool) (w : List ℕ) → Moves 1 span_moved (annotation at w)
+unfolding annotation
+moves_annotation_at at w = moves_word_at as_annotation w (codes "expected annotation " ++ quoted at w) moves_annotation
+
+pub moves_bytes : Moves 1 stays bytes
+moves_bytes = moves_token stays as_string (codes "expected a string") moves_string
+
+moves_utf8 : (v : List ℕ) → Moves 0 stays (utf8_or_refused v)
+moves_utf8 v = by_test (is_utf8 v)
+  where
+    by_test : (b : Bool) → Moves 0 stays (if b then give v else refuse_behind (codes "malformed UTF-8 encoding"))
+    by_test true = moves_give stays v (λ move. refl)
+    by_test false = moves_refuse_behind stays 0 (codes "malformed UTF-8 encoding")
+
+pub moves_text : Moves 1 stays text
+moves_text = moves_and_then stays stays 1 0 bytes utf8_or_refused moves_bytes (λ s ts v h. moves_utf8 v s ts h)
+
+pub moves_owned_text : Moves 1 stays owned_text
+moves_owned_text = moves_allocated stays 1 text moves_text
+
+pub moves_name_annotation : Moves 2 stays name_annotation
+moves_name_annotation = moves_and_then span_moved stays 1 1 (annotation true (annotation_word 1)) (λ at. text) (moves_annotation_at true (annotation_word 1)) (λ s ts v h. moves_text s ts h)
+
+pub moves_optional_name : Moves 0 (λ move. option_map (stays move)) optional_name
+moves_optional_name = moves_optional stays 4 (second (sees_annotation (annotation_word 1))) (group name_annotation) (moves_second (sees_annotation (annotation_word 1)) (moves_named (annotation_word 1))) (moves_group 2 stays name_annotation moves_name_annotation)
