@@ -2,6 +2,4 @@ mod Alike
 mod Places
 mod Same
 mod Shows
-mod Starts
 mod Tokens
-mod Wholes

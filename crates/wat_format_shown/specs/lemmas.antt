@@ -2,3 +2,5 @@
 pub mod Seeing
 pub mod Moving
 pub mod Types
+pub mod Starts
+pub mod Wholes

@@ -9,7 +9,7 @@ use Rattle.wat_lexer_parser.specs.lemmas.RuleLaws.{At}
 use Rattle.wat_lexer_parser.specs.names.RegisteredNames.{Names}
 use Rattle.wat_lexer_parser.specs.parser.Closures.{opened, closed, inside}
 use Rattle.wat_lexer_parser.specs.parser.Sights.{Sight}
-use Rattle.wat_lexer_parser.specs.parser.State.{State, report_here}
+use Rattle.wat_lexer_parser.specs.parser.State.{report_here}
 use Rattle.wat_lexer_parser.specs.parser.Takers.{Reader, may_take_at, taken_at}
 use Rattle.wat_lexer_parser.specs.places.Places.{current_span, empty_of}
 use Rattle.wat_lexer_parser.specs.places.Source.{Source}

@@ -1,15 +1,16 @@
 -- What types of the library read is moved: only where a value has spans does it change. These are proofs, which a reader may skip.
-use Rattle.std.proofs.Common.{◌≡◌, ℕ, List, Bool, true, false, arith, refl, Some, None}
-use Rattle.std.specs.Prelude.{◌^◌, ◌++◌, Option, codes, if◌then◌else◌}
+use Rattle.std.proofs.Common.{◌≡◌, ℕ, List, Bool, true, false, arith, map-id, refl, sym, Some, None}
+use Rattle.std.specs.List.{flat_map}
+use Rattle.std.specs.Prelude.{◌^◌, ◌++◌, Option, codes, if◌then◌else◌, map}
 use Rattle.std.specs.Option.{option_map}
 use Rattle.std.specs.Str.{is_utf8}
-use Rattle.wat_lexer_parser.specs.parser.Sights.{second}
+use Rattle.wat_lexer_parser.specs.parser.Sights.{Sight, second}
 use Rattle.wat_lexer_parser.specs.parser.Takers.{Reader, as_annotation, as_id, as_integer, as_keyword, as_owned_id, as_string}
-use Rattle.wat_lexer_parser.specs.readings.Readings.{Reading, give, group, mapped, refuse, refuse_behind, spanned, token, where_seen}
+use Rattle.wat_lexer_parser.specs.readings.Readings.{Reading, give, group, joined_while, mapped, refuse, refuse_behind, spanned, token, where_seen, while_seen}
 use Rattle.wat_lexer_parser.specs.readings.Types.{Reference, Named, Number, Spelled, an_identifier, an_index, an_integer, annotation, bytes, identifier, integer, keyword, name_annotation, optional_name, owned_text, sees_annotation, spelling, text, u32, unsigned_below, utf8_or_refused, word}
 use Rattle.wat_words.specs.Words.{annotation_word, quoted}
-use Rattle.wat_format_shown.specs.Reads.{Moves, MovesReader}
-use Rattle.wat_format_shown.specs.lemmas.Moving.{moves_allocated, moves_and_then, moves_checked, moves_give, moves_group, moves_mapped, moves_optional, moves_refuse, moves_refuse_behind, moves_spanned, moves_token, moves_where_seen, spanned_moved}
+use Rattle.wat_format_shown.specs.Reads.{Moves, MovesReader, MovesSight}
+use Rattle.wat_format_shown.specs.lemmas.Moving.{moves_allocated, moves_and_then, moves_as, moves_checked, moves_give, moves_group, moves_mapped, moves_optional, moves_refuse, moves_refuse_behind, moves_spanned, moves_token, moves_where_seen, moves_while, spanned_moved}
 use Rattle.wat_format_shown.specs.lemmas.Seeing.{moves_annotation, moves_id, moves_integer, moves_keyword, moves_named, moves_owned_id, moves_second, moves_sight_of, moves_spelling, moves_string}
 
 -- a value without spans stays
@@ -88,5 +89,18 @@ moves_owned_text = moves_allocated stays 1 text moves_text
 pub moves_name_annotation : Moves 2 stays name_annotation
 moves_name_annotation = moves_and_then span_moved stays 1 1 (annotation true (annotation_word 1)) (λ at. text) (moves_annotation_at true (annotation_word 1)) (λ s ts v h. moves_text s ts h)
 
-pub moves_optional_name : Moves 0 (λ move. option_map (stays move)) optional_name
-moves_optional_name = moves_optional stays 4 (second (sees_annotation (annotation_word 1))) (group name_annotation) (moves_second (sees_annotation (annotation_word 1)) (moves_named (annotation_word 1))) (moves_group 2 stays name_annotation moves_name_annotation)
+pub moves_optional_name : Moves 0 stays optional_name
+moves_optional_name =
+    let named = second (sees_annotation (annotation_word 1)) in
+    moves_as (λ move. option_map (stays move)) stays 0 optional_name (λ move o. sym (same_option o))
+    (moves_optional stays 4 named (group name_annotation) (moves_second (sees_annotation (annotation_word 1)) (moves_named (annotation_word 1))) (moves_group 2 stays name_annotation moves_name_annotation))
+
+-- Lists of values without spans.
+
+pub moves_all : {V : Type 0} (sight : Sight) (m : Reading V) → MovesSight sight → Moves 1 stays m → Moves 0 stays (while_seen sight m)
+moves_all {V} sight m look one =
+    let listed : (ℕ → ℕ) → List V → List V = λ move. map (stays move) in
+    moves_as listed stays 0 (while_seen sight m) (λ move vs. map-id vs) (moves_while stays sight m look one)
+
+pub moves_joined : {V : Type 0} (sight : Sight) (m : Reading (List V)) → MovesSight sight → Moves 1 stays m → Moves 0 stays (joined_while sight m)
+moves_joined sight m look one = moves_mapped stays stays (λ vss. flat_map (λ vs. vs) vss) 0 (while_seen sight m) (λ move vss. refl) (moves_all sight m look one)

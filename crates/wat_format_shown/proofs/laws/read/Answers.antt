@@ -1,4 +1,4 @@
-use Rattle.wat_format_shown.proofs.Wholes.{layouts_read_the_same, texts_read_the_same}
+use Rattle.wat_format_shown.specs.lemmas.Wholes.{layouts_read_the_same, texts_read_the_same}
 use Rattle.wat_format_shown.proofs.laws.read.Goals as goal
 
 pub returns-clause-texts : goal.returns-clause-texts

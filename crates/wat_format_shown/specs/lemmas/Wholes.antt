@@ -1,6 +1,6 @@
--- What is read of a whole text, and of one that shows the same elsewhere.
+-- What is read of a whole text, and of one that shows the same elsewhere. These are proofs, which a reader may skip.
 use Rattle.std.proofs.Common.{◌≡◌, ℕ, List, refl, sym, ap, subst, Some, None, Ok, Err}
-use Rattle.std.specs.Prelude.{Option, Result, codes}
+use Rattle.std.specs.Prelude.{Result, codes}
 use Rattle.wat_lex.specs.errors.Errors.{Report}
 use Rattle.wat_lex.specs.tokens.EverySetting.{TilingsAreOne}
 use Rattle.wat_lex.specs.tokens.Tiling.{MaximalTiling}
@@ -14,8 +14,8 @@ use Rattle.wat_format_shown.specs.Moved.{LayoutsShowTheSame, ShowsMoved}
 use Rattle.wat_format_shown.specs.Reads.{AnswerMoved, LayoutsReadTheSame, Moves, TextsReadTheSame, WholeMoved}
 use Rattle.wat_format_shown.specs.Sides.{Sides, by_map, passed}
 use Rattle.wat_format_shown.specs.lemmas.Seeing.{SeenMoved, seen_moves}
-use Rattle.wat_format_shown.proofs.Starts.{sides, start_alike}
-use Rattle.wat_format_shown.proofs.Starts as starts
+use Rattle.wat_format_shown.specs.lemmas.Starts.{sides, start_alike}
+use Rattle.wat_format_shown.specs.lemmas.Starts as starts
 
 module _ {V : Type 0} (moved : V → V) (n : ℕ) (s r : Source) (move : ℕ → ℕ) (d e : End) (ts : List Token) where
   abbrev both : Sides

@@ -1,4 +1,4 @@
--- From where a text is read: the same tokens are shown from the start of the one and from the start of the other.
+-- From where a text is read: the same tokens are shown from the start of the one and from the start of the other. These are proofs, which a reader may skip.
 use Rattle.std.proofs.Common.{◌≡◌, ◌∙◌, ◌+◌, ◌-◌, ℕ, List, [], ◌∷◌, refl, sym, ap, subst, length, drop, Some, None, Ok, Err}
 use Rattle.std.proofs.lemmas.List.Elements.{recursion_from_All}
 use Rattle.std.specs.Prelude.{Option, map}
@@ -111,11 +111,11 @@ module _ (one_tiling : TilingsAreOne) (some : SomethingIsAllShown) (one : OneThi
   ends : (h : Option Fault) → f ≡ h → EndMoved sides (option_map (report_of s.setting.text) h) (option_map (report_of r.setting.text) (option_map (fault_moved move) h))
   ends None e = (refl, subst (λ h. (end_from r.setting.text 0 vs (option_map (fault_moved move) h)).span ≡ move (end_from s.setting.text 0 us h).span) (sym e) (sym m.end))
   ends (Some h) e = (
-      report_of r.setting.text (fault_moved move h),
-      refl,
-      refusal_of move s.tokens s.setting.text r.setting.text h,
-      subst (λ h. Stands move s.tokens (end_from s.setting.text 0 us h).span (end_from r.setting.text 0 vs (option_map (fault_moved move) h)).span) (sym e) (last_stands move s no_names (end_from s.setting.text 0 us f) 0 us 0 0 shown_here (at_start refl refl)),
-    )
+    report_of r.setting.text (fault_moved move h),
+    refl,
+    refusal_of move s.tokens s.setting.text r.setting.text h,
+    subst (λ h. Stands move s.tokens (end_from s.setting.text 0 us h).span (end_from r.setting.text 0 vs (option_map (fault_moved move) h)).span) (sym e) (last_stands move s no_names (end_from s.setting.text 0 us f) 0 us 0 0 shown_here (at_start refl refl)),
+  )
 
   pub start_alike : Alike sides us
   start_alike = record {

@@ -1,0 +1,4 @@
+mod FunctionTypes
+mod Imports
+mod Layouts
+mod Sums

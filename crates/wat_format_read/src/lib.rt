@@ -1,0 +1,4 @@
+//! What formats read of a layout is what they read of the text.
+#![tactic(auto)]
+
+pub mod laws;
