@@ -1,5 +1,5 @@
 -- What the parser's calls read of a whole text is what the grammar spells with it.
-use Rattle.std.proofs.Common.{◌≡◌, ℕ, false, List, [], sym, subst, None, Ok}
+use Rattle.std.proofs.Common.{◌≡◌, ℕ, List, [], sym, subst, None, Ok}
 use Rattle.std.specs.Str.{IsUtf8}
 use Rattle.wat_lex.specs.tokens.EverySetting.{TilingsAreOne}
 use Rattle.wat_lexer_parser.specs.lemmas.SpellingLaws.{reads_as_spelled, spelled_once}
@@ -31,6 +31,4 @@ pub spelling_reads : ReadsAsSpelled meanings.module_types formats.module_types.r
 spelling_reads law s fs r p h = law.spelled s fs [] None r (subst (λ x. SpellsRule formats.module_types.rule x fs) (sym p) (of_grammar s.setting.text fs h))
 
 pub spelling_is_one : ReadsAsSpelled meanings.module_types formats.module_types.rule → (text : List ℕ) (fs gs : List Signature) → Spells text fs → Spells text gs → fs ≡ gs
-spelling_is_one law text fs gs h k =
-    let s : Source = record { setting = plain text; track = false; tokens = h.shown.tokens; ending = h.shown.ending } in
-    spelled_once meanings.module_types formats.module_types.rule law s fs gs h.shown.tiling (of_grammar text fs h) (of_grammar text gs k)
+spelling_is_one law text fs gs h k = spelled_once law (plain text) fs gs (of_grammar text fs h) (of_grammar text gs k)

@@ -1,13 +1,18 @@
 -- What is read of a whole text is what a rule spells of it. These are proofs, which a reader may skip.
-use Rattle.std.proofs.Common.{◌≡◌, ◌∙◌, ◌+◌, ◌-◌, ℕ, List, [], ◌∷◌, refl, sym, ap, subst, length, drop, Some, None, Ok, Err}
-use Rattle.std.specs.Prelude.{Option, Result}
+use Rattle.std.proofs.Common.{◌≡◌, ◌∙◌, ◌+◌, ◌-◌, ℕ, List, [], ◌∷◌, Bool, true, false, refl, sym, ap, subst, length, drop, Some, None, Ok, Err}
+use Rattle.std.proofs.lemmas.Str.{IsCharBoundary-start}
+use Rattle.std.specs.Prelude.{IfOk, Option, Result}
 use Rattle.std.specs.Option.{option_map}
-use Rattle.wat_lex.specs.tokens.EverySetting.{TilingsAreOne}
+use Rattle.std.specs.Str.{IsUtf8}
+use Rattle.wat_lex.specs.errors.Errors.{Report}
+use Rattle.wat_lex.specs.tokens.EverySetting.{EachPlaceIsTiled, TilingsAreOne}
+use Rattle.wat_lex.specs.tokens.Setting.{Setting}
 use Rattle.wat_lex.specs.declared.lexer.kinds.Token.{Token}
 use Rattle.wat_lexer_parser.specs.declared.parser.fault.Fault.{Fault}
+use Rattle.wat_lexer_parser.specs.lemmas.AnswerLaws.{answers_true}
 use Rattle.wat_lexer_parser.specs.lemmas.Behind.{Behind, behind_in, behind_place, shown_is_taken}
 use Rattle.wat_lexer_parser.specs.names.RegisteredNames.{Names, no_names}
-use Rattle.wat_lexer_parser.specs.parser.State.{report_of, seen, told}
+use Rattle.wat_lexer_parser.specs.parser.State.{Answers, report_of, seen, told}
 use Rattle.wat_lexer_parser.specs.places.Places.{current_span, offset_at}
 use Rattle.wat_lexer_parser.specs.places.Places as places
 use Rattle.wat_lexer_parser.specs.places.Source.{Source, IsRead}
@@ -16,7 +21,7 @@ use Rattle.wat_lexer_parser.specs.shown.AllShown as all_shown
 use Rattle.wat_lexer_parser.specs.shown.Shown.{Shown, Finding}
 use Rattle.wat_lexer_parser.specs.shown.Showing.{Look, Showing, placed, shown, shown_in}
 use Rattle.wat_lexer_parser.specs.shown.ShownLaws.{SomethingIsAllShown, OneThingShown}
-use Rattle.wat_lexer_parser.specs.readings.Readings.{Reading}
+use Rattle.wat_lexer_parser.specs.readings.Readings.{Reading, whole}
 use Rattle.wat_lexer_parser.specs.lemmas.RuleLaws.{At, Follows, left, spelled_is_whole, whole_is_spelled}
 use Rattle.wat_lexer_parser.specs.rules.Rules.{Rule}
 use Rattle.wat_lexer_parser.specs.rules.Spelling.{Spells, ReadsAsSpelled, behind_value, end_from, ground_of}
@@ -81,5 +86,23 @@ reads_as_spelled one_tiling some one m R law = record {
 }
 
 -- a text spells one value
-pub spelled_once : {V : Type 0} (m : Reading V) (R : Rule V) → ReadsAsSpelled m R → (s : Source) (v w : V) → IsRead s → Spells R s.setting v → Spells R s.setting w → v ≡ w
-spelled_once m R h s v w r first other = let k : ◌≡◌ {A = Result _ _} (Ok v) (Ok w) = sym (h.spelled s v [] None r first) ∙ h.spelled s w [] None r other in cc
+pub spelled_once : {V : Type 0} {m : Reading V} {R : Rule V} → ReadsAsSpelled m R → (x : Setting) (v w : V) → Spells R x v → Spells R x w → v ≡ w
+spelled_once law x v w h k =
+    let s : Source = record { setting = x; track = false; tokens = h.shown.tokens; ending = h.shown.ending } in
+    let is : ◌≡◌ {A = Result _ _} (Ok v) (Ok w) = sym (law.spelled s v [] None h.shown.tiling h) ∙ law.spelled s w [] None h.shown.tiling k in
+    cc
+
+-- a text has raw tokens
+pub some_source : EachPlaceIsTiled → (x : Setting) (track : Bool) → IsUtf8 x.text → (s : Source) × IsRead s × (s.setting ≡ x) × (s.track ≡ track)
+some_source some x track u =
+    let tiling = some x 0 u (IsCharBoundary-start x.text u) in (record { setting = x; track = track; tokens = tiling.0; ending = tiling.1 }, tiling.2, refl, refl)
+
+-- A call that reads a whole text answers a value that the text spells; and where the text spells one, the answer is this.
+module _ {V T : Type 0} {m : Reading V} {R : Rule V} (law : ReadsAsSpelled m R) (s : Source) (x : Setting) (takes : Bool) (f : T → V) where
+  pub answer_is_spelled : (r : Result T (Option Report)) → IsRead s → s.setting ≡ x → IsUtf8 x.text → Answers takes f (whole m s) r → IfOk r (λ v. Spells R x (f v))
+  answer_is_spelled (Ok v) read e u h = subst (λ y. Spells R y (f v)) e (law.read s (f v) (subst (λ y. IsUtf8 y.text) (sym e) u) read h)
+  answer_is_spelled (Err report) read e u h = tt
+
+  pub spelled_is_answer : (r : Result T (Option Report)) → IsRead s → s.setting ≡ x → Answers takes f (whole m s) r → (v : V) → Spells R x v → Answers true f (Ok v) r
+  spelled_is_answer r read e h v spells =
+      subst (λ a. Answers true f a r) (law.spelled s v [] None read (subst (λ y. Spells R y v) (sym e) spells)) (answers_true takes f (whole m s) r h)

@@ -1,2 +1,0 @@
-mod Advancing
-mod Reading
