@@ -116,8 +116,10 @@ TURNS = [
         (PARSER + "token/references.rt", READ, 1, ERROR, "part-id"),
         (PARSER + "token/references.rt", PEEK, 1, ERROR, "peek-fault-id"),
         (PARSER + "token/words.rt", READ, 1, ERROR, "part-keyword"),
+        (PARSER + "token/words.rt", READ, 2, ERROR, "part-reserved"),
         (PARSER + "token/words.rt", READ, 3, ERROR, "part-annotation"),
         (PARSER + "token/words.rt", PEEK, 1, ERROR, "peek-keyword-fault"),
+        (PARSER + "token/words.rt", PEEK, 2, ERROR, "peek-fault-reserved"),
         (PARSER + "token/words.rt", PEEK, 3, ERROR, "peek-annotation"),
     ],
     [
@@ -130,8 +132,15 @@ TURNS = [
     ],
     [
         (PARSER + "token/containers.rt", READ, 1, ERROR, "part-optional"),
-        (PARSER + "token/containers.rt", READ, 2, ERROR, "part-box"),
+        (PARSER + "token/containers.rt", READ, 2, ERROR, "part-parens"),
+        (PARSER + "token/containers.rt", READ, 3, ERROR, "part-box"),
         (PARSER + "token/references.rt", READ, 3, ERROR, "part-item"),
+    ],
+    [
+        (PARSER + "parser/lists.rt", "    pub fn all_of<", 1, ERROR, "list-of"),
+        (PARSER + "parser/lists.rt", "    pub fn all_behind<", 1, ERROR, "list-behind"),
+        (PARSER + "parser/lists.rt", "    pub fn all_while<", 1, ERROR, "list-while"),
+        (PARSER + "token/references.rt", CLONE, 1, ALLOC, "item-clone"),
     ],
     [
         (LEX + "lexer/read.rt", "    pub fn name<", 1, ALLOC, "read-name"),

@@ -1,13 +1,14 @@
 //! Peeks at types, at what they see and at a fault, and integers with their places.
 use crate::buffers::buffer_of;
 use crate::types::{As, peeked};
+use crate::words::Comma;
 use std::borrow::{CowSlice, CowStr};
 use std::{fmt, io};
 use wat_lex::error::Error;
 use wat_lex_requests::run::{Ending, Expected, Run};
 use wat_lexer_parser::kw;
 use wat_lexer_parser::parser::{Parse, ParseBuffer, Peek};
-use wat_lexer_parser::token::{Id, Index, ItemRef, LParen, RParen, Span};
+use wat_lexer_parser::token::{Id, Index, ItemRef, LParen, RParen, ReservedSymbol, Span};
 
 /// The row of a type that stands at the text's start.
 fn stands<T: Peek>(run: &mut Run<'_>, name: &str, text: &str) -> io::Result<()> {
@@ -31,7 +32,8 @@ pub fn peeks(run: &mut Run<'_>) -> io::Result<()> {
     stands::<CowStr>(run, "free-peek-text", "\"\"")?;
     stands::<Index>(run, "free-peek-index", "0")?;
     stands::<ItemRef<kw::func>>(run, "free-peek-item", "(func 0)")?;
-    stands::<RParen>(run, "free-peek-rparen", ")")
+    stands::<RParen>(run, "free-peek-rparen", ")")?;
+    stands::<ReservedSymbol<Comma>>(run, "free-peek-reserved", ",")
 }
 
 /// The row of a type where a fault is shown.
@@ -58,7 +60,8 @@ pub fn faults(run: &mut Run<'_>) -> io::Result<()> {
     is_faulty::<Index>(run, "peek-fault-index")?;
     is_faulty::<ItemRef<kw::func>>(run, "peek-fault-item")?;
     is_faulty::<LParen>(run, "peek-fault-lparen")?;
-    is_faulty::<RParen>(run, "peek-fault-rparen")
+    is_faulty::<RParen>(run, "peek-fault-rparen")?;
+    is_faulty::<ReservedSymbol<Comma>>(run, "peek-fault-reserved")
 }
 
 /// Reads an integer and its place.

@@ -246,6 +246,12 @@ fn parts(run: &mut Run<'_>) -> io::Result<()> {
         ("free-part-i32", As::I32, "-1_0", "-10"),
         ("free-part-i64", As::I64, "-0x1", "-1"),
         ("free-part-optional", As::Optional, "0x1_2", "Some(18)"),
+        (
+            "free-part-parens",
+            As::Parens,
+            "(12)",
+            "Parens { inner: 12 }",
+        ),
         ("free-part-bytes", As::Bytes, "\"ab\"", "[97, 98]"),
         ("free-part-text", As::Text, "\"ab\"", "\"ab\""),
         ("free-part-id", As::Id, "$a", "\"a\""),
@@ -280,6 +286,12 @@ fn words_of_kinds(run: &mut Run<'_>) -> io::Result<()> {
             As::Keyword,
             "func",
             "Keyword { span: Span { offset: 0 }, of: PhantomData<_> }",
+        ),
+        (
+            "free-part-reserved",
+            As::Reserved,
+            ",",
+            "ReservedSymbol { span: Span { offset: 0 }, of: PhantomData<_> }",
         ),
         (
             "free-part-annotation",

@@ -10,9 +10,11 @@ mod cursors;
 mod each_type;
 mod free;
 mod groups;
+mod lists;
 mod modules;
 mod names;
 mod types;
+mod words;
 
 use std::io::{self, Read};
 use std::str;
@@ -33,7 +35,9 @@ fn parser_rows(run: &mut Run<'_>) -> io::Result<()> {
     groups::groups_of(run)?;
     groups::errors(run)?;
     groups::lookaheads(run)?;
-    groups::replays(run)
+    groups::replays(run)?;
+    lists::lists(run)?;
+    lists::refused_lists(run)
 }
 
 /// Runs the rows of types that are read.
@@ -49,7 +53,8 @@ fn type_rows(run: &mut Run<'_>) -> io::Result<()> {
     types::name_annotations(run)?;
     each_type::peeks(run)?;
     each_type::faults(run)?;
-    each_type::spans(run)
+    each_type::spans(run)?;
+    words::words(run)
 }
 
 fn main(rt: HostRuntime) -> io::Result<()> {

@@ -1,11 +1,14 @@
 //! Types that are read and peeked at, in whole texts and one behind another.
 use crate::buffers::buffer_of;
+use crate::words::Comma;
 use std::borrow::{CowSlice, CowStr};
 use std::{fmt, io};
 use wat_lex::error::Error;
 use wat_lex_requests::run::{Ending, Expected, Run};
 use wat_lexer_parser::parser::{Parse, ParseBuffer, Parser, Peek, parse};
-use wat_lexer_parser::token::{Id, Index, ItemRef, LParen, NameAnnotation, Span};
+use wat_lexer_parser::token::{
+    Id, Index, ItemRef, LParen, NameAnnotation, Parens, ReservedSymbol, Span,
+};
 use wat_lexer_parser::{annotation, kw};
 
 /// A type.
@@ -28,7 +31,9 @@ pub enum As {
     Item,
     Optional,
     Boxed,
+    Parens,
     Keyword,
+    Reserved,
     Annotation,
     Name,
 }
@@ -210,7 +215,9 @@ pub fn part_as(
         As::Item => part::<ItemRef<kw::func>>(run, &mut parser, expected, place),
         As::Optional => part::<Option<u32>>(run, &mut parser, expected, place),
         As::Boxed => part::<Box<u32>>(run, &mut parser, expected, place),
+        As::Parens => part::<Parens<u32>>(run, &mut parser, expected, place),
         As::Keyword => part::<kw::func>(run, &mut parser, expected, place),
+        As::Reserved => part::<ReservedSymbol<Comma>>(run, &mut parser, expected, place),
         As::Annotation => part::<annotation::name>(run, &mut parser, expected, place),
         As::Name => part::<NameAnnotation>(run, &mut parser, expected, place),
         _ => integer_as(run, kind, &mut parser, expected, place),
@@ -329,11 +336,20 @@ pub fn parts_of_words(run: &mut Run<'_>) -> io::Result<()> {
             0,
         ),
         ("part-box", As::Boxed, "x", "expected a u32", 0, 0),
+        ("part-parens", As::Parens, "(x)", "expected a u32", 1, 0),
         (
             "part-keyword",
             As::Keyword,
             "foo",
             "expected keyword `func`",
+            0,
+            0,
+        ),
+        (
+            "part-reserved",
+            As::Reserved,
+            "x",
+            "expected reserved symbol `,`",
             0,
             0,
         ),

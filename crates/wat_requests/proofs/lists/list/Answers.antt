@@ -1,0 +1,14 @@
+use Rattle.std.proofs.Common.{refl}
+use Rattle.wat_lexer_parser.specs.lemmas.ReadingLaws.{advances_group}
+use Rattle.wat_lexer_parser.specs.lemmas.TypeLaws.{advances_u32}
+use Rattle.wat_lexer_parser.specs.readings.Types.{u32}
+use Rattle.wat_requests.proofs.lists.list.Goals as goal
+
+pub all_of-requires : goal.all_of-requires
+all_of-requires c = λ k. ((refl, tt), advances_u32)
+
+pub all_while-requires : goal.all_while-requires
+all_while-requires c = λ k. ((refl, tt), advances_u32)
+
+pub all_behind-requires : goal.all_behind-requires
+all_behind-requires c = λ k. ((refl, tt), advances_group u32)
