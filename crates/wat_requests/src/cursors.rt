@@ -46,6 +46,18 @@ fn is_seen(cursor: Cursor<'_, '_>, look: Look) -> Result<bool, Error> {
     }
 }
 
+/// Whether a taker of a value finds what it looks for.
+fn is_value_found(cursor: Cursor<'_, '_>, look: Look) -> Result<bool, Error> {
+    match look {
+        Look::Id => Ok(cursor.id()?.is_some()),
+        Look::Annotation => Ok(cursor.annotation()?.is_some()),
+        Look::String => Ok(cursor.string()?.is_some()),
+        Look::Integer => Ok(cursor.integer()?.is_some()),
+        Look::Float => Ok(cursor.float()?.is_some()),
+        _ => Ok(false),
+    }
+}
+
 /// Whether a taker finds what it looks for.
 fn is_found(cursor: Cursor<'_, '_>, look: Look) -> Result<bool, Error> {
     match look {
@@ -57,12 +69,7 @@ fn is_found(cursor: Cursor<'_, '_>, look: Look) -> Result<bool, Error> {
         Look::Reserved => Ok(cursor.reserved()?.is_some()),
         Look::Comment => Ok(cursor.comment()?.is_some()),
         Look::CurSpan => Ok(cursor.cur_span().offset() == 0),
-        Look::Id => Ok(cursor.id()?.is_some()),
-        Look::Annotation => Ok(cursor.annotation()?.is_some()),
-        Look::String => Ok(cursor.string()?.is_some()),
-        Look::Integer => Ok(cursor.integer()?.is_some()),
-        Look::Float => Ok(cursor.float()?.is_some()),
-        _ => Ok(false),
+        _ => is_value_found(cursor, look),
     }
 }
 

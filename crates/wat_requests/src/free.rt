@@ -380,23 +380,38 @@ type Values<'a> = (
 );
 
 fn float<'a>(parser: &mut Parser<'a>) -> Result<Float<'a>, Error> {
-    parser.step(|cursor| cursor.float()?.ok_or_else(|| cursor.error("no float")))
+    parser.step(|cursor| match cursor.float()? {
+        Some(found) => Ok(found),
+        None => Err(cursor.error("no float")),
+    })
 }
 
 fn integer<'a>(parser: &mut Parser<'a>) -> Result<Integer<'a>, Error> {
-    parser.step(|cursor| cursor.integer()?.ok_or_else(|| cursor.error("no integer")))
+    parser.step(|cursor| match cursor.integer()? {
+        Some(found) => Ok(found),
+        None => Err(cursor.error("no integer")),
+    })
 }
 
 fn identifier<'a>(parser: &mut Parser<'a>) -> Result<CowStr<'a>, Error> {
-    parser.step(|cursor| cursor.id()?.ok_or_else(|| cursor.error("no identifier")))
+    parser.step(|cursor| match cursor.id()? {
+        Some(found) => Ok(found),
+        None => Err(cursor.error("no identifier")),
+    })
 }
 
 fn string<'a>(parser: &mut Parser<'a>) -> Result<CowSlice<'a, u8>, Error> {
-    parser.step(|cursor| cursor.string()?.ok_or_else(|| cursor.error("no string")))
+    parser.step(|cursor| match cursor.string()? {
+        Some(found) => Ok(found),
+        None => Err(cursor.error("no string")),
+    })
 }
 
 fn annotation<'a>(parser: &mut Parser<'a>) -> Result<CowStr<'a>, Error> {
-    parser.step(|cursor| cursor.annotation()?.ok_or_else(|| cursor.error("no name")))
+    parser.step(|cursor| match cursor.annotation()? {
+        Some(found) => Ok(found),
+        None => Err(cursor.error("no name")),
+    })
 }
 
 fn values<'a>(parser: &mut Parser<'a>) -> Result<Values<'a>, Error> {
