@@ -2,8 +2,11 @@
 ghost use Rattle.std.specs.Prelude.{◌≡◌};
 ghost use Rattle.wat_lexer_parser.specs.readings.Reads.{IsKept};
 
+use crate::types::printed;
 use std::alloc::{AllocError, Global};
+use std::borrow::{CowSlice, CowStr};
 use wat_lex::error::Error;
+use wat_lex::lexer::{Float, Integer};
 use wat_lex::token::Span;
 use wat_lex_answers::row::Row;
 use wat_lex_answers::tokens::short;
@@ -19,65 +22,60 @@ fn keyword<'a>(parser: &mut Parser<'a>) -> Result<&'a str, Error>
     })
 }
 
-/// Takes a float.
-fn float(alloc: Global, parser: &mut Parser<'_>) -> Result<String, Error> {
-    let float = parser.step(|cursor| match cursor.float()? {
+fn float<'a>(parser: &mut Parser<'a>) -> Result<Float<'a>, Error> {
+    parser.step(|cursor| match cursor.float()? {
         Some(found) => Ok(found),
         None => Err(cursor.error("no float")),
-    })?;
-    Ok(format!(in alloc; "{float:?}")?)
+    })
 }
 
-/// Takes an integer.
-fn integer(alloc: Global, parser: &mut Parser<'_>) -> Result<String, Error> {
-    let integer = parser.step(|cursor| match cursor.integer()? {
+fn integer<'a>(parser: &mut Parser<'a>) -> Result<Integer<'a>, Error> {
+    parser.step(|cursor| match cursor.integer()? {
         Some(found) => Ok(found),
         None => Err(cursor.error("no integer")),
-    })?;
-    let (digits, base) = integer.val();
-    Ok(format!(in alloc; "{digits} {base}")?)
+    })
 }
 
-/// Takes an identifier.
-fn identifier(alloc: Global, parser: &mut Parser<'_>) -> Result<String, Error> {
-    let id = parser.step(|cursor| match cursor.id()? {
+fn identifier<'a>(parser: &mut Parser<'a>) -> Result<CowStr<'a>, Error> {
+    parser.step(|cursor| match cursor.id()? {
         Some(found) => Ok(found),
         None => Err(cursor.error("no identifier")),
-    })?;
-    Ok(format!(in alloc; "{id}")?)
+    })
+}
+
+/// The digits of an integer, and their base.
+fn digits(alloc: Global, integer: &Integer<'_>) -> Result<String, AllocError> {
+    let (digits, base) = integer.val();
+    format!(in alloc; "{digits} {base}")
 }
 
 /// What the takers of numbers and of an identifier take, one behind the other.
 fn numbers(alloc: Global, parser: &mut Parser<'_>) -> Result<String, Error> {
-    let float = float(alloc, parser)?;
-    let integer = integer(alloc, parser)?;
-    let id = identifier(alloc, parser)?;
+    let float = printed(alloc, &float(parser)?)?;
+    let integer = digits(alloc, &integer(parser)?)?;
+    let id = identifier(parser)?;
     Ok(format!(in alloc; "{float}, {integer}, {id}")?)
 }
 
-/// Takes a string.
-fn string(alloc: Global, parser: &mut Parser<'_>) -> Result<String, Error> {
-    let string = parser.step(|cursor| match cursor.string()? {
+fn string<'a>(parser: &mut Parser<'a>) -> Result<CowSlice<'a, u8>, Error> {
+    parser.step(|cursor| match cursor.string()? {
         Some(found) => Ok(found),
         None => Err(cursor.error("no string")),
-    })?;
-    Ok(format!(in alloc; "{:?}", string.as_slice())?)
+    })
 }
 
-/// Takes an annotation's name.
-fn name(alloc: Global, parser: &mut Parser<'_>) -> Result<String, Error> {
-    let name = parser.step(|cursor| match cursor.annotation()? {
+fn name<'a>(parser: &mut Parser<'a>) -> Result<CowStr<'a>, Error> {
+    parser.step(|cursor| match cursor.annotation()? {
         Some(found) => Ok(found),
         None => Err(cursor.error("no name")),
-    })?;
-    Ok(format!(in alloc; "{name}")?)
+    })
 }
 
 /// What each taker of a value takes.
 fn values(alloc: Global, parser: &mut Parser<'_>) -> Result<String, Error> {
     let numbers = numbers(alloc, parser)?;
-    let string = string(alloc, parser)?;
-    let name = name(alloc, parser)?;
+    let string = printed(alloc, &string(parser)?.as_slice())?;
+    let name = name(parser)?;
     Ok(format!(in alloc; "{numbers}, {string}, {name}")?)
 }
 
@@ -238,11 +236,18 @@ pub fn answer(alloc: Global, row: &Row<'_>) -> Result<Option<String>, Error> {
 
 /// An answer, and where the parser stands behind it.
 fn left(alloc: Global, answer: &str, parser: &Parser<'_>) -> Result<String, AllocError> {
-    let (place, depth) = (parser.prev_span().offset(), parser.parens_depth());
-    let name = if parser.is_registered("a") {
-        ", a registered"
-    } else {
-        ""
-    };
+    let place = parser.prev_span().offset();
+    let depth = parser.parens_depth();
+    placed(alloc, answer, place, depth, parser.is_registered("a"))
+}
+
+fn placed(
+    alloc: Global,
+    answer: &str,
+    place: usize,
+    depth: usize,
+    is_registered: bool,
+) -> Result<String, AllocError> {
+    let name = if is_registered { ", a registered" } else { "" };
     format!(in alloc; "{answer}; place {place}, depth {depth}{name}")
 }

@@ -1,6 +1,8 @@
 //! What the calls of a cursor answer.
+use crate::types::printed;
 use std::alloc::{AllocError, Global};
 use wat_lex::error::Error;
+use wat_lex::lexer::Integer;
 use wat_lex_answers::tokens::write_comma;
 use wat_lexer_parser::parser::Cursor;
 
@@ -69,17 +71,22 @@ fn write_words(taken: &mut String, cursor: Cursor<'_, '_>) -> Result<(), Error> 
 /// Writes what the taker of strings answers.
 fn write_string(alloc: Global, taken: &mut String, cursor: Cursor<'_, '_>) -> Result<(), Error> {
     if let Some((value, next)) = cursor.string()? {
-        let value = format!(in alloc; "{:?}", value.as_slice())?;
+        let value = printed(alloc, &value.as_slice())?;
         write_taken(taken, "string", value.as_str(), next)?;
     }
     Ok(())
 }
 
+/// The digits of an integer, their base and the sign.
+fn shown(alloc: Global, integer: &Integer<'_>) -> Result<String, AllocError> {
+    let (digits, base) = integer.val();
+    format!(in alloc; "{digits} {base} {:?}", integer.sign())
+}
+
 /// Writes what the taker of integers answers.
 fn write_integer(alloc: Global, taken: &mut String, cursor: Cursor<'_, '_>) -> Result<(), Error> {
     if let Some((integer, next)) = cursor.integer()? {
-        let (digits, base) = integer.val();
-        let value = format!(in alloc; "{digits} {base} {:?}", integer.sign())?;
+        let value = shown(alloc, &integer)?;
         write_taken(taken, "integer", value.as_str(), next)?;
     }
     Ok(())
@@ -88,7 +95,7 @@ fn write_integer(alloc: Global, taken: &mut String, cursor: Cursor<'_, '_>) -> R
 /// Writes what the taker of floats answers.
 fn write_float(alloc: Global, taken: &mut String, cursor: Cursor<'_, '_>) -> Result<(), Error> {
     if let Some((float, next)) = cursor.float()? {
-        let value = format!(in alloc; "{float:?}")?;
+        let value = printed(alloc, &float)?;
         write_taken(taken, "float", value.as_str(), next)?;
     }
     Ok(())
@@ -124,7 +131,8 @@ pub fn annotation(alloc: Global, cursor: Cursor<'_, '_>) -> Result<String, Error
 pub fn comment(alloc: Global, cursor: Cursor<'_, '_>) -> Result<String, Error> {
     match cursor.comment()? {
         Some((comment, next)) => {
-            Ok(format!(in alloc; "{comment} then {}", next.cur_span().offset())?)
+            let place = place_of(next);
+            Ok(format!(in alloc; "{comment} then {place}")?)
         }
         None => Ok(String::from_str(alloc, "none")?),
     }

@@ -105,6 +105,10 @@ fn blanked(alloc: Global, row: &Row<'_>) -> Result<String, Error> {
     })
 }
 
+fn counted_to(alloc: Global, count: usize, place: usize) -> Result<String, AllocError> {
+    format!(in alloc; "{count} tokens, place {place}")
+}
+
 /// How many tokens are shown where a name is registered or none, and the place behind them.
 fn counted(alloc: Global, row: &Row<'_>, buffer: &ParseBuffer<'_>) -> Result<String, Error> {
     let mut parser = parser_under(buffer, row.with)?;
@@ -115,7 +119,7 @@ fn counted(alloc: Global, row: &Row<'_>, buffer: &ParseBuffer<'_>) -> Result<Str
         }
         count = count.saturating_add(1);
     }
-    Ok(format!(in alloc; "{count} tokens, place {}", parser.prev_span().offset())?)
+    Ok(counted_to(alloc, count, parser.prev_span().offset())?)
 }
 
 /// Whether a peek sees what it looks for; None of a fault.

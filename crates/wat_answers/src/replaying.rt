@@ -45,6 +45,11 @@ fn write_reply(shown: &mut String, reply: &Reply) -> Result<(), AllocError> {
     }
 }
 
+/// Writes the place behind the calls.
+fn write_place(shown: &mut String, place: usize) -> Result<(), AllocError> {
+    write!(shown, ", place {place}")
+}
+
 /// The replies to calls with commas between them, and the place behind them.
 fn replied(alloc: Global, parser: &mut Parser<'_>, words: &str) -> Result<String, Error> {
     let mut calls = Vec::new(alloc);
@@ -56,7 +61,7 @@ fn replied(alloc: Global, parser: &mut Parser<'_>, words: &str) -> Result<String
     for reply in replies.iter() {
         write_reply(&mut shown, reply)?;
     }
-    write!(shown, ", place {}", parser.prev_span().offset())?;
+    write_place(&mut shown, parser.prev_span().offset())?;
     Ok(shown)
 }
 

@@ -1,6 +1,7 @@
 //! Values of types, their copies, and what is left of the parser that reads them.
 use crate::replaying::register_fully;
 use crate::spaceship::Spaceship;
+use crate::types::printed;
 use std::alloc::{AllocError, Global};
 use std::borrow::{CowSlice, CowStr};
 use wat_lex::error::Error;
@@ -150,12 +151,9 @@ fn display_of_name(name: &str) -> Option<&'static str> {
 /// The numbers of a list: all, as long as one is seen, or as long as one is seen in parentheses.
 fn list(alloc: Global, call: &str, parser: &mut Parser<'_>) -> Result<String, Error> {
     Ok(match call {
-        "all-of" => format!(in alloc; "{:?}", parser.all_of::<u32>()?.as_slice())?,
-        "all-while" => format!(in alloc; "{:?}", parser.all_while::<u32, u32>()?.as_slice())?,
-        _ => {
-            let numbers = parser.all_behind::<u32, Parens<u32>>()?;
-            format!(in alloc; "{:?}", numbers.as_slice())?
-        }
+        "all-of" => printed(alloc, &parser.all_of::<u32>()?.as_slice())?,
+        "all-while" => printed(alloc, &parser.all_while::<u32, u32>()?.as_slice())?,
+        _ => printed(alloc, &parser.all_behind::<u32, Parens<u32>>()?.as_slice())?,
     })
 }
 
@@ -230,6 +228,11 @@ fn called(alloc: Global, row: &Row<'_>, parser: &mut Parser<'_>) -> Result<Optio
     }))
 }
 
+/// An answer, and where the parser stands behind it.
+fn placed(alloc: Global, answer: &str, place: usize) -> Result<String, AllocError> {
+    format!(in alloc; "{answer}; place {place}")
+}
+
 /// What a call answers; None where none of these is asked.
 pub fn answer(alloc: Global, row: &Row<'_>) -> Result<Option<String>, Error> {
     let mut buffer = ParseBuffer::new(alloc, short(&row.text))?;
@@ -248,6 +251,5 @@ pub fn answer(alloc: Global, row: &Row<'_>) -> Result<Option<String>, Error> {
         Ok(Some(answer)) => answer,
         Err(error) => row.refusals.shown(alloc, &error)?,
     };
-    let place = parser.prev_span().offset();
-    Ok(Some(format!(in alloc; "{answer}; place {place}")?))
+    Ok(Some(placed(alloc, &answer, parser.prev_span().offset())?))
 }

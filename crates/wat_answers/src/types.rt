@@ -1,6 +1,6 @@
 //! Whole texts that are read as a type.
 use crate::spaceship::Spaceship;
-use std::alloc::Global;
+use std::alloc::{AllocError, Global};
 use std::borrow::{CowSlice, CowStr};
 use std::fmt;
 use wat_lex::error::Error;
@@ -11,13 +11,18 @@ use wat_lexer_parser::parser::{Parse, ParseBuffer, parse};
 use wat_lexer_parser::token::{Id, Index, ItemRef, ReservedSymbol};
 use wat_lexer_parser::{annotation, kw};
 
+/// A value as it is printed.
+pub fn printed<T: fmt::Debug>(alloc: Global, value: &T) -> Result<String, AllocError> {
+    format!(in alloc; "{value:?}")
+}
+
 /// The value that a whole text is read as.
 fn value<'a, T: Parse<'a> + fmt::Debug>(
     alloc: Global,
     buffer: &'a ParseBuffer<'a>,
 ) -> Result<Option<String>, Error> {
     let value = parse::<T>(buffer)?;
-    Ok(Some(format!(in alloc; "{value:?}")?))
+    Ok(Some(printed(alloc, &value)?))
 }
 
 /// What a text is read as by types of integers; None where none of these is asked.
