@@ -8,7 +8,7 @@ use wat_lexer_parser::token::Parens;
 
 /// Which numbers are read: all, as long as one is seen, or as long as one is seen in parentheses.
 #[derive(Clone, Copy)]
-enum List {
+enum Which {
     Of,
     While,
     Behind,
@@ -31,23 +31,23 @@ fn ended<T: fmt::Debug + Drop>(
 
 fn list(
     run: &mut Run<'_>,
-    list: List,
+    which: Which,
     text: &str,
     expected: Expected<'_>,
     place: usize,
 ) -> Result<Ending, Error> {
     let buffer = buffer_of(run.alloc(), text)?;
     let mut parser = buffer.parser();
-    Ok(match list {
-        List::Of => {
+    Ok(match which {
+        Which::Of => {
             let result = parser.all_of::<u32>();
             ended(run, &parser, &result, expected, place)
         }
-        List::While => {
+        Which::While => {
             let result = parser.all_while::<u32, u32>();
             ended(run, &parser, &result, expected, place)
         }
-        List::Behind => {
+        Which::Behind => {
             let result = parser.all_behind::<u32, Parens<u32>>();
             ended(run, &parser, &result, expected, place)
         }
@@ -56,18 +56,18 @@ fn list(
 
 pub fn lists(run: &mut Run<'_>) -> io::Result<()> {
     let rows = [
-        ("list-of", List::Of, "1 2 3 4 5 )", "[1, 2, 3, 4, 5]", 9),
-        ("list-while", List::While, "1 2 x", "[1, 2]", 3),
+        ("list-of", Which::Of, "1 2 3 4 5 )", "[1, 2, 3, 4, 5]", 9),
+        ("list-while", Which::While, "1 2 x", "[1, 2]", 3),
         (
             "list-behind",
-            List::Behind,
+            Which::Behind,
             "(1) (x)",
             "[Parens { inner: 1 }]",
             3,
         ),
-        ("free-list-of", List::Of, ")", "[]", 0),
-        ("free-list-while", List::While, "x", "[]", 0),
-        ("free-list-behind", List::Behind, "(x) 1", "[]", 0),
+        ("free-list-of", Which::Of, ")", "[]", 0),
+        ("free-list-while", Which::While, "x", "[]", 0),
+        ("free-list-behind", Which::Behind, "(x) 1", "[]", 0),
     ];
     for (name, kind, text, shown, place) in rows {
         if run.is_asked(name) {
@@ -80,10 +80,10 @@ pub fn lists(run: &mut Run<'_>) -> io::Result<()> {
 
 pub fn refused_lists(run: &mut Run<'_>) -> io::Result<()> {
     let rows = [
-        ("list-of-refused", List::Of, "1 x", "expected a u32", 2, 1),
+        ("list-of-refused", Which::Of, "1 x", "expected a u32", 2, 1),
         (
             "list-while-refused",
-            List::While,
+            Which::While,
             "1 4294967296",
             "invalid u32 number: constant out of range",
             2,
@@ -91,7 +91,7 @@ pub fn refused_lists(run: &mut Run<'_>) -> io::Result<()> {
         ),
         (
             "list-behind-refused",
-            List::Behind,
+            Which::Behind,
             "(1) (2 3)",
             "expected `)`",
             7,
