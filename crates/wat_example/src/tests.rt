@@ -1,6 +1,7 @@
 //! Groups that are read, and refused ones; and values of tokens that no text has.
 use crate::{group, keyword, opens_under};
 use std::alloc::Global;
+use std::process::Abort;
 use std::test::Fail;
 use wat_lex::error::Error;
 use wat_lexer_parser::parser::{ParseBuffer, parse};
@@ -18,27 +19,36 @@ fn shown(alloc: Global, answer: Result<&str, Error>) -> Result<String, Fail> {
     }
 }
 
+/// Texts, what a group reads of them, and the place behind it.
+const GROUPS: &str = "\
+    (a) b -> a, 3\x1e\
+    \x20( (@n (b)) a ;;c\n ) -> a, 20\x1e\
+    a -> expected `(` at 0, 0\x1e\
+    -> expected `(` at 0, 0\x1e\
+    () -> expected a keyword at 1, 0\x1e\
+    ($a) -> expected a keyword at 1, 0\x1e\
+    (a b) -> expected `)` at 3, 0\x1e\
+    (a -> expected `)` at 2, 0\x1e\
+    (\" -> unexpected end-of-file at 2, 0\x1e\
+    (a (@ -> empty annotation id at 4, 0";
+
+/// What a group reads of a text, and the place behind it.
+fn read(rt: &impl Abort, alloc: Global, text: &str) -> Result<String, Fail> {
+    let buffer = ParseBuffer::new(alloc, text)?;
+    let mut parser = buffer.parser();
+    let got = shown(alloc, group(&mut parser))?;
+    assert_eq!(rt; parser.parens_depth(), 0);
+    let place = parser.prev_span().offset();
+    Ok(format!(in alloc; "{got}, {place}")?)
+}
+
 #[test]
 fn groups(rt: HostRuntime) -> Result<(), Fail> {
-    let rows = [
-        ("(a) b", "a", 3),
-        (" ( (@n (b)) a ;;c\n )", "a", 20),
-        ("a", "expected `(` at 0", 0),
-        ("", "expected `(` at 0", 0),
-        ("()", "expected a keyword at 1", 0),
-        ("($a)", "expected a keyword at 1", 0),
-        ("(a b)", "expected `)` at 3", 0),
-        ("(a", "expected `)` at 2", 0),
-        ("(\"", "unexpected end-of-file at 2", 0),
-        ("(a (@", "empty annotation id at 4", 0),
-    ];
-    for (text, want, place) in rows {
-        let buffer = ParseBuffer::new(rt.alloc(), text)?;
-        let mut parser = buffer.parser();
-        let got = shown(rt.alloc(), group(&mut parser))?;
+    for row in GROUPS.split('\x1e') {
+        let (text, want) = row.split_once("-> ").unwrap_or((row, ""));
+        let text = text.strip_suffix(" ").unwrap_or(text);
+        let got = read(&rt, rt.alloc(), text)?;
         assert_eq!(rt; got.as_str(), want, "{text}");
-        assert_eq!(rt; parser.prev_span().offset(), place, "{text}");
-        assert_eq!(rt; parser.parens_depth(), 0);
     }
     Ok(())
 }
@@ -60,6 +70,15 @@ fn keywords(rt: HostRuntime) -> Result<(), Fail> {
     Ok(())
 }
 
+/// Whether a text opens a group where `a` is registered, which it is no longer behind that.
+fn opens(rt: &impl Abort, alloc: Global, text: &str) -> Result<bool, Fail> {
+    let buffer = ParseBuffer::new(alloc, text)?;
+    let mut parser = buffer.parser();
+    let opens = opens_under(&mut parser, "a")?;
+    assert!(rt; !parser.is_registered("a"));
+    Ok(opens)
+}
+
 #[test]
 fn names(rt: HostRuntime) -> Result<(), Fail> {
     let rows = [
@@ -69,10 +88,7 @@ fn names(rt: HostRuntime) -> Result<(), Fail> {
         ("x", false),
     ];
     for (text, want) in rows {
-        let buffer = ParseBuffer::new(rt.alloc(), text)?;
-        let mut parser = buffer.parser();
-        assert_eq!(rt; opens_under(&mut parser, "a")?, want, "{text}");
-        assert!(rt; !parser.is_registered("a"));
+        assert_eq!(rt; opens(&rt, rt.alloc(), text)?, want, "{text}");
     }
     Ok(())
 }
@@ -83,12 +99,17 @@ fn values_that_no_text_has(rt: HostRuntime) -> Result<(), Fail> {
     let keyword = kw::func::new(at);
     let copied = keyword;
     assert_eq!(rt; (copied.span, keyword.clone()?.span), (at, at));
-    let buffer = ParseBuffer::new(rt.alloc(), "  func")?;
-    assert_eq!(rt; parse::<kw::func>(&buffer)?.span, keyword.span);
     assert_eq!(rt; ReservedSymbol::<Std<0>>::new(at).span, at);
     assert_eq!(rt; annotation::name::new(at).span, at);
     let shown = format!(in rt.alloc(); "{keyword:?}")?;
     assert!(rt; shown.starts_with("Keyword { span: Span { offset: 2 }"));
+    Ok(())
+}
+
+#[test]
+fn a_keyword_that_a_text_has(rt: HostRuntime) -> Result<(), Fail> {
+    let buffer = ParseBuffer::new(rt.alloc(), "  func")?;
+    assert_eq!(rt; parse::<kw::func>(&buffer)?.span, Span::from_offset(2));
     Ok(())
 }
 
