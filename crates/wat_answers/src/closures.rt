@@ -100,18 +100,6 @@ fn two_groups(alloc: Global, parser: &mut Parser<'_>) -> Result<String, Error> {
     Ok(format!(in alloc; "groups up to {place}, {behind}")?)
 }
 
-/// Takes three groups, each in the one before, which are empty.
-fn three_groups(alloc: Global, parser: &mut Parser<'_>) -> Result<String, Error> {
-    parser.parens(|parser| {
-        parser.depth_check()?;
-        parser.parens(|parser| {
-            parser.depth_check()?;
-            parser.parens(|parser| parser.depth_check())
-        })
-    })?;
-    Ok(String::from_str(alloc, "three groups")?)
-}
-
 /// Registers a name inside of a group, and refuses the group.
 fn refused_group(alloc: Global, parser: &mut Parser<'_>) -> Result<String, Error> {
     parser.parens(|parser| -> Result<(), Error> {
@@ -138,6 +126,12 @@ fn nested(parser: &mut Parser<'_>, count: usize) -> Result<(), Error>
             nested(parser, left)
         },
     )
+}
+
+/// Takes three groups, each in the one before, which are empty.
+fn three_groups(alloc: Global, parser: &mut Parser<'_>) -> Result<String, Error> {
+    nested(parser, 3)?;
+    Ok(String::from_str(alloc, "three groups")?)
 }
 
 /// Takes a keyword, and so many groups behind it.

@@ -31,39 +31,6 @@ fn refused_step(run: &mut Run<'_>) -> Result<Ending, Error> {
     Ok(run.ending(&result, expected).with_state(is_at(&parser, 0)))
 }
 
-/// Takes three groups, each in the one before, which are empty.
-fn three_groups(parser: &mut Parser<'_>) -> Result<(), Error> {
-    parser.parens(|parser| {
-        parser.depth_check()?;
-        parser.parens(|parser| {
-            parser.depth_check()?;
-            parser.parens(|parser| parser.depth_check())
-        })
-    })
-}
-
-/// A refused group puts place and depth back.
-fn refused_group(run: &mut Run<'_>, text: &str, expected: Expected<'_>) -> Result<Ending, Error> {
-    let buffer = buffer_of(run.alloc(), text)?;
-    let mut parser = buffer.parser();
-    let result = three_groups(&mut parser);
-    run.call_has_ended();
-    Ok(run.ending(&result, expected).with_state(is_at(&parser, 0)))
-}
-
-/// The same of a type.
-fn refused_group_of(
-    run: &mut Run<'_>,
-    text: &str,
-    expected: Expected<'_>,
-) -> Result<Ending, Error> {
-    let buffer = buffer_of(run.alloc(), text)?;
-    let mut parser = buffer.parser();
-    let result = parser.parens_of::<u32>();
-    run.call_has_ended();
-    Ok(run.ending(&result, expected).with_state(is_at(&parser, 0)))
-}
-
 /// Takes so many groups, each in the one before, and asks in each whether it is too deep.
 fn nested(parser: &mut Parser<'_>, count: usize) -> Result<(), Error>
     ensures kept { IsKept parser.old parser.new }
@@ -80,6 +47,28 @@ fn nested(parser: &mut Parser<'_>, count: usize) -> Result<(), Error>
             nested(parser, left)
         },
     )
+}
+
+/// A refused group puts place and depth back.
+fn refused_group(run: &mut Run<'_>, text: &str, expected: Expected<'_>) -> Result<Ending, Error> {
+    let buffer = buffer_of(run.alloc(), text)?;
+    let mut parser = buffer.parser();
+    let result = nested(&mut parser, 3);
+    run.call_has_ended();
+    Ok(run.ending(&result, expected).with_state(is_at(&parser, 0)))
+}
+
+/// The same of a type.
+fn refused_group_of(
+    run: &mut Run<'_>,
+    text: &str,
+    expected: Expected<'_>,
+) -> Result<Ending, Error> {
+    let buffer = buffer_of(run.alloc(), text)?;
+    let mut parser = buffer.parser();
+    let result = parser.parens_of::<u32>();
+    run.call_has_ended();
+    Ok(run.ending(&result, expected).with_state(is_at(&parser, 0)))
 }
 
 /// So many parentheses.
