@@ -11,7 +11,7 @@ use Rattle.wat_lex.specs.tokens.Tiling.{MaximalTiling}
 use Rattle.wat_lex.specs.declared.lexer.faults.LexFault.{LexFault}
 use Rattle.wat_lex.specs.declared.lexer.kinds.Token.{Token}
 use Rattle.wat_lex.specs.declared.lexer.settings.Settings.{Settings}
-use Rattle.wat_lexer_parser.specs.shown.BlankTexts.{blank_text, BlankTextsShowTheSame}
+use Rattle.wat_lexer_parser.specs.laws.BlankTexts.{blank_text, BlankTextsShowTheSame}
 use Rattle.wat_commands.specs.Blanks.{Blanks}
 use Rattle.wat_commands.specs.Blocks.{AppendsEach, AppendsEachCut, ReportsEnd}
 use Rattle.wat_commands.specs.JsonLists.{JsonLists}

@@ -15,9 +15,9 @@ use Rattle.wat_lexer_parser.specs.declared.parser.fault.Fault.{Fault}
 use Rattle.wat_lexer_parser.specs.names.RegisteredNames.{Names}
 use Rattle.wat_lexer_parser.specs.parser.State.{State, Answers, report_of, told, seen, at_place, seen_at}
 use Rattle.wat_lexer_parser.specs.places.Source.{Source, IsRead}
-use Rattle.wat_lexer_parser.specs.shown.AllShown.{AllShown}
+use Rattle.wat_lexer_parser.specs.laws.AllShown.{AllShown}
 use Rattle.wat_lexer_parser.specs.shown.Showing.{Look, shown}
-use Rattle.wat_lexer_parser.specs.shown.ShownLaws.{LooksAreAllShown}
+use Rattle.wat_lexer_parser.specs.laws.ShownLaws.{LooksAreAllShown}
 use Rattle.wat_commands.specs.JsonLists.{JsonShownFrom}
 use Rattle.wat_commands.specs.JsonRows.{json_line}
 use Rattle.wat_commands.specs.Lists.{line}

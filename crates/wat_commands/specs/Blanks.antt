@@ -9,7 +9,7 @@ use Rattle.wat_lex.specs.tokens.Tiling.{MaximalTiling}
 use Rattle.wat_lex.specs.declared.lexer.faults.LexFault.{LexFault}
 use Rattle.wat_lex.specs.declared.lexer.kinds.Token.{Token}
 use Rattle.wat_lex.specs.declared.lexer.settings.Settings.{Settings}
-use Rattle.wat_lexer_parser.specs.shown.BlankTexts.{blank_texts, IsBlanked}
+use Rattle.wat_lexer_parser.specs.laws.BlankTexts.{blank_texts, IsBlanked}
 
 -- The text is the bytes of these tokens, of comments the line ends, with spaces in place of their other bytes. So it is as long, has the
 -- same line ends and no comment, and shows the same under any names.

@@ -14,7 +14,7 @@ use Rattle.wat_lexer_parser.specs.declared.parser.fault.Fault.{Fault}
 use Rattle.wat_lexer_parser.specs.names.RegisteredNames.{Names, no_names}
 use Rattle.wat_lexer_parser.specs.parser.State.{report_of}
 use Rattle.wat_lexer_parser.specs.places.Source.{Source, IsRead}
-use Rattle.wat_lexer_parser.specs.shown.AllShown.{AllShown}
+use Rattle.wat_lexer_parser.specs.laws.AllShown.{AllShown}
 use Rattle.wat_commands.specs.JsonRows.{json_lines}
 use Rattle.wat_commands.specs.Shows.{with_names}
 

@@ -12,7 +12,7 @@ use Rattle.wat_lexer_parser.specs.declared.parser.fault.Fault.{Fault}
 use Rattle.wat_lexer_parser.specs.names.RegisteredNames.{Names, no_names, is_registered, more}
 use Rattle.wat_lexer_parser.specs.parser.State.{report_of}
 use Rattle.wat_lexer_parser.specs.places.Source.{Source, IsRead}
-use Rattle.wat_lexer_parser.specs.shown.AllShown.{AllShown}
+use Rattle.wat_lexer_parser.specs.laws.AllShown.{AllShown}
 use Rattle.wat_commands.specs.Lists.{token_lines}
 
 -- the names with one that is registered now, if it was not yet

@@ -1,6 +1,6 @@
 //! A text with its comments blanked: spaces over all their bytes but the line ends.
 ghost use Rattle.std.specs.Prelude.{◌≡◌, ◌++◌, ◌+◌, ◌≤◌, length, map, OnOk, OnErr};
-ghost use Rattle.wat_lexer_parser.specs.shown.BlankTexts.{blank_byte, blank_text};
+ghost use Rattle.wat_lexer_parser.specs.laws.BlankTexts.{blank_byte, blank_text};
 ghost use Rattle.wat_commands.specs.Blocks.{AppendsEach, AppendsEachCut, Puts};
 ghost use Rattle.wat_commands.specs.Streams.{AppendsPrefix, failure_after};
 

@@ -9,7 +9,7 @@ use Rattle.wat_lex.specs.declared.lexer.kinds.Token.{Token}
 use Rattle.wat_lex.specs.declared.lexer.kinds.TokenKind.{TokenKind}
 use Rattle.wat_lex.specs.declared.lexer.kinds.TokenKind.TheVariants.{Whitespace, LParen}
 use Rattle.wat_lexer_parser.specs.groups.Sorts.{is_blank, is_mark, is_marked}
-use Rattle.wat_lexer_parser.specs.shown.Counting.{counting}
+use Rattle.wat_lexer_parser.specs.laws.Counting.{counting}
 use Rattle.wat_format.specs.Laws.{words, begins_at, is_opening, marks}
 use Rattle.wat_format.specs.Layout.{is_white}
 use Rattle.wat_format_shown.proofs.Tokens.{AllMeasured, counting_blank, counting_other}

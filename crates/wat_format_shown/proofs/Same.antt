@@ -19,10 +19,10 @@ use Rattle.wat_lexer_parser.specs.declared.parser.fault.Step.TheVariants.{Pass, 
 use Rattle.wat_lexer_parser.specs.groups.Sorts.{is_marked}
 use Rattle.wat_lexer_parser.specs.lemmas.Behind.{does, same_token}
 use Rattle.wat_lexer_parser.specs.names.RegisteredNames.{Names, is_registered}
-use Rattle.wat_lexer_parser.specs.shown.AllShown.{AllShown, end, fault, next}
+use Rattle.wat_lexer_parser.specs.laws.AllShown.{AllShown, end, fault, next}
 use Rattle.wat_lexer_parser.specs.shown.Shown.{Finding, Shown, left_open}
-use Rattle.wat_lexer_parser.specs.shown.ShownLaws.{OneThingShown}
-use Rattle.wat_lexer_parser.specs.shown.Showing.{Mode, Showing, Inside, shown_in, name_by, name_at, step_named, step_next, step_kind, step_of, closed_one, after, first}
+use Rattle.wat_lexer_parser.specs.shown.Showing.{OneThingShown}
+use Rattle.wat_lexer_parser.specs.inside.ShownIn.{Mode, Showing, Inside, shown_in, name_by, name_at, step_named, step_next, step_kind, step_of, closed_one, after, first}
 use Rattle.wat_format_shown.specs.Moved.{token_moved, fault_moved}
 
 module _ (x y : List ℕ) (move : ℕ → ℕ) where

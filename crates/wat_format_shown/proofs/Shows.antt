@@ -13,12 +13,13 @@ use Rattle.wat_lexer_parser.specs.declared.parser.fault.Fault.{Fault}
 use Rattle.wat_lexer_parser.specs.lemmas.Behind.{behind_in, behind_place}
 use Rattle.wat_lexer_parser.specs.names.RegisteredNames.{Names}
 use Rattle.wat_lexer_parser.specs.places.Source.{Source, IsRead}
-use Rattle.wat_lexer_parser.specs.shown.AllShown.{AllShown, end, fault, next}
-use Rattle.wat_lexer_parser.specs.shown.Blanking.{TextShows}
-use Rattle.wat_lexer_parser.specs.shown.Counting.{CountingShowsTheSame, counting}
+use Rattle.wat_lexer_parser.specs.laws.AllShown.{AllShown, end, fault, next}
+use Rattle.wat_lexer_parser.specs.laws.Blanking.{TextShows}
+use Rattle.wat_lexer_parser.specs.laws.Counting.{CountingShowsTheSame, counting}
 use Rattle.wat_lexer_parser.specs.shown.Shown.{Shown}
-use Rattle.wat_lexer_parser.specs.shown.ShownLaws.{OneThingShown, SomethingIsAllShown}
-use Rattle.wat_lexer_parser.specs.shown.Showing.{Showing, shown_in}
+use Rattle.wat_lexer_parser.specs.laws.ShownLaws.{SomethingIsAllShown}
+use Rattle.wat_lexer_parser.specs.shown.Showing.{OneThingShown}
+use Rattle.wat_lexer_parser.specs.inside.ShownIn.{Showing, shown_in}
 use Rattle.wat_format.specs.Laws.{over, Keeps, LayoutsKeepTokens, LayoutsAreUtf8}
 use Rattle.wat_format.specs.Layout.{layout}
 use Rattle.wat_format_shown.specs.Moved.{fault_moved, ShowsMoved, LayoutsShowTheSame}

@@ -17,7 +17,7 @@ use Rattle.wat_lex.specs.declared.lexer.kinds.Token.{Token}
 use Rattle.wat_lex.specs.declared.lexer.kinds.TokenKind.{TokenKind}
 use Rattle.wat_lex.specs.declared.lexer.kinds.TokenKind.TheVariants.{LineComment, BlockComment, Whitespace, LParen, RParen, String, Id, Keyword, Annotation, Reserved, Integer, Float}
 use Rattle.wat_lexer_parser.specs.groups.Sorts.{is_blank}
-use Rattle.wat_lexer_parser.specs.shown.Counting.{counting}
+use Rattle.wat_lexer_parser.specs.laws.Counting.{counting}
 
 size_some : (w : List ℕ) → w ≢ [] → 0 < size w
 size_some [] h = absurd (h refl)

@@ -12,7 +12,7 @@ use Rattle.wat_lexer_parser.specs.declared.parser.fault.Fault.{Fault}
 use Rattle.wat_lexer_parser.specs.declared.parser.fault.FaultKind.{FaultKind}
 use Rattle.wat_lexer_parser.specs.declared.parser.fault.FaultKind.TheVariants.{Lex, Unclosed}
 use Rattle.wat_lexer_parser.specs.names.RegisteredNames.{Names}
-use Rattle.wat_lexer_parser.specs.shown.Blanking.{TextShows}
+use Rattle.wat_lexer_parser.specs.laws.Blanking.{TextShows}
 use Rattle.wat_format.specs.Laws.{over}
 use Rattle.wat_format.specs.Layout.{layout}
 

@@ -5,6 +5,7 @@ pub mod words
 pub mod places
 pub mod parser
 pub mod calls
+pub mod laws
 pub mod readings
 pub mod lemmas
 pub mod inside

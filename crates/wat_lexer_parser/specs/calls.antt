@@ -1,3 +1,2 @@
 -- Lists of calls, the replies to them, and where they leave a parser.
 pub mod Calls
-pub mod CallLaws

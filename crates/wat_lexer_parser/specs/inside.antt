@@ -1,4 +1,5 @@
--- What private functions promise each other. No public contract names it.
+-- What private functions promise each other, and `Shown` as a function. No public contract names it.
+pub mod ShownIn
 pub mod MapEntries
 pub mod Next
 pub mod Table

@@ -1,8 +1,3 @@
--- What a parser shows of raw tokens: as a relation, as a function, and the laws of both.
+-- What a parser shows of raw tokens, and at a place.
 pub mod Shown
 pub mod Showing
-pub mod AllShown
-pub mod ShownLaws
-pub mod Blanking
-pub mod BlankTexts
-pub mod Counting

@@ -4,16 +4,16 @@
 ghost use Rattle.std.specs.Prelude.{◌≡◌, ◌+◌, length, IfOk, string_bytes};
 ghost use Rattle.std.specs.Str.{IsCharBoundary};
 ghost use Rattle.wat_lex.specs.tokens.Blanking.{blanked};
-ghost use Rattle.wat_lexer_parser.specs.calls.CallLaws.{LooksAndRefusals};
-ghost use Rattle.wat_lexer_parser.specs.shown.Blanking.{BlankingShowsTheSame, IsCommentOf};
-ghost use Rattle.wat_lexer_parser.specs.shown.Blanking.{ShowTheSameWhereRaw};
-ghost use Rattle.wat_lexer_parser.specs.shown.BlankTexts.{BlankTextsShowTheSame};
-ghost use Rattle.wat_lexer_parser.specs.shown.Counting.{CountingShowsTheSame, PlainTokensAreShown};
-ghost use Rattle.wat_lexer_parser.specs.shown.ShownLaws.{TailsAreRaw, GroupIsOne};
-ghost use Rattle.wat_lexer_parser.specs.shown.ShownLaws.{SomethingShown, OneThingShown};
-ghost use Rattle.wat_lexer_parser.specs.shown.ShownLaws.{SomethingIsAllShown, AllShownIsOne};
-ghost use Rattle.wat_lexer_parser.specs.shown.ShownLaws.{LooksAreAllShown};
-ghost use Rattle.wat_lexer_parser.specs.shown.ShownLaws.{ShownIsTaken, MarksEndInFaults};
+ghost use Rattle.wat_lexer_parser.specs.laws.CallLaws.{LooksAndRefusals};
+ghost use Rattle.wat_lexer_parser.specs.laws.Blanking.{BlankingShowsTheSame, IsCommentOf};
+ghost use Rattle.wat_lexer_parser.specs.laws.Blanking.{ShowTheSameWhereRaw};
+ghost use Rattle.wat_lexer_parser.specs.laws.BlankTexts.{BlankTextsShowTheSame};
+ghost use Rattle.wat_lexer_parser.specs.laws.Counting.{CountingShowsTheSame, PlainTokensAreShown};
+ghost use Rattle.wat_lexer_parser.specs.laws.ShownLaws.{TailsAreRaw, GroupIsOne};
+ghost use Rattle.wat_lexer_parser.specs.shown.Showing.{SomethingShown, OneThingShown};
+ghost use Rattle.wat_lexer_parser.specs.laws.ShownLaws.{SomethingIsAllShown, AllShownIsOne};
+ghost use Rattle.wat_lexer_parser.specs.laws.ShownLaws.{LooksAreAllShown};
+ghost use Rattle.wat_lexer_parser.specs.laws.ShownLaws.{ShownIsTaken, MarksEndInFaults};
 ghost use Rattle.wat_lexer_parser.specs.words.Idchars.{WordsAreIdchars};
 ghost use Rattle.wat_words.specs.Words.{annotation_word, standard_word};
 

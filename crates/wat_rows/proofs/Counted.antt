@@ -9,7 +9,7 @@ use Rattle.wat_lex.specs.tokens.Setting.{Setting}
 use Rattle.wat_lex.specs.tokens.Tiling.{TokenAt, Tiling}
 use Rattle.wat_lex.specs.declared.lexer.kinds.Token.{Token}
 use Rattle.wat_lexer_parser.specs.groups.Sorts.{is_blank}
-use Rattle.wat_lexer_parser.specs.shown.Counting.{counting}
+use Rattle.wat_lexer_parser.specs.laws.Counting.{counting}
 use Rattle.wat_rows.specs.Counting.{row_of, EndsCounting, StopsCounting, FillsCounting}
 use Rattle.wat_rows.specs.declared.counting.Row.{Row}
 use Rattle.wat_rows.proofs.Filling.{tiled_more}

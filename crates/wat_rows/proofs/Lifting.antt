@@ -8,11 +8,10 @@ use Rattle.wat_lexer_parser.specs.groups.Sorts.{is_blank}
 use Rattle.wat_lexer_parser.specs.lemmas.Behind.{behind_in, behind_place, same_token}
 use Rattle.wat_lexer_parser.specs.names.RegisteredNames.{Names}
 use Rattle.wat_lexer_parser.specs.places.Source.{Source, IsRead}
-use Rattle.wat_lexer_parser.specs.shown.Counting.{CountingShowsTheSame, counting, counting_behind}
-use Rattle.wat_lexer_parser.specs.shown.Shown.{Finding, Shown, ended, left_open, none_left, blank, none_follows, no_annotation, misnamed, registered}
-use Rattle.wat_lexer_parser.specs.shown.Shown.{skipped, unclosed, unmarked, other}
-use Rattle.wat_lexer_parser.specs.shown.ShownLaws.{OneThingShown, SomethingShown}
-use Rattle.wat_lexer_parser.specs.shown.Showing.{Look, Showing, placed, shown, shown_in}
+use Rattle.wat_lexer_parser.specs.laws.Counting.{CountingShowsTheSame, counting, counting_behind}
+use Rattle.wat_lexer_parser.specs.shown.Shown.{Finding, Shown, ended, left_open, none_left, blank, none_follows, no_annotation, misnamed, registered, skipped, unclosed, unmarked, other}
+use Rattle.wat_lexer_parser.specs.shown.Showing.{OneThingShown, SomethingShown, Look, placed, shown}
+use Rattle.wat_lexer_parser.specs.inside.ShownIn.{Showing, shown_in}
 use Rattle.wat_rows.specs.Places.{raw_place}
 use Rattle.wat_rows.proofs.RawPlaces.{drop_shorter, drops, place_of}
 

@@ -16,11 +16,9 @@ use Rattle.wat_lexer_parser.specs.declared.parser.fault.FaultKind.TheVariants.{L
 use Rattle.wat_lexer_parser.specs.groups.Groups.{Group, NoGroup}
 use Rattle.wat_lexer_parser.specs.names.RegisteredNames.{Names, is_registered}
 use Rattle.wat_lexer_parser.specs.places.Source.{Source}
-use Rattle.wat_lexer_parser.specs.shown.Counting.{CountingShowsTheSame, PlainTokensAreShown, counting}
-use Rattle.wat_lexer_parser.specs.shown.Shown.{Finding, HasName, IsMarked, IsMisnamed, Shown, ended, left_open, none_left}
-use Rattle.wat_lexer_parser.specs.shown.Shown.{Shown.none_follows as ends_there, Shown.no_annotation as takes_other, Shown.misnamed as refuses}
-use Rattle.wat_lexer_parser.specs.shown.Shown.{Shown.registered as takes, Shown.skipped as skips, Shown.unclosed as leaves_open}
-use Rattle.wat_lexer_parser.specs.shown.ShownLaws.{OneThingShown, SomethingShown}
+use Rattle.wat_lexer_parser.specs.laws.Counting.{CountingShowsTheSame, PlainTokensAreShown, counting}
+use Rattle.wat_lexer_parser.specs.shown.Shown.{Finding, HasName, IsMarked, IsMisnamed, Shown, ended, left_open, none_left, Shown.none_follows as ends_there, Shown.no_annotation as takes_other, Shown.misnamed as refuses, Shown.registered as takes, Shown.skipped as skips, Shown.unclosed as leaves_open}
+use Rattle.wat_lexer_parser.specs.shown.Showing.{OneThingShown, SomethingShown}
 use Rattle.wat_rows.specs.Links.{ClosedWithin, IsLink, codes_of}
 use Rattle.wat_rows.specs.Looks.{Looks, Looks.token, Looks.end, Looks.fault, Looks.unclosed, Looks.misnamed, Looks.memory, shown_behind}
 use Rattle.wat_rows.specs.Places.{AreRowsOf, ending_code, raw_place}

@@ -11,8 +11,8 @@ use Rattle.wat_lex.specs.tokens.Tiling.{EndsAt, Tiling, TokenAt}
 use Rattle.wat_lex.specs.declared.lexer.faults.LexFault.{LexFault}
 use Rattle.wat_lex.specs.declared.lexer.kinds.Token.{Token}
 use Rattle.wat_lexer_parser.specs.groups.Sorts.{is_blank}
-use Rattle.wat_lexer_parser.specs.shown.Counting.{CountingShowsTheSame, PlainTokensAreShown, counting}
-use Rattle.wat_lexer_parser.specs.shown.ShownLaws.{OneThingShown, SomethingShown}
+use Rattle.wat_lexer_parser.specs.laws.Counting.{CountingShowsTheSame, PlainTokensAreShown, counting}
+use Rattle.wat_lexer_parser.specs.shown.Showing.{OneThingShown, SomethingShown}
 use Rattle.wat_rows.specs.Counting.{IsRow, StopsCounting, StopsCounting.ended, StopsCounting.full, StopsCounting.faulty, row_of}
 use Rattle.wat_rows.specs.Links.{without_link}
 use Rattle.wat_rows.specs.Pieces.{FillsInPieces, FillsInPieces.last, FillsInPieces.piece, PiecesAreRows, PlainRowsAreShown, RowsTellTokens}

@@ -12,7 +12,7 @@ use Rattle.wat_lex.specs.declared.lexer.kinds.TokenKind.TheVariants.{Annotation}
 use Rattle.wat_lexer_parser.specs.declared.parser.fault.FaultKind.TheVariants.{Lex, Unclosed}
 use Rattle.wat_lexer_parser.specs.names.RegisteredNames.{Names, more, no_names}
 use Rattle.wat_lexer_parser.specs.places.Source.{Source}
-use Rattle.wat_lexer_parser.specs.shown.Counting.{counting}
+use Rattle.wat_lexer_parser.specs.laws.Counting.{counting}
 use Rattle.wat_lexer_parser.specs.shown.Shown.{IsMarked, IsMisnamed}
 use Rattle.wat_lexer_parser.specs.shown.Showing.{Look, shown}
 use Rattle.wat_rows.specs.Places.{raw_place}

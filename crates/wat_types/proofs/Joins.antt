@@ -6,7 +6,8 @@ use Rattle.wat_lexer_parser.specs.lemmas.SpellingLaws.{reads_as_spelled, spelled
 use Rattle.wat_lexer_parser.specs.places.Source.{Source, IsRead}
 use Rattle.wat_lexer_parser.specs.readings.Readings.{whole}
 use Rattle.wat_lexer_parser.specs.rules.Spelling.{ReadsAsSpelled, ground_of, Spells as SpellsRule}
-use Rattle.wat_lexer_parser.specs.shown.ShownLaws.{SomethingIsAllShown, OneThingShown}
+use Rattle.wat_lexer_parser.specs.laws.ShownLaws.{SomethingIsAllShown}
+use Rattle.wat_lexer_parser.specs.shown.Showing.{OneThingShown}
 use Rattle.wat_types.specs.Compiling.{Spells, plain}
 use Rattle.wat_types.specs.Meanings as meanings
 use Rattle.wat_types.specs.Signatures.{Signature}

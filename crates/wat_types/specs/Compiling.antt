@@ -7,7 +7,7 @@ use Rattle.wat_lex.specs.declared.lexer.kinds.Token.{Token}
 use Rattle.wat_lexer_parser.specs.names.RegisteredNames.{no_names}
 use Rattle.wat_lexer_parser.specs.places.Source.{Source, IsRead}
 use Rattle.wat_lexer_parser.specs.readings.Readings.{whole}
-use Rattle.wat_lexer_parser.specs.shown.Blanking.{TextShows}
+use Rattle.wat_lexer_parser.specs.laws.Blanking.{TextShows}
 use Rattle.wat_types.specs.Binary.{content, module_bytes}
 use Rattle.wat_types.specs.Grammar.{Module}
 use Rattle.wat_types.specs.Meanings.{module_types}

@@ -13,19 +13,20 @@ use Rattle.wat_lexer_parser.specs.declared.parser.fault.FaultKind.TheVariants.{L
 use Rattle.wat_lexer_parser.specs.lemmas.Behind.{Behind, behind_in, behind_place, shown_is_taken}
 use Rattle.wat_lexer_parser.specs.lemmas.RuleLaws.{At}
 use Rattle.wat_lexer_parser.specs.names.RegisteredNames.{Names, no_names}
-use Rattle.wat_lexer_parser.specs.parser.State.{report_by, report_of, seen, told}
+use Rattle.wat_lexer_parser.specs.parser.State.{report_of, seen, told}
 use Rattle.wat_lexer_parser.specs.places.Places.{current_span, offset_at}
 use Rattle.wat_lexer_parser.specs.places.Places as places
 use Rattle.wat_lexer_parser.specs.places.Source.{Source, IsRead}
 use Rattle.wat_lexer_parser.specs.readings.Readings.{start}
 use Rattle.wat_lexer_parser.specs.rules.Rules.{End}
 use Rattle.wat_lexer_parser.specs.rules.Spelling.{end_from, last_end}
-use Rattle.wat_lexer_parser.specs.shown.AllShown.{AllShown}
-use Rattle.wat_lexer_parser.specs.shown.AllShown as all_shown
-use Rattle.wat_lexer_parser.specs.shown.Blanking.{TextShows}
+use Rattle.wat_lexer_parser.specs.laws.AllShown.{AllShown}
+use Rattle.wat_lexer_parser.specs.laws.AllShown as all_shown
+use Rattle.wat_lexer_parser.specs.laws.Blanking.{TextShows}
 use Rattle.wat_lexer_parser.specs.shown.Shown.{Shown, Finding}
-use Rattle.wat_lexer_parser.specs.shown.Showing.{Look, Showing, placed, shown, shown_in}
-use Rattle.wat_lexer_parser.specs.shown.ShownLaws.{SomethingIsAllShown, OneThingShown}
+use Rattle.wat_lexer_parser.specs.shown.Showing.{Look, placed, shown, OneThingShown}
+use Rattle.wat_lexer_parser.specs.inside.ShownIn.{Showing, shown_in}
+use Rattle.wat_lexer_parser.specs.laws.ShownLaws.{SomethingIsAllShown}
 use Rattle.wat_format_shown.specs.Moved.{ShowsMoved, fault_moved, place_moved, token_moved}
 use Rattle.wat_format_shown.specs.Sides.{Sides, Alike, EndMoved, RefusalMoved, Stands, at_start, behind_open, by_map, with_token}
 
@@ -69,7 +70,8 @@ last_stands : (move : ℕ → ℕ) (s : Source) (names : Names) (e : End) (p : �
 last_stands move s names e p [] i j at h = h
 last_stands move s names e p (t ∷ us) i j at h = last_stands move s names e at.0 us (t.offset + t.len) (move t.offset + t.len) at.2 (with_token t (at.0 - 1) (shown_is_taken s p names t at.0 at.1).2 refl refl)
 
-refusal_by : (move : ℕ → ℕ) (tokens : List Token) (x y : List ℕ) (p : ℕ) (kind : FaultKind) → RefusalMoved move tokens y (report_by x p kind) (report_by y (place_moved move kind p) kind)
+refusal_by : (move : ℕ → ℕ) (tokens : List Token) (x y : List ℕ) (p : ℕ) (kind : FaultKind) → RefusalMoved move tokens y (report_of x (record { offset = p; kind = kind })) (report_of y (record { offset = place_moved move kind p; kind = kind }))
+unfolding report_of
 refusal_by move tokens x y p (Lex e) = record { cause = refl; offset = by_map refl; excerpt = refl }
 refusal_by move tokens x y p Unclosed = record { cause = refl; offset = behind_open refl; excerpt = refl }
 

@@ -9,7 +9,8 @@ use Rattle.wat_lexer_parser.specs.parser.State.{Seen, message_at, seen_at}
 use Rattle.wat_lexer_parser.specs.places.Source.{Source}
 use Rattle.wat_lexer_parser.specs.readings.Readings.{Outcome, Reading, at_end, on, start, whole_by}
 use Rattle.wat_lexer_parser.specs.rules.Rules.{End}
-use Rattle.wat_lexer_parser.specs.shown.ShownLaws.{SomethingIsAllShown, OneThingShown}
+use Rattle.wat_lexer_parser.specs.laws.ShownLaws.{SomethingIsAllShown}
+use Rattle.wat_lexer_parser.specs.shown.Showing.{OneThingShown}
 use Rattle.wat_format_shown.specs.Moved.{LayoutsShowTheSame, ShowsMoved}
 use Rattle.wat_format_shown.specs.Reads.{AnswerMoved, LayoutsReadTheSame, Moves, TextsReadTheSame, WholeMoved}
 use Rattle.wat_format_shown.specs.Sides.{Sides, by_map, passed}

@@ -9,9 +9,9 @@ use Rattle.wat_lexer_parser.specs.declared.parser.fault.Fault.{Fault}
 use Rattle.wat_lexer_parser.specs.lemmas.Behind.{behind_in, behind_place}
 use Rattle.wat_lexer_parser.specs.names.RegisteredNames.{Names}
 use Rattle.wat_lexer_parser.specs.places.Source.{Source, IsRead}
-use Rattle.wat_lexer_parser.specs.shown.AllShown.{AllShown, end, fault, next}
-use Rattle.wat_lexer_parser.specs.shown.Showing.{Showing, shown_in}
-use Rattle.wat_lexer_parser.specs.shown.ShownLaws.{SomethingShown, OneThingShown}
+use Rattle.wat_lexer_parser.specs.laws.AllShown.{AllShown, end, fault, next}
+use Rattle.wat_lexer_parser.specs.inside.ShownIn.{Showing, shown_in}
+use Rattle.wat_lexer_parser.specs.shown.Showing.{SomethingShown, OneThingShown}
 use Rattle.wat_lexer_parser.proofs.calls.EachShown.{shows_at}
 use Rattle.wat_lexer_parser.proofs.shown.BlankedShown.{AreBlank, SameBehind, Twins, Found, found_twins}
 

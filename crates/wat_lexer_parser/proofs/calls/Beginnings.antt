@@ -5,8 +5,7 @@ use Rattle.std.proofs.lemmas.Option.{get_or_from_slice_get, slice_get_within}
 use Rattle.std.proofs.lemmas.List.{take_more, take_all}
 use Rattle.wat_lexer_parser.specs.declared.parser.calls.Call.{Call}
 use Rattle.wat_lexer_parser.specs.declared.parser.calls.Reply.{Reply}
-use Rattle.wat_lexer_parser.specs.calls.Calls.{answer, replies, state_after}
-use Rattle.wat_lexer_parser.specs.calls.CallLaws.{AfterSome}
+use Rattle.wat_lexer_parser.specs.calls.Calls.{AfterSome, answer, replies, state_after}
 use Rattle.wat_lexer_parser.specs.parser.State.{State}
 
 replies_push : (s : State) (cs : List Call) (c : Call) → replies s (cs ++ (c ∷ [])) ≡ replies s cs ++ ((answer (state_after s cs) c).0 ∷ [])

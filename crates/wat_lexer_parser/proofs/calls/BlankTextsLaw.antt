@@ -19,8 +19,8 @@ use Rattle.wat_lex.specs.declared.lexer.kinds.Token.{Token}
 use Rattle.wat_lex.specs.declared.lexer.kinds.TokenKind.{TokenKind}
 use Rattle.wat_lex.specs.declared.lexer.kinds.TokenKind.TheVariants.{LineComment, BlockComment, Whitespace, LParen, RParen, String, Id, Keyword, Annotation, Reserved, Integer, Float}
 use Rattle.wat_lexer_parser.specs.groups.Sorts.{is_comment}
-use Rattle.wat_lexer_parser.specs.shown.Blanking.{ShowTheSame, BlankingShowsTheSame}
-use Rattle.wat_lexer_parser.specs.shown.BlankTexts.{blank_byte, blank_text, blank_texts, HasNoComment, BlankTextsShowTheSame}
+use Rattle.wat_lexer_parser.specs.laws.Blanking.{ShowTheSame, BlankingShowsTheSame}
+use Rattle.wat_lexer_parser.specs.laws.BlankTexts.{blank_byte, blank_text, blank_texts, HasNoComment, BlankTextsShowTheSame}
 use Rattle.wat_lexer_parser.proofs.calls.AllShownBlanked.{SameText}
 use Rattle.wat_lexer_parser.proofs.calls.BlankingLaw.{comment_bounds}
 use Rattle.wat_lexer_parser.proofs.shown.BlankBytes.{bytes_white, texts_twice, same_line_ends}

@@ -19,9 +19,10 @@ use Rattle.wat_lexer_parser.specs.declared.parser.fault.Fault.{Fault}
 use Rattle.wat_lexer_parser.specs.groups.Sorts.{is_blank, is_marked}
 use Rattle.wat_lexer_parser.specs.names.RegisteredNames.{Names}
 use Rattle.wat_lexer_parser.specs.places.Source.{Source}
-use Rattle.wat_lexer_parser.specs.shown.AllShown.{AllShown}
-use Rattle.wat_lexer_parser.specs.shown.Blanking.{TextShows, ShowTheSame, BlankingShowsTheSame}
-use Rattle.wat_lexer_parser.specs.shown.ShownLaws.{SomethingShown, OneThingShown, SomethingIsAllShown, AllShownIsOne}
+use Rattle.wat_lexer_parser.specs.laws.AllShown.{AllShown}
+use Rattle.wat_lexer_parser.specs.laws.Blanking.{TextShows, ShowTheSame, BlankingShowsTheSame}
+use Rattle.wat_lexer_parser.specs.laws.ShownLaws.{SomethingIsAllShown, AllShownIsOne}
+use Rattle.wat_lexer_parser.specs.shown.Showing.{SomethingShown, OneThingShown}
 use Rattle.wat_lexer_parser.proofs.calls.AllShownBlanked.{SameText, all_twins}
 use Rattle.wat_lexer_parser.proofs.shown.BlankedMarks.{mark_before, mark_behind, annotation_some}
 use Rattle.wat_lexer_parser.proofs.shown.BlankedShown.{AreBlank, SameBefore, SameBehind, Twins, spaced}

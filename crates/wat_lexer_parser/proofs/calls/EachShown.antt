@@ -7,10 +7,10 @@ use Rattle.wat_lex.specs.declared.lexer.kinds.Token.{Token}
 use Rattle.wat_lexer_parser.specs.declared.parser.fault.Fault.{Fault}
 use Rattle.wat_lexer_parser.specs.names.RegisteredNames.{Names}
 use Rattle.wat_lexer_parser.specs.places.Source.{Source, IsRead}
-use Rattle.wat_lexer_parser.specs.shown.AllShown.{AllShown, end, fault, next}
+use Rattle.wat_lexer_parser.specs.laws.AllShown.{AllShown, end, fault, next}
 use Rattle.wat_lexer_parser.specs.shown.Shown.{Finding, Shown}
-use Rattle.wat_lexer_parser.specs.shown.Showing.{Showing, shown_in}
-use Rattle.wat_lexer_parser.specs.shown.ShownLaws.{SomethingShown, OneThingShown}
+use Rattle.wat_lexer_parser.specs.inside.ShownIn.{Showing, shown_in}
+use Rattle.wat_lexer_parser.specs.shown.Showing.{SomethingShown, OneThingShown}
 use Rattle.wat_lexer_parser.specs.lemmas.Behind.{BehindPlace, behind_in, behind_place, same_token}
 
 same_shown : OneThingShown → (x : List ℕ) (z : Option LexFault) (n : Names) (ts : List Token) (a b : Finding) → Shown x z n ts a → Shown x z n ts b → a ≡ b

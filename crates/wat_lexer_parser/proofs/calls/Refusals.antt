@@ -8,7 +8,7 @@ use Rattle.wat_lexer_parser.specs.declared.parser.calls.Call.TheVariants as call
 use Rattle.wat_lexer_parser.specs.declared.parser.calls.Reply.{Reply}
 use Rattle.wat_lexer_parser.specs.declared.parser.calls.Reply.TheVariants as reply
 use Rattle.wat_lexer_parser.specs.calls.Calls.{answer, replies, state_after, shown_reply, comment_reply, place_after, after_taking, close_reply, taken_reply, open_reply, group_reply}
-use Rattle.wat_lexer_parser.specs.calls.CallLaws.{is_done, is_kept, kept_calls, kept_replies, NothingElse}
+use Rattle.wat_lexer_parser.specs.laws.CallLaws.{is_done, is_kept, kept_calls, kept_replies, NothingElse}
 use Rattle.wat_lexer_parser.specs.groups.Sorts.{is_open, is_close}
 use Rattle.wat_lexer_parser.specs.names.RegisteredNames.{most_often, Names, count, more, fewer, is_registered}
 use Rattle.wat_lexer_parser.specs.parser.State.{State}

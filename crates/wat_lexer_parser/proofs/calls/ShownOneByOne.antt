@@ -6,9 +6,10 @@ use Rattle.wat_lex.specs.declared.lexer.kinds.Token.{Token}
 use Rattle.wat_lexer_parser.specs.declared.parser.fault.Fault.{Fault}
 use Rattle.wat_lexer_parser.specs.names.RegisteredNames.{Names}
 use Rattle.wat_lexer_parser.specs.places.Source.{Source, IsRead}
-use Rattle.wat_lexer_parser.specs.shown.AllShown.{AllShown, end, fault, next}
-use Rattle.wat_lexer_parser.specs.shown.Showing.{Showing, shown_in, shown}
-use Rattle.wat_lexer_parser.specs.shown.ShownLaws.{SomethingShown, LooksAreAllShown}
+use Rattle.wat_lexer_parser.specs.laws.AllShown.{AllShown, end, fault, next}
+use Rattle.wat_lexer_parser.specs.shown.Showing.{shown, SomethingShown}
+use Rattle.wat_lexer_parser.specs.inside.ShownIn.{Showing, shown_in}
+use Rattle.wat_lexer_parser.specs.laws.ShownLaws.{LooksAreAllShown}
 use Rattle.wat_lexer_parser.specs.lemmas.Behind.{behind_in, behind_place, from_none, from_fault, from_token}
 use Rattle.wat_lexer_parser.proofs.calls.EachShown.{shows_at}
 

@@ -10,11 +10,12 @@ use Rattle.std.proofs.lemmas.Bool.{cases_Bool}
 use Rattle.wat_lex.specs.errors.Errors.{Report}
 use Rattle.wat_lex.specs.grammar.Classes.{quote, backslash}
 use Rattle.wat_lex.specs.identifiers.Identifiers.{is_owned_str}
+use Rattle.wat_lex.specs.tokens.ReadableTokens.{word_of}
 use Rattle.wat_lex.specs.values.Names.{HasNone, HasNoEscape}
 use Rattle.wat_lex.specs.declared.lexer.kinds.Token.{Token}
 use Rattle.wat_lex.specs.declared.lexer.kinds.TokenKind.TheVariants.{String}
 use Rattle.wat_lexer_parser.specs.parser.State.{State, Answers, at_place, seen_at}
-use Rattle.wat_lexer_parser.specs.parser.Takers.{contains, may_take, may_take_at, as_string, string_takes, word_takes}
+use Rattle.wat_lexer_parser.specs.parser.Takers.{contains, may_take, may_take_at, as_string, word_takes}
 
 none_pass : (p : ℕ → Bool) (w : List ℕ) → list_any p w ≡ false → NonePass p w
 none_pass p [] e = tt
@@ -49,7 +50,7 @@ contained c w h = elim (cases_Bool (contains c w)) [
 pub wanting : {V T : Type 0} (takes : Bool) (f : T → V) (m : Result V Report) (r : Result T (Option Report)) → r ≡ Err None → takes ≡ true → Answers takes f m r
 wanting takes f m r e h = subst (Answers takes f m) (sym e) (ap (λ b. b || is_err m) h)
 
-pub may_take_string : (a : State) (p q : ℕ) (t : Token) → seen_at (at_place a p) ≡ Ok (Some (t, q)) → t.kind ≡ String → may_take_at as_string (at_place a p) ≡ string_takes a.source.setting.text t
+pub may_take_string : (a : State) (p q : ℕ) (t : Token) → seen_at (at_place a p) ≡ Ok (Some (t, q)) → t.kind ≡ String → may_take_at as_string (at_place a p) ≡ contains backslash (word_of a.source.setting.text t)
 may_take_string a p q t e k =
     let x = a.source.setting.text in ap (may_take as_string x) e ∙ ap (λ k. is_some (as_string x t k) && word_takes x t k) k
 

@@ -3,7 +3,7 @@ use Rattle.std.proofs.Common.{◌≡◌, ◌≢◌, ◌⊎◌, ℕ, List, refl, 
 use Rattle.wat_lex.specs.declared.lexer.kinds.TokenKind.{TokenKind}
 use Rattle.wat_lex.specs.declared.lexer.kinds.TokenKind.TheVariants.{LineComment, BlockComment, Whitespace, LParen, RParen, String, Id, Keyword, Annotation, Reserved, Integer, Float}
 use Rattle.wat_lex.specs.declared.lexer.kinds.Token.{Token}
-use Rattle.wat_lexer_parser.specs.shown.Showing.{name_by}
+use Rattle.wat_lexer_parser.specs.inside.ShownIn.{name_by}
 
 pub is_annotation : (k : TokenKind) → (k ≡ Annotation) ⊎ (k ≢ Annotation)
 is_annotation Whitespace = inr (λ e. cc)

@@ -9,7 +9,7 @@ use Rattle.wat_lex.specs.tokens.Blanking.{space}
 use Rattle.wat_lex.specs.tokens.ReadableTokens.{token_text}
 use Rattle.wat_lex.specs.declared.lexer.kinds.Token.{Token}
 use Rattle.wat_lexer_parser.specs.groups.Sorts.{is_comment}
-use Rattle.wat_lexer_parser.specs.shown.BlankTexts.{blank_byte, blank_text, blank_texts, SameLineEnds}
+use Rattle.wat_lexer_parser.specs.laws.BlankTexts.{blank_byte, blank_text, blank_texts, SameLineEnds}
 
 kept : (b : ℕ) → is_line_end b ≡ true → blank_byte b ≡ b
 kept b h = ap (λ k. if k then b else space) h

@@ -16,7 +16,7 @@ use Rattle.wat_lexer_parser.specs.groups.Sorts.{is_blank, is_paren, is_marked}
 use Rattle.wat_lexer_parser.specs.lemmas.Behind.{does}
 use Rattle.wat_lexer_parser.specs.names.RegisteredNames.{Names}
 use Rattle.wat_lexer_parser.specs.shown.Shown.{Finding, ended, left_open}
-use Rattle.wat_lexer_parser.specs.shown.Showing.{Mode, Showing, Inside, shown_in, first, step_of, step_kind, step_next, step_named, name_by, after}
+use Rattle.wat_lexer_parser.specs.inside.ShownIn.{Mode, Showing, Inside, shown_in, first, step_of, step_kind, step_next, step_named, name_by, after}
 use Rattle.wat_lexer_parser.proofs.shown.Annotations.{is_annotation, no_name}
 use Rattle.wat_lexer_parser.proofs.shown.Skipping.{after_plain}
 use Rattle.wat_lexer_parser.proofs.shown.Steps.{blank_step, by_step}

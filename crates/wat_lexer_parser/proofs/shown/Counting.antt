@@ -9,7 +9,7 @@ use Rattle.wat_lex.specs.declared.lexer.kinds.TokenKind.TheVariants.{LineComment
 use Rattle.wat_lexer_parser.specs.groups.Groups.{Group, NoGroup}
 use Rattle.wat_lexer_parser.specs.groups.Sorts.{is_blank, is_paren, is_marked}
 use Rattle.wat_lexer_parser.specs.names.RegisteredNames.{Names}
-use Rattle.wat_lexer_parser.specs.shown.Counting.{counting, counting_behind, PlainTokensAreShown}
+use Rattle.wat_lexer_parser.specs.laws.Counting.{counting, counting_behind, PlainTokensAreShown}
 use Rattle.wat_lexer_parser.specs.shown.Shown.{Finding, IsMarked, Shown, ended, left_open, none_left, blank, other, unmarked, none_follows, no_annotation, misnamed, registered, skipped, unclosed}
 use Rattle.wat_lexer_parser.proofs.groups.Closing.{Closed, Closings, close, beyond, nested, closed_from, group_from, kind_cases, at_nil, at_close, at_plain, at_open}
 

@@ -12,7 +12,8 @@ use Rattle.wat_lexer_parser.proofs.groups.Closing.{Closed}
 use Rattle.wat_lexer_parser.specs.lemmas.Behind.{does}
 use Rattle.wat_lexer_parser.specs.names.RegisteredNames.{Names}
 use Rattle.wat_lexer_parser.specs.shown.Shown.{ended, left_open}
-use Rattle.wat_lexer_parser.specs.shown.Showing.{Showing, shown_in, shown, placed, first, step_of, step_kind, step_next, step_named, name_at}
+use Rattle.wat_lexer_parser.specs.shown.Showing.{shown, placed}
+use Rattle.wat_lexer_parser.specs.inside.ShownIn.{Showing, shown_in, first, step_of, step_kind, step_next, step_named, name_at}
 use Rattle.wat_lexer_parser.specs.places.Source.{Source}
 use Rattle.wat_lexer_parser.specs.groups.Sorts.{is_marked}
 use Rattle.wat_lexer_parser.specs.inside.Table.{HeadsAnnotation}

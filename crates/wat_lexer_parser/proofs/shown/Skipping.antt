@@ -9,7 +9,7 @@ use Rattle.wat_lexer_parser.specs.names.RegisteredNames.{Names}
 use Rattle.wat_lexer_parser.specs.groups.Sorts.{is_paren}
 use Rattle.wat_lexer_parser.proofs.groups.Closing.{Closed, close, beyond, nested}
 use Rattle.wat_lexer_parser.specs.shown.Shown.{left_open}
-use Rattle.wat_lexer_parser.specs.shown.Showing.{Inside, shown_in, after, closed_one}
+use Rattle.wat_lexer_parser.specs.inside.ShownIn.{Inside, shown_in, after, closed_one}
 use Rattle.wat_lexer_parser.proofs.groups.Closing.{Closings, kind_cases, at_nil, at_close, at_plain, at_open}
 
 pub after_plain : (k : TokenKind) (o : Token) (d : ℕ) → is_paren k ≡ false → after k o d ≡ Inside o d

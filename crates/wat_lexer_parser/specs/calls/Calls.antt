@@ -1,5 +1,5 @@
 -- What a parser replies to calls, and where they leave it: the fold of a list of calls. No part of the standard.
-use Rattle.std.specs.Prelude.{ℕ, zero, suc, List, [], ◌∷◌, nat_eq, if◌then◌else◌, Some, None, Result, Ok, Err, string_bytes}
+use Rattle.std.specs.Prelude.{◌≡◌, ℕ, zero, suc, List, [], ◌∷◌, take, nat_eq, if◌then◌else◌, Some, None, Result, Ok, Err, string_bytes}
 use Rattle.wat_lexer_parser.specs.declared.parser.fault.Fault.{Fault}
 use Rattle.wat_lexer_parser.specs.declared.parser.calls.Call.{Call}
 use Rattle.wat_lexer_parser.specs.declared.parser.calls.Call.TheVariants as call
@@ -83,3 +83,7 @@ replies s (c ∷ cs) = (answer s c).0 ∷ replies (answer s c).1 cs
 unfoldable pub state_after : State → List Call → State
 state_after s [] = s
 state_after s (c ∷ cs) = state_after (answer s c).1 cs
+
+-- the state after some beginning of the calls
+abbrev pub AfterSome : State → List Call → State → Type 0
+AfterSome s cs t = (k : ℕ) × (t ≡ state_after s (take k cs))

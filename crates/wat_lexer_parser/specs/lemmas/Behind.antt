@@ -8,10 +8,11 @@ use Rattle.wat_lexer_parser.specs.declared.parser.fault.Step.{Step}
 use Rattle.wat_lexer_parser.specs.declared.parser.fault.Step.TheVariants.{Pass, Take, Finish, Refuse, Skip}
 use Rattle.wat_lexer_parser.specs.names.RegisteredNames.{Names}
 use Rattle.wat_lexer_parser.specs.shown.Shown.{Finding, ended, left_open}
-use Rattle.wat_lexer_parser.specs.shown.ShownLaws.{ShownIsTaken}
+use Rattle.wat_lexer_parser.specs.laws.ShownLaws.{ShownIsTaken}
 use Rattle.wat_lexer_parser.specs.places.Places.{offset_at, end_of}
 use Rattle.wat_lexer_parser.specs.places.Source.{Source}
-use Rattle.wat_lexer_parser.specs.shown.Showing.{Mode, Showing, Inside, shown_in, placed, shown, first, step_of, after}
+use Rattle.wat_lexer_parser.specs.shown.Showing.{placed, shown}
+use Rattle.wat_lexer_parser.specs.inside.ShownIn.{Mode, Showing, Inside, shown_in, first, step_of, after}
 
 -- what is shown of a token and the rest behind it, by the step that the token means
 abbrev pub does : List ℕ → Option LexFault → Names → Token → List Token → Step → Finding

@@ -16,11 +16,12 @@ use Rattle.wat_lexer_parser.specs.parser.State.{Answers, report_of, seen, told}
 use Rattle.wat_lexer_parser.specs.places.Places.{current_span, offset_at}
 use Rattle.wat_lexer_parser.specs.places.Places as places
 use Rattle.wat_lexer_parser.specs.places.Source.{Source, IsRead}
-use Rattle.wat_lexer_parser.specs.shown.AllShown.{AllShown}
-use Rattle.wat_lexer_parser.specs.shown.AllShown as all_shown
+use Rattle.wat_lexer_parser.specs.laws.AllShown.{AllShown}
+use Rattle.wat_lexer_parser.specs.laws.AllShown as all_shown
 use Rattle.wat_lexer_parser.specs.shown.Shown.{Shown, Finding}
-use Rattle.wat_lexer_parser.specs.shown.Showing.{Look, Showing, placed, shown, shown_in}
-use Rattle.wat_lexer_parser.specs.shown.ShownLaws.{SomethingIsAllShown, OneThingShown}
+use Rattle.wat_lexer_parser.specs.shown.Showing.{Look, placed, shown, OneThingShown}
+use Rattle.wat_lexer_parser.specs.inside.ShownIn.{Showing, shown_in}
+use Rattle.wat_lexer_parser.specs.laws.ShownLaws.{SomethingIsAllShown}
 use Rattle.wat_lexer_parser.specs.readings.Readings.{Reading, whole}
 use Rattle.wat_lexer_parser.specs.lemmas.RuleLaws.{At, Follows, left, spelled_is_whole, whole_is_spelled}
 use Rattle.wat_lexer_parser.specs.rules.Rules.{Rule}

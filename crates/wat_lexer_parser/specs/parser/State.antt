@@ -4,7 +4,6 @@ use Rattle.std.specs.Str.{IsUtf8}
 use Rattle.wat_lex.specs.errors.Errors.{Report, Custom, lexical, report_in, IsUnlessMemory}
 use Rattle.wat_lex.specs.declared.lexer.kinds.Token.{Token}
 use Rattle.wat_lexer_parser.specs.declared.parser.fault.Fault.{Fault}
-use Rattle.wat_lexer_parser.specs.declared.parser.fault.FaultKind.{FaultKind}
 use Rattle.wat_lexer_parser.specs.declared.parser.fault.FaultKind.TheVariants.{Lex, Unclosed}
 use Rattle.wat_lexer_parser.specs.names.RegisteredNames.{Names, IsPositive, count, more, most_often}
 use Rattle.wat_lexer_parser.specs.places.Places.{current_span, offset_at}
@@ -29,13 +28,12 @@ pub record IsSound (a : State) : Type 0 where
   pub deep : a.depth ≤ a.place
   pub counts : IsPositive a.names
 
-abbrev pub report_by : List ℕ → ℕ → FaultKind → Report
-report_by text offset (Lex e) = lexical text (record { offset = offset; error = e })
-report_by text offset Unclosed = record { offset = offset; cause = Custom (codes "unclosed annotation"); excerpt = None }
-
 -- the report of a fault that a look reaches; an annotation that is not closed is reported without its line
 unfoldable pub report_of : List ℕ → Fault → Report
-report_of text f = report_by text f.offset f.kind
+report_of text f = elim f.kind [
+  | Lex e ↦ lexical text (record { offset = f.offset; error = e })
+  | Unclosed ↦ record { offset = f.offset; cause = Custom (codes "unclosed annotation"); excerpt = None }
+]
 
 -- the report of a message at a byte of the text
 abbrev pub message_at : Source → ℕ → List ℕ → Report
@@ -76,12 +74,9 @@ abbrev pub IsRefusal : {V : Type 0} → Result V Report → Option Report → Ty
 IsRefusal (Ok v) e = ⊥
 IsRefusal (Err f) e = IsUnlessMemory e f
 
--- groups may be this deep
-abbrev pub most_depth : ℕ
-most_depth = 100
-
+-- groups may be 100 deep
 abbrev pub depth_checked : State → Result (Unit {0}) Report
-depth_checked s = if nat_lt most_depth s.depth then Err (report_here s.source s.place s.names (codes "item nesting too deep")) else Ok tt
+depth_checked s = if nat_lt 100 s.depth then Err (report_here s.source s.place s.names (codes "item nesting too deep")) else Ok tt
 
 -- the report of a name that is registered as often as can be, at the place and without its line
 abbrev pub too_often : State → Report

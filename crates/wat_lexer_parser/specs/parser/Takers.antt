@@ -1,5 +1,5 @@
--- WebAssembly specification, text format, lexical format: tokens, comments, annotations; values: integers, floating-point, strings,
--- identifiers. What takers of one kind of token answer of what is seen. Floats have their value by the relations of their words.
+-- WebAssembly specification, text format, lexical format: tokens, comments, annotations; values: integers, floats, strings, identifiers.
+-- What takers of one kind of token answer of what is seen. Floats have their value by the relations of their words.
 use Rattle.std.specs.List.{list_any}
 use Rattle.std.specs.Str.Parse.{digits_value, without_leading_sign}
 use Rattle.std.specs.Prelude.{ℕ, Bool, true, false, ◌==◌, ◌&&◌, List, is_some, Option, Some, None, Result, Ok, Err}
@@ -12,7 +12,7 @@ use Rattle.wat_lex.specs.values.WordValues.{string_value, name_value}
 use Rattle.wat_lex.specs.declared.lexer.faults.LexError.{LexError}
 use Rattle.wat_lex.specs.declared.lexer.faults.LexError.TheVariants.{EmptyId, EmptyAnnotation}
 use Rattle.wat_lex.specs.declared.lexer.kinds.SignToken.{SignToken}
-use Rattle.wat_lex.specs.declared.lexer.kinds.SignToken.TheVariants.{Plus, Minus}
+use Rattle.wat_lex.specs.declared.lexer.kinds.SignToken.TheVariants.{Minus}
 use Rattle.wat_lex.specs.declared.lexer.kinds.Token.{Token}
 use Rattle.wat_lex.specs.declared.lexer.kinds.TokenKind.{TokenKind}
 use Rattle.wat_lex.specs.declared.lexer.kinds.TokenKind.TheVariants.{LParen, RParen, String, Id, Keyword, Annotation, Reserved, Integer, Float}
@@ -76,8 +76,7 @@ as_string text t kind = None
 
 abbrev pub is_minus : Option SignToken → Bool
 is_minus (Some Minus) = true
-is_minus (Some Plus) = false
-is_minus None = false
+is_minus other = false
 
 -- whether an integer has a minus, and the whole number that its digits write
 abbrev pub as_integer : Reader (Bool × ℕ)
@@ -105,23 +104,14 @@ abbrev pub as_annotation : Reader (List ℕ)
 as_annotation text t Annotation = Some (name_or_report text t (name_value EmptyAnnotation (word_of text t)))
 as_annotation text t kind = None
 
--- the text of a comment, with the place behind it
-abbrev pub comment_by : List ℕ → Seen → Result (Option (List ℕ × ℕ)) Report
-comment_by text (Ok None) = Ok None
-comment_by text (Ok (Some (t, q))) = Ok (Some (token_text text t, q))
-comment_by text (Err f) = Err f
-
+-- the text of the comment in front, with the place behind it
 abbrev pub comment_taken : State → Result (Option (List ℕ × ℕ)) Report
-comment_taken a = comment_by a.source.setting.text (told a.source.setting.text (comment_at a.source a.place))
+comment_taken a = taken (λ text t kind. Some (Ok (token_text text t))) a.source.setting.text (told a.source.setting.text (comment_at a.source a.place))
 
 abbrev pub contains : ℕ → List ℕ → Bool
 contains c w = list_any (λ d. d == c) w
 
--- strings with an escape are decoded
-abbrev pub string_takes : List ℕ → Token → Bool
-string_takes text t = contains backslash (word_of text t)
-
--- so are quoted names
+-- quoted names with an escape are decoded
 abbrev pub name_takes : List ℕ → Token → Bool
 name_takes text t = contains quote (word_of text t) && contains backslash (word_of text t)
 
@@ -134,9 +124,9 @@ named_by owned (Some (Err f)) = Some (Err f)
 abbrev pub as_owned_id : Reader (List ℕ × Bool)
 as_owned_id text t kind = named_by (name_takes text t) (as_id text t kind)
 
--- whether reading a word takes memory; numbers with underscores or `0x` are written anew
+-- whether reading a word takes memory; strings with an escape are decoded, and numbers with underscores or `0x` are written anew
 abbrev pub word_takes : List ℕ → Token → TokenKind → Bool
-word_takes text t String = string_takes text t
+word_takes text t String = contains backslash (word_of text t)
 word_takes text t Id = name_takes text t
 word_takes text t Annotation = name_takes text t
 word_takes text t (Integer k) = is_integer_rewritten k
@@ -145,9 +135,8 @@ word_takes text t kind = false
 
 -- whether taking the seen token may take memory, where it is of the kind that is read
 abbrev pub may_take : {V : Type 0} → Reader V → List ℕ → Seen → Bool
-may_take read text (Ok None) = false
 may_take read text (Ok (Some (t, q))) = is_some (read text t t.kind) && word_takes text t t.kind
-may_take read text (Err f) = false
+may_take read text other = false
 
 abbrev pub may_take_at : {V : Type 0} → Reader V → State → Bool
 may_take_at read a = may_take read a.source.setting.text (seen_at a)

@@ -1,9 +1,9 @@
 //! Calls of a parser as values, and the replies to them.
 ghost use Rattle.std.specs.Prelude.{◌≡◌, ◌≤◌, ◌<◌, length, IfOk, OnOk, OnErr};
 ghost use Rattle.std.specs.Prelude.{Ok, Err};
-ghost use Rattle.wat_lexer_parser.specs.calls.CallLaws.{NothingElse, AfterSome};
+ghost use Rattle.wat_lexer_parser.specs.laws.CallLaws.{NothingElse};
 ghost use Rattle.wat_lexer_parser.specs.calls.Calls.{answer, register, unregister, replies};
-ghost use Rattle.wat_lexer_parser.specs.calls.Calls.{state_after};
+ghost use Rattle.wat_lexer_parser.specs.calls.Calls.{AfterSome, state_after};
 ghost use Rattle.wat_lexer_parser.specs.calls.Calls.{fault_reply, shown_reply, comment_reply};
 ghost use Rattle.wat_lexer_parser.specs.calls.Calls.{place_after, after_taking, close_reply, group_reply};
 ghost use Rattle.wat_lexer_parser.specs.places.Places.{comment_at};

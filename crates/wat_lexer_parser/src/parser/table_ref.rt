@@ -19,8 +19,9 @@ ghost use Rattle.wat_lexer_parser.specs.places.Places.{offset_at};
 ghost use Rattle.wat_lexer_parser.specs.places.Places.{comment_at, past_space, is_meaningful};
 ghost use Rattle.wat_lexer_parser.specs.places.Source.{IsRead};
 ghost use Rattle.wat_lexer_parser.specs.shown.Shown.{ended, left_open};
-ghost use Rattle.wat_lexer_parser.specs.shown.Showing.{name_at, placed, shown, step_kind};
-ghost use Rattle.wat_lexer_parser.specs.shown.Showing.{step_named, step_next, step_of};
+ghost use Rattle.wat_lexer_parser.specs.shown.Showing.{placed, shown};
+ghost use Rattle.wat_lexer_parser.specs.inside.ShownIn.{name_at, step_kind};
+ghost use Rattle.wat_lexer_parser.specs.inside.ShownIn.{step_named, step_next, step_of};
 
 use crate::parser::fault::{Fault, FaultKind, Step};
 use crate::parser::names::Names;

@@ -1,5 +1,5 @@
 use Rattle.std.proofs.Common.{◌∙◌}
-use Rattle.wat_lexer_parser.specs.shown.BlankTexts.{blank_byte}
+use Rattle.wat_lexer_parser.specs.laws.BlankTexts.{blank_byte}
 use Rattle.wat_commands.proofs.BlockLaws.{on_err, puts_next, puts_cut}
 use Rattle.wat_commands.proofs.blank.put_blanks.Goals as goal
 

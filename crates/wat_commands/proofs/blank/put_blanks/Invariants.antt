@@ -1,5 +1,5 @@
 use Rattle.std.proofs.Common.{◌≡◌, map, take}
-use Rattle.wat_lexer_parser.specs.shown.BlankTexts.{blank_byte}
+use Rattle.wat_lexer_parser.specs.laws.BlankTexts.{blank_byte}
 use Rattle.wat_commands.specs.Blocks.{Puts}
 use Rattle.wat_commands.proofs.blank.put_blanks.Given as goal
 

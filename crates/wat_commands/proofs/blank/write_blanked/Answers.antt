@@ -1,6 +1,6 @@
 use Rattle.std.proofs.Common.{None, Some, refl, ◌∙◌}
 use Rattle.std.proofs.lemmas.Str.{IsCharBoundary-start}
-use Rattle.wat_lexer_parser.specs.shown.BlankTexts.{blank_text}
+use Rattle.wat_lexer_parser.specs.laws.BlankTexts.{blank_text}
 use Rattle.wat_commands.proofs.BlockLaws.{on_err, putting_start, putting_more, putting_cut, putting_end, putting_end_cut}
 use Rattle.wat_commands.proofs.blank.write_blanked.Goals as goal
 

@@ -1,5 +1,5 @@
 use Rattle.std.proofs.Common.{◌≡◌, length, ◌-◌}
-use Rattle.wat_lexer_parser.specs.shown.BlankTexts.{blank_text}
+use Rattle.wat_lexer_parser.specs.laws.BlankTexts.{blank_text}
 use Rattle.wat_commands.proofs.BlockLaws.{Putting}
 use Rattle.wat_commands.proofs.blank.write_blanked.Given as goal
 

@@ -3,7 +3,7 @@ use Rattle.std.proofs.lemmas.Str.{IsCharBoundary-start}
 use Rattle.std.specs.Prelude.{Result}
 use Rattle.wat_lex.specs.tokens.Blanking.{space, blanked}
 use Rattle.wat_lex.specs.tokens.Setting.{lenient}
-use Rattle.wat_lexer_parser.specs.shown.Blanking.{ShowTheSameWhereRaw}
+use Rattle.wat_lexer_parser.specs.laws.Blanking.{ShowTheSameWhereRaw}
 use Rattle.wat_lexer_parser.proofs.calls.BlankingLaw.{comment_bounds, spaces_are_blanks}
 use Rattle.wat_lexer_parser.proofs.laws.blanked.Goals as goal
 

@@ -1,7 +1,7 @@
 use Rattle.std.proofs.Common.{arith, ap, sym, ◌∙◌, ◌-◌, ◌+◌, ◌<◌, ◌≡◌, length, suc}
 use Rattle.std.proofs.lemmas.Option.{slice_get-get_or}
 use Rattle.wat_lexer_parser.specs.places.Places.{offset_at}
-use Rattle.wat_lexer_parser.specs.shown.Counting.{counting}
+use Rattle.wat_lexer_parser.specs.laws.Counting.{counting}
 use Rattle.wat_rows.specs.Places.{raw_place}
 use Rattle.wat_rows.specs.declared.counting.Row.{Row}
 use Rattle.wat_rows.proofs.RawPlaces.{offset_of_last, offset_of_none}

@@ -2,8 +2,7 @@ use Rattle.std.proofs.Common.{◌≡◌, ◌+◌, ◌++◌, ◌∷◌, ◌∙◌
 use Rattle.std.specs.Prelude.{List}
 use Rattle.wat_lexer_parser.specs.declared.parser.calls.Call.{Call}
 use Rattle.wat_lexer_parser.specs.declared.parser.calls.Reply.{Reply}
-use Rattle.wat_lexer_parser.specs.calls.CallLaws.{AfterSome}
-use Rattle.wat_lexer_parser.specs.calls.Calls.{answer}
+use Rattle.wat_lexer_parser.specs.calls.Calls.{AfterSome, answer}
 use Rattle.wat_lexer_parser.proofs.calls.Beginnings.{Played, play_start, play_more, play_begins}
 use Rattle.wat_lexer_parser.proofs.parser.calls.replay.Goals as goal
 

@@ -2,7 +2,7 @@ use Rattle.std.proofs.Common.{drop, ◌≡◌, ◌≤◌, ◌<◌, ◌+◌, ◌�
 use Rattle.std.specs.Prelude.{slice_get}
 use Rattle.wat_lexer_parser.specs.declared.parser.fault.Step.TheVariants.{Pass, Take, Finish, Refuse, Skip}
 use Rattle.wat_lexer_parser.specs.inside.Table.{Pair}
-use Rattle.wat_lexer_parser.specs.shown.Showing.{step_of}
+use Rattle.wat_lexer_parser.specs.inside.ShownIn.{step_of}
 use Rattle.wat_lexer_parser.proofs.groups.Closing.{closed_from, group_from}
 use Rattle.wat_lexer_parser.proofs.shown.Looks.{shown_pass, shown_take, shown_finish, shown_refuse, shown_skip, shown_unclosed, shown_end, skip_heads}
 use Rattle.wat_lexer_parser.proofs.parser.table_ref.TableRef.look.Goals as goal

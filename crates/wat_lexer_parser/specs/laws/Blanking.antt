@@ -12,7 +12,7 @@ use Rattle.wat_lex.specs.declared.lexer.kinds.Token.{Token}
 use Rattle.wat_lex.specs.declared.lexer.settings.Settings.{Settings}
 use Rattle.wat_lexer_parser.specs.declared.parser.fault.Fault.{Fault}
 use Rattle.wat_lexer_parser.specs.names.RegisteredNames.{Names}
-use Rattle.wat_lexer_parser.specs.shown.AllShown.{AllShown}
+use Rattle.wat_lexer_parser.specs.laws.AllShown.{AllShown}
 
 -- these tokens are all that is shown of the text from its start on, and then the end (None) or this fault
 pub record TextShows (s : Setting) (names : Names) (shown : List Token) (last : Option Fault) : Type 0 where

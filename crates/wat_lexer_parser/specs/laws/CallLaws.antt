@@ -1,5 +1,5 @@
 -- What holds of every list of calls: looks and refused calls change nothing else. No part of the standard.
-use Rattle.std.specs.Prelude.{ℕ, ◌≡◌, Bool, true, false, ◌&&◌, not, List, [], ◌∷◌, take, if◌then◌else◌}
+use Rattle.std.specs.Prelude.{◌≡◌, Bool, true, false, ◌&&◌, not, List, [], ◌∷◌, if◌then◌else◌}
 use Rattle.wat_lexer_parser.specs.declared.parser.calls.Call.{Call}
 use Rattle.wat_lexer_parser.specs.declared.parser.calls.Call.TheVariants as call
 use Rattle.wat_lexer_parser.specs.declared.parser.calls.Reply.{Reply}
@@ -38,7 +38,3 @@ pub record NothingElse (s : State) (cs : List Call) : Type 0 where
 -- which holds of each state and each list of calls
 abbrev pub LooksAndRefusals : Type 0
 LooksAndRefusals = (s : State) (cs : List Call) → NothingElse s cs
-
--- the state after some beginning of the calls
-abbrev pub AfterSome : State → List Call → State → Type 0
-AfterSome s cs t = (k : ℕ) × (t ≡ state_after s (take k cs))

@@ -1,5 +1,5 @@
--- WebAssembly specification, text format, lexical format: annotations. The laws of what is shown: the cases leave nothing out, for every
--- text of UTF-8 and its raw tokens, and no choice, for any tokens.
+-- WebAssembly specification, text format, lexical format: annotations. The laws of what is shown, beside that it is one thing: of groups,
+-- of all that is shown, and of what looks take.
 use Rattle.std.specs.Prelude.{◌≡◌, ◌≢◌, ◌≤◌, ◌<◌, ◌+◌, ◌-◌, ℕ, List, [], ◌∷◌, ◌++◌, Option, Some, None, Ok, Err, length, drop, slice_get}
 use Rattle.std.specs.Str.{IsUtf8}
 use Rattle.wat_lex.specs.tokens.Setting.{Setting}
@@ -11,9 +11,9 @@ use Rattle.wat_lexer_parser.specs.groups.Groups.{Group}
 use Rattle.wat_lexer_parser.specs.names.RegisteredNames.{Names}
 use Rattle.wat_lexer_parser.specs.places.Places.{offset_at}
 use Rattle.wat_lexer_parser.specs.places.Source.{Source, IsRead}
-use Rattle.wat_lexer_parser.specs.shown.AllShown.{AllShown}
-use Rattle.wat_lexer_parser.specs.shown.Shown.{Finding, Shown, IsMarked}
-use Rattle.wat_lexer_parser.specs.shown.Showing.{Showing, shown_in, shown}
+use Rattle.wat_lexer_parser.specs.laws.AllShown.{AllShown}
+use Rattle.wat_lexer_parser.specs.shown.Shown.{IsMarked}
+use Rattle.wat_lexer_parser.specs.shown.Showing.{shown}
 
 -- the raw tokens from a place on are the tail of the raw tokens
 abbrev pub TailsAreRaw : Type 0
@@ -22,14 +22,6 @@ TailsAreRaw = (s : Setting) (ts : List Token) (e : Option LexFault) (p : ℕ) �
 -- a group ends at one place
 abbrev pub GroupIsOne : Type 0
 GroupIsOne = (ts r q : List Token) → Group ts r → Group ts q → r ≡ q
-
--- what the function gives is shown
-abbrev pub SomethingShown : Type 0
-SomethingShown = (s : Source) (names : Names) (p : ℕ) → IsUtf8 s.setting.text → IsRead s → Shown s.setting.text s.ending names (drop p s.tokens) (shown_in s.setting.text s.ending names Showing (drop p s.tokens))
-
--- and nothing else
-abbrev pub OneThingShown : Type 0
-OneThingShown = (text : List ℕ) (e : Option LexFault) (names : Names) (ts : List Token) (a : Finding) → Shown text e names ts a → a ≡ shown_in text e names Showing ts
 
 -- from each place on, tokens are shown one after another, and then the end or a fault
 abbrev pub SomethingIsAllShown : Type 0
