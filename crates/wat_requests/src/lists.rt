@@ -29,7 +29,7 @@ fn ended<T: fmt::Debug + Drop>(
     ending.with_state(is_placed && parser.parens_depth() == 0)
 }
 
-fn list(
+fn read_list(
     run: &mut Run<'_>,
     which: Which,
     text: &str,
@@ -71,7 +71,7 @@ pub fn lists(run: &mut Run<'_>) -> io::Result<()> {
     ];
     for (name, kind, text, shown, place) in rows {
         if run.is_asked(name) {
-            let ended = list(run, kind, text, Expected::Value(shown), place);
+            let ended = read_list(run, kind, text, Expected::Value(shown), place);
             run.report(name, ended)?;
         }
     }
@@ -101,7 +101,7 @@ pub fn refused_lists(run: &mut Run<'_>) -> io::Result<()> {
     for (name, kind, text, message, offset, place) in rows {
         if run.is_asked(name) {
             let expected = Expected::Refusal(message, offset);
-            let ended = list(run, kind, text, expected, place);
+            let ended = read_list(run, kind, text, expected, place);
             run.report(name, ended)?;
         }
     }
