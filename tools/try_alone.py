@@ -2,7 +2,7 @@
 """Tries edits, each by a check of the functions alone whose text it changes, and of those that they call. The prover has to refuse one of them. Where
 it takes them all, the edit is tried once more by a check of its whole crate: a function that only a caller's contract pins is refused there.
 
-The libraries have to stand in crates/NAME/out, as `rt ci` leaves them. Where `rt ci` and `rt must-fail` prove an edit's crate first, 9 minutes
+The libraries have to stand in crates/NAME/out, as `rt ci` with no names leaves them. Where `rt ci` and `rt must-fail` prove an edit's crate first, 9 minutes
 for the lexer and 14 for the parser, this proves what the edit needs: half a minute to one and a half for the first edit of a crate, and half of
 that for the next ones, which take from it what they share.
 
@@ -104,7 +104,7 @@ def libraries(crate):
     for it in below:
         built = ROOT / "crates" / it / "out" / "rlib" / f"{it}.rlib" if it in lines else KIT / "rlibs" / f"{it}.rlib"
         if not built.exists():
-            sys.exit(f"try_alone.py: {built.relative_to(ROOT)} is not there: run rt ci, or rt ci {it}, first")
+            sys.exit(f"try_alone.py: {built.relative_to(ROOT)} is not there: run rt ci with no names first, or rt lib in crates/{it}")
         words += ["--extern", f"{it}={built}"]
     for it in lines:
         words += ["-L", f"dependency={ROOT / 'crates' / it / 'out' / 'rlib'}"]
