@@ -5,16 +5,18 @@ ghost use Rattle.std.specs.Str.{IsValidUpTo};
 ghost use Rattle.wat_lex.specs.errors.Errors.{lexical};
 ghost use Rattle.wat_commands.specs.Inputs.{ReadsPast, ReadsShort, HasEnded};
 ghost use Rattle.wat_commands.specs.Layouts.{Compares, WritesLayout, WritesPart};
+ghost use Rattle.wat_commands.specs.Plain.{plain_failure, plain_inner};
 ghost use Rattle.wat_commands.specs.Refusals.{IsNotUtf8, IsWrite, read_failure, write_failure};
 ghost use Rattle.wat_commands.specs.declared.ends.Failed.{Failed};
 
-use crate::ends::{Failed, Source};
+use crate::ends::{Failed, Plain, Sink, Source};
 use crate::print::text_of;
 use crate::run::{RunError, read_whole};
 use std::alloc::Global;
 use std::io;
 use wat_format::error::Error as FormatError;
 use wat_format::format::format;
+use wat_format::sink;
 use wat_format::stream::{WriteError, format_to};
 use wat_lex::error::Error;
 use wat_lex::lexer::{LexFault, Settings};
@@ -33,11 +35,16 @@ pub enum Compared {
     Faulty(Error),
 }
 
-/// The failure that a writer told, or that it took nothing.
-fn failure_of(cause: &Option<io::Error>) -> Failed {
-    match cause {
-        Some(error) => Failed::of(error),
-        None => Failed { code: None },
+impl<T: io::Write> sink::Sink for Plain<T> {
+    type Failure = Failed;
+
+    ghost held = { λ p. T.contents (plain_inner p) };
+
+    ghost failure = { λ p. plain_failure p };
+
+    #[tactic(auto, using(crate::proofs::KnownBytes::as_first))]
+    fn write_all(&mut self, bytes: &[u8]) -> Result<(), Failed> {
+        <Plain<T> as Sink>::write_all(self, bytes)
     }
 }
 
@@ -55,39 +62,43 @@ fn error_of(alloc: Global, text: &str, fault: LexFault) -> Result<Error, RunErro
 }
 
 /// Writes the layout of a text, or answers the error of its fault.
-fn write_text<W: io::Write>(
+fn write_text<W: sink::Sink<Failure = Failed>>(
     alloc: Global,
     text: &str,
     settings: Settings,
     output: &mut W,
 ) -> Result<Option<Error>, RunError>
-    requires { length text.now < 2 ^ 32 }
+    requires short { length text.now < 2 ^ 32 }
+    requires fresh { W.failure output.old ≡ None }
     ensures written { IfOk result (λ error. WritesLayout settings text.now error
-        (W.contents output.old) (W.contents output.new)) }
+        (W.held output.old) (W.held output.new)) }
     ensures part { OnErr result
-        (WritesPart settings text.now (W.contents output.old) (W.contents output.new)) }
+        (WritesPart settings text.now (W.held output.old) (W.held output.new)) }
+    ensures write { write_failure result ≡ W.failure output.new }
     ensures refused { IfErr result (λ e. IsWrite e ⊎ (e ≡ RunError.Memory alloc_error)) }
 {
     match format_to(alloc, text, settings, output) {
         Ok(()) => Ok(None),
         Err(WriteError::Memory(refused)) => Err(RunError::from(refused)),
-        Err(WriteError::Failed(cause)) => Err(RunError::Write(failure_of(&cause))),
+        Err(WriteError::Failed(failed)) => Err(RunError::Write(failed)),
         Err(WriteError::Fault(fault)) => Ok(Some(error_of(alloc, text, fault)?)),
     }
 }
 
 /// Writes the layout of the text that bytes are, or answers the error of its fault.
-fn write_bytes<W: io::Write>(
+fn write_bytes<W: sink::Sink<Failure = Failed>>(
     alloc: Global,
     bytes: &[u8],
     settings: Settings,
     output: &mut W,
 ) -> Result<Option<Error>, RunError>
-    requires { length bytes.now < 2 ^ 32 }
+    requires short { length bytes.now < 2 ^ 32 }
+    requires fresh { W.failure output.old ≡ None }
     ensures written { IfOk result (λ error. WritesLayout settings bytes.now error
-        (W.contents output.old) (W.contents output.new)) }
+        (W.held output.old) (W.held output.new)) }
     ensures part { OnErr result
-        (WritesPart settings bytes.now (W.contents output.old) (W.contents output.new)) }
+        (WritesPart settings bytes.now (W.held output.old) (W.held output.new)) }
+    ensures write { write_failure result ≡ W.failure output.new }
     ensures unwritten { IfErr result (λ e. IsWrite e ⊎
         ((e ≡ RunError.Memory alloc_error) ⊎ (output.new ≡ output.old))) }
     ensures not_utf8 { (offset : ℕ) →
@@ -104,20 +115,21 @@ fn write_bytes<W: io::Write>(
 /// Writes all that the source has left laid out, some 64 KiB at a time, however long that is. Where
 /// the text has a fault nothing is written, and the answer is that fault's error. Memory is asked
 /// for while it writes, eight bytes for each open group.
-pub fn run_fmt<R: Source, W: io::Write>(
+pub fn run_fmt<R: Source, W: sink::Sink<Failure = Failed>>(
     alloc: Global,
     input: &mut R,
     output: &mut W,
     settings: Settings,
 ) -> Result<Option<Error>, RunError>
-    requires { R.failure input.old ≡ None }
+    requires unread { R.failure input.old ≡ None }
+    requires unwritten { W.failure output.old ≡ None }
     ensures written { IfOk result (λ error. IfSome (R.left input.old) (λ bytes.
-        WritesLayout settings bytes error (W.contents output.old) (W.contents output.new))) }
+        WritesLayout settings bytes error (W.held output.old) (W.held output.new))) }
 
     // A failed write has written a first part of the layout or nothing, a refused request for memory
     // too, and each other refusal nothing.
     ensures part { OnErr result (IfSome (R.left input.old) (λ bytes.
-        WritesPart settings bytes (W.contents output.old) (W.contents output.new))) }
+        WritesPart settings bytes (W.held output.old) (W.held output.new))) }
     ensures unwritten { IfErr result (λ e. IsWrite e ⊎
         ((e ≡ RunError.Memory alloc_error) ⊎ (output.new ≡ output.old))) }
 
@@ -128,8 +140,9 @@ pub fn run_fmt<R: Source, W: io::Write>(
     ensures write_ended { (failed : Failed) → IsErrOf result (RunError.Write failed) →
         HasEnded (R.left input.new) (R.has_ended input.new) }
 
-    // When each refusal of what is read comes.
+    // When each refusal but that of memory comes.
     ensures read { read_failure result ≡ R.failure input.new }
+    ensures write { write_failure result ≡ W.failure output.new }
     ensures short { (IsErrOf result RunError.TooLong) ⊎
         ReadsShort (R.left input.old) (R.left input.new) }
     ensures too_long { IfSome (R.left input.old) (λ _.

@@ -140,17 +140,17 @@ moves_none a block = record { first = []; all = refl; appended = appends_none a 
 pub moves_all : (a b : Option (List ℕ)) (block block' : List ℕ) → Appends a b block → block' ≡ [] → Moves a b block block'
 moves_all a b block block' h e = record { first = block; all = sym (ap (λ x. block ++ x) e ∙ append-nil block); appended = h }
 
--- the error of a writer, where a part of some bytes is a part of the layout
-pub cuts_short : (s : Setting) (old new new' : Option (List ℕ)) (bytes : List ℕ) (e : WriteError) → (AppendsPrefix new new' bytes → AppendsPart s old new') → StopsShort new new' bytes e → CutsShort s old new' e
+-- the error of a sink, where a part of some bytes is a part of the layout
+pub cuts_short : {F : Type 0} (s : Setting) (old new new' : Option (List ℕ)) (bytes : List ℕ) (e : WriteError F) → (AppendsPrefix new new' bytes → AppendsPart s old new') → StopsShort new new' bytes e → CutsShort s old new' e
 cuts_short s old new new' bytes (Memory r) f h = absurd h
 cuts_short s old new new' bytes (Fault r) f h = absurd h
 cuts_short s old new new' bytes (Failed r) f h = f h
 
-pub on_error : {T : Type 0} {P Q : WriteError → Type 0} → (r : Result T WriteError) → ((e : WriteError) → P e → Q e) → IfErr r P → IfErr r Q
+pub on_error : {T F : Type 0} {P Q : WriteError F → Type 0} → (r : Result T (WriteError F)) → ((e : WriteError F) → P e → Q e) → IfErr r P → IfErr r Q
 on_error (Ok x) f h = tt
 on_error (Err e) f h = f e h
 
 -- an error that `?` hands on as it is
-pub passed_on : {T : Type 0} (P : WriteError → Type 0) (r : Result T WriteError) (e : WriteError) → IsErrAnd r (λ x. x ≡ e) → P e → IfErr r P
+pub passed_on : {T F : Type 0} (P : WriteError F → Type 0) (r : Result T (WriteError F)) (e : WriteError F) → IsErrAnd r (λ x. x ≡ e) → P e → IfErr r P
 passed_on P (Ok x) e h k = tt
 passed_on P (Err x) e h k = subst P (sym h) k

@@ -7,3 +7,4 @@ pub mod Errors
 pub mod Laws
 pub mod Spaces
 pub mod inside
+pub mod Writers

@@ -1,5 +1,5 @@
--- What formatting a text into a writer adds to the bytes that the writer holds. No part of the standard.
-use Rattle.std.specs.Prelude.{◌≡◌, ◌++◌, ℕ, List, Option, Some}
+-- What formatting a text into a sink adds to the bytes that the sink holds. No part of the standard.
+use Rattle.std.specs.Prelude.{◌≡◌, ◌++◌, ℕ, List, Option, Some, Result, Ok, Err}
 use Rattle.std.specs.Io.KnownBytes.{Appends, Keeps}
 use Rattle.wat_lex.specs.tokens.Setting.{Setting}
 use Rattle.wat_lex.specs.tokens.Tiling.{MaximalTiling}
@@ -27,9 +27,21 @@ pub record AppendsPart (s : Setting) (old new : Option (List ℕ)) : Type 0 wher
   pub formatted : Formatted s answer
   pub appended : AppendsPrefix old new answer
 
--- Where the text has this fault nothing is written. Where memory is wanting or the writer fails, the text has no fault and a first part of its layout
+-- Where the text has this fault nothing is written. Where memory is wanting or a write fails, the text has no fault and a first part of its layout
 -- is written.
-abbrev pub RefusesToWrite : Setting → Option (List ℕ) → Option (List ℕ) → WriteError → Type 0
+abbrev pub RefusesToWrite : {F : Type 0} → Setting → Option (List ℕ) → Option (List ℕ) → WriteError F → Type 0
 RefusesToWrite s old new (Memory refused) = AppendsPart s old new
 RefusesToWrite s old new (Fault fault) = ((tokens : List Token) × MaximalTiling s 0 tokens (Some fault)) × Keeps old new
 RefusesToWrite s old new (Failed cause) = AppendsPart s old new
+
+-- the failure of the last call that failed, behind a write
+abbrev pub failure_after : {F : Type 0} → Option F → Result (Unit {0}) F → Option F
+failure_after before (Ok u) = before
+failure_after before (Err failure) = Some failure
+
+-- and behind formatting, which may be refused for other reasons
+abbrev pub failed_after : {F : Type 0} → Option F → Result (Unit {0}) (WriteError F) → Option F
+failed_after before (Ok u) = before
+failed_after before (Err (Memory refused)) = before
+failed_after before (Err (Fault fault)) = before
+failed_after before (Err (Failed failure)) = Some failure

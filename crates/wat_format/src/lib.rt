@@ -9,5 +9,6 @@ mod formatter;
 mod gap;
 mod group;
 pub mod laws;
+pub mod sink;
 mod sort;
 pub mod stream;

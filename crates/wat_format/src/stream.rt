@@ -1,41 +1,42 @@
-//! Formatting a text into a writer, a block at a time.
+//! Formatting a text into a sink, a block at a time.
 ghost use Rattle.std.specs.Prelude.{◌≡◌, ◌<◌, ◌^◌, length, None, OnOk, IfErr, IfSome, IfNone};
 ghost use Rattle.std.specs.Prelude.{string_bytes};
 ghost use Rattle.std.specs.Io.KnownBytes.{Appends};
 ghost use Rattle.std.specs.Str.{IsCharBoundary};
-ghost use Rattle.wat_format.specs.Streams.{AppendsLayout, RefusesToWrite};
+ghost use Rattle.wat_format.specs.Streams.{AppendsLayout, RefusesToWrite, failed_after};
 ghost use Rattle.wat_format.specs.inside.Steps.{EndsFrom};
 ghost use Rattle.wat_format.specs.inside.Writing.{CutsShort, Moves, StandsAt, StopsShort};
 
 use crate::format::{fault_from, lexer_of};
 use crate::formatter::Formatter;
+use crate::sink::Sink;
 use std::alloc::{AllocError, Global};
-use std::{fmt, io};
+use std::fmt;
 use wat_lex::lexer::{LexFault, Lexer, Settings, Token};
 
 /// Why a text was not written.
 #[derive(Debug, Drop)]
-pub enum WriteError {
+pub enum WriteError<F> {
     /// A request for memory was refused, by this refusal.
     Memory(AllocError),
     /// The text has this fault, and nothing was written.
     Fault(LexFault),
-    /// The writer failed, or took nothing.
-    Failed(Option<io::Error>),
+    /// A write failed, for this reason.
+    Failed(F),
 }
 
-impl From<AllocError> for WriteError {
+impl<F> From<AllocError> for WriteError<F> {
     ghost use Rattle.std.specs.Prelude.{◌≡◌};
     ghost use Rattle.wat_format.specs.declared.stream.WriteError.TheVariants.{Memory};
 
     ghost from_gives = { λ refused e. e ≡ Memory refused };
 
-    fn from(refused: AllocError) -> WriteError {
+    fn from(refused: AllocError) -> WriteError<F> {
         WriteError::Memory(refused)
     }
 }
 
-impl fmt::Display for WriteError {
+impl<F> fmt::Display for WriteError<F> {
     ghost use Rattle.std.specs.Prelude.{Some};
     ghost use Rattle.wat_format.specs.Errors.{printed_of_writing};
 
@@ -59,17 +60,20 @@ const BLOCK: usize = 65_536;
 
 /// Writes the text laid out, however long that is. A text with a fault is refused before anything is
 /// written. It takes memory for the longest token, and eight bytes for each open group.
-pub fn format_to<W: io::Write>(
+pub fn format_to<W: Sink>(
     alloc: Global,
     text: &str,
     settings: Settings,
     output: &mut W,
-) -> Result<(), WriteError>
+) -> Result<(), WriteError<W::Failure>>
     requires { length text.now < 2 ^ 32 }
     ensures written { OnOk result (AppendsLayout (record { text = text.now; flags = settings })
-        (W.contents output.old) (W.contents output.new)) }
+        (W.held output.old) (W.held output.new)) }
     ensures refused { IfErr result (RefusesToWrite (record { text = text.now; flags = settings })
-        (W.contents output.old) (W.contents output.new)) }
+        (W.held output.old) (W.held output.new)) }
+
+    // `Failed` comes exactly where a call of the sink failed, with its failure.
+    ensures failed { W.failure output.new ≡ failed_after (W.failure output.old) result }
 {
     let lexer = lexer_of(text, settings);
     let _ = lexer.input();
@@ -80,16 +84,16 @@ pub fn format_to<W: io::Write>(
 }
 
 /// Writes the layout of a lexer's text that has no fault.
-fn write_laid<W: io::Write>(
+fn write_laid<W: Sink>(
     alloc: Global,
     lexer: &Lexer<'_>,
     output: &mut W,
-) -> Result<(), WriteError>
+) -> Result<(), WriteError<W::Failure>>
     requires { EndsFrom lexer.now 0 None }
     ensures written { OnOk result
-        (AppendsLayout lexer.now (W.contents output.old) (W.contents output.new)) }
-    ensures cut { IfErr result
-        (CutsShort lexer.now (W.contents output.old) (W.contents output.new)) }
+        (AppendsLayout lexer.now (W.held output.old) (W.held output.new)) }
+    ensures cut { IfErr result (CutsShort lexer.now (W.held output.old) (W.held output.new)) }
+    ensures failed { W.failure output.new ≡ failed_after (W.failure output.old) result }
 {
     wat_lex::laws::one_answer();
     let text = lexer.input();
@@ -102,7 +106,7 @@ fn write_laid<W: io::Write>(
         pos = token.offset + token.len as usize;
     }
     formatter.finish(&mut block, text)?;
-    write_through(output, block.as_bytes())
+    write_bytes(output, block.as_bytes())
 }
 
 /// The token at a place of a lexer's text that has no fault, or None at its end.
@@ -119,38 +123,29 @@ fn next_token(lexer: &Lexer<'_>, pos: usize) -> Option<Token>
 }
 
 /// Writes a block, and makes it empty, where it is full.
-fn write_if_full<W: io::Write>(output: &mut W, block: &mut String) -> Result<(), WriteError>
-    ensures moved { OnOk result (Moves (W.contents output.old) (W.contents output.new)
+fn write_if_full<W: Sink>(output: &mut W, block: &mut String) -> Result<(), WriteError<W::Failure>>
+    ensures moved { OnOk result (Moves (W.held output.old) (W.held output.new)
         (string_bytes block.old) (string_bytes block.new)) }
     ensures cut { IfErr result
-        (StopsShort (W.contents output.old) (W.contents output.new) (string_bytes block.old)) }
+        (StopsShort (W.held output.old) (W.held output.new) (string_bytes block.old)) }
+    ensures failed { W.failure output.new ≡ failed_after (W.failure output.old) result }
 {
     if block.len() < BLOCK {
         return Ok(());
     }
-    write_through(output, block.as_bytes())?;
+    write_bytes(output, block.as_bytes())?;
     block.clear();
     Ok(())
 }
 
-/// Writes all the bytes and flushes. It stops at the first error, and where the writer takes
-/// nothing.
-fn write_through<W: io::Write>(writer: &mut W, bytes: &[u8]) -> Result<(), WriteError>
-    ensures bytes { OnOk result
-        (Appends (W.contents writer.old) (W.contents writer.new) bytes.now) }
-    ensures cut { IfErr result
-        (StopsShort (W.contents writer.old) (W.contents writer.new) bytes.now) }
+/// Writes all the bytes.
+fn write_bytes<W: Sink>(output: &mut W, bytes: &[u8]) -> Result<(), WriteError<W::Failure>>
+    ensures bytes { OnOk result (Appends (W.held output.old) (W.held output.new) bytes.now) }
+    ensures cut { IfErr result (StopsShort (W.held output.old) (W.held output.new) bytes.now) }
+    ensures failed { W.failure output.new ≡ failed_after (W.failure output.old) result }
 {
-    let mut written = 0;
-    while written < bytes.len() {
-        match writer.write(&bytes[written..]) {
-            Ok(0) => return Err(WriteError::Failed(None)),
-            Ok(count) => written += count,
-            Err(error) => return Err(WriteError::Failed(Some(error))),
-        }
-    }
-    match writer.flush() {
+    match output.write_all(bytes) {
         Ok(()) => Ok(()),
-        Err(error) => Err(WriteError::Failed(Some(error))),
+        Err(failure) => Err(WriteError::Failed(failure)),
     }
 }

@@ -4,6 +4,7 @@ use std::io;
 use std::test::Fail;
 use wat_format::error::Error;
 use wat_format::format::format;
+use wat_format::sink::Writer;
 use wat_format::stream::{WriteError, format_to};
 use wat_lex::lexer::Settings;
 
@@ -54,7 +55,7 @@ fn shown(alloc: Global, text: &str, settings: Settings) -> Result<String, Fail> 
 }
 
 /// What a writer is given, and the error as it prints.
-fn written(alloc: Global, text: &str, writer: &mut Narrow) -> Result<String, Fail> {
+fn written(alloc: Global, text: &str, writer: &mut Writer<Narrow>) -> Result<String, Fail> {
     if text.len() > 1_000_000 {
         return Ok(String::new(alloc));
     }
@@ -108,10 +109,13 @@ fn writers(rt: HostRuntime) -> Result<(), Fail> {
     ];
     for (text, room, fails, want, error) in rows {
         let held = Vec::new(rt.alloc());
-        let mut writer = Narrow { held, room, fails };
+        let mut writer = Writer::new(Narrow { held, room, fails });
         let got = written(rt.alloc(), text, &mut writer)?;
         assert_eq!(rt; got.as_str(), error, "{text}");
-        assert!(rt; writer.held.as_slice() == want.as_bytes(), "{text}");
+        assert!(rt;
+            writer.into_inner().held.as_slice() == want.as_bytes(),
+            "{text}"
+        );
     }
     Ok(())
 }
@@ -123,15 +127,15 @@ fn blocks(rt: HostRuntime) -> Result<(), Fail> {
         text.push_str("( a )\n")?;
     }
     let held = Vec::new(rt.alloc());
-    let mut writer = Narrow {
+    let mut writer = Writer::new(Narrow {
         held,
         room: 1_000_000,
         fails: false,
-    };
+    });
     let got = written(rt.alloc(), text.as_str(), &mut writer)?;
     assert_eq!(rt; got.as_str(), "");
     let want = shown(rt.alloc(), text.as_str(), PLAIN)?;
     assert_eq!(rt; want.len(), 80_000);
-    assert!(rt; writer.held.as_slice() == want.as_bytes());
+    assert!(rt; writer.into_inner().held.as_slice() == want.as_bytes());
     Ok(())
 }

@@ -75,7 +75,8 @@ pub fn lay_out(rt: &HostRuntime, settings: Settings, mode: Mode, file: &str) -> 
     };
     match mode {
         Mode::Print => {
-            let run = run_fmt(rt.alloc(), &mut input, &mut rt.stdout(), settings);
+            let mut output = Plain::new(rt.stdout());
+            let run = run_fmt(rt.alloc(), &mut input, &mut output, settings);
             told(rt, file, &Outcome::of_run(run))
         }
         Mode::Check => compare(rt, settings, false, file, &mut input),

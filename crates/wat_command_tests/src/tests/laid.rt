@@ -31,14 +31,14 @@ impl io::Write for Narrow {
 /// What is written of a text, and the fault that is answered.
 fn laid(alloc: Global, text: &str) -> Result<(Vec<u8>, String), Fail> {
     let mut input = Plain::new(text.as_bytes());
-    let mut output = Vec::new(alloc);
+    let mut output = Plain::new(Vec::new(alloc));
     let fault = match run_fmt(alloc, &mut input, &mut output, OFF).map_err(
         |_| "the run is refused",
     )? {
         None => String::new(alloc),
         Some(error) => error.to_string(alloc)?,
     };
-    Ok((output, fault))
+    Ok((output.into_inner(), fault))
 }
 
 #[test]
@@ -72,13 +72,13 @@ fn nothing_is_written_of_a_fault(rt: HostRuntime) -> Result<(), Fail> {
 #[test]
 fn a_writer_that_takes_no_more(rt: HostRuntime) {
     let mut input = Plain::new(b"(a )b".as_slice());
-    let mut output = Narrow {
+    let mut output = Plain::new(Narrow {
         held: Vec::new(rt.alloc()),
         left: 2,
-    };
+    });
     let run = run_fmt(rt.alloc(), &mut input, &mut output, OFF);
     assert!(rt; matches!(&run, Err(RunError::Write(failed)) if *failed == FAILED));
-    assert_eq!(rt; output.held.as_slice(), b"(a".as_slice());
+    assert_eq!(rt; output.into_inner().held.as_slice(), b"(a".as_slice());
 }
 
 #[test]
@@ -90,10 +90,10 @@ fn a_source_that_fails(rt: HostRuntime) {
         failure: None,
         ended: false,
     };
-    let mut output = Vec::new(rt.alloc());
+    let mut output = Plain::new(Vec::new(rt.alloc()));
     let run = run_fmt(rt.alloc(), &mut input, &mut output, OFF);
     assert!(rt; matches!(&run, Err(RunError::Read(failed)) if *failed == FAILED));
-    assert!(rt; output.is_empty());
+    assert!(rt; output.into_inner().is_empty());
 }
 
 /// What comes of comparing bytes with their layout, in a word.

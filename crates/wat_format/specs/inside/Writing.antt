@@ -23,13 +23,13 @@ pub record Moves (old new : Option (List ℕ)) (block block' : List ℕ) : Type 
   pub all : block ≡ first ++ block'
   pub appended : Appends old new first
 
--- a writer failed, and holds a first part of these bytes more
-abbrev pub StopsShort : Option (List ℕ) → Option (List ℕ) → List ℕ → WriteError → Type 0
+-- a write failed, and the sink holds a first part of these bytes more
+abbrev pub StopsShort : {F : Type 0} → Option (List ℕ) → Option (List ℕ) → List ℕ → WriteError F → Type 0
 StopsShort old new bytes (Failed cause) = AppendsPrefix old new bytes
 StopsShort old new bytes e = ⊥
 
 -- the text has no fault, and so the error is no fault
-abbrev pub CutsShort : Setting → Option (List ℕ) → Option (List ℕ) → WriteError → Type 0
+abbrev pub CutsShort : {F : Type 0} → Setting → Option (List ℕ) → Option (List ℕ) → WriteError F → Type 0
 CutsShort s old new (Fault fault) = ⊥
 CutsShort s old new e = AppendsPart s old new
 

@@ -1,4 +1,4 @@
-use Rattle.std.proofs.Common.{◌+◌, string_bytes}
+use Rattle.std.proofs.Common.{◌∙◌, ◌+◌, refl, string_bytes}
 use Rattle.std.proofs.lemmas.Str.{IsCharBoundary-start}
 use Rattle.wat_format.specs.Layout.{layout}
 use Rattle.wat_format.specs.inside.Writing.{CutsShort}
@@ -11,6 +11,7 @@ pub tokens-init : goal.tokens-init
 tokens-init g c = record {
   boundary = IsCharBoundary-start c.args.lexer.now.text c.input-text.ensures.utf8;
   few = few_start _ c.new-formatter.ensures;
+  kept = refl;
   answer = layout c.args.lexer.now.text c.requires.tokens;
   formatted = formatted_from c.args.lexer.now c.requires;
   remains = remains_start c.args.lexer.now _ _ _ c.requires c.new-formatter.ensures c.new-block.ensures.bytes;
@@ -20,10 +21,11 @@ pub tokens-preserved : goal.tokens-preserved
 tokens-preserved g c =
     let s = c.args.lexer.now in
     let answer = c.tokens.invariant.answer in
-    let held = g.W.Write.contents c.args.output.now in
+    let held = g.W.Sink.held c.args.output.now in
     record {
       boundary = boundary_behind s c.tokens.pos c.in-Some.token c.in-Some.ensures.some.token c.in-Some.ensures.some.boundary;
       few = c.in_ok-take.ensures.few;
+      kept = c.in_ok-write_if_full.ensures.failed ∙ c.tokens.invariant.kept;
       answer = answer;
       formatted = c.tokens.invariant.formatted;
       remains = remains_moved s answer _ _ held _ _ _ _
@@ -35,9 +37,9 @@ pub returns-in_err-write_if_full-clause-cut : goal.returns-in_err-write_if_full-
 returns-in_err-write_if_full-clause-cut g c =
     let s = c.args.lexer.now in
     let answer = c.tokens.invariant.answer in
-    let held = g.W.Write.contents c.args.output.now in
-    let kept = g.W.Write.contents c.tokens.output in
-    let new = g.W.Write.contents c.write_if_full.new.output in
+    let held = g.W.Sink.held c.args.output.now in
+    let kept = g.W.Sink.held c.tokens.output in
+    let new = g.W.Sink.held c.write_if_full.new.output in
     let block = string_bytes c.take.new.out in
     let remains = remains_next s answer c.tokens.pos c.tokens.formatter held kept c.one_answer.ensures.one (string_bytes c.tokens.block) block c.take.new.self c.in-Some.token c.tokens.invariant.remains c.in-Some.ensures.some.token
     (lays_in c.input-text.result.now s.text c.tokens.formatter c.take.new.self c.in-Some.token (string_bytes c.tokens.block) block c.input-text.ensures.text c.in_ok-take.ensures.written) in
@@ -48,21 +50,21 @@ returns-in_err-write_if_full-clause-cut g c =
 pub returns-clause-written : goal.returns-clause-written
 returns-clause-written g c =
     let s = c.args.lexer.now in
-    let held = g.W.Write.contents c.args.output.now in
-    let kept = g.W.Write.contents c.tokens.output in
-    let new = g.W.Write.contents c.write_through.new.writer in
-    on_ok c.write_through.result
+    let held = g.W.Sink.held c.args.output.now in
+    let kept = g.W.Sink.held c.tokens.output in
+    let new = g.W.Sink.held c.write_bytes.new.output in
+    on_ok c.write_bytes.result
     (all_written s c.tokens.invariant.answer c.tokens.pos c.tokens.formatter held kept c.one_answer.ensures.one new (string_bytes c.tokens.block) (string_bytes c.finish.new.out) c.tokens.invariant.formatted c.tokens.invariant.remains c.in_default.ensures.none c.in_ok-finish.ensures)
-    (rw c.as_bytes.ensures.value at c.write_through.ensures.bytes)
+    (rw c.as_bytes.ensures.value at c.write_bytes.ensures.bytes)
 
 pub returns-clause-cut : goal.returns-clause-cut
 returns-clause-cut g c =
     let s = c.args.lexer.now in
-    let held = g.W.Write.contents c.args.output.now in
-    let kept = g.W.Write.contents c.tokens.output in
-    let new = g.W.Write.contents c.write_through.new.writer in
+    let held = g.W.Sink.held c.args.output.now in
+    let kept = g.W.Sink.held c.tokens.output in
+    let new = g.W.Sink.held c.write_bytes.new.output in
     let last = string_bytes c.finish.new.out in
-    on_error c.write_through.result
+    on_error c.write_bytes.result
     (λ e. cuts_short s held kept new last e
     (part_of_last s c.tokens.invariant.answer c.tokens.pos c.tokens.formatter held kept c.one_answer.ensures.one new (string_bytes c.tokens.block) last c.tokens.invariant.formatted c.tokens.invariant.remains c.in_default.ensures.none c.in_ok-finish.ensures))
-    (rw c.as_bytes.ensures.value at c.write_through.ensures.cut)
+    (rw c.as_bytes.ensures.value at c.write_bytes.ensures.cut)

@@ -1,4 +1,4 @@
-use Rattle.std.proofs.Common.{length, ◌-◌, List, ℕ, string_bytes}
+use Rattle.std.proofs.Common.{◌≡◌, length, ◌-◌, List, ℕ, string_bytes}
 use Rattle.std.specs.Str.{IsCharBoundary}
 use Rattle.wat_format.specs.Formatting.{Formatted}
 use Rattle.wat_format.specs.inside.Steps.{Few}
@@ -9,9 +9,10 @@ abbrev pub invariant-tokens : goal.invariant-tokens
 invariant-tokens g l = record {
   boundary : IsCharBoundary l.lexer.text l.pos;
   few : Few l.pos l.formatter;
+  kept : g.W.Sink.failure l.output ≡ g.W.Sink.failure l.initial.output;
   answer : List ℕ;
   formatted : Formatted l.lexer answer;
-  remains : Remains l.lexer answer l.pos l.formatter (g.W.Write.contents l.initial.output) (g.W.Write.contents l.output) (string_bytes l.block);
+  remains : Remains l.lexer answer l.pos l.formatter (g.W.Sink.held l.initial.output) (g.W.Sink.held l.output) (string_bytes l.block);
 }
 
 abbrev pub decreases-tokens : goal.decreases-tokens

@@ -1,7 +1,7 @@
 use Rattle.std.proofs.Common.{◌++◌, length, length-drop, take, [], take-add, arith, sym, ◌∙◌, ap}
 use Rattle.std.proofs.lemmas.List.{append-nil, take_rest}
 use Rattle.wat_format.proofs.Streaming.{appends_more, appends_kept, prefix_of}
-use Rattle.wat_format.proofs.stream.write_through.Goals as goal
+use Rattle.wat_format.proofs.sink.write_through.Goals as goal
 
 pub loop-written-preserved : goal.loop-written-preserved
 loop-written-preserved g c =
