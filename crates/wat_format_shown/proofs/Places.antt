@@ -4,7 +4,7 @@ use Rattle.std.proofs.lemmas.Bool.Decides.{nat_tests}
 use Rattle.std.specs.Prelude.{if◌then◌else◌}
 use Rattle.wat_lex.specs.declared.lexer.kinds.Token.{Token}
 use Rattle.wat_format_shown.proofs.Alike.{AllTwins}
-use Rattle.wat_format_shown.proofs.Same.{AllSame}
+use Rattle.wat_format_shown.specs.Sides.{AllSame}
 use Rattle.wat_format_shown.proofs.Tokens.{Before, Rising}
 
 -- the place of the other token, where a token stands here, and else the end of the other text

@@ -1,4 +1,4 @@
--- What a type reads of a text, and of one that shows the same tokens elsewhere, as a layout does. No part of the standard.
+-- What a type reads of a text, and of one of the same tokens, as a layout is. No part of the standard.
 use Rattle.std.specs.Prelude.{◌≡◌, ◌≤◌, ◌+◌, ℕ, Bool, List, length, Option, Some, None, Result, Ok, Err}
 use Rattle.std.specs.Str.{IsUtf8}
 use Rattle.wat_lex.specs.errors.Errors.{Report}
@@ -11,7 +11,7 @@ use Rattle.wat_lexer_parser.specs.readings.Readings.{Outcome, Reading, whole}
 use Rattle.wat_format.specs.Laws.{over}
 use Rattle.wat_format.specs.Layout.{layout}
 use Rattle.wat_format_shown.specs.Moved.{token_moved, ShowsMoved}
-use Rattle.wat_format_shown.specs.Sides.{Sides, Alike, RefusalMoved, SameRefusal, passed}
+use Rattle.wat_format_shown.specs.Sides.{Sides, Alike, RefusalMoved, SameRefusal, SameTexts, ShownLaws, passed}
 
 -- The other answers the same value, moved, before the same tokens, n fewer at least; or the same refusal.
 abbrev pub AnswerMoved : {V : Type 0} → (V → V) → ℕ → Sides → List Token → Result V Report → ℕ → Outcome V → Type 0
@@ -21,7 +21,7 @@ AnswerMoved moved n s ts (Err f) k o = (g : Report) × (o.answer ≡ Err g) × S
 abbrev pub OutcomeMoved : {V : Type 0} → (V → V) → ℕ → Sides → List Token → Outcome V → Outcome V → Type 0
 OutcomeMoved moved n s ts o q = AnswerMoved moved n s ts o.answer o.passed q
 
--- A reading goes by the tokens that are shown, and by where they stand only as the value's spans do, which `moved` moves by a map. It takes n tokens
+-- A reading goes by the tokens that count, and by where they stand only as the value's spans do, which `moved` moves by a map. It takes n tokens
 -- at least.
 abbrev pub Moves : {V : Type 0} → ℕ → ((ℕ → ℕ) → V → V) → Reading V → Type 0
 Moves n moved m = (s : Sides) (ts : List Token) → Alike s ts → OutcomeMoved (moved s.move) n s ts (m s.here) (m s.there)
@@ -49,12 +49,16 @@ abbrev pub WholeMoved : {V : Type 0} → (V → V) → (ℕ → ℕ) → List To
 WholeMoved moved move tokens text (Ok v) r = r ≡ Ok (moved v)
 WholeMoved moved move tokens text (Err f) r = (g : Report) × (r ≡ Err g) × RefusalMoved move tokens text f g
 
--- What is read of a text that shows the same elsewhere is the same, moved by the map that moves what is shown.
+-- What is read of a text of the same tokens is the same, moved.
 abbrev pub TextsReadTheSame : {V : Type 0} → ((ℕ → ℕ) → V → V) → Reading V → Type 0
-TextsReadTheSame moved m = (s r : Source) (move : ℕ → ℕ) → IsUtf8 s.setting.text → IsRead s → IsRead r → ShowsMoved s.setting r.setting move
-    → WholeMoved (moved move) move s.tokens r.setting.text (whole m s) (whole m r)
+TextsReadTheSame moved m = (s r : Source) (move : ℕ → ℕ) → SameTexts s r move → WholeMoved (moved move) move s.tokens r.setting.text (whole m s) (whole m r)
 
--- So it is of a layout.
+-- The tokens of a layout are those of the text, by a map that moves all that is shown.
+abbrev pub LayoutsAreSameTexts : Type 0
+LayoutsAreSameTexts = ShownLaws → (s r : Source) → IsUtf8 s.setting.text → IsRead s → s.ending ≡ None → IsRead r → r.setting ≡ over s.setting (layout s.setting.text s.tokens)
+    → (move : ℕ → ℕ) × ShowsMoved s.setting r.setting move × SameTexts s r move
+
+-- What is read of a layout is the same, moved by a map that moves all that is shown.
 abbrev pub LayoutsReadTheSame : {V : Type 0} → ((ℕ → ℕ) → V → V) → Reading V → Type 0
 LayoutsReadTheSame moved m = (s r : Source) → IsUtf8 s.setting.text → IsRead s → s.ending ≡ None → IsRead r → r.setting ≡ over s.setting (layout s.setting.text s.tokens)
     → (move : ℕ → ℕ) × ShowsMoved s.setting r.setting move × WholeMoved (moved move) move s.tokens r.setting.text (whole m s) (whole m r)

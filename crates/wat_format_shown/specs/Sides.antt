@@ -1,17 +1,48 @@
--- A parser in a text, and one in another text that shows the same tokens elsewhere. No part of the standard.
-use Rattle.std.specs.Prelude.{◌≡◌, ◌+◌, ◌-◌, ℕ, List, map, slice_get, Option, Some, None}
-use Rattle.std.specs.List.{AllByRecursion}
+-- A parser in a text, and one in another text of the same tokens, which may stand elsewhere. No part of the standard.
+use Rattle.std.specs.Prelude.{◌≡◌, ◌+◌, ◌-◌, ℕ, List, [], ◌∷◌, drop, length, slice_get, Some, None}
 use Rattle.std.specs.Option.{option_map}
+use Rattle.std.specs.Str.{IsUtf8}
 use Rattle.wat_lex.specs.errors.Errors.{Report}
 use Rattle.wat_lex.specs.errors.Rendering.{excerpt}
 use Rattle.wat_lex.specs.tokens.ReadableTokens.{token_text}
 use Rattle.wat_lex.specs.declared.lexer.kinds.Token.{Token}
-use Rattle.wat_lexer_parser.specs.lemmas.RuleLaws.{From}
+use Rattle.wat_lex.specs.declared.lexer.kinds.TokenKind.TheVariants.{LParen}
+use Rattle.wat_lexer_parser.specs.groups.Sorts.{is_marked}
 use Rattle.wat_lexer_parser.specs.parser.State.{State, at_place}
 use Rattle.wat_lexer_parser.specs.places.Places.{offset_at}
+use Rattle.wat_lexer_parser.specs.places.Source.{Source, IsRead}
 use Rattle.wat_lexer_parser.specs.readings.Readings.{on}
-use Rattle.wat_lexer_parser.specs.rules.Rules.{End}
+use Rattle.wat_lexer_parser.specs.laws.Counting.{CountingShowsTheSame, counting}
+use Rattle.wat_lexer_parser.specs.shown.Showing.{OneThingShown, SomethingShown}
 use Rattle.wat_format_shown.specs.Moved.{token_moved}
+
+module _ (x y : List ℕ) (move : ℕ → ℕ) where
+  -- the same token in the other text, where the map says: of its kind, with its bytes, and marked as it is here
+  pub record Same (t u : Token) : Type 0 where
+    pub is : u ≡ token_moved move t
+    pub text : token_text y u ≡ token_text x t
+    pub mark : t.kind ≡ LParen → is_marked y u ≡ is_marked x t
+
+  abbrev pub AllSame : List Token → List Token → Type 0
+  AllSame [] [] = Unit {0}
+  AllSame [] (u ∷ us) = ⊥
+  AllSame (t ∷ ts) [] = ⊥
+  AllSame (t ∷ ts) (u ∷ us) = Same t u × AllSame ts us
+
+-- what the laws of the parser say
+pub record ShownLaws : Type 0 where
+  pub one : OneThingShown
+  pub some : SomethingShown
+  pub counting : CountingShowsTheSame
+
+-- Both texts have no fault, the tokens that count are the same, and the second ends where the map says that the first does.
+pub record SameTexts (s r : Source) (move : ℕ → ℕ) : Type 0 where
+  pub laws : ShownLaws
+  pub utf8 : IsUtf8 s.setting.text × IsUtf8 r.setting.text
+  pub read : IsRead s × IsRead r
+  pub ending : (s.ending ≡ None) × (r.ending ≡ None)
+  pub tokens : AllSame s.setting.text r.setting.text move (counting s.tokens) (counting r.tokens)
+  pub end : move (length s.setting.text) ≡ length r.setting.text
 
 -- How a byte of one text stands in the other: by the map, as the start of a token and the text's end do; where one of the tokens ends, with that
 -- token; right behind a parenthesis whose group is not closed, with it; or at the start of both.
@@ -27,13 +58,11 @@ pub record RefusalMoved (move : ℕ → ℕ) (tokens : List Token) (text : List 
   pub offset : Stands move tokens f.offset g.offset
   pub excerpt : g.excerpt ≡ option_map (λ e. excerpt text g.offset) f.excerpt
 
--- a parser's state in each text, what stands behind all tokens that are shown from it, and the map from one text to the other
+-- a parser's state in each text, and the map from one text to the other
 pub record Sides : Type 0 where
   pub move : ℕ → ℕ
   pub here : State
   pub there : State
-  pub end_here : End
-  pub end_there : End
 
 abbrev pub at_places : Sides → ℕ → ℕ → Sides
 at_places s p q = record s { here = at_place s.here p; there = at_place s.there q }
@@ -48,15 +77,10 @@ Stand s p q = Stands s.move s.here.source.tokens p q
 abbrev pub SameRefusal : Sides → Report → Report → Type 0
 SameRefusal s f g = RefusalMoved s.move s.here.source.tokens s.there.source.setting.text f g
 
--- both end, or both end in this fault
-abbrev pub EndMoved : Sides → Option Report → Option Report → Type 0
-EndMoved s None g = (g ≡ None) × (s.end_there.span ≡ s.move s.end_here.span)
-EndMoved s (Some f) g = (h : Report) × (g ≡ Some h) × SameRefusal s f h × Stand s s.end_here.span s.end_there.span
-
--- From one state these tokens are shown, and from the other the same with the same bytes, each where the map says.
+-- From one state these tokens count, and from the other the same, under the same names.
 pub record Alike (s : Sides) (ts : List Token) : Type 0 where
-  pub shown : From s.here s.end_here ts
-  pub moved : From s.there s.end_there (map (token_moved s.move) ts)
-  pub texts : AllByRecursion (λ t. token_text s.there.source.setting.text (token_moved s.move t) ≡ token_text s.here.source.setting.text t) ts
-  pub ends : EndMoved s s.end_here.fault s.end_there.fault
+  pub texts : SameTexts s.here.source s.there.source s.move
+  pub names : s.there.names ≡ s.here.names
+  pub here : counting (drop s.here.place s.here.source.tokens) ≡ ts
+  pub there : AllSame s.here.source.setting.text s.there.source.setting.text s.move ts (counting (drop s.there.place s.there.source.tokens))
   pub place : Stand s (offset_at s.here.source.tokens s.here.place) (offset_at s.there.source.tokens s.there.place)

@@ -1,6 +1,6 @@
 -- The laws of readings that move. These are proofs, which a reader may skip.
+pub mod Found
 pub mod Seeing
 pub mod Moving
 pub mod Types
-pub mod Starts
 pub mod Wholes

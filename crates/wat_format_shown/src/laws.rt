@@ -2,7 +2,7 @@
 //! is the law.
 ghost use Rattle.std.specs.Prelude.{ℕ};
 ghost use Rattle.wat_format_shown.specs.Moved.{LayoutsShowTheSame};
-ghost use Rattle.wat_format_shown.specs.Reads.{LayoutsReadTheSame, Moves, TextsReadTheSame};
+ghost use Rattle.wat_format_shown.specs.Reads.{LayoutsAreSameTexts, LayoutsReadTheSame, Moves};
 
 use wat_lexer_parser::parser::Parse;
 
@@ -21,15 +21,25 @@ pub fn shown()
 
 /// What a type reads of a layout is what it reads of the text: the same value, with its spans moved
 /// by that map, or the same refusal at the same token. It holds of each type whose reading moves,
-/// and so does each word of the language of readings (`specs/lemmas`), but for registered names.
+/// and so does each word of the language of readings (`specs/lemmas`).
 pub fn read<'a, T: Parse<'a>>()
-    ensures texts { (n : ℕ) (moved : (ℕ → ℕ) → T.Value → T.Value) →
-        Moves n moved T.meaning → TextsReadTheSame moved T.meaning }
-    ensures layouts { (n : ℕ) (moved : (ℕ → ℕ) → T.Value → T.Value) →
+    ensures { (n : ℕ) (moved : (ℕ → ℕ) → T.Value → T.Value) →
         Moves n moved T.meaning → LayoutsReadTheSame moved T.meaning }
 {
-    shown();
+    same_texts();
+    wat_lexer_parser::laws::shown();
+    wat_lexer_parser::laws::counting();
+}
+
+/// The tokens of a layout that count are those of the text, kind by kind, byte by byte and mark by
+/// mark, moved by the map that moves what is shown.
+pub fn same_texts()
+    ensures { LayoutsAreSameTexts }
+{
+    wat_format::laws::kept_tokens();
     wat_lex::laws::one_tiling();
+    wat_lex::laws::tokens();
     wat_lexer_parser::laws::shown();
     wat_lexer_parser::laws::all_shown();
+    wat_lexer_parser::laws::counting();
 }

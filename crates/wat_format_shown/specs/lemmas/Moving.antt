@@ -1,27 +1,26 @@
 -- Each word of the language of readings keeps what is moved: where its parts answer the same, moved, so does it. These are proofs, which a reader may skip.
-use Rattle.std.proofs.Common.{◌≡◌, ◌∙◌, ◌<◌, ◌≤◌, ◌+◌, ◌-◌, ℕ, zero, suc, arith, List, [], ◌∷◌, ◌++◌, Bool, true, false, refl, sym, ap, subst, length, Some, None, Ok, Err}
-use Rattle.std.specs.Prelude.{Option, Result, map, nat_le}
+use Rattle.std.proofs.Common.{◌≡◌, ◌∙◌, ◌<◌, ◌≤◌, ◌+◌, ◌-◌, ℕ, zero, suc, arith, List, [], ◌∷◌, ◌++◌, Bool, true, false, refl, sym, ap, subst, length, drop, length-drop, Some, None, Ok, Err}
+use Rattle.std.specs.Prelude.{Option, Result, cond, if◌then◌else◌, map, nat_eq, nat_le, not}
 use Rattle.std.specs.Option.{option_map}
 use Rattle.wat_lex.specs.errors.Errors.{Report}
 use Rattle.wat_lex.specs.declared.lexer.kinds.Token.{Token}
-use Rattle.wat_lexer_parser.specs.lemmas.Behind.{forward_shown}
-use Rattle.wat_lexer_parser.specs.lemmas.RuleLaws.{At}
-use Rattle.wat_lexer_parser.specs.names.RegisteredNames.{Names}
+use Rattle.wat_lexer_parser.specs.groups.Sorts.{is_blank}
+use Rattle.wat_lexer_parser.specs.lemmas.RuleLaws.{checked_got, shown_token, taken_token, token_got}
+use Rattle.wat_lexer_parser.specs.names.RegisteredNames.{count, is_registered, more, most_often}
 use Rattle.wat_lexer_parser.specs.parser.Closures.{opened, closed, inside}
 use Rattle.wat_lexer_parser.specs.parser.Sights.{Sight}
-use Rattle.wat_lexer_parser.specs.parser.State.{report_here}
+use Rattle.wat_lexer_parser.specs.parser.State.{report_here, seen_at, too_often}
 use Rattle.wat_lexer_parser.specs.parser.Takers.{Reader, may_take_at, taken_at}
 use Rattle.wat_lexer_parser.specs.places.Places.{current_span, empty_of}
 use Rattle.wat_lexer_parser.specs.places.Source.{Source}
 use Rattle.wat_lexer_parser.specs.readings.Attempts.{attempts_held, attempts_message, attempts_report}
 use Rattle.wat_lexer_parser.specs.readings.Choices.{Choice, one_behind, one_of}
-use Rattle.wat_lexer_parser.specs.readings.Readings.{Outcome, Reading, allocated, also_first, also_taking, and_then, and_then_by, behind, checked, checked_by, closed_by, give, given, group, inside_by, mapped, mapped_by, on, opened_by, optional, passed_by, refuse, refuse_behind, refused, spanned, token, token_by, told_as, up_to, where_seen, where_seen_by, while_seen}
-use Rattle.wat_lexer_parser.specs.rules.Rules.{End}
+use Rattle.wat_lexer_parser.specs.readings.Readings.{Outcome, Reading, allocated, also_first, also_taking, and_then, and_then_by, behind, checked, checked_by, closed_by, give, given, group, inside_by, mapped, mapped_by, on, opened_by, optional, passed_by, refuse, refuse_behind, refused, spanned, token, token_by, told_as, under, under_by, up_to, where_seen, where_seen_by, while_seen}
+use Rattle.wat_lexer_parser.specs.laws.Counting.{counting}
 use Rattle.wat_lexer_parser.specs.shown.Showing.{shown}
-use Rattle.wat_format_shown.specs.Moved.{token_moved}
 use Rattle.wat_format_shown.specs.Reads.{AnswerMoved, Moves, MovesReader, MovesSight, OutcomeMoved, ToldMoved}
-use Rattle.wat_format_shown.specs.Sides.{Sides, Alike, SameRefusal, at_places, passed}
-use Rattle.wat_format_shown.specs.lemmas.Seeing.{Onward, PlaceMoved, TakenMoved, alike_at, closed_moves, empty_moves, opened_moves, report_moves, span_moves, taken_moves}
+use Rattle.wat_format_shown.specs.Sides.{Sides, Alike, AllSame, SameRefusal, at_places, passed}
+use Rattle.wat_format_shown.specs.lemmas.Seeing.{NeedsToken, Onward, PlaceMoved, TakenMoved, alike_at, closed_moves, empty_moves, opened_moves, report_moves, span_moves, taken_moves}
 
 pub refuses : {V : Type 0} (moved : V → V) (n : ℕ) (s : Sides) (ts : List Token) (f g : Report) (k j : ℕ) → SameRefusal s f g → OutcomeMoved moved n s ts (refused f k) (refused g j)
 refuses moved n s ts f g k j h = (g, refl, h)
@@ -76,21 +75,18 @@ moved_mapped {V} {W} g h f e n s ts o q same k = by_answer o.answer k
     by_answer (Ok v) k = (ap (told_as e) k.0 ∙ ap Ok (same v), k.1, k.2, k.3)
     by_answer (Err r) k = (k.0, ap (told_as e) k.1, k.2)
 
--- the value with its span; a token is taken, so it is the span of one
-pub moved_spanned : {V : Type 0} (g : V → V) (n : ℕ) (s : Sides) (ts : List Token) (o q : Outcome V) → 1 ≤ n → Alike s ts → OutcomeMoved g n s ts o q
+-- the value with its span, where a token is shown if there is a value, so that it is the span of one
+pub moved_spanned : {V : Type 0} (g : V → V) (n : ℕ) (s : Sides) (ts : List Token) (o q : Outcome V)
+    → ((v : V) → o.answer ≡ Ok v → (t : Token) × (p : ℕ) × (shown s.here.source s.here.place s.here.names ≡ Ok (Some (t, p)))) → Alike s ts → OutcomeMoved g n s ts o q
     → OutcomeMoved {V = V × ℕ} (λ v. (g v.0, s.move v.1)) n s ts (mapped_by (λ v. (v, current_span s.here.source s.here.place s.here.names)) o) (mapped_by (λ v. (v, current_span s.there.source s.there.place s.there.names)) q)
-moved_spanned {V} g n s ts o q l h k = by_answer o.answer k
+moved_spanned {V} g n s ts o q need h k = by_answer o.answer refl k
   where
-    span_here : ℕ
-    span_here = current_span s.here.source s.here.place s.here.names
-
-    span_there : ℕ
-    span_there = current_span s.there.source s.there.place s.there.names
-
-    by_answer : (x : Result V Report) → AnswerMoved g n s ts x o.passed q
+    by_answer : (x : Result V Report) → o.answer ≡ x → AnswerMoved g n s ts x o.passed q
         → AnswerMoved {V = V × ℕ} (λ v. (g v.0, s.move v.1)) n s ts (told_as (λ v. (v, current_span s.here.source s.here.place s.here.names)) x) o.passed (mapped_by (λ v. (v, current_span s.there.source s.there.place s.there.names)) q)
-    by_answer (Ok v) k = (ap (told_as {W = V × ℕ} (λ v. (v, current_span s.there.source s.there.place s.there.names))) k.0 ∙ ap (λ p. Ok (g v, p)) (span_moves s ts (omega (arith, k.3, l)) h), k.1, k.2, k.3)
-    by_answer (Err r) k = (k.0, ap (told_as {W = V × ℕ} (λ v. (v, current_span s.there.source s.there.place s.there.names))) k.1, k.2)
+    by_answer (Ok v) e k =
+        let t = need v e in
+        (ap (told_as {W = V × ℕ} (λ v. (v, current_span s.there.source s.there.place s.there.names))) k.0 ∙ ap (λ p. Ok (g v, p)) (span_moves s ts t.0 t.1 t.2 h), k.1, k.2, k.3)
+    by_answer (Err r) e k = (k.0, ap (told_as {W = V × ℕ} (λ v. (v, current_span s.there.source s.there.place s.there.names))) k.1, k.2)
 
 pub moved_checked : {V W : Type 0} (g : V → V) (h : W → W) (check : V → Option W) (n : ℕ) (s : Sides) (ts : List Token) (o q : Outcome V) (f e : Report) → ((v : V) → check (g v) ≡ option_map h (check v)) → SameRefusal s f e → OutcomeMoved g n s ts o q
     → OutcomeMoved h n s ts (checked_by o.answer o check (refused f 0)) (checked_by q.answer q check (refused e 0))
@@ -126,18 +122,18 @@ moved_behind {V} g i j k l t u s ts r o q few h = by_answer o.answer h
         (h.0, h.1, alike_at s (s.here.place + k + o.passed) (s.here.place + (k + o.passed)) (s.there.place + l + q.passed) (s.there.place + (l + q.passed)) h.1 (omega arith) (omega arith) h.2, omega (arith, few, h.3))
     by_answer (Err f) h = h
 
-pub moved_and_then : {V W : Type 0} (g : V → V) (h : W → W) (i j : ℕ) (s : Sides) (ts : List Token) (o q : Outcome V) (next then : V → Reading W) → OutcomeMoved g i s ts o q
-    → ((v : V) (r : List Token) → Alike (passed s o.passed q.passed) r → length r + i ≤ length ts → OutcomeMoved h j (passed s o.passed q.passed) r (next v (on s.here o.passed)) (then (g v) (on s.there q.passed)))
-    → OutcomeMoved h (i + j) s ts (and_then_by o.answer o.passed o.takes_memory next s.here) (and_then_by q.answer q.passed q.takes_memory then s.there)
-moved_and_then {V} {W} g h i j s ts o q next then first more = by_answer o.answer first
+pub moved_and_then : {V W : Type 0} (g : V → V) (h : W → W) (i j : ℕ) (s : Sides) (ts : List Token) (o q : Outcome V) (next then_there : V → Reading W) → OutcomeMoved g i s ts o q
+    → ((v : V) (r : List Token) → Alike (passed s o.passed q.passed) r → length r + i ≤ length ts → OutcomeMoved h j (passed s o.passed q.passed) r (next v (on s.here o.passed)) (then_there (g v) (on s.there q.passed)))
+    → OutcomeMoved h (i + j) s ts (and_then_by o.answer o.passed o.takes_memory next s.here) (and_then_by q.answer q.passed q.takes_memory then_there s.there)
+moved_and_then {V} {W} g h i j s ts o q next then_there first more = by_answer o.answer first
   where
-    by_answer : (x : Result V Report) → AnswerMoved g i s ts x o.passed q → OutcomeMoved h (i + j) s ts (and_then_by x o.passed o.takes_memory next s.here) (and_then_by q.answer q.passed q.takes_memory then s.there)
+    by_answer : (x : Result V Report) → AnswerMoved g i s ts x o.passed q → OutcomeMoved h (i + j) s ts (and_then_by x o.passed o.takes_memory next s.here) (and_then_by q.answer q.passed q.takes_memory then_there s.there)
     by_answer (Ok v) k =
-        let is : and_then_by q.answer q.passed q.takes_memory then s.there ≡ behind q.passed q.takes_memory (then (g v) (on s.there q.passed)) = ap (λ x. and_then_by x q.passed q.takes_memory then s.there) k.0 in
+        let is : and_then_by q.answer q.passed q.takes_memory then_there s.there ≡ behind q.passed q.takes_memory (then_there (g v) (on s.there q.passed)) = ap (λ x. and_then_by x q.passed q.takes_memory then_there s.there) k.0 in
         subst (λ c. OutcomeMoved h (i + j) s ts (behind o.passed o.takes_memory (next v (on s.here o.passed))) c) (sym is)
-        (moved_behind h i j o.passed q.passed o.takes_memory q.takes_memory s ts k.1 (next v (on s.here o.passed)) (then (g v) (on s.there q.passed)) k.3 (more v k.1 k.2 k.3))
+        (moved_behind h i j o.passed q.passed o.takes_memory q.takes_memory s ts k.1 (next v (on s.here o.passed)) (then_there (g v) (on s.there q.passed)) k.3 (more v k.1 k.2 k.3))
     by_answer (Err f) k =
-        let is : and_then_by q.answer q.passed q.takes_memory then s.there ≡ refused k.0 q.passed = ap (λ x. and_then_by x q.passed q.takes_memory then s.there) k.1 in
+        let is : and_then_by q.answer q.passed q.takes_memory then_there s.there ≡ refused k.0 q.passed = ap (λ x. and_then_by x q.passed q.takes_memory then_there s.there) k.1 in
         subst (λ c. OutcomeMoved h (i + j) s ts (refused f o.passed) c) (sym is) (k.0, refl, k.2)
 
 -- Looks.
@@ -187,20 +183,27 @@ moved_up_to moved (suc i) (suc j) sight m look one s ts h l k =
     moved_where_seen all 0 s ts (sight s.here).told (sight s.there).told (sight s.here).takes (sight s.there).takes (also_first m (up_to i sight m) s.here) (also_first m (up_to j sight m) s.there) (give [] s.here) (give [] s.there) (look s ts h)
     (moved_also all true true 0 s ts both_here both_there (at_least all 1 0 s ts both_here both_there (omega arith) first)) (moved_give all [] [] s ts refl h)
 
-at_length : (s : Source) (names : Names) (e : End) (p : ℕ) (us : List Token) → At s names e p us → length us ≤ length s.tokens - p
-at_length s names e p [] at = omega arith
-at_length s names e p (t ∷ us) at = omega (arith, at_length s names e at.0 us at.2, (forward_shown s p names t at.0 at.1).0, (forward_shown s p names t at.0 at.1).1)
+counting_fewer : (ts : List Token) → length (counting ts) ≤ length ts
+counting_fewer [] = omega arith
+counting_fewer (t ∷ ts) =
+    let ih = counting_fewer ts in
+    elim (not (is_blank t.kind)) as (λ b. length (cond b (t ∷ counting ts) (counting ts)) ≤ suc (length ts)) [ true ↦ omega (arith, ih) | false ↦ omega (arith, ih) ]
 
-length_moved : (f : Token → Token) (ts : List Token) → length (map f ts) ≡ length ts
-length_moved f [] = refl
-length_moved f (t ∷ ts) = ap suc (length_moved f ts)
+few : (s : Source) (p : ℕ) → length (counting (drop p s.tokens)) ≤ length s.tokens
+few s p = omega (arith, counting_fewer (drop p s.tokens), length-drop p s.tokens)
+
+as_many : (x y : List ℕ) (move : ℕ → ℕ) (ts us : List Token) → AllSame x y move ts us → length us ≡ length ts
+as_many x y move [] [] h = refl
+as_many x y move [] (u ∷ us) h = absurd h
+as_many x y move (t ∷ ts) [] h = absurd h
+as_many x y move (t ∷ ts) (u ∷ us) h = ap suc (as_many x y move ts us h.1)
 
 pub moves_while : {V : Type 0} (moved : (ℕ → ℕ) → V → V) (sight : Sight) (m : Reading V) → MovesSight sight → Moves 1 moved m → Moves 0 (λ move. map (moved move)) (while_seen sight m)
 unfolding while_seen
 moves_while moved sight m look one s ts h =
-    let here = at_length s.here.source s.here.names s.end_here s.here.place ts h.shown in
-    let there = at_length s.there.source s.there.names s.end_there s.there.place (map (token_moved s.move) ts) h.moved in
-    moved_up_to moved (suc (length s.here.source.tokens)) (suc (length s.there.source.tokens)) sight m look one s ts h (omega (arith, here)) (omega (arith, there, length_moved (token_moved s.move) ts))
+    let here = ap length h.here in
+    let there = as_many s.here.source.setting.text s.there.source.setting.text s.move ts (counting (drop s.there.place s.there.source.tokens)) h.there in
+    moved_up_to moved (suc (length s.here.source.tokens)) (suc (length s.there.source.tokens)) sight m look one s ts h (omega (arith, here, few s.here.source s.here.place)) (omega (arith, there, few s.there.source s.there.place))
 
 -- Groups.
 
@@ -209,10 +212,10 @@ abbrev pub within : Sides → ℕ → ℕ → Sides
 within s p q = record s { here = inside s.here p; there = inside s.there q }
 
 goes_in : (s : Sides) (p q : ℕ) (ts : List Token) → Alike (at_places s p q) ts → Alike (within s p q) ts
-goes_in s p q ts h = record { shown = h.shown; moved = h.moved; texts = h.texts; ends = h.ends; place = h.place }
+goes_in s p q ts h = record { texts = h.texts; names = h.names; here = h.here; there = h.there; place = h.place }
 
 comes_out : (s : Sides) (p q k l : ℕ) (ts : List Token) → Alike (passed (within s p q) k l) ts → Alike (at_places s (p + k) (q + l)) ts
-comes_out s p q k l ts h = record { shown = h.shown; moved = h.moved; texts = h.texts; ends = h.ends; place = h.place }
+comes_out s p q k l ts h = record { texts = h.texts; names = h.names; here = h.here; there = h.there; place = h.place }
 
 module _ {V : Type 0} (g : V → V) (n : ℕ) (s : Sides) (ts : List Token) where
   closed_by_moves : (p q : ℕ) (r : List Token) (v : V) (t u : Bool) (a b : Result ℕ Report) → length r + (n + 1) ≤ length ts → s.here.place < p → s.there.place < q → PlaceMoved (at_places s p q) r a b
@@ -268,8 +271,18 @@ moves_mapped moved other f n m e one s ts h = moved_mapped (moved s.move) (other
 abbrev pub spanned_moved : {V : Type 0} → ((ℕ → ℕ) → V → V) → (ℕ → ℕ) → V × ℕ → V × ℕ
 spanned_moved moved move v = (moved move v.0, move v.1)
 
-pub moves_spanned : {V : Type 0} (moved : (ℕ → ℕ) → V → V) (n : ℕ) (m : Reading V) → 1 ≤ n → Moves n moved m → Moves n (spanned_moved moved) (spanned m)
-moves_spanned moved n m l one s ts h = moved_spanned (moved s.move) n s ts (m s.here) (m s.there) l h (one s ts h)
+pub moves_spanned : {V : Type 0} (moved : (ℕ → ℕ) → V → V) (n : ℕ) (m : Reading V) → NeedsToken m → Moves n moved m → Moves n (spanned_moved moved) (spanned m)
+moves_spanned moved n m need one s ts h = moved_spanned (moved s.move) n s ts (m s.here) (m s.there) (need s.here) h (one s ts h)
+
+-- what needs a token
+pub needs_token : {V : Type 0} (read : Reader V) (message : List ℕ) → NeedsToken (token read message)
+needs_token read message a v e =
+    let k = token_got (taken_at read a) _ _ a.place v e in
+    let t = taken_token read a.source.setting.text (seen_at a) v k.0 k.1 in
+    (t.0, k.0, shown_token a t.0 k.0 t.1)
+
+pub needs_checked : {V W : Type 0} (check : V → Option W) (message : List ℕ) (m : Reading V) → NeedsToken m → NeedsToken (checked check message m)
+needs_checked check message m need a w e = let k = checked_got (m a).answer (m a) check _ w e in need a k.0 k.1
 
 pub moves_checked : {V W : Type 0} (moved : (ℕ → ℕ) → V → V) (other : (ℕ → ℕ) → W → W) (check : V → Option W) (message : List ℕ) (n : ℕ) (m : Reading V)
     → ((move : ℕ → ℕ) (v : V) → check (moved move v) ≡ option_map (other move) (check v)) → Moves n moved m → Moves n other (checked check message m)
@@ -291,3 +304,27 @@ moves_optional {V} moved n sight m look one =
     let all : (ℕ → ℕ) → Option V → Option V = λ move. option_map (moved move) in
     let some : Reading (Option V) = mapped (λ v. Some v) m in
     moves_where_seen all 0 sight some (give None) look (moves_fewer all n 0 some (omega arith) (moves_mapped moved all (λ v. Some v) n m (λ move v. refl) one)) (moves_give all None (λ move. refl))
+
+-- Registered names: under one name more the same tokens count.
+
+under_moves : {V : Type 0} (moved : (ℕ → ℕ) → V → V) (n : ℕ) (x : List ℕ) (m : Reading V) → Moves n moved m → (s : Sides) (ts : List Token) → Alike s ts → (full : Bool) (t u : Bool)
+    → OutcomeMoved (moved s.move) n s ts (under_by (if full then Err (too_often s.here) else Ok (record s.here { names = more s.here.names x })) t m) (under_by (if full then Err (too_often s.there) else Ok (record s.there { names = more s.there.names x })) u m)
+under_moves moved n x m one s ts h true t u = (too_often s.there, refl, record { cause = refl; offset = h.place; excerpt = refl })
+under_moves {V} moved n x m one s ts h false t u =
+    let named = record s { here = record s.here { names = more s.here.names x }; there = record s.there { names = more s.there.names x } } in
+    let alike : Alike named ts = record { texts = h.texts; names = ap (λ z. more z x) h.names; here = h.here; there = h.there; place = h.place } in
+    let o = m named.here in
+    let q = m named.there in
+    moved_also (moved s.move) t u n s ts o q (by_answer o q o.answer (one named ts alike))
+  where
+    by_answer : (o q : Outcome V) (a : Result V Report) → AnswerMoved (moved s.move) n (record s { here = record s.here { names = more s.here.names x }; there = record s.there { names = more s.there.names x } }) ts a o.passed q → AnswerMoved (moved s.move) n s ts a o.passed q
+    by_answer o q (Ok v) k = (k.0, k.1, record { texts = k.2.texts; names = h.names; here = k.2.here; there = k.2.there; place = k.2.place }, k.3)
+    by_answer o q (Err f) k = k
+
+pub moves_under : {V : Type 0} (moved : (ℕ → ℕ) → V → V) (n : ℕ) (x : List ℕ) (m : Reading V) → Moves n moved m → Moves n moved (under x m)
+moves_under moved n x m one s ts h =
+    let full_here = nat_eq (count s.here.names x) most_often in
+    let full_there = nat_eq (count s.there.names x) most_often in
+    let same : full_there ≡ full_here = ap (λ z. nat_eq (count z x) most_often) h.names in
+    subst (λ full. OutcomeMoved (moved s.move) n s ts (under x m s.here) (under_by (if full then Err (too_often s.there) else Ok (record s.there { names = more s.there.names x })) (not (is_registered s.there.names x)) m)) (sym same)
+    (under_moves moved n x m one s ts h full_here (not (is_registered s.here.names x)) (not (is_registered s.there.names x)))

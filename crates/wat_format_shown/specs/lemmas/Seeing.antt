@@ -1,7 +1,7 @@
 -- What is seen from a parser, and from one to which the same tokens are shown elsewhere. These are proofs, which a reader may skip.
-use Rattle.std.proofs.Common.{◌≡◌, ◌∙◌, ◌<◌, ◌≤◌, ◌+◌, ◌-◌, ℕ, arith, List, [], ◌∷◌, Bool, true, false, refl, sym, ap, subst, length, Some, None, Ok, Err}
-use Rattle.std.specs.Prelude.{◌&&◌, Option, Result, bytes_eq, codes, if◌then◌else◌, is_some, not, map}
-use Rattle.std.specs.Str.{chars}
+use Rattle.std.proofs.Common.{◌≡◌, ◌∙◌, ◌<◌, ◌≤◌, ◌+◌, ◌-◌, ℕ, arith, List, Bool, true, false, refl, sym, ap, subst, length, drop, Some, None, Ok, Err}
+use Rattle.std.specs.Prelude.{◌&&◌, Option, Result, bytes_eq, codes, if◌then◌else◌, is_some, not}
+use Rattle.std.specs.Str.{IsUtf8, chars}
 use Rattle.wat_lex.specs.errors.Errors.{Report, lexical}
 use Rattle.wat_lex.specs.grammar.Classes.{backslash, quote}
 use Rattle.wat_lex.specs.grammar.Numbers.{sign_token}
@@ -13,52 +13,125 @@ use Rattle.wat_lex.specs.declared.lexer.kinds.TokenKind.{TokenKind}
 use Rattle.wat_lex.specs.declared.lexer.kinds.TokenKind.TheVariants.{LParen, RParen, String, Id, Keyword, Annotation, Reserved, Integer, Float}
 use Rattle.wat_lex.specs.declared.lexer.faults.LexError.{LexError}
 use Rattle.wat_lex.specs.declared.lexer.faults.LexError.TheVariants.{EmptyId, EmptyAnnotation}
-use Rattle.wat_lexer_parser.specs.lemmas.Behind.{shown_is_taken}
-use Rattle.wat_lexer_parser.specs.lemmas.RuleLaws.{agrees_more, ground, seen_token, span_at}
+use Rattle.wat_lexer_parser.specs.declared.parser.fault.Fault.{Fault}
+use Rattle.wat_lexer_parser.specs.declared.parser.fault.FaultKind.{FaultKind}
+use Rattle.wat_lexer_parser.specs.declared.parser.fault.FaultKind.TheVariants.{Lex, Unclosed}
+use Rattle.wat_lexer_parser.specs.groups.Sorts.{is_close}
+use Rattle.wat_lexer_parser.specs.lemmas.Behind.{BehindPlace, behind_in, behind_place, forward_in, same_token, shown_is_taken}
 use Rattle.wat_lexer_parser.specs.parser.Closures.{opened, closed, taken_or}
 use Rattle.wat_lexer_parser.specs.parser.Sights.{Sight, more_comes, second, seen_behind, sight_of}
-use Rattle.wat_lexer_parser.specs.parser.State.{Seen, at_place, report_here, seen_at}
+use Rattle.wat_lexer_parser.specs.parser.State.{State, Seen, at_place, report_by, report_here, report_of, seen, seen_at, told}
 use Rattle.wat_lexer_parser.specs.parser.Takers.{Reader, as_open, as_close, as_keyword, as_reserved, as_string, as_integer, as_float, as_id, as_owned_id, as_annotation, contains, is_minus, named_by, name_or_report, name_takes, sees, taken, taken_at, taken_by}
 use Rattle.wat_lexer_parser.specs.places.Places.{current_span, empty_of}
-use Rattle.wat_lexer_parser.specs.readings.Types.{behind_open, is_taken, sees_annotation, sees_word, spelling, spelling_by}
-use Rattle.wat_lexer_parser.specs.rules.Rules.{span_of, tells_more, unless_fault}
-use Rattle.wat_lexer_parser.specs.shown.Showing.{shown}
-use Rattle.wat_format_shown.specs.Moved.{token_moved}
+use Rattle.wat_lexer_parser.specs.places.Places as places
+use Rattle.wat_lexer_parser.specs.places.Source.{IsRead}
+use Rattle.wat_lexer_parser.specs.readings.Readings.{Reading}
+use Rattle.wat_lexer_parser.specs.readings.Types.{behind_open as sees_behind_open, is_taken, sees_annotation, sees_word, spelling, spelling_by}
+use Rattle.wat_lexer_parser.specs.laws.Counting.{counting, counting_behind}
+use Rattle.wat_lexer_parser.specs.shown.Shown.{Finding}
+use Rattle.wat_lexer_parser.specs.inside.ShownIn.{Showing, shown_in}
+use Rattle.wat_lexer_parser.specs.shown.Showing.{placed, shown}
+use Rattle.wat_format_shown.specs.Moved.{fault_moved, place_moved, token_moved}
 use Rattle.wat_format_shown.specs.Reads.{MovesReader, MovesSight, ReadMoved, ToldMoved}
-use Rattle.wat_format_shown.specs.Sides.{Sides, Alike, EndMoved, SameRefusal, Stand, by_map, with_token, at_places}
+use Rattle.wat_format_shown.specs.Sides.{Sides, Alike, AllSame, RefusalMoved, Same, SameRefusal, ShownLaws, Stand, by_map, with_token, behind_open, at_places}
+use Rattle.wat_format_shown.specs.lemmas.Found.{Found, found}
+
+-- What is found at a place, of all raw tokens.
+
+finding : State → Finding
+finding a = shown_in a.source.setting.text a.source.ending a.names Showing (drop a.place a.source.tokens)
+
+seen_is : (a : State) → seen_at a ≡ told a.source.setting.text (placed a.source.tokens (finding a))
+unfolding seen shown finding
+seen_is a = refl
+
+shown_is : (a : State) → shown a.source a.place a.names ≡ placed a.source.tokens (finding a)
+unfolding shown finding
+shown_is a = refl
+
+span_is : (a : State) → current_span a.source a.place a.names ≡ places.span_of a.source a.place (placed a.source.tokens (finding a))
+unfolding current_span shown finding
+span_is a = refl
+
+counted : ShownLaws → (a : State) → IsUtf8 a.source.setting.text → IsRead a.source → a.source.ending ≡ None → counting_behind (finding a) ≡ shown_in a.source.setting.text None a.names Showing (counting (drop a.place a.source.tokens))
+unfolding finding
+counted laws a u r e =
+    let x = a.source.setting.text in
+    let ts = counting (drop a.place a.source.tokens) in
+    let some = laws.counting a.source a.names a.place (finding a) u r (laws.some a.source a.names a.place u r) in
+    laws.one x a.source.ending a.names ts (counting_behind (finding a)) some ∙ ap (λ e. shown_in x e a.names Showing ts) e
+
+behind_finding : (a : State) (t : Token) (r : List Token) → finding a ≡ Ok (Some (t, r)) → BehindPlace t a.source.tokens a.place r
+unfolding finding
+behind_finding a t r e = behind_place t a.source.tokens a.place r (behind_in a.source.setting.text a.source.ending a.names Showing (drop a.place a.source.tokens) t r e)
+
+module _ (s : Sides) where
+  abbrev x : List ℕ
+  x = s.here.source.setting.text
+
+  abbrev y : List ℕ
+  y = s.there.source.setting.text
+
+  found_here : (ts : List Token) → Alike s ts → counting_behind (finding s.here) ≡ shown_in x None s.here.names Showing ts
+  found_here ts h = counted h.texts.laws s.here h.texts.utf8.0 h.texts.read.0 h.texts.ending.0 ∙ ap (shown_in x None s.here.names Showing) h.here
+
+  found_there : (ts : List Token) → Alike s ts → counting_behind (finding s.there) ≡ shown_in y None s.here.names Showing (counting (drop s.there.place s.there.source.tokens))
+  found_there ts h = counted h.texts.laws s.there h.texts.utf8.1 h.texts.read.1 h.texts.ending.1 ∙ ap (λ n. shown_in y None n Showing (counting (drop s.there.place s.there.source.tokens))) h.names
+
+  found_both : (ts : List Token) → Alike s ts → Found x y s.move (counting_behind (finding s.here)) (counting_behind (finding s.there))
+  found_both ts h =
+      let us = counting (drop s.there.place s.there.source.tokens) in
+      subst (λ a. Found x y s.move a (counting_behind (finding s.there))) (sym (found_here ts h)) (subst (λ b. Found x y s.move (shown_in x None s.here.names Showing ts) b) (sym (found_there ts h)) (found x y s.move s.here.names ts us h.there Showing))
 
 -- Spans, and refusals at them.
 
-span_at_end : (s : Sides) (f g : Option Report) → EndMoved s f g → Stand s s.end_here.span s.end_there.span
-span_at_end s None g h = by_map h.1
-span_at_end s (Some f) g h = h.3
+refusal_by : (move : ℕ → ℕ) (tokens : List Token) (x y : List ℕ) (p : ℕ) (kind : FaultKind) → RefusalMoved move tokens y (report_by x p kind) (report_by y (place_moved move kind p) kind)
+refusal_by move tokens x y p (Lex e) = record { cause = refl; offset = by_map refl; excerpt = refl }
+refusal_by move tokens x y p Unclosed = record { cause = refl; offset = behind_open refl; excerpt = refl }
 
-span_shown : (s : Sides) (ts : List Token) → Alike s ts → Stand s (span_of (ground s.here s.end_here) ts) (span_of (ground s.there s.end_there) (map (token_moved s.move) ts))
-span_shown s [] h = span_at_end s s.end_here.fault s.end_there.fault h.ends
-span_shown s (t ∷ ts) h = by_map refl
+refusal_of : (move : ℕ → ℕ) (tokens : List Token) (x y : List ℕ) (f : Fault) → RefusalMoved move tokens y (report_of x f) (report_of y (fault_moved move f))
+unfolding report_of
+refusal_of move tokens x y f = refusal_by move tokens x y f.offset f.kind
+
+span_by : (s : Sides) (ts : List Token) (f g : Finding) → Alike s ts → Found s.here.source.setting.text s.there.source.setting.text s.move (counting_behind f) (counting_behind g)
+    → Stand s (places.span_of s.here.source s.here.place (placed s.here.source.tokens f)) (places.span_of s.there.source s.there.place (placed s.there.source.tokens g))
+span_by s ts (Ok None) (Ok None) h k = by_map (sym h.texts.end)
+span_by s ts (Ok None) (Ok (Some (u, q))) h k = cc
+span_by s ts (Ok None) (Err g) h k = cc
+span_by s ts (Ok (Some (t, r))) (Ok None) h k = let e = k.2 in cc
+span_by s ts (Ok (Some (t, r))) (Ok (Some (u, q))) h k = by_map (ap (λ (v : Token). v.offset) ((same_token {F = Fault} u k.0 (counting q) k.1 k.2).0 ∙ k.3.is))
+span_by s ts (Ok (Some (t, r))) (Err g) h k = let e = k.2 in cc
+span_by s ts (Err f) (Ok None) h k = cc
+span_by s ts (Err f) (Ok (Some (u, q))) h k = cc
+span_by s ts (Err f) (Err g) h k = h.place
 
 pub span_stands : (s : Sides) (ts : List Token) → Alike s ts → Stand s (current_span s.here.source s.here.place s.here.names) (current_span s.there.source s.there.place s.there.names)
 span_stands s ts h =
-    let us = map (token_moved s.move) ts in
-    let here = span_at s.here s.end_here ts h.shown in
-    let there = span_at s.there s.end_there us h.moved in
-    subst (λ p. Stand s p (current_span s.there.source s.there.place s.there.names)) (sym here) (subst (λ q. Stand s (span_of (ground s.here s.end_here) ts) q) (sym there) (span_shown s ts h))
+    let there = places.span_of s.there.source s.there.place (placed s.there.source.tokens (finding s.there)) in
+    subst (λ p. Stand s p (current_span s.there.source s.there.place s.there.names)) (sym (span_is s.here)) (subst (λ q. Stand s (places.span_of s.here.source s.here.place (placed s.here.source.tokens (finding s.here))) q) (sym (span_is s.there)) (span_by s ts (finding s.here) (finding s.there) h (found_both s ts h)))
 
 pub report_moves : (s : Sides) (ts : List Token) (message : List ℕ) → Alike s ts → SameRefusal s (report_here s.here.source s.here.place s.here.names message) (report_here s.there.source s.there.place s.there.names message)
 report_moves s ts message h = record { cause = refl; offset = span_stands s ts h; excerpt = refl }
 
+-- a reading that needs a token to be shown
+abbrev pub NeedsToken : {V : Type 0} → Reading V → Type 0
+NeedsToken {V} m = (a : State) (v : V) → (m a).answer ≡ Ok v → (t : Token) × (q : ℕ) × (shown a.source a.place a.names ≡ Ok (Some (t, q)))
+
+span_of_token : (s : Sides) (ts : List Token) (f g : Finding) (t : Token) (q : ℕ) → Found s.here.source.setting.text s.there.source.setting.text s.move (counting_behind f) (counting_behind g) → placed s.here.source.tokens f ≡ Ok (Some (t, q))
+    → places.span_of s.there.source s.there.place (placed s.there.source.tokens g) ≡ s.move (places.span_of s.here.source s.here.place (placed s.here.source.tokens f))
+span_of_token s ts (Ok None) g t q k e = cc
+span_of_token s ts (Ok (Some (v, r))) (Ok None) t q k e = let d = k.2 in cc
+span_of_token s ts (Ok (Some (v, r))) (Ok (Some (u, p))) t q k e = ap (λ (w : Token). w.offset) ((same_token {F = Fault} u k.0 (counting p) k.1 k.2).0 ∙ k.3.is)
+span_of_token s ts (Ok (Some (v, r))) (Err g) t q k e = let d = k.2 in cc
+span_of_token s ts (Err f) g t q k e = cc
+
 -- where a token is shown, its span is moved by the map
-pub span_moves : (s : Sides) (ts : List Token) → 1 ≤ length ts → Alike s ts → current_span s.there.source s.there.place s.there.names ≡ s.move (current_span s.here.source s.here.place s.here.names)
-span_moves s [] l h = absurd (omega (arith, l))
-span_moves s (t ∷ ts) l h = span_at s.there s.end_there (map (token_moved s.move) (t ∷ ts)) h.moved ∙ sym (ap s.move (span_at s.here s.end_here (t ∷ ts) h.shown))
+pub span_moves : (s : Sides) (ts : List Token) (t : Token) (q : ℕ) → shown s.here.source s.here.place s.here.names ≡ Ok (Some (t, q)) → Alike s ts
+    → current_span s.there.source s.there.place s.there.names ≡ s.move (current_span s.here.source s.here.place s.here.names)
+span_moves s ts t q e h =
+    span_is s.there ∙ span_of_token s ts (finding s.here) (finding s.there) t q (found_both s ts h) (sym (shown_is s.here) ∙ e) ∙ sym (ap s.move (span_is s.here))
 
 -- What is seen.
-
-pub next_alike : (s : Sides) (t : Token) (ts : List Token) (h : Alike s (t ∷ ts)) → Alike (at_places s h.shown.0 h.moved.0) ts
-next_alike s t ts h =
-    let k = shown_is_taken s.here.source s.here.place s.here.names t h.shown.0 h.shown.1 in
-    let j = shown_is_taken s.there.source s.there.place s.there.names (token_moved s.move t) h.moved.0 h.moved.1 in
-    record { shown = h.shown.2; moved = h.moved.2; texts = h.texts.1; ends = h.ends; place = with_token t (h.shown.0 - 1) k.2 k.3 j.3 }
 
 pub alike_at : (s : Sides) (p p' q q' : ℕ) (ts : List Token) → p ≡ p' → q ≡ q' → Alike (at_places s p q) ts → Alike (at_places s p' q') ts
 alike_at s p p' q q' ts d e h = subst (λ q. Alike (at_places s p' q) ts) e (subst (λ p. Alike (at_places s p q) ts) d h)
@@ -76,18 +149,57 @@ SeenMoved s ts (Ok None) b = b ≡ Ok None
 SeenMoved s ts (Ok (Some (t, p))) b = (q : ℕ) × (b ≡ Ok (Some (token_moved s.move t, q))) × (token_text s.there.source.setting.text (token_moved s.move t) ≡ token_text s.here.source.setting.text t) × Onward s ts p q
 SeenMoved s ts (Err f) b = (g : Report) × (b ≡ Err g) × SameRefusal s f g
 
-seen_end : (s : Sides) (f g : Option Report) → EndMoved s f g → SeenMoved s [] (unless_fault None f) (unless_fault None g)
-seen_end s None g h = ap (unless_fault None) h.0
-seen_end s (Some f) g h = (h.0, ap (unless_fault None) h.1, h.2)
+onward : (s : Sides) (ts : List Token) (t u v : Token) (r q z : List Token) → Alike s ts → finding s.here ≡ Ok (Some (t, r)) → finding s.there ≡ Ok (Some (u, q)) → u ≡ v → counting q ≡ z → Same s.here.source.setting.text s.there.source.setting.text s.move t v
+    → AllSame s.here.source.setting.text s.there.source.setting.text s.move (counting r) z → Onward s ts (length s.here.source.tokens - length r) (length s.there.source.tokens - length q)
+onward s ts t u v r q z h e d w c same rest =
+    let x = s.here.source.setting.text in
+    let y = s.there.source.setting.text in
+    let b = behind_finding s.here t r e in
+    let f = behind_finding s.there u q d in
+    let p = length s.here.source.tokens - length r in
+    let o = length s.there.source.tokens - length q in
+    let taken = shown_is_taken s.here.source s.here.place s.here.names t p (shown_is s.here ∙ ap (placed s.here.source.tokens) e) in
+    let other = shown_is_taken s.there.source s.there.place s.there.names u o (shown_is s.there ∙ ap (placed s.there.source.tokens) d) in
+    let counts : shown_in x None s.here.names Showing ts ≡ Ok (Some (t, counting r)) = sym (found_here s ts h) ∙ ap counting_behind e in
+    record {
+      rest = counting r;
+      alike = record {
+        texts = h.texts;
+        names = h.names;
+        here = ap counting (sym b.tail);
+        there = subst (AllSame x y s.move (counting r)) (sym c ∙ ap counting f.tail) rest;
+        place = with_token t (p - 1) b.there taken.3 (other.3 ∙ ap (λ (k : Token). k.offset + k.len) (w ∙ same.is));
+      };
+      fewer = omega (arith, forward_in x None s.here.names Showing ts t (counting r) counts);
+      here = b.forward;
+      there = f.forward;
+    }
+
+seen_by : (s : Sides) (ts : List Token) (f g : Finding) → Alike s ts → finding s.here ≡ f → finding s.there ≡ g → Found s.here.source.setting.text s.there.source.setting.text s.move (counting_behind f) (counting_behind g)
+    → SeenMoved s ts (told s.here.source.setting.text (placed s.here.source.tokens f)) (told s.there.source.setting.text (placed s.there.source.tokens g))
+seen_by s ts (Ok None) (Ok None) h e d k = refl
+seen_by s ts (Ok None) (Ok (Some (u, q))) h e d k = cc
+seen_by s ts (Ok None) (Err g) h e d k = cc
+seen_by s ts (Ok (Some (t, r))) (Ok None) h e d k = let c = k.2 in cc
+seen_by s ts (Ok (Some (t, r))) (Ok (Some (u, q))) h e d k =
+    let c = same_token {F = Fault} u k.0 (counting q) k.1 k.2 in
+    let at = length s.there.source.tokens - length q in (
+      at,
+      ap (λ v. Ok (Some (v, at))) (c.0 ∙ k.3.is),
+      subst (λ v. token_text s.there.source.setting.text v ≡ token_text s.here.source.setting.text t) k.3.is k.3.text,
+      onward s ts t u k.0 r q k.1 h e d c.0 c.1 k.3 k.4,
+    )
+seen_by s ts (Ok (Some (t, r))) (Err g) h e d k = let c = k.2 in cc
+seen_by s ts (Err f) (Ok None) h e d k = cc
+seen_by s ts (Err f) (Ok (Some (u, q))) h e d k = cc
+seen_by s ts (Err f) (Err g) h e d k =
+    let c : g ≡ fault_moved s.move f = cc in
+    (report_of s.there.source.setting.text (fault_moved s.move f), ap (λ g. Err (report_of s.there.source.setting.text g)) c, refusal_of s.move s.here.source.tokens s.here.source.setting.text s.there.source.setting.text f)
 
 pub seen_moves : (s : Sides) (ts : List Token) → Alike s ts → SeenMoved s ts (seen_at s.here) (seen_at s.there)
-seen_moves s [] h =
-    subst (λ a. SeenMoved s [] a (seen_at s.there)) (sym h.shown.0) (subst (λ b. SeenMoved s [] (unless_fault None s.end_here.fault) b) (sym h.moved.0) (seen_end s s.end_here.fault s.end_there.fault h.ends))
-seen_moves s (t ∷ ts) h =
-    let k = shown_is_taken s.here.source s.here.place s.here.names t h.shown.0 h.shown.1 in
-    let j = shown_is_taken s.there.source s.there.place s.there.names (token_moved s.move t) h.moved.0 h.moved.1 in
-    let on : Onward s (t ∷ ts) h.shown.0 h.moved.0 = record { rest = ts; alike = next_alike s t ts h; fewer = omega arith; here = k.0; there = j.0 } in
-    subst (λ a. SeenMoved s (t ∷ ts) a (seen_at s.there)) (sym (seen_token s.here t h.shown.0 h.shown.1)) (h.moved.0, seen_token s.there (token_moved s.move t) h.moved.0 h.moved.1, h.texts.0, on)
+seen_moves s ts h =
+    subst (λ a. SeenMoved s ts a (seen_at s.there)) (sym (seen_is s.here))
+    (subst (λ b. SeenMoved s ts (told s.here.source.setting.text (placed s.here.source.tokens (finding s.here))) b) (sym (seen_is s.there)) (seen_by s ts (finding s.here) (finding s.there) h refl refl (found_both s ts h)))
 
 -- What is taken.
 
@@ -251,26 +363,23 @@ sees_of_seen moved read r s ts (Err f) b h = (h.0, ap (sees read s.there.source.
 pub moves_sight_of : {V : Type 0} (moved : (ℕ → ℕ) → V → V) (read : Reader V) → MovesReader moved read → MovesSight (sight_of read)
 moves_sight_of moved read r s ts h = sees_of_seen moved read r s ts (seen_at s.here) (seen_at s.there) (seen_moves s ts h)
 
-fault_same : (s : Sides) (f g : Option Report) → EndMoved s f g → is_some g ≡ is_some f
-fault_same s None g h = ap is_some h.0
-fault_same s (Some f) g h = ap is_some h.1
-
-more_same : (s : Sides) (ts : List Token) → Alike s ts → tells_more (ground s.there s.end_there) (map (token_moved s.move) ts) ≡ tells_more (ground s.here s.end_here) ts
-more_same s [] h = ap Ok (fault_same s s.end_here.fault s.end_there.fault h.ends)
-more_same s (t ∷ ts) h = refl
-
-pub moves_more : MovesSight more_comes
-moves_more s ts h = agrees_more s.there s.end_there (map (token_moved s.move) ts) h.moved ∙ more_same s ts h ∙ sym (agrees_more s.here s.end_here ts h.shown)
+empty_by : (s : Sides) (f g : Finding) → Found s.here.source.setting.text s.there.source.setting.text s.move (counting_behind f) (counting_behind g) → empty_of (placed s.there.source.tokens g) ≡ empty_of (placed s.here.source.tokens f)
+empty_by s (Ok None) (Ok None) k = refl
+empty_by s (Ok None) (Ok (Some (u, q))) k = cc
+empty_by s (Ok None) (Err g) k = cc
+empty_by s (Ok (Some (t, r))) (Ok None) k = let c = k.2 in cc
+empty_by s (Ok (Some (t, r))) (Ok (Some (u, q))) k = ap (λ (v : Token). is_close v.kind) ((same_token {F = Fault} u k.0 (counting q) k.1 k.2).0 ∙ k.3.is)
+empty_by s (Ok (Some (t, r))) (Err g) k = let c = k.2 in cc
+empty_by s (Err f) (Ok None) k = cc
+empty_by s (Err f) (Ok (Some (u, q))) k = cc
+empty_by s (Err f) (Err g) k = refl
 
 -- whether the end or `)` is shown
 pub empty_moves : (s : Sides) (ts : List Token) → Alike s ts → empty_of (shown s.there.source s.there.place s.there.names) ≡ empty_of (shown s.here.source s.here.place s.here.names)
-empty_moves s ts h = not_same _ _ (moves_more s ts h)
-  where
-    not_same : (a b : Bool) → ◌≡◌ {A = Result Bool Report} (Ok (not a)) (Ok (not b)) → a ≡ b
-    not_same true true e = refl
-    not_same true false e = cc
-    not_same false true e = cc
-    not_same false false e = refl
+empty_moves s ts h = ap empty_of (shown_is s.there) ∙ empty_by s (finding s.here) (finding s.there) (found_both s ts h) ∙ sym (ap empty_of (shown_is s.here))
+
+pub moves_more : MovesSight more_comes
+moves_more s ts h = ap (λ empty. Ok (not empty)) (empty_moves s ts h)
 
 second_moves : (sight : Sight) → MovesSight sight → (s : Sides) (ts : List Token) (a b : Seen) → SeenMoved s ts a b → ToldMoved s (seen_behind sight s.here a).told (seen_behind sight s.there b).told
 second_moves sight m s ts (Ok None) b h = ap (λ b. (seen_behind sight s.there b).told) h
@@ -287,7 +396,7 @@ open_moves sight m s ts (Ok (Some (u, p))) b h =
     subst (λ b. ToldMoved s (sight (at_place s.here p)).told (seen_behind sight s.there b).told) (sym h.1) (m (at_places s p h.0) h.2.rest h.2.alike)
 open_moves sight m s ts (Err f) b h = (h.0, ap (λ b. (seen_behind sight s.there b).told) h.1, h.2)
 
-pub moves_behind_open : (sight : Sight) → MovesSight sight → MovesSight (behind_open sight)
+pub moves_behind_open : (sight : Sight) → MovesSight sight → MovesSight (sees_behind_open sight)
 moves_behind_open sight m s ts h = open_moves sight m s ts (taken_at as_open s.here) (taken_at as_open s.there) (taken_moves (λ move v. v) as_open moves_open s ts h)
 
 word_moves : (s : Sides) (ts : List Token) (a b : Result (Option (Unit {0} × ℕ)) Report) → TakenMoved (λ v. v) s ts a b → ToldMoved s (is_taken a) (is_taken b)

@@ -1,5 +1,5 @@
 -- What types of the library read is moved: only where a value has spans does it change. These are proofs, which a reader may skip.
-use Rattle.std.proofs.Common.{◌≡◌, ℕ, List, Bool, true, false, arith, map-id, refl, sym, Some, None}
+use Rattle.std.proofs.Common.{◌≡◌, ℕ, List, Bool, true, false, map-id, refl, sym, Some, None}
 use Rattle.std.specs.List.{flat_map}
 use Rattle.std.specs.Prelude.{◌^◌, ◌++◌, Option, codes, if◌then◌else◌, map}
 use Rattle.std.specs.Option.{option_map}
@@ -7,11 +7,11 @@ use Rattle.std.specs.Str.{is_utf8}
 use Rattle.wat_lexer_parser.specs.parser.Sights.{Sight, second}
 use Rattle.wat_lexer_parser.specs.parser.Takers.{Reader, as_annotation, as_id, as_integer, as_keyword, as_owned_id, as_string}
 use Rattle.wat_lexer_parser.specs.readings.Readings.{Reading, give, group, joined_while, mapped, refuse, refuse_behind, spanned, token, where_seen, while_seen}
-use Rattle.wat_lexer_parser.specs.readings.Types.{Reference, Named, Number, Spelled, an_identifier, an_index, an_integer, annotation, bytes, identifier, integer, keyword, name_annotation, optional_name, owned_text, sees_annotation, spelling, text, u32, unsigned_below, utf8_or_refused, word}
+use Rattle.wat_lexer_parser.specs.readings.Types.{Reference, Named, Number, Spelled, an_identifier, an_index, an_integer, annotation, bytes, identifier, integer, keyword, name_annotation, optional_name, owned_text, sees_annotation, spelling, text, u32, under_standard, unsigned_below, utf8_or_refused, word}
 use Rattle.wat_words.specs.Words.{annotation_word, quoted}
 use Rattle.wat_format_shown.specs.Reads.{Moves, MovesReader, MovesSight}
-use Rattle.wat_format_shown.specs.lemmas.Moving.{moves_allocated, moves_and_then, moves_as, moves_checked, moves_give, moves_group, moves_mapped, moves_optional, moves_refuse, moves_refuse_behind, moves_spanned, moves_token, moves_where_seen, moves_while, spanned_moved}
-use Rattle.wat_format_shown.specs.lemmas.Seeing.{moves_annotation, moves_id, moves_integer, moves_keyword, moves_named, moves_owned_id, moves_second, moves_sight_of, moves_spelling, moves_string}
+use Rattle.wat_format_shown.specs.lemmas.Moving.{moves_allocated, moves_and_then, moves_as, moves_checked, moves_give, moves_group, moves_mapped, moves_optional, moves_refuse, moves_refuse_behind, moves_spanned, moves_token, moves_under, moves_where_seen, moves_while, needs_checked, needs_token, spanned_moved}
+use Rattle.wat_format_shown.specs.lemmas.Seeing.{NeedsToken, moves_annotation, moves_id, moves_integer, moves_keyword, moves_named, moves_owned_id, moves_second, moves_sight_of, moves_spelling, moves_string}
 
 -- a value without spans stays
 abbrev pub stays : {V : Type 0} → (ℕ → ℕ) → V → V
@@ -33,7 +33,7 @@ pub moves_identifier : Moves 1 spelled_moved identifier
 moves_identifier =
     let m = token as_owned_id (codes "expected an identifier") in
     moves_mapped (spanned_moved stays) spelled_moved (λ v. record { name = v.0.0; owned = v.0.1; generation = 0; span = v.1 }) 1 (spanned m) (λ move v. refl)
-    (moves_spanned stays 1 m (omega arith) (moves_token stays as_owned_id (codes "expected an identifier") moves_owned_id))
+    (moves_spanned stays 1 m (needs_token as_owned_id (codes "expected an identifier")) (moves_token stays as_owned_id (codes "expected an identifier") moves_owned_id))
 
 same_option : {V : Type 0} (o : Option V) → o ≡ option_map (λ v. v) o
 same_option None = refl
@@ -45,6 +45,10 @@ moves_number name fits =
     let m = token as_integer (codes "expected a " ++ name) in
     moves_checked stays stays fits (codes "invalid " ++ name ++ codes " number: constant out of range") 1 m (λ move v. same_option (fits v)) (moves_token stays as_integer (codes "expected a " ++ name) moves_integer)
 
+needs_u32 : NeedsToken u32
+needs_u32 =
+    needs_checked (unsigned_below (2 ^ 32)) (codes "invalid " ++ codes "u32" ++ codes " number: constant out of range") (token as_integer (codes "expected a " ++ codes "u32")) (needs_token as_integer (codes "expected a " ++ codes "u32"))
+
 pub moves_u32 : Moves 1 stays u32
 moves_u32 = moves_number (codes "u32") (unsigned_below (2 ^ 32))
 
@@ -53,14 +57,14 @@ moves_index =
     let named : Reading Reference = mapped Named identifier in
     let number : Reading Reference = mapped (λ v. Number v.0 v.1) (spanned u32) in
     let other : Reading Reference = refuse (codes "unexpected token, expected an index or an identifier") in
-    let numbered : Moves 1 reference_moved number = moves_mapped (spanned_moved stays) reference_moved (λ v. Number v.0 v.1) 1 (spanned u32) (λ move v. refl) (moves_spanned stays 1 u32 (omega arith) moves_u32) in
+    let numbered : Moves 1 reference_moved number = moves_mapped (spanned_moved stays) reference_moved (λ v. Number v.0 v.1) 1 (spanned u32) (λ move v. refl) (moves_spanned stays 1 u32 needs_u32 moves_u32) in
     moves_where_seen reference_moved 1 an_identifier named (where_seen an_integer number other) (moves_sight_of stays as_id moves_id) (moves_mapped spelled_moved reference_moved Named 1 identifier (λ move v. refl) moves_identifier)
     (moves_where_seen reference_moved 1 an_integer number other (moves_sight_of stays as_integer moves_integer) numbered (moves_refuse reference_moved 1 (codes "unexpected token, expected an index or an identifier")))
 
 moves_word_at : (read : Reader (List ℕ)) (w expected : List ℕ) → MovesReader stays read → Moves 1 span_moved (word read w expected)
 moves_word_at read w expected r =
     let m = token (spelling read w) expected in
-    moves_mapped (spanned_moved stays) span_moved (λ v. v.1) 1 (spanned m) (λ move v. refl) (moves_spanned stays 1 m (omega arith) (moves_token stays (spelling read w) expected (moves_spelling read w r)))
+    moves_mapped (spanned_moved stays) span_moved (λ v. v.1) 1 (spanned m) (λ move v. refl) (moves_spanned stays 1 m (needs_token (spelling read w) expected) (moves_token stays (spelling read w) expected (moves_spelling read w r)))
 
 pub moves_keyword_at : (at : Bool) (w : List ℕ) → Moves 1 span_moved (keyword at w)
 unfolding keyword
@@ -94,6 +98,10 @@ moves_optional_name =
     let named = second (sees_annotation (annotation_word 1)) in
     moves_as (λ move. option_map (stays move)) stays 0 optional_name (λ move o. sym (same_option o))
     (moves_optional stays 4 named (group name_annotation) (moves_second (sees_annotation (annotation_word 1)) (moves_named (annotation_word 1))) (moves_group 2 stays name_annotation moves_name_annotation))
+
+pub moves_under_standard : {V : Type 0} (moved : (ℕ → ℕ) → V → V) (n : ℕ) (m : Reading V) → Moves n moved m → Moves n moved (under_standard m)
+moves_under_standard moved n m one =
+    moves_under moved n (codes "custom") _ (moves_under moved n (codes "producers") _ (moves_under moved n (codes "name") _ (moves_under moved n (codes "dylink.0") _ (moves_under moved n (codes "metadata.code.branch_hint") m one))))
 
 -- Lists of values without spans.
 

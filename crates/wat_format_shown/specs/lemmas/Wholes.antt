@@ -1,26 +1,19 @@
--- What is read of a whole text, and of one that shows the same elsewhere. These are proofs, which a reader may skip.
+-- What is read of a whole text, and of one of the same tokens. These are proofs, which a reader may skip.
 use Rattle.std.proofs.Common.{◌≡◌, ℕ, List, refl, sym, ap, subst, Some, None, Ok, Err}
 use Rattle.std.specs.Prelude.{Result, codes}
 use Rattle.wat_lex.specs.errors.Errors.{Report}
-use Rattle.wat_lex.specs.tokens.EverySetting.{TilingsAreOne}
-use Rattle.wat_lex.specs.tokens.Tiling.{MaximalTiling}
 use Rattle.wat_lex.specs.declared.lexer.kinds.Token.{Token}
 use Rattle.wat_lexer_parser.specs.parser.State.{Seen, message_at, seen_at}
 use Rattle.wat_lexer_parser.specs.places.Source.{Source}
 use Rattle.wat_lexer_parser.specs.readings.Readings.{Outcome, Reading, at_end, on, start, whole_by}
-use Rattle.wat_lexer_parser.specs.rules.Rules.{End}
-use Rattle.wat_lexer_parser.specs.laws.ShownLaws.{SomethingIsAllShown}
-use Rattle.wat_lexer_parser.specs.shown.Showing.{OneThingShown}
-use Rattle.wat_format_shown.specs.Moved.{LayoutsShowTheSame, ShowsMoved}
-use Rattle.wat_format_shown.specs.Reads.{AnswerMoved, LayoutsReadTheSame, Moves, TextsReadTheSame, WholeMoved}
-use Rattle.wat_format_shown.specs.Sides.{Sides, by_map, passed}
+use Rattle.wat_lexer_parser.specs.laws.Counting.{counting}
+use Rattle.wat_format_shown.specs.Reads.{AnswerMoved, LayoutsAreSameTexts, LayoutsReadTheSame, Moves, TextsReadTheSame, WholeMoved}
+use Rattle.wat_format_shown.specs.Sides.{Sides, Alike, ShownLaws, at_start, by_map, passed}
 use Rattle.wat_format_shown.specs.lemmas.Seeing.{SeenMoved, seen_moves}
-use Rattle.wat_format_shown.specs.lemmas.Starts.{sides, start_alike}
-use Rattle.wat_format_shown.specs.lemmas.Starts as starts
 
-module _ {V : Type 0} (moved : V → V) (n : ℕ) (s r : Source) (move : ℕ → ℕ) (d e : End) (ts : List Token) where
+module _ {V : Type 0} (moved : V → V) (n : ℕ) (s r : Source) (move : ℕ → ℕ) (ts : List Token) where
   abbrev both : Sides
-  both = record { move = move; here = start s; there = start r; end_here = d; end_there = e }
+  both = record { move = move; here = start s; there = start r }
 
   end_moves : (k l : ℕ) (us : List Token) (v : V) (a b : Seen) → SeenMoved (passed both k l) us a b → WholeMoved moved move s.tokens r.setting.text (at_end a v s) (at_end b (moved v) r)
   end_moves k l us v (Ok None) b h = ap (λ b. at_end b (moved v) r) h
@@ -35,15 +28,14 @@ module _ {V : Type 0} (moved : V → V) (n : ℕ) (s r : Source) (move : ℕ →
       (end_moves o.passed q.passed h.1 v (seen_at (on (start s) o.passed)) (seen_at (on (start r) q.passed)) (seen_moves (passed both o.passed q.passed) h.1 h.2))
   whole_moves o q (Err f) h = (h.0, ap (λ x. whole_by x q.passed r) h.1, h.2)
 
-pub texts_read_the_same : {V : Type 0} → TilingsAreOne → SomethingIsAllShown → OneThingShown → (n : ℕ) (moved : (ℕ → ℕ) → V → V) (m : Reading V) → Moves n moved m → TextsReadTheSame moved m
-texts_read_the_same one_tiling some one n moved m law s r move utf8 read_s read_r shows =
-    let z = sides one_tiling some one s r move utf8 read_s read_r shows in
-    let ts = starts.us one_tiling some one s r move utf8 read_s read_r shows in
-    let h = law z ts (start_alike one_tiling some one s r move utf8 read_s read_r shows) in
-    whole_moves (moved move) n s r move z.end_here z.end_there ts (m (start s)) (m (start r)) (m (start s)).answer h
+pub texts_read_the_same : {V : Type 0} (n : ℕ) (moved : (ℕ → ℕ) → V → V) (m : Reading V) → Moves n moved m → TextsReadTheSame moved m
+texts_read_the_same n moved m law s r move same =
+    let ts = counting s.tokens in
+    let z : Sides = record { move = move; here = start s; there = start r } in
+    let alike : Alike z ts = record { texts = same; names = refl; here = refl; there = same.tokens; place = at_start refl refl } in
+    whole_moves (moved move) n s r move ts (m (start s)) (m (start r)) (m (start s)).answer (law z ts alike)
 
-pub layouts_read_the_same : {V : Type 0} → LayoutsShowTheSame → (moved : (ℕ → ℕ) → V → V) (m : Reading V) → TextsReadTheSame moved m → LayoutsReadTheSame moved m
-layouts_read_the_same show moved m law s r utf8 read ending other e =
-    let k = show s.setting s.tokens utf8 (subst (MaximalTiling s.setting 0 s.tokens) ending read) in
-    let shows : ShowsMoved s.setting r.setting k.0 = subst (λ t. ShowsMoved s.setting t k.0) (sym e) k.1 in
-    (k.0, shows, law s r k.0 utf8 read other shows)
+pub layouts_read_the_same : {V : Type 0} → ShownLaws → LayoutsAreSameTexts → (moved : (ℕ → ℕ) → V → V) (m : Reading V) → TextsReadTheSame moved m → LayoutsReadTheSame moved m
+layouts_read_the_same laws same moved m law s r utf8 read ending other e =
+    let k = same laws s r utf8 read ending other e in
+    (k.0, k.1, law s r k.0 k.2)
