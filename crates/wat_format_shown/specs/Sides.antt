@@ -1,8 +1,8 @@
 -- A parser in a text, and one in another text of the same tokens, which may stand elsewhere. No part of the standard.
-use Rattle.std.specs.Prelude.{◌≡◌, ◌+◌, ◌-◌, ℕ, List, [], ◌∷◌, drop, length, slice_get, Some, None}
+use Rattle.std.specs.Prelude.{◌≡◌, ◌⊎◌, ◌+◌, ◌-◌, ℕ, List, [], ◌∷◌, codes, drop, length, slice_get, Some, None}
 use Rattle.std.specs.Option.{option_map}
 use Rattle.std.specs.Str.{IsUtf8}
-use Rattle.wat_lex.specs.errors.Errors.{Report}
+use Rattle.wat_lex.specs.errors.Errors.{Report, Custom}
 use Rattle.wat_lex.specs.errors.Rendering.{excerpt}
 use Rattle.wat_lex.specs.tokens.ReadableTokens.{token_text}
 use Rattle.wat_lex.specs.declared.lexer.kinds.Token.{Token}
@@ -45,17 +45,20 @@ pub record SameTexts (s r : Source) (move : ℕ → ℕ) : Type 0 where
   pub end : move (length s.setting.text) ≡ length r.setting.text
 
 -- How a byte of one text stands in the other: by the map, as the start of a token and the text's end do; where one of the tokens ends, with that
--- token; right behind a parenthesis whose group is not closed, with it; or at the start of both.
+-- token; or at the start of both.
 pub data Stands (move : ℕ → ℕ) (tokens : List Token) (p q : ℕ) : Type 0 where
   by_map : q ≡ move p → Stands move tokens p q
   with_token : (t : Token) (n : ℕ) → slice_get tokens n ≡ Some t → p ≡ t.offset + t.len → q ≡ move t.offset + t.len → Stands move tokens p q
-  behind_open : q ≡ move (p - 1) + 1 → Stands move tokens p q
   at_start : p ≡ 0 → q ≡ 0 → Stands move tokens p q
+
+-- That a group is not closed is told right behind its parenthesis.
+abbrev pub BehindOpen : (ℕ → ℕ) → Report → Report → Type 0
+BehindOpen move f g = (f.cause ≡ Custom (codes "unclosed annotation")) × (g.offset ≡ move (f.offset - 1) + 1)
 
 -- The same is wrong, at the byte that stands so; what is kept of the text is kept of the other.
 pub record RefusalMoved (move : ℕ → ℕ) (tokens : List Token) (text : List ℕ) (f g : Report) : Type 0 where
   pub cause : g.cause ≡ f.cause
-  pub offset : Stands move tokens f.offset g.offset
+  pub offset : Stands move tokens f.offset g.offset ⊎ BehindOpen move f g
   pub excerpt : g.excerpt ≡ option_map (λ e. excerpt text g.offset) f.excerpt
 
 -- a parser's state in each text, and the map from one text to the other

@@ -1,5 +1,5 @@
 -- Each word of the language of readings keeps what is moved: where its parts answer the same, moved, so does it. These are proofs, which a reader may skip.
-use Rattle.std.proofs.Common.{◌≡◌, ◌∙◌, ◌<◌, ◌≤◌, ◌+◌, ◌-◌, ℕ, zero, suc, arith, List, [], ◌∷◌, ◌++◌, Bool, true, false, refl, sym, ap, subst, length, drop, length-drop, Some, None, Ok, Err}
+use Rattle.std.proofs.Common.{◌≡◌, ◌∙◌, ◌<◌, ◌≤◌, ◌+◌, ◌-◌, ℕ, zero, suc, arith, List, [], ◌∷◌, ◌++◌, Bool, true, false, refl, sym, ap, subst, inl, length, drop, length-drop, Some, None, Ok, Err}
 use Rattle.std.specs.Prelude.{Option, Result, cond, if◌then◌else◌, map, nat_eq, nat_le, not}
 use Rattle.std.specs.Option.{option_map}
 use Rattle.wat_lex.specs.errors.Errors.{Report}
@@ -48,7 +48,7 @@ pub moves_refuse : {V : Type 0} (moved : (ℕ → ℕ) → V → V) (n : ℕ) (m
 moves_refuse moved n message s ts h = refuses (moved s.move) n s ts _ _ 0 0 (report_moves s ts message h)
 
 pub moves_refuse_behind : {V : Type 0} (moved : (ℕ → ℕ) → V → V) (n : ℕ) (message : List ℕ) → Moves n moved (refuse_behind message)
-moves_refuse_behind moved n message s ts h = refuses (moved s.move) n s ts _ _ 0 0 (record { cause = refl; offset = h.place; excerpt = refl })
+moves_refuse_behind moved n message s ts h = refuses (moved s.move) n s ts _ _ 0 0 (record { cause = refl; offset = inl h.place; excerpt = refl })
 
 -- A token.
 
@@ -309,7 +309,7 @@ moves_optional {V} moved n sight m look one =
 
 under_moves : {V : Type 0} (moved : (ℕ → ℕ) → V → V) (n : ℕ) (x : List ℕ) (m : Reading V) → Moves n moved m → (s : Sides) (ts : List Token) → Alike s ts → (full : Bool) (t u : Bool)
     → OutcomeMoved (moved s.move) n s ts (under_by (if full then Err (too_often s.here) else Ok (record s.here { names = more s.here.names x })) t m) (under_by (if full then Err (too_often s.there) else Ok (record s.there { names = more s.there.names x })) u m)
-under_moves moved n x m one s ts h true t u = (too_often s.there, refl, record { cause = refl; offset = h.place; excerpt = refl })
+under_moves moved n x m one s ts h true t u = (too_often s.there, refl, record { cause = refl; offset = inl h.place; excerpt = refl })
 under_moves {V} moved n x m one s ts h false t u =
     let named = record s { here = record s.here { names = more s.here.names x }; there = record s.there { names = more s.there.names x } } in
     let alike : Alike named ts = record { texts = h.texts; names = ap (λ z. more z x) h.names; here = h.here; there = h.there; place = h.place } in

@@ -1,5 +1,5 @@
 -- What is seen from a parser, and from one to which the same tokens are shown elsewhere. These are proofs, which a reader may skip.
-use Rattle.std.proofs.Common.{◌≡◌, ◌∙◌, ◌<◌, ◌≤◌, ◌+◌, ◌-◌, ℕ, arith, List, Bool, true, false, refl, sym, ap, subst, length, drop, Some, None, Ok, Err}
+use Rattle.std.proofs.Common.{◌≡◌, ◌∙◌, ◌<◌, ◌≤◌, ◌+◌, ◌-◌, ℕ, arith, List, Bool, true, false, refl, sym, ap, subst, inl, inr, length, drop, Some, None, Ok, Err}
 use Rattle.std.specs.Prelude.{◌&&◌, Option, Result, bytes_eq, codes, if◌then◌else◌, is_some, not}
 use Rattle.std.specs.Str.{IsUtf8, chars}
 use Rattle.wat_lex.specs.errors.Errors.{Report, lexical}
@@ -26,14 +26,14 @@ use Rattle.wat_lexer_parser.specs.places.Places.{current_span, empty_of}
 use Rattle.wat_lexer_parser.specs.places.Places as places
 use Rattle.wat_lexer_parser.specs.places.Source.{IsRead}
 use Rattle.wat_lexer_parser.specs.readings.Readings.{Reading}
-use Rattle.wat_lexer_parser.specs.readings.Types.{behind_open as sees_behind_open, is_taken, sees_annotation, sees_word, spelling, spelling_by}
+use Rattle.wat_lexer_parser.specs.readings.Types.{behind_open, is_taken, sees_annotation, sees_word, spelling, spelling_by}
 use Rattle.wat_lexer_parser.specs.laws.Counting.{counting, counting_behind}
 use Rattle.wat_lexer_parser.specs.shown.Shown.{Finding}
 use Rattle.wat_lexer_parser.specs.inside.ShownIn.{Showing, shown_in}
 use Rattle.wat_lexer_parser.specs.shown.Showing.{placed, shown}
 use Rattle.wat_format_shown.specs.Moved.{fault_moved, place_moved, token_moved}
 use Rattle.wat_format_shown.specs.Reads.{MovesReader, MovesSight, ReadMoved, ToldMoved}
-use Rattle.wat_format_shown.specs.Sides.{Sides, Alike, AllSame, RefusalMoved, Same, SameRefusal, ShownLaws, Stand, by_map, with_token, behind_open, at_places}
+use Rattle.wat_format_shown.specs.Sides.{Sides, Alike, AllSame, RefusalMoved, Same, SameRefusal, ShownLaws, Stand, by_map, with_token, at_places}
 use Rattle.wat_format_shown.specs.lemmas.Found.{Found, found}
 
 -- What is found at a place, of all raw tokens.
@@ -86,8 +86,8 @@ module _ (s : Sides) where
 -- Spans, and refusals at them.
 
 refusal_by : (move : ℕ → ℕ) (tokens : List Token) (x y : List ℕ) (p : ℕ) (kind : FaultKind) → RefusalMoved move tokens y (report_by x p kind) (report_by y (place_moved move kind p) kind)
-refusal_by move tokens x y p (Lex e) = record { cause = refl; offset = by_map refl; excerpt = refl }
-refusal_by move tokens x y p Unclosed = record { cause = refl; offset = behind_open refl; excerpt = refl }
+refusal_by move tokens x y p (Lex e) = record { cause = refl; offset = inl (by_map refl); excerpt = refl }
+refusal_by move tokens x y p Unclosed = record { cause = refl; offset = inr (refl, refl); excerpt = refl }
 
 refusal_of : (move : ℕ → ℕ) (tokens : List Token) (x y : List ℕ) (f : Fault) → RefusalMoved move tokens y (report_of x f) (report_of y (fault_moved move f))
 unfolding report_of
@@ -111,7 +111,7 @@ span_stands s ts h =
     subst (λ p. Stand s p (current_span s.there.source s.there.place s.there.names)) (sym (span_is s.here)) (subst (λ q. Stand s (places.span_of s.here.source s.here.place (placed s.here.source.tokens (finding s.here))) q) (sym (span_is s.there)) (span_by s ts (finding s.here) (finding s.there) h (found_both s ts h)))
 
 pub report_moves : (s : Sides) (ts : List Token) (message : List ℕ) → Alike s ts → SameRefusal s (report_here s.here.source s.here.place s.here.names message) (report_here s.there.source s.there.place s.there.names message)
-report_moves s ts message h = record { cause = refl; offset = span_stands s ts h; excerpt = refl }
+report_moves s ts message h = record { cause = refl; offset = inl (span_stands s ts h); excerpt = refl }
 
 -- a reading that needs a token to be shown
 abbrev pub NeedsToken : {V : Type 0} → Reading V → Type 0
@@ -278,7 +278,7 @@ moves_float s t e = by_kind t.kind
 -- a name, or what is wrong with it at the token
 name_moves : (s : Sides) (t : Token) (a : Result (List ℕ) LexError) → ReadMoved (λ v. v) s (Some (name_or_report s.here.source.setting.text t a)) (Some (name_or_report s.there.source.setting.text (token_moved s.move t) a))
 name_moves s t (Ok name) = refl
-name_moves s t (Err e) = (lexical s.there.source.setting.text (record { offset = s.move t.offset; error = e }), refl, record { cause = refl; offset = by_map refl; excerpt = refl })
+name_moves s t (Err e) = (lexical s.there.source.setting.text (record { offset = s.move t.offset; error = e }), refl, record { cause = refl; offset = inl (by_map refl); excerpt = refl })
 
 named_moves : (empty : LexError) (s : Sides) (t : Token) → token_text s.there.source.setting.text (token_moved s.move t) ≡ token_text s.here.source.setting.text t
     → ReadMoved (λ v. v) s (Some (name_or_report s.here.source.setting.text t (name_value empty (word_of s.here.source.setting.text t))))
@@ -396,7 +396,7 @@ open_moves sight m s ts (Ok (Some (u, p))) b h =
     subst (λ b. ToldMoved s (sight (at_place s.here p)).told (seen_behind sight s.there b).told) (sym h.1) (m (at_places s p h.0) h.2.rest h.2.alike)
 open_moves sight m s ts (Err f) b h = (h.0, ap (λ b. (seen_behind sight s.there b).told) h.1, h.2)
 
-pub moves_behind_open : (sight : Sight) → MovesSight sight → MovesSight (sees_behind_open sight)
+pub moves_behind_open : (sight : Sight) → MovesSight sight → MovesSight (behind_open sight)
 moves_behind_open sight m s ts h = open_moves sight m s ts (taken_at as_open s.here) (taken_at as_open s.there) (taken_moves (λ move v. v) as_open moves_open s ts h)
 
 word_moves : (s : Sides) (ts : List Token) (a b : Result (Option (Unit {0} × ℕ)) Report) → TakenMoved (λ v. v) s ts a b → ToldMoved s (is_taken a) (is_taken b)

@@ -1,5 +1,5 @@
 -- What is read of a whole text, and of one of the same tokens. These are proofs, which a reader may skip.
-use Rattle.std.proofs.Common.{◌≡◌, ℕ, List, refl, sym, ap, subst, Some, None, Ok, Err}
+use Rattle.std.proofs.Common.{◌≡◌, inl, ℕ, List, refl, sym, ap, subst, Some, None, Ok, Err}
 use Rattle.std.specs.Prelude.{Result, codes}
 use Rattle.wat_lex.specs.errors.Errors.{Report}
 use Rattle.wat_lex.specs.declared.lexer.kinds.Token.{Token}
@@ -18,7 +18,7 @@ module _ {V : Type 0} (moved : V → V) (n : ℕ) (s r : Source) (move : ℕ →
   end_moves : (k l : ℕ) (us : List Token) (v : V) (a b : Seen) → SeenMoved (passed both k l) us a b → WholeMoved moved move s.tokens r.setting.text (at_end a v s) (at_end b (moved v) r)
   end_moves k l us v (Ok None) b h = ap (λ b. at_end b (moved v) r) h
   end_moves k l us v (Ok (Some (t, p))) b h =
-      (message_at r (move t.offset) (codes "extra tokens remaining after parse"), ap (λ b. at_end b (moved v) r) h.1, record { cause = refl; offset = by_map refl; excerpt = refl })
+      (message_at r (move t.offset) (codes "extra tokens remaining after parse"), ap (λ b. at_end b (moved v) r) h.1, record { cause = refl; offset = inl (by_map refl); excerpt = refl })
   end_moves k l us v (Err f) b h = (h.0, ap (λ b. at_end b (moved v) r) h.1, h.2)
 
   whole_moves : (o q : Outcome V) (x : Result V Report) → AnswerMoved moved n both ts x o.passed q → WholeMoved moved move s.tokens r.setting.text (whole_by x o.passed s) (whole_by q.answer q.passed r)
