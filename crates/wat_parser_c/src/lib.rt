@@ -31,6 +31,7 @@ use std::alloc::Global;
 use std::str;
 use wat_lex::lexer::Settings;
 use wat_lex::token::Span;
+use wat_rows::at::token_at;
 use wat_rows::fill::fill;
 use wat_rows::laws::one_fill;
 use wat_rows::rows::{Filled, Found, TokenRow, found_row, lexer_of};
@@ -101,8 +102,7 @@ pub extern "C" fn wat_token_at(text: &[u8], pos: usize, allow: bool, strict: boo
         FoundAt (setting text.now allow strict) pos row → row.token ≡ result }
 {
     let text = unsafe { str::from_utf8_unchecked(text) };
-    let lexer = lexer_of(text, Settings { allow, strict });
-    found_row(pos, lexer.scan(pos)).token
+    token_at(text, pos, Settings { allow, strict })
 }
 
 /// Fills rows with the tokens from a byte of the text on, up to its end or its first fault, or as

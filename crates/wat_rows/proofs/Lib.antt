@@ -3,6 +3,7 @@ mod CodedGroups
 mod Coding
 mod Counted
 mod Filling
+mod FoundOnce
 mod Fronts
 mod Lifting
 mod Linking

@@ -1,10 +1,10 @@
 -- Tokens of one byte, by the byte and the next.
-use Rattle.std.proofs.Common.{◌≡◌, ◌≤◌, ◌<◌, ◌+◌, ℕ, List, [], ◌∷◌, ◌++◌, length, drop, get_or, refl, arith, ap, sym, ◌∙◌, subst, length-append, append-nil, Bool, true, false, inl, inr, ◌||◌, not}
-use Rattle.std.specs.Prelude.{◌==◌, IsTrue, ◌&&◌}
+use Rattle.std.proofs.Common.{◌≡◌, ◌<◌, ◌+◌, ℕ, List, [], ◌∷◌, ◌++◌, length, drop, get_or, refl, arith, ap, sym, ◌∙◌, subst, append-nil, Bool, true, false, inl, inr, ◌||◌}
+use Rattle.std.specs.Prelude.{◌==◌}
 use Rattle.std.specs.Prelude.{if◌then◌else◌, codes, nat_lt}
 use Rattle.std.specs.Char.{char_set_contains}
 use Rattle.std.specs.Int.Bits.{bit_and}
-use Rattle.std.proofs.lemmas.List.{drop_more, drop-drop, get_or-drop, length-drop, get_or_past}
+use Rattle.std.proofs.lemmas.List.{drop_more, drop-drop, get_or-drop, length-drop}
 use Rattle.std.proofs.lemmas.Bool.{cases_Bool, both_ways, or_cases, eqb-true, ltb-true}
 use Rattle.std.proofs.lemmas.Str.{IsUtf8-drop, IsCharBoundary-after_ascii, chars_past_char, chars-nil, chars-encodes, length-encode, IsUtf8-past_char, encode_ascii, len_utf8_ascii, byte_from_char}
 use Rattle.std.specs.Str.{chars, IsUtf8, IsCharBoundary}
@@ -14,7 +14,10 @@ use Rattle.wat_lex.specs.grammar.Words.{Word, MayFollow, Punctuation}
 use Rattle.wat_lex.specs.declared.lexer.settings.Settings.{Settings}
 use Rattle.wat_lex.specs.declared.lexer.kinds.TokenKind.{TokenKind}
 use Rattle.wat_lex.specs.declared.lexer.kinds.TokenKind.TheVariants.{LParen, RParen, Reserved, Whitespace}
-use Rattle.wat_rows.specs.inside.OneByte.{sorts, longer_before, kind_alone, StandsAlone}
+use Rattle.wat_lex.specs.values.KindNumbers.{kind_number}
+use Rattle.wat_rows.specs.Rows.{kind_row, plain}
+use Rattle.wat_rows.specs.inside.OneByte.{sorts, longer_before, kind_alone, row_alone, StandsAlone}
+use Rattle.wat_rows.specs.declared.rows.KindRow.{KindRow}
 
 add-zero : (n : ℕ) → n + 0 ≡ n
 add-zero n = omega arith
@@ -222,3 +225,31 @@ stands_alone text at first next u b l e n z =
                     absurd (some_sort next (subst (λ x. bit_and x (sorts next) ≡ 0) k z))
               ]
         ]
+
+-- the row of such a byte, by the number of its kind
+pub row_by_code : (b at : ℕ) → (record { offset = at; len = 1; kind = plain (kind_number (kind_alone b)) }) ≡ row_alone b at
+row_by_code b at =
+    elim (cases_Bool (b == 40)) [
+      | inl o ↦ by true (b == 41) (is_whitespace b) o refl refl
+      | inr o ↦
+          elim (cases_Bool (b == 41)) [
+            | inl c ↦ by false true (is_whitespace b) o c refl
+            | inr c ↦
+                elim (cases_Bool (is_whitespace b)) [
+                  | inl w ↦ by false false true o c w
+                  | inr w ↦ by false false false o c w
+                ]
+          ]
+    ]
+  where
+    same : (o c w : Bool) → plain (kind_number (kind_by o c w)) ≡ kind_row (kind_by o c w)
+    same true c w = refl
+    same false true w = refl
+    same false false true = refl
+    same false false false = refl
+
+    by : (o c w : Bool) → (b == 40) ≡ o → (b == 41) ≡ c → is_whitespace b ≡ w
+        → (record { offset = at; len = 1; kind = plain (kind_number (kind_alone b)) }) ≡ row_alone b at
+    by o c w eo ec ew =
+        let k = kind_is b o c w eo ec ew in
+        ap (λ (r : KindRow). record { offset = at; len = 1; kind = r }) (ap (λ x. plain (kind_number x)) k ∙ same o c w ∙ sym (ap kind_row k))

@@ -5,7 +5,7 @@ ghost use Rattle.wat_rows.specs.Rows.{Fills};
 
 use crate::one_byte::alone;
 use crate::rows::{Filled, TokenRow, fault_code, lexer_of, token_row};
-use wat_lex::lexer::{Settings, Token};
+use wat_lex::lexer::Settings;
 
 /// Writes the tokens from a byte of the text on, as many as there are or as there is room for.
 pub fn fill(text: &str, pos: usize, settings: Settings, out: &mut [TokenRow]) -> Filled
@@ -21,12 +21,8 @@ pub fn fill(text: &str, pos: usize, settings: Settings, out: &mut [TokenRow]) ->
     let mut at = pos;
     let mut count = 0;
     'rows: while count < out.len() {
-        if let Some(kind) = alone(text, at) {
-            out[count] = token_row(Token {
-                kind,
-                offset: at,
-                len: 1,
-            });
+        if let Some(row) = alone(text, at) {
+            out[count] = row;
             count += 1;
             at += 1;
             continue 'rows;

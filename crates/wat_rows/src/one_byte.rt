@@ -1,24 +1,15 @@
 //! Tokens of one byte, which are told by that byte and the next: most tokens of most texts.
 ghost use Rattle.std.specs.Prelude.{◌≡◌, ◌<◌, ◌^◌, length, IfSome};
 ghost use Rattle.std.specs.Str.{IsCharBoundary};
-ghost use Rattle.wat_rows.specs.inside.OneByte.{sorts, longer_before, kind_alone, StandsAlone};
+ghost use Rattle.wat_rows.specs.inside.OneByte.{sorts, longer_before, row_alone, IsRowAlone};
 
-use wat_lex::lexer::TokenKind;
+use crate::rows::{TokenRow, plain};
 
-/// The sorts of each byte as bits, in rows of 32 bytes: 4 of each, 1 of `;`, 2 of white space.
-const SORTS: [u8; 256] = [
-    4, 4, 4, 4, 4, 4, 4, 4, 4, 6, 6, 4, 4, 6, 4, 4, 4, 4, 4, 4, 4, 4, 4, 4, 4, 4, 4, 4, 4, 4, 4, 4,
-    6, 4, 4, 4, 4, 4, 4, 4, 4, 4, 4, 4, 4, 4, 4, 4, 4, 4, 4, 4, 4, 4, 4, 4, 4, 4, 4, 5, 4, 4, 4, 4,
-    4, 4, 4, 4, 4, 4, 4, 4, 4, 4, 4, 4, 4, 4, 4, 4, 4, 4, 4, 4, 4, 4, 4, 4, 4, 4, 4, 4, 4, 4, 4, 4,
-    4, 4, 4, 4, 4, 4, 4, 4, 4, 4, 4, 4, 4, 4, 4, 4, 4, 4, 4, 4, 4, 4, 4, 4, 4, 4, 4, 4, 4, 4, 4, 4,
-    4, 4, 4, 4, 4, 4, 4, 4, 4, 4, 4, 4, 4, 4, 4, 4, 4, 4, 4, 4, 4, 4, 4, 4, 4, 4, 4, 4, 4, 4, 4, 4,
-    4, 4, 4, 4, 4, 4, 4, 4, 4, 4, 4, 4, 4, 4, 4, 4, 4, 4, 4, 4, 4, 4, 4, 4, 4, 4, 4, 4, 4, 4, 4, 4,
-    4, 4, 4, 4, 4, 4, 4, 4, 4, 4, 4, 4, 4, 4, 4, 4, 4, 4, 4, 4, 4, 4, 4, 4, 4, 4, 4, 4, 4, 4, 4, 4,
-    4, 4, 4, 4, 4, 4, 4, 4, 4, 4, 4, 4, 4, 4, 4, 4, 4, 4, 4, 4, 4, 4, 4, 4, 4, 4, 4, 4, 4, 4, 4, 4,
-];
-
-/// The sorts of bytes before which each byte may be no token of its own, in rows of 32 bytes.
-const LONGER_BEFORE: [u8; 256] = [
+/// Of each byte, in rows of 32, the sorts of bytes before which it may be no token of its own; behind
+/// these its own sorts as bits, 4 of each, 1 of `;`, 2 of white space; and then, in rows of 24, the
+/// code of its kind where it is a token of its own.
+// One table, so that one address serves for all three.
+const BYTES: [u8; 768] = [
     4, 4, 4, 4, 4, 4, 4, 4, 4, 2, 2, 4, 4, 2, 4, 4, 4, 4, 4, 4, 4, 4, 4, 4, 4, 4, 4, 4, 4, 4, 4, 4,
     2, 4, 4, 4, 4, 4, 4, 4, 1, 0, 4, 4, 0, 4, 4, 4, 4, 4, 4, 4, 4, 4, 4, 4, 4, 4, 4, 1, 4, 4, 4, 4,
     4, 4, 4, 4, 4, 4, 4, 4, 4, 4, 4, 4, 4, 4, 4, 4, 4, 4, 4, 4, 4, 4, 4, 4, 4, 4, 4, 0, 4, 0, 4, 4,
@@ -27,48 +18,62 @@ const LONGER_BEFORE: [u8; 256] = [
     4, 4, 4, 4, 4, 4, 4, 4, 4, 4, 4, 4, 4, 4, 4, 4, 4, 4, 4, 4, 4, 4, 4, 4, 4, 4, 4, 4, 4, 4, 4, 4,
     4, 4, 4, 4, 4, 4, 4, 4, 4, 4, 4, 4, 4, 4, 4, 4, 4, 4, 4, 4, 4, 4, 4, 4, 4, 4, 4, 4, 4, 4, 4, 4,
     4, 4, 4, 4, 4, 4, 4, 4, 4, 4, 4, 4, 4, 4, 4, 4, 4, 4, 4, 4, 4, 4, 4, 4, 4, 4, 4, 4, 4, 4, 4, 4,
+    4, 4, 4, 4, 4, 4, 4, 4, 4, 6, 6, 4, 4, 6, 4, 4, 4, 4, 4, 4, 4, 4, 4, 4, 4, 4, 4, 4, 4, 4, 4, 4,
+    6, 4, 4, 4, 4, 4, 4, 4, 4, 4, 4, 4, 4, 4, 4, 4, 4, 4, 4, 4, 4, 4, 4, 4, 4, 4, 4, 5, 4, 4, 4, 4,
+    4, 4, 4, 4, 4, 4, 4, 4, 4, 4, 4, 4, 4, 4, 4, 4, 4, 4, 4, 4, 4, 4, 4, 4, 4, 4, 4, 4, 4, 4, 4, 4,
+    4, 4, 4, 4, 4, 4, 4, 4, 4, 4, 4, 4, 4, 4, 4, 4, 4, 4, 4, 4, 4, 4, 4, 4, 4, 4, 4, 4, 4, 4, 4, 4,
+    4, 4, 4, 4, 4, 4, 4, 4, 4, 4, 4, 4, 4, 4, 4, 4, 4, 4, 4, 4, 4, 4, 4, 4, 4, 4, 4, 4, 4, 4, 4, 4,
+    4, 4, 4, 4, 4, 4, 4, 4, 4, 4, 4, 4, 4, 4, 4, 4, 4, 4, 4, 4, 4, 4, 4, 4, 4, 4, 4, 4, 4, 4, 4, 4,
+    4, 4, 4, 4, 4, 4, 4, 4, 4, 4, 4, 4, 4, 4, 4, 4, 4, 4, 4, 4, 4, 4, 4, 4, 4, 4, 4, 4, 4, 4, 4, 4,
+    4, 4, 4, 4, 4, 4, 4, 4, 4, 4, 4, 4, 4, 4, 4, 4, 4, 4, 4, 4, 4, 4, 4, 4, 4, 4, 4, 4, 4, 4, 4, 4,
+    10, 10, 10, 10, 10, 10, 10, 10, 10, 3, 3, 10, 10, 3, 10, 10, 10, 10, 10, 10, 10, 10, 10, 10,
+    10, 10, 10, 10, 10, 10, 10, 10, 3, 10, 10, 10, 10, 10, 10, 10, 4, 5, 10, 10, 10, 10, 10, 10,
+    10, 10, 10, 10, 10, 10, 10, 10, 10, 10, 10, 10, 10, 10, 10, 10, 10, 10, 10, 10, 10, 10, 10, 10,
+    10, 10, 10, 10, 10, 10, 10, 10, 10, 10, 10, 10, 10, 10, 10, 10, 10, 10, 10, 10, 10, 10, 10, 10,
+    10, 10, 10, 10, 10, 10, 10, 10, 10, 10, 10, 10, 10, 10, 10, 10, 10, 10, 10, 10, 10, 10, 10, 10,
+    10, 10, 10, 10, 10, 10, 10, 10, 10, 10, 10, 10, 10, 10, 10, 10, 10, 10, 10, 10, 10, 10, 10, 10,
+    10, 10, 10, 10, 10, 10, 10, 10, 10, 10, 10, 10, 10, 10, 10, 10, 10, 10, 10, 10, 10, 10, 10, 10,
+    10, 10, 10, 10, 10, 10, 10, 10, 10, 10, 10, 10, 10, 10, 10, 10, 10, 10, 10, 10, 10, 10, 10, 10,
+    10, 10, 10, 10, 10, 10, 10, 10, 10, 10, 10, 10, 10, 10, 10, 10, 10, 10, 10, 10, 10, 10, 10, 10,
+    10, 10, 10, 10, 10, 10, 10, 10, 10, 10, 10, 10, 10, 10, 10, 10, 10, 10, 10, 10, 10, 10, 10, 10,
+    10, 10, 10, 10, 10, 10, 10, 10, 10, 10, 10, 10, 10, 10, 10, 10,
 ];
-
-fn sorts(byte: u8) -> u8
-    ensures { result ≡ sorts byte }
-{
-    SORTS[byte as usize]
-}
 
 fn longer_before(byte: u8) -> u8
     ensures { result ≡ longer_before byte }
 {
-    LONGER_BEFORE[byte as usize]
+    BYTES[byte as usize]
 }
 
-/// The kind of a byte that is a token of its own.
-// One `match` would become a table of jumps.
-fn kind_alone(byte: u8) -> TokenKind
-    ensures { result ≡ kind_alone byte }
+fn sorts(byte: u8) -> u8
+    ensures { result ≡ sorts byte }
 {
-    if byte == b'(' {
-        return TokenKind::LParen;
-    }
-    if byte == b')' {
-        return TokenKind::RParen;
-    }
-    match byte {
-        b' ' | b'\n' | b'\r' | b'\t' => TokenKind::Whitespace,
-        _ => TokenKind::Reserved,
+    BYTES[256 + byte as usize]
+}
+
+/// The row of a byte at a place that is a token of its own.
+// A `match` of its kind would become a table of jumps.
+fn row_alone(byte: u8, at: usize) -> TokenRow
+    ensures { result ≡ row_alone byte at }
+{
+    TokenRow {
+        offset: at,
+        len: 1,
+        kind: plain(BYTES[512 + byte as usize]),
     }
 }
 
-/// The kind of the token of one byte at a place, where its first two bytes tell that one stands there.
-// Found so, a token of one byte takes 8 to 10 instructions fewer than by a scan.
+/// The row of the token of one byte at a place, where its first two bytes tell that one stands there.
+// Found so, a token of one byte takes half of the instructions of a scan.
 #[inline(always)]
-pub fn alone(text: &str, at: usize) -> Option<TokenKind>
+pub fn alone(text: &str, at: usize) -> Option<TokenRow>
     requires short { length text.now < 2 ^ 32 }
     requires boundary { IsCharBoundary text.now at }
-    ensures { IfSome result (StandsAlone text.now at) }
+    ensures { IfSome result (IsRowAlone text.now at) }
 {
     let bytes = text.as_bytes();
     if at + 1 < bytes.len() && longer_before(bytes[at]) & sorts(bytes[at + 1]) == 0 {
-        return Some(kind_alone(bytes[at]));
+        return Some(row_alone(bytes[at], at));
     }
     None
 }

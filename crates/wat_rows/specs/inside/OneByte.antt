@@ -1,11 +1,14 @@
 -- WebAssembly specification, text format, lexical format: tokens, white space, comments. Where a token of one byte stands.
-use Rattle.std.specs.Prelude.{ℕ, ◌+◌, ◌==◌, ◌||◌, List, if◌then◌else◌}
+use Rattle.std.specs.Prelude.{ℕ, ◌≡◌, ◌+◌, ◌==◌, ◌||◌, List, if◌then◌else◌}
 use Rattle.std.specs.Str.{IsCharBoundary}
 use Rattle.wat_lex.specs.grammar.Classes.{is_whitespace, is_punctuation, open_paren, close_paren, semicolon}
 use Rattle.wat_lex.specs.tokens.Tiling.{TokenAt}
+use Rattle.wat_lex.specs.declared.lexer.kinds.Token.{Token}
 use Rattle.wat_lex.specs.declared.lexer.settings.Settings.{Settings}
 use Rattle.wat_lex.specs.declared.lexer.kinds.TokenKind.{TokenKind}
 use Rattle.wat_lex.specs.declared.lexer.kinds.TokenKind.TheVariants.{LParen, RParen, Reserved, Whitespace}
+use Rattle.wat_rows.specs.Rows.{token_row}
+use Rattle.wat_rows.specs.declared.rows.TokenRow.{TokenRow}
 
 -- the sorts of a byte as bits: 4 of each, 1 of `;`, 2 of white space
 abbrev pub sorts : ℕ → ℕ
@@ -27,3 +30,16 @@ kind_alone b = if b == open_paren then LParen else if b == close_paren then RPar
 pub record StandsAlone (text : List ℕ) (at : ℕ) (kind : TokenKind) : Type 0 where
   pub token : (flags : Settings) → TokenAt (record { text = text; flags = flags }) at (record { kind = kind; offset = at; len = 1 })
   pub behind : IsCharBoundary text (at + 1)
+
+-- the token of a byte that is one of its own, and its row
+abbrev pub token_alone : ℕ → ℕ → Token
+token_alone b at = record { kind = kind_alone b; offset = at; len = 1 }
+
+abbrev pub row_alone : ℕ → ℕ → TokenRow
+row_alone b at = token_row (token_alone b at)
+
+-- the row is that of a token of one byte that stands at the place
+pub record IsRowAlone (text : List ℕ) (at : ℕ) (row : TokenRow) : Type 0 where
+  pub byte : ℕ
+  pub stands : StandsAlone text at (kind_alone byte)
+  pub told : row ≡ row_alone byte at

@@ -3,6 +3,7 @@ use Rattle.std.specs.Str.{IsCharBoundary}
 use Rattle.wat_lex.specs.tokens.Setting.{Setting}
 use Rattle.wat_lex.specs.tokens.Tiling.{TokenAt}
 use Rattle.wat_lex.specs.declared.lexer.kinds.Token.{Token}
+use Rattle.wat_rows.specs.inside.OneByte.{token_alone}
 use Rattle.wat_rows.specs.Rows.{Fills, Stops.full, Stops.ended, Stops.faulty}
 use Rattle.wat_rows.proofs.Filling.{listed_more, listed_fills}
 use Rattle.wat_rows.proofs.fill.fill.Goals as goal
@@ -11,19 +12,20 @@ pub rows-preserved : goal.rows-preserved
 rows-preserved c =
     let token = rw c.in-Ok-Some.field-0-is at c.in-Ok-Some.ensures.token in
     let boundary = rw c.in-Ok-Some.field-0-is at c.in-Ok-Some.ensures.boundary in
-    listed_more c.lexer_of-lexer.result c.args.pos c.rows.at c.args.out.now c.rows.out c.rows.count c.in-Ok-Some.token c.token_row-in-Ok-Some.result
-    c.rows.invariant c.rows-test.true token boundary c.token_row-in-Ok-Some.ensures
+    listed_more c.lexer_of-lexer.result c.args.pos c.rows.at c.args.out.now c.rows.out c.rows.count c.in-Ok-Some.token c.token_row.result
+    c.rows.invariant c.rows-test.true token boundary c.token_row.ensures
 
 pub rows-preserved-in-Some : goal.rows-preserved-in-Some
 rows-preserved-in-Some c =
     let s = c.lexer_of-lexer.result in
-    let t : Token = record { kind = c.in-Some.kind; offset = c.rows.at; len = 1 } in
-    let alone = c.in-Some.ensures in
+    let row = c.in-Some.ensures in
+    let alone = row.stands in
+    let t : Token = token_alone row.byte c.rows.at in
     let same = sym c.lexer_of-lexer.ensures in
     let token : TokenAt s c.rows.at t = subst (λ (x : Setting). TokenAt x c.rows.at t) same (alone.token c.args.settings) in
     let behind : IsCharBoundary s.text (c.rows.at + 1) = subst (λ (x : Setting). IsCharBoundary x.text (c.rows.at + 1)) same alone.behind in
-    listed_more s c.args.pos c.rows.at c.args.out.now c.rows.out c.rows.count t c.token_row.result c.rows.invariant c.rows-test.true token behind
-    c.token_row.ensures
+    listed_more s c.args.pos c.rows.at c.args.out.now c.rows.out c.rows.count t c.in-Some.row c.rows.invariant c.rows-test.true token behind
+    row.told
 
 pub returns-in-Ok-None-clause-rows : goal.returns-in-Ok-None-clause-rows
 returns-in-Ok-None-clause-rows c =

@@ -13,5 +13,9 @@ returns-then-longer_before-sorts-eq0 c =
     let told : bit_and (longer_before (get_or bytes at 0)) (sorts (get_or bytes (at + 1) 0)) ≡ 0 =
     sym (ap (λ x. bit_and x c.sorts.result) c.longer_before.ensures ∙ ap (bit_and (longer_before (get_or bytes at 0))) c.sorts.ensures)
     ∙ c.if-longer_before-sorts-eq0.true in
-    rw c.kind_alone.ensures (stands_alone c.args.text.now at (get_or bytes at 0) (get_or bytes (at + 1) 0) c.utf8.text c.requires.boundary inside
-    (ap (λ x. get_or x at 0) (sym same)) (ap (λ x. get_or x (at + 1) 0) (sym same)) told)
+    record {
+      byte = get_or bytes at 0;
+      stands = stands_alone c.args.text.now at (get_or bytes at 0) (get_or bytes (at + 1) 0) c.utf8.text c.requires.boundary inside
+          (ap (λ x. get_or x at 0) (sym same)) (ap (λ x. get_or x (at + 1) 0) (sym same)) told;
+      told = c.row_alone.ensures;
+    }
