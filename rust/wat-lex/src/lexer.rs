@@ -1,7 +1,8 @@
 use crate::error::{Error, LexError, Span};
-use crate::library::{END, FULL, INVALID_UTF8_ID, Place, Raw, Refusal, Settings, Text};
+use crate::library::{END, FULL, Filled, INVALID_UTF8_ID, Place, Raw, Refusal, Settings, Text};
 use crate::token::{Token, TokenKind, no_token};
 use std::iter::FusedIterator;
+use std::mem;
 use std::str::Utf8Error;
 
 /// How many tokens are asked for at once.
@@ -51,10 +52,9 @@ impl<'a> Lexer<'a> {
     /// Where no character begins at the byte, and the text does not end there.
     #[inline]
     pub fn parse(&self, pos: &mut usize) -> Result<Option<Token>, Error> {
-        let place = self.text()?.place(*pos);
-        let token = place.token(self.settings);
+        let token = self.text()?.place(*pos).token(self.settings);
         if token.len == 0 {
-            self.ending(place, *pos)?;
+            self.ending(*pos)?;
             return Ok(None);
         }
         *pos += token.len as usize;
@@ -69,10 +69,12 @@ impl<'a> Lexer<'a> {
     pub fn iter(&self, pos: usize) -> Tokens<'_, 'a> {
         Tokens {
             lexer: self,
-            tokens: Vec::new(),
+            block: Block {
+                tokens: Vec::new(),
+                at: pos,
+                why: FULL,
+            },
             next: 0,
-            at: pos,
-            why: FULL,
         }
     }
 
@@ -99,13 +101,13 @@ impl<'a> Lexer<'a> {
         Text::new(self.input).ok_or_else(too_long)
     }
 
-    /// The text's end or the fault at a place where no token stands. What it answers is one word.
+    /// The text's end or the fault at a byte where no token stands. What it answers is one word, and what it takes needs no memory.
     #[cold]
-    fn ending(&self, place: Place<'a>, pos: usize) -> Result<(), Error> {
+    fn ending(&self, pos: usize) -> Result<(), Error> {
         if pos == self.input.len() {
             return Ok(());
         }
-        Err(error_at(place, self.settings))
+        Err(error_at(self.text()?.place(pos), self.settings))
     }
 }
 
@@ -167,35 +169,55 @@ pub(crate) fn too_long() -> Error {
 #[derive(Clone, Debug)]
 pub struct Tokens<'l, 'a> {
     lexer: &'l Lexer<'a>,
-    tokens: Vec<Raw>,
-    /// The first token that was not given.
+    block: Block,
+    /// The first token of the block that was not given.
     next: usize,
-    /// Where the tokens end.
+}
+
+/// Tokens that were asked for at once.
+#[derive(Clone, Debug, Default)]
+struct Block {
+    tokens: Vec<Raw>,
+    /// Where they end.
     at: usize,
     /// Why they end there.
     why: u32,
 }
 
-impl Tokens<'_, '_> {
-    /// More tokens, or the ending, where all tokens were given.
+impl Block {
+    /// The tokens behind these. It takes and answers a block, so that a loop over tokens needs none of it in memory.
     #[cold]
-    fn more(&mut self) -> Option<Result<Token, Error>> {
-        let why = std::mem::replace(&mut self.why, END);
+    #[inline(never)]
+    fn following(mut self, lexer: &Lexer<'_>) -> Block {
+        let filled = match lexer.text() {
+            Ok(text) if self.why == FULL => {
+                self.tokens.resize(TOKENS, Raw::default());
+                text.place(self.at).fill(lexer.settings, &mut self.tokens)
+            }
+            _ => Filled {
+                count: 0,
+                at: self.at,
+                why: self.why,
+            },
+        };
+        self.tokens.truncate(filled.count);
+        (self.at, self.why) = (filled.at, filled.why);
+        self
+    }
+}
+
+impl Tokens<'_, '_> {
+    /// The fault behind all tokens, once.
+    #[cold]
+    #[inline(never)]
+    fn ending(lexer: &Lexer<'_>, at: usize, why: u32) -> Option<Error> {
         if why == END {
             return None;
         }
-        let place = match self.lexer.text() {
-            Ok(text) => text.place(self.at),
-            Err(error) => return Some(Err(error)),
-        };
-        if why != FULL {
-            return Some(Err(error_at(place, self.lexer.settings)));
+        match lexer.text() {
+            Ok(text) => Some(error_at(text.place(at), lexer.settings)),
+            Err(error) => Some(error),
         }
-        self.tokens.resize(TOKENS, Raw::default());
-        let filled = place.fill(self.lexer.settings, &mut self.tokens);
-        self.tokens.truncate(filled.count);
-        (self.next, self.at, self.why) = (0, filled.at, filled.why);
-        self.next()
     }
 }
 
@@ -204,12 +226,20 @@ impl Iterator for Tokens<'_, '_> {
 
     #[inline]
     fn next(&mut self) -> Option<Result<Token, Error>> {
-        match self.tokens.get(self.next) {
+        if let Some(token) = self.block.tokens.get(self.next) {
+            self.next += 1;
+            return Some(Ok(Token::from_library(*token)));
+        }
+        self.block = mem::take(&mut self.block).following(self.lexer);
+        match self.block.tokens.first() {
             Some(token) => {
-                self.next += 1;
+                self.next = 1;
                 Some(Ok(Token::from_library(*token)))
             }
-            None => self.more(),
+            None => {
+                let why = mem::replace(&mut self.block.why, END);
+                Tokens::ending(self.lexer, self.block.at, why).map(Err)
+            }
         }
     }
 }
