@@ -1,5 +1,5 @@
 //! The parser.
-ghost use Rattle.std.specs.Prelude.{◌≡◌, ◌≤◌, ◌<◌, ◌+◌, ◌^◌, false, not, length, Ok};
+ghost use Rattle.std.specs.Prelude.{◌≡◌, ◌≤◌, ◌<◌, ◌+◌, ◌^◌, false, not, length, Ok, Some};
 ghost use Rattle.std.specs.Prelude.{IfOk, IfErr, IfSome, OnOk, OnErr};
 ghost use Rattle.std.specs.FinMap as map;
 ghost use Rattle.wat_lex.specs.tokens.ReadableTokens.{IsTokenOf};
@@ -53,8 +53,8 @@ pub struct Parser<'a> {
     place: usize,
     depth: usize,
     names: Names,
-    /// The token that is shown at the place, with the place behind it, where that is known.
-    next: Option<(Token, usize)>,
+    /// The number of the token that is shown at the place, where that is known.
+    next: Option<usize>,
 }
 
 impl<'a> Model for Parser<'a> {
@@ -123,6 +123,22 @@ impl<'a> Parser<'a> {
         self.place
     }
 
+    /// What is shown at a place, with the place behind it, where the parser keeps which token it is.
+    #[inline(always)]
+    pub(crate) fn kept(&self, place: usize) -> Option<(Token, usize)>
+        ensures value { IfSome result (λ v.
+            shown self.now.source place self.now.names ≡ Ok (Some v)) }
+        ensures on { IfSome result (λ v.
+            (place < v.1) × (v.1 ≤ length self.now.source.tokens)) }
+        ensures reader { IfSome result (λ v. IsTokenOf self.now.source.setting.text v.0) }
+    {
+        let table = &self.table;
+        match self.next {
+            Some(next) if place == self.place => Some(table.numbered(next)),
+            _ => None,
+        }
+    }
+
     /// What is shown at a place, with the place behind it.
     pub(crate) fn look(&self, place: usize) -> Result<Option<(Token, usize)>, Fault>
         ensures value { result ≡ shown self.now.source place self.now.names }
@@ -131,26 +147,23 @@ impl<'a> Parser<'a> {
         ensures reader { IfOk result (λ found. IfSome found (λ v.
             IsTokenOf self.now.source.setting.text v.0)) }
     {
-        match self.next {
-            Some(next) if place == self.place => Ok(Some(next)),
-            _ => {
+        match self.kept(place) {
+            Some(found) => Ok(Some(found)),
+            None => {
                 let table = &self.table;
                 table.look(place, &self.names)
             }
         }
     }
 
-    /// Moves to a place further on, and notes the token that is shown there.
+    /// Moves to a place further on, and notes which token is shown there.
     fn move_to(&mut self, place: usize)
         requires on { self.old.place ≤ place }
         requires within { place ≤ length self.old.source.tokens }
         ensures { self.new ≡ record self.old { place = place } }
     {
         let table = &self.table;
-        self.next = match table.look(place, &self.names) {
-            Ok(next) => next,
-            Err(_) => None,
-        };
+        self.next = table.shown_at(place, &self.names);
         self.place = place;
     }
 

@@ -1,6 +1,6 @@
 -- What is shown at a place, a step at a time.
 use Rattle.std.proofs.Common.{◌≡◌, ℕ, zero, suc, ◌+◌, ◌-◌, ◌<◌, ◌≤◌, List, [], ◌∷◌, refl, sym, ap, ◌∙◌, inl, inr, subst, length, drop, get_or, arith, length-drop, Some, None, Ok, Err}
-use Rattle.std.specs.Prelude.{slice_get, Option, if◌then◌else◌}
+use Rattle.std.specs.Prelude.{slice_get, Option, true, if◌then◌else◌}
 use Rattle.std.proofs.lemmas.List.{drop_more, drop_all}
 use Rattle.wat_lex.specs.declared.lexer.faults.LexFault.{LexFault}
 use Rattle.wat_lex.specs.declared.lexer.kinds.TokenKind.{TokenKind}
@@ -15,7 +15,7 @@ use Rattle.wat_lexer_parser.specs.shown.Shown.{ended, left_open}
 use Rattle.wat_lexer_parser.specs.shown.Showing.{shown, placed}
 use Rattle.wat_lexer_parser.specs.inside.ShownIn.{Showing, shown_in, first, step_of, step_kind, step_next, step_named, name_at}
 use Rattle.wat_lexer_parser.specs.places.Source.{Source}
-use Rattle.wat_lexer_parser.specs.groups.Sorts.{is_marked}
+use Rattle.wat_lexer_parser.specs.groups.Sorts.{is_blank, is_marked}
 use Rattle.wat_lexer_parser.specs.inside.Table.{HeadsAnnotation}
 use Rattle.wat_lexer_parser.proofs.shown.Annotations.{is_annotation, no_name}
 use Rattle.wat_lexer_parser.proofs.shown.Skipping.{past_closed, closes_or_not}
@@ -119,3 +119,21 @@ pub skip_heads : (s : Source) (n : Names) (i : ℕ) (t : Token) → i < length s
 skip_heads s n i t l e h =
     let o = skip_opens s n t (slice_get s.tokens (i + 1)) h in
     heads_by s n i t (slice_get s.tokens (i + 1)) (slice_get_read s.tokens (length s.tokens) i t refl l e) refl o (subst (λ k. step_kind s.setting.text n t k (slice_get s.tokens (i + 1)) ≡ Skip) o h)
+
+-- a token that is never shown is passed
+pub blank_passes : (x : List ℕ) (n : Names) (t : Token) (u : Option Token) → is_blank t.kind ≡ true → step_of x n t u ≡ Pass
+blank_passes x n t u e = passes t.kind e
+  where
+    passes : (k : TokenKind) → is_blank k ≡ true → step_kind x n t k u ≡ Pass
+    passes Whitespace e = refl
+    passes LineComment e = refl
+    passes BlockComment e = refl
+    passes LParen e = cc
+    passes RParen e = cc
+    passes String e = cc
+    passes Id e = cc
+    passes Keyword e = cc
+    passes Annotation e = cc
+    passes Reserved e = cc
+    passes (Integer k) e = cc
+    passes (Float k) e = cc

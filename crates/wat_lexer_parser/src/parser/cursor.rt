@@ -62,8 +62,31 @@ impl<'p, 'a> Cursor<'p, 'a> {
     }
 
     /// What is shown here, with the place behind it.
+    // What a parser keeps is told in registers; what a call writes to memory is read there apart from it.
+    #[inline(always)]
     #[tactic(auto, unfolding(crate::specs::parser::State::seen))]
     fn look(self) -> Result<Option<(Token, usize)>, Error>
+        ensures value { Answers false (λ found. found)
+            (seen_at (at_place self.entry.parser.now self.entry.at)) result }
+        ensures on { IfOk result (λ found. IfSome found (λ v.
+            (self.entry.at < v.1) × (v.1 ≤ length self.entry.parser.now.source.tokens))) }
+        ensures reader { IfOk result (λ found. IfSome found (λ v.
+            IsTokenOf self.entry.parser.now.source.setting.text v.0)) }
+    {
+        let parser = self.parser;
+        match parser.kept(self.at) {
+            Some(found) => Ok(Some(found)),
+            None => match self.look_anew() {
+                Ok(found) => Ok(found),
+                Err(error) => Err(error),
+            },
+        }
+    }
+
+    /// The same, by a look at the table.
+    #[inline(never)]
+    #[tactic(auto, unfolding(crate::specs::parser::State::seen))]
+    fn look_anew(self) -> Result<Option<(Token, usize)>, Error>
         ensures value { Answers false (λ found. found)
             (seen_at (at_place self.entry.parser.now self.entry.at)) result }
         ensures on { IfOk result (λ found. IfSome found (λ v.

@@ -41,7 +41,7 @@ pub struct Table {
     pub closes: Vec<Option<usize>>,
 }
 
-fn is_annotation(kind: TokenKind) -> bool
+pub fn is_annotation(kind: TokenKind) -> bool
     ensures { result ≡ is_annotation kind }
 {
     matches!(kind, TokenKind::Annotation)

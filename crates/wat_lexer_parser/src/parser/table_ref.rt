@@ -1,5 +1,6 @@
 //! A text and its table, as parsers read them.
-ghost use Rattle.std.specs.Prelude.{◌≡◌, ◌<◌, ◌≤◌, ◌^◌, ◌+◌, false, length, drop, map, not, Some, Ok};
+ghost use Rattle.std.specs.Prelude.{◌≡◌, ◌<◌, ◌≤◌, ◌^◌, ◌+◌, ◌-◌, false, length, drop, map, not, Some, Ok};
+ghost use Rattle.std.specs.Prelude.{IsTrue};
 ghost use Rattle.std.specs.Prelude.{slice_get};
 ghost use Rattle.std.specs.List.{list_any};
 ghost use Rattle.std.specs.Prelude.{IfOk, IfErr, IfSome};
@@ -10,10 +11,12 @@ ghost use Rattle.wat_lex.specs.values.Names.{HasNoEscape};
 ghost use Rattle.wat_lex.specs.declared.lexer.kinds.Token.{Token};
 ghost use Rattle.wat_lex.specs.declared.lexer.kinds.TokenKind.TheVariants.{Annotation, LParen};
 ghost use Rattle.wat_lexer_parser.specs.declared.parser.fault.FaultKind.TheVariants.{Lex};
-ghost use Rattle.wat_lexer_parser.specs.declared.parser.fault.Step.TheVariants.{Refuse};
+ghost use Rattle.wat_lexer_parser.specs.declared.parser.fault.Step.TheVariants.{Refuse, Take};
 ghost use Rattle.wat_lexer_parser.specs.groups.Sorts.{is_blank, is_comment, is_marked, is_space};
+ghost use Rattle.wat_lexer_parser.specs.inside.Next.{IsNext};
 ghost use Rattle.wat_lexer_parser.specs.inside.Table.{HeadsAnnotation, IsTable, Pair};
 ghost use Rattle.wat_lexer_parser.specs.inside.TableNames.{name_view, written_view};
+ghost use Rattle.wat_lexer_parser.specs.names.RegisteredNames.{Names as NamesOf};
 ghost use Rattle.wat_lexer_parser.specs.parser.State.{message_at, report_of};
 ghost use Rattle.wat_lexer_parser.specs.places.Places.{offset_at};
 ghost use Rattle.wat_lexer_parser.specs.places.Places.{comment_at, past_space, is_meaningful};
@@ -25,7 +28,7 @@ ghost use Rattle.wat_lexer_parser.specs.inside.ShownIn.{step_named, step_next, s
 
 use crate::parser::fault::{Fault, FaultKind, Step};
 use crate::parser::names::Names;
-use crate::parser::table::{Table, find};
+use crate::parser::table::{Table, find, is_annotation};
 use std::alloc::Global;
 use std::marker::Model;
 use wat_lex::error::Error;
@@ -358,6 +361,8 @@ impl<'a> TableRef<'a> {
             (place < v.1) × (v.1 ≤ length self.now.tokens))) }
         ensures reader { IfOk result (λ found. IfSome found (λ v.
             IsTokenOf self.now.setting.text v.0)) }
+        ensures last { IfOk result (λ found. IfSome found (λ v.
+            slice_get self.now.tokens (v.1 - 1) ≡ Some v.0)) }
     {
         let mut i = place;
         while i < self.table.tokens.len() {
@@ -375,6 +380,80 @@ impl<'a> TableRef<'a> {
             }
         }
         self.ending()
+    }
+
+    /// The first place from this one on at which neither white space nor a comment stands.
+    fn past_blanks(&self, place: usize) -> usize
+        ensures on { place ≤ result }
+        ensures same { (names : NamesOf) →
+            shown self.now place names ≡ shown self.now result names }
+    {
+        let mut i = place;
+        while i < self.table.tokens.len() && is_blank(self.table.tokens[i].kind) {
+            i += 1;
+        }
+        i
+    }
+
+    /// Whether the token at a place is shown whatever names are registered, by its kind and the next
+    /// one's.
+    fn is_plain(&self, place: usize, token: Token) -> bool
+        requires within { place < 2 ^ 63 }
+        requires token { slice_get self.now.tokens place ≡ Some token }
+        ensures { IsTrue result → (names : NamesOf) →
+            step_of self.now.setting.text names token (slice_get self.now.tokens (place + 1))
+            ≡ Take }
+    {
+        match token.kind {
+            TokenKind::Whitespace | TokenKind::LineComment | TokenKind::BlockComment => false,
+            TokenKind::LParen => match self.token_at(place + 1) {
+                Some(next) => !is_annotation(next.kind),
+                None => false,
+            },
+            _ => true,
+        }
+    }
+
+    /// The number of the token that is shown at a place, where one is. It takes no memory.
+    // What it answers needs no memory, and a look that may have to read a name stays a call.
+    #[inline(always)]
+    pub fn shown_at(&self, place: usize, names: &Names) -> Option<usize>
+        ensures { IfSome result (IsNext self.now place names.now) }
+    {
+        let i = self.past_blanks(place);
+        match self.token_at(i) {
+            Some(token) => {
+                if self.is_plain(i, token) {
+                    Some(i)
+                } else {
+                    self.number_by_look(place, names)
+                }
+            }
+            None => None,
+        }
+    }
+
+    /// The same, by a look.
+    #[inline(never)]
+    fn number_by_look(&self, place: usize, names: &Names) -> Option<usize>
+        ensures { IfSome result (IsNext self.now place names.now) }
+    {
+        match self.look(place, names) {
+            Ok(Some((_, behind))) => Some(behind - 1),
+            _ => None,
+        }
+    }
+
+    /// The token that was shown at a place, with the place behind it.
+    pub fn numbered(&self, number: usize) -> (Token, usize)
+        requires { number < length self.now.tokens }
+        ensures token { slice_get self.now.tokens number ≡ Some result.0 }
+        ensures behind { result.1 ≡ number + 1 }
+        ensures reader { IsTokenOf self.now.setting.text result.0 }
+    {
+        let token = self.table.tokens[number];
+        self.is_readable(number, token);
+        (token, number + 1)
     }
 
     /// The place behind the whitespace token at a place, if one is there.

@@ -1,0 +1,21 @@
+use Rattle.std.proofs.Common.{◌≡◌, ◌<◌, ◌∙◌, sym, rules, get_or, length, Some}
+use Rattle.std.specs.Prelude.{slice_get}
+use Rattle.std.proofs.lemmas.Option.{get_or_from_slice_get}
+use Rattle.wat_lexer_parser.proofs.shown.Looks.{shown_take}
+use Rattle.wat_lexer_parser.proofs.parser.table_ref.TableRef.shown_at.Goals as goal
+
+pub returns-then-is_plain : goal.returns-then-is_plain
+returns-then-is_plain c =
+    let t = c.in-Some.token in
+    let s = c.args.self.now in
+    let i = c.past_blanks-i.result in
+    let there : slice_get s.tokens i ≡ Some t = sym c.token_at.ensures.value ∙ c.in-Some.is in
+    let h : i < length s.tokens = search rules in
+    let e : t ≡ get_or s.tokens i t = sym (get_or_from_slice_get s.tokens i t t there) in
+    record {
+      token = t;
+      there = there;
+      value = c.past_blanks-i.ensures.same c.args.names.now ∙ shown_take s c.args.names.now i t h e (c.is_plain.ensures c.if-is_plain.true c.args.names.now);
+      on = c.past_blanks-i.ensures.on;
+      within = h;
+    }
