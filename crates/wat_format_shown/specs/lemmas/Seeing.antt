@@ -20,7 +20,7 @@ use Rattle.wat_lexer_parser.specs.groups.Sorts.{is_close}
 use Rattle.wat_lexer_parser.specs.lemmas.Behind.{BehindPlace, behind_in, behind_place, forward_in, same_token, shown_is_taken}
 use Rattle.wat_lexer_parser.specs.parser.Closures.{opened, closed, taken_or}
 use Rattle.wat_lexer_parser.specs.parser.Sights.{Sight, more_comes, second, seen_behind, sight_of}
-use Rattle.wat_lexer_parser.specs.parser.State.{State, Seen, at_place, report_by, report_here, report_of, seen, seen_at, told}
+use Rattle.wat_lexer_parser.specs.parser.State.{State, Seen, at_place, report_here, report_of, seen, seen_at, told}
 use Rattle.wat_lexer_parser.specs.parser.Takers.{Reader, as_open, as_close, as_keyword, as_reserved, as_string, as_integer, as_float, as_id, as_owned_id, as_annotation, contains, is_minus, named_by, name_or_report, name_takes, sees, taken, taken_at, taken_by}
 use Rattle.wat_lexer_parser.specs.places.Places.{current_span, empty_of}
 use Rattle.wat_lexer_parser.specs.places.Places as places
@@ -85,7 +85,8 @@ module _ (s : Sides) where
 
 -- Spans, and refusals at them.
 
-refusal_by : (move : ℕ → ℕ) (tokens : List Token) (x y : List ℕ) (p : ℕ) (kind : FaultKind) → RefusalMoved move tokens y (report_by x p kind) (report_by y (place_moved move kind p) kind)
+refusal_by : (move : ℕ → ℕ) (tokens : List Token) (x y : List ℕ) (p : ℕ) (kind : FaultKind) → RefusalMoved move tokens y (report_of x (record { offset = p; kind = kind })) (report_of y (record { offset = place_moved move kind p; kind = kind }))
+unfolding report_of
 refusal_by move tokens x y p (Lex e) = record { cause = refl; offset = inl (by_map refl); excerpt = refl }
 refusal_by move tokens x y p Unclosed = record { cause = refl; offset = inr (refl, refl); excerpt = refl }
 
