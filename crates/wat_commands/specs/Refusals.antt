@@ -38,3 +38,12 @@ write_failure (Err TooLong) = None
 write_failure (Err (NotUtf8 offset)) = None
 write_failure (Err (Write failed)) = Some failed
 write_failure (Err (Memory refused)) = None
+
+-- the failure of the last write that failed, behind a run: the run's own, or that of before
+abbrev pub failure_behind : {T : Type 0} → Option Failed → Result T RunError → Option Failed
+failure_behind before (Ok t) = before
+failure_behind before (Err (Read failed)) = before
+failure_behind before (Err TooLong) = before
+failure_behind before (Err (NotUtf8 offset)) = before
+failure_behind before (Err (Write failed)) = Some failed
+failure_behind before (Err (Memory refused)) = before

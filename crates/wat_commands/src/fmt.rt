@@ -6,7 +6,8 @@ ghost use Rattle.wat_lex.specs.errors.Errors.{lexical};
 ghost use Rattle.wat_commands.specs.Inputs.{ReadsPast, ReadsShort, HasEnded};
 ghost use Rattle.wat_commands.specs.Layouts.{Compares, WritesLayout, WritesPart};
 ghost use Rattle.wat_commands.specs.Plain.{plain_failure, plain_inner};
-ghost use Rattle.wat_commands.specs.Refusals.{IsNotUtf8, IsWrite, read_failure, write_failure};
+ghost use Rattle.wat_commands.specs.Refusals.{IsNotUtf8, IsWrite, failure_behind};
+ghost use Rattle.wat_commands.specs.Refusals.{read_failure, write_failure};
 ghost use Rattle.wat_commands.specs.declared.ends.Failed.{Failed};
 
 use crate::ends::{Failed, Plain, Sink, Source};
@@ -68,13 +69,12 @@ fn write_text<W: sink::Sink<Failure = Failed>>(
     settings: Settings,
     output: &mut W,
 ) -> Result<Option<Error>, RunError>
-    requires short { length text.now < 2 ^ 32 }
-    requires fresh { W.failure output.old ≡ None }
+    requires { length text.now < 2 ^ 32 }
     ensures written { IfOk result (λ error. WritesLayout settings text.now error
         (W.held output.old) (W.held output.new)) }
     ensures part { OnErr result
         (WritesPart settings text.now (W.held output.old) (W.held output.new)) }
-    ensures write { write_failure result ≡ W.failure output.new }
+    ensures write { W.failure output.new ≡ failure_behind (W.failure output.old) result }
     ensures refused { IfErr result (λ e. IsWrite e ⊎ (e ≡ RunError.Memory alloc_error)) }
 {
     match format_to(alloc, text, settings, output) {
@@ -92,13 +92,12 @@ fn write_bytes<W: sink::Sink<Failure = Failed>>(
     settings: Settings,
     output: &mut W,
 ) -> Result<Option<Error>, RunError>
-    requires short { length bytes.now < 2 ^ 32 }
-    requires fresh { W.failure output.old ≡ None }
+    requires { length bytes.now < 2 ^ 32 }
     ensures written { IfOk result (λ error. WritesLayout settings bytes.now error
         (W.held output.old) (W.held output.new)) }
     ensures part { OnErr result
         (WritesPart settings bytes.now (W.held output.old) (W.held output.new)) }
-    ensures write { write_failure result ≡ W.failure output.new }
+    ensures write { W.failure output.new ≡ failure_behind (W.failure output.old) result }
     ensures unwritten { IfErr result (λ e. IsWrite e ⊎
         ((e ≡ RunError.Memory alloc_error) ⊎ (output.new ≡ output.old))) }
     ensures not_utf8 { (offset : ℕ) →
@@ -121,8 +120,7 @@ pub fn run_fmt<R: Source, W: sink::Sink<Failure = Failed>>(
     output: &mut W,
     settings: Settings,
 ) -> Result<Option<Error>, RunError>
-    requires unread { R.failure input.old ≡ None }
-    requires unwritten { W.failure output.old ≡ None }
+    requires { R.failure input.old ≡ None }
     ensures written { IfOk result (λ error. IfSome (R.left input.old) (λ bytes.
         WritesLayout settings bytes error (W.held output.old) (W.held output.new))) }
 
@@ -142,7 +140,7 @@ pub fn run_fmt<R: Source, W: sink::Sink<Failure = Failed>>(
 
     // When each refusal but that of memory comes.
     ensures read { read_failure result ≡ R.failure input.new }
-    ensures write { write_failure result ≡ W.failure output.new }
+    ensures write { W.failure output.new ≡ failure_behind (W.failure output.old) result }
     ensures short { (IsErrOf result RunError.TooLong) ⊎
         ReadsShort (R.left input.old) (R.left input.new) }
     ensures too_long { IfSome (R.left input.old) (λ _.

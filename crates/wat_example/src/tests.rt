@@ -34,6 +34,7 @@ const GROUPS: &str = "\
 
 /// What a group reads of a text, and the place behind it.
 fn read(rt: &impl Abort, alloc: Global, text: &str) -> Result<String, Fail> {
+    assert!(rt; text.len() < 1000);
     let buffer = ParseBuffer::new(alloc, text)?;
     let mut parser = buffer.parser();
     let got = shown(alloc, group(&mut parser))?;
@@ -72,6 +73,7 @@ fn keywords(rt: HostRuntime) -> Result<(), Fail> {
 
 /// Whether a text opens a group where `a` is registered, which it is no longer behind that.
 fn opens(rt: &impl Abort, alloc: Global, text: &str) -> Result<bool, Fail> {
+    assert!(rt; text.len() < 1000);
     let buffer = ParseBuffer::new(alloc, text)?;
     let mut parser = buffer.parser();
     let opens = opens_under(&mut parser, "a")?;
