@@ -1,5 +1,6 @@
 use crate::error::{Error, LexError, Span};
 use crate::library::{END, FULL, Filled, INVALID_UTF8_ID, Place, Raw, Refusal, Settings, Text};
+use crate::one_byte::alone;
 use crate::token::{Token, TokenKind, no_token};
 use std::iter::FusedIterator;
 use std::mem;
@@ -52,7 +53,11 @@ impl<'a> Lexer<'a> {
     /// Where no character begins at the byte, and the text does not end there.
     #[inline]
     pub fn parse(&self, pos: &mut usize) -> Result<Option<Token>, Error> {
-        let token = self.text()?.place(*pos).token(self.settings);
+        let text = self.text()?;
+        let token = match alone(text, *pos) {
+            Some(token) => token,
+            None => text.place(*pos).token(self.settings),
+        };
         if token.len == 0 {
             self.ending(*pos)?;
             return Ok(None);
@@ -99,6 +104,11 @@ impl<'a> Lexer<'a> {
     #[inline]
     fn text(&self) -> Result<Text<'a>, Error> {
         Text::new(self.input).ok_or_else(too_long)
+    }
+
+    #[inline]
+    fn alone(&self, pos: usize) -> Option<Raw> {
+        alone(Text::new(self.input)?, pos)
     }
 
     /// The text's end or the fault at a byte where no token stands. What it answers is one word, and what it takes needs no memory.
@@ -229,6 +239,10 @@ impl Iterator for Tokens<'_, '_> {
         if let Some(token) = self.block.tokens.get(self.next) {
             self.next += 1;
             return Some(Ok(Token::from_library(*token)));
+        }
+        if let Some(token) = self.lexer.alone(self.block.at) {
+            self.block.at += 1;
+            return Some(Ok(Token::from_library(token)));
         }
         self.block = mem::take(&mut self.block).following(self.lexer);
         match self.block.tokens.first() {

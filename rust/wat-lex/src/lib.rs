@@ -28,6 +28,7 @@ mod error;
 mod lexer;
 mod library;
 mod number;
+mod one_byte;
 #[doc(hidden)]
 pub mod rows;
 mod token;

@@ -32,6 +32,26 @@ impl Settings {
         allow: true,
         strict: false,
     };
+
+    /// All settings there are.
+    pub const ALL: [Settings; 4] = {
+        let [allow, strict] = [true, true];
+        [
+            Settings {
+                allow: false,
+                strict: false,
+            },
+            Settings {
+                allow: false,
+                strict,
+            },
+            Settings {
+                allow,
+                strict: false,
+            },
+            Settings { allow, strict },
+        ]
+    };
 }
 
 #[repr(C)]
@@ -41,6 +61,18 @@ pub struct Kind {
     pub sign: u8,
     pub has_underscores: bool,
     pub hex: bool,
+}
+
+impl Kind {
+    /// The kind of a code, without what is said of numbers alone.
+    pub const fn plain(code: u8) -> Kind {
+        Kind {
+            code,
+            sign: 0,
+            has_underscores: false,
+            hex: false,
+        }
+    }
 }
 
 /// A token, blanks among them.
