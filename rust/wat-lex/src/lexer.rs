@@ -236,25 +236,24 @@ impl Iterator for Tokens<'_, '_> {
 
     #[inline]
     fn next(&mut self) -> Option<Result<Token, Error>> {
-        if let Some(token) = self.block.tokens.get(self.next) {
+        let token = if let Some(token) = self.block.tokens.get(self.next) {
             self.next += 1;
-            return Some(Ok(Token::from_library(*token)));
-        }
-        if let Some(token) = self.lexer.alone(self.block.at) {
+            *token
+        } else if let Some(token) = self.lexer.alone(self.block.at) {
             self.block.at += 1;
-            return Some(Ok(Token::from_library(token)));
-        }
-        self.block = mem::take(&mut self.block).following(self.lexer);
-        match self.block.tokens.first() {
-            Some(token) => {
-                self.next = 1;
-                Some(Ok(Token::from_library(*token)))
+            token
+        } else {
+            self.block = mem::take(&mut self.block).following(self.lexer);
+            self.next = 1;
+            match self.block.tokens.first() {
+                Some(token) => *token,
+                None => {
+                    let why = mem::replace(&mut self.block.why, END);
+                    return Tokens::ending(self.lexer, self.block.at, why).map(Err);
+                }
             }
-            None => {
-                let why = mem::replace(&mut self.block.why, END);
-                Tokens::ending(self.lexer, self.block.at, why).map(Err)
-            }
-        }
+        };
+        Some(Ok(Token::from_library(token)))
     }
 }
 

@@ -34,24 +34,10 @@ impl Settings {
     };
 
     /// All settings there are.
-    pub const ALL: [Settings; 4] = {
-        let [allow, strict] = [true, true];
-        [
-            Settings {
-                allow: false,
-                strict: false,
-            },
-            Settings {
-                allow: false,
-                strict,
-            },
-            Settings {
-                allow,
-                strict: false,
-            },
-            Settings { allow, strict },
-        ]
-    };
+    pub fn all() -> impl Iterator<Item = Settings> {
+        let of = |allow| [false, true].map(|strict| Settings { allow, strict });
+        [false, true].into_iter().flat_map(of)
+    }
 }
 
 #[repr(C)]

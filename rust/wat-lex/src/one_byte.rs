@@ -1,23 +1,25 @@
-//! Tokens of one byte, which are told by that byte and the next: most tokens of most texts, and no call for them.
+//! Tokens of one byte, which are told by that byte and the next, and for which the library is not called.
 //!
-//! What the table says of two bytes the library was asked, when they first stood at a place: it is its answer to these two bytes alone, and the
-//! same under all settings. Where that answer is a token of one byte, something follows it in them: another token, or a fault. Such a token stays,
-//! whatever follows and wherever it stands. That is proved of all texts: the laws `cuts` and `moves` of `crates/wat_lex/src/laws.rt`.
+//! What is kept of two bytes is what the library answers to these two alone, under all settings alike. Where they begin with a token of one byte,
+//! another token or a fault follows in them; and a token that something follows stays whatever follows that, and wherever it stands. This is proved
+//! of all texts, by the laws `cuts` and `moves` of `crates/wat_lex/src/laws.rt`. So it is the token of each text at each place where they stand.
 
 use crate::library::{Kind, Raw, Settings, Text};
 use std::sync::atomic::AtomicU8;
 use std::sync::atomic::Ordering::Relaxed;
 
-/// By two bytes, the code of the first one's kind where it is a token before the second, and `NONE` where it is none, or may be one in some texts
-/// alone. An entry is written when it is first asked for, and then always the same, so that it does not matter which thread does.
+/// By two bytes, the code of the kind of the token of one byte with which they begin. An entry is asked for when two bytes first stand at a place,
+/// and written with what alone it can be: so threads need not agree on who writes it.
 static CODES: [AtomicU8; 1 << 16] = [const { AtomicU8::new(UNASKED) }; 1 << 16];
 
 const UNASKED: u8 = 0;
+/// The first code of a kind.
 const FIRST: u8 = 1;
-/// The first code behind those of the kinds that a byte may have: no floating-point number has one byte.
+/// They begin with no token of one byte. The codes from here on are those of floating-point numbers, which have more bytes.
 const NONE: u8 = 12;
 
-/// The token of one byte at a byte of a text, where it and the next tell that one stands there.
+/// The token of one byte at a byte of the text, where it and the next tell that one stands there.
+// A range of codes first, as that takes one comparison for most tokens.
 #[inline]
 pub fn alone(text: Text<'_>, pos: usize) -> Option<Raw> {
     let bytes = text.get().as_bytes();
@@ -38,11 +40,8 @@ pub fn alone(text: Text<'_>, pos: usize) -> Option<Raw> {
 
 #[inline]
 fn token(offset: usize, code: u8) -> Raw {
-    Raw {
-        offset,
-        len: 1,
-        kind: Kind::plain(code),
-    }
+    let (len, kind) = (1, Kind::plain(code));
+    Raw { offset, len, kind }
 }
 
 #[inline]
@@ -53,14 +52,16 @@ fn entry(pair: [u8; 2]) -> &'static AtomicU8 {
 #[cold]
 #[inline(never)]
 fn ask(pair: [u8; 2]) {
-    let code = answer(pair).map_or(NONE, |token| token.kind.code);
-    entry(pair).store(code, Relaxed);
+    entry(pair).store(answer(pair).unwrap_or(NONE), Relaxed);
 }
 
-/// The token of one byte with which two bytes begin, under all settings.
-fn answer(pair: [u8; 2]) -> Option<Raw> {
+/// The code of the token of one byte with which the library lets two bytes begin.
+fn answer(pair: [u8; 2]) -> Option<u8> {
     let text = Text::new(str::from_utf8(&pair).ok()?)?;
-    let [first, others @ ..] = Settings::ALL.map(|settings| text.place(0).token(settings));
-    let is_one = first == token(0, first.kind.code) && first.kind.code < NONE;
-    (is_one && others.iter().all(|other| *other == first)).then_some(first)
+    let code = text.place(0).token(Settings::default()).kind.code;
+    let is_so = |settings| text.place(0).token(settings) == token(0, code);
+    (code < NONE && Settings::all().all(is_so)).then_some(code)
 }
+
+#[cfg(test)]
+mod tests;

@@ -270,7 +270,7 @@ impl TokenKind {
     }
 
     #[inline]
-    pub(crate) const fn from_library(kind: Kind) -> TokenKind {
+    pub(crate) fn from_library(kind: Kind) -> TokenKind {
         match kind.code {
             1 => TokenKind::LineComment,
             2 => TokenKind::BlockComment,
@@ -290,7 +290,7 @@ impl TokenKind {
 
 impl IntegerKind {
     #[inline]
-    const fn from_library(kind: Kind) -> IntegerKind {
+    fn from_library(kind: Kind) -> IntegerKind {
         IntegerKind {
             sign: match kind.sign {
                 0 => None,
@@ -305,7 +305,7 @@ impl IntegerKind {
 
 impl FloatKind {
     #[inline]
-    const fn from_library(kind: Kind) -> FloatKind {
+    fn from_library(kind: Kind) -> FloatKind {
         let (negative, has_underscores) = (kind.sign == 2, kind.has_underscores);
         match kind.code {
             12 => FloatKind::Inf { negative },
