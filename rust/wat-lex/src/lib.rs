@@ -2,7 +2,8 @@
 //!
 //! A [`Lexer`] cuts a text into tokens and accounts for every byte of it, white space and comments
 //! included. What it answers is proved: this crate is safe Rust over a static library whose functions
-//! are proved to meet their contracts, and its own code is small, tested, and not proved.
+//! are proved to meet their contracts, and its own code is small, tested, and not proved. For tokens
+//! of one byte it keeps what the library answered of two bytes, as a call takes longer.
 //!
 //! ```
 //! use wat_lex::{Lexer, TokenKind};
