@@ -137,8 +137,8 @@ fn a_number_that_is_no_place_panics() {
 #[test]
 fn tokens_of_one_byte_and_of_more_take_turns() {
     let words = ["module", "$x", "\"s\"", "12", "(;;)", "  ", ";;\n"];
-    for run in [0, 1, 2, 1023, 1024, 1025, 3000] {
-        let text = words.map(|word| "(".repeat(run) + word).concat();
+    for run in [1, 2, 1023, 1024, 1025, 3000] {
+        let text = words.map(|word| ")".repeat(run) + word).concat();
         let (lexer, mut pos, mut count) = (Lexer::new(&text), 0, 0);
         for item in lexer.iter(0) {
             assert_eq!(lexer.parse(&mut pos), item.map(Some));
