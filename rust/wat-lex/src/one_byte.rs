@@ -58,9 +58,11 @@ fn ask(pair: [u8; 2]) {
 /// The code of the token of one byte with which the library lets two bytes begin.
 fn answer(pair: [u8; 2]) -> Option<u8> {
     let text = Text::new(str::from_utf8(&pair).ok()?)?;
-    let code = text.place(0).token(Settings::default()).kind.code;
-    let is_so = |settings| text.place(0).token(settings) == token(0, code);
-    (code < NONE && Settings::all().all(is_so)).then_some(code)
+    let mut answers = Settings::all().map(|settings| text.place(0).token(settings));
+    let first = answers.next()?;
+    let code = first.kind.code;
+    let is_alone = code < NONE && first == token(0, code);
+    (is_alone && answers.all(|other| other == first)).then_some(code)
 }
 
 #[cfg(test)]
