@@ -201,7 +201,9 @@ impl Block {
     fn following(mut self, lexer: &Lexer<'_>) -> Block {
         let filled = match lexer.text() {
             Ok(text) if self.why == FULL => {
-                self.tokens.resize(TOKENS, Raw::default());
+                // One more than there are bytes, so that the text's end is told with the last token.
+                let most = text.get().len().saturating_sub(self.at) + 1;
+                self.tokens.resize(TOKENS.min(most), Raw::default());
                 text.place(self.at).fill(lexer.settings, &mut self.tokens)
             }
             _ => Filled {
