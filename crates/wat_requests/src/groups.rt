@@ -3,8 +3,8 @@ ghost use Rattle.wat_lexer_parser.specs.readings.Reads.{IsKept};
 
 use crate::buffers::buffer_of;
 use crate::names::register_fully;
+use crate::row::Row;
 use std::alloc::{AllocError, Global};
-use std::io;
 use wat_lex::error::Error;
 use wat_lex::token::{Id, Span};
 use wat_lex_requests::run::{Ending, Expected, Run};
@@ -50,25 +50,21 @@ fn nested(parser: &mut Parser<'_>, count: usize) -> Result<(), Error>
 }
 
 /// A refused group puts place and depth back.
-fn refused_group(run: &mut Run<'_>, text: &str, expected: Expected<'_>) -> Result<Ending, Error> {
-    let buffer = buffer_of(run.alloc(), text)?;
+fn refused_group(run: &mut Run<'_>, row: Row<'_>) -> Result<Ending, Error> {
+    let buffer = buffer_of(run.alloc(), row.text)?;
     let mut parser = buffer.parser();
     let result = nested(&mut parser, 3);
     run.call_has_ended();
-    Ok(run.ending(&result, expected).with_state(is_at(&parser, 0)))
+    Ok(run.ending(&result, row.expected).with_state(is_at(&parser, 0)))
 }
 
 /// The same of a type.
-fn refused_group_of(
-    run: &mut Run<'_>,
-    text: &str,
-    expected: Expected<'_>,
-) -> Result<Ending, Error> {
-    let buffer = buffer_of(run.alloc(), text)?;
+fn refused_group_of(run: &mut Run<'_>, row: Row<'_>) -> Result<Ending, Error> {
+    let buffer = buffer_of(run.alloc(), row.text)?;
     let mut parser = buffer.parser();
     let result = parser.parens_of::<u32>();
     run.call_has_ended();
-    Ok(run.ending(&result, expected).with_state(is_at(&parser, 0)))
+    Ok(run.ending(&result, row.expected).with_state(is_at(&parser, 0)))
 }
 
 /// So many parentheses.
@@ -83,44 +79,6 @@ fn too_deep(run: &mut Run<'_>) -> Result<Ending, Error> {
     run.call_has_ended();
     let expected = Expected::Refusal("item nesting too deep", 101);
     Ok(run.ending(&result, expected).with_state(is_at(&parser, 0)))
-}
-
-pub fn groups(run: &mut Run<'_>) -> io::Result<()> {
-    if run.is_asked("parens-too-deep") {
-        let ended = too_deep(run);
-        run.report("parens-too-deep", ended)?;
-    }
-    if run.is_asked("step") {
-        let ended = refused_step(run);
-        run.report("step", ended)?;
-    }
-    let rows = [
-        ("parens-open", "x", "expected `(`", 0),
-        ("parens-close", "(((", "expected `)`", 3),
-        ("parens-fault", "((\"", "unexpected end-of-file", 3),
-    ];
-    for (name, text, message, offset) in rows {
-        if run.is_asked(name) {
-            let ended = refused_group(run, text, Expected::Refusal(message, offset));
-            run.report(name, ended)?;
-        }
-    }
-    Ok(())
-}
-
-pub fn groups_of(run: &mut Run<'_>) -> io::Result<()> {
-    let rows = [
-        ("parens-of-open", "1", "expected `(`", 0),
-        ("parens-of-type", "(x)", "expected a u32", 1),
-        ("parens-of-close", "(1 2", "expected `)`", 3),
-    ];
-    for (name, text, message, offset) in rows {
-        if run.is_asked(name) {
-            let ended = refused_group_of(run, text, Expected::Refusal(message, offset));
-            run.report(name, ended)?;
-        }
-    }
-    Ok(())
 }
 
 /// An error at the current span, or at another one.
@@ -145,18 +103,6 @@ fn error(run: &mut Run<'_>, span: Option<Span>) -> Result<Ending, Error> {
     Ok(run.refusal(&error, expected).with_state(is_at(&parser, 0)))
 }
 
-pub fn errors(run: &mut Run<'_>) -> io::Result<()> {
-    if run.is_asked("parser-error") {
-        let ended = error(run, None);
-        run.report("parser-error", ended)?;
-    }
-    if run.is_asked("parser-error-at") {
-        let ended = error(run, Some(Span::from_offset(4)));
-        run.report("parser-error-at", ended)?;
-    }
-    Ok(())
-}
-
 /// Peeks at the first so many of three types.
 fn peek_at(lookahead: &mut Lookahead1<'_, '_>, types: usize) -> Result<(), Error> {
     if types > 0 {
@@ -172,19 +118,14 @@ fn peek_at(lookahead: &mut Lookahead1<'_, '_>, types: usize) -> Result<(), Error
 }
 
 /// The error that one of the types was expected which were not seen.
-fn expected_one(
-    run: &mut Run<'_>,
-    text: &str,
-    types: usize,
-    message: &str,
-) -> Result<Ending, Error> {
-    let buffer = buffer_of(run.alloc(), text)?;
+fn expected_one(run: &mut Run<'_>, row: Row<'_>) -> Result<Ending, Error> {
+    let buffer = buffer_of(run.alloc(), row.text)?;
     let parser = buffer.parser();
     let mut lookahead = parser.lookahead1();
-    peek_at(&mut lookahead, types)?;
+    peek_at(&mut lookahead, row.of.parse::<usize>().unwrap_or(0))?;
     let error = lookahead.error();
     run.call_has_ended();
-    let ending = run.refusal(&error, Expected::Refusal(message, 0));
+    let ending = run.refusal(&error, row.expected);
     Ok(ending.with_state(is_at(&parser, 0)))
 }
 
@@ -225,41 +166,6 @@ fn fifth_missed(run: &mut Run<'_>) -> Result<Ending, Error> {
     let is_told = run.refusal(&error, Expected::Refusal(message, 0)) != Ending::Wrong;
     let ending = run.ending(&result, Expected::Value("false"));
     Ok(ending.with_state(is_kept && is_told))
-}
-
-pub fn lookaheads(run: &mut Run<'_>) -> io::Result<()> {
-    if run.is_asked("free-lookahead-peek") {
-        let ended = four_missed(run);
-        run.report("free-lookahead-peek", ended)?;
-    }
-    if run.is_asked("lookahead-peek") {
-        let ended = fifth_missed(run);
-        run.report("lookahead-peek", ended)?;
-    }
-    let rows = [
-        ("lookahead-none", "x", 0, "unexpected token"),
-        ("lookahead-end", ")", 0, "unexpected end of input"),
-        ("lookahead-one", "x", 1, "unexpected token, expected u32"),
-        (
-            "lookahead-two",
-            "x",
-            2,
-            "unexpected token, expected u32 or an identifier",
-        ),
-        (
-            "lookahead-three",
-            "x",
-            3,
-            "unexpected token, expected one of: u32, an identifier, left paren",
-        ),
-    ];
-    for (name, text, types, message) in rows {
-        if run.is_asked(name) {
-            let ended = expected_one(run, text, types, message);
-            run.report(name, ended)?;
-        }
-    }
-    Ok(())
 }
 
 /// The calls `take look reg=name look unreg=name look unreg=name`.
@@ -320,14 +226,25 @@ fn replayed_fully(run: &mut Run<'_>) -> Result<Ending, Error> {
     )
 }
 
-pub fn replays(run: &mut Run<'_>) -> io::Result<()> {
-    if run.is_asked("replay-too-often") {
-        let ended = replayed_fully(run);
-        run.report("replay-too-often", ended)?;
+/// How a call ended that has a row of its own.
+fn single(run: &mut Run<'_>, of: &str) -> Result<Ending, Error> {
+    match of {
+        "too-deep" => too_deep(run),
+        "step" => refused_step(run),
+        "error" => error(run, None),
+        "error-at" => error(run, Some(Span::from_offset(4))),
+        "four-missed" => four_missed(run),
+        "fifth-missed" => fifth_missed(run),
+        "replay" => replayed(run),
+        _ => replayed_fully(run),
     }
-    if run.is_asked("replay") {
-        let ended = replayed(run);
-        run.report("replay", ended)?;
+}
+
+pub fn ending(run: &mut Run<'_>, row: Row<'_>) -> Result<Ending, Error> {
+    match row.call {
+        "group" => refused_group(run, row),
+        "group-of" => refused_group_of(run, row),
+        "lookahead" => expected_one(run, row),
+        _ => single(run, row.of),
     }
-    Ok(())
 }

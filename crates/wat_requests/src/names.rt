@@ -1,6 +1,6 @@
 //! Names of annotations, registered for good or while a type is read.
 use crate::buffers::buffer_of;
-use std::io;
+use crate::row::Row;
 use wat_lex::error::Error;
 use wat_lex_requests::run::{Ending, Expected, Run};
 use wat_lexer_parser::parser::{Parse, Parser};
@@ -77,22 +77,6 @@ pub fn register_fully(parser: &mut Parser<'_>) -> Result<(), Error> {
     Ok(())
 }
 
-pub fn registered(run: &mut Run<'_>) -> io::Result<()> {
-    if run.is_asked("register-too-often") {
-        let ended = register_too_often(run);
-        run.report("register-too-often", ended)?;
-    }
-    if run.is_asked("register") {
-        let ended = register(run);
-        run.report("register", ended)?;
-    }
-    if run.is_asked("register-more") {
-        let ended = register_more(run);
-        run.report("register-more", ended)?;
-    }
-    Ok(())
-}
-
 /// An optional name, as a type.
 #[derive(Debug, Drop)]
 pub struct OptionalName<'a>(Option<NameAnnotation<'a>>);
@@ -155,18 +139,13 @@ fn under_standard(run: &mut Run<'_>) -> Result<Ending, Error> {
     )
 }
 
-pub fn read_under_names(run: &mut Run<'_>) -> io::Result<()> {
-    if run.is_asked("with-annotation") {
-        let ended = under_name(run);
-        run.report("with-annotation", ended)?;
+pub fn ending(run: &mut Run<'_>, row: Row<'_>) -> Result<Ending, Error> {
+    match row.of {
+        "too-often" => register_too_often(run),
+        "register" => register(run),
+        "more" => register_more(run),
+        "with" => under_name(run),
+        "with-registered" => under_registered_name(run),
+        _ => under_standard(run),
     }
-    if run.is_asked("with-annotation-refused") {
-        let ended = under_registered_name(run);
-        run.report("with-annotation-refused", ended)?;
-    }
-    if run.is_asked("with-standard-annotations") {
-        let ended = under_standard(run);
-        run.report("with-standard-annotations", ended)?;
-    }
-    Ok(())
 }
