@@ -48,13 +48,40 @@ fn blanked(run: &mut Run<'_>) -> Result<Ending, Error> {
     Ok(Ending::Wrong)
 }
 
+/// What a buffer answers, and a parser of it.
+fn answers(run: &mut Run<'_>) -> Result<Ending, Error> {
+    let buffer = buffer_of(run.alloc(), "a \"")?;
+    let parser = buffer.parser();
+    let is_right = buffer.raw().len() == 2
+        && buffer.lex_fault().is_some()
+        && parser.prev_span().offset() == 0
+        && parser.parens_depth() == 0
+        && parser.has_meaningful_tokens()
+        && !parser.track_instr_spans()
+        && parser.depth_check().is_ok();
+    let _lookahead = parser.lookahead1();
+    run.call_has_ended();
+    Ok(Ending::answer_where(is_right))
+}
+
+/// A buffer that is told to track spans.
+fn tracked(run: &mut Run<'_>) -> Result<Ending, Error> {
+    let mut buffer = buffer_of(run.alloc(), "x")?;
+    buffer.track_instr_spans(true);
+    let is_tracked = buffer.parser().track_instr_spans();
+    run.call_has_ended();
+    Ok(Ending::answer_where(is_tracked))
+}
+
 pub fn ending(run: &mut Run<'_>, row: Row<'_>) -> Result<Ending, Error> {
-    match row.call {
-        "buffer" => {
+    match row.of {
+        "answers" => answers(run),
+        "tracked" => tracked(run),
+        "blanked" => blanked(run),
+        "with-lexer" => Ok(made_with_lexer(run, row)),
+        _ => {
             let buffer = buffer_of(run.alloc(), row.text);
             Ok(made(run, row, buffer))
         }
-        "buffer-with-lexer" => Ok(made_with_lexer(run, row)),
-        _ => blanked(run),
     }
 }

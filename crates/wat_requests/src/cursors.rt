@@ -1,9 +1,13 @@
 //! Looks and takers of cursors: at faults, which they report, and at words that have to be decoded.
-use crate::buffers::buffer_of;
 use crate::row::Row;
 use wat_lex::error::Error;
 use wat_lex_requests::run::{Ending, Run};
 use wat_lexer_parser::parser::{Cursor, Parser};
+
+/// Whether a taker finds anything.
+fn is_some<T: Drop>(found: Result<Option<T>, Error>) -> Result<bool, Error> {
+    Ok(found?.is_some())
+}
 
 /// Whether a call of a cursor sees or finds what it looks for.
 fn is_seen(cursor: Cursor<'_, '_>, look: &str) -> Result<bool, Error> {
@@ -23,11 +27,11 @@ fn is_seen(cursor: Cursor<'_, '_>, look: &str) -> Result<bool, Error> {
 /// Whether a taker of a value finds what it looks for.
 fn is_value_found(cursor: Cursor<'_, '_>, look: &str) -> Result<bool, Error> {
     match look {
-        "id" => Ok(cursor.id()?.is_some()),
-        "annotation" => Ok(cursor.annotation()?.is_some()),
-        "string" => Ok(cursor.string()?.is_some()),
-        "integer" => Ok(cursor.integer()?.is_some()),
-        "float" => Ok(cursor.float()?.is_some()),
+        "id" => is_some(cursor.id()),
+        "annotation" => is_some(cursor.annotation()),
+        "string" => is_some(cursor.string()),
+        "integer" => is_some(cursor.integer()),
+        "float" => is_some(cursor.float()),
         _ => Ok(false),
     }
 }
@@ -35,33 +39,40 @@ fn is_value_found(cursor: Cursor<'_, '_>, look: &str) -> Result<bool, Error> {
 /// Whether a taker finds what it looks for.
 fn is_found(cursor: Cursor<'_, '_>, look: &str) -> Result<bool, Error> {
     match look {
-        "token" => Ok(cursor.token()?.is_some()),
-        "any" => Ok(cursor.any()?.is_some()),
-        "lparen" => Ok(cursor.lparen()?.is_some()),
-        "rparen" => Ok(cursor.rparen()?.is_some()),
-        "keyword" => Ok(cursor.keyword()?.is_some()),
-        "reserved" => Ok(cursor.reserved()?.is_some()),
-        "comment" => Ok(cursor.comment()?.is_some()),
+        "token" => is_some(cursor.token()),
+        "any" => is_some(cursor.any()),
+        "lparen" => is_some(cursor.lparen()),
+        "rparen" => is_some(cursor.rparen()),
+        "keyword" => is_some(cursor.keyword()),
+        "reserved" => is_some(cursor.reserved()),
+        "comment" => is_some(cursor.comment()),
         "cur-span" => Ok(cursor.cur_span().offset() == 0),
         _ => is_value_found(cursor, look),
     }
 }
 
-/// One call of a cursor, which leaves the parser.
-fn looked(run: &mut Run<'_>, parser: &mut Parser<'_>, row: Row<'_>) -> Ending {
-    let place = parser.prev_span();
-    let result = parser.step(|cursor| Ok((is_seen(cursor, row.of)?, cursor)));
-    run.call_has_ended();
-    let is_kept = parser.prev_span() == place && parser.parens_depth() == 0;
-    run.ending(&result, row.expected).with_state(is_kept)
+/// Whether a parser stands at the start, within no group.
+pub fn is_at_start(parser: &Parser<'_>) -> bool {
+    parser.prev_span().offset() == 0 && parser.parens_depth() == 0
 }
 
-/// One call of a cursor, with the name registered that the call has at its end.
-pub fn ending(run: &mut Run<'_>, row: Row<'_>) -> Result<Ending, Error> {
-    let buffer = buffer_of(run.alloc(), row.text)?;
-    let mut parser = buffer.parser();
-    if let Some(name) = row.call.strip_prefix("look-under-") {
-        parser.register_annotation(name)?;
-    }
-    Ok(looked(run, &mut parser, row))
+/// One call of a cursor, which leaves the parser.
+pub fn ending(run: &mut Run<'_>, row: Row<'_>, parser: &mut Parser<'_>) -> Ending {
+    let result = parser.step(|cursor| Ok((is_seen(cursor, row.of)?, cursor)));
+    run.call_has_ended();
+    run.ending(&result, row.expected)
+        .with_state(is_at_start(parser))
+}
+
+/// A step that refuses behind a token leaves the place.
+pub fn refused_step(run: &mut Run<'_>, row: Row<'_>, parser: &mut Parser<'_>) -> Ending {
+    let result = parser.step(|cursor| -> Result<((), Cursor<'_, '_>), Error> {
+        match cursor.keyword()? {
+            Some((_, next)) => Err(next.error("no such word")),
+            None => Ok(((), cursor)),
+        }
+    });
+    run.call_has_ended();
+    run.ending(&result, row.expected)
+        .with_state(is_at_start(parser))
 }

@@ -1,5 +1,4 @@
 //! Calls of a parser that read a list.
-use crate::buffers::buffer_of;
 use crate::row::Row;
 use std::fmt;
 use wat_lex::error::Error;
@@ -10,9 +9,9 @@ use wat_lexer_parser::token::Parens;
 /// How reading a list ended. The depth stays, and the place is not past what was read.
 fn ended<T: fmt::Debug + Drop>(
     run: &mut Run<'_>,
+    row: Row<'_>,
     parser: &Parser<'_>,
     answer: &Result<T, Error>,
-    row: Row<'_>,
 ) -> Ending {
     run.call_has_ended();
     let ending = run.ending(answer, row.expected);
@@ -23,21 +22,19 @@ fn ended<T: fmt::Debug + Drop>(
 
 /// Reads a list of numbers: of all, as long as one is seen, or as long as one is seen in
 /// parentheses.
-pub fn ending(run: &mut Run<'_>, row: Row<'_>) -> Result<Ending, Error> {
-    let buffer = buffer_of(run.alloc(), row.text)?;
-    let mut parser = buffer.parser();
-    Ok(match row.of {
+pub fn ending(run: &mut Run<'_>, row: Row<'_>, parser: &mut Parser<'_>) -> Ending {
+    match row.of {
         "of" => {
             let result = parser.all_of::<u32>();
-            ended(run, &parser, &result, row)
+            ended(run, row, parser, &result)
         }
         "while" => {
             let result = parser.all_while::<u32, u32>();
-            ended(run, &parser, &result, row)
+            ended(run, row, parser, &result)
         }
         _ => {
             let result = parser.all_behind::<u32, Parens<u32>>();
-            ended(run, &parser, &result, row)
+            ended(run, row, parser, &result)
         }
-    })
+    }
 }

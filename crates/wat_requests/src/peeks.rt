@@ -1,5 +1,5 @@
 //! Peeks at types.
-use crate::buffers::buffer_of;
+use crate::cursors::is_at_start;
 use crate::row::Row;
 use crate::words::Comma;
 use std::borrow::{CowSlice, CowStr};
@@ -17,8 +17,8 @@ fn ended(
     seen: Result<bool, Error>,
 ) -> Ending {
     run.call_has_ended();
-    let is_kept = parser.prev_span().offset() == 0 && parser.parens_depth() == 0;
-    run.ending(&seen, row.expected).with_state(is_kept)
+    run.ending(&seen, row.expected)
+        .with_state(is_at_start(parser))
 }
 
 /// Peeks at a type.
@@ -56,18 +56,16 @@ fn first_as(run: &mut Run<'_>, row: Row<'_>, parser: &Parser<'_>) -> Ending {
     }
 }
 
-pub fn ending(run: &mut Run<'_>, row: Row<'_>) -> Result<Ending, Error> {
-    let buffer = buffer_of(run.alloc(), row.text)?;
-    let parser = buffer.parser();
-    Ok(match row.of {
+pub fn ending(run: &mut Run<'_>, row: Row<'_>, parser: &Parser<'_>) -> Ending {
+    match row.of {
         "second" => {
             let seen = parser.peek2::<u32>();
-            ended(run, row, &parser, seen)
+            ended(run, row, parser, seen)
         }
         "third" => {
             let seen = parser.peek3::<LParen>();
-            ended(run, row, &parser, seen)
+            ended(run, row, parser, seen)
         }
-        _ => first_as(run, row, &parser),
-    })
+        _ => first_as(run, row, parser),
+    }
 }

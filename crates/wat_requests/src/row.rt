@@ -2,13 +2,16 @@
 use std::str::Split;
 use wat_lex_requests::run::Expected;
 
-/// A row, as its line has it: `NAME|CALL|OF|TEXT|ANSWER`, then `|OFFSET` where the answer is a refusal's message, and `||PLACE` or `|OFFSET|PLACE`
-/// where the call leaves a parser there.
+/// A row, as its line has it: `NAME|CALL|OF|TEXT|ANSWER`, then `|OFFSET` where the answer is a
+/// refusal's message, and `||PLACE` or `|OFFSET|PLACE` where the call leaves a parser there. In a
+/// call `CALL@NAMES` the names, one blank apart, are registered beforehand.
 #[derive(Clone, Copy)]
 pub struct Row<'t> {
     pub name: &'t str,
     /// Which call it is.
     pub call: &'t str,
+    /// The names that are registered.
+    pub names: &'t str,
     /// Which of the calls of that kind, or of which type.
     pub of: &'t str,
     pub text: &'t str,
@@ -27,6 +30,7 @@ impl<'t> Row<'t> {
         let mut parts = line.split('|');
         let name = next(&mut parts);
         let call = next(&mut parts);
+        let (call, names) = call.split_once('@').unwrap_or((call, ""));
         let of = next(&mut parts);
         let text = next(&mut parts);
         let answer = next(&mut parts);
@@ -37,6 +41,7 @@ impl<'t> Row<'t> {
         Row {
             name,
             call,
+            names,
             of,
             text,
             expected,

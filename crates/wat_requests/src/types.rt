@@ -21,7 +21,7 @@ fn whole<'a, T: Parse<'a> + fmt::Debug>(
     run.ending(&result, row.expected)
 }
 
-fn whole_as(run: &mut Run<'_>, row: Row<'_>) -> Result<Ending, Error> {
+pub fn whole_ending(run: &mut Run<'_>, row: Row<'_>) -> Result<Ending, Error> {
     let buffer = buffer_of(run.alloc(), row.text)?;
     Ok(match row.of {
         "i32" => whole::<i32>(run, row, &buffer),
@@ -78,31 +78,21 @@ fn spanned_as(run: &mut Run<'_>, row: Row<'_>, parser: &mut Parser<'_>) -> Endin
     }
 }
 
-fn part_as(run: &mut Run<'_>, row: Row<'_>) -> Result<Ending, Error> {
-    let buffer = buffer_of(run.alloc(), row.text)?;
-    let mut parser = buffer.parser();
-    parser.register_annotation("a")?;
-    Ok(match row.of {
-        "bytes" => part::<CowSlice<u8>>(run, row, &mut parser),
-        "text" => part::<CowStr>(run, row, &mut parser),
-        "string" => part::<String>(run, row, &mut parser),
-        "id" => part::<Id>(run, row, &mut parser),
-        "index" => part::<Index>(run, row, &mut parser),
-        "item" => part::<ItemRef<kw::func>>(run, row, &mut parser),
-        "optional" => part::<Option<u32>>(run, row, &mut parser),
-        "box" => part::<Box<u32>>(run, row, &mut parser),
-        "parens" => part::<Parens<u32>>(run, row, &mut parser),
-        "keyword" => part::<kw::func>(run, row, &mut parser),
-        "reserved" => part::<ReservedSymbol<Comma>>(run, row, &mut parser),
-        "annotation" => part::<annotation::name>(run, row, &mut parser),
-        "name" => part::<NameAnnotation>(run, row, &mut parser),
-        _ => spanned_as(run, row, &mut parser),
-    })
-}
-
-pub fn ending(run: &mut Run<'_>, row: Row<'_>) -> Result<Ending, Error> {
-    match row.call {
-        "whole" => whole_as(run, row),
-        _ => part_as(run, row),
+pub fn ending(run: &mut Run<'_>, row: Row<'_>, parser: &mut Parser<'_>) -> Ending {
+    match row.of {
+        "bytes" => part::<CowSlice<u8>>(run, row, parser),
+        "text" => part::<CowStr>(run, row, parser),
+        "string" => part::<String>(run, row, parser),
+        "id" => part::<Id>(run, row, parser),
+        "index" => part::<Index>(run, row, parser),
+        "item" => part::<ItemRef<kw::func>>(run, row, parser),
+        "optional" => part::<Option<u32>>(run, row, parser),
+        "box" => part::<Box<u32>>(run, row, parser),
+        "parens" => part::<Parens<u32>>(run, row, parser),
+        "keyword" => part::<kw::func>(run, row, parser),
+        "reserved" => part::<ReservedSymbol<Comma>>(run, row, parser),
+        "annotation" => part::<annotation::name>(run, row, parser),
+        "name" => part::<NameAnnotation>(run, row, parser),
+        _ => spanned_as(run, row, parser),
     }
 }

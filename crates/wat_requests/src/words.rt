@@ -88,17 +88,14 @@ fn makes(run: &mut Run<'_>) -> Result<Ending, Error> {
 }
 
 /// An optional name that has to be decoded.
-fn optional_name(run: &mut Run<'_>, row: Row<'_>) -> Result<Ending, Error> {
-    let buffer = buffer_of(run.alloc(), row.text)?;
-    let mut parser = buffer.parser();
-    parser.register_annotation("name")?;
-    let result = NameAnnotation::parse_option(&mut parser);
+pub fn optional_name(run: &mut Run<'_>, row: Row<'_>, parser: &mut Parser<'_>) -> Ending {
+    let result = NameAnnotation::parse_option(parser);
     run.call_has_ended();
     let place = if result.is_ok() { row.place } else { 0 };
     let is_kept = parser.prev_span().offset() == place
         && parser.parens_depth() == 0
         && parser.is_registered("name");
-    Ok(run.ending(&result, row.expected).with_state(is_kept))
+    run.ending(&result, row.expected).with_state(is_kept)
 }
 
 /// A copy of a name that is owned.
@@ -115,10 +112,9 @@ fn name_copy(run: &mut Run<'_>) -> Result<Ending, Error> {
 }
 
 pub fn ending(run: &mut Run<'_>, row: Row<'_>) -> Result<Ending, Error> {
-    match row.call {
-        "optional-name" => optional_name(run, row),
+    match row.of {
         "name-clone" => name_copy(run),
-        _ if row.of == "item-clone" => item_copy(run),
+        "item-clone" => item_copy(run),
         _ => makes(run),
     }
 }
