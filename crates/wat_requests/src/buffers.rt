@@ -5,7 +5,7 @@ use wat_lex::error::Error;
 use wat_lex::lexer::{Lexer, TokenKind};
 use wat_lex_requests::run::{Ending, Run, short};
 use wat_lexer_parser::laws;
-use wat_lexer_parser::parser::ParseBuffer;
+use wat_lexer_parser::parser::{ParseBuffer, Parser};
 
 /// The buffer of a text.
 pub fn buffer_of(alloc: Global, text: &str) -> Result<ParseBuffer<'_>, Error> {
@@ -48,27 +48,35 @@ fn blanked(run: &mut Run<'_>) -> Result<Ending, Error> {
     Ok(Ending::Wrong)
 }
 
-/// What a buffer answers, and a parser of it.
-fn answers(run: &mut Run<'_>) -> Result<Ending, Error> {
-    let buffer = buffer_of(run.alloc(), "a \"")?;
-    let parser = buffer.parser();
-    let is_right = buffer.raw().len() == 2
-        && buffer.lex_fault().is_some()
-        && parser.prev_span().offset() == 0
+/// What a parser answers at the start of a word and a fault.
+fn stands(parser: &Parser<'_>) -> bool {
+    let _lookahead = parser.lookahead1();
+    parser.prev_span().offset() == 0
         && parser.parens_depth() == 0
         && parser.has_meaningful_tokens()
         && !parser.track_instr_spans()
-        && parser.depth_check().is_ok();
-    let _lookahead = parser.lookahead1();
+        && parser.depth_check().is_ok()
+}
+
+/// What a buffer answers, and a parser of it.
+fn answers(run: &mut Run<'_>) -> Result<Ending, Error> {
+    let buffer = buffer_of(run.alloc(), "a \"")?;
+    let is_read = buffer.raw().len() == 2 && buffer.lex_fault().is_some();
+    let is_right = is_read && stands(&buffer.parser());
     run.call_has_ended();
     Ok(Ending::answer_where(is_right))
+}
+
+/// Whether a parser of a buffer tracks spans.
+fn tracks(buffer: &ParseBuffer<'_>) -> bool {
+    buffer.parser().track_instr_spans()
 }
 
 /// A buffer that is told to track spans.
 fn tracked(run: &mut Run<'_>) -> Result<Ending, Error> {
     let mut buffer = buffer_of(run.alloc(), "x")?;
     buffer.track_instr_spans(true);
-    let is_tracked = buffer.parser().track_instr_spans();
+    let is_tracked = tracks(&buffer);
     run.call_has_ended();
     Ok(Ending::answer_where(is_tracked))
 }

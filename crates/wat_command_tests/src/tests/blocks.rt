@@ -1,9 +1,9 @@
 //! Texts whose output is longer than a block.
-use crate::tests::{Counted, FAILED, OFF, counting_writer};
+use crate::tests::{Counted, FAILED, OFF, counting_writer, list};
 use std::alloc::Global;
 use std::test::Fail;
 use wat_commands::ends::Plain;
-use wat_commands::run::{RunError, run_blank, run_list};
+use wat_commands::run::{RunError, run_blank};
 
 /// How many parentheses the text has: their lines fill two blocks and some of a third.
 const PARENS: usize = 9_000;
@@ -36,10 +36,9 @@ fn list_of(
     fails_at: usize,
 ) -> Result<(Result<bool, RunError>, Counted), Fail> {
     let text = parens(alloc, behind)?;
-    let mut input = Plain::new(text.as_bytes());
-    let mut output = Plain::new(counting_writer(alloc, usize::MAX, fails_at, false));
-    let result = run_list(alloc, &mut input, &mut output, OFF).map(|error| error.is_some());
-    Ok((result, output.into_inner()))
+    let writer = counting_writer(alloc, usize::MAX, fails_at, false);
+    let listed = list(alloc, text.as_bytes(), writer, OFF);
+    Ok((listed.answer.map(|error| error.is_some()), listed.writer))
 }
 
 #[test]

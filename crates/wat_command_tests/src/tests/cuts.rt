@@ -1,20 +1,14 @@
 //! Texts that are cut at each character: the lines of a prefix begin the lines of the whole text.
+use crate::tests::list_of_text;
 use std::alloc::Global;
 use std::process::Abort;
 use std::str;
 use std::test::Fail;
 use wat_commands::Settings;
-use wat_commands::ends::Plain;
-use wat_commands::run::run_list;
 
 /// The list text of a text, and whether it has a fault.
 fn listed(alloc: Global, text: &str, settings: Settings) -> Result<(String, bool), Fail> {
-    let mut input = Plain::new(text.as_bytes());
-    let mut output = Plain::new(Vec::new(alloc));
-    let fault = run_list(alloc, &mut input, &mut output, settings).map_err(
-        |_| "the run is refused",
-    )?;
-    let lines = output.into_inner();
+    let (lines, fault) = list_of_text(alloc, text, settings)?;
     let shown = str::from_utf8(&lines).map_err(|_| "the lines are not UTF-8")?;
     Ok((String::from_str(alloc, shown)?, fault.is_some()))
 }
@@ -136,21 +130,13 @@ fn a_fault_on_a_long_line_is_shown_without_the_line(rt: HostRuntime) -> Result<(
     let text = long_line(rt.alloc())?;
     for allow in [false, true] {
         for strict in [false, true] {
-            let mut input = Plain::new(text.as_bytes());
-            let mut output = Plain::new(Vec::new(rt.alloc()));
-            let settings = Settings { allow, strict };
-            let fault = run_list(rt.alloc(), &mut input, &mut output, settings)
-                .map_err(|_| "the run is refused")?
-                .ok_or("there is no fault")?;
-            let shown = fault.to_string(rt.alloc())?;
+            let (lines, fault) = list_of_text(rt.alloc(), &text, Settings { allow, strict })?;
+            let shown = fault.ok_or("there is no fault")?.to_string(rt.alloc())?;
             assert_eq!(rt;
                 shown.as_str(),
                 "unterminated block comment at <anon>:1:501"
             );
-            assert_eq!(rt;
-                output.into_inner().as_slice(),
-                b"0..500 Whitespace\n".as_slice()
-            );
+            assert_eq!(rt; lines.as_slice(), b"0..500 Whitespace\n".as_slice());
         }
     }
     Ok(())
