@@ -27,6 +27,23 @@ const OFF: Settings = Settings {
     strict: false,
 };
 
+/// Each setting, on and off.
+const EACH: [Settings; 4] = [
+    OFF,
+    Settings {
+        allow: false,
+        strict: true,
+    },
+    Settings {
+        allow: true,
+        strict: false,
+    },
+    Settings {
+        allow: true,
+        strict: true,
+    },
+];
+
 const MODULE: &str = "(module (func $foo))";
 
 const MODULE_LINES: &str =

@@ -20,21 +20,27 @@ fn ended<T: fmt::Debug + Drop>(
     ending.with_state(is_placed && parser.parens_depth() == 0)
 }
 
+fn all(run: &mut Run<'_>, row: Row<'_>, parser: &mut Parser<'_>) -> Ending {
+    let result = parser.all_of::<u32>();
+    ended(run, row, parser, &result)
+}
+
+fn all_while(run: &mut Run<'_>, row: Row<'_>, parser: &mut Parser<'_>) -> Ending {
+    let result = parser.all_while::<u32, u32>();
+    ended(run, row, parser, &result)
+}
+
+fn all_behind(run: &mut Run<'_>, row: Row<'_>, parser: &mut Parser<'_>) -> Ending {
+    let result = parser.all_behind::<u32, Parens<u32>>();
+    ended(run, row, parser, &result)
+}
+
 /// Reads a list of numbers: of all, as long as one is seen, or as long as one is seen in
 /// parentheses.
 pub fn ending(run: &mut Run<'_>, row: Row<'_>, parser: &mut Parser<'_>) -> Ending {
     match row.of {
-        "of" => {
-            let result = parser.all_of::<u32>();
-            ended(run, row, parser, &result)
-        }
-        "while" => {
-            let result = parser.all_while::<u32, u32>();
-            ended(run, row, parser, &result)
-        }
-        _ => {
-            let result = parser.all_behind::<u32, Parens<u32>>();
-            ended(run, row, parser, &result)
-        }
+        "of" => all(run, row, parser),
+        "while" => all_while(run, row, parser),
+        _ => all_behind(run, row, parser),
     }
 }
