@@ -63,14 +63,22 @@ fn each(alloc: Global, text: &str) -> Result<String, Error> {
     Ok(format!(in alloc; "{found} comments, none changes what is shown")?)
 }
 
-/// The first comment of a text and the text with spaces over it; None where it has none.
-fn blanked_first(alloc: Global, text: &str) -> Result<Option<(Token, String)>, Error> {
+/// The number of a text's first raw token that is a comment; None where it has none.
+fn first_comment(alloc: Global, text: &str) -> Result<Option<usize>, Error> {
     for number in 0..text.len() {
-        if let Some(blanked) = blanked_at(alloc, text, number)? {
-            return Ok(Some(blanked));
+        if blanked_at(alloc, text, number)?.is_some() {
+            return Ok(Some(number));
         }
     }
     Ok(None)
+}
+
+/// The first comment of a text and the text with spaces over it; None where it has none.
+fn blanked_first(alloc: Global, text: &str) -> Result<Option<(Token, String)>, Error> {
+    match first_comment(alloc, text)? {
+        Some(number) => blanked_at(alloc, text, number),
+        None => Ok(None),
+    }
 }
 
 /// The text with spaces over its comments, one after another.

@@ -1,30 +1,32 @@
 //! What the calls of a cursor answer.
 use crate::types::printed;
 use std::alloc::{AllocError, Global};
+use std::borrow::{CowSlice, CowStr};
 use wat_lex::error::Error;
-use wat_lex::lexer::Integer;
+use wat_lex::lexer::{Float, Integer};
 use wat_lex_answers::tokens::write_comma;
 use wat_lexer_parser::parser::Cursor;
 
+/// Writes a kind that is seen.
+fn write_seen(seen: &mut String, kind: &str, is_seen: bool) -> Result<(), AllocError> {
+    if !is_seen {
+        return Ok(());
+    }
+    write_comma(seen)?;
+    seen.push_str(kind)
+}
+
 /// The kinds that are seen.
 pub fn seen(alloc: Global, cursor: Cursor<'_, '_>) -> Result<String, Error> {
-    let kinds = [
-        ("lparen", cursor.peek_lparen()?),
-        ("rparen", cursor.peek_rparen()?),
-        ("id", cursor.peek_id()?),
-        ("keyword", cursor.peek_keyword()?),
-        ("reserved", cursor.peek_reserved()?),
-        ("string", cursor.peek_string()?),
-        ("integer", cursor.peek_integer()?),
-        ("float", cursor.peek_float()?),
-    ];
     let mut seen = String::new(alloc);
-    for (kind, is_seen) in kinds {
-        if is_seen {
-            write_comma(&mut seen)?;
-            seen.push_str(kind)?;
-        }
-    }
+    write_seen(&mut seen, "lparen", cursor.peek_lparen()?)?;
+    write_seen(&mut seen, "rparen", cursor.peek_rparen()?)?;
+    write_seen(&mut seen, "id", cursor.peek_id()?)?;
+    write_seen(&mut seen, "keyword", cursor.peek_keyword()?)?;
+    write_seen(&mut seen, "reserved", cursor.peek_reserved()?)?;
+    write_seen(&mut seen, "string", cursor.peek_string()?)?;
+    write_seen(&mut seen, "integer", cursor.peek_integer()?)?;
+    write_seen(&mut seen, "float", cursor.peek_float()?)?;
     Ok(seen)
 }
 
@@ -68,17 +70,22 @@ fn write_words(taken: &mut String, cursor: Cursor<'_, '_>) -> Result<(), Error> 
     Ok(())
 }
 
+/// The bytes of a string.
+fn bytes(alloc: Global, value: CowSlice<'_, u8>) -> Result<String, AllocError> {
+    printed(alloc, &value.as_slice())
+}
+
 /// Writes what the taker of strings answers.
 fn write_string(alloc: Global, taken: &mut String, cursor: Cursor<'_, '_>) -> Result<(), Error> {
     if let Some((value, next)) = cursor.string()? {
-        let value = printed(alloc, &value.as_slice())?;
+        let value = bytes(alloc, value)?;
         write_taken(taken, "string", value.as_str(), next)?;
     }
     Ok(())
 }
 
 /// The digits of an integer, their base and the sign.
-fn shown(alloc: Global, integer: &Integer<'_>) -> Result<String, AllocError> {
+fn digits(alloc: Global, integer: Integer<'_>) -> Result<String, AllocError> {
     let (digits, base) = integer.val();
     format!(in alloc; "{digits} {base} {:?}", integer.sign())
 }
@@ -86,16 +93,21 @@ fn shown(alloc: Global, integer: &Integer<'_>) -> Result<String, AllocError> {
 /// Writes what the taker of integers answers.
 fn write_integer(alloc: Global, taken: &mut String, cursor: Cursor<'_, '_>) -> Result<(), Error> {
     if let Some((integer, next)) = cursor.integer()? {
-        let value = shown(alloc, &integer)?;
+        let value = digits(alloc, integer)?;
         write_taken(taken, "integer", value.as_str(), next)?;
     }
     Ok(())
 }
 
+/// A float as it is printed.
+fn parts(alloc: Global, float: Float<'_>) -> Result<String, AllocError> {
+    printed(alloc, &float)
+}
+
 /// Writes what the taker of floats answers.
 fn write_float(alloc: Global, taken: &mut String, cursor: Cursor<'_, '_>) -> Result<(), Error> {
     if let Some((float, next)) = cursor.float()? {
-        let value = printed(alloc, &float)?;
+        let value = parts(alloc, float)?;
         write_taken(taken, "float", value.as_str(), next)?;
     }
     Ok(())
@@ -111,20 +123,19 @@ pub fn taken(alloc: Global, cursor: Cursor<'_, '_>) -> Result<String, Error> {
     Ok(taken)
 }
 
+/// A name, and none where no name is shown.
+fn named(alloc: Global, name: Option<CowStr<'_>>) -> Result<String, AllocError> {
+    String::from_str(alloc, name.as_ref().map_or("none", |name| name.as_str()))
+}
+
 /// The identifier that is shown.
 pub fn id(alloc: Global, cursor: Cursor<'_, '_>) -> Result<String, Error> {
-    match cursor.id()? {
-        Some((name, _)) => Ok(format!(in alloc; "{name}")?),
-        None => Ok(String::from_str(alloc, "none")?),
-    }
+    Ok(named(alloc, cursor.id()?.map(|(name, _)| name))?)
 }
 
 /// The annotation that is shown.
 pub fn annotation(alloc: Global, cursor: Cursor<'_, '_>) -> Result<String, Error> {
-    match cursor.annotation()? {
-        Some((name, _)) => Ok(format!(in alloc; "{name}")?),
-        None => Ok(String::from_str(alloc, "none")?),
-    }
+    Ok(named(alloc, cursor.annotation()?.map(|(name, _)| name))?)
 }
 
 /// The comment that comes next, and where the tokens behind it begin.

@@ -6,7 +6,7 @@ mod cuts;
 mod laid;
 mod refused;
 
-use std::alloc::Global;
+use std::alloc::{AllocError, Global};
 use std::io;
 use std::process::Abort;
 use std::test::Fail;
@@ -15,6 +15,7 @@ use wat_commands::calls::read_call;
 use wat_commands::ends::{Failed, Plain, Sink, Source};
 use wat_commands::play::reply_lines;
 use wat_commands::run::{RunError, run_list};
+use wat_lex::error::Error;
 use wat_lex::lexer::{LexError, Token, TokenKind};
 use wat_lexer_parser::parser::{FaultKind, Reply};
 
@@ -25,6 +26,23 @@ const OFF: Settings = Settings {
     allow: false,
     strict: false,
 };
+
+/// Each setting, on and off.
+const EACH: [Settings; 4] = [
+    OFF,
+    Settings {
+        allow: false,
+        strict: true,
+    },
+    Settings {
+        allow: true,
+        strict: false,
+    },
+    Settings {
+        allow: true,
+        strict: true,
+    },
+];
 
 const MODULE: &str = "(module (func $foo))";
 
@@ -167,6 +185,45 @@ fn counting_writer(alloc: Global, most: usize, fails_at: usize, flush_fails: boo
     }
 }
 
+/// How `list` ended, and what it read from and wrote to.
+#[derive(Drop)]
+struct Listed<R, W> {
+    answer: Result<Option<Error>, RunError>,
+    reader: R,
+    writer: W,
+    is_write_failed: bool,
+}
+
+/// Runs `list` from a reader to a writer.
+fn list<R: io::Read + Drop, W: io::Write + Drop>(
+    alloc: Global,
+    reader: R,
+    writer: W,
+    settings: Settings,
+) -> Listed<R, W> {
+    let mut input = Plain::new(reader);
+    let mut output = Plain::new(writer);
+    let answer = run_list(alloc, &mut input, &mut output, settings);
+    let is_write_failed = output.failed();
+    Listed {
+        answer,
+        reader: input.into_inner(),
+        writer: output.into_inner(),
+        is_write_failed,
+    }
+}
+
+/// What `list` writes of a text, and the fault that it answers.
+fn list_of_text(
+    alloc: Global,
+    text: &str,
+    settings: Settings,
+) -> Result<(Vec<u8>, Option<Error>), Fail> {
+    let listed = list(alloc, text.as_bytes(), Vec::new(alloc), settings);
+    let fault = listed.answer.map_err(|_| "the run is refused")?;
+    Ok((listed.writer, fault))
+}
+
 #[test]
 fn lists(rt: HostRuntime) -> Result<(), Fail> {
     let rows = [
@@ -195,16 +252,13 @@ fn lists(rt: HostRuntime) -> Result<(), Fail> {
         ),
     ];
     for (text, lines, fault) in rows {
-        let mut input = Plain::new(text.as_bytes());
-        let mut output = Plain::new(Vec::new(rt.alloc()));
-        let reported = match run_list(rt.alloc(), &mut input, &mut output, OFF).map_err(
-            |_| "the run is refused",
-        )? {
+        let (written, error) = list_of_text(rt.alloc(), text, OFF)?;
+        let reported = match error {
             None => String::new(rt.alloc()),
             Some(error) => error.to_string(rt.alloc())?,
         };
         assert_eq!(rt; reported.as_str(), fault, "{text}");
-        assert_eq!(rt; output.into_inner().as_slice(), lines.as_bytes(), "{text}");
+        assert_eq!(rt; written.as_slice(), lines.as_bytes(), "{text}");
     }
     Ok(())
 }
@@ -223,28 +277,18 @@ fn settings(rt: HostRuntime) -> Result<(), Fail> {
         (true, true, "0..5 LineComment\n5..6 Whitespace\n"),
     ];
     for (allow, strict, lines) in rows {
-        let mut input = Plain::new(text.as_bytes());
-        let mut output = Plain::new(Vec::new(rt.alloc()));
-        let fault = run_list(
-            rt.alloc(),
-            &mut input,
-            &mut output,
-            Settings { allow, strict },
-        )
-        .map_err(|_| "the run is refused")?;
+        let (written, fault) = list_of_text(rt.alloc(), text, Settings { allow, strict })?;
         assert_eq!(rt; fault.is_some(), !allow || strict);
-        assert_eq!(rt; output.into_inner().as_slice(), lines.as_bytes());
+        assert_eq!(rt; written.as_slice(), lines.as_bytes());
     }
     Ok(())
 }
 
 #[test]
 fn not_utf8(rt: HostRuntime) {
-    let mut input = Plain::new(b"\xff".as_slice());
-    let mut output = Plain::new(Vec::new(rt.alloc()));
-    let result = run_list(rt.alloc(), &mut input, &mut output, OFF);
-    assert!(rt; matches!(&result, Err(RunError::NotUtf8(0))));
-    assert!(rt; output.into_inner().is_empty());
+    let listed = list(rt.alloc(), b"\xff".as_slice(), Vec::new(rt.alloc()), OFF);
+    assert!(rt; matches!(&listed.answer, Err(RunError::NotUtf8(0))));
+    assert!(rt; listed.writer.is_empty());
 }
 
 /// Runs over a source in pieces whose read fails after so many.
@@ -309,6 +353,26 @@ fn a_write_that_fails(rt: HostRuntime) {
     assert!(rt; room.failed());
 }
 
+/// Whether a read into a buffer of eight bytes gives these.
+fn gives(input: &mut Plain<FailsOnce<'_>>, want: &[u8]) -> bool {
+    let mut buffer = [0u8; 8];
+    match input.read(&mut buffer) {
+        Ok(count) => &buffer[..count.min(8)] == want,
+        Err(_) => false,
+    }
+}
+
+/// Whether a read is refused.
+fn is_refused(input: &mut Plain<FailsOnce<'_>>) -> bool {
+    let mut buffer = [0u8; 8];
+    input.read(&mut buffer) == Err(FAILED)
+}
+
+/// Whether a read has failed, and whether the last one found the end.
+fn ends(input: &Plain<FailsOnce<'_>>) -> (bool, bool) {
+    (input.failed(), input.ended())
+}
+
 #[test]
 fn a_failed_read_is_not_tried_again(rt: HostRuntime) {
     let mut input = Plain::new(FailsOnce {
@@ -317,33 +381,32 @@ fn a_failed_read_is_not_tried_again(rt: HostRuntime) {
         fails_at: 1,
         calls: 0,
     });
-    let mut buffer = [0u8; 8];
-    assert_eq!(rt; input.read(&mut buffer), Ok(2));
-    assert_eq!(rt; input.read(&mut buffer), Err(FAILED));
-    assert!(rt; input.failed() && !input.ended());
-    assert_eq!(rt; input.read(&mut buffer), Ok(2));
-    assert_eq!(rt; &buffer[..2], b"cd".as_slice());
+    assert!(rt; gives(&mut input, b"ab"));
+    assert!(rt; is_refused(&mut input));
+    assert_eq!(rt; ends(&input), (true, false));
+    assert!(rt; gives(&mut input, b"cd"));
     assert_eq!(rt; input.read(&mut []), Ok(0));
-    assert!(rt; !input.ended());
-    assert_eq!(rt; input.read(&mut buffer), Ok(0));
-    assert!(rt; input.failed() && input.ended());
+    assert_eq!(rt; ends(&input), (true, false));
+    assert!(rt; gives(&mut input, b""));
+    assert_eq!(rt; ends(&input), (true, true));
     assert_eq!(rt; input.into_inner().calls, 5);
 }
 
 #[test]
 fn a_run_ends_at_a_failed_read(rt: HostRuntime) {
-    let mut input = Plain::new(FailsOnce {
+    let reader = FailsOnce {
         rest: MODULE.as_bytes(),
         most: 4,
         fails_at: 2,
         calls: 0,
-    });
-    let mut output = Plain::new(Vec::new(rt.alloc()));
-    let result = run_list(rt.alloc(), &mut input, &mut output, OFF);
-    assert!(rt; matches!(&result, Err(RunError::Read(_))));
-    let reader = input.into_inner();
-    assert_eq!(rt; (reader.calls, reader.rest.len()), (3, MODULE.len() - 8));
-    assert!(rt; output.into_inner().is_empty());
+    };
+    let listed = list(rt.alloc(), reader, Vec::new(rt.alloc()), OFF);
+    assert!(rt; matches!(&listed.answer, Err(RunError::Read(_))));
+    assert_eq!(rt;
+        (listed.reader.calls, listed.reader.rest.len()),
+        (3, MODULE.len() - 8)
+    );
+    assert!(rt; listed.writer.is_empty());
 }
 
 #[test]
@@ -366,41 +429,39 @@ fn nothing_is_written_behind_a_failed_write(rt: HostRuntime) -> Result<(), Fail>
 
 #[test]
 fn a_run_ends_at_a_failed_write(rt: HostRuntime) {
-    let mut input = Plain::new(MODULE.as_bytes());
-    let mut output = Plain::new(counting_writer(rt.alloc(), 4, 2, false));
-    let result = run_list(rt.alloc(), &mut input, &mut output, OFF);
-    assert!(rt; matches!(&result, Err(RunError::Write(_))));
-    let writer = output.into_inner();
+    let writer = counting_writer(rt.alloc(), 4, 2, false);
+    let listed = list(rt.alloc(), MODULE.as_bytes(), writer, OFF);
+    assert!(rt; matches!(&listed.answer, Err(RunError::Write(_))));
+    let writer = &listed.writer;
     assert_eq!(rt; writer.held.as_slice(), MODULE_LINES[..8].as_bytes());
     assert_eq!(rt; (writer.writes, writer.flushes), (3, 0));
 }
 
-#[test]
-fn each_write_ends_in_one_flush(rt: HostRuntime) {
-    for flush_fails in [false, true] {
-        let mut input = Plain::new(b"x".as_slice());
-        let mut output = Plain::new(counting_writer(rt.alloc(), 4, 9, flush_fails));
-        let result = run_list(rt.alloc(), &mut input, &mut output, OFF);
-        assert_eq!(rt; matches!(&result, Err(RunError::Write(_))), flush_fails);
-        assert_eq!(rt; matches!(&result, Ok(None)), !flush_fails);
-        assert_eq!(rt; output.failed(), flush_fails);
-        let writer = output.into_inner();
-        assert_eq!(rt; writer.held.as_slice(), b"0..1 Keyword\n".as_slice());
-        assert_eq!(rt; (writer.writes, writer.flushes), (4, 1));
-    }
+/// Each text, what is written of it, and in how many writes.
+const FLUSHED: [(&str, &str, usize); 2] = [("x", "0..1 Keyword\n", 4), ("", "", 0)];
+
+/// A run whose writer fails at the flush, or does not.
+fn flushed(
+    rt: &impl Abort,
+    alloc: Global,
+    (text, lines, writes): (&str, &str, usize),
+    flush_fails: bool,
+) {
+    let writer = counting_writer(alloc, 4, 9, flush_fails);
+    let listed = list(alloc, text.as_bytes(), writer, OFF);
+    let is_failed = matches!(&listed.answer, Err(RunError::Write(_)));
+    assert!(rt; is_failed == flush_fails && listed.is_write_failed == flush_fails);
+    assert!(rt; is_failed || matches!(&listed.answer, Ok(None)));
+    let writer = &listed.writer;
+    assert_eq!(rt; writer.held.as_slice(), lines.as_bytes());
+    assert_eq!(rt; (writer.writes, writer.flushes), (writes, 1));
 }
 
 #[test]
-fn an_empty_output_is_flushed(rt: HostRuntime) {
-    for flush_fails in [false, true] {
-        let mut input = Plain::new(b"".as_slice());
-        let mut output = Plain::new(counting_writer(rt.alloc(), 4, 9, flush_fails));
-        let result = run_list(rt.alloc(), &mut input, &mut output, OFF);
-        assert_eq!(rt; matches!(&result, Err(RunError::Write(_))), flush_fails);
-        assert_eq!(rt; matches!(&result, Ok(None)), !flush_fails);
-        assert_eq!(rt; output.failed(), flush_fails);
-        let writer = output.into_inner();
-        assert_eq!(rt; (writer.writes, writer.flushes), (0, 1));
+fn each_output_ends_in_one_flush(rt: HostRuntime) {
+    for row in FLUSHED {
+        flushed(&rt, rt.alloc(), row, false);
+        flushed(&rt, rt.alloc(), row, true);
     }
 }
 
@@ -426,16 +487,17 @@ const CALLS: &str = "\
     reg -> None\n\
     \x20-> None";
 
+/// The call that a word stands for, as it is printed.
+fn call(alloc: Global, word: &str) -> Result<String, AllocError> {
+    let call = read_call(alloc, word)?;
+    format!(in alloc; "{call:?}")
+}
+
 #[test]
 fn calls(rt: HostRuntime) -> Result<(), Fail> {
     for row in CALLS.lines() {
         let (word, want) = row.split_once(" -> ").unwrap_or((row, ""));
-        let call = read_call(rt.alloc(), word)?;
-        assert_eq!(rt;
-            format!(in rt.alloc(); "{call:?}")?.as_str(),
-            want,
-            "{word}"
-        );
+        assert_eq!(rt; call(rt.alloc(), word)?.as_str(), want, "{word}");
     }
     Ok(())
 }

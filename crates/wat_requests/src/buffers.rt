@@ -1,55 +1,30 @@
 //! Buffers of texts, and a text with spaces over a comment.
+use crate::row::Row;
 use std::alloc::Global;
-use std::io;
 use wat_lex::error::Error;
-use wat_lex::lexer::{LexError, LexFault, Lexer, TokenKind};
+use wat_lex::lexer::{Lexer, TokenKind};
 use wat_lex_requests::run::{Ending, Run, short};
 use wat_lexer_parser::laws;
-use wat_lexer_parser::parser::ParseBuffer;
+use wat_lexer_parser::parser::{ParseBuffer, Parser};
 
 /// The buffer of a text.
 pub fn buffer_of(alloc: Global, text: &str) -> Result<ParseBuffer<'_>, Error> {
     ParseBuffer::new(alloc, short(text))
 }
 
-/// How a buffer was made that has so many raw tokens and this fault.
-fn made(buffer: &Result<ParseBuffer<'_>, Error>, tokens: usize, fault: Option<LexFault>) -> Ending {
-    match buffer {
-        Ok(buffer) => {
-            Ending::answer_where(buffer.raw().len() == tokens && buffer.lex_fault() == fault)
-        }
-        Err(error) => Ending::memory_where(error.is_out_of_memory()),
-    }
+/// How a buffer was made: how many raw tokens it has, and which fault.
+fn made(run: &mut Run<'_>, row: Row<'_>, buffer: Result<ParseBuffer<'_>, Error>) -> Ending {
+    run.call_has_ended();
+    let made = buffer.map(|buffer| (buffer.raw().len(), buffer.lex_fault()));
+    run.ending(&made, row.expected)
 }
 
-pub fn buffers(run: &mut Run<'_>) -> io::Result<()> {
-    let end = Some(LexFault {
-        offset: 4,
-        error: LexError::UnexpectedEof,
-    });
-    let rows = [
-        ("buffer-plain", "(module (func $foo))", 9, None),
-        ("free-buffer-empty", "", 0, None),
-        ("buffer-escaped-name", "(@\"\\62\" c) d", 7, None),
-        ("buffer-names", "(@a (@b)) (@c) (@\"d\") 1", 17, None),
-        ("buffer-fault", "a \"b", 2, end),
-    ];
-    for (name, text, tokens, fault) in rows {
-        if run.is_asked(name) {
-            let buffer = ParseBuffer::new(run.alloc(), short(text));
-            run.call_has_ended();
-            run.report(name, Ok(made(&buffer, tokens, fault)))?;
-        }
-    }
-    let name = "buffer-with-lexer";
-    if run.is_asked(name) {
-        let mut lexer = Lexer::new("\"\\u{1__0}\" (@a)");
-        lexer.allow_confusing_unicode(true);
-        let buffer = ParseBuffer::new_with_lexer(run.alloc(), lexer);
-        run.call_has_ended();
-        run.report(name, Ok(made(&buffer, 5, None)))?;
-    }
-    Ok(())
+/// A buffer of a lexer with a setting of its own.
+fn made_with_lexer(run: &mut Run<'_>, row: Row<'_>) -> Ending {
+    let mut lexer = Lexer::new(short(row.text));
+    lexer.allow_confusing_unicode(true);
+    let buffer = ParseBuffer::new_with_lexer(run.alloc(), lexer);
+    made(run, row, buffer)
 }
 
 /// The text with spaces over its second raw token, which is a comment.
@@ -73,10 +48,48 @@ fn blanked(run: &mut Run<'_>) -> Result<Ending, Error> {
     Ok(Ending::Wrong)
 }
 
-pub fn blanks(run: &mut Run<'_>) -> io::Result<()> {
-    if run.is_asked("blanked") {
-        let ended = blanked(run);
-        run.report("blanked", ended)?;
+/// What a parser answers at the start of a word and a fault.
+fn stands(parser: &Parser<'_>) -> bool {
+    let _lookahead = parser.lookahead1();
+    parser.prev_span().offset() == 0
+        && parser.parens_depth() == 0
+        && parser.has_meaningful_tokens()
+        && !parser.track_instr_spans()
+        && parser.depth_check().is_ok()
+}
+
+/// What a buffer answers, and a parser of it.
+fn answers(run: &mut Run<'_>) -> Result<Ending, Error> {
+    let buffer = buffer_of(run.alloc(), "a \"")?;
+    let is_read = buffer.raw().len() == 2 && buffer.lex_fault().is_some();
+    let is_right = is_read && stands(&buffer.parser());
+    run.call_has_ended();
+    Ok(Ending::answer_where(is_right))
+}
+
+/// Whether a parser of a buffer tracks spans.
+fn tracks(buffer: &ParseBuffer<'_>) -> bool {
+    buffer.parser().track_instr_spans()
+}
+
+/// A buffer that is told to track spans.
+fn tracked(run: &mut Run<'_>) -> Result<Ending, Error> {
+    let mut buffer = buffer_of(run.alloc(), "x")?;
+    buffer.track_instr_spans(true);
+    let is_tracked = tracks(&buffer);
+    run.call_has_ended();
+    Ok(Ending::answer_where(is_tracked))
+}
+
+pub fn ending(run: &mut Run<'_>, row: Row<'_>) -> Result<Ending, Error> {
+    match row.of {
+        "answers" => answers(run),
+        "tracked" => tracked(run),
+        "blanked" => blanked(run),
+        "with-lexer" => Ok(made_with_lexer(run, row)),
+        _ => {
+            let buffer = buffer_of(run.alloc(), row.text);
+            Ok(made(run, row, buffer))
+        }
     }
-    Ok(())
 }

@@ -2,59 +2,78 @@
 //!
 //! The program reads the name of one row from standard input, and of no name runs all. It refuses no
 //! request for memory itself: `tools/check_requests.sh` runs each row once for each of its requests,
-//! with that one refused.
+//! with that one refused. Each call of a row `free-..` takes no memory, so it answers wherever it is
+//! reached.
 #![tactic(auto)]
 
 mod buffers;
 mod cursors;
-mod each_type;
+mod errors;
 mod free;
 mod groups;
 mod lists;
+mod lookaheads;
 mod modules;
 mod names;
+mod peeks;
+mod replays;
+mod row;
+mod rows;
 mod types;
 mod words;
 
+use buffers::buffer_of;
+use row::Row;
+use rows::ROWS;
 use std::io::{self, Read};
 use std::str;
-use wat_lex_requests::run::Run;
+use wat_lex::error::Error;
+use wat_lex_requests::run::{Ending, Run};
+use wat_lexer_parser::parser::Parser;
 
 /// How many bytes the name of a row has at most.
 const LONGEST_NAME: usize = 64;
 
-/// Runs the rows of the parser's crate.
-fn parser_rows(run: &mut Run<'_>) -> io::Result<()> {
-    buffers::buffers(run)?;
-    buffers::blanks(run)?;
-    names::registered(run)?;
-    names::read_under_names(run)?;
-    cursors::looks(run)?;
-    cursors::takers(run)?;
-    groups::groups(run)?;
-    groups::groups_of(run)?;
-    groups::errors(run)?;
-    groups::lookaheads(run)?;
-    groups::replays(run)?;
-    lists::lists(run)?;
-    lists::refused_lists(run)
+/// Registers the names of a row.
+fn register(parser: &mut Parser<'_>, names: &str) -> Result<(), Error> {
+    for name in names.split(' ').filter(|name| !name.is_empty()) {
+        parser.register_annotation(name)?;
+    }
+    Ok(())
 }
 
-/// Runs the rows of types that are read.
-fn type_rows(run: &mut Run<'_>) -> io::Result<()> {
-    types::whole_texts(run)?;
-    types::whole_texts_of_words(run)?;
-    types::whole_values(run)?;
-    types::integers(run)?;
-    types::parts(run)?;
-    types::parts_of_words(run)?;
-    types::part_values(run)?;
-    types::peeks(run)?;
-    types::name_annotations(run)?;
-    each_type::peeks(run)?;
-    each_type::faults(run)?;
-    each_type::spans(run)?;
-    words::words(run)
+/// How a call of a parser ended that stands at the start of the row's text.
+fn ending_of(run: &mut Run<'_>, row: Row<'_>, parser: &mut Parser<'_>) -> Result<Ending, Error> {
+    match row.call {
+        "look" => Ok(cursors::ending(run, row, parser)),
+        "step" => Ok(cursors::refused_step(run, row, parser)),
+        "names" => names::ending(run, row, parser),
+        "group" | "group-of" => Ok(groups::ending(run, row, parser)),
+        "list" => Ok(lists::ending(run, row, parser)),
+        "part" => Ok(types::ending(run, row, parser)),
+        "optional-name" => Ok(words::optional_name(run, row, parser)),
+        "peek" => Ok(peeks::ending(run, row, parser)),
+        "lookahead" | "missed" => lookaheads::ending(run, row, parser),
+        "replay" => replays::ending(run, row, parser),
+        _ => Ok(free::ending(run, row, parser)),
+    }
+}
+
+/// How the call of a row ended; an error where what it needs could not be made.
+fn ending(run: &mut Run<'_>, row: Row<'_>) -> Result<Ending, Error> {
+    match row.call {
+        "buffers" => buffers::ending(run, row),
+        "whole" => types::whole_ending(run, row),
+        "words" => words::ending(run, row),
+        "error" => errors::ending(run, row),
+        "compile" => Ok(modules::ending(run, row)),
+        _ => {
+            let buffer = buffer_of(run.alloc(), row.text)?;
+            let mut parser = buffer.parser();
+            register(&mut parser, row.names)?;
+            ending_of(run, row, &mut parser)
+        }
+    }
 }
 
 fn main(rt: HostRuntime) -> io::Result<()> {
@@ -65,9 +84,13 @@ fn main(rt: HostRuntime) -> io::Result<()> {
         return println!(rt; "{name} set-up");
     };
     wat_lex_requests::rows(&mut run)?;
-    parser_rows(&mut run)?;
-    type_rows(&mut run)?;
-    modules::compiled(&mut run)?;
     wat_lex_requests::free::rows(&mut run)?;
-    free::rows(&mut run)
+    for line in ROWS.lines() {
+        let row = Row::read(line);
+        if run.is_asked(row.name) {
+            let ended = ending(&mut run, row);
+            run.report(row.name, ended)?;
+        }
+    }
+    Ok(())
 }

@@ -1,8 +1,8 @@
 //! Names of annotations, registered for good or while a type is read.
-use crate::buffers::buffer_of;
-use std::io;
+use crate::cursors::is_at_start;
+use crate::row::Row;
 use wat_lex::error::Error;
-use wat_lex_requests::run::{Ending, Expected, Run};
+use wat_lex_requests::run::{Ending, Run};
 use wat_lexer_parser::parser::{Parse, Parser};
 use wat_lexer_parser::token::NameAnnotation;
 
@@ -19,53 +19,53 @@ fn has_no_standard(parser: &Parser<'_>) -> bool {
     STANDARD.iter().all(|name| !parser.is_registered(name))
 }
 
-/// Whether a parser stands at the start, within no group.
-fn is_at_start(parser: &Parser<'_>) -> bool {
-    parser.prev_span().offset() == 0 && parser.parens_depth() == 0
+/// Registers `b`; whether that was refused.
+fn is_refused(run: &mut Run<'_>, parser: &mut Parser<'_>) -> bool {
+    let result = parser.register_annotation("b");
+    run.call_has_ended();
+    result.is_err()
+}
+
+/// Where what is shown begins, and whether a name is registered.
+fn state(parser: &Parser<'_>, name: &str) -> (usize, bool) {
+    (parser.cur_span().offset(), parser.is_registered(name))
 }
 
 /// Registers a name, which is shown from then on. A refusal leaves the names as they were.
-fn register(run: &mut Run<'_>) -> Result<Ending, Error> {
-    let buffer = buffer_of(run.alloc(), "(@b) x")?;
-    let mut parser = buffer.parser();
-    let result = parser.register_annotation("b");
-    run.call_has_ended();
-    let is_kept = is_at_start(&parser) && !parser.is_registered("c");
-    let offset = parser.cur_span().offset();
-    if result.is_err() {
-        let is_unknown = !parser.is_registered("b") && offset == 5;
-        return Ok(Ending::memory_where(is_kept && is_unknown));
+fn register(run: &mut Run<'_>, parser: &mut Parser<'_>) -> Ending {
+    let is_refused = is_refused(run, parser);
+    let is_kept = is_at_start(parser) && !parser.is_registered("c");
+    let state = state(parser, "b");
+    if is_refused {
+        Ending::memory_where(is_kept && state == (5, false))
+    } else {
+        Ending::answer_where(is_kept && state == (0, true))
     }
-    let is_shown = parser.is_registered("b") && offset == 0;
-    Ok(Ending::answer_where(is_kept && is_shown))
 }
 
-/// Registers a name beside others.
-fn register_more(run: &mut Run<'_>) -> Result<Ending, Error> {
-    let buffer = buffer_of(run.alloc(), "(@b) x")?;
-    let mut parser = buffer.parser();
-    for name in STANDARD {
-        parser.register_annotation(name)?;
+/// Registers a name beside the standard annotations.
+fn register_more(run: &mut Run<'_>, parser: &mut Parser<'_>) -> Ending {
+    let is_refused = is_refused(run, parser);
+    let is_kept = is_at_start(parser) && STANDARD.iter().all(|name| parser.is_registered(name));
+    let is_registered = parser.is_registered("b");
+    if is_refused {
+        Ending::memory_where(is_kept && !is_registered)
+    } else {
+        Ending::answer_where(is_kept && is_registered)
     }
-    let result = parser.register_annotation("b");
-    run.call_has_ended();
-    let is_kept = is_at_start(&parser) && STANDARD.iter().all(|name| parser.is_registered(name));
-    if result.is_err() {
-        return Ok(Ending::memory_where(is_kept && !parser.is_registered("b")));
-    }
-    Ok(Ending::answer_where(is_kept && parser.is_registered("b")))
 }
 
 /// A name that is registered as often as can be is refused, and stays so.
-fn register_too_often(run: &mut Run<'_>) -> Result<Ending, Error> {
-    let buffer = buffer_of(run.alloc(), "x")?;
-    let mut parser = buffer.parser();
-    register_fully(&mut parser)?;
+fn register_too_often(
+    run: &mut Run<'_>,
+    row: Row<'_>,
+    parser: &mut Parser<'_>,
+) -> Result<Ending, Error> {
+    register_fully(parser)?;
     let result = parser.register_annotation("b");
     run.call_has_ended();
-    let expected = Expected::Refusal("annotation registered too often at byte offset 0", 0);
-    let is_kept = is_at_start(&parser) && parser.is_registered("b");
-    Ok(run.ending(&result, expected).with_state(is_kept))
+    let ending = run.ending(&result, row.expected);
+    Ok(ending.with_state(is_at_start(parser) && parser.is_registered("b")))
 }
 
 /// Registers `b` as often as a name may be registered.
@@ -73,22 +73,6 @@ pub fn register_fully(parser: &mut Parser<'_>) -> Result<(), Error> {
     parser.register_annotation("b")?;
     if parser.is_registered("b") {
         parser.set_registrations("b", usize::MAX);
-    }
-    Ok(())
-}
-
-pub fn registered(run: &mut Run<'_>) -> io::Result<()> {
-    if run.is_asked("register-too-often") {
-        let ended = register_too_often(run);
-        run.report("register-too-often", ended)?;
-    }
-    if run.is_asked("register") {
-        let ended = register(run);
-        run.report("register", ended)?;
-    }
-    if run.is_asked("register-more") {
-        let ended = register_more(run);
-        run.report("register-more", ended)?;
     }
     Ok(())
 }
@@ -115,58 +99,43 @@ impl<'a> Parse<'a> for OptionalName<'a> {
 }
 
 /// Reads a type where one name is shown, which is taken back on both outcomes.
-fn under_name(run: &mut Run<'_>) -> Result<Ending, Error> {
-    let buffer = buffer_of(run.alloc(), "(@b 1) 2")?;
-    let mut parser = buffer.parser();
+fn under_name(run: &mut Run<'_>, row: Row<'_>, parser: &mut Parser<'_>) -> Ending {
     let result = parser.with_annotation::<Option<u32>>("b");
     run.call_has_ended();
-    let is_kept = is_at_start(&parser) && !parser.is_registered("b");
-    Ok(
-        run.ending(&result, Expected::Value("None"))
-            .with_state(is_kept),
-    )
+    let is_kept = is_at_start(parser) && !parser.is_registered("b");
+    run.ending(&result, row.expected).with_state(is_kept)
 }
 
 /// A name that is registered already stays so.
-fn under_registered_name(run: &mut Run<'_>) -> Result<Ending, Error> {
-    let buffer = buffer_of(run.alloc(), "(@b 1) 2")?;
-    let mut parser = buffer.parser();
-    parser.register_annotation("b")?;
+fn under_registered_name(run: &mut Run<'_>, row: Row<'_>, parser: &mut Parser<'_>) -> Ending {
     let result = parser.with_annotation::<u32>("b");
     run.call_has_ended();
-    let is_kept = is_at_start(&parser) && parser.is_registered("b");
-    let expected = Expected::Refusal("expected a u32", 0);
-    Ok(run.ending(&result, expected).with_state(is_kept))
+    let is_kept = is_at_start(parser) && parser.is_registered("b");
+    run.ending(&result, row.expected).with_state(is_kept)
 }
 
 /// Reads a type where the standard annotations are shown, all of which are taken back.
-fn under_standard(run: &mut Run<'_>) -> Result<Ending, Error> {
-    let buffer = buffer_of(run.alloc(), "(@name \"m\")")?;
-    let mut parser = buffer.parser();
+fn under_standard(run: &mut Run<'_>, row: Row<'_>, parser: &mut Parser<'_>) -> Ending {
     let result = parser.with_standard_annotations_registered::<OptionalName>();
     run.call_has_ended();
-    let is_kept = has_no_standard(&parser) && parser.parens_depth() == 0;
-    let place = if result.is_ok() { 11 } else { 0 };
+    let is_kept = has_no_standard(parser) && parser.parens_depth() == 0;
+    let place = if result.is_ok() { row.place } else { 0 };
     let is_placed = parser.prev_span().offset() == place;
-    let shown = "OptionalName(Some(NameAnnotation { name: \"m\" }))";
-    Ok(
-        run.ending(&result, Expected::Value(shown))
-            .with_state(is_kept && is_placed),
-    )
+    run.ending(&result, row.expected)
+        .with_state(is_kept && is_placed)
 }
 
-pub fn read_under_names(run: &mut Run<'_>) -> io::Result<()> {
-    if run.is_asked("with-annotation") {
-        let ended = under_name(run);
-        run.report("with-annotation", ended)?;
+pub fn ending(
+    run: &mut Run<'_>,
+    row: Row<'_>,
+    parser: &mut Parser<'_>,
+) -> Result<Ending, Error> {
+    match row.of {
+        "register" => Ok(register(run, parser)),
+        "more" => Ok(register_more(run, parser)),
+        "with" => Ok(under_name(run, row, parser)),
+        "with-registered" => Ok(under_registered_name(run, row, parser)),
+        "with-standard" => Ok(under_standard(run, row, parser)),
+        _ => register_too_often(run, row, parser),
     }
-    if run.is_asked("with-annotation-refused") {
-        let ended = under_registered_name(run);
-        run.report("with-annotation-refused", ended)?;
-    }
-    if run.is_asked("with-standard-annotations") {
-        let ended = under_standard(run);
-        run.report("with-standard-annotations", ended)?;
-    }
-    Ok(())
 }

@@ -1,12 +1,12 @@
-//! Words of one's own, and syntax that is made without a text.
+//! Words of one's own, names of a text, and syntax that is made without a text.
 use crate::buffers::buffer_of;
+use crate::row::Row;
 use std::alloc::Global;
 use std::borrow::CowStr;
-use std::io;
 use wat_lex::error::Error;
 use wat_lex_requests::run::{Ending, Run};
 use wat_lexer_parser::parser::{ParseBuffer, Parser};
-use wat_lexer_parser::token::{Id, Index, ItemRef, ReservedSymbol, Span, Word};
+use wat_lexer_parser::token::{Id, Index, ItemRef, NameAnnotation, ReservedSymbol, Span, Word};
 use wat_lexer_parser::{annotation, kw};
 
 /// The reserved symbol `,`.
@@ -87,14 +87,34 @@ fn makes(run: &mut Run<'_>) -> Result<Ending, Error> {
     Ok(Ending::answer_where(is_right))
 }
 
-pub fn words(run: &mut Run<'_>) -> io::Result<()> {
-    if run.is_asked("item-clone") {
-        let ended = item_copy(run);
-        run.report("item-clone", ended)?;
+/// An optional name that has to be decoded.
+pub fn optional_name(run: &mut Run<'_>, row: Row<'_>, parser: &mut Parser<'_>) -> Ending {
+    let result = NameAnnotation::parse_option(parser);
+    run.call_has_ended();
+    let place = if result.is_ok() { row.place } else { 0 };
+    let is_kept = parser.prev_span().offset() == place
+        && parser.parens_depth() == 0
+        && parser.is_registered("name");
+    run.ending(&result, row.expected).with_state(is_kept)
+}
+
+/// A copy of a name that is owned.
+fn name_copy(run: &mut Run<'_>) -> Result<Ending, Error> {
+    let name = NameAnnotation {
+        name: CowStr::Owned(String::from_str(run.alloc(), "m")?),
+    };
+    let copy = name.clone(run.alloc());
+    run.call_has_ended();
+    match &copy {
+        Ok(copy) => Ok(Ending::answer_where(*copy == name && name.name.as_str() == "m")),
+        Err(_) => Ok(Ending::memory_where(name.name.as_str() == "m")),
     }
-    if run.is_asked("free-made") {
-        let ended = makes(run);
-        run.report("free-made", ended)?;
+}
+
+pub fn ending(run: &mut Run<'_>, row: Row<'_>) -> Result<Ending, Error> {
+    match row.of {
+        "name-clone" => name_copy(run),
+        "item-clone" => item_copy(run),
+        _ => makes(run),
     }
-    Ok(())
 }

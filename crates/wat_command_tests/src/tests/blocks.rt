@@ -1,9 +1,9 @@
 //! Texts whose output is longer than a block.
-use crate::tests::{Counted, FAILED, OFF, counting_writer};
+use crate::tests::{Counted, FAILED, OFF, counting_writer, list};
 use std::alloc::Global;
 use std::test::Fail;
 use wat_commands::ends::Plain;
-use wat_commands::run::{RunError, run_blank, run_list};
+use wat_commands::run::{RunError, run_blank};
 
 /// How many parentheses the text has: their lines fill two blocks and some of a third.
 const PARENS: usize = 9_000;
@@ -36,10 +36,9 @@ fn list_of(
     fails_at: usize,
 ) -> Result<(Result<bool, RunError>, Counted), Fail> {
     let text = parens(alloc, behind)?;
-    let mut input = Plain::new(text.as_bytes());
-    let mut output = Plain::new(counting_writer(alloc, usize::MAX, fails_at, false));
-    let result = run_list(alloc, &mut input, &mut output, OFF).map(|error| error.is_some());
-    Ok((result, output.into_inner()))
+    let writer = counting_writer(alloc, usize::MAX, fails_at, false);
+    let listed = list(alloc, text.as_bytes(), writer, OFF);
+    Ok((listed.answer.map(|error| error.is_some()), listed.writer))
 }
 
 #[test]
@@ -75,20 +74,28 @@ fn a_later_block_is_not_written(rt: HostRuntime) -> Result<(), Fail> {
     Ok(())
 }
 
+/// A string of 70,000 bytes between two texts.
+fn long_string(alloc: Global, front: &str, behind: &str) -> Result<String, Fail> {
+    let mut text = String::from_str(alloc, front)?;
+    text.push_str(&"s".repeat(alloc, 70_000)?)?;
+    text.push_str(behind)?;
+    Ok(text)
+}
+
+/// What `blank` writes of a text.
+fn blanked(alloc: Global, text: &str) -> Result<Vec<u8>, Fail> {
+    let mut input = Plain::new(text.as_bytes());
+    let mut output = Plain::new(Vec::new(alloc));
+    match run_blank(alloc, &mut input, &mut output, OFF) {
+        Ok(None) => Ok(output.into_inner()),
+        _ => Err(Fail::from("the run is refused, or there is a fault")),
+    }
+}
+
 #[test]
 fn a_string_is_longer_than_a_block(rt: HostRuntime) -> Result<(), Fail> {
-    let mut text = String::from_str(rt.alloc(), "x (;y;)\"")?;
-    let mut want = String::from_str(rt.alloc(), "x      \"")?;
-    for _ in 0..70_000 {
-        text.push('s')?;
-        want.push('s')?;
-    }
-    text.push_str("\";;z")?;
-    want.push_str("\"   ")?;
-    let mut input = Plain::new(text.as_bytes());
-    let mut output = Plain::new(Vec::new(rt.alloc()));
-    let result = run_blank(rt.alloc(), &mut input, &mut output, OFF).map(|error| error.is_some());
-    assert_eq!(rt; result, Ok(false));
-    assert_eq!(rt; output.into_inner().as_slice(), want.as_bytes());
+    let text = long_string(rt.alloc(), "x (;y;)\"", "\";;z")?;
+    let want = long_string(rt.alloc(), "x      \"", "\"   ")?;
+    assert_eq!(rt; blanked(rt.alloc(), &text)?.as_slice(), want.as_bytes());
     Ok(())
 }

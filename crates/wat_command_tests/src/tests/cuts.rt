@@ -1,41 +1,37 @@
 //! Texts that are cut at each character: the lines of a prefix begin the lines of the whole text.
+use crate::tests::{EACH, OFF, list_of_text};
 use std::alloc::Global;
 use std::process::Abort;
 use std::str;
 use std::test::Fail;
 use wat_commands::Settings;
-use wat_commands::ends::Plain;
-use wat_commands::run::run_list;
 
 /// The list text of a text, and whether it has a fault.
 fn listed(alloc: Global, text: &str, settings: Settings) -> Result<(String, bool), Fail> {
-    let mut input = Plain::new(text.as_bytes());
-    let mut output = Plain::new(Vec::new(alloc));
-    let fault = run_list(alloc, &mut input, &mut output, settings).map_err(
-        |_| "the run is refused",
-    )?;
-    let lines = output.into_inner();
+    let (lines, fault) = list_of_text(alloc, text, settings)?;
     let shown = str::from_utf8(&lines).map_err(|_| "the lines are not UTF-8")?;
     Ok((String::from_str(alloc, shown)?, fault.is_some()))
 }
 
-/// Cuts a text everywhere, and compares the lines of each prefix with those of the whole: all of
-/// them before a fault, all but the last before the end.
+/// Whether the lines of a prefix begin those of the whole: all of them before a fault, all but the
+/// last before the end.
+fn begins(whole: &str, prefix: &str, is_faulty: bool) -> bool {
+    let count = prefix.lines().count();
+    let sure = if is_faulty {
+        count
+    } else {
+        count.saturating_sub(1)
+    };
+    whole.lines().take(sure).eq(prefix.lines().take(sure))
+}
+
+/// Cuts a text everywhere, and compares the lines of each prefix with those of the whole.
 fn cut(rt: &impl Abort, alloc: Global, text: &str, settings: Settings) -> Result<(), Fail> {
     let (whole, _) = listed(alloc, text, settings)?;
     for (end, _) in text.char_indices() {
         assert!(rt; text.is_char_boundary(end));
         let (prefix, is_faulty) = listed(alloc, &text[..end], settings)?;
-        let count = prefix.lines().count();
-        let sure = if is_faulty {
-            count
-        } else {
-            count.saturating_sub(1)
-        };
-        let mut expected = whole.lines();
-        for line in prefix.lines().take(sure) {
-            assert_eq!(rt; Some(line), expected.next(), "{text} {end}");
-        }
+        assert!(rt; begins(&whole, &prefix, is_faulty), "{text} {end}");
     }
     Ok(())
 }
@@ -104,10 +100,8 @@ const TEXTS: &str = "\
 #[test]
 fn prefixes_begin_the_whole(rt: HostRuntime) -> Result<(), Fail> {
     for text in TEXTS.split('\x1e') {
-        for allow in [false, true] {
-            for strict in [false, true] {
-                cut(&rt, rt.alloc(), text, Settings { allow, strict })?;
-            }
+        for settings in EACH {
+            cut(&rt, rt.alloc(), text, settings)?;
         }
     }
     Ok(())
@@ -123,57 +117,52 @@ fn long_line(alloc: Global) -> Result<String, Fail> {
 #[test]
 fn prefixes_of_a_long_line_begin_it(rt: HostRuntime) -> Result<(), Fail> {
     let text = long_line(rt.alloc())?;
-    for allow in [false, true] {
-        for strict in [false, true] {
-            cut(&rt, rt.alloc(), &text, Settings { allow, strict })?;
-        }
+    for settings in EACH {
+        cut(&rt, rt.alloc(), &text, settings)?;
     }
     Ok(())
+}
+
+/// What is reported and written of a text with a fault.
+fn faulty(alloc: Global, text: &str, settings: Settings) -> Result<(String, Vec<u8>), Fail> {
+    let (lines, fault) = list_of_text(alloc, text, settings)?;
+    let shown = fault.ok_or("there is no fault")?.to_string(alloc)?;
+    Ok((shown, lines))
 }
 
 #[test]
 fn a_fault_on_a_long_line_is_shown_without_the_line(rt: HostRuntime) -> Result<(), Fail> {
     let text = long_line(rt.alloc())?;
-    for allow in [false, true] {
-        for strict in [false, true] {
-            let mut input = Plain::new(text.as_bytes());
-            let mut output = Plain::new(Vec::new(rt.alloc()));
-            let settings = Settings { allow, strict };
-            let fault = run_list(rt.alloc(), &mut input, &mut output, settings)
-                .map_err(|_| "the run is refused")?
-                .ok_or("there is no fault")?;
-            let shown = fault.to_string(rt.alloc())?;
-            assert_eq!(rt;
-                shown.as_str(),
-                "unterminated block comment at <anon>:1:501"
-            );
-            assert_eq!(rt;
-                output.into_inner().as_slice(),
-                b"0..500 Whitespace\n".as_slice()
-            );
-        }
+    for settings in EACH {
+        let (shown, lines) = faulty(rt.alloc(), &text, settings)?;
+        assert_eq!(rt; shown.as_str(), "unterminated block comment at <anon>:1:501");
+        assert_eq!(rt; lines.as_slice(), b"0..500 Whitespace\n".as_slice());
     }
     Ok(())
 }
 
+/// So many comments, each in the one before, of which so many are closed.
+fn comments(alloc: Global, count: usize, closed: usize) -> Result<String, Fail> {
+    let mut text = "(;".repeat(alloc, count)?;
+    text.push_str(&";)".repeat(alloc, closed)?)?;
+    Ok(text)
+}
+
 #[test]
-fn deep_nesting(rt: HostRuntime) -> Result<(), Fail> {
-    let settings = Settings {
-        allow: false,
-        strict: false,
-    };
-    let mut comment = "(;".repeat(rt.alloc(), 10_000)?;
-    comment.push_str(&";)".repeat(rt.alloc(), 9_999)?)?;
-    let (lines, is_faulty) = listed(rt.alloc(), &comment, settings)?;
-    assert_eq!(rt; (lines.as_str(), is_faulty), ("", true));
-    comment.push_str(";)")?;
-    let (lines, is_faulty) = listed(rt.alloc(), &comment, settings)?;
-    assert_eq!(rt;
-        (lines.as_str(), is_faulty),
-        ("0..40000 BlockComment\n", false)
-    );
+fn deep_comments(rt: HostRuntime) -> Result<(), Fail> {
+    let open = comments(rt.alloc(), 10_000, 9_999)?;
+    let (lines, is_faulty) = listed(rt.alloc(), &open, OFF)?;
+    assert!(rt; lines.is_empty() && is_faulty);
+    let closed = comments(rt.alloc(), 10_000, 10_000)?;
+    let (lines, is_faulty) = listed(rt.alloc(), &closed, OFF)?;
+    assert!(rt; lines.as_str() == "0..40000 BlockComment\n" && !is_faulty);
+    Ok(())
+}
+
+#[test]
+fn deep_parentheses(rt: HostRuntime) -> Result<(), Fail> {
     let parens = "(".repeat(rt.alloc(), 10_000)?;
-    let (lines, is_faulty) = listed(rt.alloc(), &parens, settings)?;
+    let (lines, is_faulty) = listed(rt.alloc(), &parens, OFF)?;
     assert!(rt; !is_faulty);
     assert_eq!(rt; lines.lines().count(), 10_000);
     assert!(rt; lines.lines().all(|line| line.ends_with(" LParen")));

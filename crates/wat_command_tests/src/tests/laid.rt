@@ -1,10 +1,10 @@
 //! Texts that are laid out, and texts that are compared with their layouts.
 use super::{FAILED, OFF, Pieces};
-use std::alloc::Global;
+use std::alloc::{AllocError, Global};
 use std::io;
 use std::process::Abort;
 use std::test::Fail;
-use wat_commands::ends::{Plain, Source};
+use wat_commands::ends::Plain;
 use wat_commands::fmt::{Compared, run_compare, run_fmt};
 use wat_commands::run::RunError;
 
@@ -96,36 +96,38 @@ fn a_source_that_fails(rt: HostRuntime) {
     assert!(rt; output.into_inner().is_empty());
 }
 
-/// What comes of comparing bytes with their layout, in a word.
-fn compared(rt: &impl Abort, alloc: Global, bytes: &[u8]) -> Result<String, Fail> {
-    let mut input = Plain::new(bytes);
-    assert!(rt; !input.failed());
-    Ok(match run_compare(alloc, &mut input, OFF) {
-        Ok(Compared::Same) => String::from_str(alloc, "same")?,
-        Ok(Compared::Other(text)) => text,
-        Ok(Compared::Longer) => String::from_str(alloc, "longer")?,
-        Ok(Compared::Faulty(error)) => format!(in alloc;
-            "{} {}",
-            error.span().offset(),
-            error.message(alloc)?
-        )?,
-        Err(error) => format!(in alloc; "{error}")?,
-    })
+/// What comes of a comparison, in a word.
+fn shown(alloc: Global, compared: Compared) -> Result<String, AllocError> {
+    match compared {
+        Compared::Same => String::from_str(alloc, "same"),
+        Compared::Other(text) => Ok(text),
+        Compared::Longer => String::from_str(alloc, "longer"),
+        Compared::Faulty(error) => error.to_string(alloc),
+    }
 }
+
+/// Whether comparing bytes with their layout comes to this.
+fn compares(rt: &impl Abort, alloc: Global, bytes: &[u8], want: &str) -> Result<(), Fail> {
+    let mut input = Plain::new(bytes);
+    let got = match run_compare(alloc, &mut input, OFF) {
+        Ok(compared) => shown(alloc, compared)?,
+        Err(error) => error.to_string(alloc)?,
+    };
+    assert_eq!(rt; got.as_str(), want);
+    Ok(())
+}
+
+/// A fault at the end of a text.
+const FAULT: &str =
+    "unexpected end-of-file\n     --> <anon>:1:4\n      |\n    1 | a \"\n      |    ^";
 
 #[test]
 fn texts_are_compared(rt: HostRuntime) -> Result<(), Fail> {
-    let rows: [(&[u8], &str); 6] = [
-        (b"", "same"),
-        (b"(a)\n", "same"),
-        (b"(a)", "(a)\n"),
-        (b"a\t;;\n", "a ;;\n"),
-        (b"a \"", "3 unexpected end-of-file"),
-        (b"a\n\xff", "input is not UTF-8 at byte 2"),
-    ];
-    for (bytes, want) in rows {
-        let got = compared(&rt, rt.alloc(), bytes)?;
-        assert_eq!(rt; got.as_str(), want);
-    }
-    Ok(())
+    let alloc = rt.alloc();
+    compares(&rt, alloc, b"", "same")?;
+    compares(&rt, alloc, b"(a)\n", "same")?;
+    compares(&rt, alloc, b"(a)", "(a)\n")?;
+    compares(&rt, alloc, b"a\t;;\n", "a ;;\n")?;
+    compares(&rt, alloc, b"a \"", FAULT)?;
+    compares(&rt, alloc, b"a\n\xff", "input is not UTF-8 at byte 2")
 }

@@ -1,6 +1,7 @@
 //! The lists as JSON: the words of a command line, a text, and the lines.
 use super::shown::each_answers;
 use crate::tests::OFF;
+use std::alloc::Global;
 use std::test::Fail;
 use wat_commands::ends::Plain;
 use wat_commands::run::{run_json_list, run_json_sig};
@@ -33,6 +34,26 @@ fn lines_of_json(rt: HostRuntime) -> Result<(), Fail> {
     each_answers(&rt, rt.alloc(), LINES)
 }
 
+/// What the list of a text is, which has no fault.
+fn list(alloc: Global, text: &str) -> Result<Vec<u8>, Fail> {
+    let mut input = Plain::new(text.as_bytes());
+    let mut output = Plain::new(Vec::new(alloc));
+    match run_json_list(alloc, &mut input, &mut output, OFF) {
+        Ok(None) => Ok(output.into_inner()),
+        _ => Err(Fail::from("the run is refused, or there is a fault")),
+    }
+}
+
+/// The same of the tokens that count.
+fn sig(alloc: Global, text: &str) -> Result<Vec<u8>, Fail> {
+    let mut input = Plain::new(text.as_bytes());
+    let mut output = Plain::new(Vec::new(alloc));
+    match run_json_sig(alloc, &mut input, &mut output, OFF, &[]) {
+        Ok(None) => Ok(output.into_inner()),
+        _ => Err(Fail::from("the run is refused, or there is a fault")),
+    }
+}
+
 #[test]
 fn lines_longer_than_a_block(rt: HostRuntime) -> Result<(), Fail> {
     let name = "s\u{1}".repeat(rt.alloc(), 30_000)?;
@@ -44,15 +65,7 @@ fn lines_longer_than_a_block(rt: HostRuntime) -> Result<(), Fail> {
         "{\"offset\":1,\"length\":60002,\"kind\":\"LineComment\",\"text\":\";;",
         "\",\"line\":2,\"column\":1}\n"
     )?;
-    let mut input = Plain::new(text.as_bytes());
-    let mut output = Plain::new(Vec::new(rt.alloc()));
-    let run = run_json_list(rt.alloc(), &mut input, &mut output, OFF);
-    assert!(rt; matches!(&run, Ok(None)));
-    assert_eq!(rt; output.into_inner().as_slice(), want.as_bytes());
-    let mut input = Plain::new(text.as_bytes());
-    let mut output = Plain::new(Vec::new(rt.alloc()));
-    let run = run_json_sig(rt.alloc(), &mut input, &mut output, OFF, &[]);
-    assert!(rt; matches!(&run, Ok(None)));
-    assert!(rt; output.into_inner().is_empty());
+    assert_eq!(rt; list(rt.alloc(), &text)?.as_slice(), want.as_bytes());
+    assert!(rt; sig(rt.alloc(), &text)?.is_empty());
     Ok(())
 }

@@ -71,16 +71,26 @@ impl<'a> Inputs for Folder<'a> {
     }
 }
 
-/// The status, and what is written and reported, as one text.
-fn answered(alloc: Global, words: &str, folder: &Folder<'_>) -> Result<String, Fail> {
+/// The status, and what is written and reported.
+fn response<I: Inputs>(alloc: Global, words: &[String], inputs: &I) -> (u8, Vec<u8>, Vec<u8>) {
     let mut output = Plain::new(Vec::new(alloc));
     let mut errors = Vec::new(alloc);
-    let words = words_of(alloc, words)?;
-    let status = respond(alloc, &words, folder, &mut output, &mut errors);
-    let lines = output.into_inner();
-    let written = str::from_utf8(&lines).map_err(|_| "the lines are not UTF-8")?;
-    let reported = str::from_utf8(&errors).map_err(|_| "the report is not UTF-8")?;
+    let status = respond(alloc, words, inputs, &mut output, &mut errors);
+    (status, output.into_inner(), errors)
+}
+
+/// A status, and what is written and reported, as one text.
+fn shown(alloc: Global, status: u8, lines: &[u8], errors: &[u8]) -> Result<String, Fail> {
+    let written = str::from_utf8(lines).map_err(|_| "the lines are not UTF-8")?;
+    let reported = str::from_utf8(errors).map_err(|_| "the report is not UTF-8")?;
     Ok(format!(in alloc; "{status}\n{written}{reported}")?)
+}
+
+/// The status, and what is written and reported, as one text.
+pub(super) fn answered<I: Inputs>(alloc: Global, words: &str, inputs: &I) -> Result<String, Fail> {
+    let words = words_of(alloc, words)?;
+    let (status, lines, errors) = response(alloc, &words, inputs);
+    shown(alloc, status, &lines, &errors)
 }
 
 /// Each in quotes, behind what stands there.

@@ -1,35 +1,21 @@
 //! What counts in a text, and what a parser replies to calls: the words of a command line, a text,
 //! and the lines.
-use super::responses::Alone;
-use super::words_of;
+use super::responses::{Alone, answered};
 use crate::tests::OFF;
 use std::alloc::Global;
 use std::process::Abort;
-use std::str;
 use std::test::Fail;
 use wat_commands::Settings;
 use wat_commands::ends::Plain;
-use wat_commands::respond::respond;
 use wat_commands::run::{RunError, run_play, run_sig};
-
-/// The status, and what is written and reported, as one text.
-pub(super) fn responded(alloc: Global, words: &str, text: &str) -> Result<String, Fail> {
-    let mut output = Plain::new(Vec::new(alloc));
-    let mut errors = Vec::new(alloc);
-    let words = words_of(alloc, words)?;
-    let status = respond(alloc, &words, &Alone(text), &mut output, &mut errors);
-    let lines = output.into_inner();
-    let written = str::from_utf8(&lines).map_err(|_| "the lines are not UTF-8")?;
-    let reported = str::from_utf8(&errors).map_err(|_| "the report is not UTF-8")?;
-    Ok(format!(in alloc; "{status}\n{written}{reported}")?)
-}
+use wat_lex::error::Error;
 
 /// Whether the words and the text of each row are answered as it says.
 pub(super) fn each_answers(rt: &impl Abort, alloc: Global, rows: &str) -> Result<(), Fail> {
     for row in rows.split('\x1e') {
         let (asked, want) = row.split_once(" => ").unwrap_or((row, ""));
         let (words, text) = asked.split_once(" | ").unwrap_or((asked, ""));
-        let got = responded(alloc, words, text)?;
+        let got = answered(alloc, words, &Alone(text))?;
         assert_eq!(rt; got.as_str(), want, "{words}: {text}");
     }
     Ok(())
@@ -89,54 +75,54 @@ fn replies_to_calls(rt: HostRuntime) -> Result<(), Fail> {
     each_answers(&rt, rt.alloc(), REPLIES)
 }
 
+/// Settings, calls, a text, and what is answered.
+const SETTINGS: &str = "\
+    play take look | \"\\u{1__0}\" ;;\u{202e} => 0\n0..10 String\nfault 13 likely-confusing unicode character found '\\u{202e}'\n\x1e\
+    --allow-confusing play take look | \"\\u{1__0}\" ;;\u{202e} => 0\n0..10 String\nend\n\x1e\
+    --strict-underscores play look | \"\\u{1__0}\" ;;\u{202e} => 0\nfault 6 bare underscore in numeric literal\n\x1e\
+    --strict-underscores --allow-confusing play comment look | (;\u{202e};)\"\\u{1__0}\" => 0\ncomment 0..7\n\
+    fault 13 bare underscore in numeric literal\n";
+
 #[test]
 fn settings_of_calls(rt: HostRuntime) -> Result<(), Fail> {
-    let text = "\"\\u{1__0}\" ;;\u{202e}";
-    let rows = [
-        (
-            "play take look",
-            "fault 13 likely-confusing unicode character found '\\u{202e}'\n",
-        ),
-        ("--allow-confusing play take look", "end\n"),
-    ];
-    for (words, last) in rows {
-        let got = responded(rt.alloc(), words, text)?;
-        let want = format!(in rt.alloc(); "0\n0..10 String\n{last}")?;
-        assert_eq!(rt; got.as_str(), want.as_str(), "{words}");
-    }
-    let strict = responded(rt.alloc(), "--strict-underscores play look", text)?;
-    assert_eq!(rt;
-        strict.as_str(),
-        "0\nfault 6 bare underscore in numeric literal\n"
-    );
-    let both = "--strict-underscores --allow-confusing play comment look";
-    let replies = responded(rt.alloc(), both, "(;\u{202e};)\"\\u{1__0}\"")?;
-    let fault = "fault 13 bare underscore in numeric literal";
-    let want = format!(in rt.alloc(); "0\ncomment 0..7\n{fault}\n")?;
-    assert_eq!(rt; replies.as_str(), want.as_str());
-    Ok(())
+    each_answers(&rt, rt.alloc(), SETTINGS)
 }
 
 #[test]
 fn many_open_annotations(rt: HostRuntime) -> Result<(), Fail> {
     let text = "(@a".repeat(rt.alloc(), 10_000)?;
-    let got = responded(rt.alloc(), "play look", &text)?;
+    let got = answered(rt.alloc(), "play look", &Alone(&text))?;
     assert_eq!(rt; got.as_str(), "0\nfault 1 unclosed annotation\n");
     Ok(())
 }
 
+/// How `sig` of bytes ended, and what it wrote.
+fn sig(
+    alloc: Global,
+    bytes: &[u8],
+    settings: Settings,
+    names: &[String],
+) -> (Result<Option<Error>, RunError>, Vec<u8>) {
+    let mut input = Plain::new(bytes);
+    let mut output = Plain::new(Vec::new(alloc));
+    let answer = run_sig(alloc, &mut input, &mut output, settings, names);
+    (answer, output.into_inner())
+}
+
+/// How `play` of bytes and no calls ended, and what it wrote.
+fn play(alloc: Global, bytes: &[u8], settings: Settings) -> (Result<(), RunError>, Vec<u8>) {
+    let mut input = Plain::new(bytes);
+    let mut output = Plain::new(Vec::new(alloc));
+    let answer = run_play(alloc, &mut input, &mut output, settings, &[]);
+    (answer, output.into_inner())
+}
+
 #[test]
 fn an_empty_name(rt: HostRuntime) -> Result<(), Fail> {
-    let mut names = Vec::new(rt.alloc());
-    names.push(String::new(rt.alloc()))?;
-    let mut input = Plain::new(b"(@a) x".as_slice());
-    let mut output = Plain::new(Vec::new(rt.alloc()));
-    let run = run_sig(rt.alloc(), &mut input, &mut output, OFF, &names);
-    assert!(rt; matches!(&run, Ok(None)));
-    assert_eq!(rt;
-        output.into_inner().as_slice(),
-        b"5..6 Keyword\n".as_slice()
-    );
+    let names = [String::new(rt.alloc())];
+    let (answer, written) = sig(rt.alloc(), b"(@a) x", OFF, &names);
+    assert!(rt; matches!(&answer, Ok(None)));
+    assert_eq!(rt; written.as_slice(), b"5..6 Keyword\n".as_slice());
     Ok(())
 }
 
@@ -147,15 +133,9 @@ fn bytes_that_are_no_text(rt: HostRuntime) {
             allow,
             strict: false,
         };
-        let mut input = Plain::new(b"x \xff".as_slice());
-        let mut output = Plain::new(Vec::new(rt.alloc()));
-        let run = run_sig(rt.alloc(), &mut input, &mut output, settings, &[]);
-        assert!(rt; matches!(&run, Err(RunError::NotUtf8(_))));
-        assert!(rt; output.into_inner().is_empty());
-        let mut input = Plain::new(b"x \xff".as_slice());
-        let mut output = Plain::new(Vec::new(rt.alloc()));
-        let run = run_play(rt.alloc(), &mut input, &mut output, settings, &[]);
-        assert!(rt; matches!(&run, Err(RunError::NotUtf8(_))));
-        assert!(rt; output.into_inner().is_empty());
+        let (answer, written) = sig(rt.alloc(), b"x \xff", settings, &[]);
+        assert!(rt; matches!(&answer, Err(RunError::NotUtf8(_))) && written.is_empty());
+        let (answer, written) = play(rt.alloc(), b"x \xff", settings);
+        assert!(rt; matches!(&answer, Err(RunError::NotUtf8(_))) && written.is_empty());
     }
 }

@@ -1,0 +1,32 @@
+//! Errors that a parser makes.
+use crate::buffers::buffer_of;
+use crate::cursors::is_at_start;
+use crate::row::Row;
+use wat_lex::error::Error;
+use wat_lex::token::Span;
+use wat_lex_requests::run::{Ending, Expected, Run};
+
+/// The text, whose second line a parser of it does not stand at.
+const TEXT: &str = "a\n (b)";
+
+/// An error at the current span.
+const HERE: &str = "no number\n     --> <anon>:1:1\n      |\n    1 | a\n      | ^";
+
+/// An error at the group.
+const AT: &str = "no number\n     --> <anon>:2:3\n      |\n    2 |  (b)\n      |   ^";
+
+pub fn ending(run: &mut Run<'_>, row: Row<'_>) -> Result<Ending, Error> {
+    let buffer = buffer_of(run.alloc(), TEXT)?;
+    let parser = buffer.parser();
+    let (error, expected) = match row.of {
+        "here" => (parser.error("no number"), Expected::Refusal(HERE, 0)),
+        _ => (
+            parser.error_at(Span::from_offset(4), "no number"),
+            Expected::Refusal(AT, 4),
+        ),
+    };
+    run.call_has_ended();
+    Ok(run
+        .refusal(&error, expected)
+        .with_state(is_at_start(&parser)))
+}
