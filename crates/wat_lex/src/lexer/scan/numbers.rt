@@ -24,17 +24,15 @@ fn is_digit(b: u8, hex: bool) -> bool
     }
 }
 
-fn is_exponent_letter(b: u8, hex: bool) -> bool
+pub fn is_exponent_letter(b: u8, hex: bool) -> bool
     ensures { result ≡ is_exponent_letter hex b }
 {
-    if hex {
-        b == b'p' || b == b'P'
-    } else {
-        b == b'e' || b == b'E'
-    }
+    // With this bit a letter is a small one.
+    let small = b | 0x20;
+    if hex { small == b'p' } else { small == b'e' }
 }
 
-fn sign_of(word: &[u8]) -> Sign
+pub fn sign_of(word: &[u8]) -> Sign
     ensures { result ≡ sign_of word.now }
 {
     match word {
@@ -67,7 +65,7 @@ fn has_underscores(word: &[u8]) -> bool
 }
 
 /// What follows a prefix of the text.
-fn after<'a>(text: &'a [u8], prefix: &[u8]) -> Option<&'a [u8]>
+pub fn after<'a>(text: &'a [u8], prefix: &[u8]) -> Option<&'a [u8]>
     ensures { MatchOption result ((rest : List ℕ) → text.now ≢ prefix.now ++ rest)
         (λ rest. text.now ≡ prefix.now ++ rest.now) }
 {

@@ -13,6 +13,7 @@ use crate::lexer::faults::LexFault;
 use crate::lexer::kinds::{FloatKind, Outline, Shape, Stride, TokenKind};
 use crate::lexer::scan::classes::idchar_len;
 use crate::lexer::scan::numbers::{classify, plain_float, plain_integer};
+use crate::lexer::scan::short::{short_decimal, short_hexadecimal, short_payload};
 use crate::lexer::scan::strings::string_len;
 use crate::lexer::settings::Settings;
 
@@ -155,33 +156,63 @@ fn other_kind(text: &[u8], len: usize, stride: Stride) -> TokenKind
     }
 }
 
-/// The same of a word that mostly begins with a letter.
+/// The kind of the word of so many idchars at the start, which no block told.
 #[inline(never)]
-fn letters_kind(text: &[u8], len: usize, stride: Stride) -> TokenKind
+fn number_kind(text: &[u8], len: usize, stride: Stride) -> TokenKind
     requires { len ≤ length text.now }
     ensures { WordKind (take len text.now) result }
 {
-    let word = &text[..len];
-    if is_surely_keyword(word) {
-        return TokenKind::Keyword;
+    if let Some(kind) = plain_integer(text, len, stride) {
+        return kind;
     }
-    match word {
-        b"inf" => TokenKind::Float(FloatKind::Inf { negative: false }),
-        _ => other_kind(text, len, stride),
-    }
+    other_kind(text, len, stride)
 }
 
-/// The kind of the word of so many idchars at the start.
+/// The kind of the word of so many idchars at the start, which may begin with `0x` or `nan:0x`.
+#[inline(never)]
+fn prefixed_kind(text: &[u8], len: usize, stride: Stride) -> TokenKind
+    requires { len ≤ length text.now }
+    ensures { WordKind (take len text.now) result }
+{
+    match &text[..len] {
+        [b'0', b'x', ..] if stride == Stride::Block => {
+            if let Some(kind) = short_hexadecimal(text, len) {
+                return kind;
+            }
+        }
+        [b'n', ..] if stride == Stride::Block => {
+            if let Some(kind) = short_payload(text, len) {
+                return kind;
+            }
+        }
+        _ => {}
+    }
+    number_kind(text, len, stride)
+}
+
+/// The kind of the word of so many idchars at the start. Most numbers, and keywords that begin as
+/// `inf` and `nan` do, are told here.
 #[inline(always)]
 pub fn word_kind(text: &[u8], len: usize, stride: Stride) -> TokenKind
     requires { len ≤ length text.now }
     ensures { WordKind (take len text.now) result }
 {
-    if let [b'a'..=b'z', ..] = &text[..len] {
-        return letters_kind(text, len, stride);
+    let word = &text[..len];
+    match word {
+        [b'a'..=b'z', ..] => {
+            if is_surely_keyword(word) {
+                return TokenKind::Keyword;
+            }
+            if let b"inf" = word {
+                return TokenKind::Float(FloatKind::Inf { negative: false });
+            }
+        }
+        [_, ..] if stride == Stride::Block && len <= 16 && text.len() >= 16 => {
+            if let Some(kind) = short_decimal(text, len) {
+                return kind;
+            }
+        }
+        _ => {}
     }
-    if let Some(kind) = plain_integer(text, len, stride) {
-        return kind;
-    }
-    other_kind(text, len, stride)
+    prefixed_kind(text, len, stride)
 }
