@@ -63,7 +63,7 @@ module _ (hex : Bool) (text : List ℕ) (len i : ℕ) (within : len ≤ length t
   pub short_tail_parts : (n : ℕ) → i + 1 + n ≤ len → n ≤ prefix_len (is_digit hex) (drop (i + 1) text) → PlainExponent hex (drop (i + 1 + n) (take len text)) → PlainTail hex (drop i (take len text))
   short_tail_parts n fits h x =
       subst (PlainTail hex) (sym from_dot) (tail_of_parts hex (drop (i + 1) (take len text)) n (some_pass (is_digit hex) text len (i + 1) n fits h)
-          (subst (PlainExponent hex) (sym (drop-drop n (i + 1) (take len text))) x))
+      (subst (PlainExponent hex) (sym (drop-drop n (i + 1) (take len text))) x))
 
 -- first digits from a place on, and what follows them
 pub short_decimals : (hex : Bool) (text : List ℕ) (len i n : ℕ) → i + n ≤ len → n ≢ 0 → n ≤ prefix_len (is_digit hex) (drop i text) → PlainTail hex (drop (i + n) (take len text)) → PlainDecimals hex (drop i (take len text))

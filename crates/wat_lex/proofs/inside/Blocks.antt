@@ -240,4 +240,5 @@ clear_pass p text bits i marked place =
     let from : bit_or bits (m * 2 ^ 16) / 2 ^ i ≡ failures_and p (drop i v) m = ap (λ n. n / 2 ^ i) joined ∙ failures_from p m i v (omega (arith, long)) in
     let parts : i + (16 - i) ≡ 16 = omega arith in
     let there : drop i v ≡ take (16 - i) (drop i text) = ap (λ k. drop i (take k text)) (sym parts) ∙ drop-take i (16 - i) text in
-    omega (arith, ap (count_trailing_zeros 64) from, lowest_fails p 64 m (drop i v) refl, ap (prefix_len p) there, front_passes p (16 - i) (drop i text))
+    let zeros : count_trailing_zeros 64 (bit_or bits 18446744073709486080 / 2 ^ i) ≡ count_trailing_zeros 64 (failures_and p (drop i v) m) = ap (count_trailing_zeros 64) from in
+    omega (arith, zeros, lowest_fails p 64 m (drop i v) refl, ap (prefix_len p) there, front_passes p (16 - i) (drop i text))

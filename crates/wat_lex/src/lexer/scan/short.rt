@@ -44,14 +44,7 @@ fn is_short_exponent(text: &[u8], len: usize, i: usize, hex: bool, digits: u64) 
 /// Whether what stands in the word of so many bytes from a place on can follow a float's first
 /// digits, and has no underscores.
 #[inline(always)]
-fn is_short_tail(
-    text: &[u8],
-    len: usize,
-    i: usize,
-    hex: bool,
-    others: u64,
-    digits: u64,
-) -> bool
+fn is_short_tail(text: &[u8], len: usize, i: usize, hex: bool, others: u64, digits: u64) -> bool
     requires within { len ≤ length text.now }
     requires short { len ≤ 16 }
     requires place { i < len }

@@ -24,8 +24,7 @@ returns-then-end-len c =
     let marked : FirstFailures is_ascii_digit text c.other_than_digits-others.result = record { long = c.requires.long; each = c.other_than_digits-others.ensures ∙ ap (failures is_ascii_digit) c.block_at.ensures } in
     let cut : unsigned w ≡ drop start w = c.sign_len-start.ensures.unsigned w c.sign_of-sign.ensures in
     let all : prefix_len is_ascii_digit (drop start w) ≡ length (drop start w) = all_pass is_ascii_digit text c.args.len start (omega arith) (omega (arith, c.clear_from.ensures.clear is_ascii_digit text marked)) in
-    let some : drop start w ≢ [] = λ e. absurd (omega (arith, ap length e, length-drop start w, length-take-le c.args.len text (omega arith))) in
-    (
+    let some : drop start w ≢ [] = λ e. absurd (omega (arith, ap length e, length-drop start w, length-take-le c.args.len text (omega arith))) in (
       subst (λ x. IntegralPart false x []) (sym cut) (decimal (digits_alone (drop start w) some all)),
       c.sign_of-sign.ensures,
       sym (digits_no_underscore w (subst (λ x. prefix_len is_ascii_digit x ≡ length x) (sym cut) all)),

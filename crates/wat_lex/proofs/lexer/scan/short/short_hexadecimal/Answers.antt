@@ -38,8 +38,7 @@ returns-then-end-number c =
     let cut = prefixed w digits _ c.in-Some.ensures c.as_slice.ensures in
     let there = digits_there text digits _ behind c.args.len c.requires c.in-Some.ensures c.as_slice.ensures (take_rest text 2) in
     let all : prefix_len is_hex digits ≡ length digits = subst (λ x. prefix_len is_hex x ≡ length x) (sym there) (taken_pass is_hex (length digits) behind (omega (arith, c.clear_from-end.ensures.clear is_hex behind marked))) in
-    let some : digits ≢ [] = λ e. c.if-number-eq0.false (ap length e) in
-    (
+    let some : digits ≢ [] = λ e. c.if-number-eq0.false (ap length e) in (
       subst (λ x. IntegralPart true x []) (sym cut) (hexadecimal (hex_digits_alone digits some all)),
       no_sign_there w digits _ c.in-Some.ensures c.as_slice.ensures,
       sym (hex_digits_no_underscore w digits cut all),
