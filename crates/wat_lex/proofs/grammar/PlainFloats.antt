@@ -43,7 +43,7 @@ none_there : (p : ℕ → Bool) (d : ℕ) (t : List ℕ) → p d ≡ false → p
 none_there p d t e = ap (λ b. cond b (1 + prefix_len p t) 0) e
 
 -- the first of some that pass, and the others
-first_passes : (p : ℕ → Bool) (n d : ℕ) (t : List ℕ) → suc n ≤ prefix_len p (d ∷ t) → (p d ≡ true) × (n ≤ prefix_len p t)
+pub first_passes : (p : ℕ → Bool) (n d : ℕ) (t : List ℕ) → suc n ≤ prefix_len p (d ∷ t) → (p d ≡ true) × (n ≤ prefix_len p t)
 first_passes p n d t h =
     elim (cases_Bool (p d)) [
       | inl e ↦ (e, omega (arith, h, one_more p d t e))

@@ -49,9 +49,9 @@ short_exponent hex text body len i within one at letter some h =
 -- what follows a dot from a place on
 module _ (hex : Bool) (text : List ℕ) (len i : ℕ) (within : len ≤ length text) (place : i < len) (dot : get_or text i 0 ≡ 46) where
   from_dot : drop i (take len text) ≡ 46 ∷ drop (i + 1) (take len text)
-  from_dot = dot_there i text len within place dot
+  from_dot = dot_there i text len within place dot ∙ ap (λ t. 46 ∷ t) (drop-drop 1 i (take len text))
     where
-      dot_there : (i : ℕ) (text : List ℕ) (len : ℕ) → len ≤ length text → i < len → get_or text i 0 ≡ 46 → drop i (take len text) ≡ 46 ∷ drop (i + 1) (take len text)
+      dot_there : (i : ℕ) (text : List ℕ) (len : ℕ) → len ≤ length text → i < len → get_or text i 0 ≡ 46 → drop i (take len text) ≡ 46 ∷ drop 1 (drop i (take len text))
       dot_there i [] len within place dot = absurd (omega arith)
       dot_there i (x ∷ xs) zero within place dot = absurd (omega arith)
       dot_there zero (x ∷ xs) (suc len) within place dot = ap (λ c. c ∷ take len xs) dot

@@ -234,7 +234,7 @@ pub clear_pass : (p : ℕ → Bool) (text : List ℕ) (bits i : ℕ) → FirstFa
 clear_pass p text bits i marked place =
     let v = chunk 0 16 text in
     let long : length v ≡ 16 = length-chunk 0 16 text marked.long in
-    let m = 281474976710655 in
+    let m : ℕ = 281474976710655 in
     let small : bits < 2 ^ 16 = omega (arith, marked.each, mask_l-lt (map (λ x. not (p x)) v), length-map v (λ x. not (p x)), ap (λ n. 2 ^ n) (length-map v (λ x. not (p x)) ∙ long)) in
     let joined : bit_or bits (m * 2 ^ 16) ≡ failures_and p v m = or_shifted_r m 16 bits small ∙ ap₂ (λ a n. m * 2 ^ n + a) marked.each (sym long) ∙ sym (failures_below p v m) in
     let from : bit_or bits (m * 2 ^ 16) / 2 ^ i ≡ failures_and p (drop i v) m = ap (λ n. n / 2 ^ i) joined ∙ failures_from p m i v (omega (arith, long)) in

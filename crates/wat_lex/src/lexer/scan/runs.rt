@@ -175,7 +175,7 @@ fn prefixed_kind(text: &[u8], len: usize, stride: Stride) -> TokenKind
     ensures { WordKind (take len text.now) result }
 {
     match &text[..len] {
-        [b'0', b'x', ..] if stride == Stride::Block => {
+        [b'0', ..] if stride == Stride::Block => {
             if let Some(kind) = short_hexadecimal(text, len) {
                 return kind;
             }

@@ -70,7 +70,7 @@ fn sign_len(sign: Sign) -> usize
 {
     match sign {
         Sign::None => 0,
-        Sign::Plus | Sign::Minus => 1,
+        _ => 1,
     }
 }
 

@@ -6,9 +6,9 @@ use Rattle.wat_lex.specs.grammar.Numbers.{unsigned, sign_of, IntegralPart, hexad
 use Rattle.wat_lex.specs.declared.lexer.kinds.Sign.TheVariants as sign
 use Rattle.wat_lex.specs.inside.Blocks.{failures, FirstFailures}
 use Rattle.wat_lex.specs.inside.ScannedNumbers.{PlainDecimals}
-use Rattle.wat_lex.proofs.grammar.PlainFloats.{hexadecimal_float}
+use Rattle.wat_lex.proofs.grammar.PlainFloats.{decimals_then, hexadecimal_float}
 use Rattle.wat_lex.proofs.grammar.PlainIntegers.{hex_digits_alone, hex_digits_no_underscore, taken_pass}
-use Rattle.wat_lex.proofs.grammar.ShortNumbers.{short_decimals, word_from}
+use Rattle.wat_lex.proofs.grammar.ShortNumbers.{some_pass, word_from}
 use Rattle.wat_lex.proofs.lexer.scan.short.short_hexadecimal.Goals as goal
 
 prefixed : (w digits given : List ℕ) → w ≡ given ++ digits → given ≡ 48 ∷ 120 ∷ [] → unsigned w ≡ 48 ∷ 120 ∷ digits
@@ -52,5 +52,7 @@ returns c =
     let behind = take (length text - 2) (drop 2 text) in
     let marked : FirstFailures is_hex behind c.other_than_hex_digits-others.result = record { long = omega (arith, length-drop 2 text, ap length (take_rest text 2)); each = c.other_than_hex_digits-others.ensures ∙ ap (failures is_hex) c.block_at-block.ensures } in
     let there = digits_there text digits _ behind c.args.len c.requires c.in-Some.ensures c.as_slice.ensures (take_rest text 2) in
-    let parts = short_decimals true behind (length digits) 0 c.clear_from-end.result (omega arith) (λ e. absurd (omega arith)) (c.clear_from-end.ensures.clear is_hex behind marked) (c.is_short_tail.ensures c.if-not-is_short_tail.false) in
+    let n = c.clear_from-end.result in
+    let few : n ≤ prefix_len is_hex (take (length digits) behind) = some_pass is_hex behind (length digits) 0 n (omega arith) (c.clear_from-end.ensures.clear is_hex behind marked) in
+    let parts = decimals_then true (take (length digits) behind) n few (λ e. absurd (omega arith)) (c.is_short_tail.ensures c.if-not-is_short_tail.false) in
     hexadecimal_float w digits _ (prefixed w digits _ c.in-Some.ensures c.as_slice.ensures) (refl, subst (PlainDecimals true) (sym there) parts)
