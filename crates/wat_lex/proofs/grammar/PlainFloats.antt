@@ -6,7 +6,7 @@ use Rattle.std.specs.Char.{is_ascii_digit}
 use Rattle.std.specs.List.{prefix_len}
 use Rattle.std.proofs.lemmas.List.{drop-drop, drop-take, length-drop, length-take-le}
 use Rattle.std.proofs.lemmas.Bool.{cases_Bool, ne_eqb}
-use Rattle.wat_lex.specs.grammar.Numbers.{Digits, last, next, is_digit, is_exponent_letter, exponent, Tail, fraction, both, bare, filled, unsigned, has_underscores, Number, Decimals, decimals, decimal, hexadecimal}
+use Rattle.wat_lex.specs.grammar.Numbers.{Digits, last, next, is_digit, is_exponent_letter, exponent, fraction, both, bare, filled, unsigned, has_underscores, Number, Decimals, decimals, decimal, hexadecimal}
 use Rattle.wat_lex.specs.inside.ScannedNumbers.{IsPlainFloat, PlainDecimals, PlainExponent, PlainTail}
 use Rattle.wat_lex.proofs.grammar.Digits.{underscore_no_digit}
 use Rattle.wat_lex.proofs.grammar.PlainIntegers.{digits_alone, digits_of, digits_of_word, digits_no_underscore, no_underscore, signed_no_underscore, taken_pass, unsigned_is_shorter}

@@ -4,7 +4,7 @@ use Rattle.std.specs.Prelude.{◌==◌}
 use Rattle.std.specs.Char.{is_ascii_digit}
 use Rattle.std.specs.List.{prefix_len}
 use Rattle.std.proofs.lemmas.List.{drop-drop, drop-take, length-drop, length-take-le}
-use Rattle.wat_lex.specs.grammar.Numbers.{Digits, is_digit, is_exponent_letter, sign_of, unsigned}
+use Rattle.wat_lex.specs.grammar.Numbers.{is_digit, is_exponent_letter, sign_of, unsigned}
 use Rattle.wat_lex.specs.inside.ScannedNumbers.{PlainDecimals, PlainExponent, PlainTail}
 use Rattle.wat_lex.specs.declared.lexer.kinds.Sign.{Sign}
 use Rattle.wat_lex.specs.declared.lexer.kinds.Sign.TheVariants as sign

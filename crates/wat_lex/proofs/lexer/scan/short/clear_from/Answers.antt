@@ -1,5 +1,3 @@
-use Rattle.std.proofs.Common.{arith}
-use Rattle.std.proofs.lemmas.Nat.{trailing_le}
 use Rattle.wat_lex.proofs.inside.Blocks.{clear_pass}
 use Rattle.wat_lex.proofs.lexer.scan.short.clear_from.Goals as goal
 

@@ -3,7 +3,6 @@ use Rattle.std.proofs.lemmas.Bool.{leb-true}
 use Rattle.std.proofs.lemmas.List.{take_rest, length-take-le}
 use Rattle.std.specs.Char.{is_ascii_digit}
 use Rattle.std.specs.List.{prefix_len}
-use Rattle.wat_lex.specs.grammar.Numbers.{unsigned}
 use Rattle.wat_lex.proofs.grammar.ShortNumbers.{short_exponent}
 use Rattle.wat_lex.proofs.lexer.scan.short.is_short_exponent.Goals as goal
 

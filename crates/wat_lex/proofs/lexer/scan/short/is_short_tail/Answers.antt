@@ -1,5 +1,4 @@
-use Rattle.std.proofs.Common.{◌≤◌, ◌+◌, ◌-◌, drop, arith}
-use Rattle.std.specs.List.{prefix_len}
+use Rattle.std.proofs.Common.{arith}
 use Rattle.wat_lex.specs.grammar.Numbers.{is_digit, power}
 use Rattle.wat_lex.proofs.grammar.ShortNumbers.{short_tail_digits, short_tail_parts}
 use Rattle.wat_lex.proofs.lexer.scan.short.is_short_tail.Goals as goal

@@ -1,4 +1,4 @@
-use Rattle.std.proofs.Common.{◌∙◌, ◌≤◌, ◌+◌, ◌-◌, ◌≡◌, ◌≢◌, ◌++◌, [], true, sym, ap, length, take, drop, length-drop, arith, subst}
+use Rattle.std.proofs.Common.{◌∙◌, ◌+◌, ◌-◌, ◌≡◌, ◌≢◌, ◌++◌, [], true, sym, ap, length, take, drop, length-drop, arith, subst}
 use Rattle.std.proofs.lemmas.List.{length-take-le, take_rest}
 use Rattle.std.specs.List.{prefix_len}
 use Rattle.std.specs.Prelude.{codes}
