@@ -97,8 +97,6 @@ pub fn first_outline(text: &str, flags: Settings, stride: Stride) -> Outline
         Start::Semicolon => semicolon(text, flags),
         Start::Punctuation => outline(Shape::Reserved, 1),
         Start::Quote => run_outline(text, 0, flags),
-        // In a place of its own, so that a word that may be a number is known to be one behind it.
-        Start::Idchar(Shape::Word) => idchars(text, Shape::Word, flags, stride),
         Start::Idchar(shape) => idchars(text, shape, flags, stride),
         Start::Other => outline(Shape::Fault, 0),
     }

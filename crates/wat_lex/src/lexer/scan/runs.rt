@@ -13,7 +13,7 @@ use crate::lexer::faults::LexFault;
 use crate::lexer::kinds::{FloatKind, Outline, Shape, Stride, TokenKind};
 use crate::lexer::scan::classes::idchar_len;
 use crate::lexer::scan::numbers::{classify, plain_float, plain_integer};
-use crate::lexer::scan::short::{short_decimal, short_hexadecimal, short_payload};
+use crate::lexer::scan::short::{short_decimal, short_prefixed};
 use crate::lexer::scan::strings::string_len;
 use crate::lexer::settings::Settings;
 
@@ -168,28 +168,6 @@ fn number_kind(text: &[u8], len: usize, stride: Stride) -> TokenKind
     other_kind(text, len, stride)
 }
 
-/// The kind of the word of so many idchars at the start, which may begin with `0x` or `nan:0x`.
-#[inline(never)]
-fn prefixed_kind(text: &[u8], len: usize, stride: Stride) -> TokenKind
-    requires { len ≤ length text.now }
-    ensures { WordKind (take len text.now) result }
-{
-    match &text[..len] {
-        [b'0', ..] if stride == Stride::Block => {
-            if let Some(kind) = short_hexadecimal(text, len) {
-                return kind;
-            }
-        }
-        [b'n', ..] if stride == Stride::Block => {
-            if let Some(kind) = short_payload(text, len) {
-                return kind;
-            }
-        }
-        _ => {}
-    }
-    number_kind(text, len, stride)
-}
-
 /// The kind of the word of so many idchars at the start. Most numbers, and keywords that begin as
 /// `inf` and `nan` do, are told here.
 #[inline(always)]
@@ -214,5 +192,10 @@ pub fn word_kind(text: &[u8], len: usize, stride: Stride) -> TokenKind
         }
         _ => {}
     }
-    prefixed_kind(text, len, stride)
+    if stride == Stride::Block {
+        if let Some(kind) = short_prefixed(text, len).kind() {
+            return kind;
+        }
+    }
+    number_kind(text, len, stride)
 }

@@ -4,7 +4,7 @@ ghost use Rattle.std.specs.Char.{is_ascii_digit};
 ghost use Rattle.std.specs.List.{prefix_len};
 ghost use Rattle.wat_lex.specs.grammar.Numbers.{is_digit, sign_of, unsigned, Number};
 ghost use Rattle.wat_lex.specs.inside.Blocks.{FirstFailures};
-ghost use Rattle.wat_lex.specs.inside.ScannedNumbers.{PlainExponent, PlainTail};
+ghost use Rattle.wat_lex.specs.inside.ScannedNumbers.{PlainExponent, PlainTail, prefixed_kind};
 
 use crate::lexer::kinds::{FloatKind, IntegerKind, Sign, TokenKind};
 use crate::lexer::scan::blocks::{block_at, other_than_digits, other_than_hex_digits};
@@ -106,19 +106,56 @@ pub fn short_decimal(text: &[u8], len: usize) -> Option<TokenKind>
     }))
 }
 
-/// The kind of the word of so many bytes at the start, where that is `0x` and behind it an integer
-/// or a float of at most 16 bytes without underscores.
+/// What a word is that begins with `0x` or `nan:0x`, in one byte: a kind takes memory to return.
+#[derive(Clone, Copy)]
+pub enum Prefixed {
+    /// An integer without sign and underscores.
+    Integer,
+    /// A float without sign and underscores.
+    Float,
+    /// A NaN with a payload, without sign and underscores.
+    Payload,
+    /// What one block does not tell.
+    Other,
+}
+
+impl Prefixed {
+    #[inline(always)]
+    pub fn kind(self) -> Option<TokenKind>
+        ensures { result ≡ prefixed_kind self }
+    {
+        match self {
+            Prefixed::Integer => Some(TokenKind::Integer(IntegerKind {
+                sign: Sign::None,
+                has_underscores: false,
+                hex: true,
+            })),
+            Prefixed::Float => Some(TokenKind::Float(FloatKind::Normal {
+                has_underscores: false,
+                hex: true,
+            })),
+            Prefixed::Payload => Some(TokenKind::Float(FloatKind::NanVal {
+                negative: false,
+                has_underscores: false,
+            })),
+            Prefixed::Other => None,
+        }
+    }
+}
+
+/// What the word of so many bytes at the start is, where that is `0x` and behind it an integer or a
+/// float of at most 16 bytes.
 #[inline(always)]
-pub fn short_hexadecimal(text: &[u8], len: usize) -> Option<TokenKind>
+fn short_hexadecimal(text: &[u8], len: usize) -> Prefixed
     requires { len ≤ length text.now }
-    ensures { IfSome result (λ kind. Number (take len text.now) kind) }
+    ensures { IfSome (prefixed_kind result) (λ kind. Number (take len text.now) kind) }
 {
     let Some(digits) = after(&text[..len], b"0x".as_slice()) else {
-        return None;
+        return Prefixed::Other;
     };
     let number = digits.len();
     if number > 16 || text.len() < 18 {
-        return None;
+        return Prefixed::Other;
     }
     let behind = &text[2..];
     let block = block_at(behind, 0);
@@ -126,43 +163,45 @@ pub fn short_hexadecimal(text: &[u8], len: usize) -> Option<TokenKind>
     let end = clear_from(others, 0);
     if end >= number {
         if number == 0 {
-            return None;
+            return Prefixed::Other;
         }
-        return Some(TokenKind::Integer(IntegerKind {
-            sign: Sign::None,
-            has_underscores: false,
-            hex: true,
-        }));
+        return Prefixed::Integer;
     }
     if end == 0 || !is_short_tail(behind, number, end, true, others, other_than_digits(block)) {
-        return None;
+        return Prefixed::Other;
     }
-    Some(TokenKind::Float(FloatKind::Normal {
-        has_underscores: false,
-        hex: true,
-    }))
+    Prefixed::Float
 }
 
-/// The kind of the word of so many bytes at the start, where that is `nan:0x` and at most 16 digits
-/// without underscores.
+/// What the word of so many bytes at the start is, where that is `nan:0x` and at most 16 digits.
 #[inline(always)]
-pub fn short_payload(text: &[u8], len: usize) -> Option<TokenKind>
+fn short_payload(text: &[u8], len: usize) -> Prefixed
     requires { len ≤ length text.now }
-    ensures { IfSome result (λ kind. Number (take len text.now) kind) }
+    ensures { IfSome (prefixed_kind result) (λ kind. Number (take len text.now) kind) }
 {
     let Some(digits) = after(&text[..len], b"nan:0x".as_slice()) else {
-        return None;
+        return Prefixed::Other;
     };
     let number = digits.len();
     if number == 0 || text.len() < 22 {
-        return None;
+        return Prefixed::Other;
     }
     let others = other_than_hex_digits(block_at(&text[6..], 0));
     if clear_from(others, 0) < number {
-        return None;
+        return Prefixed::Other;
     }
-    Some(TokenKind::Float(FloatKind::NanVal {
-        negative: false,
-        has_underscores: false,
-    }))
+    Prefixed::Payload
+}
+
+/// What the word of so many bytes at the start is, where it begins with `0x` or `nan:0x`.
+#[inline(never)]
+pub fn short_prefixed(text: &[u8], len: usize) -> Prefixed
+    requires { len ≤ length text.now }
+    ensures { IfSome (prefixed_kind result) (λ kind. Number (take len text.now) kind) }
+{
+    match &text[..len] {
+        [b'0', ..] => short_hexadecimal(text, len),
+        [b'n', ..] => short_payload(text, len),
+        _ => Prefixed::Other,
+    }
 }
