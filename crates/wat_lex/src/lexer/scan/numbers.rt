@@ -298,7 +298,7 @@ pub fn plain_float(text: &[u8], len: usize, stride: Stride) -> Option<TokenKind>
 /// The kind of the word of so many bytes at the start, where that is of hexadecimal digits alone
 /// behind `0x`, with a sign or none.
 #[inline(always)]
-fn plain_hexadecimal(text: &[u8], len: usize, stride: Stride) -> Option<TokenKind>
+pub fn plain_hexadecimal(text: &[u8], len: usize, stride: Stride) -> Option<TokenKind>
     requires { len ≤ length text.now }
     ensures { IfSome result (λ kind. Number (take len text.now) kind) }
 {
@@ -317,10 +317,10 @@ fn plain_hexadecimal(text: &[u8], len: usize, stride: Stride) -> Option<TokenKin
     }))
 }
 
-/// The kind of the word of so many bytes at the start, where that is of digits alone, with a sign or
-/// none, and with `0x` where they are hexadecimal; most numbers by far are so.
+/// The kind of the word of so many bytes at the start, where that is of decimal digits alone, with a
+/// sign or none.
 #[inline(always)]
-pub fn plain_integer(text: &[u8], len: usize, stride: Stride) -> Option<TokenKind>
+pub fn plain_decimal(text: &[u8], len: usize, stride: Stride) -> Option<TokenKind>
     requires { len ≤ length text.now }
     ensures { IfSome result (λ kind. Number (take len text.now) kind) }
 {
@@ -331,12 +331,7 @@ pub fn plain_integer(text: &[u8], len: usize, stride: Stride) -> Option<TokenKin
     }
     let digits = digit_len(&text[len - number..], stride);
     if digits < number {
-        // Before the `x` of a hexadecimal number stands one digit.
-        return if digits == 1 {
-            plain_hexadecimal(text, len, stride)
-        } else {
-            None
-        };
+        return None;
     }
     Some(TokenKind::Integer(IntegerKind {
         sign: sign_of(word),

@@ -12,7 +12,7 @@ ghost use Rattle.wat_lex.specs.declared.lexer.kinds.TokenKind.TheVariants.{Keywo
 use crate::lexer::faults::LexFault;
 use crate::lexer::kinds::{FloatKind, Outline, Shape, Stride, TokenKind};
 use crate::lexer::scan::classes::idchar_len;
-use crate::lexer::scan::numbers::{classify, plain_float, plain_integer};
+use crate::lexer::scan::numbers::{classify, plain_decimal, plain_float, plain_hexadecimal};
 use crate::lexer::scan::short::{short_decimal, short_prefixed};
 use crate::lexer::scan::strings::string_len;
 use crate::lexer::settings::Settings;
@@ -139,13 +139,16 @@ fn is_surely_keyword(word: &[u8]) -> bool
     }
 }
 
-/// The kind of the word of so many idchars at the start, which is mostly no integer. It is no part
-/// of its caller, where the facts of a float would be carried with each token.
+/// The kind of the word of so many idchars at the start, which is no integer of decimal digits alone.
+/// It is no part of its caller, where the facts of a float would be carried with each token.
 #[inline(never)]
 fn other_kind(text: &[u8], len: usize, stride: Stride) -> TokenKind
     requires { len ≤ length text.now }
     ensures { WordKind (take len text.now) result }
 {
+    if let Some(kind) = plain_hexadecimal(text, len, stride) {
+        return kind;
+    }
     if let Some(kind) = plain_float(text, len, stride) {
         return kind;
     }
@@ -156,20 +159,21 @@ fn other_kind(text: &[u8], len: usize, stride: Stride) -> TokenKind
     }
 }
 
-/// The kind of the word of so many idchars at the start, which no block told.
-#[inline(never)]
-fn number_kind(text: &[u8], len: usize, stride: Stride) -> TokenKind
+/// The same of a word of which decimal digits are not the most.
+#[inline(always)]
+fn prefixed_kind(text: &[u8], len: usize, stride: Stride) -> TokenKind
     requires { len ≤ length text.now }
     ensures { WordKind (take len text.now) result }
 {
-    if let Some(kind) = plain_integer(text, len, stride) {
-        return kind;
+    if stride == Stride::Block {
+        if let Some(kind) = short_prefixed(text, len).kind() {
+            return kind;
+        }
     }
     other_kind(text, len, stride)
 }
 
-/// The kind of the word of so many idchars at the start. Most numbers, and keywords that begin as
-/// `inf` and `nan` do, are told here.
+/// The kind of the word of so many idchars at the start.
 #[inline(always)]
 pub fn word_kind(text: &[u8], len: usize, stride: Stride) -> TokenKind
     requires { len ≤ length text.now }
@@ -190,12 +194,13 @@ pub fn word_kind(text: &[u8], len: usize, stride: Stride) -> TokenKind
                 return kind;
             }
         }
-        _ => {}
-    }
-    if stride == Stride::Block {
-        if let Some(kind) = short_prefixed(text, len).kind() {
-            return kind;
+        [b'0', b'x', ..] => {}
+        _ => {
+            return match plain_decimal(text, len, stride) {
+                Some(kind) => kind,
+                None => other_kind(text, len, stride),
+            };
         }
     }
-    number_kind(text, len, stride)
+    prefixed_kind(text, len, stride)
 }
