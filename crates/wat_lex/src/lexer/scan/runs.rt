@@ -159,8 +159,8 @@ fn other_kind(text: &[u8], len: usize, stride: Stride) -> TokenKind
     }
 }
 
-/// The same of a word of which decimal digits are not the most.
-#[inline(always)]
+/// The same of a word that may begin with `0x` or `nan:0x`.
+#[inline(never)]
 fn prefixed_kind(text: &[u8], len: usize, stride: Stride) -> TokenKind
     requires { len ≤ length text.now }
     ensures { WordKind (take len text.now) result }

@@ -106,7 +106,7 @@ pub fn short_decimal(text: &[u8], len: usize) -> Option<TokenKind>
     }))
 }
 
-/// What a word is that begins with `0x` or `nan:0x`, in one byte: a kind takes memory to return.
+/// What a word is that begins with `0x` or `nan:0x`.
 #[derive(Clone, Copy)]
 pub enum Prefixed {
     /// An integer without sign and underscores.
@@ -194,7 +194,7 @@ fn short_payload(text: &[u8], len: usize) -> Prefixed
 }
 
 /// What the word of so many bytes at the start is, where it begins with `0x` or `nan:0x`.
-#[inline(never)]
+#[inline(always)]
 pub fn short_prefixed(text: &[u8], len: usize) -> Prefixed
     requires { len ≤ length text.now }
     ensures { IfSome (prefixed_kind result) (λ kind. Number (take len text.now) kind) }
