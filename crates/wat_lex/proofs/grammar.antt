@@ -10,6 +10,7 @@ pub mod NumberKinds
 pub mod NumberBegins
 pub mod PlainFloats
 pub mod PlainIntegers
+pub mod ShortNumbers
 pub mod Looser
 pub mod OneString
 pub mod OneKind

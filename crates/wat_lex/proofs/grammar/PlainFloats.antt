@@ -6,7 +6,7 @@ use Rattle.std.specs.Char.{is_ascii_digit}
 use Rattle.std.specs.List.{prefix_len}
 use Rattle.std.proofs.lemmas.List.{drop-drop, drop-take, length-drop, length-take-le}
 use Rattle.std.proofs.lemmas.Bool.{cases_Bool, ne_eqb}
-use Rattle.wat_lex.specs.grammar.Numbers.{Digits, last, next, is_digit, is_exponent_letter, exponent, Tail, fraction, both, bare, filled, unsigned, has_underscores, Number, Decimals, decimals, decimal, hexadecimal}
+use Rattle.wat_lex.specs.grammar.Numbers.{Digits, last, next, is_digit, is_exponent_letter, exponent, fraction, both, bare, filled, unsigned, has_underscores, Number, Decimals, decimals, decimal, hexadecimal}
 use Rattle.wat_lex.specs.inside.ScannedNumbers.{IsPlainFloat, PlainDecimals, PlainExponent, PlainTail}
 use Rattle.wat_lex.proofs.grammar.Digits.{underscore_no_digit}
 use Rattle.wat_lex.proofs.grammar.PlainIntegers.{digits_alone, digits_of, digits_of_word, digits_no_underscore, no_underscore, signed_no_underscore, taken_pass, unsigned_is_shorter}
@@ -42,37 +42,28 @@ one_more p d t e = omega (arith, ap (λ b. cond b (1 + prefix_len p t) 0) e)
 none_there : (p : ℕ → Bool) (d : ℕ) (t : List ℕ) → p d ≡ false → prefix_len p (d ∷ t) ≡ 0
 none_there p d t e = ap (λ b. cond b (1 + prefix_len p t) 0) e
 
--- as many digits as stand there, and then the rest
-pub digits_then : (hex : Bool) (t : List ℕ) → 0 < prefix_len (is_digit hex) t → Digits hex t (drop (prefix_len (is_digit hex) t) t)
-digits_then hex [] h = absurd (omega arith)
-digits_then hex (d ∷ []) h =
-    elim (cases_Bool (is_digit hex d)) [
-      | inl e ↦ subst (λ k. Digits hex (d ∷ []) (drop k (d ∷ []))) (sym (one_more (is_digit hex) d [] e)) (last e)
-      | inr e ↦ absurd (omega (arith, h, none_there (is_digit hex) d [] e))
-    ]
-digits_then hex (d ∷ c ∷ t) h =
-    elim (cases_Bool (is_digit hex d)) [
-      | inl e ↦
-          elim (cases_Bool (is_digit hex c)) [
-            | inl g ↦
-                subst (λ k. Digits hex (d ∷ c ∷ t) (drop k (d ∷ c ∷ t))) (sym (one_more (is_digit hex) d (c ∷ t) e))
-                (next e (digits_then hex (c ∷ t) (omega (arith, one_more (is_digit hex) c t g))))
-            | inr g ↦
-                let one : prefix_len (is_digit hex) (d ∷ c ∷ t) ≡ 1 = omega (arith, one_more (is_digit hex) d (c ∷ t) e, none_there (is_digit hex) c t g) in
-                subst (λ k. Digits hex (d ∷ c ∷ t) (drop k (d ∷ c ∷ t))) (sym one) (last e)
-          ]
-      | inr e ↦ absurd (omega (arith, h, none_there (is_digit hex) d (c ∷ t) e))
+-- the first of some that pass, and the others
+pub first_passes : (p : ℕ → Bool) (n d : ℕ) (t : List ℕ) → suc n ≤ prefix_len p (d ∷ t) → (p d ≡ true) × (n ≤ prefix_len p t)
+first_passes p n d t h =
+    elim (cases_Bool (p d)) [
+      | inl e ↦ (e, omega (arith, h, one_more p d t e))
+      | inr e ↦ absurd (omega (arith, h, none_there p d t e))
     ]
 
-underscore_then : (hex : Bool) (t : List ℕ) → has_underscores (drop (prefix_len (is_digit hex) t) t) ≡ false → has_underscores t ≡ false
-underscore_then hex [] h = refl
-underscore_then hex (d ∷ t) h =
-    elim (cases_Bool (is_digit hex d)) [
-      | inl e ↦
-          let other : d ≢ 95 = λ z. underscore_no_digit hex (sym (ap (is_digit hex) z) ∙ e) in
-          ap (λ b. b || has_underscores t) (ne_eqb d 95 other) ∙ underscore_then hex t (subst (λ k. has_underscores (drop k (d ∷ t)) ≡ false) (one_more (is_digit hex) d t e) h)
-      | inr e ↦ subst (λ k. has_underscores (drop k (d ∷ t)) ≡ false) (none_there (is_digit hex) d t e) h
-    ]
+-- some of the digits that stand there, and then the rest
+pub digits_then : (hex : Bool) (n : ℕ) (t : List ℕ) → n ≤ prefix_len (is_digit hex) t → n ≢ 0 → Digits hex t (drop n t)
+digits_then hex zero t h some = absurd (some refl)
+digits_then hex (suc n) [] h some = absurd (omega arith)
+digits_then hex (suc zero) (d ∷ t) h some = last (first_passes (is_digit hex) 0 d t h).0
+digits_then hex (suc (suc n)) (d ∷ t) h some = let k = first_passes (is_digit hex) (suc n) d t h in next k.0 (digits_then hex (suc n) t k.1 (λ z. cc))
+
+pub underscore_then : (hex : Bool) (n : ℕ) (t : List ℕ) → n ≤ prefix_len (is_digit hex) t → has_underscores (drop n t) ≡ false → has_underscores t ≡ false
+underscore_then hex zero t h e = e
+underscore_then hex (suc n) [] h e = refl
+underscore_then hex (suc n) (d ∷ t) h e =
+    let k = first_passes (is_digit hex) n d t h in
+    let other : d ≢ 95 = λ z. underscore_no_digit hex (sym (ap (is_digit hex) z) ∙ k.0) in
+    ap (λ b. b || has_underscores t) (ne_eqb d 95 other) ∙ underscore_then hex n t k.1 e
 
 -- as many as stand at the start stand at the start of as many or more bytes
 taken_prefix : (p : ℕ → Bool) (k : ℕ) (xs : List ℕ) → prefix_len p xs ≤ k → prefix_len p (take k xs) ≡ prefix_len p xs
@@ -86,16 +77,18 @@ taken_prefix p (suc k) (x ∷ xs) h =
     ]
 
 -- a dot and digits alone
-tail_of_digits : (hex : Bool) (t : List ℕ) → prefix_len (is_digit hex) t ≡ length t → PlainTail hex (46 ∷ t)
+pub tail_of_digits : (hex : Bool) (t : List ℕ) → prefix_len (is_digit hex) t ≡ length t → PlainTail hex (46 ∷ t)
 tail_of_digits hex [] e = (fraction bare, refl)
 tail_of_digits hex (d ∷ t) e = (fraction (filled (digits_of hex (d ∷ t) (λ z. cc) e)), no_underscore hex (d ∷ t) e)
 
 -- a dot, digits or none, and an exponent
-tail_of_parts : (hex : Bool) (t : List ℕ) (n : ℕ) → n ≡ prefix_len (is_digit hex) t → PlainExponent hex (drop n t) → PlainTail hex (46 ∷ t)
+pub tail_of_parts : (hex : Bool) (t : List ℕ) (n : ℕ) → n ≤ prefix_len (is_digit hex) t → PlainExponent hex (drop n t) → PlainTail hex (46 ∷ t)
 tail_of_parts hex t zero e h = (both bare h.0, h.1)
-tail_of_parts hex t (suc n) e h =
-    let there = subst (λ k. PlainExponent hex (drop k t)) e h in
-    (both (filled (digits_then hex t (omega arith))) there.0, underscore_then hex t there.1)
+tail_of_parts hex t (suc n) e h = (both (filled (digits_then hex (suc n) t e (λ z. cc))) h.0, underscore_then hex (suc n) t e h.1)
+
+-- first digits, and what follows them
+pub decimals_then : (hex : Bool) (t : List ℕ) (n : ℕ) → n ≤ prefix_len (is_digit hex) t → n ≢ 0 → PlainTail hex (drop n t) → PlainDecimals hex t
+decimals_then hex t n e some tail = (drop n t, digits_then hex n t e some, tail.0, underscore_then hex n t e tail.1)
 
 pub word_dotted : (text : List ℕ) (len : ℕ) → len ≤ length text → 1 ≤ len → get_or (take len text) 0 0 ≡ 46 → take len text ≡ 46 ∷ take (len - 1) (drop 1 text)
 word_dotted [] len within one d = absurd (omega arith)
@@ -121,16 +114,10 @@ module _ (hex : Bool) (text w : List ℕ) (len : ℕ) (n : ℕ) (at : w ≡ 46 �
 -- first digits of so many bytes of a text, and what follows them
 pub decimals_of : (hex : Bool) (text : List ℕ) (len n : ℕ) → n ≡ prefix_len (is_digit hex) text → n ≢ 0 → n < len → PlainTail hex (take (len - n) (drop n text)) → PlainDecimals hex (take len text)
 decimals_of hex text len n digits some fewer tail =
-    let w = take len text in
-    let same : prefix_len (is_digit hex) w ≡ n = taken_prefix (is_digit hex) len text (omega (arith, digits, fewer)) ∙ sym digits in
+    let same : prefix_len (is_digit hex) (take len text) ≡ n = taken_prefix (is_digit hex) len text (omega (arith, digits, fewer)) ∙ sym digits in
     let parts : n + (len - n) ≡ len = omega arith in
-    let there : take (len - n) (drop n text) ≡ drop (prefix_len (is_digit hex) w) w =
-    sym (ap (λ k. drop k w) same ∙ ap (λ k. drop n (take k text)) (sym parts) ∙ drop-take n (len - n) text) in (
-      drop (prefix_len (is_digit hex) w) w,
-      digits_then hex w (omega (arith, same, some)),
-      subst (Tail hex) there tail.0,
-      underscore_then hex w (subst (λ x. has_underscores x ≡ false) there tail.1),
-    )
+    let there : drop n (take len text) ≡ take (len - n) (drop n text) = ap (λ k. drop n (take k text)) (sym parts) ∙ drop-take n (len - n) text in
+    decimals_then hex (take len text) n (omega (arith, same)) some (subst (PlainTail hex) (sym there) tail)
 
 -- a word of such parts behind a sign or none is a float, and so is one of hexadecimal parts behind `0x`
 pub decimal_float : (w : List ℕ) (kind : TokenKind) → IsPlainFloat false (unsigned w) kind → Number w kind

@@ -1,16 +1,18 @@
 -- Tests of blocks of bytes by vectors: what a lane holds, and what the mask of a test says of a text. They are for any test.
-use Rattle.std.proofs.Common.{◌≡◌, ◌≢◌, ℕ, ◌+◌, ◌*◌, ◌/◌, ◌%◌, ◌^◌, ◌<◌, ◌≤◌, Bool, true, false, not, cond, eqb, List, [], ◌∷◌, suc, map, length, take, drop, get_or, replicate, bit_and, bit_or, Fits, w8, refl, sym, ap, ap₂, ◌∙◌, arith}
+use Rattle.std.proofs.Common.{◌≡◌, ◌≢◌, ℕ, zero, ◌+◌, ◌-◌, ◌*◌, ◌/◌, ◌%◌, ◌^◌, ◌<◌, ◌≤◌, Bool, true, false, not, cond, eqb, List, [], ◌∷◌, suc, map, length, take, drop, get_or, replicate, bit_and, bit_or, Fits, w8, refl, sym, ap, ap₂, ◌∙◌, subst, arith}
 use Rattle.std.specs.List.{prefix_len}
 use Rattle.std.specs.Simd.Lanes.{chunk, mask_l, top, zip2, Each1}
-use Rattle.std.specs.Int.Count.{count_trailing_zeros}
+use Rattle.std.specs.Int.Count.{count_trailing_zeros, under}
+use Rattle.std.specs.Int.Bits.{or_shifted_r}
+use Rattle.std.proofs.Math.Nat.{div-div-eq-div-mul, div-one, mul_assoc, mul_comm, pow-suc}
 use Rattle.std.proofs.lemmas.Nat.{and_le_r, le_or_l, le_or_r}
 use Rattle.std.proofs.lemmas.Bool.{agree_below, agree_below_at, lt-leb, eq-eqb, ne_eqb}
-use Rattle.std.proofs.lemmas.List.{length-map, take-append-drop}
+use Rattle.std.proofs.lemmas.List.{drop-take, length-map, take-append-drop}
 use Rattle.std.proofs.lemmas.List.Folds.{prefix_len-append}
 use Rattle.std.proofs.lemmas.List.Sums.{prefix_len-le-length, prefix_len_is, prefix_len_passes}
-use Rattle.std.proofs.lemmas.Simd.{Each1-all, Each1-weaker, Each1-zip2, Each2-splat, below_from_Fits, length-zip2, map-map, mask_l-mod, chunk-drop, length-chunk, leading_from_mask_l, trailing_mask_l, swz_l, SwzOk, SwzOk-from_below, zip2_of_maps, zip2_splat, zip2_splat_left}
+use Rattle.std.proofs.lemmas.Simd.{Each1-all, Each1-weaker, Each1-zip2, Each2-splat, below_from_Fits, length-zip2, map-map, mask_l-mod, chunk-drop, length-chunk, leading_from_mask_l, mask_l-lt, trailing_mask_l, swz_l, SwzOk, SwzOk-from_below, zip2_of_maps, zip2_splat, zip2_splat_left}
 use Rattle.std.proofs.Math.Bool.{not-not}
-use Rattle.wat_lex.specs.inside.Blocks.{failures, GoesOn}
+use Rattle.wat_lex.specs.inside.Blocks.{failures, FirstFailures, GoesOn}
 
 -- ---- lanes
 
@@ -173,3 +175,70 @@ ends_within p text n stops =
 -- below a first number or above a second
 pub outside : (f : ℕ → ℕ → ℕ) (v : List ℕ) (a b : ℕ) → length v ≡ 16 → zip2 bit_or (zip2 f v (replicate 16 a)) (zip2 f (replicate 16 b) v) ≡ map (λ x. bit_or (f x a) (f b x)) v
 outside f v a b long = zip2_of_maps bit_or _ _ v (zip2_splat f v 16 a long) (zip2_splat_left f b 16 v long)
+
+-- ---- bits from a place on
+
+-- a bit for each byte that fails, and m behind them
+abbrev failures_and : (ℕ → Bool) → List ℕ → ℕ → ℕ
+failures_and p [] m = m
+failures_and p (x ∷ xs) m = cond (not (p x)) 1 0 + 2 * failures_and p xs m
+
+failures_below : (p : ℕ → Bool) (xs : List ℕ) (m : ℕ) → failures_and p xs m ≡ m * 2 ^ length xs + failures p xs
+failures_below p [] m = omega arith
+failures_below p (x ∷ xs) m =
+    let twice : m * 2 ^ suc (length xs) ≡ m * 2 ^ length xs * 2 = ap (λ n. m * n) (pow-suc 2 (length xs)) ∙ sym (mul_assoc m (2 ^ length xs) 2) in
+    omega (arith, failures_below p xs m, twice)
+
+lowest_bit : (b : Bool) (n : ℕ) → (cond b 1 0 + 2 * n) % 2 ≡ cond b 1 0
+lowest_bit true n = omega arith
+lowest_bit false n = omega arith
+
+other_bits : (b : Bool) (n : ℕ) → (cond b 1 0 + 2 * n) / 2 ≡ n
+other_bits true n = omega arith
+other_bits false n = omega arith
+
+-- with a bit behind them the lowest bit is where what passes ends
+lowest_fails : (p : ℕ → Bool) (k m : ℕ) (xs : List ℕ) → m % 2 ≡ 1 → count_trailing_zeros k (failures_and p xs m) ≤ prefix_len p xs
+unfolding count_trailing_zeros
+lowest_fails p zero m xs odd = omega arith
+lowest_fails p (suc k) m [] odd = subst (λ d. under d (count_trailing_zeros k (m / 2)) ≤ 0) (sym odd) (omega arith)
+lowest_fails p (suc k) m (x ∷ xs) odd =
+    let n = failures_and p xs m in
+    let z : List ℕ → ℕ = λ ys. count_trailing_zeros k (failures_and p ys m) in
+    let step : (b : Bool) → under (cond (not b) 1 0) (z xs) ≤ cond b (1 + prefix_len p xs) 0 = λ b. elim b as (λ b. under (cond (not b) 1 0) (z xs) ≤ cond b (1 + prefix_len p xs) 0) [
+      | true ↦ omega (arith, lowest_fails p k m xs odd)
+      | false ↦ omega arith
+    ] in
+    subst (λ d. under d (count_trailing_zeros k ((cond (not (p x)) 1 0 + 2 * n) / 2)) ≤ cond (p x) (1 + prefix_len p xs) 0) (sym (lowest_bit (not (p x)) n))
+    (subst (λ r. under (cond (not (p x)) 1 0) (count_trailing_zeros k r) ≤ cond (p x) (1 + prefix_len p xs) 0) (sym (other_bits (not (p x)) n)) (step (p x)))
+
+failures_from : (p : ℕ → Bool) (m i : ℕ) (xs : List ℕ) → i ≤ length xs → failures_and p xs m / 2 ^ i ≡ failures_and p (drop i xs) m
+failures_from p m zero xs h = div-one (failures_and p xs m)
+failures_from p m (suc i) [] h = absurd (omega arith)
+failures_from p m (suc i) (x ∷ xs) h =
+    let all = cond (not (p x)) 1 0 + 2 * failures_and p xs m in
+    ap (λ n. all / n) (pow-suc 2 i ∙ mul_comm (2 ^ i) 2) ∙ sym (div-div-eq-div-mul all 2 (2 ^ i)) ∙ ap (λ n. n / 2 ^ i) (other_bits (not (p x)) (failures_and p xs m))
+    ∙ failures_from p m i xs (omega arith)
+
+front_passes : (p : ℕ → Bool) (n : ℕ) (xs : List ℕ) → prefix_len p (take n xs) ≤ prefix_len p xs
+front_passes p zero xs = omega arith
+front_passes p (suc n) [] = omega arith
+front_passes p (suc n) (x ∷ xs) =
+    elim (p x) as (λ b. cond b (1 + prefix_len p (take n xs)) 0 ≤ cond b (1 + prefix_len p xs) 0) [
+      | true ↦ omega (arith, front_passes p n xs)
+      | false ↦ omega arith
+    ]
+
+-- as many as stand before a bit pass
+pub clear_pass : (p : ℕ → Bool) (text : List ℕ) (bits i : ℕ) → FirstFailures p text bits → i ≤ 16 → count_trailing_zeros 64 (bit_or bits 18446744073709486080 / 2 ^ i) ≤ prefix_len p (drop i text)
+clear_pass p text bits i marked place =
+    let v = chunk 0 16 text in
+    let long : length v ≡ 16 = length-chunk 0 16 text marked.long in
+    let m : ℕ = 281474976710655 in
+    let small : bits < 2 ^ 16 = omega (arith, marked.each, mask_l-lt (map (λ x. not (p x)) v), length-map v (λ x. not (p x)), ap (λ n. 2 ^ n) (length-map v (λ x. not (p x)) ∙ long)) in
+    let joined : bit_or bits (m * 2 ^ 16) ≡ failures_and p v m = or_shifted_r m 16 bits small ∙ ap₂ (λ a n. m * 2 ^ n + a) marked.each (sym long) ∙ sym (failures_below p v m) in
+    let from : bit_or bits (m * 2 ^ 16) / 2 ^ i ≡ failures_and p (drop i v) m = ap (λ n. n / 2 ^ i) joined ∙ failures_from p m i v (omega (arith, long)) in
+    let parts : i + (16 - i) ≡ 16 = omega arith in
+    let there : drop i v ≡ take (16 - i) (drop i text) = ap (λ k. drop i (take k text)) (sym parts) ∙ drop-take i (16 - i) text in
+    let zeros : count_trailing_zeros 64 (bit_or bits 18446744073709486080 / 2 ^ i) ≡ count_trailing_zeros 64 (failures_and p (drop i v) m) = ap (count_trailing_zeros 64) from in
+    omega (arith, zeros, lowest_fails p 64 m (drop i v) refl, ap (prefix_len p) there, front_passes p (16 - i) (drop i text))

@@ -1,8 +1,8 @@
 -- The tests of blocks of bytes in the lexer. No part of the standard.
-use Rattle.std.specs.Prelude.{◌≡◌, ◌+◌, ℕ, Bool, not, ◌||◌, ◌==◌, List, map, drop}
+use Rattle.std.specs.Prelude.{◌≡◌, ◌≤◌, ◌+◌, ℕ, Bool, not, ◌||◌, ◌==◌, List, map, drop, length}
 use Rattle.std.specs.Int.{is_in_range}
 use Rattle.std.specs.List.{prefix_len}
-use Rattle.std.specs.Simd.Lanes.{mask_l}
+use Rattle.std.specs.Simd.Lanes.{chunk, mask_l}
 use Rattle.wat_lex.specs.grammar.Classes.{semicolon, line_feed, carriage_return}
 
 -- a bit for each byte of a block that fails a test, the lowest for the first
@@ -24,3 +24,8 @@ is_surely_plain b = is_in_range 14 127 b
 -- the n bytes from i on pass a test, so that what passes from i on goes on behind them
 abbrev pub GoesOn : (ℕ → Bool) → List ℕ → ℕ → ℕ → Type 0
 GoesOn p text i n = prefix_len p (drop i text) ≡ n + prefix_len p (drop (i + n) text)
+
+-- a bit for each of a text's first 16 bytes that fails a test
+pub record FirstFailures (p : ℕ → Bool) (text : List ℕ) (bits : ℕ) : Type 0 where
+  pub long : 16 ≤ length text
+  pub each : bits ≡ failures p (chunk 0 16 text)

@@ -1,9 +1,12 @@
 -- What the readers of numbers inside the lexer answer. No part of the standard.
-use Rattle.std.specs.Prelude.{◌≡◌, false, ◌||◌, ◌==◌, ◌⊎◌, if◌then◌else◌, ℕ, Bool, List, [], ◌∷◌}
+use Rattle.std.specs.Prelude.{◌≡◌, true, false, Option, Some, None, ◌||◌, ◌==◌, ◌⊎◌, if◌then◌else◌, ℕ, Bool, List, [], ◌∷◌}
 use Rattle.wat_lex.specs.grammar.Classes.{Begins, plus, underscore}
-use Rattle.wat_lex.specs.declared.lexer.kinds.FloatKind.TheVariants.{Normal}
+use Rattle.wat_lex.specs.declared.lexer.kinds.FloatKind.TheVariants.{NanVal, Normal}
 use Rattle.wat_lex.specs.declared.lexer.kinds.TokenKind.{TokenKind}
-use Rattle.wat_lex.specs.declared.lexer.kinds.TokenKind.TheVariants.{Float}
+use Rattle.wat_lex.specs.declared.lexer.kinds.TokenKind.TheVariants.{Integer, Float}
+use Rattle.wat_lex.specs.declared.lexer.kinds.Sign.TheVariants as sign
+use Rattle.wat_lex.specs.declared.lexer.scan.short.Prefixed.{Prefixed}
+use Rattle.wat_lex.specs.declared.lexer.scan.short.Prefixed.TheVariants as prefixed
 use Rattle.wat_lex.specs.grammar.Numbers.{Digits, has_underscores, is_digit, IntegralPart, Exponent, Tail}
 
 -- neither a digit nor an underscore comes next
@@ -54,3 +57,10 @@ PlainDecimals hex w = (t : List ℕ) × Digits hex w t × Tail hex t × (has_und
 -- the kind of such a float
 abbrev pub IsPlainFloat : Bool → List ℕ → TokenKind → Type 0
 IsPlainFloat hex w kind = (kind ≡ Float (Normal false hex)) × PlainDecimals hex w
+
+-- the kind of a word that begins with `0x` or `nan:0x`, where one block tells it
+abbrev pub prefixed_kind : Prefixed → Option TokenKind
+prefixed_kind prefixed.Integer = Some (Integer (record { sign = sign.None; has_underscores = false; hex = true }))
+prefixed_kind prefixed.Float = Some (Float (Normal false true))
+prefixed_kind prefixed.Payload = Some (Float (NanVal false false))
+prefixed_kind prefixed.Other = None

@@ -21,6 +21,7 @@ pub(super) mod comments;
 pub(super) mod numbers;
 mod plain;
 mod runs;
+mod short;
 mod starts;
 pub(super) mod strings;
 

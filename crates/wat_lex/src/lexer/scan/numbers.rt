@@ -24,17 +24,15 @@ fn is_digit(b: u8, hex: bool) -> bool
     }
 }
 
-fn is_exponent_letter(b: u8, hex: bool) -> bool
+pub fn is_exponent_letter(b: u8, hex: bool) -> bool
     ensures { result ≡ is_exponent_letter hex b }
 {
-    if hex {
-        b == b'p' || b == b'P'
-    } else {
-        b == b'e' || b == b'E'
-    }
+    // With this bit a letter is a small one.
+    let small = b | 0x20;
+    if hex { small == b'p' } else { small == b'e' }
 }
 
-fn sign_of(word: &[u8]) -> Sign
+pub fn sign_of(word: &[u8]) -> Sign
     ensures { result ≡ sign_of word.now }
 {
     match word {
@@ -67,7 +65,7 @@ fn has_underscores(word: &[u8]) -> bool
 }
 
 /// What follows a prefix of the text.
-fn after<'a>(text: &'a [u8], prefix: &[u8]) -> Option<&'a [u8]>
+pub fn after<'a>(text: &'a [u8], prefix: &[u8]) -> Option<&'a [u8]>
     ensures { MatchOption result ((rest : List ℕ) → text.now ≢ prefix.now ++ rest)
         (λ rest. text.now ≡ prefix.now ++ rest.now) }
 {
@@ -300,7 +298,7 @@ pub fn plain_float(text: &[u8], len: usize, stride: Stride) -> Option<TokenKind>
 /// The kind of the word of so many bytes at the start, where that is of hexadecimal digits alone
 /// behind `0x`, with a sign or none.
 #[inline(always)]
-fn plain_hexadecimal(text: &[u8], len: usize, stride: Stride) -> Option<TokenKind>
+pub fn plain_hexadecimal(text: &[u8], len: usize, stride: Stride) -> Option<TokenKind>
     requires { len ≤ length text.now }
     ensures { IfSome result (λ kind. Number (take len text.now) kind) }
 {
@@ -319,10 +317,10 @@ fn plain_hexadecimal(text: &[u8], len: usize, stride: Stride) -> Option<TokenKin
     }))
 }
 
-/// The kind of the word of so many bytes at the start, where that is of digits alone, with a sign or
-/// none, and with `0x` where they are hexadecimal; most numbers by far are so.
+/// The kind of the word of so many bytes at the start, where that is of decimal digits alone, with a
+/// sign or none.
 #[inline(always)]
-pub fn plain_integer(text: &[u8], len: usize, stride: Stride) -> Option<TokenKind>
+pub fn plain_decimal(text: &[u8], len: usize, stride: Stride) -> Option<TokenKind>
     requires { len ≤ length text.now }
     ensures { IfSome result (λ kind. Number (take len text.now) kind) }
 {
@@ -333,12 +331,7 @@ pub fn plain_integer(text: &[u8], len: usize, stride: Stride) -> Option<TokenKin
     }
     let digits = digit_len(&text[len - number..], stride);
     if digits < number {
-        // Before the `x` of a hexadecimal number stands one digit.
-        return if digits == 1 {
-            plain_hexadecimal(text, len, stride)
-        } else {
-            None
-        };
+        return None;
     }
     Some(TokenKind::Integer(IntegerKind {
         sign: sign_of(word),

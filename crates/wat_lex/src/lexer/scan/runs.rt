@@ -12,7 +12,8 @@ ghost use Rattle.wat_lex.specs.declared.lexer.kinds.TokenKind.TheVariants.{Keywo
 use crate::lexer::faults::LexFault;
 use crate::lexer::kinds::{FloatKind, Outline, Shape, Stride, TokenKind};
 use crate::lexer::scan::classes::idchar_len;
-use crate::lexer::scan::numbers::{classify, plain_float, plain_integer};
+use crate::lexer::scan::numbers::{classify, plain_decimal, plain_float, plain_hexadecimal};
+use crate::lexer::scan::short::{short_decimal, short_prefixed};
 use crate::lexer::scan::strings::string_len;
 use crate::lexer::settings::Settings;
 
@@ -138,13 +139,16 @@ fn is_surely_keyword(word: &[u8]) -> bool
     }
 }
 
-/// The kind of the word of so many idchars at the start, which is mostly no integer. It is no part
-/// of its caller, where the facts of a float would be carried with each token.
+/// The kind of the word of so many idchars at the start, which is no integer of decimal digits alone.
+/// It is no part of its caller, where the facts of a float would be carried with each token.
 #[inline(never)]
 fn other_kind(text: &[u8], len: usize, stride: Stride) -> TokenKind
     requires { len ≤ length text.now }
     ensures { WordKind (take len text.now) result }
 {
+    if let Some(kind) = plain_hexadecimal(text, len, stride) {
+        return kind;
+    }
     if let Some(kind) = plain_float(text, len, stride) {
         return kind;
     }
@@ -155,20 +159,18 @@ fn other_kind(text: &[u8], len: usize, stride: Stride) -> TokenKind
     }
 }
 
-/// The same of a word that mostly begins with a letter.
+/// The same of a word that may begin with `0x` or `nan:0x`.
 #[inline(never)]
-fn letters_kind(text: &[u8], len: usize, stride: Stride) -> TokenKind
+fn prefixed_kind(text: &[u8], len: usize, stride: Stride) -> TokenKind
     requires { len ≤ length text.now }
     ensures { WordKind (take len text.now) result }
 {
-    let word = &text[..len];
-    if is_surely_keyword(word) {
-        return TokenKind::Keyword;
+    if stride == Stride::Block {
+        if let Some(kind) = short_prefixed(text, len).kind() {
+            return kind;
+        }
     }
-    match word {
-        b"inf" => TokenKind::Float(FloatKind::Inf { negative: false }),
-        _ => other_kind(text, len, stride),
-    }
+    other_kind(text, len, stride)
 }
 
 /// The kind of the word of so many idchars at the start.
@@ -177,11 +179,28 @@ pub fn word_kind(text: &[u8], len: usize, stride: Stride) -> TokenKind
     requires { len ≤ length text.now }
     ensures { WordKind (take len text.now) result }
 {
-    if let [b'a'..=b'z', ..] = &text[..len] {
-        return letters_kind(text, len, stride);
+    let word = &text[..len];
+    match word {
+        [b'a'..=b'z', ..] => {
+            if is_surely_keyword(word) {
+                return TokenKind::Keyword;
+            }
+            if let b"inf" = word {
+                return TokenKind::Float(FloatKind::Inf { negative: false });
+            }
+        }
+        [_, ..] if stride == Stride::Block && len <= 16 && text.len() >= 16 => {
+            if let Some(kind) = short_decimal(text, len) {
+                return kind;
+            }
+        }
+        [b'0', b'x', ..] => {}
+        _ => {
+            return match plain_decimal(text, len, stride) {
+                Some(kind) => kind,
+                None => other_kind(text, len, stride),
+            };
+        }
     }
-    if let Some(kind) = plain_integer(text, len, stride) {
-        return kind;
-    }
-    other_kind(text, len, stride)
+    prefixed_kind(text, len, stride)
 }

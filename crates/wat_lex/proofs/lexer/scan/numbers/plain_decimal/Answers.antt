@@ -4,7 +4,7 @@ use Rattle.std.specs.Char.{is_ascii_digit}
 use Rattle.std.specs.List.{prefix_len}
 use Rattle.wat_lex.specs.grammar.Numbers.{unsigned, decimal}
 use Rattle.wat_lex.proofs.grammar.PlainIntegers.{digits_alone, digits_no_underscore, digits_of_word, unsigned_is_shorter}
-use Rattle.wat_lex.proofs.lexer.scan.numbers.plain_integer.Goals as goal
+use Rattle.wat_lex.proofs.lexer.scan.numbers.plain_decimal.Goals as goal
 
 pub returns : goal.returns
 returns c =
