@@ -1,6 +1,6 @@
 -- Parts of the definitions, each under a name of its own: proofs here and above go by the cases of what they are made of. Nobody has to read
 -- them to know what is promised.
-use Rattle.std.specs.Prelude.{ℕ, Bool, false, ◌==◌, ◌&&◌, ◌||◌, ◌+◌, List, length, is_some, option_map, unwrap_or, Option, None, Result, Ok, Err}
+use Rattle.std.specs.Prelude.{ℕ, Bool, false, ◌==◌, ◌&&◌, ◌||◌, ◌+◌, List, length, is_some, option_map, unwrap_or, Option, Result, Ok, Err}
 use Rattle.wat_lex.specs.grammar.Classes.{at_sign}
 use Rattle.wat_lexer_parser.specs.groups.Sorts.{is_open, is_close}
 use Rattle.wat_lexer_parser.specs.parser.State.{Report, Seen}
