@@ -8,9 +8,9 @@ use Rattle.wat_format_shown.specs.lemmas.Moving.{moves_allocated, moves_and_then
 use Rattle.wat_format_shown.specs.lemmas.Seeing.{moves_id, moves_keyword, moves_more, moves_second, moves_sight_of, moves_word}
 use Rattle.wat_format_shown.specs.lemmas.Types.{moves_all, moves_identifier, moves_joined, moves_keyword_at, span_moved, spelled_moved, stays}
 use Rattle.wat_lex.specs.declared.lexer.kinds.Token.{Token}
-use Rattle.wat_lexer_parser.specs.parser.Sights.{more_comes, second}
+use Rattle.wat_lexer_parser.specs.parser.Sights.{second}
 use Rattle.wat_lexer_parser.specs.parser.Takers.{as_id, as_keyword}
-use Rattle.wat_lexer_parser.specs.readings.Readings.{Reading, allocated, and_then, group, mapped}
+use Rattle.wat_lexer_parser.specs.readings.Readings.{Reading, allocated, and_then, group, mapped, more_comes}
 use Rattle.wat_lexer_parser.specs.readings.Types.{Spelled, an_identifier, identifier}
 use Rattle.wat_types.specs.Meanings.{definition, definitions, f32_word, f64_word, fields, func, func_word, i32_word, i64_word, kw, module_types, module_word, name, named_or_all, number_types, param, param_word, params, result_word, results, returns, sees, type_word, val, vals}
 use Rattle.wat_types.specs.Signatures.{Signature}

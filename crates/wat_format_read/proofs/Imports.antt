@@ -12,10 +12,9 @@ use Rattle.wat_imports.specs.Imports.{Read, called, described, details, entry, i
 use Rattle.wat_imports.specs.declared.Kind.{Kind}
 use Rattle.wat_imports.specs.declared.Kind.TheVariants.{Code, Pages}
 use Rattle.wat_lex.specs.declared.lexer.kinds.Token.{Token}
-use Rattle.wat_lexer_parser.specs.parser.Sights.{more_comes}
 use Rattle.wat_lexer_parser.specs.parser.Takers.{as_id, as_keyword}
 use Rattle.wat_lexer_parser.specs.readings.Choices.{choice}
-use Rattle.wat_lexer_parser.specs.readings.Readings.{and_then, mapped, optional, while_seen}
+use Rattle.wat_lexer_parser.specs.readings.Readings.{and_then, mapped, optional, while_seen, more_comes}
 use Rattle.wat_lexer_parser.specs.readings.Types.{Spelled, an_identifier, identifier, keyword, optional_name, sees_word, text, u32}
 use Rattle.wat_words.specs.Words.{quoted}
 

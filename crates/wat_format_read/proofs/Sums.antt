@@ -5,10 +5,10 @@ use Rattle.wat_format_shown.specs.Reads.{Moves}
 use Rattle.wat_format_shown.specs.lemmas.Moving.{moves_and_then, moves_fewer, moves_group, moves_mapped, moves_one_of}
 use Rattle.wat_format_shown.specs.lemmas.Seeing.{moves_integer, moves_more, moves_open, moves_sight_of}
 use Rattle.wat_format_shown.specs.lemmas.Types.{moves_all, moves_keyword_at, moves_u32, span_moved, stays}
-use Rattle.wat_lexer_parser.specs.parser.Sights.{more_comes, sight_of}
+use Rattle.wat_lexer_parser.specs.parser.Sights.{sight_of}
 use Rattle.wat_lexer_parser.specs.parser.Takers.{as_integer, as_open}
 use Rattle.wat_lexer_parser.specs.readings.Choices.{choice}
-use Rattle.wat_lexer_parser.specs.readings.Readings.{and_then, group, mapped, while_seen}
+use Rattle.wat_lexer_parser.specs.readings.Readings.{and_then, group, mapped, while_seen, more_comes}
 use Rattle.wat_lexer_parser.specs.readings.Types.{keyword, u32}
 use Rattle.wat_sums.specs.Sums.{negative, sum, term}
 

@@ -1,3 +1,2 @@
 -- Groups in parentheses, and the sorts of tokens that a parser tells apart.
 pub mod Sorts
-pub mod Groups

@@ -4,10 +4,10 @@ use Rattle.std.proofs.lemmas.Bool.{both_ways}
 use Rattle.std.proofs.lemmas.List.{map-append, length-map}
 use Rattle.wat_lex.specs.declared.lexer.kinds.Token.{Token}
 use Rattle.wat_lex.specs.declared.lexer.kinds.TokenKind.TheVariants.{LParen, RParen}
-use Rattle.wat_lexer_parser.specs.groups.Groups.{Group}
-use Rattle.wat_lexer_parser.specs.groups.Groups.{Balanced as BalancedTokens, Balanced.nothing as no_tokens, Balanced.plain as plain_token}
-use Rattle.wat_lexer_parser.specs.groups.Groups.{Balanced.group as token_group}
-use Rattle.wat_lexer_parser.specs.groups.Sorts.{is_paren}
+use Rattle.wat_lexer_parser.specs.groups.Sorts.{Group}
+use Rattle.wat_lexer_parser.specs.groups.Sorts.{Balanced as BalancedTokens, Balanced.nothing as no_tokens, Balanced.plain as plain_token}
+use Rattle.wat_lexer_parser.specs.groups.Sorts.{Balanced.group as token_group}
+use Rattle.wat_lexer_parser.specs.lemmas.Parts.{is_paren}
 use Rattle.wat_rows.specs.Links.{opens, closes, Balanced, Balanced.nothing, Balanced.plain, Balanced.group, ClosedWithin}
 use Rattle.wat_rows.proofs.Closing.{close_opens_none}
 use Rattle.wat_rows.proofs.Coding.{code_of, codes, sort, Neither}

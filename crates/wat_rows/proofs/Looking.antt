@@ -13,7 +13,7 @@ use Rattle.wat_lex.specs.declared.lexer.faults.LexError.TheVariants as lex
 use Rattle.wat_lex.specs.declared.lexer.faults.LexFault.{LexFault}
 use Rattle.wat_lex.specs.declared.lexer.kinds.Token.{Token}
 use Rattle.wat_lexer_parser.specs.declared.parser.fault.FaultKind.TheVariants.{Lex}
-use Rattle.wat_lexer_parser.specs.groups.Groups.{Group, NoGroup}
+use Rattle.wat_lexer_parser.specs.groups.Sorts.{Group, NoGroup}
 use Rattle.wat_lexer_parser.specs.names.RegisteredNames.{Names, is_registered}
 use Rattle.wat_lexer_parser.specs.places.Source.{Source}
 use Rattle.wat_lexer_parser.specs.laws.Counting.{CountingShowsTheSame, PlainTokensAreShown, counting}

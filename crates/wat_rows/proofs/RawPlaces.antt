@@ -10,7 +10,8 @@ use Rattle.wat_lex.specs.tokens.Setting.{Setting}
 use Rattle.wat_lex.specs.tokens.Tiling.{Tiling}
 use Rattle.wat_lex.specs.declared.lexer.kinds.Token.{Token}
 use Rattle.wat_lexer_parser.specs.groups.Sorts.{is_blank}
-use Rattle.wat_lexer_parser.specs.places.Places.{end_of, offset_at}
+use Rattle.wat_lexer_parser.specs.lemmas.Parts.{end_of}
+use Rattle.wat_lexer_parser.specs.places.Places.{offset_at}
 use Rattle.wat_lexer_parser.specs.laws.Counting.{counting}
 use Rattle.wat_rows.specs.Places.{raw_place}
 use Rattle.wat_rows.proofs.Counted.{counting_blank, counting_other}

@@ -1,9 +1,9 @@
 -- The readings of this crate as formats, each with its rule.
 use Rattle.std.proofs.Common.{◌≡◌, ◌∙◌, true, false, ℕ, List, [], ◌∷◌, Some, None, ap, refl}
 use Rattle.std.specs.Prelude.{Option, codes}
-use Rattle.wat_lexer_parser.specs.parser.Sights.{second as second_sight, more_comes as more_sight}
+use Rattle.wat_lexer_parser.specs.parser.Sights.{second as second_sight}
 use Rattle.wat_lexer_parser.specs.readings.Readings as readings
-use Rattle.wat_lexer_parser.specs.readings.Readings.{Reading}
+use Rattle.wat_lexer_parser.specs.readings.Readings.{Reading, more_comes as more_sight}
 use Rattle.wat_lexer_parser.specs.readings.Types.{Spelled}
 use Rattle.wat_lexer_parser.specs.readings.Types as types
 use Rattle.wat_lexer_parser.specs.rules.Formats.{Format, Choices, one_of, choice, nothing_else, mapped, and_then, group, many, joined_while, optional, second, more_comes, allocated}

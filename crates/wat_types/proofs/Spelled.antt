@@ -12,8 +12,8 @@ use Rattle.wat_lex.specs.declared.lexer.kinds.Token.{Token}
 use Rattle.wat_lex.specs.declared.lexer.kinds.TokenKind.{TokenKind}
 use Rattle.wat_lex.specs.declared.lexer.kinds.TokenKind.TheVariants.{Keyword, Id}
 use Rattle.wat_lexer_parser.specs.groups.Sorts.{is_close}
-use Rattle.wat_lexer_parser.specs.parser.Takers.{as_id, as_owned_id, as_keyword, name_or_report, name_takes, named_by}
-use Rattle.wat_lexer_parser.specs.readings.Types.{Spelled, spelling}
+use Rattle.wat_lexer_parser.specs.parser.Takers.{as_id, as_keyword, name_or_report, name_takes}
+use Rattle.wat_lexer_parser.specs.readings.Types.{Spelled, spelling, as_owned_id, named_by}
 use Rattle.wat_lexer_parser.specs.rules.Rules.{Ground, Rule, Telling, One, one, Group, While, told_word, tells_kind, tells_second, tells_more}
 use Rattle.wat_lexer_parser.specs.rules.Rules as rules
 use Rattle.wat_types.proofs.Formats.{val, vals, name, named_or_all, param, returns, func, definition, module_types}

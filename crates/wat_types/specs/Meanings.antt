@@ -1,10 +1,10 @@
 -- WebAssembly specification, text format: types (number types, function types), modules (type definitions, modules). What the types of
 -- this crate read, as the calls of their parsers go: each is one rule of the grammar.
 use Rattle.std.specs.Prelude.{ℕ, false, List, [], ◌∷◌, Option, Some, None}
-use Rattle.wat_lexer_parser.specs.parser.Sights.{Sight, more_comes, second}
+use Rattle.wat_lexer_parser.specs.parser.Sights.{Sight, second}
 use Rattle.wat_lexer_parser.specs.parser.Takers.{as_keyword}
 use Rattle.wat_lexer_parser.specs.readings.Choices.{Choice, choice, one_of}
-use Rattle.wat_lexer_parser.specs.readings.Readings.{Reading, allocated, and_then, group, joined_while, many, mapped, optional}
+use Rattle.wat_lexer_parser.specs.readings.Readings.{Reading, allocated, and_then, group, joined_while, many, mapped, optional, more_comes}
 use Rattle.wat_lexer_parser.specs.readings.Types.{Spelled, an_identifier, identifier, keyword, sees_word}
 use Rattle.wat_types.specs.Signatures.{Signature}
 use Rattle.wat_types.specs.declared.types.ValType.{ValType}

@@ -18,15 +18,16 @@ use Rattle.wat_lexer_parser.specs.declared.parser.fault.FaultKind.{FaultKind}
 use Rattle.wat_lexer_parser.specs.declared.parser.fault.FaultKind.TheVariants.{Lex, Unclosed}
 use Rattle.wat_lexer_parser.specs.groups.Sorts.{is_close}
 use Rattle.wat_lexer_parser.specs.lemmas.Behind.{BehindPlace, behind_in, behind_place, forward_in, same_token, shown_is_taken}
-use Rattle.wat_lexer_parser.specs.parser.Closures.{opened, closed, taken_or}
-use Rattle.wat_lexer_parser.specs.parser.Sights.{Sight, more_comes, second, seen_behind, sight_of}
+use Rattle.wat_lexer_parser.specs.parser.Closures.{opened, closed}
+use Rattle.wat_lexer_parser.specs.parser.Sights.{Sight, second, seen_behind, sight_of}
 use Rattle.wat_lexer_parser.specs.parser.State.{State, Seen, at_place, report_here, report_of, seen, seen_at, told}
-use Rattle.wat_lexer_parser.specs.parser.Takers.{Reader, as_open, as_close, as_keyword, as_reserved, as_string, as_integer, as_float, as_id, as_owned_id, as_annotation, contains, is_minus, named_by, name_or_report, name_takes, sees, taken, taken_at, taken_by}
+use Rattle.wat_lexer_parser.specs.parser.Takers.{Reader, as_open, as_close, as_keyword, as_reserved, as_string, as_integer, as_float, as_id, as_annotation, contains, is_minus, name_or_report, name_takes, taken, taken_at, taken_by}
+use Rattle.wat_lexer_parser.specs.lemmas.Parts.{sees, taken_or}
 use Rattle.wat_lexer_parser.specs.places.Places.{current_span, empty_of}
-use Rattle.wat_lexer_parser.specs.places.Places as places
+use Rattle.wat_lexer_parser.specs.lemmas.Parts as parts
 use Rattle.wat_lexer_parser.specs.places.Source.{IsRead}
-use Rattle.wat_lexer_parser.specs.readings.Readings.{Reading}
-use Rattle.wat_lexer_parser.specs.readings.Types.{behind_open, is_taken, sees_annotation, sees_word, spelling, spelling_by}
+use Rattle.wat_lexer_parser.specs.readings.Readings.{Reading, more_comes}
+use Rattle.wat_lexer_parser.specs.readings.Types.{behind_open, is_taken, sees_annotation, sees_word, spelling, spelling_by, as_owned_id, named_by}
 use Rattle.wat_lexer_parser.specs.laws.Counting.{counting, counting_behind}
 use Rattle.wat_lexer_parser.specs.shown.Shown.{Finding}
 use Rattle.wat_lexer_parser.specs.inside.ShownIn.{Showing, shown_in}
@@ -49,7 +50,7 @@ shown_is : (a : State) → shown a.source a.place a.names ≡ placed a.source.to
 unfolding shown finding
 shown_is a = refl
 
-span_is : (a : State) → current_span a.source a.place a.names ≡ places.span_of a.source a.place (placed a.source.tokens (finding a))
+span_is : (a : State) → current_span a.source a.place a.names ≡ parts.span_of a.source a.place (placed a.source.tokens (finding a))
 unfolding current_span shown finding
 span_is a = refl
 
@@ -95,7 +96,7 @@ unfolding report_of
 refusal_of move tokens x y f = refusal_by move tokens x y f.offset f.kind
 
 span_by : (s : Sides) (ts : List Token) (f g : Finding) → Alike s ts → Found s.here.source.setting.text s.there.source.setting.text s.move (counting_behind f) (counting_behind g)
-    → Stand s (places.span_of s.here.source s.here.place (placed s.here.source.tokens f)) (places.span_of s.there.source s.there.place (placed s.there.source.tokens g))
+    → Stand s (parts.span_of s.here.source s.here.place (placed s.here.source.tokens f)) (parts.span_of s.there.source s.there.place (placed s.there.source.tokens g))
 span_by s ts (Ok None) (Ok None) h k = by_map (sym h.texts.end)
 span_by s ts (Ok None) (Ok (Some (u, q))) h k = cc
 span_by s ts (Ok None) (Err g) h k = cc
@@ -108,8 +109,8 @@ span_by s ts (Err f) (Err g) h k = h.place
 
 pub span_stands : (s : Sides) (ts : List Token) → Alike s ts → Stand s (current_span s.here.source s.here.place s.here.names) (current_span s.there.source s.there.place s.there.names)
 span_stands s ts h =
-    let there = places.span_of s.there.source s.there.place (placed s.there.source.tokens (finding s.there)) in
-    subst (λ p. Stand s p (current_span s.there.source s.there.place s.there.names)) (sym (span_is s.here)) (subst (λ q. Stand s (places.span_of s.here.source s.here.place (placed s.here.source.tokens (finding s.here))) q) (sym (span_is s.there)) (span_by s ts (finding s.here) (finding s.there) h (found_both s ts h)))
+    let there = parts.span_of s.there.source s.there.place (placed s.there.source.tokens (finding s.there)) in
+    subst (λ p. Stand s p (current_span s.there.source s.there.place s.there.names)) (sym (span_is s.here)) (subst (λ q. Stand s (parts.span_of s.here.source s.here.place (placed s.here.source.tokens (finding s.here))) q) (sym (span_is s.there)) (span_by s ts (finding s.here) (finding s.there) h (found_both s ts h)))
 
 pub report_moves : (s : Sides) (ts : List Token) (message : List ℕ) → Alike s ts → SameRefusal s (report_here s.here.source s.here.place s.here.names message) (report_here s.there.source s.there.place s.there.names message)
 report_moves s ts message h = record { cause = refl; offset = inl (span_stands s ts h); excerpt = refl }
@@ -119,7 +120,7 @@ abbrev pub NeedsToken : {V : Type 0} → Reading V → Type 0
 NeedsToken {V} m = (a : State) (v : V) → (m a).answer ≡ Ok v → (t : Token) × (q : ℕ) × (shown a.source a.place a.names ≡ Ok (Some (t, q)))
 
 span_of_token : (s : Sides) (ts : List Token) (f g : Finding) (t : Token) (q : ℕ) → Found s.here.source.setting.text s.there.source.setting.text s.move (counting_behind f) (counting_behind g) → placed s.here.source.tokens f ≡ Ok (Some (t, q))
-    → places.span_of s.there.source s.there.place (placed s.there.source.tokens g) ≡ s.move (places.span_of s.here.source s.here.place (placed s.here.source.tokens f))
+    → parts.span_of s.there.source s.there.place (placed s.there.source.tokens g) ≡ s.move (parts.span_of s.here.source s.here.place (placed s.here.source.tokens f))
 span_of_token s ts (Ok None) g t q k e = cc
 span_of_token s ts (Ok (Some (v, r))) (Ok None) t q k e = let d = k.2 in cc
 span_of_token s ts (Ok (Some (v, r))) (Ok (Some (u, p))) t q k e = ap (λ (w : Token). w.offset) ((same_token {F = Fault} u k.0 (counting p) k.1 k.2).0 ∙ k.3.is)

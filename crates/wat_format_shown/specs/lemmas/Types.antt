@@ -5,9 +5,9 @@ use Rattle.std.specs.Prelude.{◌^◌, ◌++◌, Option, codes, if◌then◌else
 use Rattle.std.specs.Option.{option_map}
 use Rattle.std.specs.Str.{is_utf8}
 use Rattle.wat_lexer_parser.specs.parser.Sights.{Sight, second}
-use Rattle.wat_lexer_parser.specs.parser.Takers.{Reader, as_annotation, as_id, as_integer, as_keyword, as_owned_id, as_string}
+use Rattle.wat_lexer_parser.specs.parser.Takers.{Reader, as_annotation, as_id, as_integer, as_keyword, as_string}
 use Rattle.wat_lexer_parser.specs.readings.Readings.{Reading, give, group, joined_while, mapped, refuse, refuse_behind, spanned, token, where_seen, while_seen}
-use Rattle.wat_lexer_parser.specs.readings.Types.{Reference, Named, Number, Spelled, an_identifier, an_index, an_integer, annotation, bytes, identifier, integer, keyword, name_annotation, optional_name, owned_text, sees_annotation, spelling, text, u32, under_standard, unsigned_below, utf8_or_refused, word}
+use Rattle.wat_lexer_parser.specs.readings.Types.{Reference, Named, Number, Spelled, an_identifier, an_index, an_integer, annotation, bytes, identifier, integer, keyword, name_annotation, optional_name, owned_text, sees_annotation, spelling, text, u32, under_standard, unsigned_below, utf8_or_refused, word, as_owned_id}
 use Rattle.wat_words.specs.Words.{annotation_word, quoted}
 use Rattle.wat_format_shown.specs.Reads.{Moves, MovesReader, MovesSight}
 use Rattle.wat_format_shown.specs.lemmas.Moving.{moves_allocated, moves_and_then, moves_as, moves_checked, moves_give, moves_group, moves_mapped, moves_optional, moves_refuse, moves_refuse_behind, moves_spanned, moves_token, moves_under, moves_where_seen, moves_while, needs_checked, needs_token, spanned_moved}

@@ -2,17 +2,18 @@
 use Rattle.std.proofs.Common.{◌≡◌, ℕ, List, [], ◌∷◌, Bool, true, false, refl, sym, ap, ◌∙◌, inl, inr, Some, None, Ok, Err}
 use Rattle.std.specs.Prelude.{if◌then◌else◌, nat_eq, Result, string_bytes}
 use Rattle.std.proofs.lemmas.Bool.{cases_Bool}
+use Rattle.wat_lex.specs.declared.lexer.kinds.TokenKind.{TokenKind}
 use Rattle.wat_lexer_parser.specs.declared.parser.fault.Fault.{Fault}
 use Rattle.wat_lexer_parser.specs.declared.parser.calls.Call.{Call}
 use Rattle.wat_lexer_parser.specs.declared.parser.calls.Call.TheVariants as call
 use Rattle.wat_lexer_parser.specs.declared.parser.calls.Reply.{Reply}
 use Rattle.wat_lexer_parser.specs.declared.parser.calls.Reply.TheVariants as reply
-use Rattle.wat_lexer_parser.specs.calls.Calls.{answer, replies, state_after, shown_reply, comment_reply, place_after, after_taking, close_reply, taken_reply, open_reply, group_reply}
+use Rattle.wat_lexer_parser.specs.calls.Calls.{answer, replies, state_after, shown_reply, comment_reply, place_after, after_taking, paren_reply, close_reply, group_reply}
 use Rattle.wat_lexer_parser.specs.laws.CallLaws.{is_done, is_kept, kept_calls, kept_replies, NothingElse}
 use Rattle.wat_lexer_parser.specs.groups.Sorts.{is_open, is_close}
 use Rattle.wat_lexer_parser.specs.names.RegisteredNames.{most_often, Names, count, more, fewer, is_registered}
 use Rattle.wat_lexer_parser.specs.parser.State.{State}
-use Rattle.wat_lexer_parser.specs.places.Places.{comment_at}
+use Rattle.wat_lexer_parser.specs.places.Places.{comment_at, current_span}
 use Rattle.wat_lexer_parser.specs.places.Source.{Source}
 use Rattle.wat_lexer_parser.specs.shown.Showing.{Look, shown}
 
@@ -30,27 +31,27 @@ comment_still (Err f) p e = refl
 abbrev pub StaysRefused : ℕ → Reply × ℕ → Type 0
 StaysRefused p a = is_done a.0 ≡ false → a.1 ≡ p
 
-close_still : (s : Source) (n : Names) (p q : ℕ) (a : Look) → StaysRefused p (close_reply s n p q a)
-close_still s n p q (Ok None) = λ e. refl
-close_still s n p q (Ok (Some (t, r))) = closes (is_close t.kind) refl
+paren_still : (is_it : TokenKind → Bool) (p : ℕ) (refusal : Reply) (behind : ℕ → Reply × ℕ) → ((q : ℕ) → StaysRefused p (behind q)) → (a : Look) → StaysRefused p (paren_reply is_it p refusal behind a)
+paren_still is_it p refusal behind h (Ok None) = λ e. refl
+paren_still is_it p refusal behind h (Ok (Some (t, q))) = by_kind (is_it t.kind)
   where
-    closes : (b : Bool) → is_close t.kind ≡ b → StaysRefused p (close_reply s n p q (Ok (Some (t, r))))
-    closes true f = rw f (λ e. cc)
-    closes false f = rw f (λ e. refl)
-close_still s n p q (Err f) = λ e. refl
+    by_kind : (b : Bool) → StaysRefused p (if b then behind q else (refusal, p))
+    by_kind true = h q
+    by_kind false = λ e. refl
+paren_still is_it p refusal behind h (Err f) = λ e. refl
 
-takes_still : (s : Source) (n : Names) (p : ℕ) (a : Result ℕ Fault) → StaysRefused p (taken_reply s n p a)
-takes_still s n p (Ok q) = close_still s n p q (shown s q n)
-takes_still s n p (Err f) = λ e. refl
+done : (p q : ℕ) → StaysRefused p (reply.Done, q)
+done p q e = cc
 
-open_still : (s : Source) (n : Names) (k p : ℕ) (a : Look) → StaysRefused p (open_reply s n k p a)
-open_still s n k p (Ok None) = λ e. refl
-open_still s n k p (Ok (Some (t, q))) = opens (is_open t.kind) refl
-  where
-    opens : (b : Bool) → is_open t.kind ≡ b → StaysRefused p (open_reply s n k p (Ok (Some (t, q))))
-    opens true f = rw f (takes_still s n p (after_taking s n k q))
-    opens false f = rw f (λ e. refl)
-open_still s n k p (Err f) = λ e. refl
+close_still : (s : Source) (n : Names) (p : ℕ) (a : Result ℕ Fault) → StaysRefused p (close_reply s n p a)
+close_still s n p (Ok q) = paren_still is_close p (reply.NotClosed (current_span s q n)) (λ r. (reply.Done, r)) (done p) (shown s q n)
+close_still s n p (Err f) = λ e. refl
+
+group_still : (s : Source) (n : Names) (k p : ℕ) → StaysRefused p (group_reply s n k p)
+unfolding group_reply
+group_still s n k p =
+    let closes = λ (q : ℕ). close_still s n p (after_taking s n k q) in
+    paren_still is_open p (reply.NotOpen (current_span s p n)) (λ q. close_reply s n p (after_taking s n k q)) closes (shown s p n)
 
 register_still : (s : State) (x : List ℕ) (b : Bool)
     → let a : Reply × State = if b then (reply.TooOften, s) else (reply.Done, record s { names = more s.names x }) in is_done a.0 ≡ false → a.1 ≡ s
@@ -67,13 +68,12 @@ at_place s p e = ap (λ x. record s { place = x }) e
 
 -- a look, and a call that was refused, leaves the state
 pub refused_still : (s : State) (c : Call) → is_kept s c ≡ false → (answer s c).1 ≡ s
-unfolding group_reply
 refused_still s call.Look e = refl
 refused_still s call.Take e = at_place s _ (shown_still (shown s.source s.place s.names) s.place e)
 refused_still s call.Comment e = at_place s _ (comment_still (comment_at s.source s.place) s.place e)
 refused_still s (call.Register x) e = register_still s (string_bytes x) (nat_eq (count s.names (string_bytes x)) most_often) e
 refused_still s (call.Unregister x) e = unregister_still s (string_bytes x) (is_registered s.names (string_bytes x)) e
-refused_still s (call.Parens n) e = at_place s _ (open_still s.source s.names n s.place (shown s.source s.place s.names) e)
+refused_still s (call.Parens n) e = at_place s _ (group_still s.source s.names n s.place e)
 
 -- a call more before a list of calls: one that is kept, and one that is not
 kept_more : (s : State) (c : Call) (cs : List Call) → is_kept s c ≡ true → NothingElse (answer s c).1 cs → NothingElse s (c ∷ cs)

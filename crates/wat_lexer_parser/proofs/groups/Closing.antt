@@ -5,8 +5,8 @@ use Rattle.std.specs.Prelude.{IsFalse}
 use Rattle.wat_lex.specs.declared.lexer.kinds.TokenKind.{TokenKind}
 use Rattle.wat_lex.specs.declared.lexer.kinds.TokenKind.TheVariants.{LineComment, BlockComment, Whitespace, LParen, RParen, String, Id, Keyword, Annotation, Reserved, Integer, Float}
 use Rattle.wat_lex.specs.declared.lexer.kinds.Token.{Token}
-use Rattle.wat_lexer_parser.specs.groups.Sorts.{is_paren}
-use Rattle.wat_lexer_parser.specs.groups.Groups.{Balanced, nothing, plain, group, Group}
+use Rattle.wat_lexer_parser.specs.lemmas.Parts.{is_paren}
+use Rattle.wat_lexer_parser.specs.groups.Sorts.{Balanced, nothing, plain, group, Group}
 
 -- a group ends in the tokens, and then comes the rest: `Group`, a token at a time
 pub data Closed : List Token → List Token → Type 0 where

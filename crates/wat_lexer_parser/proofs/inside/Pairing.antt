@@ -7,7 +7,7 @@ use Rattle.std.proofs.lemmas.Bool.{cases_eq, cases_lt, both_ways}
 use Rattle.wat_lex.specs.declared.lexer.kinds.TokenKind.{TokenKind}
 use Rattle.wat_lex.specs.declared.lexer.kinds.TokenKind.TheVariants.{LParen, RParen}
 use Rattle.wat_lex.specs.declared.lexer.kinds.Token.{Token}
-use Rattle.wat_lexer_parser.specs.groups.Sorts.{is_paren}
+use Rattle.wat_lexer_parser.specs.lemmas.Parts.{is_paren}
 use Rattle.wat_lexer_parser.proofs.groups.Closing.{Closed, close, beyond, nested}
 use Rattle.wat_lexer_parser.specs.inside.Table.{Pair, Paired, Opening, FirstFrom, ClosesOne, Sorted}
 use Rattle.wat_lexer_parser.proofs.groups.Closing.{Closings, at_nil, at_close, at_plain, at_open, kind_cases, closed_from, group_from}

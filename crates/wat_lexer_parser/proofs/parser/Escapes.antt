@@ -15,7 +15,8 @@ use Rattle.wat_lex.specs.values.Names.{HasNone, HasNoEscape}
 use Rattle.wat_lex.specs.declared.lexer.kinds.Token.{Token}
 use Rattle.wat_lex.specs.declared.lexer.kinds.TokenKind.TheVariants.{String}
 use Rattle.wat_lexer_parser.specs.parser.State.{State, Answers, at_place, seen_at}
-use Rattle.wat_lexer_parser.specs.parser.Takers.{contains, may_take, may_take_at, as_string, word_takes}
+use Rattle.wat_lexer_parser.specs.parser.Takers.{contains, may_take_at, as_string, word_takes}
+use Rattle.wat_lexer_parser.specs.lemmas.Parts.{may_take}
 
 none_pass : (p : ℕ → Bool) (w : List ℕ) → list_any p w ≡ false → NonePass p w
 none_pass p [] e = tt

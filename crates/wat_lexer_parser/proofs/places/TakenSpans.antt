@@ -3,7 +3,8 @@ use Rattle.std.proofs.Common.{◌≡◌, ℕ, List, ap, Some, Ok, Err}
 use Rattle.wat_lex.specs.declared.lexer.kinds.Token.{Token}
 use Rattle.wat_lexer_parser.specs.names.RegisteredNames.{Names}
 use Rattle.wat_lexer_parser.specs.parser.State.{seen, told}
-use Rattle.wat_lexer_parser.specs.places.Places.{current_span, span_of}
+use Rattle.wat_lexer_parser.specs.lemmas.Parts.{span_of}
+use Rattle.wat_lexer_parser.specs.places.Places.{current_span}
 use Rattle.wat_lexer_parser.specs.places.Source.{Source}
 use Rattle.wat_lexer_parser.specs.shown.Showing.{Look, shown}
 

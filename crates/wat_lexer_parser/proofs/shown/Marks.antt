@@ -10,7 +10,7 @@ use Rattle.wat_lex.specs.tokens.Tiling.{TokenAt, Tiling, EndsAt}
 use Rattle.wat_lex.specs.declared.lexer.faults.LexFault.{LexFault}
 use Rattle.wat_lex.specs.declared.lexer.kinds.Token.{Token}
 use Rattle.wat_lex.specs.declared.lexer.kinds.TokenKind.TheVariants.{LParen}
-use Rattle.wat_lexer_parser.specs.groups.Sorts.{is_mark}
+use Rattle.wat_lexer_parser.specs.lemmas.Parts.{is_mark}
 use Rattle.wat_lexer_parser.specs.laws.ShownLaws.{MarksEndInFaults}
 
 -- the last token of a tiling ends where the tiling does

@@ -6,7 +6,7 @@ use Rattle.wat_lex.specs.declared.lexer.kinds.TokenKind.TheVariants.{LineComment
 use Rattle.wat_lex.specs.declared.lexer.kinds.Token.{Token}
 use Rattle.wat_lex.specs.declared.lexer.faults.LexFault.{LexFault}
 use Rattle.wat_lexer_parser.specs.names.RegisteredNames.{Names}
-use Rattle.wat_lexer_parser.specs.groups.Sorts.{is_paren}
+use Rattle.wat_lexer_parser.specs.lemmas.Parts.{is_paren}
 use Rattle.wat_lexer_parser.proofs.groups.Closing.{Closed, close, beyond, nested}
 use Rattle.wat_lexer_parser.specs.shown.Shown.{left_open}
 use Rattle.wat_lexer_parser.specs.inside.ShownIn.{Inside, shown_in, after, closed_one}

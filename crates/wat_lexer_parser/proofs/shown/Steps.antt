@@ -10,7 +10,7 @@ use Rattle.wat_lex.specs.declared.lexer.kinds.Token.{Token}
 use Rattle.wat_lex.specs.tokens.ReadableTokens.{word_of}
 use Rattle.wat_lexer_parser.specs.declared.parser.fault.Step.{Step}
 use Rattle.wat_lexer_parser.specs.declared.parser.fault.Step.TheVariants.{Pass, Take, Finish, Skip}
-use Rattle.wat_lexer_parser.specs.groups.Groups.{Group}
+use Rattle.wat_lexer_parser.specs.groups.Sorts.{Group}
 use Rattle.wat_lexer_parser.specs.names.RegisteredNames.{Names, is_registered}
 use Rattle.wat_lexer_parser.specs.shown.Shown.{Finding, HasName, IsMisnamed, Shown, none_left, blank, other, unmarked, none_follows, no_annotation, misnamed, registered, skipped, unclosed, left_open}
 use Rattle.wat_lexer_parser.specs.inside.ShownIn.{Showing, Inside, shown_in, first, step_of, step_kind, step_next, step_named, name_by, name_at}

@@ -6,7 +6,9 @@ use Rattle.wat_lex.specs.errors.Errors.{Report}
 use Rattle.wat_lex.specs.declared.lexer.kinds.Token.{Token}
 use Rattle.wat_lexer_parser.specs.lemmas.Behind.{same_token}
 use Rattle.wat_lexer_parser.specs.parser.State.{Answers, Seen}
-use Rattle.wat_lexer_parser.specs.parser.Takers.{as_id, as_owned_id, may_take, name_takes, named_by, taken, taken_by, word_takes}
+use Rattle.wat_lexer_parser.specs.parser.Takers.{as_id, name_takes, taken, taken_by, word_takes}
+use Rattle.wat_lexer_parser.specs.lemmas.Parts.{may_take}
+use Rattle.wat_lexer_parser.specs.readings.Types.{as_owned_id, named_by}
 
 module _ {T : Type 0} (bytes : T → List ℕ) (owned : T → Bool) (at : T → ℕ) where
   abbrev plain : Option T → Option (List ℕ × ℕ)

@@ -1,64 +1,43 @@
 -- What a parser replies to calls, and where they leave it: the fold of a list of calls. No part of the standard.
-use Rattle.std.specs.Prelude.{◌≡◌, ℕ, zero, suc, List, [], ◌∷◌, take, nat_eq, if◌then◌else◌, Some, None, Result, Ok, Err, string_bytes}
-use Rattle.wat_lexer_parser.specs.declared.parser.fault.Fault.{Fault}
+use Rattle.std.specs.Prelude.{◌≡◌, ℕ, zero, suc, Bool, List, [], ◌∷◌, take, nat_eq, if◌then◌else◌, Result, Ok, Err, string_bytes}
 use Rattle.wat_lexer_parser.specs.declared.parser.calls.Call.{Call}
 use Rattle.wat_lexer_parser.specs.declared.parser.calls.Call.TheVariants as call
 use Rattle.wat_lexer_parser.specs.declared.parser.calls.Reply.{Reply}
 use Rattle.wat_lexer_parser.specs.declared.parser.calls.Reply.TheVariants as reply
 use Rattle.wat_lexer_parser.specs.groups.Sorts.{is_open, is_close}
 use Rattle.wat_lexer_parser.specs.names.RegisteredNames.{Names, most_often, count, more, fewer, is_registered}
-use Rattle.wat_lexer_parser.specs.parser.State.{State}
-use Rattle.wat_lexer_parser.specs.places.Places.{comment_at, current_span}
-use Rattle.wat_lexer_parser.specs.places.Source.{Source}
-use Rattle.wat_lexer_parser.specs.shown.Showing.{Look, shown}
+use Rattle.wat_lexer_parser.specs.parser.State.{State, Source, TokenKind, Fault, Look, shown, comment_at, current_span, cases_of}
 
 abbrev pub fault_reply : Fault → Reply
 fault_reply f = reply.Fault f.offset f.kind
 
 abbrev pub shown_reply : Look → Reply
-shown_reply (Ok None) = reply.End
-shown_reply (Ok (Some (t, q))) = reply.Token t
-shown_reply (Err f) = fault_reply f
+shown_reply look = cases_of look reply.End (λ t q. reply.Token t) fault_reply
 
 abbrev pub comment_reply : Look → Reply
-comment_reply (Ok None) = reply.Absent
-comment_reply (Ok (Some (t, q))) = reply.Comment t.offset t.len
-comment_reply (Err f) = fault_reply f
+comment_reply look = cases_of look reply.Absent (λ t q. reply.Comment t.offset t.len) fault_reply
 
 -- the place behind what was found
 abbrev pub place_after : Look → ℕ → ℕ
-place_after (Ok None) p = p
-place_after (Ok (Some (t, q))) p = q
-place_after (Err f) p = p
-
-abbrev pub after_taking_by : (ℕ → Result ℕ Fault) → ℕ → Look → Result ℕ Fault
-after_taking_by f p (Ok None) = Ok p
-after_taking_by f p (Ok (Some (t, q))) = f q
-after_taking_by f p (Err e) = Err e
+place_after look p = cases_of look p (λ t q. q) (λ f. p)
 
 -- the place behind up to n shown tokens, or the fault that is shown before
 unfoldable pub after_taking : Source → Names → ℕ → ℕ → Result ℕ Fault
 after_taking s names zero p = Ok p
-after_taking s names (suc n) p = after_taking_by (λ q. after_taking s names n q) p (shown s p names)
+after_taking s names (suc n) p = cases_of (shown s p names) (Ok p) (λ t q. after_taking s names n q) Err
 
--- the reply to taking `)` at q, with the place behind it, or p where none is shown
-abbrev pub close_reply : Source → Names → ℕ → ℕ → Look → Reply × ℕ
-close_reply s names p q (Ok None) = (reply.NotClosed (current_span s q names), p)
-close_reply s names p q (Ok (Some (t, r))) = if is_close t.kind then (reply.Done, r) else (reply.NotClosed (current_span s q names), p)
-close_reply s names p q (Err f) = (fault_reply f, p)
+-- the reply where this parenthesis is shown, or else the refusal; the place is p unless all is done
+abbrev pub paren_reply : (TokenKind → Bool) → ℕ → Reply → (ℕ → Reply × ℕ) → Look → Reply × ℕ
+paren_reply is_it p refusal behind look = cases_of look (refusal, p) (λ t q. if is_it t.kind then behind q else (refusal, p)) (λ f. (fault_reply f, p))
 
-abbrev pub taken_reply : Source → Names → ℕ → Result ℕ Fault → Reply × ℕ
-taken_reply s names p (Ok q) = close_reply s names p q (shown s q names)
-taken_reply s names p (Err f) = (fault_reply f, p)
-
-abbrev pub open_reply : Source → Names → ℕ → ℕ → Look → Reply × ℕ
-open_reply s names n p (Ok None) = (reply.NotOpen (current_span s p names), p)
-open_reply s names n p (Ok (Some (t, q))) = if is_open t.kind then taken_reply s names p (after_taking s names n q) else (reply.NotOpen (current_span s p names), p)
-open_reply s names n p (Err f) = (fault_reply f, p)
+abbrev pub close_reply : Source → Names → ℕ → Result ℕ Fault → Reply × ℕ
+close_reply s names p (Ok q) = paren_reply is_close p (reply.NotClosed (current_span s q names)) (λ r. (reply.Done, r)) (shown s q names)
+close_reply s names p (Err f) = (fault_reply f, p)
 
 -- a group of up to n tokens: the reply, and the place behind it, or p where it is no such group
 unfoldable pub group_reply : Source → Names → ℕ → ℕ → Reply × ℕ
-group_reply s names n p = open_reply s names n p (shown s p names)
+group_reply s names n p =
+    paren_reply is_open p (reply.NotOpen (current_span s p names)) (λ q. close_reply s names p (after_taking s names n q)) (shown s p names)
 
 abbrev pub register : State → List ℕ → Reply × State
 register s x = if nat_eq (count s.names x) most_often then (reply.TooOften, s) else (reply.Done, record s { names = more s.names x })

@@ -9,8 +9,7 @@ use Rattle.wat_lex.specs.declared.lexer.faults.LexError.TheVariants.{EmptyAnnota
 use Rattle.wat_lex.specs.declared.lexer.kinds.TokenKind.{TokenKind}
 use Rattle.wat_lex.specs.declared.lexer.kinds.TokenKind.TheVariants.{LParen, Annotation}
 use Rattle.wat_lex.specs.declared.lexer.kinds.Token.{Token}
-use Rattle.wat_lexer_parser.specs.groups.Groups.{Group, NoGroup}
-use Rattle.wat_lexer_parser.specs.groups.Sorts.{is_open}
+use Rattle.wat_lexer_parser.specs.groups.Sorts.{Group, NoGroup, is_open}
 use Rattle.wat_lexer_parser.specs.places.Source.{Source, IsRead}
 
 -- the name of an annotation, or what is wrong with it

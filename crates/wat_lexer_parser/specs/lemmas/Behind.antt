@@ -9,7 +9,8 @@ use Rattle.wat_lexer_parser.specs.declared.parser.fault.Step.TheVariants.{Pass, 
 use Rattle.wat_lexer_parser.specs.names.RegisteredNames.{Names}
 use Rattle.wat_lexer_parser.specs.shown.Shown.{Finding, ended, left_open}
 use Rattle.wat_lexer_parser.specs.laws.ShownLaws.{ShownIsTaken}
-use Rattle.wat_lexer_parser.specs.places.Places.{offset_at, end_of}
+use Rattle.wat_lexer_parser.specs.lemmas.Parts.{end_of}
+use Rattle.wat_lexer_parser.specs.places.Places.{offset_at}
 use Rattle.wat_lexer_parser.specs.places.Source.{Source}
 use Rattle.wat_lexer_parser.specs.shown.Showing.{placed, shown}
 use Rattle.wat_lexer_parser.specs.inside.ShownIn.{Mode, Showing, Inside, shown_in, first, step_of, after}

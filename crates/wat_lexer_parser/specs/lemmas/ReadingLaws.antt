@@ -5,7 +5,8 @@ use Rattle.std.specs.Prelude.{Option, Result, codes}
 use Rattle.wat_lex.specs.errors.Errors.{Report}
 use Rattle.wat_lex.specs.declared.lexer.kinds.Token.{Token}
 use Rattle.wat_lexer_parser.specs.names.RegisteredNames.{Names}
-use Rattle.wat_lexer_parser.specs.parser.Closures.{opened, closed, inside, taken_or}
+use Rattle.wat_lexer_parser.specs.parser.Closures.{opened, closed, inside}
+use Rattle.wat_lexer_parser.specs.lemmas.Parts.{taken_or}
 use Rattle.wat_lexer_parser.specs.parser.Sights.{Sight}
 use Rattle.wat_lexer_parser.specs.parser.State.{State, Seen, seen, told, report_here}
 use Rattle.wat_lexer_parser.specs.parser.Takers.{Reader, taken, taken_at, taken_by, may_take_at, as_open, as_close}

@@ -10,16 +10,17 @@ use Rattle.wat_lexer_parser.specs.groups.Sorts.{is_close}
 use Rattle.wat_lexer_parser.specs.lemmas.Behind.{same_token, forward_shown}
 use Rattle.wat_lexer_parser.specs.names.RegisteredNames.{Names, is_registered}
 use Rattle.wat_lexer_parser.specs.parser.State.{State, Seen, seen, told, report_here, message_at, registered, at_place, seen_at}
-use Rattle.wat_lexer_parser.specs.parser.Takers.{Reader, taken, taken_by, sees, as_annotation, as_open, as_close, taken_at, may_take_at}
+use Rattle.wat_lexer_parser.specs.parser.Takers.{Reader, taken, taken_by, as_annotation, as_open, as_close, taken_at, may_take_at}
+use Rattle.wat_lexer_parser.specs.lemmas.Parts.{sees, taken_or}
 use Rattle.wat_lexer_parser.specs.places.Places.{current_span, empty_of}
-use Rattle.wat_lexer_parser.specs.places.Places as places
+use Rattle.wat_lexer_parser.specs.lemmas.Parts as parts
 use Rattle.wat_lexer_parser.specs.places.Source.{Source}
 use Rattle.wat_lexer_parser.specs.shown.Showing.{Look, shown}
 use Rattle.wat_lexer_parser.specs.readings.Choices.{one_behind}
-use Rattle.wat_lexer_parser.specs.readings.Readings.{Outcome, Reading, on, refused, given, give, refuse, refuse_behind, token, token_by, also_taking, behind, and_then, and_then_by, told_as, mapped, spanned, allocated, passed_by, checked_by, checked, where_seen_by, where_seen, also_first, up_to, while_seen, closed_by, inside_by, opened_by, group, under, under_by, start, at_end, whole_by, whole}
-use Rattle.wat_lexer_parser.specs.parser.Sights.{Sight, sight_of, more_comes, seen_behind, second}
+use Rattle.wat_lexer_parser.specs.readings.Readings.{Outcome, Reading, on, refused, given, give, refuse, refuse_behind, token, token_by, also_taking, behind, and_then, and_then_by, told_as, mapped, spanned, allocated, passed_by, checked_by, checked, where_seen_by, where_seen, also_first, up_to, while_seen, closed_by, inside_by, opened_by, group, under, under_by, start, at_end, whole_by, whole, more_comes}
+use Rattle.wat_lexer_parser.specs.parser.Sights.{Sight, sight_of, seen_behind, second}
 use Rattle.wat_lexer_parser.specs.readings.Types.{behind_open, is_taken, sees_annotation, sees_word, spelling}
-use Rattle.wat_lexer_parser.specs.parser.Closures.{opened, closed, inside, taken_or}
+use Rattle.wat_lexer_parser.specs.parser.Closures.{opened, closed, inside}
 use Rattle.wat_lexer_parser.specs.rules.Rules.{End, Ground, Rule, Telling, unless_fault, Nothing, Never, One, one, Then, Told, span_of, Spanned, Checked, Seen as SeenRule, Group, Shrinks, While, none, more, told_word, behind_kind, tells_kind, tells_word, tells_second, tells_behind_open, tells_more}
 use Rattle.wat_lexer_parser.specs.rules.Rules as rules
 
@@ -94,7 +95,7 @@ follows_mapped f m R h = record {
 pub span_at : (a : State) (e : End) (us : List Token) → From a e us → current_span a.source a.place a.names ≡ span_of (ground a e) us
 unfolding current_span
 span_at a e [] at = at.1
-span_at a e (t ∷ us) at = ap (places.span_of a.source a.place) at.1
+span_at a e (t ∷ us) at = ap (parts.span_of a.source a.place) at.1
 
 pub follows_spanned : {V : Type 0} (m : Reading V) (R : Rule V) → Follows m R → Follows (spanned m) (Spanned R)
 follows_spanned {V} m R h = record {

@@ -14,7 +14,7 @@ use Rattle.wat_lexer_parser.specs.lemmas.Behind.{Behind, behind_in, behind_place
 use Rattle.wat_lexer_parser.specs.names.RegisteredNames.{Names, no_names}
 use Rattle.wat_lexer_parser.specs.parser.State.{Answers, report_of, seen, told}
 use Rattle.wat_lexer_parser.specs.places.Places.{current_span, offset_at}
-use Rattle.wat_lexer_parser.specs.places.Places as places
+use Rattle.wat_lexer_parser.specs.lemmas.Parts as parts
 use Rattle.wat_lexer_parser.specs.places.Source.{Source, IsRead}
 use Rattle.wat_lexer_parser.specs.laws.AllShown.{AllShown}
 use Rattle.wat_lexer_parser.specs.laws.AllShown as all_shown
@@ -36,9 +36,9 @@ seen_is : (s : Source) (names : Names) (p : ℕ) (l : Look) → shown s p names 
 unfolding seen
 seen_is s names p l e = ap (told s.setting.text) e
 
-span_is : (s : Source) (names : Names) (p : ℕ) (l : Look) → shown s p names ≡ l → current_span s p names ≡ places.span_of s p l
+span_is : (s : Source) (names : Names) (p : ℕ) (l : Look) → shown s p names ≡ l → current_span s p names ≡ parts.span_of s p l
 unfolding current_span
-span_is s names p l e = ap (places.span_of s p) e
+span_is s names p l e = ap (parts.span_of s p) e
 
 end_more : (text : List ℕ) (p q : ℕ) (t : Token) (us : List Token) (f : Option Fault) → q ≡ t.offset + t.len → end_from text q us f ≡ end_from text p (t ∷ us) f
 end_more text p q t us None e = refl

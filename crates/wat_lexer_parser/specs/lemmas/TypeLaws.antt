@@ -2,12 +2,12 @@
 use Rattle.std.proofs.Common.{◌^◌, ℕ, List, [], ◌∷◌, Bool, true}
 use Rattle.std.specs.Prelude.{◌++◌, codes, length, nat_le, Option}
 use Rattle.wat_lexer_parser.specs.lemmas.ReadingLaws.{advances_token, advances_and_then, advances_mapped, advances_spanned, advances_checked, advances_where_seen, advances_refuse, advances_group}
-use Rattle.wat_lexer_parser.specs.parser.Takers.{Reader, as_owned_id, as_integer, as_string, as_annotation, as_keyword, as_reserved}
+use Rattle.wat_lexer_parser.specs.parser.Takers.{Reader, as_integer, as_string, as_annotation, as_keyword, as_reserved}
 use Rattle.wat_lexer_parser.specs.readings.Attempts.{attempts_held}
 use Rattle.wat_lexer_parser.specs.readings.Choices.{Choice, one_behind, one_of}
 use Rattle.wat_lexer_parser.specs.readings.Readings.{Reading, also_taking, token, refuse, mapped, pair, spanned, where_seen}
 use Rattle.wat_lexer_parser.specs.readings.Reads.{Advances}
-use Rattle.wat_lexer_parser.specs.readings.Types.{Reference, Number, Named, Spelled, identifier, an_identifier, integer, an_integer, u32, unsigned_below, an_index, item, bytes, text, utf8_or_refused, spelling, word, keyword, reserved_symbol, annotation, name_annotation}
+use Rattle.wat_lexer_parser.specs.readings.Types.{Reference, Number, Named, Spelled, identifier, an_identifier, integer, an_integer, u32, unsigned_below, an_index, item, bytes, text, utf8_or_refused, spelling, word, keyword, reserved_symbol, annotation, name_annotation, as_owned_id}
 use Rattle.wat_words.specs.Words.{quoted, annotation_word}
 
 -- each of several alternatives takes a token

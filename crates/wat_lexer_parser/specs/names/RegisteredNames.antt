@@ -1,10 +1,9 @@
 -- WebAssembly specification, text format, lexical format: annotations, of which the standard lets a tool take those that it knows. The
 -- names that a parser has registered, each with a count above 0. Registering and counts are no part of the standard.
-use Rattle.std.specs.Prelude.{ℕ, Bool, ◌≢◌, ◌+◌, ◌-◌, ◌^◌, List, nat_lt, cond, Some}
+use Rattle.std.specs.Prelude.{ℕ, Bool, ◌≢◌, ◌+◌, ◌-◌, ◌^◌, List, nat_lt, cond, Some, unwrap_or}
 use Rattle.std.specs.FinMap as finmap
 use Rattle.std.specs.Cmp.Lexicographic.{slice_cmp}
 use Rattle.std.specs.Ordering.{nat_cmp}
-use Rattle.std.specs.Option.{unwrap_or}
 
 -- a finite map from texts to counts
 abbrev pub Names : Type 0

@@ -1,24 +1,15 @@
 -- What calls with closures answer, and what taking a parenthesis does. No part of the standard.
-use Rattle.std.specs.Prelude.{ℕ, ◌+◌, ◌≡◌, ◌<◌, ◌⊎◌, codes, Option, Some, None, Result, Ok, Err}
-use Rattle.wat_lex.specs.errors.Errors.{Report}
-use Rattle.wat_lexer_parser.specs.names.RegisteredNames.{Names}
-use Rattle.wat_lexer_parser.specs.parser.State.{State, IsRefusal, report_here, seen}
+use Rattle.std.specs.Prelude.{ℕ, ◌+◌, ◌≡◌, ◌<◌, ◌⊎◌, codes, Option, Result, Ok, Err}
+use Rattle.wat_lexer_parser.specs.parser.State.{State, IsRefusal, report_here, seen, Report, Names, Source, cases_of}
 use Rattle.wat_lexer_parser.specs.parser.Takers.{taken, as_open, as_close}
-use Rattle.wat_lexer_parser.specs.places.Source.{Source}
 
--- the place behind what was taken, or the refusal where nothing was
-abbrev pub taken_or : Report → Result (Option (Unit {0} × ℕ)) Report → Result ℕ Report
-taken_or refusal (Ok None) = Err refusal
-taken_or refusal (Ok (Some (v, q))) = Ok q
-taken_or refusal (Err f) = Err f
-
--- the place behind the `(` that is shown
+-- the place behind the `(` that is shown, or the refusal
 unfoldable pub opened : Source → ℕ → Names → Result ℕ Report
-opened s p names = taken_or (report_here s p names (codes "expected `(`")) (taken as_open s.setting.text (seen s p names))
+opened s p names = cases_of (taken as_open s.setting.text (seen s p names)) (Err (report_here s p names (codes "expected `(`"))) (λ v q. Ok q) Err
 
--- the place behind the `)` that is shown
+-- the place behind the `)` that is shown, or the refusal
 unfoldable pub closed : Source → ℕ → Names → Result ℕ Report
-closed s p names = taken_or (report_here s p names (codes "expected `)`")) (taken as_close s.setting.text (seen s p names))
+closed s p names = cases_of (taken as_close s.setting.text (seen s p names)) (Err (report_here s p names (codes "expected `)`"))) (λ v q. Ok q) Err
 
 -- the state in which the closure of `parens` is called
 abbrev pub inside : State → ℕ → State

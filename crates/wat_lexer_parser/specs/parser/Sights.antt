@@ -1,10 +1,7 @@
 -- What peeking tells: whether a type is seen, here or behind the token that is shown. No part of the standard.
-use Rattle.std.specs.Prelude.{ℕ, Bool, false, not, Option, Some, None, Result, Ok, Err}
-use Rattle.wat_lex.specs.errors.Errors.{Report}
-use Rattle.wat_lexer_parser.specs.parser.State.{State, Answers, at_place, seen_at}
+use Rattle.std.specs.Prelude.{ℕ, Bool, false, Option, Result, Ok, Err}
+use Rattle.wat_lexer_parser.specs.parser.State.{State, Answers, at_place, seen_at, Report, cases_of}
 use Rattle.wat_lexer_parser.specs.parser.Takers.{Reader, sees_at}
-use Rattle.wat_lexer_parser.specs.places.Places.{empty_of}
-use Rattle.wat_lexer_parser.specs.shown.Showing.{shown}
 
 -- whether a type is seen, or the report of the fault that is shown; and whether telling it may take memory
 pub record Sighting : Type 0 where
@@ -27,15 +24,9 @@ freely told = record { told = told; takes = false }
 abbrev pub sight_of : {V : Type 0} → Reader V → Sight
 sight_of read a = freely (sees_at read a)
 
--- neither `)` nor the end is shown
-abbrev pub more_comes : Sight
-more_comes a = freely (Ok (not (empty_of (shown a.source a.place a.names))))
-
 -- what is seen behind what was found here; where nothing was, it is not seen
 abbrev pub seen_behind : {A : Type 0} → Sight → State → Result (Option (A × ℕ)) Report → Sighting
-seen_behind sight a (Ok None) = freely (Ok false)
-seen_behind sight a (Ok (Some (found, q))) = sight (at_place a q)
-seen_behind sight a (Err f) = freely (Err f)
+seen_behind sight a found = cases_of found (freely (Ok false)) (λ v q. sight (at_place a q)) (λ f. freely (Err f))
 
 -- behind the token that is shown
 abbrev pub second : Sight → Sight

@@ -1,14 +1,10 @@
 -- What a parser is to its callers, and what a call answers. No part of the standard.
-use Rattle.std.specs.Prelude.{ℕ, ◌≤◌, ◌<◌, ◌^◌, List, length, Bool, ◌≡◌, ◌||◌, is_err, IsTrue, codes, if◌then◌else◌, nat_lt, nat_eq, Option, Some, None, Result, Ok, Err}
-use Rattle.std.specs.Str.{IsUtf8}
-use Rattle.wat_lex.specs.errors.Errors.{Report, Custom, lexical, report_in, IsUnlessMemory}
-use Rattle.wat_lex.specs.declared.lexer.kinds.Token.{Token}
-use Rattle.wat_lexer_parser.specs.declared.parser.fault.Fault.{Fault}
-use Rattle.wat_lexer_parser.specs.declared.parser.fault.FaultKind.TheVariants.{Lex, Unclosed}
-use Rattle.wat_lexer_parser.specs.names.RegisteredNames.{Names, IsPositive, count, more, most_often}
-use Rattle.wat_lexer_parser.specs.places.Places.{current_span, offset_at}
-use Rattle.wat_lexer_parser.specs.places.Source.{Source, IsRead}
-use Rattle.wat_lexer_parser.specs.shown.Showing.{Look, shown}
+use Rattle.std.specs.Prelude.{ℕ, ◌≤◌, ◌<◌, ◌^◌, nat_lt, nat_eq, List, length, codes, Bool, ◌||◌, if◌then◌else◌}
+use Rattle.std.specs.Prelude.{◌≡◌, is_err, IsErrAnd, IsTrue, IsUtf8, Option, Some, None, Result, Ok, Err}
+use Rattle.wat_lexer_parser.specs.names.RegisteredNames.{IsPositive, count, more, most_often}
+pub use Rattle.wat_lex.specs.errors.Errors.{Report, Custom, lexical, report_in, IsUnlessMemory}
+pub use Rattle.wat_lexer_parser.specs.places.Places.{current_span, offset_at, comment_at}
+pub use Rattle.wat_lexer_parser.specs.shown.Showing.{Look, shown, cases_of, Names, Source, IsRead, Token, TokenKind, Fault, Lex, Unclosed}
 
 -- a parser, as its callers see it
 pub record State : Type 0 where
@@ -71,8 +67,7 @@ Answers takes f m (Err (Some e)) = m ≡ Err e
 
 -- the error is the refusal that there is, unless memory was wanting
 abbrev pub IsRefusal : {V : Type 0} → Result V Report → Option Report → Type 0
-IsRefusal (Ok v) e = ⊥
-IsRefusal (Err f) e = IsUnlessMemory e f
+IsRefusal m e = IsErrAnd m (IsUnlessMemory e)
 
 -- groups may be 100 deep
 abbrev pub depth_checked : State → Result (Unit {0}) Report

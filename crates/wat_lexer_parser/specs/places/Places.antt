@@ -1,38 +1,23 @@
 -- WebAssembly specification, text format, lexical format: white space, comments. What is found at a place, beside what is shown there. A
 -- place is how many raw tokens lie before it; places and spans are no part of the standard.
-use Rattle.std.specs.Prelude.{ℕ, zero, suc, List, [], ◌∷◌, Bool, true, false, ◌+◌, ◌||◌, not, is_some, if◌then◌else◌, length, drop, slice_get, Option, Some, None, Ok, Err}
+use Rattle.std.specs.Prelude.{ℕ, zero, suc, ◌+◌, Bool, true, false, ◌||◌, not, if◌then◌else◌, List, [], ◌∷◌, length, drop, slice_get}
+use Rattle.std.specs.Prelude.{Option, Some, None, Ok, is_some, option_map, unwrap_or}
 use Rattle.std.specs.List.{list_any}
-use Rattle.wat_lex.specs.declared.lexer.faults.LexFault.{LexFault}
-use Rattle.wat_lex.specs.declared.lexer.kinds.Token.{Token}
 use Rattle.wat_lexer_parser.specs.groups.Sorts.{is_space, is_comment, is_close, is_blank}
-use Rattle.wat_lexer_parser.specs.names.RegisteredNames.{Names}
-use Rattle.wat_lexer_parser.specs.places.Source.{Source}
-use Rattle.wat_lexer_parser.specs.shown.Shown.{Finding, ended}
-use Rattle.wat_lexer_parser.specs.shown.Showing.{Look, placed, shown}
-
-abbrev pub end_of : Option Token → ℕ
-end_of None = 0
-end_of (Some t) = t.offset + t.len
+use Rattle.wat_lexer_parser.specs.shown.Showing.{Look, placed, shown, Finding, ended, cases_of, Names, Source, Token, LexFault}
 
 -- the byte of a place: 0, or the end of the last token before it. Past the tokens it is 0 and means nothing; `IsSound` has no such place.
 abbrev pub offset_at : List Token → ℕ → ℕ
 offset_at ts zero = 0
-offset_at ts (suc p) = end_of (slice_get ts p)
-
-abbrev pub span_of : Source → ℕ → Look → ℕ
-span_of s p (Ok None) = length s.setting.text
-span_of s p (Ok (Some (t, q))) = t.offset
-span_of s p (Err f) = offset_at s.tokens p
+offset_at ts (suc p) = unwrap_or (option_map (λ t. t.offset + t.len) (slice_get ts p)) 0
 
 -- the current span at a place: the byte of the token that is shown, the text's length at the end, the place at a fault
 unfoldable pub current_span : Source → ℕ → Names → ℕ
-current_span s p names = span_of s p (shown s p names)
+current_span s p names = cases_of (shown s p names) (length s.setting.text) (λ t q. t.offset) (λ f. offset_at s.tokens p)
 
 -- the end is shown, or `)`
 abbrev pub empty_of : Look → Bool
-empty_of (Ok None) = true
-empty_of (Ok (Some (t, q))) = is_close t.kind
-empty_of (Err f) = false
+empty_of look = cases_of look true (λ t q. is_close t.kind) (λ f. false)
 
 -- behind at most one whitespace token
 unfoldable pub past_space : List Token → List Token

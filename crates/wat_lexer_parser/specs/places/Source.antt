@@ -1,9 +1,17 @@
--- What a parser reads: a text with the lexer's flags, its raw tokens, and what they end with. No part of the standard.
+-- What a parser reads: a text with the lexer's flags, its raw tokens, and what they end with. No part of the standard. The names of tokens
+-- and faults that the other rooms use are passed on.
 use Rattle.std.specs.Prelude.{Bool, List, Option}
 use Rattle.wat_lex.specs.tokens.Setting.{Setting}
 use Rattle.wat_lex.specs.tokens.Tiling.{MaximalTiling}
-use Rattle.wat_lex.specs.declared.lexer.faults.LexFault.{LexFault}
-use Rattle.wat_lex.specs.declared.lexer.kinds.Token.{Token}
+pub use Rattle.wat_lex.specs.tokens.ReadableTokens.{token_text, word_of}
+pub use Rattle.wat_lex.specs.declared.lexer.faults.LexError.{LexError}
+pub use Rattle.wat_lex.specs.declared.lexer.faults.LexError.TheVariants.{EmptyId, EmptyAnnotation}
+pub use Rattle.wat_lex.specs.declared.lexer.faults.LexFault.{LexFault}
+pub use Rattle.wat_lex.specs.declared.lexer.kinds.Token.{Token}
+pub use Rattle.wat_lex.specs.declared.lexer.kinds.TokenKind.{TokenKind}
+pub use Rattle.wat_lex.specs.declared.lexer.kinds.TokenKind.TheVariants.{LineComment, BlockComment, Whitespace, LParen, RParen, Annotation}
+pub use Rattle.wat_lexer_parser.specs.declared.parser.fault.Fault.{Fault}
+pub use Rattle.wat_lexer_parser.specs.declared.parser.fault.FaultKind.TheVariants.{Lex, Unclosed}
 
 -- `track` is answered back alone
 pub record Source : Type 0 where

@@ -5,11 +5,12 @@ use Rattle.std.specs.List.{flat_map}
 use Rattle.wat_lex.specs.errors.Errors.{Report}
 use Rattle.wat_lexer_parser.specs.names.RegisteredNames.{no_names, is_registered}
 use Rattle.wat_lexer_parser.specs.parser.Closures.{opened, closed, inside}
-use Rattle.wat_lexer_parser.specs.parser.Sights.{Sight, more_comes}
+use Rattle.wat_lexer_parser.specs.parser.Sights.{Sight, freely}
 use Rattle.wat_lexer_parser.specs.parser.State.{State, Seen, at_place, seen_at, report_here, message_at, registered}
 use Rattle.wat_lexer_parser.specs.parser.Takers.{Reader, taken_at, may_take_at}
-use Rattle.wat_lexer_parser.specs.places.Places.{current_span, offset_at}
+use Rattle.wat_lexer_parser.specs.places.Places.{current_span, empty_of, offset_at}
 use Rattle.wat_lexer_parser.specs.places.Source.{Source}
+use Rattle.wat_lexer_parser.specs.shown.Showing.{shown}
 
 -- a value or a refusal, how many raw tokens were passed, and whether memory may be asked for, as it is for each refusal
 pub record Outcome (V : Type 0) : Type 0 where
@@ -128,6 +129,10 @@ up_to (suc n) sight m = where_seen sight (also_first m (up_to n sight m)) (give 
 -- more values than tokens.
 unfoldable pub while_seen : {V : Type 0} → Sight → Reading V → Reading (List V)
 while_seen sight m a = up_to (suc (length a.source.tokens)) sight m a
+
+-- neither `)` nor the end is shown
+abbrev pub more_comes : Sight
+more_comes a = freely (Ok (not (empty_of (shown a.source a.place a.names))))
 
 -- all values before `)` or the end
 abbrev pub many : {V : Type 0} → Reading V → Reading (List V)

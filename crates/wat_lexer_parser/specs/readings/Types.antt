@@ -8,7 +8,7 @@ use Rattle.wat_lex.specs.declared.lexer.kinds.TokenKind.TheVariants as kind
 use Rattle.wat_lex.specs.declared.token.Index.{Index}
 use Rattle.wat_lex.specs.declared.token.Index.TheVariants as index
 use Rattle.wat_lexer_parser.specs.parser.Sights.{Sight, freely, sight_of, seen_behind, second}
-use Rattle.wat_lexer_parser.specs.parser.Takers.{Reader, taken_at, may_take_at, as_id, as_owned_id, as_integer, as_string, as_keyword, as_reserved, as_annotation, as_open}
+use Rattle.wat_lexer_parser.specs.parser.Takers.{Reader, taken_at, may_take_at, name_takes, as_id, as_integer, as_string, as_keyword, as_reserved, as_annotation, as_open}
 use Rattle.wat_lexer_parser.specs.readings.Readings.{Reading, token, refuse, refuse_behind, give, and_then, mapped, pair, spanned, allocated, checked, where_seen, optional, group, under}
 use Rattle.wat_words.specs.Words.{quoted, annotation_word}
 
@@ -22,6 +22,15 @@ pub record Spelled : Type 0 where
 
 abbrev pub spelled : Identifier → Spelled
 spelled i = record { name = i.name; owned = i.owned; generation = i.generation; span = i.span }
+
+-- the name of an identifier, and whether it is decoded, so that it stands in memory of its own
+abbrev pub named_by : Bool → Option (Result (List ℕ) Report) → Option (Result (List ℕ × Bool) Report)
+named_by owned None = None
+named_by owned (Some (Ok name)) = Some (Ok (name, owned))
+named_by owned (Some (Err f)) = Some (Err f)
+
+abbrev pub as_owned_id : Reader (List ℕ × Bool)
+as_owned_id text t kind = named_by (name_takes text t) (as_id text t kind)
 
 abbrev pub identifier : Reading Spelled
 identifier = mapped (λ v. record { name = v.0.0; owned = v.0.1; generation = 0; span = v.1 }) (spanned (token as_owned_id (codes "expected an identifier")))

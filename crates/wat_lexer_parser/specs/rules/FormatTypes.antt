@@ -3,10 +3,10 @@
 use Rattle.std.proofs.Common.{◌≡◌, ap, refl}
 use Rattle.std.specs.Prelude.{ℕ, ◌^◌, Bool, true, false, if◌then◌else◌, List, ◌++◌, codes, Option}
 use Rattle.std.specs.Str.{is_utf8}
-use Rattle.wat_lexer_parser.specs.parser.Takers.{Reader, as_keyword, as_integer, as_open, as_id, as_string, as_annotation, as_owned_id}
+use Rattle.wat_lexer_parser.specs.parser.Takers.{Reader, as_keyword, as_integer, as_open, as_id, as_string, as_annotation}
 use Rattle.wat_lexer_parser.specs.rules.Formats.{Format, Lookout, a_token, a_word, a_named, as_read, token, mapped, spanned, checked, and_then, give, refuse, refuse_behind, allocated, where_seen, optional, group, second}
 use Rattle.wat_lexer_parser.specs.readings.Readings as words
-use Rattle.wat_lexer_parser.specs.readings.Types.{Reference, Named, Number, Spelled, spelling, unsigned_below, utf8_or_refused}
+use Rattle.wat_lexer_parser.specs.readings.Types.{Reference, Named, Number, Spelled, spelling, unsigned_below, utf8_or_refused, as_owned_id}
 use Rattle.wat_lexer_parser.specs.readings.Types as types
 use Rattle.wat_words.specs.Words.{annotation_word, quoted}
 

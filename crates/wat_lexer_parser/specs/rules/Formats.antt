@@ -59,7 +59,7 @@ abbrev pub behind_open : Lookout → Lookout
 behind_open l = record { sight = types.behind_open l.sight; look = tells_behind_open l.look; agrees = agrees_behind_open l.sight l.look l.agrees }
 
 abbrev pub more_comes : Lookout
-more_comes = record { sight = sights.more_comes; look = tells_more; agrees = agrees_more }
+more_comes = record { sight = words.more_comes; look = tells_more; agrees = agrees_more }
 
 abbrev pub give : {V : Type 0} → V → Format V
 give v = record {

@@ -1,22 +1,16 @@
 -- What is shown at a place of a text, and that this is what `Shown` says. Places are no part of the standard.
-use Rattle.std.specs.Prelude.{◌≡◌, ℕ, List, ◌-◌, length, drop, Option, Some, None, Result, Ok, Err}
-use Rattle.std.specs.Str.{IsUtf8}
-use Rattle.wat_lex.specs.declared.lexer.faults.LexFault.{LexFault}
-use Rattle.wat_lex.specs.declared.lexer.kinds.Token.{Token}
-use Rattle.wat_lexer_parser.specs.declared.parser.fault.Fault.{Fault}
-use Rattle.wat_lexer_parser.specs.names.RegisteredNames.{Names}
-use Rattle.wat_lexer_parser.specs.places.Source.{Source, IsRead}
-use Rattle.wat_lexer_parser.specs.shown.Shown.{Finding, Shown}
+use Rattle.std.specs.Prelude.{◌≡◌, ℕ, List, ◌-◌, length, drop, Option, Some, None, Result, Ok, Err, IsUtf8}
 use Rattle.wat_lexer_parser.specs.inside.ShownIn.{Showing, shown_in}
+pub use Rattle.wat_lexer_parser.specs.names.RegisteredNames.{Names}
+pub use Rattle.wat_lexer_parser.specs.places.Source.{Source, IsRead, Token, TokenKind, LexFault, Fault, Lex, Unclosed}
+pub use Rattle.wat_lexer_parser.specs.shown.Shown.{Finding, Shown, ended, cases_of}
 
 -- a token with the place behind it, or None, or a fault
 abbrev pub Look : Type 0
 Look = Result (Option (Token × ℕ)) Fault
 
 abbrev pub placed : List Token → Finding → Look
-placed ts (Ok None) = Ok None
-placed ts (Ok (Some (t, r))) = Ok (Some (t, length ts - length r))
-placed ts (Err f) = Err f
+placed ts found = cases_of found (Ok None) (λ t r. Ok (Some (t, length ts - length r))) Err
 
 -- what is shown at a place
 unfoldable pub shown : Source → ℕ → Names → Look

@@ -1,20 +1,17 @@
 -- WebAssembly specification, text format, lexical format: white space, comments, annotations. What a parser shows of raw tokens:
 -- neither white space nor comments, nor a group `(@name ..)` whose name is not registered. Faults of such groups are no part of the
 -- standard.
-use Rattle.std.specs.Prelude.{◌≡◌, ◌≢◌, ℕ, List, [], ◌∷◌, ◌+◌, Option, Some, None, Result, Ok, Err, IsTrue, IsFalse}
-use Rattle.std.specs.Str.{IsUtf8}
+use Rattle.std.specs.Prelude.{◌≡◌, ◌≢◌, ℕ, List, [], ◌∷◌, ◌+◌, Option, Some, None, Result, Ok, Err, IsTrue, IsFalse, IsUtf8}
 use Rattle.wat_lex.specs.values.Names.{Name, NameFault}
-use Rattle.wat_lex.specs.tokens.ReadableTokens.{word_of}
-use Rattle.wat_lex.specs.declared.lexer.faults.LexError.{LexError}
-use Rattle.wat_lex.specs.declared.lexer.faults.LexError.TheVariants.{EmptyAnnotation}
-use Rattle.wat_lex.specs.declared.lexer.faults.LexFault.{LexFault}
-use Rattle.wat_lex.specs.declared.lexer.kinds.Token.{Token}
-use Rattle.wat_lex.specs.declared.lexer.kinds.TokenKind.TheVariants.{LParen, Annotation}
-use Rattle.wat_lexer_parser.specs.declared.parser.fault.Fault.{Fault}
-use Rattle.wat_lexer_parser.specs.declared.parser.fault.FaultKind.TheVariants.{Lex, Unclosed}
-use Rattle.wat_lexer_parser.specs.groups.Groups.{Group, NoGroup}
-use Rattle.wat_lexer_parser.specs.groups.Sorts.{is_blank, is_marked}
+use Rattle.wat_lexer_parser.specs.groups.Sorts.{Group, NoGroup, is_blank, is_marked}
 use Rattle.wat_lexer_parser.specs.names.RegisteredNames.{Names, is_registered}
+use Rattle.wat_lexer_parser.specs.places.Source.{Token, LParen, Annotation, LexError, EmptyAnnotation, LexFault, Fault, Lex, Unclosed, word_of}
+
+-- what is made of the end, of a token with what stands behind it, and of a fault
+abbrev pub cases_of : {A B E V : Type 0} → Result (Option (A × B)) E → V → (A → B → V) → (E → V) → V
+cases_of (Ok None) at_end at_token at_fault = at_end
+cases_of (Ok (Some (t, behind))) at_end at_token at_fault = at_token t behind
+cases_of (Err f) at_end at_token at_fault = at_fault f
 
 -- a token and the tokens behind it, or None at the end, or a fault
 abbrev pub Finding : Type 0

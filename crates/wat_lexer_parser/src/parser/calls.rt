@@ -122,8 +122,8 @@ impl<'a> Parser<'a> {
     /// The reply to taking `)` at `at`, and the place behind it, or `place` where none is shown.
     fn close_group(&self, place: usize, at: usize) -> (Reply, usize)
         requires { (place ≤ at) × (place ≤ length self.now.source.tokens) }
-        ensures value { result ≡ close_reply self.now.source self.now.names place at
-            (shown self.now.source at self.now.names) }
+        ensures value { result ≡
+            close_reply self.now.source self.now.names place (Ok at) }
         ensures on { place ≤ result.1 }
         ensures within { result.1 ≤ length self.now.source.tokens }
     {

@@ -13,7 +13,7 @@ pub struct Something(());
 
 impl Peek for Something {
     ghost use Rattle.std.specs.Prelude.{codes};
-    ghost use Rattle.wat_lexer_parser.specs.parser.Sights.{more_comes};
+    ghost use Rattle.wat_lexer_parser.specs.readings.Readings.{more_comes};
 
     ghost sight = { more_comes };
 

@@ -5,7 +5,8 @@ ghost use Rattle.std.specs.Option.{option_map};
 ghost use Rattle.wat_lex.specs.identifiers.Identifiers.{is_owned_str};
 ghost use Rattle.wat_lexer_parser.specs.parser.Sights.{Tells};
 ghost use Rattle.wat_lexer_parser.specs.parser.State.{Answers, at_place};
-ghost use Rattle.wat_lexer_parser.specs.parser.Takers.{as_owned_id, may_take_at, taken_at};
+ghost use Rattle.wat_lexer_parser.specs.parser.Takers.{may_take_at, taken_at};
+ghost use Rattle.wat_lexer_parser.specs.readings.Types.{as_owned_id};
 
 use crate::parser::{Cursor, Parse, Parser, Peek};
 use std::alloc::{AllocError, Global};

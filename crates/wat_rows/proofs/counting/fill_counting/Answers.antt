@@ -16,7 +16,7 @@ pub rows-preserved-then-is_blank : goal.rows-preserved-then-is_blank
 rows-preserved-then-is_blank c =
     let token = rw c.in-Ok-Some.field-0-is at c.in-Ok-Some.ensures.token in
     let boundary = rw c.in-Ok-Some.field-0-is at c.in-Ok-Some.ensures.boundary in
-    let blank : is_blank c.in-Ok-Some.token.kind ≡ true = search (c.is_blank.ensures, c.if-is_blank.true) in
+    let blank : is_blank c.in-Ok-Some.token.kind ≡ true = sym c.is_blank.ensures ∙ c.if-is_blank.true in
     counted_blank c.lexer_of-lexer.result c.args.pos c.rows.at c.args.out.now c.rows.out c.rows.count c.in-Ok-Some.token c.rows.invariant
     c.rows-test.true token boundary blank
 
@@ -24,7 +24,7 @@ pub rows-preserved : goal.rows-preserved
 rows-preserved c =
     let token = rw c.in-Ok-Some.field-0-is at c.in-Ok-Some.ensures.token in
     let boundary = rw c.in-Ok-Some.field-0-is at c.in-Ok-Some.ensures.boundary in
-    let counts : is_blank c.in-Ok-Some.token.kind ≡ false = search (c.is_blank.ensures, c.if-is_blank.false) in
+    let counts : is_blank c.in-Ok-Some.token.kind ≡ false = sym c.is_blank.ensures ∙ c.if-is_blank.false in
     counted_more c.lexer_of-lexer.result c.args.pos c.rows.at c.args.out.now c.rows.out c.rows.count c.in-Ok-Some.token c.row_of.result
     c.rows.invariant c.rows-test.true token boundary
     (c.row_of.ensures ∙ ap (λ (s : Setting). row_of s.text 0 c.in-Ok-Some.token) (sym c.lexer_of-lexer.ensures)) counts

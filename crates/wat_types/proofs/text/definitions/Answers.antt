@@ -3,9 +3,8 @@ use Rattle.std.specs.Prelude.{not}
 use Rattle.std.proofs.lemmas.List.{map-append}
 use Rattle.wat_lexer_parser.specs.lemmas.ReadingLaws.{advances_group}
 use Rattle.wat_lexer_parser.specs.lemmas.WhileLaws.{IsSoFar, none_so_far, one_more_read, all_read_at}
-use Rattle.wat_lexer_parser.specs.parser.Sights.{more_comes}
 use Rattle.wat_lexer_parser.specs.places.Places.{empty_of}
-use Rattle.wat_lexer_parser.specs.readings.Readings.{group}
+use Rattle.wat_lexer_parser.specs.readings.Readings.{group, more_comes}
 use Rattle.wat_lexer_parser.specs.readings.Reads.{Reads}
 use Rattle.wat_lexer_parser.specs.shown.Showing.{shown}
 use Rattle.wat_types.specs.Meanings.{definition}

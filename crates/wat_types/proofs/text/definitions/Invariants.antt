@@ -1,7 +1,6 @@
 use Rattle.std.proofs.Common.{◌≤◌, ◌-◌, suc, length}
 use Rattle.wat_lexer_parser.specs.lemmas.WhileLaws.{IsSoFar}
-use Rattle.wat_lexer_parser.specs.parser.Sights.{more_comes}
-use Rattle.wat_lexer_parser.specs.readings.Readings.{group}
+use Rattle.wat_lexer_parser.specs.readings.Readings.{group, more_comes}
 use Rattle.wat_lexer_parser.specs.readings.Reads.{IsKept}
 use Rattle.wat_types.specs.Meanings.{definition}
 use Rattle.wat_types.specs.Signatures.{signatures}

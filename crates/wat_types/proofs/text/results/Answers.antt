@@ -2,8 +2,7 @@ use Rattle.std.proofs.Common.{◌≡◌, refl, rules, sym, subst, None, Err}
 use Rattle.std.specs.Prelude.{Vec}
 use Rattle.std.specs.declared.alloc.Global.{Global}
 use Rattle.wat_lexer_parser.specs.lemmas.ReadingLaws.{advances_group}
-use Rattle.wat_lexer_parser.specs.parser.Sights.{more_comes}
-use Rattle.wat_lexer_parser.specs.readings.Readings.{group}
+use Rattle.wat_lexer_parser.specs.readings.Readings.{group, more_comes}
 use Rattle.wat_lexer_parser.specs.readings.Reads.{Reads}
 use Rattle.wat_types.specs.Meanings.{results, returns}
 use Rattle.wat_types.specs.declared.types.ValType.{ValType}
