@@ -123,19 +123,25 @@ pub fn taken(alloc: Global, cursor: Cursor<'_, '_>) -> Result<String, Error> {
     Ok(taken)
 }
 
-/// A name, and none where no name is shown.
-fn named(alloc: Global, name: Option<CowStr<'_>>) -> Result<String, AllocError> {
-    String::from_str(alloc, name.as_ref().map_or("none", |name| name.as_str()))
+/// A name in memory of its own.
+fn named(alloc: Global, name: CowStr<'_>) -> Result<String, AllocError> {
+    String::from_str(alloc, name.as_str())
 }
 
 /// The identifier that is shown.
 pub fn id(alloc: Global, cursor: Cursor<'_, '_>) -> Result<String, Error> {
-    Ok(named(alloc, cursor.id()?.map(|(name, _)| name))?)
+    match cursor.id()? {
+        Some((name, _)) => Ok(named(alloc, name)?),
+        None => Ok(String::from_str(alloc, "none")?),
+    }
 }
 
 /// The annotation that is shown.
 pub fn annotation(alloc: Global, cursor: Cursor<'_, '_>) -> Result<String, Error> {
-    Ok(named(alloc, cursor.annotation()?.map(|(name, _)| name))?)
+    match cursor.annotation()? {
+        Some((name, _)) => Ok(named(alloc, name)?),
+        None => Ok(String::from_str(alloc, "none")?),
+    }
 }
 
 /// The comment that comes next, and where the tokens behind it begin.
