@@ -159,22 +159,30 @@ fn is_told<T: Drop>(answer: Result<T, Error>) -> bool {
     }
 }
 
+/// Whether each taker of tokens and parentheses answers a report.
+fn tokens_tell(cursor: Cursor<'_, '_>) -> bool {
+    is_told(cursor.any())
+        && is_told(cursor.token())
+        && is_told(cursor.lparen())
+        && is_told(cursor.rparen())
+}
+
+/// Whether each taker of names and words answers a report.
+fn words_tell(cursor: Cursor<'_, '_>) -> bool {
+    is_told(cursor.id())
+        && is_told(cursor.annotation())
+        && is_told(cursor.keyword())
+        && is_told(cursor.reserved())
+}
+
+/// Whether each taker of strings and numbers answers a report.
+fn values_tell(cursor: Cursor<'_, '_>) -> bool {
+    is_told(cursor.string()) && is_told(cursor.integer()) && is_told(cursor.float())
+}
+
 /// Whether each taker answers a report.
 fn takers_tell(cursor: Cursor<'_, '_>) -> bool {
-    let takers = [
-        is_told(cursor.any()),
-        is_told(cursor.token()),
-        is_told(cursor.lparen()),
-        is_told(cursor.rparen()),
-        is_told(cursor.id()),
-        is_told(cursor.annotation()),
-        is_told(cursor.keyword()),
-        is_told(cursor.reserved()),
-        is_told(cursor.string()),
-        is_told(cursor.integer()),
-        is_told(cursor.float()),
-    ];
-    takers.iter().all(|told| *told)
+    tokens_tell(cursor) && words_tell(cursor) && values_tell(cursor)
 }
 
 /// Whether each peek answers a report.
