@@ -26,7 +26,8 @@ pub fn ending(run: &mut Run<'_>, row: Row<'_>) -> Result<Ending, Error> {
         ),
     };
     run.call_has_ended();
-    Ok(run
-        .refusal(&error, expected)
-        .with_state(is_at_start(&parser)))
+    Ok(
+        run.refusal(&error, expected)
+            .with_state(is_at_start(&parser)),
+    )
 }

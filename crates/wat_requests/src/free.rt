@@ -103,7 +103,8 @@ fn values<'a>(parser: &mut Parser<'a>) -> Result<Values<'a>, Error> {
 }
 
 /// What the steps take of `1.5 2 $a "b" @c`.
-const TAKEN: &str = "(Val { hex: false, integral: \"1\", fractional: Some(\"5\"), exponent: None }, \
+const TAKEN: &str =
+    "(Val { hex: false, integral: \"1\", fractional: Some(\"5\"), exponent: None }, \
      Integer { sign: None, digits: \"2\", hex: false }, \"a\", [98], \"c\")";
 
 /// A step for each kind of value, each of which is a part of the text.

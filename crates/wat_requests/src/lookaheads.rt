@@ -27,9 +27,10 @@ fn expected_one(run: &mut Run<'_>, row: Row<'_>, parser: &Parser<'_>) -> Result<
     peek_at(&mut lookahead, row.of.parse::<usize>().unwrap_or(0))?;
     let error = lookahead.error();
     run.call_has_ended();
-    Ok(run
-        .refusal(&error, row.expected)
-        .with_state(is_at_start(parser)))
+    Ok(
+        run.refusal(&error, row.expected)
+            .with_state(is_at_start(parser)),
+    )
 }
 
 /// Whether an error says what was expected, or that memory was wanting.

@@ -125,11 +125,7 @@ fn under_standard(run: &mut Run<'_>, row: Row<'_>, parser: &mut Parser<'_>) -> E
         .with_state(is_kept && is_placed)
 }
 
-pub fn ending(
-    run: &mut Run<'_>,
-    row: Row<'_>,
-    parser: &mut Parser<'_>,
-) -> Result<Ending, Error> {
+pub fn ending(run: &mut Run<'_>, row: Row<'_>, parser: &mut Parser<'_>) -> Result<Ending, Error> {
     match row.of {
         "register" => Ok(register(run, parser)),
         "more" => Ok(register_more(run, parser)),

@@ -63,11 +63,7 @@ fn replayed_fully(
     Ok(ending.with_state(is_at_start(parser) && parser.is_registered("b")))
 }
 
-pub fn ending(
-    run: &mut Run<'_>,
-    row: Row<'_>,
-    parser: &mut Parser<'_>,
-) -> Result<Ending, Error> {
+pub fn ending(run: &mut Run<'_>, row: Row<'_>, parser: &mut Parser<'_>) -> Result<Ending, Error> {
     match row.of {
         "too-often" => replayed_fully(run, row, parser),
         _ => replayed(run, parser),

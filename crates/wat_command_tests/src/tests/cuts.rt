@@ -135,7 +135,10 @@ fn a_fault_on_a_long_line_is_shown_without_the_line(rt: HostRuntime) -> Result<(
     let text = long_line(rt.alloc())?;
     for settings in EACH {
         let (shown, lines) = faulty(rt.alloc(), &text, settings)?;
-        assert_eq!(rt; shown.as_str(), "unterminated block comment at <anon>:1:501");
+        assert_eq!(rt;
+            shown.as_str(),
+            "unterminated block comment at <anon>:1:501"
+        );
         assert_eq!(rt; lines.as_slice(), b"0..500 Whitespace\n".as_slice());
     }
     Ok(())
