@@ -2,7 +2,6 @@
 ghost use Rattle.std.specs.Prelude.{◌≡◌};
 ghost use Rattle.wat_lexer_parser.specs.readings.Reads.{IsKept};
 
-use crate::parsing::take;
 use crate::types::printed;
 use std::alloc::{AllocError, Global};
 use std::borrow::{CowSlice, CowStr};
@@ -200,18 +199,13 @@ fn peeks_tell(cursor: Cursor<'_, '_>) -> bool {
     peeks.iter().all(|told| *told)
 }
 
-/// The message of the fault that is shown.
-fn fault_message(alloc: Global, parser: &mut Parser<'_>) -> Result<String, AllocError> {
-    match take(parser) {
-        Err(error) => error.message(alloc),
-        Ok(_) => String::from_str(alloc, "no fault"),
-    }
-}
-
 /// Whether each taker and each peek answers the fault that is shown.
 fn told(alloc: Global, parser: &mut Parser<'_>) -> Result<String, Error> {
     let told = parser.step(|cursor| Ok(((takers_tell(cursor), peeks_tell(cursor)), cursor)))?;
-    let message = fault_message(alloc, parser)?;
+    let Err(error) = parser.step(|cursor| Ok((cursor.token()?, cursor))) else {
+        return Ok(String::from_str(alloc, "no fault")?);
+    };
+    let message = error.message(alloc)?;
     Ok(format!(in alloc; "{told:?}: {message}")?)
 }
 
