@@ -87,9 +87,10 @@ pub fn ending(run: &mut Run<'_>, row: Row<'_>) -> Result<Ending, Error> {
         "tracked" => tracked(run),
         "blanked" => blanked(run),
         "with-lexer" => Ok(made_with_lexer(run, row)),
-        _ => {
+        "" => {
             let buffer = buffer_of(run.alloc(), row.text);
             Ok(made(run, row, buffer))
         }
+        _ => Ok(Ending::Wrong),
     }
 }

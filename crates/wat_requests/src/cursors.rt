@@ -32,7 +32,7 @@ fn is_value_found(cursor: Cursor<'_, '_>, look: &str) -> Result<bool, Error> {
         "string" => is_some(cursor.string()),
         "integer" => is_some(cursor.integer()),
         "float" => is_some(cursor.float()),
-        _ => Ok(false),
+        _ => Err(cursor.error("no such call")),
     }
 }
 

@@ -20,10 +20,11 @@ pub fn ending(run: &mut Run<'_>, row: Row<'_>) -> Result<Ending, Error> {
     let parser = buffer.parser();
     let (error, expected) = match row.of {
         "here" => (parser.error("no number"), Expected::Refusal(HERE, 0)),
-        _ => (
+        "at" => (
             parser.error_at(Span::from_offset(4), "no number"),
             Expected::Refusal(AT, 4),
         ),
+        _ => return Ok(Ending::Wrong),
     };
     run.call_has_ended();
     Ok(

@@ -122,6 +122,7 @@ pub fn ending(run: &mut Run<'_>, row: Row<'_>, parser: &mut Parser<'_>) -> Endin
         "names" => names_again(run, parser),
         "group" => group(run, parser),
         "peeks-behind" => peeks_behind(run, parser),
-        _ => steps(run, parser),
+        "steps" => steps(run, parser),
+        _ => Ending::Wrong,
     }
 }

@@ -34,7 +34,10 @@ pub fn ending(run: &mut Run<'_>, row: Row<'_>, parser: &mut Parser<'_>) -> Endin
             .ending(&result, row.expected)
             .with_state(is_at_start(parser));
     }
-    let result = nested(parser, row.of.parse::<usize>().unwrap_or(0));
+    let Ok(count) = row.of.parse::<usize>() else {
+        return Ending::Wrong;
+    };
+    let result = nested(parser, count);
     run.call_has_ended();
     run.ending(&result, row.expected)
         .with_state(is_at_start(parser))

@@ -41,6 +41,7 @@ pub fn ending(run: &mut Run<'_>, row: Row<'_>, parser: &mut Parser<'_>) -> Endin
     match row.of {
         "of" => all(run, row, parser),
         "while" => all_while(run, row, parser),
-        _ => all_behind(run, row, parser),
+        "behind" => all_behind(run, row, parser),
+        _ => Ending::Wrong,
     }
 }

@@ -23,8 +23,11 @@ fn peek_at(lookahead: &mut Lookahead1<'_, '_>, types: usize) -> Result<(), Error
 
 /// The error that one of the types was expected which were not seen.
 fn expected_one(run: &mut Run<'_>, row: Row<'_>, parser: &Parser<'_>) -> Result<Ending, Error> {
+    let Ok(types) = row.of.parse::<usize>() else {
+        return Ok(Ending::Wrong);
+    };
     let mut lookahead = parser.lookahead1();
-    peek_at(&mut lookahead, row.of.parse::<usize>().unwrap_or(0))?;
+    peek_at(&mut lookahead, types)?;
     let error = lookahead.error();
     run.call_has_ended();
     Ok(
@@ -39,16 +42,16 @@ fn is_told(run: &mut Run<'_>, error: &Error, message: &str) -> bool {
 }
 
 /// Looks that find nothing keep the types, four of them without memory.
-fn four_missed(run: &mut Run<'_>, row: Row<'_>, parser: &Parser<'_>) -> Result<Ending, Error> {
+fn four_missed(run: &mut Run<'_>, row: Row<'_>, parser: &Parser<'_>) -> Ending {
     let mut lookahead = parser.lookahead1();
-    peek_at(&mut lookahead, 3)?;
+    let three = peek_at(&mut lookahead, 3);
     let fourth = lookahead.peek::<u32>();
     run.call_has_ended();
-    let is_kept = is_at_start(lookahead.parser());
+    let is_kept = three.is_ok() && is_at_start(lookahead.parser());
     let message = "unexpected token, expected one of: u32, an identifier, left paren, u32";
     let is_told = is_told(run, &lookahead.error(), message);
     let ending = run.ending(&fourth, row.expected);
-    Ok(ending.with_state(is_kept && is_told))
+    ending.with_state(is_kept && is_told)
 }
 
 /// The look behind four others keeps the type in memory. One that is refused leaves those that were
@@ -72,7 +75,7 @@ fn fifth_missed(run: &mut Run<'_>, row: Row<'_>, parser: &Parser<'_>) -> Result<
 
 pub fn ending(run: &mut Run<'_>, row: Row<'_>, parser: &Parser<'_>) -> Result<Ending, Error> {
     match row.of {
-        "four" => four_missed(run, row, parser),
+        "four" => Ok(four_missed(run, row, parser)),
         "fifth" => fifth_missed(run, row, parser),
         _ => expected_one(run, row, parser),
     }

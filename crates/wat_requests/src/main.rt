@@ -55,7 +55,8 @@ fn ending_of(run: &mut Run<'_>, row: Row<'_>, parser: &mut Parser<'_>) -> Result
         "peek" => Ok(peeks::ending(run, row, parser)),
         "lookahead" | "missed" => lookaheads::ending(run, row, parser),
         "replay" => replays::ending(run, row, parser),
-        _ => Ok(free::ending(run, row, parser)),
+        "free" => Ok(free::ending(run, row, parser)),
+        _ => Ok(Ending::Wrong),
     }
 }
 

@@ -132,6 +132,7 @@ pub fn ending(run: &mut Run<'_>, row: Row<'_>, parser: &mut Parser<'_>) -> Resul
         "with" => Ok(under_name(run, row, parser)),
         "with-registered" => Ok(under_registered_name(run, row, parser)),
         "with-standard" => Ok(under_standard(run, row, parser)),
-        _ => register_too_often(run, row, parser),
+        "too-often" => register_too_often(run, row, parser),
+        _ => Ok(Ending::Wrong),
     }
 }

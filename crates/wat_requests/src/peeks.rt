@@ -36,7 +36,8 @@ fn integer_as(run: &mut Run<'_>, row: Row<'_>, parser: &Parser<'_>) -> Ending {
         "i16" => peeked::<i16>(run, row, parser),
         "i32" => peeked::<i32>(run, row, parser),
         "i64" => peeked::<i64>(run, row, parser),
-        _ => peeked::<u32>(run, row, parser),
+        "u32" => peeked::<u32>(run, row, parser),
+        _ => Ending::Wrong,
     }
 }
 

@@ -65,7 +65,8 @@ fn replayed_fully(
 
 pub fn ending(run: &mut Run<'_>, row: Row<'_>, parser: &mut Parser<'_>) -> Result<Ending, Error> {
     match row.of {
+        "" => replayed(run, parser),
         "too-often" => replayed_fully(run, row, parser),
-        _ => replayed(run, parser),
+        _ => Ok(Ending::Wrong),
     }
 }

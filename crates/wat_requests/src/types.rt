@@ -32,7 +32,8 @@ pub fn whole_ending(run: &mut Run<'_>, row: Row<'_>) -> Result<Ending, Error> {
         "optional" => whole::<Option<u32>>(run, row, &buffer),
         "box" => whole::<Box<u32>>(run, row, &buffer),
         "string" => whole::<String>(run, row, &buffer),
-        _ => whole::<u32>(run, row, &buffer),
+        "u32" => whole::<u32>(run, row, &buffer),
+        _ => Ending::Wrong,
     })
 }
 
@@ -60,7 +61,8 @@ fn integer_as(run: &mut Run<'_>, row: Row<'_>, parser: &mut Parser<'_>) -> Endin
         "i16" => part::<i16>(run, row, parser),
         "i32" => part::<i32>(run, row, parser),
         "i64" => part::<i64>(run, row, parser),
-        _ => part::<u32>(run, row, parser),
+        "u32" => part::<u32>(run, row, parser),
+        _ => Ending::Wrong,
     }
 }
 

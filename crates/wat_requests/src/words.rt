@@ -115,6 +115,7 @@ pub fn ending(run: &mut Run<'_>, row: Row<'_>) -> Result<Ending, Error> {
     match row.of {
         "name-clone" => name_copy(run),
         "item-clone" => item_copy(run),
-        _ => makes(run),
+        "made" => makes(run),
+        _ => Ok(Ending::Wrong),
     }
 }
