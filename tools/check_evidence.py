@@ -28,7 +28,6 @@ MAY = {
 ROOMS = {
     ("wat_lexer_parser/src/parser/table.rt", "with_capacity(alloc, room)"),
     ("wat_lexer_parser/src/laws.rt", "with_capacity(alloc, text.len())"),
-    ("wat_commands/src/blank.rt", "with_capacity(alloc, text.len())"),
     ("wat_format/src/format.rt", "with_capacity(alloc, text.len())"),
 }
 

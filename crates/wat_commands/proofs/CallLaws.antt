@@ -4,7 +4,7 @@ use Rattle.std.specs.Prelude.{String, string_bytes}
 use Rattle.std.specs.declared.alloc.Global.{Global}
 use Rattle.std.proofs.lemmas.List.{take_more}
 use Rattle.wat_lexer_parser.specs.declared.parser.calls.Call.{Call}
-use Rattle.wat_commands.specs.Calls.{SpellsCall, SpellsNoCall}
+use Rattle.wat_lists.specs.Calls.{SpellsCall, SpellsNoCall}
 use Rattle.wat_commands.specs.Options.{SpellsCalls}
 
 spells_more : (words : List (String Global)) (calls : List Call) (word : String Global) (call : Call) → SpellsCalls words calls → SpellsCall (string_bytes word) call → SpellsCalls (words ++ word ∷ []) (calls ++ call ∷ [])

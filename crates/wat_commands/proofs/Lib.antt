@@ -1,16 +1,6 @@
-mod BlockLaws
 mod CallLaws
 mod CompileLaws
-mod Counts
-mod Decimals
-mod InputLaws
-mod JsonLaws
-mod KnownBytes
-mod LineLaws
-mod NamedLaws
 mod OptionLaws
 mod OutcomeLaws
-mod PositionLaws
 mod PrintLaws
 mod RespondLaws
-mod ShownLaws

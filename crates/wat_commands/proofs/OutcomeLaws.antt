@@ -5,17 +5,17 @@ use Rattle.std.specs.Io.KnownBytes.{Appends, Keeps}
 use Rattle.wat_lex.specs.errors.Errors.{Report}
 use Rattle.wat_lex.specs.declared.lexer.settings.Settings.{Settings}
 use Rattle.wat_lexer_parser.specs.declared.parser.calls.Call.{Call}
-use Rattle.wat_commands.specs.Outcomes.{outcome_of, is_unread, refusal, complaint, usage, report, Responds, Ran, Tells}
-use Rattle.wat_commands.specs.Places.{of_file}
+use Rattle.wat_lines.specs.declared.ends.Failed.{Failed}
+use Rattle.wat_lists.specs.Places.{of_file}
+use Rattle.wat_lists.specs.Refusals.{IsWrite, refusal}
+use Rattle.wat_lists.specs.Replies.{Plays}
+use Rattle.wat_lists.specs.declared.input.RunError.{RunError}
+use Rattle.wat_lists.specs.declared.input.RunError.TheVariants.{Read, TooLong, NotUtf8, Write, Memory}
+use Rattle.wat_commands.specs.Outcomes.{outcome_of, is_unread, complaint, usage, report, Responds, Ran, Tells}
 use Rattle.wat_commands.specs.Printed.{Prints, AppendsText, AppendsCut}
-use Rattle.wat_commands.specs.Refusals.{IsWrite}
-use Rattle.wat_commands.specs.Replies.{Plays}
 use Rattle.wat_commands.specs.Runs.{Runs, without_error}
-use Rattle.wat_commands.specs.declared.ends.Failed.{Failed}
 use Rattle.wat_commands.specs.declared.outcome.Outcome.{Outcome}
 use Rattle.wat_commands.specs.declared.outcome.Outcome.TheVariants.{Listed, Faulty, Refused, Unopened, Wrong, Unread}
-use Rattle.wat_commands.specs.declared.run.RunError.{RunError}
-use Rattle.wat_commands.specs.declared.run.RunError.TheVariants.{Read, TooLong, NotUtf8, Write, Memory}
 
 keeps_same : (a b : Option (List ℕ)) → b ≡ a → Keeps a b
 keeps_same None b e = tt

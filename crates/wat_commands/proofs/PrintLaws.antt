@@ -12,18 +12,19 @@ use Rattle.wat_lex.specs.declared.lexer.faults.LexFault.{LexFault}
 use Rattle.wat_lex.specs.declared.lexer.kinds.Token.{Token}
 use Rattle.wat_lex.specs.declared.lexer.settings.Settings.{Settings}
 use Rattle.wat_lexer_parser.specs.laws.BlankTexts.{blank_text, BlankTextsShowTheSame}
-use Rattle.wat_commands.specs.Blanks.{Blanks}
-use Rattle.wat_commands.specs.Blocks.{AppendsEach, AppendsEachCut, ReportsEnd}
-use Rattle.wat_commands.specs.JsonLists.{JsonLists}
-use Rattle.wat_commands.specs.JsonRows.{json_line}
-use Rattle.wat_commands.specs.Lists.{Lists, line}
+use Rattle.wat_lines.specs.Blocks.{AppendsEach, AppendsEachCut, ReportsEnd}
+use Rattle.wat_lines.specs.JsonRows.{json_line}
+use Rattle.wat_lines.specs.Lines.{line}
+use Rattle.wat_lines.specs.Streams.{AppendsPrefix, failure_after}
+use Rattle.wat_lines.specs.declared.ends.Failed.{Failed}
+use Rattle.wat_lines.specs.lemmas.KnownBytes.{appends_none}
+use Rattle.wat_lists.specs.Blanks.{Blanks}
+use Rattle.wat_lists.specs.JsonLists.{JsonLists}
+use Rattle.wat_lists.specs.Lists.{Lists}
+use Rattle.wat_lists.specs.Refusals.{answered}
+use Rattle.wat_lists.specs.declared.input.RunError.{RunError}
 use Rattle.wat_commands.specs.Printed.{AppendsText, AppendsCut}
-use Rattle.wat_commands.specs.Refusals.{answered}
-use Rattle.wat_commands.specs.Streams.{AppendsPrefix, failure_after}
 use Rattle.wat_commands.specs.Writes.{Writes}
-use Rattle.wat_commands.specs.declared.ends.Failed.{Failed}
-use Rattle.wat_commands.specs.declared.run.RunError.{RunError}
-use Rattle.wat_commands.proofs.KnownBytes.{appends_none}
 
 abbrev pub setting : Settings → List ℕ → Setting
 setting settings text = record { text = text; flags = settings }
@@ -201,11 +202,3 @@ writes_as held write_failed prints output output' text error answer p h = record
   unwritten = h.unwritten;
   write = h.write;
 }
-
-pub ok_then : {T E A B : Type 0} (r : Result T E) → (A → B) → OnOk r A → OnOk r B
-ok_then (Ok t) f a = f a
-ok_then (Err e) f a = tt
-
-pub err_then : {T E A B : Type 0} (r : Result T E) → (A → B) → OnErr r A → OnErr r B
-err_then (Ok t) f a = tt
-err_then (Err e) f a = f a

@@ -5,7 +5,7 @@ use Rattle.std.specs.Str.{bytes_eq}
 use Rattle.std.specs.declared.alloc.Global.{Global}
 use Rattle.wat_lex.specs.declared.lexer.settings.Settings.{Settings}
 use Rattle.wat_lexer_parser.specs.declared.parser.calls.Call.{Call}
-use Rattle.wat_commands.specs.Calls.{SpellsCall}
+use Rattle.wat_lists.specs.Calls.{SpellsCall}
 use Rattle.wat_commands.specs.declared.options.Command.{Command}
 use Rattle.wat_commands.specs.declared.options.Command.TheVariants as command
 use Rattle.wat_commands.specs.declared.options.Mode.{Mode}

@@ -1,30 +1,30 @@
 -- What a run of the program ends in: its exit status, and its report on standard error. No part of the standard.
 use Rattle.std.specs.Prelude.{◌≡◌, ◌⊎◌, ◌==◌, ◌&&◌, ◌||◌, ℕ, Bool, false, List, [], ◌++◌, codes, Option, Some, None, IfSome, Result, Ok, Err, if◌then◌else◌}
-use Rattle.std.specs.Fmt.{decimal}
 use Rattle.std.specs.Io.KnownBytes.{Appends, Keeps}
 use Rattle.std.specs.Str.{bytes_eq}
 use Rattle.wat_lex.specs.errors.Errors.{Report, lex_error_of, offset_of}
 use Rattle.wat_lex.specs.declared.lexer.faults.LexError.{LexError}
 use Rattle.wat_lex.specs.declared.lexer.faults.LexError.TheVariants.{Unexpected}
 use Rattle.wat_lex.specs.declared.lexer.settings.Settings.{Settings}
-use Rattle.wat_commands.specs.Blanks.{Blanks}
-use Rattle.wat_commands.specs.Causes.{cause, is_closed_pipe}
+use Rattle.wat_lines.specs.Causes.{cause, is_closed_pipe}
+use Rattle.wat_lines.specs.declared.ends.Failed.{Failed}
+use Rattle.wat_lists.specs.Blanks.{Blanks}
+use Rattle.wat_lists.specs.JsonLists.{JsonLists, JsonShows}
+use Rattle.wat_lists.specs.Lists.{Lists}
+use Rattle.wat_lists.specs.Places.{shown_in, of_file}
+use Rattle.wat_lists.specs.Refusals.{refusal}
+use Rattle.wat_lists.specs.Replies.{Plays}
+use Rattle.wat_lists.specs.Shows.{Shows}
+use Rattle.wat_lists.specs.declared.input.RunError.{RunError}
+use Rattle.wat_lists.specs.declared.input.RunError.TheVariants.{Read, TooLong, NotUtf8, Write, Memory}
 use Rattle.wat_commands.specs.Compiles.{Compiles}
-use Rattle.wat_commands.specs.JsonLists.{JsonLists, JsonShows}
-use Rattle.wat_commands.specs.Lists.{Lists}
 use Rattle.wat_commands.specs.Options.{is_option, is_file}
-use Rattle.wat_commands.specs.Places.{shown_in, of_file}
 use Rattle.wat_commands.specs.Printed.{Prints, AppendsText, AppendsCut}
-use Rattle.wat_commands.specs.Replies.{Plays}
 use Rattle.wat_commands.specs.Runs.{Runs}
-use Rattle.wat_commands.specs.Shows.{Shows}
-use Rattle.wat_commands.specs.declared.ends.Failed.{Failed}
 use Rattle.wat_commands.specs.declared.options.Task.{Task}
 use Rattle.wat_commands.specs.declared.options.Task.TheVariants as task
 use Rattle.wat_commands.specs.declared.outcome.Outcome.{Outcome}
 use Rattle.wat_commands.specs.declared.outcome.Outcome.TheVariants.{Listed, Faulty, Refused, Unopened, Wrong, Unread}
-use Rattle.wat_commands.specs.declared.run.RunError.{RunError}
-use Rattle.wat_commands.specs.declared.run.RunError.TheVariants.{Read, TooLong, NotUtf8, Write, Memory}
 
 -- what a run ended in
 abbrev pub outcome_of : Result (Option (Option Report)) RunError → Outcome
@@ -48,13 +48,6 @@ status (Refused error) = if is_unread error then 0 else 2
 status (Unopened failed) = 2
 status (Wrong word) = 2
 status Unread = 2
-
-abbrev pub refusal : RunError → List ℕ
-refusal (Read failed) = codes "read failed" ++ cause failed
-refusal TooLong = codes "input is too long"
-refusal (NotUtf8 offset) = codes "input is not UTF-8 at byte " ++ decimal offset
-refusal (Write failed) = codes "write failed" ++ cause failed
-refusal (Memory refused) = codes "out of memory"
 
 -- The text begins with a byte order mark, and that is its fault.
 abbrev pub is_marked : Option Report → Bool

@@ -4,13 +4,13 @@ use Rattle.std.specs.Prelude.{ℕ, List, Option}
 use Rattle.std.specs.Io.KnownBytes.{Appends}
 use Rattle.wat_lex.specs.errors.Errors.{Report}
 use Rattle.wat_lex.specs.declared.lexer.settings.Settings.{Settings}
-use Rattle.wat_commands.specs.Blanks.{Blanks}
+use Rattle.wat_lines.specs.Streams.{AppendsPrefix}
+use Rattle.wat_lists.specs.Blanks.{Blanks}
+use Rattle.wat_lists.specs.JsonLists.{JsonLists, JsonShows}
+use Rattle.wat_lists.specs.Lists.{Lists}
+use Rattle.wat_lists.specs.Replies.{Plays}
+use Rattle.wat_lists.specs.Shows.{Shows}
 use Rattle.wat_commands.specs.Compiles.{Compiles}
-use Rattle.wat_commands.specs.JsonLists.{JsonLists, JsonShows}
-use Rattle.wat_commands.specs.Lists.{Lists}
-use Rattle.wat_commands.specs.Replies.{Plays}
-use Rattle.wat_commands.specs.Shows.{Shows}
-use Rattle.wat_commands.specs.Streams.{AppendsPrefix}
 use Rattle.wat_commands.specs.declared.print.Printing.{Printing}
 use Rattle.wat_commands.specs.declared.print.Printing.TheVariants as printing
 

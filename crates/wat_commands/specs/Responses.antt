@@ -3,18 +3,18 @@ use Rattle.std.specs.Prelude.{◌≡◌, ◌⊎◌, ◌<◌, ℕ, Bool, List, []
 use Rattle.std.specs.Io.KnownBytes.{Appends}
 use Rattle.std.specs.Str.{bytes_eq}
 use Rattle.wat_lex.specs.declared.lexer.settings.Settings.{Settings}
+use Rattle.wat_lines.specs.Streams.{AppendsPrefix}
+use Rattle.wat_lines.specs.declared.ends.Failed.{Failed}
+use Rattle.wat_lists.specs.declared.input.RunError.TheVariants.{Write}
 use Rattle.wat_commands.specs.Help.{help, version}
 use Rattle.wat_commands.specs.Options.{Word, Asks, AsksRun, AsksFormat, AsksNothing, BeginsToPlay, IsWrong}
 use Rattle.wat_commands.specs.Outcomes.{Ran, status}
 use Rattle.wat_commands.specs.Printed.{Prints}
-use Rattle.wat_commands.specs.Streams.{AppendsPrefix}
-use Rattle.wat_commands.specs.declared.ends.Failed.{Failed}
 use Rattle.wat_commands.specs.declared.options.Command.TheVariants.{Help, Version}
 use Rattle.wat_commands.specs.declared.options.Mode.{Mode}
 use Rattle.wat_commands.specs.declared.options.Task.{Task}
 use Rattle.wat_commands.specs.declared.outcome.Outcome.{Outcome}
 use Rattle.wat_commands.specs.declared.outcome.Outcome.TheVariants.{Listed, Refused, Unopened}
-use Rattle.wat_commands.specs.declared.run.RunError.TheVariants.{Write}
 
 -- What opening a file gives, where that is known: its bytes, or why it fails.
 abbrev pub Found : Type 0

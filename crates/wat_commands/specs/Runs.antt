@@ -3,12 +3,12 @@
 use Rattle.std.specs.Prelude.{◌≡◌, ◌⊎◌, ◌↔◌, ℕ, Bool, true, List, Option, None, IfSome, Result, Ok, Err, IfOk, IfErr, OnOk, IsErrOf}
 use Rattle.std.specs.Str.{IsValidUpTo}
 use Rattle.wat_lex.specs.errors.Errors.{Report}
-use Rattle.wat_commands.specs.Inputs.{HasEnded, ReadsPast, ReadsShort}
+use Rattle.wat_lines.specs.declared.ends.Failed.{Failed}
+use Rattle.wat_lists.specs.Inputs.{HasEnded, ReadsPast, ReadsShort}
+use Rattle.wat_lists.specs.Refusals.{IsWrite, read_failure, write_failure}
+use Rattle.wat_lists.specs.declared.input.RunError.{RunError}
+use Rattle.wat_lists.specs.declared.input.RunError.TheVariants.{TooLong, NotUtf8, Write}
 use Rattle.wat_commands.specs.Printed.{Prints, AppendsText, AppendsCut}
-use Rattle.wat_commands.specs.Refusals.{IsWrite, read_failure, write_failure}
-use Rattle.wat_commands.specs.declared.ends.Failed.{Failed}
-use Rattle.wat_commands.specs.declared.run.RunError.{RunError}
-use Rattle.wat_commands.specs.declared.run.RunError.TheVariants.{TooLong, NotUtf8, Write}
 
 -- What is known of a run that prints these texts of the bytes that it reads.
 pub record Runs {S T : Type 0} (left : S → Option (List ℕ)) (read_failed : S → Option Failed) (has_ended : S → Bool) (held : T → Option (List ℕ)) (write_failed : T → Option Failed) (prints : Prints) (input input' : S) (output output' : T) (run : Result (Option (Option Report)) RunError) : Type 0 where

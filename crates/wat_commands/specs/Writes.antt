@@ -1,11 +1,11 @@
 -- What is known of a call that writes what is printed of a text. A sink tells what it holds, and the failure of a write. No part of the standard.
 use Rattle.std.specs.Prelude.{◌≡◌, ◌⊎◌, ℕ, List, Option, Result, IfOk, IfErr, IsErrOf}
 use Rattle.wat_lex.specs.errors.Errors.{Report}
+use Rattle.wat_lines.specs.declared.ends.Failed.{Failed}
+use Rattle.wat_lists.specs.Refusals.{IsWrite, write_failure}
+use Rattle.wat_lists.specs.declared.input.RunError.{RunError}
+use Rattle.wat_lists.specs.declared.input.RunError.TheVariants.{Write}
 use Rattle.wat_commands.specs.Printed.{AppendsText, AppendsCut}
-use Rattle.wat_commands.specs.Refusals.{IsWrite, write_failure}
-use Rattle.wat_commands.specs.declared.ends.Failed.{Failed}
-use Rattle.wat_commands.specs.declared.run.RunError.{RunError}
-use Rattle.wat_commands.specs.declared.run.RunError.TheVariants.{Write}
 
 -- the text was written, or a prefix of it where the write failed, and else nothing
 pub record Writes {T : Type 0} (held : T → Option (List ℕ)) (failure : T → Option Failed) (prints : List ℕ → Option (Option Report) → Type 0) (output output' : T) (answer : Result (Option (Option Report)) RunError) : Type 0 where

@@ -4,24 +4,13 @@
 //! spells.
 #![tactic(auto)]
 
-pub mod blank;
-mod block;
-pub mod calls;
-pub mod ends;
-pub mod fmt;
 pub mod help;
-pub mod json;
-mod line;
-pub mod list;
-pub mod named;
 pub mod options;
 pub mod outcome;
-pub mod play;
-mod position;
 mod print;
 pub mod respond;
-mod row;
 pub mod run;
-pub mod show;
 
 pub use wat_lex::lexer::Settings;
+pub use wat_lines::ends;
+pub use wat_lists::{blank, calls, fmt, json, list, named, play, show};

@@ -19,10 +19,10 @@ ghost use Rattle.wat_commands.specs.Options.{AsksLayouts, AsksFormat};
 ghost use Rattle.wat_commands.specs.Options.{begins_with, Asks, AsksPlay, AsksNothing};
 ghost use Rattle.wat_commands.specs.Options.{AsksSomething, BeginsToPlay, IsWrong};
 
-use crate::calls::read_call;
 use std::alloc::{AllocError, Global};
 use wat_lex::lexer::Settings;
 use wat_lexer_parser::parser::Call;
+use wat_lists::calls::read_call;
 
 /// What to write of a text.
 #[derive(Drop)]

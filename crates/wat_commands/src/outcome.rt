@@ -4,8 +4,6 @@ ghost use Rattle.std.specs.Option.{option_map};
 ghost use Rattle.wat_commands.specs.Outcomes.{complaint, is_marked, is_unread, outcome_of};
 ghost use Rattle.wat_commands.specs.Outcomes.{hint, Ran, status, task_prints, Tells, TellsFault};
 
-use crate::ends::{Failed, Sink, Source};
-use crate::named::named;
 use crate::options::{Task, is_file, is_option};
 use crate::run::{
     RunError, run_blank, run_json_list, run_json_sig, run_list, run_play, run_sig, run_types,
@@ -14,6 +12,8 @@ use std::alloc::Global;
 use std::{fmt, io};
 use wat_lex::error::Error;
 use wat_lex::lexer::{LexError, Settings};
+use wat_lines::ends::{Failed, Sink, Source};
+use wat_lists::named::named;
 
 const USAGE: &str =
     "usage: wat_tokens [OPTION..] [list | sig NAME.. | play CALL.. | blank | types | \
@@ -35,23 +35,6 @@ pub enum Outcome<'a> {
     Wrong(&'a str),
     /// The words on the command line are no text.
     Unread,
-}
-
-impl fmt::Display for RunError {
-    ghost use Rattle.std.specs.Prelude.{Some};
-    ghost use Rattle.wat_commands.specs.Outcomes.{refusal};
-
-    ghost output = { λ e. Some (refusal e) };
-
-    fn fmt<W: fmt::Write>(&self, f: &mut fmt::Formatter<W>) -> fmt::Result {
-        match self {
-            RunError::Read(failed) => write!(f, "read failed{failed}"),
-            RunError::TooLong => write!(f, "input is too long"),
-            RunError::NotUtf8(offset) => write!(f, "input is not UTF-8 at byte {offset}"),
-            RunError::Write(failed) => write!(f, "write failed{failed}"),
-            RunError::Memory(_) => write!(f, "out of memory"),
-        }
-    }
 }
 
 /// Whether nobody reads what is written.
@@ -109,7 +92,7 @@ struct OfFile<'a>(Option<&'a str>);
 impl fmt::Display for OfFile<'_> {
     ghost use Rattle.std.specs.Prelude.{Some};
     ghost use Rattle.std.specs.Option.{option_map};
-    ghost use Rattle.wat_commands.specs.Places.{of_file};
+    ghost use Rattle.wat_lists.specs.Places.{of_file};
 
     ghost output = { λ n. Some (of_file (option_map (λ name. name.now) n.0)) };
 

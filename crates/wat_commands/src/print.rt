@@ -1,30 +1,30 @@
 //! What is printed of bytes that may be no text.
 ghost use Rattle.std.specs.Prelude.{◌≡◌, ◌⊎◌, ◌↔◌, ◌<◌, ◌^◌, length, ℕ, None};
-ghost use Rattle.std.specs.Prelude.{Ok, IfOk, IfErr, OnOk, IsErrOf, alloc_error};
-ghost use Rattle.std.specs.Str.{IsUtf8, IsValidUpTo};
-ghost use Rattle.wat_commands.specs.Blanks.{Blanks};
-ghost use Rattle.wat_commands.specs.Blocks.{ReportsEnd};
+ghost use Rattle.std.specs.Prelude.{Ok, IfOk, IfErr, IsErrOf, alloc_error};
+ghost use Rattle.std.specs.Str.{IsValidUpTo};
+ghost use Rattle.wat_lines.specs.Blocks.{ReportsEnd};
+ghost use Rattle.wat_lists.specs.Blanks.{Blanks};
+ghost use Rattle.wat_lists.specs.JsonLists.{JsonLists};
+ghost use Rattle.wat_lists.specs.Lists.{Lists};
+ghost use Rattle.wat_lists.specs.Refusals.{IsNotUtf8, IsWrite, answered};
 ghost use Rattle.wat_commands.specs.Compiles.{Compiles};
-ghost use Rattle.wat_commands.specs.JsonLists.{JsonLists};
-ghost use Rattle.wat_commands.specs.Lists.{Lists};
 ghost use Rattle.wat_commands.specs.Printed.{prints};
-ghost use Rattle.wat_commands.specs.Refusals.{IsNotUtf8, IsWrite, answered};
 ghost use Rattle.wat_commands.specs.Writes.{Writes};
 
-use crate::blank::write_blanked;
-use crate::ends::{Failed, Sink};
-use crate::json::{show_json, write_json};
-use crate::list::{fault_of, lexer_of, write_lines};
-use crate::play::play;
 use crate::run::RunError;
-use crate::show::{Showing, show};
 use std::alloc::Global;
-use std::str;
 use wat_lex::error::Error;
 use wat_lex::lexer::{Lexer, Settings};
 use wat_lex::token::Span;
 use wat_lexer_parser::laws;
 use wat_lexer_parser::parser::Call;
+use wat_lines::ends::{Failed, Sink};
+use wat_lists::blank::write_blanked;
+use wat_lists::input::text_of;
+use wat_lists::json::{show_json, write_json};
+use wat_lists::list::{fault_of, lexer_of, write_lines};
+use wat_lists::play::play;
+use wat_lists::show::{Showing, show};
 use wat_types::compile_types;
 
 /// What to print of a text.
@@ -198,20 +198,6 @@ fn print_of<W: Sink>(
         }
         Printing::Blank => print_blank(alloc, text, settings, output),
         Printing::Types => print_types(alloc, text, output),
-    }
-}
-
-/// The text that bytes are.
-pub(crate) fn text_of(bytes: &[u8]) -> Result<&str, RunError>
-    ensures text { IfOk result (λ text. text.now ≡ bytes.now) }
-    ensures utf8 { OnOk result (IsUtf8 bytes.now) }
-    ensures not_utf8 { (offset : ℕ) →
-        IsErrOf result (RunError.NotUtf8 offset) ↔ IsValidUpTo bytes.now offset }
-    ensures refused { IfErr result IsNotUtf8 }
-{
-    match str::from_utf8(bytes) {
-        Ok(text) => Ok(text),
-        Err(error) => Err(RunError::NotUtf8(error.valid_up_to())),
     }
 }
 

@@ -8,7 +8,6 @@ ghost use Rattle.wat_commands.specs.Responses.{GreatestOfAll, GreatestOfEach};
 ghost use Rattle.wat_commands.specs.declared.options.Mode.{Mode};
 ghost use Rattle.wat_lex.specs.declared.lexer.settings.Settings.{Settings};
 
-use crate::ends::{Failed, Sink, Source};
 use crate::help::{help, version};
 use crate::options::{Command, Mode, Task, read_words};
 use crate::outcome::{Outcome, carry_out};
@@ -16,6 +15,7 @@ use crate::run::RunError;
 use std::alloc::Global;
 use std::io;
 use wat_lex::lexer::Settings;
+use wat_lines::ends::{Failed, Sink, Source};
 
 /// Where texts are found by the names of their files.
 pub trait Inputs {

@@ -1,95 +1,33 @@
 //! From a source of bytes to what is printed on a sink.
-ghost use Rattle.std.specs.Prelude.{◌≡◌, ◌⊎◌, ◌↔◌, ℕ, true, None, ◌<◌, ◌^◌, length};
-ghost use Rattle.std.specs.Prelude.{alloc_error, is_ok, IfOk, OnOk, IfErr, IfSome, IsErrOf};
+ghost use Rattle.std.specs.Prelude.{◌≡◌, ◌⊎◌, ◌↔◌, ℕ, true, None};
+ghost use Rattle.std.specs.Prelude.{IfOk, OnOk, IfErr, IfSome, IsErrOf};
 ghost use Rattle.std.specs.Str.{IsValidUpTo};
-ghost use Rattle.wat_commands.specs.Blanks.{Blanks};
+ghost use Rattle.wat_lines.specs.declared.ends.Failed.{Failed};
+ghost use Rattle.wat_lists.specs.Blanks.{Blanks};
+ghost use Rattle.wat_lists.specs.Inputs.{ReadsPast, ReadsShort, HasEnded};
+ghost use Rattle.wat_lists.specs.JsonLists.{JsonLists, JsonShows};
+ghost use Rattle.wat_lists.specs.Lists.{Lists};
+ghost use Rattle.wat_lists.specs.Refusals.{IsWrite, read_failure, write_failure};
+ghost use Rattle.wat_lists.specs.Replies.{Plays};
+ghost use Rattle.wat_lists.specs.Shows.{Shows};
 ghost use Rattle.wat_commands.specs.Compiles.{Compiles};
-ghost use Rattle.wat_commands.specs.Inputs.{ReadsWhole, ReadsPast, ReadsShort, HasEnded};
-ghost use Rattle.wat_commands.specs.JsonLists.{JsonLists, JsonShows};
-ghost use Rattle.wat_commands.specs.Lists.{Lists};
 ghost use Rattle.wat_commands.specs.Printed.{prints, AppendsText, AppendsCut};
-ghost use Rattle.wat_commands.specs.Refusals.{IsRead, IsWrite, read_failure, write_failure};
-ghost use Rattle.wat_commands.specs.Replies.{Plays};
 ghost use Rattle.wat_commands.specs.Runs.{without_error, Runs};
-ghost use Rattle.wat_commands.specs.Shows.{Shows};
-ghost use Rattle.wat_commands.specs.declared.ends.Failed.{Failed};
 
-use crate::ends::{Failed, Sink, Source};
 use crate::print::{Printing, print};
-use std::alloc::{AllocError, Global};
+use std::alloc::Global;
 use wat_lex::error::Error;
 use wat_lex::lexer::Settings;
 use wat_lexer_parser::parser::Call;
-
-/// Why a run ended without what it prints.
-#[derive(Clone, Copy, Debug, PartialEq, Eq)]
-pub enum RunError {
-    /// A read failed.
-    Read(Failed),
-    /// The input has more than `u32::MAX` bytes.
-    TooLong,
-    /// The input is not UTF-8: so many bytes of it are, and no more.
-    NotUtf8(usize),
-    /// The write failed.
-    Write(Failed),
-    /// A request for memory was refused, by this refusal.
-    Memory(AllocError),
-}
-
-impl From<AllocError> for RunError {
-    ghost use Rattle.std.specs.Prelude.{◌≡◌};
-    ghost use Rattle.wat_commands.specs.declared.run.RunError.TheVariants.{Memory};
-
-    ghost from_gives = { λ refused e. e ≡ Memory refused };
-
-    fn from(refused: AllocError) -> RunError {
-        RunError::Memory(refused)
-    }
-}
-
-/// How many bytes the longest text has.
-const LONGEST: usize = u32::MAX as usize;
-
-/// How many bytes are read at a time.
-const PIECE: usize = 65_536;
+use wat_lines::ends::{Sink, Source};
+pub use wat_lists::input::RunError;
+use wat_lists::input::read_whole;
 
 /// How the text of a module is read: as the standard has it.
 const STANDARD: Settings = Settings {
     allow: false,
     strict: false,
 };
-
-/// All that a source has left, or the refusal: it is read to its end, or to one byte past the
-/// longest text.
-pub(crate) fn read_whole<R: Source>(alloc: Global, input: &mut R) -> Result<Vec<u8>, RunError>
-    requires { R.failure input.old ≡ None }
-    ensures whole { IfOk result (λ bytes.
-        ReadsWhole (R.left input.old) (R.left input.new) bytes.items) }
-    ensures ended { R.has_ended input.new ≡ is_ok result }
-    ensures past { IsErrOf result RunError.TooLong →
-        ReadsPast (R.left input.old) (R.left input.new) }
-    ensures short { (IsErrOf result RunError.TooLong) ⊎
-        ReadsShort (R.left input.old) (R.left input.new) }
-    ensures read { read_failure result ≡ R.failure input.new }
-    ensures refused { IfErr result (λ e.
-        IsRead e ⊎ ((e ≡ RunError.TooLong) ⊎ (e ≡ RunError.Memory alloc_error))) }
-{
-    let mut bytes = Vec::new(alloc);
-    let mut piece = [0u8; PIECE];
-    'pieces: loop {
-        let room = PIECE.min(LONGEST - bytes.len() + 1);
-        match input.read(&mut piece[..room]) {
-            Err(failed) => return Err(RunError::Read(failed)),
-            Ok(0) => return Ok(bytes),
-            Ok(count) => {
-                if count > LONGEST - bytes.len() {
-                    return Err(RunError::TooLong);
-                }
-                bytes.extend_from_slice(&piece[..count])?;
-            }
-        }
-    }
-}
 
 /// Writes what is printed of all that the source has left, and answers the error of its fault.
 fn run<R: Source, W: Sink>(

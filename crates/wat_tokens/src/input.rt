@@ -1,6 +1,6 @@
 //! Where texts are read from.
 ghost use Rattle.std.specs.Prelude.{◌≡◌, None, IfOk};
-ghost use Rattle.wat_commands.specs.Plain.{plain_failure};
+ghost use Rattle.wat_lines.specs.Plain.{plain_failure};
 
 use std::fs::File;
 use std::io;

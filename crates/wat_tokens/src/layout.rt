@@ -1,6 +1,6 @@
 //! What `fmt` does with the text of a file.
 ghost use Rattle.std.specs.Prelude.{◌≡◌, None};
-ghost use Rattle.wat_commands.specs.Plain.{plain_failure};
+ghost use Rattle.wat_lines.specs.Plain.{plain_failure};
 
 use crate::input::{Input, open};
 use crate::replace::replace;

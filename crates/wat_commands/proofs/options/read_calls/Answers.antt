@@ -1,5 +1,5 @@
 use Rattle.std.proofs.Common.{subst}
-use Rattle.wat_commands.specs.Calls.{SpellsCall, SpellsNoCall}
+use Rattle.wat_lists.specs.Calls.{SpellsCall, SpellsNoCall}
 use Rattle.wat_commands.proofs.CallLaws.{spells_next, spells_none}
 use Rattle.wat_commands.proofs.options.read_calls.Goals as goal
 

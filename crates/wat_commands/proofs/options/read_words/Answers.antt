@@ -1,4 +1,4 @@
-use Rattle.wat_commands.proofs.BlockLaws.{on_err}
+use Rattle.wat_lines.specs.lemmas.BlockLaws.{on_err}
 use Rattle.wat_commands.proofs.OptionLaws.{plays_whole}
 use Rattle.wat_commands.proofs.options.read_words.Goals as goal
 

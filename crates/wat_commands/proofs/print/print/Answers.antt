@@ -1,5 +1,5 @@
-use Rattle.wat_commands.specs.declared.run.RunError.TheVariants.{NotUtf8}
-use Rattle.wat_commands.proofs.InputLaws.{text_known, as_other}
+use Rattle.wat_lists.specs.declared.input.RunError.TheVariants.{NotUtf8}
+use Rattle.wat_lists.specs.lemmas.InputLaws.{text_known, as_other}
 use Rattle.wat_commands.proofs.print.print.Goals as goal
 
 pub returns-in-Ok-clause-not_utf8 : goal.returns-in-Ok-clause-not_utf8

@@ -1,5 +1,5 @@
 use Rattle.std.proofs.Common.{Some}
-use Rattle.wat_commands.specs.Blanks.{Blanks}
+use Rattle.wat_lists.specs.Blanks.{Blanks}
 use Rattle.wat_commands.proofs.PrintLaws.{blanks_faulty, writes_ok}
 use Rattle.wat_commands.proofs.print.print_blank.Goals as goal
 

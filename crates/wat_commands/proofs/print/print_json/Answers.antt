@@ -1,5 +1,6 @@
-use Rattle.wat_commands.specs.JsonLists.{JsonLists}
-use Rattle.wat_commands.proofs.PrintLaws.{ok_then, err_then, json_written, json_cut, writes}
+use Rattle.wat_lists.specs.JsonLists.{JsonLists}
+use Rattle.wat_lines.specs.lemmas.BlockLaws.{ok_then, err_then}
+use Rattle.wat_commands.proofs.PrintLaws.{json_written, json_cut, writes}
 use Rattle.wat_commands.proofs.print.print_json.Goals as goal
 
 pub returns-clause-printed : goal.returns-clause-printed

@@ -1,7 +1,7 @@
 use Rattle.std.proofs.Common.{refl, None}
-use Rattle.wat_commands.specs.JsonLists.{JsonShows}
-use Rattle.wat_commands.specs.Replies.{Plays}
-use Rattle.wat_commands.specs.Shows.{Shows}
+use Rattle.wat_lists.specs.JsonLists.{JsonShows}
+use Rattle.wat_lists.specs.Replies.{Plays}
+use Rattle.wat_lists.specs.Shows.{Shows}
 use Rattle.wat_commands.proofs.PrintLaws.{writes_as}
 use Rattle.wat_commands.proofs.print.print_of.Goals as goal
 

@@ -1,5 +1,6 @@
-use Rattle.wat_commands.specs.Lists.{Lists}
-use Rattle.wat_commands.proofs.PrintLaws.{ok_then, err_then, lists_written, lists_cut, writes}
+use Rattle.wat_lists.specs.Lists.{Lists}
+use Rattle.wat_lines.specs.lemmas.BlockLaws.{ok_then, err_then}
+use Rattle.wat_commands.proofs.PrintLaws.{lists_written, lists_cut, writes}
 use Rattle.wat_commands.proofs.print.print_raw.Goals as goal
 
 pub returns-clause-printed : goal.returns-clause-printed

@@ -1,5 +1,5 @@
 use Rattle.std.proofs.Common.{rules}
-use Rattle.wat_commands.proofs.InputLaws.{past_known, no_text_known}
+use Rattle.wat_lists.specs.lemmas.InputLaws.{past_known, no_text_known}
 use Rattle.wat_commands.proofs.run.run.Goals as goal
 
 pub returns-in_err-bytes-clause-too_long : goal.returns-in_err-bytes-clause-too_long

@@ -1,5 +1,0 @@
-use Rattle.wat_commands.proofs.Decimals.{pair_at}
-use Rattle.wat_commands.proofs.line.two_digits.Goals as goal
-
-pub returns : goal.returns
-returns c = pair_at c.args.number c.requires

@@ -1,0 +1,4 @@
+mod Decimals
+mod JsonLaws
+mod LineLaws
+mod PositionLaws

@@ -1,0 +1,250 @@
+//! The lines of the lists as JSON. A line is put together of what stands in front of the token's text,
+//! of the text as a string, and of what stands behind it.
+ghost use Rattle.std.specs.Prelude.{◌≡◌, ◌++◌, ◌+◌, ◌<◌, ◌≤◌, ◌^◌, ℕ, List, [], length, take, flat_map, codes};
+ghost use Rattle.std.specs.Prelude.{OnOk, OnErr};
+ghost use Rattle.std.specs.Fmt.{decimal};
+ghost use Rattle.std.specs.Str.{IsCharBoundary};
+ghost use Rattle.wat_lex.specs.tokens.ReadableTokens.{token_text};
+ghost use Rattle.wat_lines.specs.Blocks.{Puts};
+ghost use Rattle.wat_lines.specs.JsonRows.{json_behind, json_front, json_line};
+ghost use Rattle.wat_lines.specs.JsonStrings.{escaped, hex_digit, json_string};
+ghost use Rattle.wat_lines.specs.Lines.{kind_name};
+ghost use Rattle.wat_lines.specs.Streams.{AppendsPrefix, failure_after};
+
+use crate::block::Block;
+use crate::ends::{Failed, Sink};
+use crate::position::Positions;
+use itoa::Buffer;
+use std::alloc::AllocError;
+use std::marker::Model;
+use wat_lex::lexer::{Token, TokenKind};
+
+/// The room for what stands in a line in front of a token's text, or behind it.
+const ROOM: usize = 96;
+
+/// The bytes of a line in front of a token's text, or behind it.
+#[derive(Drop)]
+struct Part {
+    bytes: [u8; ROOM],
+    used: usize,
+}
+
+impl Model for Part {
+    ghost Value = { List ℕ };
+
+    ghost view = { λ p. take p.used p.bytes };
+
+    ghost invariant = { λ p. p.used ≤ 96 };
+}
+
+impl Part {
+    fn new() -> Part
+        ensures { result ≡ [] }
+    {
+        Part {
+            bytes: [0; ROOM],
+            used: 0,
+        }
+    }
+
+    fn bytes(&self) -> &[u8]
+        ensures { result.now ≡ self.now }
+    {
+        &self.bytes[..self.used]
+    }
+
+    fn push(&mut self, text: &str)
+        requires { length self.old + length text.now ≤ 96 }
+        ensures { self.new ≡ self.old ++ text.now }
+    {
+        let end = self.used + text.len();
+        self.bytes[self.used..end].copy_from_slice(text.as_bytes());
+        self.used = end;
+    }
+
+    fn push_number(&mut self, number: usize)
+        requires { length self.old + 20 ≤ 96 }
+        ensures digits { self.new ≡ self.old ++ decimal number }
+        ensures len { length self.new ≤ length self.old + 20 }
+    {
+        self.push(Buffer::new().format(number));
+    }
+}
+
+/// The name of a kind.
+fn kind_name(kind: TokenKind) -> &'static str
+    ensures name { result.now ≡ kind_name kind }
+    ensures short { length result.now ≤ 12 }
+{
+    match kind {
+        TokenKind::LineComment => "LineComment",
+        TokenKind::BlockComment => "BlockComment",
+        TokenKind::Whitespace => "Whitespace",
+        TokenKind::LParen => "LParen",
+        TokenKind::RParen => "RParen",
+        TokenKind::String => "String",
+        TokenKind::Id => "Id",
+        TokenKind::Keyword => "Keyword",
+        TokenKind::Annotation => "Annotation",
+        TokenKind::Reserved => "Reserved",
+        TokenKind::Integer(_) => "Integer",
+        TokenKind::Float(_) => "Float",
+    }
+}
+
+/// What stands in a line in front of a token's text.
+fn front_of(token: &Token) -> Part
+    ensures { result ≡ json_front token.now }
+{
+    let mut front = Part::new();
+    front.push("{\"offset\":");
+    front.push_number(token.offset);
+    front.push(",\"length\":");
+    front.push_number(token.len as usize);
+    front.push(",\"kind\":\"");
+    front.push(kind_name(token.kind));
+    front.push("\",\"text\":");
+    front
+}
+
+/// What stands behind it: line and column, which count from 0, and are told from 1.
+fn behind_of(line: usize, column: usize) -> Part
+    requires line { line < 2 ^ 32 }
+    requires column { column < 2 ^ 32 }
+    ensures { result ≡ json_behind (line, column) }
+{
+    let mut behind = Part::new();
+    behind.push(",\"line\":");
+    behind.push_number(line + 1);
+    behind.push(",\"column\":");
+    behind.push_number(column + 1);
+    behind.push("}\n");
+    behind
+}
+
+/// A digit to base 16.
+fn hex_digit(digit: u8) -> u8
+    requires { digit < 16 }
+    ensures { result ≡ hex_digit digit }
+{
+    if digit < 10 {
+        b'0' + digit
+    } else {
+        b'a' + (digit - 10)
+    }
+}
+
+/// Six bytes that begin with what stands for a byte in a string, and how many that is.
+fn escaped(byte: u8) -> ([u8; 6], usize)
+    ensures text { take result.1 result.0 ≡ escaped byte }
+    ensures short { result.1 ≤ 6 }
+{
+    match byte {
+        b'"' => (*b"\\\"    ", 2),
+        b'\\' => (*b"\\\\    ", 2),
+        b'\n' => (*b"\\n    ", 2),
+        b'\r' => (*b"\\r    ", 2),
+        b'\t' => (*b"\\t    ", 2),
+        0..=31 => {
+            let digits = [hex_digit(byte / 16), hex_digit(byte % 16)];
+            ([b'\\', b'u', b'0', b'0', digits[0], digits[1]], 6)
+        }
+        _ => ([byte, b' ', b' ', b' ', b' ', b' '], 1),
+    }
+}
+
+/// Puts what stands for the bytes of a text in a string behind the others.
+fn put_escaped<W: Sink>(block: &mut Block, output: &mut W, text: &[u8]) -> Result<(), Failed>
+    ensures put { OnOk result (Puts (W.held output.old) (W.held output.new)
+        block.old block.new (flat_map escaped text.now)) }
+    ensures cut { OnErr result (AppendsPrefix (W.held output.old) (W.held output.new)
+        (block.old ++ flat_map escaped text.now)) }
+    ensures failed { W.failure output.new ≡ failure_after (W.failure output.old) result }
+{
+    for byte in text {
+        let (bytes, count) = escaped(*byte);
+        block.put(output, &bytes[..count])?;
+    }
+    Ok(())
+}
+
+/// Puts a text as a string behind the others.
+fn put_string<W: Sink>(block: &mut Block, output: &mut W, text: &[u8]) -> Result<(), Failed>
+    ensures put { OnOk result (Puts (W.held output.old) (W.held output.new)
+        block.old block.new (json_string text.now)) }
+    ensures cut { OnErr result (AppendsPrefix (W.held output.old) (W.held output.new)
+        (block.old ++ json_string text.now)) }
+    ensures failed { W.failure output.new ≡ failure_after (W.failure output.old) result }
+{
+    block.put(output, b"\"")?;
+    put_escaped(block, output, text)?;
+    block.put(output, b"\"")
+}
+
+/// Puts a token's line behind the others.
+pub fn put_row<W: Sink>(
+    block: &mut Block,
+    output: &mut W,
+    positions: &mut Positions<'_>,
+    token: &Token,
+) -> Result<(), Failed>
+    requires place { IsCharBoundary positions.old token.now.offset }
+    requires end { token.now.offset + token.now.len ≤ length positions.old }
+    ensures put { OnOk result (Puts (W.held output.old) (W.held output.new)
+        block.old block.new (json_line positions.old token.now)) }
+    ensures cut { OnErr result (AppendsPrefix (W.held output.old) (W.held output.new)
+        (block.old ++ json_line positions.old token.now)) }
+    ensures failed { W.failure output.new ≡ failure_after (W.failure output.old) result }
+    ensures positions { positions.new ≡ positions.old }
+{
+    let text = positions.text().as_bytes();
+    let (line, column) = positions.linecol(token.offset);
+    block.put(output, front_of(token).bytes())?;
+    put_string(
+        block,
+        output,
+        &text[token.offset..token.offset + token.len as usize],
+    )?;
+    block.put(output, behind_of(line, column).bytes())
+}
+
+/// Writes what stands for the bytes of a text in a string behind the others.
+fn push_escaped(lines: &mut Vec<u8>, text: &[u8]) -> Result<(), AllocError>
+    ensures { OnOk result (lines.new.items ≡ lines.old.items ++ flat_map escaped text.now) }
+{
+    for byte in text {
+        let (bytes, count) = escaped(*byte);
+        lines.extend_from_slice(&bytes[..count])?;
+    }
+    Ok(())
+}
+
+/// Writes a text as a string behind the others.
+fn push_string(lines: &mut Vec<u8>, text: &[u8]) -> Result<(), AllocError>
+    ensures { OnOk result (lines.new.items ≡ lines.old.items ++ json_string text.now) }
+{
+    lines.extend_from_slice(b"\"")?;
+    push_escaped(lines, text)?;
+    lines.extend_from_slice(b"\"")
+}
+
+/// Writes a token's line behind the others.
+pub fn push_row(
+    lines: &mut Vec<u8>,
+    positions: &mut Positions<'_>,
+    token: &Token,
+) -> Result<(), AllocError>
+    requires place { IsCharBoundary positions.old token.now.offset }
+    requires end { token.now.offset + token.now.len ≤ length positions.old }
+    ensures lines { OnOk result (lines.new.items ≡ lines.old.items ++ json_line positions.old token.now) }
+    ensures positions { positions.new ≡ positions.old }
+{
+    let text = positions.text().as_bytes();
+    let (line, column) = positions.linecol(token.offset);
+    lines.extend_from_slice(front_of(token).bytes())?;
+    push_string(
+        lines,
+        &text[token.offset..token.offset + token.len as usize],
+    )?;
+    lines.extend_from_slice(behind_of(line, column).bytes())
+}

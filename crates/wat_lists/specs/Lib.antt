@@ -1,0 +1,11 @@
+pub mod Blanks
+pub mod Calls
+pub mod Inputs
+pub mod JsonLists
+pub mod Layouts
+pub mod Lists
+pub mod Places
+pub mod Refusals
+pub mod Replies
+pub mod Shows
+pub mod lemmas

@@ -1,0 +1,47 @@
+//! The words of the command line that stand for calls of a parser.
+ghost use Rattle.std.specs.Prelude.{IfOk, OnErr, MatchOption};
+ghost use Rattle.std.specs.Option.{SomeIff};
+ghost use Rattle.std.specs.Str.Parse.{digits_value};
+ghost use Rattle.wat_lists.specs.Calls.{IsCount, SpellsCall, SpellsNoCall, HasName};
+
+use std::alloc::{AllocError, Global};
+use wat_lexer_parser::parser::Call;
+
+/// How many digits the longest count has.
+const MOST_DIGITS: usize = 9;
+
+/// The number in one to nine decimal digits.
+fn read_count(digits: &str) -> Option<usize>
+    ensures { SomeIff result (IsCount digits.now) (digits_value 10 digits.now) }
+{
+    // `parse` takes a sign too.
+    if digits.len() > MOST_DIGITS || digits.starts_with('+') {
+        return None;
+    }
+    digits.parse().ok()
+}
+
+/// The call that the word stands for.
+pub fn read_call(alloc: Global, word: &str) -> Result<Option<Call>, AllocError>
+    ensures spelled { IfOk result (λ call.
+        MatchOption call (SpellsNoCall word.now) (SpellsCall word.now)) }
+
+    // No other word takes memory.
+    ensures refused { OnErr result (HasName word.now) }
+{
+    if let Some(name) = word.strip_prefix("reg=") {
+        return Ok(Some(Call::Register(String::from_str(alloc, name)?)));
+    }
+    if let Some(name) = word.strip_prefix("unreg=") {
+        return Ok(Some(Call::Unregister(String::from_str(alloc, name)?)));
+    }
+    if let Some(digits) = word.strip_prefix("parens=") {
+        return Ok(read_count(digits).map(|count| Call::Parens(count)));
+    }
+    Ok(match word {
+        "look" => Some(Call::Look),
+        "take" => Some(Call::Take),
+        "comment" => Some(Call::Comment),
+        _ => None,
+    })
+}

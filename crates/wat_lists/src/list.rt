@@ -1,0 +1,100 @@
+//! The list of a text's raw tokens.
+ghost use Rattle.std.specs.Prelude.{◌≡◌, ◌++◌, ◌+◌, ◌<◌, ◌^◌, length, IfOk, OnOk, OnErr, IsNone};
+ghost use Rattle.wat_lexer_parser.specs.places.Source.{IsRead};
+ghost use Rattle.wat_lines.specs.Blocks.{AppendsEach, AppendsEachCut, EndsIn};
+ghost use Rattle.wat_lines.specs.Lines.{line};
+ghost use Rattle.wat_lines.specs.Streams.{failure_after};
+
+use std::alloc::{AllocError, Global};
+use wat_lex::error::Error;
+use wat_lex::lexer::{LexFault, Lexer, Settings, Token};
+use wat_lexer_parser::parser::ParseBuffer;
+use wat_lines::block::Block;
+use wat_lines::ends::{Failed, Sink};
+use wat_lines::line::{Place, ROOM, put_line};
+
+/// Writes a token's line behind the others.
+pub(crate) fn push_line(lines: &mut Vec<u8>, token: &Token) -> Result<(), AllocError>
+    requires { token.now.offset + token.now.len < 2 ^ 32 }
+    ensures { OnOk result (lines.new.items ≡ lines.old.items ++ line token.now) }
+{
+    let mut room = [0; ROOM];
+    let end = put_line(&mut room, &mut Place::start(), token);
+    lines.extend_from_slice(&room[..end])
+}
+
+/// The refused request for memory that an error stands for which is no fault of the text.
+pub(crate) fn refusal_of(error: &Error) -> AllocError
+    requires { IsNone error.now }
+{
+    error.alloc_error().unwrap()
+}
+
+/// The lexer of a text that is read with these settings.
+pub fn lexer_of<'a>(text: &'a str, settings: Settings) -> Lexer<'a>
+    requires { length text.now < 2 ^ 32 }
+    ensures { result ≡ record { text = text.now; flags = settings } }
+{
+    let mut lexer = Lexer::new(text);
+    lexer
+        .allow_confusing_unicode(settings.allow)
+        .strict_underscores(settings.strict);
+    lexer
+}
+
+/// The buffer of a text that is read with these settings.
+pub(crate) fn buffer_of<'a>(
+    alloc: Global,
+    text: &'a str,
+    settings: Settings,
+) -> Result<ParseBuffer<'a>, AllocError>
+    requires { length text.now < 2 ^ 32 }
+    ensures setting { IfOk result (λ b.
+        b.setting ≡ record { text = text.now; flags = settings }) }
+    ensures read { IfOk result IsRead }
+{
+    match ParseBuffer::new_with_lexer(alloc, lexer_of(text, settings)) {
+        Ok(buffer) => Ok(buffer),
+        Err(error) => Err(refusal_of(&error)),
+    }
+}
+
+/// The fault of a lexer's text, where it has one. It takes no memory.
+pub fn fault_of(lexer: &Lexer<'_>) -> Option<LexFault>
+    ensures { EndsIn lexer.now result }
+{
+    let _ = lexer.input();
+    let mut pos = 0;
+    'tokens: loop {
+        match lexer.scan(pos) {
+            Ok(Some(token)) => pos = token.offset + token.len as usize,
+            Ok(None) => return None,
+            Err(fault) => return Some(fault),
+        }
+    }
+}
+
+/// Writes a line for each raw token of a lexer's text. It takes no memory.
+pub fn write_lines<W: Sink>(lexer: &Lexer<'_>, output: &mut W) -> Result<(), Failed>
+    ensures written { OnOk result
+        (AppendsEach line lexer.now (W.held output.old) (W.held output.new)) }
+    ensures cut { OnErr result
+        (AppendsEachCut line lexer.now (W.held output.old) (W.held output.new)) }
+    ensures failed { W.failure output.new ≡ failure_after (W.failure output.old) result }
+{
+    wat_lex::laws::one_tiling();
+    let _ = lexer.input();
+    let mut block = Block::new();
+    let mut place = Place::start();
+    let mut pos = 0;
+    'tokens: loop {
+        match lexer.scan(pos) {
+            Ok(Some(token)) => {
+                block.put_line(output, &mut place, &token)?;
+                pos = token.offset + token.len as usize;
+            }
+            Ok(None) => return block.write(output),
+            Err(_) => return block.write(output),
+        }
+    }
+}
