@@ -5,3 +5,4 @@ pub mod Next
 pub mod Table
 pub mod TableNames
 pub mod Codes
+pub mod IntegerReadings

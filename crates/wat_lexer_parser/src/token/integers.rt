@@ -1,14 +1,16 @@
 //! Integers. Those with a sign take the words of all bits too, as `0xff` for -1 in eight bits.
 ghost use Rattle.std.specs.Prelude.{◌≡◌, ◌≤◌, ◌<◌, ◌+◌, ◌^◌, ◌≤ℤ◌, ◌<ℤ◌, ℕ, ℤ};
-ghost use Rattle.std.specs.Prelude.{IfOk, IfSome, codes, pos, neg_ℤ, true, false};
+ghost use Rattle.std.specs.Prelude.{IfOk, IfSome, Some, Ok, codes, pos, neg_ℤ, true, false};
 ghost use Rattle.wat_lex.specs.grammar.Numbers.{sign_token};
 ghost use Rattle.wat_lex.specs.tokens.ReadableTokens.{IsTokenOf, word_of};
 ghost use Rattle.wat_lex.specs.values.NumberValues.{integer_value};
 ghost use Rattle.wat_lex.specs.declared.lexer.kinds.TokenKind.TheVariants as variant;
-ghost use Rattle.wat_lexer_parser.specs.parser.State.{at_place};
-ghost use Rattle.wat_lexer_parser.specs.parser.Takers.{as_integer, is_minus};
+ghost use Rattle.wat_lexer_parser.specs.inside.IntegerReadings.{an_integer_word, signed_integer};
+ghost use Rattle.wat_lexer_parser.specs.inside.IntegerReadings.{unsigned_integer};
+ghost use Rattle.wat_lexer_parser.specs.parser.State.{at_place, seen_at};
+ghost use Rattle.wat_lexer_parser.specs.parser.Takers.{is_minus};
 ghost use Rattle.wat_lexer_parser.specs.readings.Reads.{CursorReads, IsKept, Reads};
-ghost use Rattle.wat_lexer_parser.specs.readings.Readings.{checked, spanned, token};
+ghost use Rattle.wat_lexer_parser.specs.readings.Readings.{spanned};
 ghost use Rattle.wat_lexer_parser.specs.readings.Types.{integer, signed_number};
 ghost use Rattle.wat_lexer_parser.specs.readings.Types.{signed_within, unsigned_below};
 
@@ -41,27 +43,53 @@ fn unsigned_value(text: &str, token: &Token, kind: IntegerKind, most: u64) -> Op
     }
 }
 
-/// Takes an integer of a type without a sign, with the place where it stands. The messages are for
-/// where none is shown, and where it is out of range.
-fn unsigned<'p, 'a>(
+/// Takes the integer that is shown, with its kind. The message is for where none is.
+#[inline(always)]
+#[tactic(auto, unfolding(crate::specs::inside::IntegerReadings::an_integer_word))]
+fn shown_integer<'p, 'a>(
     cursor: Cursor<'p, 'a>,
-    most: u64,
     expected: &str,
-    out_of_range: &str,
-) -> Result<((u64, Span), Cursor<'p, 'a>), Error>
-    ensures value { CursorReads (λ v. v) (spanned (checked (unsigned_below (most + 1))
-        out_of_range.now (token as_integer expected.now)))
+) -> Result<((Token, IntegerKind), Cursor<'p, 'a>), Error>
+    ensures value { CursorReads (λ v. (
+      is_minus (sign_token v.1.sign),
+      integer_value v.1.hex (word_of cursor.entry.parser.now.source.setting.text v.0),
+    ))
+        (an_integer_word expected.now)
         (at_place cursor.entry.parser.now cursor.entry.at) (λ next. next.at) result }
-    ensures fits { IfOk result (λ v. v.0.0 ≤ most) }
+    ensures seen { IfOk result (λ v. seen_at (at_place cursor.entry.parser.now cursor.entry.at)
+        ≡ Ok (Some (v.0.0, v.1.at))) }
+    ensures token { IfOk result (λ v.
+        IsTokenOf cursor.entry.parser.now.source.setting.text v.0.0) }
+    ensures kind { IfOk result (λ v. v.0.0.kind ≡ variant.Integer v.0.1) }
     ensures parser { IfOk result (λ v. v.1.parser ≡ cursor.entry.parser) }
     ensures on { IfOk result (λ v. cursor.entry.at < v.1.at) }
 {
     let Some((token, next)) = cursor.any()? else {
         return Err(cursor.error(expected));
     };
-    let TokenKind::Integer(kind) = token.kind else {
-        return Err(cursor.error(expected));
-    };
+    match token.kind {
+        TokenKind::Integer(kind) => Ok(((token, kind), next)),
+        _ => Err(cursor.error(expected)),
+    }
+}
+
+/// Takes an integer of a type without a sign, with the place where it stands. The messages are for
+/// where none is shown, and where it is out of range.
+#[tactic(auto, unfolding(crate::specs::inside::IntegerReadings::unsigned_integer))]
+fn unsigned<'p, 'a>(
+    cursor: Cursor<'p, 'a>,
+    most: u64,
+    expected: &str,
+    out_of_range: &str,
+) -> Result<((u64, Span), Cursor<'p, 'a>), Error>
+    ensures value { CursorReads (λ v. v)
+        (unsigned_integer (most + 1) expected.now out_of_range.now)
+        (at_place cursor.entry.parser.now cursor.entry.at) (λ next. next.at) result }
+    ensures fits { IfOk result (λ v. v.0.0 ≤ most) }
+    ensures parser { IfOk result (λ v. v.1.parser ≡ cursor.entry.parser) }
+    ensures on { IfOk result (λ v. cursor.entry.at < v.1.at) }
+{
+    let ((token, kind), next) = shown_integer(cursor, expected)?;
     match unsigned_value(cursor.text(), &token, kind, most) {
         Some(value) => Ok(((value, cursor.span_of(token)), next)),
         None => Err(cursor.error(out_of_range)),
@@ -77,8 +105,8 @@ fn parse_unsigned(
 ) -> Result<(u64, Span), Error>
     ensures kept { IsKept parser.old parser.new }
     ensures on { parser.old.place ≤ parser.new.place }
-    ensures reads { Reads (λ v. v) (spanned (checked (unsigned_below (most + 1))
-        out_of_range.now (token as_integer expected.now))) parser.old result parser.new.place }
+    ensures reads { Reads (λ v. v) (unsigned_integer (most + 1) expected.now out_of_range.now)
+        parser.old result parser.new.place }
     ensures fits { IfOk result (λ v. v.0 ≤ most) }
 {
     parser.step(|c| unsigned(c, most, expected, out_of_range))
@@ -140,6 +168,7 @@ fn negative(magnitude: u64, half: u64) -> Option<i64>
 }
 
 /// Takes an integer of a type with a sign, as [`unsigned`] does.
+#[tactic(auto, unfolding(crate::specs::inside::IntegerReadings::signed_integer))]
 fn signed<'p, 'a>(
     cursor: Cursor<'p, 'a>,
     half: u64,
@@ -148,20 +177,15 @@ fn signed<'p, 'a>(
 ) -> Result<((i64, Span), Cursor<'p, 'a>), Error>
     requires least { 0 < half }
     requires most { half ≤ 2 ^ 63 }
-    ensures value { CursorReads (λ v. v) (spanned (checked (signed_number half)
-        out_of_range.now (token as_integer expected.now)))
+    ensures value { CursorReads (λ v. v)
+        (signed_integer half expected.now out_of_range.now)
         (at_place cursor.entry.parser.now cursor.entry.at) (λ next. next.at) result }
     ensures low { IfOk result (λ v. neg_ℤ (pos half) ≤ℤ v.0.0) }
     ensures high { IfOk result (λ v. v.0.0 <ℤ pos half) }
     ensures parser { IfOk result (λ v. v.1.parser ≡ cursor.entry.parser) }
     ensures on { IfOk result (λ v. cursor.entry.at < v.1.at) }
 {
-    let Some((token, next)) = cursor.any()? else {
-        return Err(cursor.error(expected));
-    };
-    let TokenKind::Integer(kind) = token.kind else {
-        return Err(cursor.error(expected));
-    };
+    let ((token, kind), next) = shown_integer(cursor, expected)?;
     match signed_value(cursor.text(), &token, kind, half) {
         Some(value) => Ok(((value, cursor.span_of(token)), next)),
         None => Err(cursor.error(out_of_range)),
@@ -179,8 +203,8 @@ fn parse_signed(
     requires most { half ≤ 2 ^ 63 }
     ensures kept { IsKept parser.old parser.new }
     ensures on { parser.old.place ≤ parser.new.place }
-    ensures reads { Reads (λ v. v) (spanned (checked (signed_number half)
-        out_of_range.now (token as_integer expected.now))) parser.old result parser.new.place }
+    ensures reads { Reads (λ v. v) (signed_integer half expected.now out_of_range.now)
+        parser.old result parser.new.place }
     ensures low { IfOk result (λ v. neg_ℤ (pos half) ≤ℤ v.0) }
     ensures high { IfOk result (λ v. v.0 <ℤ pos half) }
 {
@@ -194,6 +218,7 @@ impl<'a> Parse<'a> for (u8, Span) {
 
     ghost meaning = { spanned (integer (codes "u8") (unsigned_below (2 ^ 8))) };
 
+    #[tactic(auto, unfolding(crate::specs::inside::IntegerReadings::unsigned_integer, crate::specs::inside::IntegerReadings::an_integer_word))]
     fn parse(parser: &mut Parser<'a>) -> Result<(u8, Span), Error> {
         let (value, span) = parse_unsigned(
             parser,
@@ -240,6 +265,7 @@ impl<'a> Parse<'a> for (u16, Span) {
 
     ghost meaning = { spanned (integer (codes "u16") (unsigned_below (2 ^ 16))) };
 
+    #[tactic(auto, unfolding(crate::specs::inside::IntegerReadings::unsigned_integer, crate::specs::inside::IntegerReadings::an_integer_word))]
     fn parse(parser: &mut Parser<'a>) -> Result<(u16, Span), Error> {
         let (value, span) = parse_unsigned(
             parser,
@@ -286,6 +312,7 @@ impl<'a> Parse<'a> for (u32, Span) {
 
     ghost meaning = { spanned (integer (codes "u32") (unsigned_below (2 ^ 32))) };
 
+    #[tactic(auto, unfolding(crate::specs::inside::IntegerReadings::unsigned_integer, crate::specs::inside::IntegerReadings::an_integer_word))]
     fn parse(parser: &mut Parser<'a>) -> Result<(u32, Span), Error> {
         let (value, span) = parse_unsigned(
             parser,
@@ -332,6 +359,7 @@ impl<'a> Parse<'a> for (u64, Span) {
 
     ghost meaning = { spanned (integer (codes "u64") (unsigned_below (2 ^ 64))) };
 
+    #[tactic(auto, unfolding(crate::specs::inside::IntegerReadings::unsigned_integer, crate::specs::inside::IntegerReadings::an_integer_word))]
     fn parse(parser: &mut Parser<'a>) -> Result<(u64, Span), Error> {
         parse_unsigned(
             parser,
@@ -377,7 +405,7 @@ impl<'a> Parse<'a> for (i8, Span) {
 
     ghost meaning = { spanned (integer (codes "i8") (signed_within (2 ^ 7))) };
 
-    #[tactic(auto, unfolding(crate::specs::readings::Types::signed_number))]
+    #[tactic(auto, unfolding(crate::specs::readings::Types::signed_number, crate::specs::inside::IntegerReadings::signed_integer, crate::specs::inside::IntegerReadings::an_integer_word))]
     fn parse(parser: &mut Parser<'a>) -> Result<(i8, Span), Error> {
         let (value, span) = parse_signed(
             parser,
@@ -424,7 +452,7 @@ impl<'a> Parse<'a> for (i16, Span) {
 
     ghost meaning = { spanned (integer (codes "i16") (signed_within (2 ^ 15))) };
 
-    #[tactic(auto, unfolding(crate::specs::readings::Types::signed_number))]
+    #[tactic(auto, unfolding(crate::specs::readings::Types::signed_number, crate::specs::inside::IntegerReadings::signed_integer, crate::specs::inside::IntegerReadings::an_integer_word))]
     fn parse(parser: &mut Parser<'a>) -> Result<(i16, Span), Error> {
         let (value, span) = parse_signed(
             parser,
@@ -471,7 +499,7 @@ impl<'a> Parse<'a> for (i32, Span) {
 
     ghost meaning = { spanned (integer (codes "i32") (signed_within (2 ^ 31))) };
 
-    #[tactic(auto, unfolding(crate::specs::readings::Types::signed_number))]
+    #[tactic(auto, unfolding(crate::specs::readings::Types::signed_number, crate::specs::inside::IntegerReadings::signed_integer, crate::specs::inside::IntegerReadings::an_integer_word))]
     fn parse(parser: &mut Parser<'a>) -> Result<(i32, Span), Error> {
         let (value, span) = parse_signed(
             parser,
@@ -518,7 +546,7 @@ impl<'a> Parse<'a> for (i64, Span) {
 
     ghost meaning = { spanned (integer (codes "i64") (signed_within (2 ^ 63))) };
 
-    #[tactic(auto, unfolding(crate::specs::readings::Types::signed_number))]
+    #[tactic(auto, unfolding(crate::specs::readings::Types::signed_number, crate::specs::inside::IntegerReadings::signed_integer, crate::specs::inside::IntegerReadings::an_integer_word))]
     fn parse(parser: &mut Parser<'a>) -> Result<(i64, Span), Error> {
         parse_signed(
             parser,

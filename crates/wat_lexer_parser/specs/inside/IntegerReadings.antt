@@ -1,0 +1,14 @@
+-- What an integer of a type reads, by the bound and the messages. The search for proofs does not take these apart.
+use Rattle.std.specs.Prelude.{ℕ, ℤ, Bool, List}
+use Rattle.wat_lexer_parser.specs.parser.Takers.{as_integer}
+use Rattle.wat_lexer_parser.specs.readings.Readings.{Reading, checked, spanned, token}
+use Rattle.wat_lexer_parser.specs.readings.Types.{signed_number, unsigned_below}
+
+unfoldable pub an_integer_word : List ℕ → Reading (Bool × ℕ)
+an_integer_word expected = token as_integer expected
+
+unfoldable pub unsigned_integer : ℕ → List ℕ → List ℕ → Reading (ℕ × ℕ)
+unsigned_integer bound expected out_of_range = spanned (checked (unsigned_below bound) out_of_range (an_integer_word expected))
+
+unfoldable pub signed_integer : ℕ → List ℕ → List ℕ → Reading (ℤ × ℕ)
+signed_integer half expected out_of_range = spanned (checked (signed_number half) out_of_range (an_integer_word expected))
