@@ -2,15 +2,12 @@
 ghost use Rattle.std.specs.Prelude.{◌≡◌};
 ghost use Rattle.wat_lexer_parser.specs.readings.Reads.{IsKept};
 
-use crate::types::printed;
 use std::alloc::{AllocError, Global};
-use std::borrow::{CowSlice, CowStr};
 use wat_lex::error::Error;
-use wat_lex::lexer::{Float, Integer};
 use wat_lex::token::Span;
 use wat_lex_answers::row::Row;
 use wat_lex_answers::tokens::short;
-use wat_lexer_parser::parser::{Cursor, ParseBuffer, Parser};
+use wat_lexer_parser::parser::{ParseBuffer, Parser};
 
 /// Takes a keyword.
 fn keyword<'a>(parser: &mut Parser<'a>) -> Result<&'a str, Error>
@@ -20,63 +17,6 @@ fn keyword<'a>(parser: &mut Parser<'a>) -> Result<&'a str, Error>
         Some(found) => Ok(found),
         None => Err(cursor.error("expected a keyword")),
     })
-}
-
-fn float<'a>(parser: &mut Parser<'a>) -> Result<Float<'a>, Error> {
-    parser.step(|cursor| match cursor.float()? {
-        Some(found) => Ok(found),
-        None => Err(cursor.error("no float")),
-    })
-}
-
-fn integer<'a>(parser: &mut Parser<'a>) -> Result<Integer<'a>, Error> {
-    parser.step(|cursor| match cursor.integer()? {
-        Some(found) => Ok(found),
-        None => Err(cursor.error("no integer")),
-    })
-}
-
-fn identifier<'a>(parser: &mut Parser<'a>) -> Result<CowStr<'a>, Error> {
-    parser.step(|cursor| match cursor.id()? {
-        Some(found) => Ok(found),
-        None => Err(cursor.error("no identifier")),
-    })
-}
-
-/// The digits of an integer, and their base.
-fn digits(alloc: Global, integer: &Integer<'_>) -> Result<String, AllocError> {
-    let (digits, base) = integer.val();
-    format!(in alloc; "{digits} {base}")
-}
-
-/// What the takers of numbers and of an identifier take, one behind the other.
-fn numbers(alloc: Global, parser: &mut Parser<'_>) -> Result<String, Error> {
-    let float = printed(alloc, &float(parser)?)?;
-    let integer = digits(alloc, &integer(parser)?)?;
-    let id = identifier(parser)?;
-    Ok(format!(in alloc; "{float}, {integer}, {id}")?)
-}
-
-fn string<'a>(parser: &mut Parser<'a>) -> Result<CowSlice<'a, u8>, Error> {
-    parser.step(|cursor| match cursor.string()? {
-        Some(found) => Ok(found),
-        None => Err(cursor.error("no string")),
-    })
-}
-
-fn name<'a>(parser: &mut Parser<'a>) -> Result<CowStr<'a>, Error> {
-    parser.step(|cursor| match cursor.annotation()? {
-        Some(found) => Ok(found),
-        None => Err(cursor.error("no name")),
-    })
-}
-
-/// What each taker of a value takes.
-fn values(alloc: Global, parser: &mut Parser<'_>) -> Result<String, Error> {
-    let numbers = numbers(alloc, parser)?;
-    let string = printed(alloc, &string(parser)?.as_slice())?;
-    let name = name(parser)?;
-    Ok(format!(in alloc; "{numbers}, {string}, {name}")?)
 }
 
 /// Takes two keywords.
@@ -150,76 +90,15 @@ fn refused_behind(parser: &mut Parser<'_>, at: &str) -> Result<String, Error> {
     })
 }
 
-/// Whether a call answers the report of a fault, and no want of memory.
-fn is_told<T: Drop>(answer: Result<T, Error>) -> bool {
-    match answer {
-        Ok(_) => false,
-        Err(error) => !error.is_out_of_memory(),
-    }
-}
-
-/// Whether each taker of tokens and parentheses answers a report.
-fn tokens_tell(cursor: Cursor<'_, '_>) -> bool {
-    is_told(cursor.any())
-        && is_told(cursor.token())
-        && is_told(cursor.lparen())
-        && is_told(cursor.rparen())
-}
-
-/// Whether each taker of names and words answers a report.
-fn words_tell(cursor: Cursor<'_, '_>) -> bool {
-    is_told(cursor.id())
-        && is_told(cursor.annotation())
-        && is_told(cursor.keyword())
-        && is_told(cursor.reserved())
-}
-
-/// Whether each taker of strings and numbers answers a report.
-fn values_tell(cursor: Cursor<'_, '_>) -> bool {
-    is_told(cursor.string()) && is_told(cursor.integer()) && is_told(cursor.float())
-}
-
-/// Whether each taker answers a report.
-fn takers_tell(cursor: Cursor<'_, '_>) -> bool {
-    tokens_tell(cursor) && words_tell(cursor) && values_tell(cursor)
-}
-
-/// Whether each peek answers a report.
-fn peeks_tell(cursor: Cursor<'_, '_>) -> bool {
-    let peeks = [
-        is_told(cursor.peek_lparen()),
-        is_told(cursor.peek_rparen()),
-        is_told(cursor.peek_id()),
-        is_told(cursor.peek_keyword()),
-        is_told(cursor.peek_reserved()),
-        is_told(cursor.peek_string()),
-        is_told(cursor.peek_integer()),
-        is_told(cursor.peek_float()),
-    ];
-    peeks.iter().all(|told| *told)
-}
-
-/// Whether each taker and each peek answers the fault that is shown.
-fn told(alloc: Global, parser: &mut Parser<'_>) -> Result<String, Error> {
-    let told = parser.step(|cursor| Ok(((takers_tell(cursor), peeks_tell(cursor)), cursor)))?;
-    let Err(error) = parser.step(|cursor| Ok((cursor.token()?, cursor))) else {
-        return Ok(String::from_str(alloc, "no fault")?);
-    };
-    let message = error.message(alloc)?;
-    Ok(format!(in alloc; "{told:?}: {message}")?)
-}
-
 /// What a call answers of a parser; None where none of these is asked.
 fn called(alloc: Global, row: &Row<'_>, parser: &mut Parser<'_>) -> Result<Option<String>, Error> {
     Ok(Some(match row.call {
-        "values" => values(alloc, parser)?,
         "two-keywords" => two_keywords(alloc, parser)?,
         "two-groups" => two_groups(alloc, parser)?,
         "three-groups" => three_groups(alloc, parser)?,
         "refused-group" => refused_group(alloc, parser)?,
         "nested" => groups(alloc, parser, row.at())?,
         "refused-behind" => refused_behind(parser, row.with)?,
-        "told" => told(alloc, parser)?,
         _ => return Ok(None),
     }))
 }

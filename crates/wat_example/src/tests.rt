@@ -1,12 +1,10 @@
-//! Groups that are read, and refused ones; and values of tokens that no text has.
+//! Groups that are read, and refused ones.
 use crate::{group, keyword, opens_under};
 use std::alloc::Global;
 use std::process::Abort;
 use std::test::Fail;
 use wat_lex::error::Error;
-use wat_lexer_parser::parser::{ParseBuffer, parse};
-use wat_lexer_parser::token::{Id, Index, ItemRef, ReservedSymbol, Span, Std};
-use wat_lexer_parser::{annotation, kw};
+use wat_lexer_parser::parser::ParseBuffer;
 
 /// The word, or the message and where it is reported.
 fn shown(alloc: Global, answer: Result<&str, Error>) -> Result<String, Fail> {
@@ -91,40 +89,6 @@ fn names(rt: HostRuntime) -> Result<(), Fail> {
     ];
     for (text, want) in rows {
         assert_eq!(rt; opens(&rt, rt.alloc(), text)?, want, "{text}");
-    }
-    Ok(())
-}
-
-#[test]
-fn values_that_no_text_has(rt: HostRuntime) -> Result<(), Fail> {
-    let at = Span::from_offset(2);
-    let keyword = kw::func::new(at);
-    let copied = keyword;
-    assert_eq!(rt; (copied.span, keyword.clone()?.span), (at, at));
-    assert_eq!(rt; ReservedSymbol::<Std<0>>::new(at).span, at);
-    assert_eq!(rt; annotation::name::new(at).span, at);
-    let shown = format!(in rt.alloc(); "{keyword:?}")?;
-    assert!(rt; shown.starts_with("Keyword { span: Span { offset: 2 }"));
-    Ok(())
-}
-
-#[test]
-fn a_keyword_that_a_text_has(rt: HostRuntime) -> Result<(), Fail> {
-    let buffer = ParseBuffer::new(rt.alloc(), "  func")?;
-    assert_eq!(rt; parse::<kw::func>(&buffer)?.span, Span::from_offset(2));
-    Ok(())
-}
-
-#[test]
-fn copies_of_references(rt: HostRuntime) -> Result<(), Fail> {
-    let at = Span::from_offset(2);
-    for idx in [Index::Id(Id::new("f", at)), Index::Num(7, at)] {
-        let kind = kw::func::new(Span::from_offset(1));
-        let item = ItemRef { kind, idx };
-        let copy = item.clone(rt.alloc())?;
-        assert_eq!(rt; copy.kind.span.offset(), 1);
-        assert!(rt; copy.idx == item.idx);
-        assert_eq!(rt; copy.idx.span().offset(), 2);
     }
     Ok(())
 }

@@ -33,6 +33,44 @@ look-annotation|look|annotation| "ab|unexpected end-of-file|4
 look-string|look|string| "ab|unexpected end-of-file|4
 look-integer|look|integer| "ab|unexpected end-of-file|4
 look-float|look|float| "ab|unexpected end-of-file|4
+look-token-empty|look|token|(@|empty annotation id|1
+look-any-empty|look|any|(@|empty annotation id|1
+look-peek-lparen-empty|look|peek-lparen|(@|empty annotation id|1
+look-peek-rparen-empty|look|peek-rparen|(@|empty annotation id|1
+look-peek-id-empty|look|peek-id|(@|empty annotation id|1
+look-peek-reserved-empty|look|peek-reserved|(@|empty annotation id|1
+look-peek-keyword-empty|look|peek-keyword|(@|empty annotation id|1
+look-peek-integer-empty|look|peek-integer|(@|empty annotation id|1
+look-peek-float-empty|look|peek-float|(@|empty annotation id|1
+look-peek-string-empty|look|peek-string|(@|empty annotation id|1
+look-lparen-empty|look|lparen|(@|empty annotation id|1
+look-rparen-empty|look|rparen|(@|empty annotation id|1
+look-keyword-empty|look|keyword|(@|empty annotation id|1
+look-reserved-empty|look|reserved|(@|empty annotation id|1
+look-id-empty|look|id|(@|empty annotation id|1
+look-annotation-empty|look|annotation|(@|empty annotation id|1
+look-string-empty|look|string|(@|empty annotation id|1
+look-integer-empty|look|integer|(@|empty annotation id|1
+look-float-empty|look|float|(@|empty annotation id|1
+look-token-unclosed|look|token|(@a|unclosed annotation at byte offset 1|1
+look-any-unclosed|look|any|(@a|unclosed annotation at byte offset 1|1
+look-peek-lparen-unclosed|look|peek-lparen|(@a|unclosed annotation at byte offset 1|1
+look-peek-rparen-unclosed|look|peek-rparen|(@a|unclosed annotation at byte offset 1|1
+look-peek-id-unclosed|look|peek-id|(@a|unclosed annotation at byte offset 1|1
+look-peek-reserved-unclosed|look|peek-reserved|(@a|unclosed annotation at byte offset 1|1
+look-peek-keyword-unclosed|look|peek-keyword|(@a|unclosed annotation at byte offset 1|1
+look-peek-integer-unclosed|look|peek-integer|(@a|unclosed annotation at byte offset 1|1
+look-peek-float-unclosed|look|peek-float|(@a|unclosed annotation at byte offset 1|1
+look-peek-string-unclosed|look|peek-string|(@a|unclosed annotation at byte offset 1|1
+look-lparen-unclosed|look|lparen|(@a|unclosed annotation at byte offset 1|1
+look-rparen-unclosed|look|rparen|(@a|unclosed annotation at byte offset 1|1
+look-keyword-unclosed|look|keyword|(@a|unclosed annotation at byte offset 1|1
+look-reserved-unclosed|look|reserved|(@a|unclosed annotation at byte offset 1|1
+look-id-unclosed|look|id|(@a|unclosed annotation at byte offset 1|1
+look-annotation-unclosed|look|annotation|(@a|unclosed annotation at byte offset 1|1
+look-string-unclosed|look|string|(@a|unclosed annotation at byte offset 1|1
+look-integer-unclosed|look|integer|(@a|unclosed annotation at byte offset 1|1
+look-float-unclosed|look|float|(@a|unclosed annotation at byte offset 1|1
 take-id|look|id|$"\62"|true
 take-annotation|look|annotation|@"\62"|true
 take-string|look|string|"\62"|true
@@ -91,6 +129,17 @@ part-i8|part@a|i8|-0x81|invalid i8 number: constant out of range|0
 part-i16|part@a|i16|+0x1_0000|invalid i16 number: constant out of range|0
 part-i32|part@a|i32|-2_147_483_649|invalid i32 number: constant out of range|0
 part-i64|part@a|i64|-0x8000000000000001|invalid i64 number: constant out of range|0
+part-u8-decimal|part@a|u8|256|invalid u8 number: constant out of range|0
+part-u16-far|part@a|u16|18446744073709551615|invalid u16 number: constant out of range|0
+part-u64-decimal|part@a|u64|18446744073709551616|invalid u64 number: constant out of range|0
+part-i8-decimal|part@a|i8|256|invalid i8 number: constant out of range|0
+part-i8-low|part@a|i8|-129|invalid i8 number: constant out of range|0
+part-i8-none|part@a|i8|x|expected a i8|0
+part-i32-far|part@a|i32|99999999999999999999|invalid i32 number: constant out of range|0
+part-i64-low|part@a|i64|-9223372036854775809|invalid i64 number: constant out of range|0
+part-text-none|part@a|text|x|expected a string|0
+part-id-none|part@a|id|x|expected an identifier|0
+part-annotation-other|part@a|annotation|@producer|expected annotation `@name`|0
 part-spanned|part@a|spanned-u32|x|expected a u32|0
 part-bytes|part@a|bytes|x|expected a string|0
 part-text|part@a|text|"\ff" x|malformed UTF-8 encoding|5|5
@@ -211,6 +260,16 @@ free-part-i8|part@a|i8|-0x80|-128||5
 free-part-i16|part@a|i16|+0xffff|-1||7
 free-part-i32|part@a|i32|-1_0|-10||4
 free-part-i64|part@a|i64|-0x1|-1||4
+free-part-u8-most|part@a|u8|0xf_f|255||5
+free-part-u64-most|part@a|u64|18446744073709551615|18446744073709551615||20
+free-part-i8-all-bits|part@a|i8|255|-1||3
+free-part-i8-minus-zero|part@a|i8|-0|0||2
+free-part-i8-most|part@a|i8|+0x7f|127||5
+free-part-i32-all-bits|part@a|i32|4294967295|-1||10
+free-part-i32-least|part@a|i32|-2147483648|-2147483648||11
+free-part-i32-minus-zero|part@a|i32|-0|0||2
+free-part-i64-all-bits|part@a|i64|18446744073709551615|-1||20
+free-part-i64-least|part@a|i64|-9223372036854775808|-9223372036854775808||20
 free-part-optional|part@a|optional|0x1_2|Some(18)||5
 free-part-parens|part@a|parens|(12)|Parens { inner: 12 }||4
 free-part-bytes|part@a|bytes|"ab"|[97, 98]||4
@@ -219,7 +278,7 @@ free-part-id|part@a|id|$a|"a"||2
 free-part-index|part@a|index|$a|Id("a")||2
 free-part-name|part@a|name|@name "m"|NameAnnotation { name: "m" }||9
 free-part-spanned|part@a|spanned-u32|12|(12, Span { offset: 0 })||2
-free-part-keyword|part@a|keyword|func|Keyword { span: Span { offset: 0 }, of: PhantomData<_> }||4
+free-part-keyword|part@a|keyword|  func|Keyword { span: Span { offset: 2 }, of: PhantomData<_> }||6
 free-part-reserved|part@a|reserved|,|ReservedSymbol { span: Span { offset: 0 }, of: PhantomData<_> }||1
 free-part-annotation|part@a|annotation|@name|AnnotationWord { span: Span { offset: 0 }, of: PhantomData<_> }||5
 free-part-item|part@a|item|(func $f)|ItemRef { kind: Keyword { span: Span { offset: 1 }, of: PhantomData<_> }, idx: Id("f") }||9
