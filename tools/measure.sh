@@ -80,6 +80,12 @@ elif [ ! -e "$texts/real.wat" ]; then
     fi
 fi
 
+# Their first megabytes, up to the end of a line: the tables of such texts are small enough for glibc to use their pages again.
+mkdir -p "$texts/fronts"
+for name in real generated annotated dense u32_decimal u32_hexadecimal u32_mixed groups; do
+    [ ! -e "$texts/$name.wat" ] || head -c 1000000 "$texts/$name.wat" | sed '$d' > "$texts/fronts/$name, 1 MB.wat"
+done
+
 # those NAME..: the texts of these names that are there
 those() {
     local name
@@ -164,6 +170,9 @@ measure() {
     times parser "$passes" "${all[@]}"
     times numbers "$passes" "$texts"/u32_*.wat
     times groups "$passes" "$texts/groups.wat"
+    times parser "$passes" "$texts"/fronts/{real,generated,annotated,dense}*.wat
+    times numbers "$passes" "$texts"/fronts/u32_*.wat
+    times groups "$passes" "$texts"/fronts/groups*.wat
     times places "$passes" "${all[@]}"
     times errors "$passes" "$texts"/line_*.wat
     table '| text | buffer and parser, bytes a byte |'
