@@ -17,8 +17,6 @@ ghost use Rattle.wat_imports.specs.Values.{read_of};
 
 pub mod kw;
 pub mod laws;
-#[cfg(test)]
-mod tests;
 
 use std::borrow::CowStr;
 use wat_lexer_parser::Error;

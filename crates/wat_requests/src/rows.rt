@@ -161,6 +161,9 @@ part-value-id|part@a|id|$"\62"|"b"||6
 part-value-index|part@a|index|$"\62"|Id("b")||6
 part-value-box|part@a|box|12|12||2
 part-value-name|part@a|name|@"n\61me" "\62"|NameAnnotation { name: "b" }||15
+part-imports|part@a|imports|(imports (entry "a" "\62" code 1) (;c;) (entry "c" "d" $x pages 0x10 (@name "n")))|Imports { entries: [Entry { place: "a", field: "b", id: None, kind: Code(1), name: None }, Entry { place: "c", field: "d", id: Some("x"), kind: Pages(16), name: None }] }||82
+part-imports-named|part@a name|imports|(imports (entry "a" "b" code 1 (@name "n")))|Imports { entries: [Entry { place: "a", field: "b", id: None, kind: Code(1), name: Some(NameAnnotation { name: "n" }) }] }||44
+part-imports-kind|part@a|imports|(imports (entry "a" "b" x))|unexpected token, expected `code` or `pages`|24
 peek-fault|peek|u32|"|unexpected end-of-file|1
 peek-keyword-fault|peek|keyword|"|unexpected end-of-file|1
 peek-annotation|peek|annotation|@"n\61me"|true

@@ -4,6 +4,7 @@ use crate::row::Row;
 use crate::words::Comma;
 use std::borrow::{CowSlice, CowStr};
 use std::fmt;
+use wat_imports::Imports;
 use wat_lex::error::Error;
 use wat_lex_requests::run::{Ending, Run};
 use wat_lexer_parser::parser::{Parse, ParseBuffer, Parser, parse};
@@ -95,6 +96,7 @@ pub fn ending(run: &mut Run<'_>, row: Row<'_>, parser: &mut Parser<'_>) -> Endin
         "reserved" => part::<ReservedSymbol<Comma>>(run, row, parser),
         "annotation" => part::<annotation::name>(run, row, parser),
         "name" => part::<NameAnnotation>(run, row, parser),
+        "imports" => part::<Imports>(run, row, parser),
         _ => spanned_as(run, row, parser),
     }
 }
