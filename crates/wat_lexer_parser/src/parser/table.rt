@@ -331,7 +331,6 @@ impl Table {
             Paired t.tokens.items t.opens.items t.closes.items) }
     {
         let mut table = fill(alloc, lexer)?;
-        table.tokens.shrink_to_fit();
         table.starts = starts(alloc, &table.opens)?;
         table.closes = closes(alloc, &table.tokens, &table.opens, &table.starts)?;
         Ok(table)
