@@ -1,4 +1,5 @@
 -- Lemmas on the table of a buffer.
 pub mod Heads
 pub mod Pairing
+pub mod Stacks
 pub mod Filling

@@ -9,7 +9,7 @@ use Rattle.wat_lex.specs.declared.lexer.kinds.TokenKind.TheVariants.{LParen, RPa
 use Rattle.wat_lex.specs.declared.lexer.kinds.Token.{Token}
 use Rattle.wat_lexer_parser.specs.lemmas.Parts.{is_paren}
 use Rattle.wat_lexer_parser.proofs.groups.Closing.{Closed, close, beyond, nested}
-use Rattle.wat_lexer_parser.specs.inside.Table.{Pair, Paired, Opening, FirstFrom, ClosesOne, Sorted}
+use Rattle.wat_lexer_parser.specs.inside.Table.{Pair, Paired, Opening, FirstFrom, Sorted}
 use Rattle.wat_lexer_parser.proofs.groups.Closing.{Closings, at_nil, at_close, at_plain, at_open, kind_cases, closed_from, group_from}
 
 -- what closes s is what closes n groups in t
@@ -65,7 +65,7 @@ cut : (ts : List Token) (i : ℕ) (t : Token) → At ts i t → drop i ts ≡ t 
 cut ts i t a = drop_more ts i t a.within ∙ ap (λ x. x ∷ drop (i + 1) ts) (sym a.is)
 
 -- where one of the parentheses stands, the token opens
-opens_at : (ts : List Token) (opens : List ℕ) (i g : ℕ) (t : Token) → Opening ts opens → At ts i t → g < length opens → get_or opens g 0 ≡ i → t.kind ≡ LParen
+pub opens_at : (ts : List Token) (opens : List ℕ) (i g : ℕ) (t : Token) → Opening ts opens → At ts i t → g < length opens → get_or opens g 0 ≡ i → t.kind ≡ LParen
 opens_at ts opens i g t o a l e =
     let h = o g l in
     let f : get_or ts i t ≡ h.0 = get_or_from_slice_get ts i h.0 t (ap (slice_get ts) (sym e) ∙ h.1) in
@@ -149,6 +149,12 @@ walk_closes ts i k ks opens ps t a e w =
     let g'' = subst (λ x. Reaches (drop (x + 1) ts) 1 (drop i ts)) (get_or_push ks k 0 (length ks) refl) g' in
     let h = subst (λ x. Reaches (drop (k + 1) ts) 1 x) (cut ts i t a) g'' in
     h.into (drop (i + 1) ts) (drop (i + 1) ts, close e, refl)
+
+-- where k is one of the places, its group is closed at i
+abbrev pub ClosesOne : List ℕ → List (Option ℕ) → ℕ → ℕ → List (Option ℕ) → Type 0
+ClosesOne opens old k i new =
+    (((g : ℕ) → g < length opens → get_or opens g 0 ≡ k → ⊥) × (new ≡ old))
+    ⊎ ((g : ℕ) × (g < length opens) × (get_or opens g 0 ≡ k) × (new ≡ set old g (Some i)))
 
 -- a place of the stack that is not its last
 still : (ks : List ℕ) (k q m : ℕ) → q < length (ks ++ (k ∷ [])) → get_or (ks ++ (k ∷ [])) q 0 ≡ m → (m ≡ k → ⊥) → q < length ks

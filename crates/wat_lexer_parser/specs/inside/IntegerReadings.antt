@@ -1,8 +1,17 @@
 -- What an integer of a type reads, by the bound and the messages. The search for proofs does not take these apart.
 use Rattle.std.specs.Prelude.{ℕ, ℤ, Bool, List}
-use Rattle.wat_lexer_parser.specs.parser.Takers.{as_integer}
+use Rattle.wat_lex.specs.grammar.Numbers.{sign_token}
+use Rattle.wat_lex.specs.tokens.ReadableTokens.{word_of}
+use Rattle.wat_lex.specs.values.NumberValues.{integer_value}
+use Rattle.wat_lex.specs.declared.lexer.kinds.IntegerKind.{IntegerKind}
+use Rattle.wat_lex.specs.declared.lexer.kinds.Token.{Token}
+use Rattle.wat_lexer_parser.specs.parser.Takers.{as_integer, is_minus}
 use Rattle.wat_lexer_parser.specs.readings.Readings.{Reading, checked, spanned, token}
 use Rattle.wat_lexer_parser.specs.readings.Types.{signed_number, unsigned_below}
+
+-- whether the token has a minus, and the number that its digits write
+abbrev pub number_told : List ℕ → Token × IntegerKind → Bool × ℕ
+number_told text v = (is_minus (sign_token v.1.sign), integer_value v.1.hex (word_of text v.0))
 
 unfoldable pub an_integer_word : List ℕ → Reading (Bool × ℕ)
 an_integer_word expected = token as_integer expected

@@ -1,6 +1,6 @@
 -- What the table of a buffer holds beside the raw tokens: of each annotation that stands directly behind a parenthesis its name, and
 -- where its group is closed.
-use Rattle.std.specs.Prelude.{◌≡◌, ◌<◌, ◌≤◌, ◌^◌, ◌+◌, ◌++◌, ◌*◌, ◌&&◌, ℕ, Bool, true, false, List, [], ◌∷◌, length, drop, Option, Some, None, Result, MatchOption, slice_get, slice_set as set, get_or, ◌⊎◌}
+use Rattle.std.specs.Prelude.{◌≡◌, ◌<◌, ◌≤◌, ◌^◌, ◌+◌, ◌++◌, ◌*◌, ◌&&◌, ℕ, Bool, true, false, List, [], ◌∷◌, length, drop, Option, Some, None, Result, MatchOption, slice_get, slice_set as set, get_or}
 use Rattle.wat_lex.specs.tokens.ReadableTokens.{IsTokenOf, word_of}
 use Rattle.wat_lex.specs.values.WordValues.{name_value}
 use Rattle.wat_lex.specs.values.Names.{HasNoEscape}
@@ -94,11 +94,15 @@ Opening ts opens = (g : ℕ) → g < length opens → (t : Token) × (slice_get 
 abbrev pub FirstFrom : List ℕ → ℕ → ℕ → Type 0
 FirstFrom opens i j = (g : ℕ) → g < length opens → i ≤ get_or opens g 0 → j ≤ get_or opens g 0
 
--- where k is one of the places, its group is closed at i
-abbrev pub ClosesOne : List ℕ → List (Option ℕ) → ℕ → ℕ → List (Option ℕ) → Type 0
-ClosesOne opens old k i new =
-    (((g : ℕ) → g < length opens → get_or opens g 0 ≡ k → ⊥) × (new ≡ old))
-    ⊎ ((g : ℕ) × (g < length opens) × (get_or opens g 0 ≡ k) × (new ≡ set old g (Some i)))
+-- so many of the places are before i, and the others from it on
+pub record Counted (opens : List ℕ) (passed i : ℕ) : Type 0 where
+  pub before : (g : ℕ) → g < length opens → g < passed → get_or opens g 0 < i
+  pub behind : (g : ℕ) → g < length opens → passed ≤ g → i ≤ get_or opens g 0
+
+-- where it is one of the places, its group is closed at i
+abbrev pub closed_at : List (Option ℕ) → Option ℕ → ℕ → List (Option ℕ)
+closed_at closes None i = closes
+closed_at closes (Some g) i = set closes g (Some i)
 
 -- where each of these parentheses is closed
 pub record Paired (ts : List Token) (opens : List ℕ) (closes : List (Option ℕ)) : Type 0 where

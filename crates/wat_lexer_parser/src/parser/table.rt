@@ -1,12 +1,12 @@
 //! The table of a buffer: the raw tokens of its text, and what a look has to know of annotations.
 ghost use Rattle.std.specs.Prelude.{◌≡◌, ◌<◌, ◌≤◌, ◌+◌, ◌-◌, ◌^◌, ◌++◌, ◌∷◌, [], length, map};
-ghost use Rattle.std.specs.Prelude.{IfOk, OnOk, None, slice_get, get_or};
+ghost use Rattle.std.specs.Prelude.{IfOk, IfSome, OnOk, None, slice_get, get_or};
 ghost use Rattle.wat_lex.specs.tokens.ReadableTokens.{IsTokenOf, word_of};
 ghost use Rattle.wat_lex.specs.tokens.Tiling.{MaximalTiling};
 ghost use Rattle.wat_lex.specs.declared.lexer.kinds.TokenKind.TheVariants.{Annotation};
 ghost use Rattle.wat_lexer_parser.specs.inside.Table.{annotation_at, is_annotation, is_head, Found};
 ghost use Rattle.wat_lexer_parser.specs.inside.Table.{Noted, NotedName};
-ghost use Rattle.wat_lexer_parser.specs.inside.Table.{ClosesOne, FirstFrom, OneMoreName, Opening, Paired};
+ghost use Rattle.wat_lexer_parser.specs.inside.Table.{closed_at, Counted, FirstFrom, OneMoreName, Opening, Paired};
 ghost use Rattle.wat_lexer_parser.specs.inside.Table.{Sorted, Started, StartedUpTo};
 ghost use Rattle.wat_lexer_parser.specs.inside.TableNames.{name_view};
 
@@ -17,12 +17,14 @@ use wat_lex::lexer::{LexError, LexFault, Lexer, Token, TokenKind};
 /// How many tokens have one entry among the starts.
 const BLOCK: usize = 64;
 
-/// How many bytes a token is likely to have. Room that stays unused is given back.
+/// How many bytes a token is likely to have.
 const LIKELY: usize = 2;
 
-/// For how many tokens room is asked at first. More of it comes as tokens do, so that a long text
-/// of few tokens takes little.
-const FIRST_ROOM: usize = 65_536;
+/// For how many tokens room is asked at first. More of it comes as tokens do, twice as much each
+/// time, so that a long text of few tokens takes little. It is a little less than a power of two, so
+/// that room of less than 32 MiB, whose pages glibc keeps for the next table, holds two million of
+/// them.
+const FIRST_ROOM: usize = 65_472;
 
 /// The raw tokens of a text up to its end or its first fault, and the annotations among them that
 /// stand directly behind a parenthesis.
@@ -196,8 +198,7 @@ fn starts(alloc: Global, opens: &[usize]) -> Result<Vec<usize>, AllocError>
 fn count_before(opens: &[usize], starts: &[usize], place: usize) -> usize
     requires sorted { Sorted opens.now }
     requires started { Started opens.now starts.now }
-    ensures before { (g : _) → g < length opens.now → g < result → get_or opens.now g 0 < place }
-    ensures behind { (g : _) → g < length opens.now → result ≤ g → place ≤ get_or opens.now g 0 }
+    ensures { Counted opens.now result place }
 {
     let mut i = match starts.get(place / BLOCK) {
         Some(start) => *start,
@@ -222,35 +223,45 @@ pub fn find(opens: &[usize], starts: &[usize], place: usize) -> Option<usize>
     }
 }
 
-/// The first of the places from this one on, or the end where there is none.
-fn first_from(opens: &[usize], starts: &[usize], place: usize, end: usize) -> usize
+/// The index of a parenthesis among the places, where it is one of them. `passed` counts the places
+/// before it, and then those up to it.
+fn pass_open(opens: &[usize], passed: &mut usize, paren: usize) -> Option<usize>
     requires sorted { Sorted opens.now }
-    requires started { Started opens.now starts.now }
+    requires passed { Counted opens.now passed.old paren }
+    ensures found { Found opens.now paren result }
+    ensures passed { Counted opens.now passed.new (paren + 1) }
+{
+    match opens.get(*passed) {
+        Some(open) if *open == paren => {
+            let i = *passed;
+            *passed += 1;
+            Some(i)
+        }
+        _ => None,
+    }
+}
+
+/// The first place that was not passed, or the end where there is none.
+fn next_open(opens: &[usize], passed: usize, place: usize, end: usize) -> usize
+    requires sorted { Sorted opens.now }
+    requires passed { Counted opens.now passed place }
     requires within { place ≤ end }
     ensures on { place ≤ result }
     ensures first { FirstFrom opens.now place result }
+    ensures passed { Counted opens.now passed result }
 {
-    match opens.get(count_before(opens, starts, place)) {
-        Some(first) => *first,
+    match opens.get(passed) {
+        Some(open) => *open,
         None => end,
     }
 }
 
-/// Notes that the group of the parenthesis at `paren`, where it is one of the places, is closed at
-/// `close`.
-fn note_close(
-    closes: &mut Vec<Option<usize>>,
-    opens: &[usize],
-    starts: &[usize],
-    paren: usize,
-    close: usize,
-)
-    requires sorted { Sorted opens.now }
-    requires started { Started opens.now starts.now }
-    requires long { length closes.old.items ≡ length opens.now }
-    ensures { ClosesOne opens.now closes.old.items paren close closes.new.items }
+/// Notes that the group of a parenthesis, where it is one of the places, is closed at `close`.
+fn note_close(closes: &mut Vec<Option<usize>>, group: Option<usize>, close: usize)
+    requires { IfSome group (λ g. g < length closes.old.items) }
+    ensures { closes.new.items ≡ closed_at closes.old.items group close }
 {
-    match find(opens, starts, paren) {
+    match group {
         Some(i) => closes[i] = Some(close),
         None => {}
     }
@@ -262,28 +273,26 @@ fn closes(
     alloc: Global,
     tokens: &[Token],
     opens: &[usize],
-    starts: &[usize],
 ) -> Result<Vec<Option<usize>>, AllocError>
     requires opening { Opening tokens.now opens.now }
     requires sorted { Sorted opens.now }
-    requires started { Started opens.now starts.now }
     ensures { IfOk result (λ closes. Paired tokens.now opens.now closes.items) }
 {
     let mut closes: Vec<Option<usize>> = vec![in alloc; None; opens.len()]?;
-    let mut opened: Vec<usize> = Vec::new(alloc);
-    let mut i = first_from(opens, starts, 0, tokens.len());
+    let mut opened: Vec<Option<usize>> = Vec::new(alloc);
+    let mut passed = 0;
+    let mut i = next_open(opens, passed, 0, tokens.len());
     while i < tokens.len() {
-        let token = tokens[i];
-        match token.kind {
+        match tokens[i].kind {
             TokenKind::LParen => {
-                opened.push(i)?;
+                opened.push(pass_open(opens, &mut passed, i))?;
                 i += 1;
             }
             TokenKind::RParen => match opened.pop() {
-                Some(paren) => {
-                    note_close(&mut closes, opens, starts, paren, i);
+                Some(group) => {
+                    note_close(&mut closes, group, i);
                     i = if opened.is_empty() {
-                        first_from(opens, starts, i + 1, tokens.len())
+                        next_open(opens, passed, i + 1, tokens.len())
                     } else {
                         i + 1
                     };
@@ -332,7 +341,7 @@ impl Table {
     {
         let mut table = fill(alloc, lexer)?;
         table.starts = starts(alloc, &table.opens)?;
-        table.closes = closes(alloc, &table.tokens, &table.opens, &table.starts)?;
+        table.closes = closes(alloc, &table.tokens, &table.opens)?;
         Ok(table)
     }
 }

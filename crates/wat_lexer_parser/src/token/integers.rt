@@ -6,7 +6,7 @@ ghost use Rattle.wat_lex.specs.tokens.ReadableTokens.{IsTokenOf, word_of};
 ghost use Rattle.wat_lex.specs.values.NumberValues.{integer_value};
 ghost use Rattle.wat_lex.specs.declared.lexer.kinds.TokenKind.TheVariants as variant;
 ghost use Rattle.wat_lexer_parser.specs.inside.IntegerReadings.{an_integer_word, signed_integer};
-ghost use Rattle.wat_lexer_parser.specs.inside.IntegerReadings.{unsigned_integer};
+ghost use Rattle.wat_lexer_parser.specs.inside.IntegerReadings.{number_told, unsigned_integer};
 ghost use Rattle.wat_lexer_parser.specs.parser.State.{at_place, seen_at};
 ghost use Rattle.wat_lexer_parser.specs.parser.Takers.{is_minus};
 ghost use Rattle.wat_lexer_parser.specs.readings.Reads.{CursorReads, IsKept, Reads};
@@ -50,10 +50,7 @@ fn shown_integer<'p, 'a>(
     cursor: Cursor<'p, 'a>,
     expected: &str,
 ) -> Result<((Token, IntegerKind), Cursor<'p, 'a>), Error>
-    ensures value { CursorReads (λ v. (
-      is_minus (sign_token v.1.sign),
-      integer_value v.1.hex (word_of cursor.entry.parser.now.source.setting.text v.0),
-    ))
+    ensures value { CursorReads (number_told cursor.entry.parser.now.source.setting.text)
         (an_integer_word expected.now)
         (at_place cursor.entry.parser.now cursor.entry.at) (λ next. next.at) result }
     ensures seen { IfOk result (λ v. seen_at (at_place cursor.entry.parser.now cursor.entry.at)

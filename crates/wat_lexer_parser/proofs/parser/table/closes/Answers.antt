@@ -1,37 +1,63 @@
 use Rattle.std.proofs.Common.{◌≡◌, ◌+◌, ◌++◌, ◌∷◌, [], sym, subst, arith, rules, get_or, length}
+use Rattle.std.specs.Prelude.{List, Option, ℕ, None, replicate}
 use Rattle.wat_lex.specs.declared.lexer.kinds.TokenKind.TheVariants.{LineComment}
 use Rattle.wat_lex.specs.declared.lexer.kinds.Token.{Token}
-use Rattle.wat_lexer_parser.proofs.inside.Pairing.{Walked, walk_plain, walk_open, walk_close, walk_on, walk_stray, walk_end, at_default, neither}
+use Rattle.wat_lexer_parser.proofs.inside.Pairing.{at_default, neither}
+use Rattle.wat_lexer_parser.proofs.inside.Stacks.{Walking, start, on_open, on_plain, on_stray, on_close, on_gap, top, end}
 use Rattle.wat_lexer_parser.proofs.parser.table.closes.Goals as goal
 
 none : Token
 none = record { kind = LineComment; offset = 0; len = 0 }
 
+pub loop-i-init : goal.loop-i-init
+loop-i-init c =
+    let e : c.in_ok-closes.closes.items ≡ replicate (length c.args.opens.now) None = search rules in
+    let f : c.new-opened.result.items ≡ [] = search rules in
+    let w = start c.args.tokens.now c.next_open-i.result 0 c.args.opens.now c.in_ok-closes.closes.items c.next_open-i.ensures.first c.next_open-i.ensures.passed e in
+    subst (λ x. Walking c.args.tokens.now c.next_open-i.result 0 x c.args.opens.now c.in_ok-closes.closes.items) (sym f) w
+
 pub loop-i-preserved-in-LParen : goal.loop-i-preserved-in-LParen
 unfolding none
 loop-i-preserved-in-LParen c =
     let ts = c.args.tokens.now in
-    let e : c.push.new.self.items ≡ c.loop-i.opened.items ++ (c.loop-i.i ∷ []) = search rules in
-    let w = walk_open ts c.loop-i.i c.loop-i.opened.items c.args.opens.now c.loop-i.closes.items (get_or ts c.loop-i.i none) (at_default ts c.loop-i.i none c.loop-i-test.true) c.in-LParen.is c.loop-i.invariant in
-    subst (λ x. Walked ts (c.loop-i.i + 1) x c.args.opens.now c.loop-i.closes.items) (sym e) w
+    let e : c.push.new.self.items ≡ c.loop-i.opened.items ++ c.pass_open.result ∷ [] = search rules in
+    let w = on_open ts c.loop-i.i c.loop-i.passed c.pass_open.new.passed c.loop-i.opened.items c.pass_open.result c.args.opens.now c.loop-i.closes.items (get_or ts c.loop-i.i none) (at_default ts c.loop-i.i none c.loop-i-test.true) c.in-LParen.is c.pass_open.ensures.found c.pass_open.ensures.passed c.loop-i.invariant in
+    subst (λ x. Walking ts (c.loop-i.i + 1) c.pass_open.new.passed x c.args.opens.now c.loop-i.closes.items) (sym e) w
+
+-- the stack before the last of its parentheses was closed
+popped : (ts : List Token) (i n : ℕ) (old new : List (Option ℕ)) (m : Option ℕ) (opens : List ℕ) (ps : List (Option ℕ)) → old ≡ new ++ m ∷ [] → Walking ts i n old opens ps → Walking ts i n (new ++ m ∷ []) opens ps
+popped ts i n old new m opens ps e w = subst (λ x. Walking ts i n x opens ps) e w
+
+pub note_close-requires : goal.note_close-requires
+note_close-requires c =
+    let e : c.loop-i.opened.items ≡ c.pop.new.self.items ++ c.in-Some.group ∷ [] = search rules in
+    top c.args.tokens.now c.loop-i.i c.loop-i.passed c.pop.new.self.items c.in-Some.group c.args.opens.now c.loop-i.closes.items (popped c.args.tokens.now c.loop-i.i c.loop-i.passed c.loop-i.opened.items c.pop.new.self.items c.in-Some.group c.args.opens.now c.loop-i.closes.items e c.loop-i.invariant)
+
+pub next_open-i-requires-then-is_empty-clause-passed : goal.next_open-i-requires-then-is_empty-clause-passed
+unfolding none
+next_open-i-requires-then-is_empty-clause-passed c =
+    let ts = c.args.tokens.now in
+    let e : c.loop-i.opened.items ≡ c.pop.new.self.items ++ c.in-Some.group ∷ [] = search rules in
+    let w = on_close ts c.loop-i.i c.loop-i.passed c.pop.new.self.items c.in-Some.group c.args.opens.now c.loop-i.closes.items (get_or ts c.loop-i.i none) c.requires.opening c.requires.sorted (at_default ts c.loop-i.i none c.loop-i-test.true) c.in-RParen.is (popped ts c.loop-i.i c.loop-i.passed c.loop-i.opened.items c.pop.new.self.items c.in-Some.group c.args.opens.now c.loop-i.closes.items e c.loop-i.invariant) in
+    w.counted
 
 pub loop-i-preserved-else-is_empty : goal.loop-i-preserved-else-is_empty
 unfolding none
 loop-i-preserved-else-is_empty c =
     let ts = c.args.tokens.now in
-    let e : c.loop-i.opened.items ≡ c.pop.new.self.items ++ (c.in-Some.paren ∷ []) = search rules in
-    let v = subst (λ x. Walked ts c.loop-i.i x c.args.opens.now c.loop-i.closes.items) e c.loop-i.invariant in
-    walk_close ts c.loop-i.i c.in-Some.paren c.pop.new.self.items c.args.opens.now c.loop-i.closes.items c.note_close.new.closes.items (get_or ts c.loop-i.i none) c.requires.opening c.requires.sorted (at_default ts c.loop-i.i none c.loop-i-test.true) c.in-RParen.is v c.note_close.ensures
+    let e : c.loop-i.opened.items ≡ c.pop.new.self.items ++ c.in-Some.group ∷ [] = search rules in
+    let w = on_close ts c.loop-i.i c.loop-i.passed c.pop.new.self.items c.in-Some.group c.args.opens.now c.loop-i.closes.items (get_or ts c.loop-i.i none) c.requires.opening c.requires.sorted (at_default ts c.loop-i.i none c.loop-i-test.true) c.in-RParen.is (popped ts c.loop-i.i c.loop-i.passed c.loop-i.opened.items c.pop.new.self.items c.in-Some.group c.args.opens.now c.loop-i.closes.items e c.loop-i.invariant) in
+    subst (λ x. Walking ts (c.loop-i.i + 1) c.loop-i.passed c.pop.new.self.items c.args.opens.now x) (sym c.note_close.ensures) w
 
 pub loop-i-preserved-then-is_empty : goal.loop-i-preserved-then-is_empty
 unfolding none
 loop-i-preserved-then-is_empty c =
     let ts = c.args.tokens.now in
-    let e : c.loop-i.opened.items ≡ c.pop.new.self.items ++ (c.in-Some.paren ∷ []) = search rules in
-    let v = subst (λ x. Walked ts c.loop-i.i x c.args.opens.now c.loop-i.closes.items) e c.loop-i.invariant in
-    let w = walk_close ts c.loop-i.i c.in-Some.paren c.pop.new.self.items c.args.opens.now c.loop-i.closes.items c.note_close.new.closes.items (get_or ts c.loop-i.i none) c.requires.opening c.requires.sorted (at_default ts c.loop-i.i none c.loop-i-test.true) c.in-RParen.is v c.note_close.ensures in
+    let e : c.loop-i.opened.items ≡ c.pop.new.self.items ++ c.in-Some.group ∷ [] = search rules in
+    let w = on_close ts c.loop-i.i c.loop-i.passed c.pop.new.self.items c.in-Some.group c.args.opens.now c.loop-i.closes.items (get_or ts c.loop-i.i none) c.requires.opening c.requires.sorted (at_default ts c.loop-i.i none c.loop-i-test.true) c.in-RParen.is (popped ts c.loop-i.i c.loop-i.passed c.loop-i.opened.items c.pop.new.self.items c.in-Some.group c.args.opens.now c.loop-i.closes.items e c.loop-i.invariant) in
+    let v = subst (λ x. Walking ts (c.loop-i.i + 1) c.loop-i.passed c.pop.new.self.items c.args.opens.now x) (sym c.note_close.ensures) w in
     let z : length c.pop.new.self.items ≡ 0 = search rules in
-    walk_on ts (c.loop-i.i + 1) c.first_from-i-then-is_empty.result c.pop.new.self.items c.args.opens.now c.note_close.new.closes.items z c.first_from-i-then-is_empty.ensures.on c.first_from-i-then-is_empty.ensures.first w
+    on_gap ts (c.loop-i.i + 1) c.next_open-i-then-is_empty.result c.loop-i.passed c.pop.new.self.items c.args.opens.now c.note_close.new.closes.items z c.next_open-i-then-is_empty.ensures.on c.next_open-i-then-is_empty.ensures.first c.next_open-i-then-is_empty.ensures.passed v
 
 pub loop-i-preserved-in-None : goal.loop-i-preserved-in-None
 unfolding none
@@ -39,14 +65,14 @@ loop-i-preserved-in-None c =
     let ts = c.args.tokens.now in
     let e : c.pop.new.self.items ≡ c.loop-i.opened.items = search rules in
     let z : length c.loop-i.opened.items ≡ 0 = search rules in
-    let w = walk_stray ts c.loop-i.i c.loop-i.opened.items c.args.opens.now c.loop-i.closes.items (get_or ts c.loop-i.i none) c.requires.opening (at_default ts c.loop-i.i none c.loop-i-test.true) c.in-RParen.is z c.loop-i.invariant in
-    subst (λ x. Walked ts (c.loop-i.i + 1) x c.args.opens.now c.loop-i.closes.items) (sym e) w
+    let w = on_stray ts c.loop-i.i c.loop-i.passed c.loop-i.opened.items c.args.opens.now c.loop-i.closes.items (get_or ts c.loop-i.i none) c.requires.opening (at_default ts c.loop-i.i none c.loop-i-test.true) c.in-RParen.is z c.loop-i.invariant in
+    subst (λ x. Walking ts (c.loop-i.i + 1) c.loop-i.passed x c.args.opens.now c.loop-i.closes.items) (sym e) w
 
 pub loop-i-preserved : goal.loop-i-preserved
 unfolding none
 loop-i-preserved c =
     let ts = c.args.tokens.now in
-    walk_plain ts c.loop-i.i c.loop-i.opened.items c.args.opens.now c.loop-i.closes.items (get_or ts c.loop-i.i none) c.requires.opening (at_default ts c.loop-i.i none c.loop-i-test.true) (neither (get_or ts c.loop-i.i none).kind c.in_default.not-LParen c.in_default.not-RParen) c.loop-i.invariant
+    on_plain ts c.loop-i.i c.loop-i.passed c.loop-i.opened.items c.args.opens.now c.loop-i.closes.items (get_or ts c.loop-i.i none) c.requires.opening (at_default ts c.loop-i.i none c.loop-i-test.true) (neither (get_or ts c.loop-i.i none).kind c.in_default.not-LParen c.in_default.not-RParen) c.in_default.not-LParen c.loop-i.invariant
 
 pub returns : goal.returns
-returns c = walk_end c.args.tokens.now c.loop-i.i c.loop-i.opened.items c.args.opens.now c.loop-i.closes.items c.requires.opening (omega arith) c.loop-i.invariant
+returns c = end c.args.tokens.now c.loop-i.i c.loop-i.passed c.loop-i.opened.items c.args.opens.now c.loop-i.closes.items c.requires.opening (omega arith) c.loop-i.invariant

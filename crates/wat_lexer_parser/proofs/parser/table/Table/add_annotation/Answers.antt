@@ -1,4 +1,4 @@
-use Rattle.std.proofs.Common.{rules, ap, ◌≡◌, ◌-◌, true, false, map, length}
+use Rattle.std.proofs.Common.{rules, ◌≡◌, ◌-◌, true, false, map, length}
 use Rattle.std.specs.Prelude.{slice_get}
 use Rattle.wat_lexer_parser.specs.inside.TableNames.{name_view}
 use Rattle.wat_lexer_parser.specs.inside.Table.{annotation_at, is_head}
