@@ -80,10 +80,12 @@ elif [ ! -e "$texts/real.wat" ]; then
     fi
 fi
 
-# Their first megabytes, up to the end of a line: the tables of such texts are small enough for glibc to use their pages again.
+# Their fronts of one megabyte and of four, up to the end of a line: glibc uses the pages again of a table of at most two million tokens.
 mkdir -p "$texts/fronts"
 for name in real generated annotated dense u32_decimal u32_hexadecimal u32_mixed groups; do
-    [ ! -e "$texts/$name.wat" ] || head -c 1000000 "$texts/$name.wat" | sed '$d' > "$texts/fronts/$name, 1 MB.wat"
+    for size in 1 4; do
+        [ ! -e "$texts/$name.wat" ] || head -c "${size}000000" "$texts/$name.wat" | sed '$d' > "$texts/fronts/$name, $size MB.wat"
+    done
 done
 
 # those NAME..: the texts of these names that are there
@@ -103,6 +105,14 @@ table() {
 # times SUITE PASSES TEXT..: the rows of a suite
 times() {
     taskset -c "$cpu" "$program" "$2" "$1" "${@:3}" 2>> "$work/times.tsv"
+}
+
+# each SUITE TEXT..: its rows, each text in a process of its own: what was freed before decides which pages glibc gives to a table
+each() {
+    local text
+    for text in "${@:2}"; do
+        times "$1" "$passes" "$text"
+    done
 }
 
 # lexing: the rows of the suite, on all texts
@@ -167,12 +177,12 @@ measure() {
     table '| text | the crate with one caller, MB/s | `wat_fill` | `wat_token_at` | Rust `parse` | Rust `iter` |'
     program=$program_one library
     table '| text | what | ours, ms | the crate, ms | ratio |'
-    times parser "$passes" "${all[@]}"
-    times numbers "$passes" "$texts"/u32_*.wat
-    times groups "$passes" "$texts/groups.wat"
-    times parser "$passes" "$texts"/fronts/{real,generated,annotated,dense}*.wat
-    times numbers "$passes" "$texts"/fronts/u32_*.wat
-    times groups "$passes" "$texts"/fronts/groups*.wat
+    each parser "${all[@]}"
+    each numbers "$texts"/u32_*.wat
+    each groups "$texts/groups.wat"
+    each parser "$texts"/fronts/{real,generated,annotated,dense}*.wat
+    each numbers "$texts"/fronts/u32_*.wat
+    each groups "$texts"/fronts/groups*.wat
     times places "$passes" "${all[@]}"
     times errors "$passes" "$texts"/line_*.wat
     table '| text | buffer and parser, bytes a byte |'
