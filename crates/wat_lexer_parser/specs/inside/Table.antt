@@ -99,7 +99,7 @@ pub record Counted (opens : List ℕ) (passed i : ℕ) : Type 0 where
   pub before : (g : ℕ) → g < length opens → g < passed → get_or opens g 0 < i
   pub behind : (g : ℕ) → g < length opens → passed ≤ g → i ≤ get_or opens g 0
 
--- where it is one of the places, its group is closed at i
+-- where a parenthesis is one of the places, by its index among them, its group is closed at i; where it is none, nothing is noted
 abbrev pub closed_at : List (Option ℕ) → Option ℕ → ℕ → List (Option ℕ)
 closed_at closes None i = closes
 closed_at closes (Some g) i = set closes g (Some i)
