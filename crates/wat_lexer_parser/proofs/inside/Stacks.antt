@@ -1,5 +1,5 @@
 -- The stack of a walk over tokens: of each open parenthesis its index among the places, where it is one of them.
-use Rattle.std.proofs.Common.{◌≡◌, ℕ, ◌+◌, ◌<◌, ◌≤◌, List, [], ◌∷◌, ◌++◌, false, refl, sym, ◌∙◌, inl, inr, subst, length, take, get_or, arith, Some, None, Option}
+use Rattle.std.proofs.Common.{◌≡◌, ℕ, ◌+◌, ◌<◌, ◌≤◌, List, [], ◌∷◌, ◌++◌, Bool, true, false, refl, sym, ◌∙◌, inl, inr, subst, length, take, get_or, arith, Some, None, Option}
 use Rattle.std.specs.Prelude.{replicate, IfSome}
 use Rattle.std.proofs.lemmas.List.{get_or_append_left, get_or_push, get_or-take, length_push, length-take-le, take_all, take_more}
 use Rattle.std.proofs.lemmas.Bool.{cases_lt}
@@ -63,6 +63,10 @@ counted_on ts opens n i t o a e c = record {
   ];
 }
 
+-- behind a parenthesis that closes
+pub counted_close : (ts : List Token) (opens : List ℕ) (n i : ℕ) (t : Token) → Opening ts opens → At ts i t → t.kind ≡ RParen → Counted opens n i → Counted opens n (i + 1)
+counted_close ts opens n i t o a e c = counted_on ts opens n i t o a (λ x. let f : RParen ≡ LParen = sym e ∙ x in cc) c
+
 -- i tokens were read: the stack, how many of the places were passed, and where the groups of these are closed
 pub record Walking (ts : List Token) (i passed : ℕ) (ms : List (Option ℕ)) (opens : List ℕ) (ps : List (Option ℕ)) : Type 0 where
   pub ks : List ℕ
@@ -99,34 +103,40 @@ on_stray ts i n ms opens ps t o a e z w = record {
   ks = w.ks;
   walked = walk_stray ts i w.ks opens ps t o a e (omega (arith, w.marked.long)) w.walked;
   marked = w.marked;
-  counted = counted_on ts opens n i t o a (λ x. let f : RParen ≡ LParen = sym e ∙ x in cc) w.counted;
+  counted = counted_close ts opens n i t o a e w.counted;
 }
 
--- what the last parenthesis of the stack is among the places
-pub top : (ts : List Token) (i n : ℕ) (ms : List (Option ℕ)) (m : Option ℕ) (opens : List ℕ) (ps : List (Option ℕ)) → Walking ts i n (ms ++ m ∷ []) opens ps → IfSome m (λ g. g < length ps)
-top ts i n ms None opens ps w = tt
-top ts i n ms (Some g) opens ps w =
-    let p = marked_pop opens w.ks ms (Some g) w.marked in
+-- what the last parenthesis of a stack is among the places
+pub top : (ts : List Token) (i n : ℕ) (old ms : List (Option ℕ)) (m : Option ℕ) (opens : List ℕ) (ps : List (Option ℕ)) → old ≡ ms ++ m ∷ [] → Walking ts i n old opens ps → IfSome m (λ g. g < length ps)
+top ts i n old ms None opens ps e w = tt
+top ts i n old ms (Some g) opens ps e w =
+    let p = marked_pop opens w.ks ms (Some g) (subst (Marked opens w.ks) e w.marked) in
     omega (arith, p.4.0, w.walked.long)
 
-pub on_close : (ts : List Token) (i n : ℕ) (ms : List (Option ℕ)) (m : Option ℕ) (opens : List ℕ) (ps : List (Option ℕ)) (t : Token) → Opening ts opens → Sorted opens → At ts i t → t.kind ≡ RParen → Walking ts i n (ms ++ m ∷ []) opens ps → Walking ts (i + 1) n ms opens (closed_at ps m i)
-on_close ts i n ms m opens ps t o s a e w =
-    let p = marked_pop opens w.ks ms m w.marked in
+-- the last parenthesis of a stack is closed
+pub on_close : (ts : List Token) (i n : ℕ) (old ms : List (Option ℕ)) (m : Option ℕ) (opens : List ℕ) (ps : List (Option ℕ)) (t : Token) → Opening ts opens → Sorted opens → At ts i t → t.kind ≡ RParen → old ≡ ms ++ m ∷ [] → Walking ts i n old opens ps → Walking ts (i + 1) n ms opens (closed_at ps m i)
+on_close ts i n old ms m opens ps t o s a e f w =
+    let p = marked_pop opens w.ks ms m (subst (Marked opens w.ks) f w.marked) in
     record {
       ks = p.0;
       walked = walk_close ts i p.1 p.0 opens ps (closed_at ps m i) t o s a e (subst (λ x. Walked ts i x opens ps) p.2 w.walked) (closes_one opens ps p.1 i m p.4);
       marked = p.3;
-      counted = counted_on ts opens n i t o a (λ x. let f : RParen ≡ LParen = sym e ∙ x in cc) w.counted;
+      counted = counted_close ts opens n i t o a e w.counted;
     }
 
 -- where no parenthesis is open, what lies before the next of the places is passed over
-pub on_gap : (ts : List Token) (i j n : ℕ) (ms : List (Option ℕ)) (opens : List ℕ) (ps : List (Option ℕ)) → length ms ≡ 0 → i ≤ j → FirstFrom opens i j → Counted opens n j → Walking ts i n ms opens ps → Walking ts j n ms opens ps
+on_gap : (ts : List Token) (i j n : ℕ) (ms : List (Option ℕ)) (opens : List ℕ) (ps : List (Option ℕ)) → length ms ≡ 0 → i ≤ j → FirstFrom opens i j → Counted opens n j → Walking ts i n ms opens ps → Walking ts j n ms opens ps
 on_gap ts i j n ms opens ps z h f c w = record {
   ks = w.ks;
   walked = walk_on ts i j w.ks opens ps (omega (arith, w.marked.long)) h f w.walked;
   marked = w.marked;
   counted = c;
 }
+
+-- behind a group that was closed, whether or not another is open
+pub on_behind : (ts : List Token) (i j n : ℕ) (outermost : Bool) (ms : List (Option ℕ)) (opens : List ℕ) (ps : List (Option ℕ)) → (outermost ≡ true → length ms ≡ 0) → (outermost ≡ false → j ≡ i) → i ≤ j → FirstFrom opens i j → Counted opens n j → Walking ts i n ms opens ps → Walking ts j n ms opens ps
+on_behind ts i j n true ms opens ps z s h f c w = on_gap ts i j n ms opens ps (z refl) h f c w
+on_behind ts i j n false ms opens ps z s h f c w = subst (λ x. Walking ts x n ms opens ps) (sym (s refl)) w
 
 pub end : (ts : List Token) (i n : ℕ) (ms : List (Option ℕ)) (opens : List ℕ) (ps : List (Option ℕ)) → Opening ts opens → length ts ≤ i → Walking ts i n ms opens ps → Paired ts opens ps
 end ts i n ms opens ps o h w = walk_end ts i w.ks opens ps o h w.walked

@@ -1,6 +1,6 @@
 //! The table of a buffer: the raw tokens of its text, and what a look has to know of annotations.
 ghost use Rattle.std.specs.Prelude.{◌≡◌, ◌<◌, ◌≤◌, ◌+◌, ◌-◌, ◌^◌, ◌++◌, ◌∷◌, [], length, map};
-ghost use Rattle.std.specs.Prelude.{IfOk, IfSome, OnOk, None, slice_get, get_or};
+ghost use Rattle.std.specs.Prelude.{IfOk, IfSome, OnOk, None, false, slice_get, get_or};
 ghost use Rattle.wat_lex.specs.tokens.ReadableTokens.{IsTokenOf, word_of};
 ghost use Rattle.wat_lex.specs.tokens.Tiling.{MaximalTiling};
 ghost use Rattle.wat_lex.specs.declared.lexer.kinds.TokenKind.TheVariants.{Annotation};
@@ -256,6 +256,30 @@ fn next_open(opens: &[usize], passed: usize, place: usize, end: usize) -> usize
     }
 }
 
+/// Where the tokens go on to be read behind a group that ends before a place: there, or at the first
+/// place that was not passed where that group stood in no other.
+fn behind_close(
+    opens: &[usize],
+    passed: usize,
+    place: usize,
+    end: usize,
+    is_outermost: bool,
+) -> usize
+    requires sorted { Sorted opens.now }
+    requires passed { Counted opens.now passed place }
+    requires within { place ≤ end }
+    ensures on { place ≤ result }
+    ensures inside { is_outermost ≡ false → result ≡ place }
+    ensures first { FirstFrom opens.now place result }
+    ensures passed { Counted opens.now passed result }
+{
+    if is_outermost {
+        next_open(opens, passed, place, end)
+    } else {
+        place
+    }
+}
+
 /// Notes that the group of a parenthesis, where it is one of the places, is closed at `close`.
 fn note_close(closes: &mut Vec<Option<usize>>, group: Option<usize>, close: usize)
     requires { IfSome group (λ g. g < length closes.old.items) }
@@ -291,11 +315,7 @@ fn closes(
             TokenKind::RParen => match opened.pop() {
                 Some(group) => {
                     note_close(&mut closes, group, i);
-                    i = if opened.is_empty() {
-                        next_open(opens, passed, i + 1, tokens.len())
-                    } else {
-                        i + 1
-                    };
+                    i = behind_close(opens, passed, i + 1, tokens.len(), opened.is_empty());
                 }
                 None => i += 1,
             },

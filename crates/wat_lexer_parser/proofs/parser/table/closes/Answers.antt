@@ -1,9 +1,9 @@
-use Rattle.std.proofs.Common.{◌≡◌, ◌+◌, ◌++◌, ◌∷◌, [], sym, subst, arith, rules, get_or, length}
-use Rattle.std.specs.Prelude.{List, Option, ℕ, None, replicate}
+use Rattle.std.proofs.Common.{◌≡◌, ◌+◌, ◌++◌, ◌∷◌, [], true, sym, subst, arith, rules, get_or, length}
+use Rattle.std.specs.Prelude.{None, replicate}
 use Rattle.wat_lex.specs.declared.lexer.kinds.TokenKind.TheVariants.{LineComment}
 use Rattle.wat_lex.specs.declared.lexer.kinds.Token.{Token}
 use Rattle.wat_lexer_parser.proofs.inside.Pairing.{at_default, neither}
-use Rattle.wat_lexer_parser.proofs.inside.Stacks.{Walking, start, on_open, on_plain, on_stray, on_close, on_gap, top, end}
+use Rattle.wat_lexer_parser.proofs.inside.Stacks.{Walking, start, counted_close, on_open, on_plain, on_stray, on_close, on_behind, top, end}
 use Rattle.wat_lexer_parser.proofs.parser.table.closes.Goals as goal
 
 none : Token
@@ -24,40 +24,28 @@ loop-i-preserved-in-LParen c =
     let w = on_open ts c.loop-i.i c.loop-i.passed c.pass_open.new.passed c.loop-i.opened.items c.pass_open.result c.args.opens.now c.loop-i.closes.items (get_or ts c.loop-i.i none) (at_default ts c.loop-i.i none c.loop-i-test.true) c.in-LParen.is c.pass_open.ensures.found c.pass_open.ensures.passed c.loop-i.invariant in
     subst (λ x. Walking ts (c.loop-i.i + 1) c.pass_open.new.passed x c.args.opens.now c.loop-i.closes.items) (sym e) w
 
--- the stack before the last of its parentheses was closed
-popped : (ts : List Token) (i n : ℕ) (old new : List (Option ℕ)) (m : Option ℕ) (opens : List ℕ) (ps : List (Option ℕ)) → old ≡ new ++ m ∷ [] → Walking ts i n old opens ps → Walking ts i n (new ++ m ∷ []) opens ps
-popped ts i n old new m opens ps e w = subst (λ x. Walking ts i n x opens ps) e w
-
 pub note_close-requires : goal.note_close-requires
 note_close-requires c =
     let e : c.loop-i.opened.items ≡ c.pop.new.self.items ++ c.in-Some.group ∷ [] = search rules in
-    top c.args.tokens.now c.loop-i.i c.loop-i.passed c.pop.new.self.items c.in-Some.group c.args.opens.now c.loop-i.closes.items (popped c.args.tokens.now c.loop-i.i c.loop-i.passed c.loop-i.opened.items c.pop.new.self.items c.in-Some.group c.args.opens.now c.loop-i.closes.items e c.loop-i.invariant)
+    top c.args.tokens.now c.loop-i.i c.loop-i.passed c.loop-i.opened.items c.pop.new.self.items c.in-Some.group c.args.opens.now c.loop-i.closes.items e c.loop-i.invariant
 
-pub next_open-i-requires-then-is_empty-clause-passed : goal.next_open-i-requires-then-is_empty-clause-passed
+pub behind_close-i-requires-clause-passed : goal.behind_close-i-requires-clause-passed
 unfolding none
-next_open-i-requires-then-is_empty-clause-passed c =
+behind_close-i-requires-clause-passed c =
     let ts = c.args.tokens.now in
-    let e : c.loop-i.opened.items ≡ c.pop.new.self.items ++ c.in-Some.group ∷ [] = search rules in
-    let w = on_close ts c.loop-i.i c.loop-i.passed c.pop.new.self.items c.in-Some.group c.args.opens.now c.loop-i.closes.items (get_or ts c.loop-i.i none) c.requires.opening c.requires.sorted (at_default ts c.loop-i.i none c.loop-i-test.true) c.in-RParen.is (popped ts c.loop-i.i c.loop-i.passed c.loop-i.opened.items c.pop.new.self.items c.in-Some.group c.args.opens.now c.loop-i.closes.items e c.loop-i.invariant) in
-    w.counted
+    counted_close ts c.args.opens.now c.loop-i.passed c.loop-i.i (get_or ts c.loop-i.i none) c.requires.opening (at_default ts c.loop-i.i none c.loop-i-test.true) c.in-RParen.is c.loop-i.invariant.counted
 
-pub loop-i-preserved-else-is_empty : goal.loop-i-preserved-else-is_empty
+pub loop-i-preserved-in-Some : goal.loop-i-preserved-in-Some
 unfolding none
-loop-i-preserved-else-is_empty c =
+loop-i-preserved-in-Some c =
     let ts = c.args.tokens.now in
-    let e : c.loop-i.opened.items ≡ c.pop.new.self.items ++ c.in-Some.group ∷ [] = search rules in
-    let w = on_close ts c.loop-i.i c.loop-i.passed c.pop.new.self.items c.in-Some.group c.args.opens.now c.loop-i.closes.items (get_or ts c.loop-i.i none) c.requires.opening c.requires.sorted (at_default ts c.loop-i.i none c.loop-i-test.true) c.in-RParen.is (popped ts c.loop-i.i c.loop-i.passed c.loop-i.opened.items c.pop.new.self.items c.in-Some.group c.args.opens.now c.loop-i.closes.items e c.loop-i.invariant) in
-    subst (λ x. Walking ts (c.loop-i.i + 1) c.loop-i.passed c.pop.new.self.items c.args.opens.now x) (sym c.note_close.ensures) w
-
-pub loop-i-preserved-then-is_empty : goal.loop-i-preserved-then-is_empty
-unfolding none
-loop-i-preserved-then-is_empty c =
-    let ts = c.args.tokens.now in
-    let e : c.loop-i.opened.items ≡ c.pop.new.self.items ++ c.in-Some.group ∷ [] = search rules in
-    let w = on_close ts c.loop-i.i c.loop-i.passed c.pop.new.self.items c.in-Some.group c.args.opens.now c.loop-i.closes.items (get_or ts c.loop-i.i none) c.requires.opening c.requires.sorted (at_default ts c.loop-i.i none c.loop-i-test.true) c.in-RParen.is (popped ts c.loop-i.i c.loop-i.passed c.loop-i.opened.items c.pop.new.self.items c.in-Some.group c.args.opens.now c.loop-i.closes.items e c.loop-i.invariant) in
-    let v = subst (λ x. Walking ts (c.loop-i.i + 1) c.loop-i.passed c.pop.new.self.items c.args.opens.now x) (sym c.note_close.ensures) w in
-    let z : length c.pop.new.self.items ≡ 0 = search rules in
-    on_gap ts (c.loop-i.i + 1) c.next_open-i-then-is_empty.result c.loop-i.passed c.pop.new.self.items c.args.opens.now c.note_close.new.closes.items z c.next_open-i-then-is_empty.ensures.on c.next_open-i-then-is_empty.ensures.first c.next_open-i-then-is_empty.ensures.passed v
+    let old = c.loop-i.opened.items in
+    let new = c.pop.new.self.items in
+    let e : old ≡ new ++ c.in-Some.group ∷ [] = search rules in
+    let w = on_close ts c.loop-i.i c.loop-i.passed old new c.in-Some.group c.args.opens.now c.loop-i.closes.items (get_or ts c.loop-i.i none) c.requires.opening c.requires.sorted (at_default ts c.loop-i.i none c.loop-i-test.true) c.in-RParen.is e c.loop-i.invariant in
+    let v = subst (λ x. Walking ts (c.loop-i.i + 1) c.loop-i.passed new c.args.opens.now x) (sym c.note_close.ensures) w in
+    let z : c.is_empty.result ≡ true → length new ≡ 0 = search rules in
+    on_behind ts (c.loop-i.i + 1) c.behind_close-i.result c.loop-i.passed c.is_empty.result new c.args.opens.now c.note_close.new.closes.items z c.behind_close-i.ensures.inside c.behind_close-i.ensures.on c.behind_close-i.ensures.first c.behind_close-i.ensures.passed v
 
 pub loop-i-preserved-in-None : goal.loop-i-preserved-in-None
 unfolding none
