@@ -1,6 +1,6 @@
 -- What is shown of the tokens that count.
-use Rattle.std.proofs.Common.{◌≡◌, ◌≢◌, ℕ, zero, suc, Bool, true, false, List, [], ◌∷◌, refl, sym, ap, ◌∙◌, subst, inl, inr, Some, None, Ok, Err}
-use Rattle.std.specs.Prelude.{Option, IsTrue, IsFalse, cond, not}
+use Rattle.std.proofs.Common.{◌≡◌, ℕ, zero, suc, true, false, List, [], ◌∷◌, refl, sym, ap, subst, inl, inr, Some, None, Ok}
+use Rattle.std.specs.Prelude.{Option, cond, not}
 use Rattle.std.proofs.lemmas.Bool.{cases_Bool}
 use Rattle.wat_lex.specs.declared.lexer.faults.LexFault.{LexFault}
 use Rattle.wat_lex.specs.declared.lexer.kinds.Token.{Token}
@@ -9,8 +9,8 @@ use Rattle.wat_lex.specs.declared.lexer.kinds.TokenKind.TheVariants.{LineComment
 use Rattle.wat_lexer_parser.specs.groups.Sorts.{Group, NoGroup, is_blank, is_marked}
 use Rattle.wat_lexer_parser.specs.lemmas.Parts.{is_paren}
 use Rattle.wat_lexer_parser.specs.names.RegisteredNames.{Names}
-use Rattle.wat_lexer_parser.specs.laws.Counting.{counting, counting_behind, PlainTokensAreShown}
-use Rattle.wat_lexer_parser.specs.shown.Shown.{Finding, IsMarked, Shown, ended, left_open, none_left, blank, other, unmarked, none_follows, no_annotation, misnamed, registered, skipped, unclosed}
+use Rattle.wat_lexer_parser.specs.laws.Counting.{counting, counting_behind}
+use Rattle.wat_lexer_parser.specs.shown.Shown.{Finding, Shown, ended, left_open, none_left, blank, other, unmarked, none_follows, no_annotation, misnamed, registered, skipped, unclosed}
 use Rattle.wat_lexer_parser.proofs.groups.Closing.{Closed, Closings, close, beyond, nested, closed_from, group_from, kind_cases, at_nil, at_close, at_plain, at_open}
 
 counting_blank : (t : Token) (r : List Token) → is_blank t.kind ≡ true → counting (t ∷ r) ≡ counting r

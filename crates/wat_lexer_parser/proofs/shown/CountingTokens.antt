@@ -1,8 +1,8 @@
 -- Behind a parenthesis with `@` no white space and no comment stands, since these begin with other characters.
 use lib.Utf8.{encode, encodes}
-use Rattle.std.proofs.Common.{◌≡◌, ◌≢◌, ◌⊎◌, ◌+◌, ◌<◌, ℕ, zero, suc, Bool, true, false, List, [], ◌∷◌, ◌++◌, length, drop, refl, sym, ap, ◌∙◌, subst, arith, inl, inr, Some, None, Ok}
-use Rattle.std.specs.Prelude.{Option, slice_get, get_or, IsTrue}
-use Rattle.std.specs.Str.{IsUtf8, IsCharBoundary, chars}
+use Rattle.std.proofs.Common.{◌≡◌, ◌≢◌, ◌⊎◌, ◌+◌, ℕ, zero, suc, true, List, [], ◌∷◌, ◌++◌, length, drop, refl, sym, ap, ◌∙◌, arith, inl, inr, Some, None}
+use Rattle.std.specs.Prelude.{Option, slice_get, get_or}
+use Rattle.std.specs.Str.{IsUtf8, IsCharBoundary}
 use Rattle.std.proofs.lemmas.Bool.{cases_Bool, both_ways, eqb-true}
 use Rattle.std.proofs.lemmas.Str.{IsCharBoundary-start, IsUtf8-drop, encodes-chars, char_from_byte}
 use Rattle.wat_lex.specs.grammar.Classes.{at_sign, Each, is_whitespace}
@@ -18,7 +18,7 @@ use Rattle.wat_lex.specs.declared.lexer.kinds.TokenKind.TheVariants.{LineComment
 use Rattle.wat_lexer_parser.specs.groups.Sorts.{is_blank, is_marked}
 use Rattle.wat_lexer_parser.specs.lemmas.Parts.{is_mark}
 use Rattle.wat_lexer_parser.specs.laws.Counting.{CountingShowsTheSame, PlainTokensAreShown}
-use Rattle.wat_lexer_parser.specs.shown.Shown.{IsMarked, Shown, other, unmarked}
+use Rattle.wat_lexer_parser.specs.shown.Shown.{other, unmarked}
 use Rattle.wat_lexer_parser.proofs.shown.Counting.{IsFollowed, AreFollowed, shown_counts}
 use Rattle.wat_lexer_parser.proofs.shown.Marks.{paren_len}
 

@@ -1,6 +1,6 @@
 -- WebAssembly specification, text format, lexical format: tokens, white space, comments, annotations. What is shown of the tokens that
 -- count is what is shown of all raw tokens.
-use Rattle.std.specs.Prelude.{ℕ, List, ◌∷◌, not, filter, drop, IsFalse, Option, Some, None, Result, Ok, Err}
+use Rattle.std.specs.Prelude.{ℕ, List, ◌∷◌, not, filter, drop, IsFalse, Option, Some, None, Ok, Err}
 use Rattle.std.specs.Str.{IsUtf8}
 use Rattle.wat_lex.specs.declared.lexer.faults.LexFault.{LexFault}
 use Rattle.wat_lex.specs.declared.lexer.kinds.Token.{Token}

@@ -1,6 +1,6 @@
 -- The laws of readings: what is read takes a token, a lemma for each word of their language. A type's own reading has it by composing. No
 -- part of the standard.
-use Rattle.std.proofs.Common.{◌≡◌, ◌≤◌, ◌<◌, ◌+◌, ◌-◌, ℕ, List, Bool, true, false, arith, refl, ap, ◌∙◌, Some, None, Ok, Err}
+use Rattle.std.proofs.Common.{◌≡◌, ◌<◌, ◌+◌, ℕ, List, Bool, true, false, arith, refl, ap, ◌∙◌, Some, None, Ok, Err}
 use Rattle.std.specs.Prelude.{Option, Result, codes}
 use Rattle.wat_lex.specs.errors.Errors.{Report}
 use Rattle.wat_lex.specs.declared.lexer.kinds.Token.{Token}

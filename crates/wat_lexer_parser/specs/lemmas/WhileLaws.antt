@@ -1,5 +1,5 @@
 -- Reading as long as a type is seen, one at a time: what a loop keeps, how it goes on, and what it ends with.
-use Rattle.std.proofs.Common.{◌≡◌, ◌∙◌, ◌≤◌, ◌<◌, ◌+◌, ℕ, zero, suc, List, [], ◌∷◌, ◌++◌, Bool, true, false, arith, refl, sym, ap, subst, length, append_assoc, None, Some, Ok, Err}
+use Rattle.std.proofs.Common.{◌≡◌, ◌∙◌, ◌≤◌, ◌<◌, ◌+◌, ℕ, zero, suc, List, [], ◌∷◌, ◌++◌, Bool, true, false, arith, refl, sym, ap, length, append_assoc, None, Some, Ok, Err}
 use Rattle.std.specs.Prelude.{◌||◌, IsTrue, Option, Result, is_err}
 use Rattle.std.proofs.lemmas.List.{append-nil}
 use Rattle.wat_lex.specs.errors.Errors.{Report}

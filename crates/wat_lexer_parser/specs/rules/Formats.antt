@@ -1,6 +1,6 @@
 -- A format: what is read, and what is spelled. Each word of the language of readings is here a format of formats, so that who writes a format writes
 -- one term, and has its reading, its rule, and the proof that what is read is what is spelled. No part of the standard.
-use Rattle.std.proofs.Common.{◌≡◌, ◌<◌, ◌≤◌, ◌+◌, ◌⊎◌, inl, inr, ℕ, arith, List, [], ◌∷◌, ◌++◌, Bool, true, false, refl, ap, subst, length, Some, None, Ok, Err}
+use Rattle.std.proofs.Common.{◌≡◌, ◌<◌, ◌≤◌, ◌⊎◌, inl, inr, ℕ, arith, List, [], ◌∷◌, ◌++◌, Bool, true, false, refl, ap, subst, length, Some, None, Ok, Err}
 use Rattle.std.specs.Prelude.{◌&&◌, ◌||◌, Option, Result, nat_le}
 use Rattle.std.specs.List.{flat_map}
 use Rattle.wat_lex.specs.errors.Errors.{Report}
