@@ -3,3 +3,4 @@ pub mod Heads
 pub mod Pairing
 pub mod Stacks
 pub mod Filling
+pub mod PlainNames

@@ -1,5 +1,5 @@
 -- A map of texts, and the finite map that it is seen as.
-use Rattle.std.proofs.Common.{◌≡◌, ℕ, List, [], ◌∷◌, map, cond, refl, sym, ap, subst, ◌∙◌, ◌+◌, ◌-◌, ◌<◌, ◌≤◌, IsSome, arith, zero, suc, ◌≢◌, nat_lt, Bool, true, false}
+use Rattle.std.proofs.Common.{◌≡◌, ℕ, List, [], ◌∷◌, length, map, cond, refl, sym, ap, subst, ◌∙◌, ◌+◌, ◌-◌, ◌<◌, ◌≤◌, IsSome, arith, zero, suc, ◌≢◌, nat_lt, Bool, true, false}
 use Rattle.std.specs.Option.{unwrap_or}
 use Rattle.std.proofs.lemmas.Bool.{lt-ltb, le-ltb}
 use Rattle.std.specs.FinMap as finmap
@@ -28,6 +28,13 @@ find_pairs (e ∷ es) q = ap (cond (is_eq (slice_cmp nat_cmp q (string_bytes e.0
 -- what is found at a text
 pub get-names : {Z : Type 0} (m : BTreeMap (String Z) ℕ) (q : List ℕ) → finmap.get (names_of m.entries) q ≡ get_by_text m q
 get-names m q = get-from_entries nat_list_cmp_total (map (λ e. (string_bytes e.0, e.1)) m.entries) q ∙ find_pairs m.entries q
+
+pub names-none : {Z : Type 0} (m : BTreeMap (String Z) ℕ) → length m.entries ≡ 0 → names_of m.entries ≡ finmap.empty
+names-none m e = by m.entries e
+  where
+    by : {Z : Type 0} (es : List (String Z × ℕ)) → length es ≡ 0 → names_of es ≡ finmap.empty
+    by [] e = refl
+    by (e ∷ es) f = absurd (omega (arith, f))
 
 same_text : (x y : List ℕ) → bytes_eq y x ≡ eq_by_cmp (slice_cmp nat_cmp) x y
 same_text x y = sym (is_eq-slice_cmp y x) ∙ (eq_by_cmp_equiv nat_list_cmp_total).symm y x

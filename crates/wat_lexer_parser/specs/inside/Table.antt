@@ -1,6 +1,7 @@
 -- What the table of a buffer holds beside the raw tokens: of each annotation that stands directly behind a parenthesis its name, and
 -- where its group is closed.
-use Rattle.std.specs.Prelude.{◌≡◌, ◌<◌, ◌≤◌, ◌^◌, ◌+◌, ◌++◌, ◌*◌, ◌&&◌, ℕ, Bool, true, false, List, [], ◌∷◌, length, drop, Option, Some, None, Result, MatchOption, slice_get, slice_set as set, get_or}
+use Rattle.std.specs.Prelude.{◌≡◌, ◌<◌, ◌≤◌, ◌^◌, ◌+◌, ◌++◌, ◌*◌, ◌&&◌, ◌==◌, ℕ, Bool, true, false, List, [], ◌∷◌, length, drop, Option, Some, None, Result, MatchOption, slice_get, slice_set as set, get_or, option_map, unwrap_or}
+use Rattle.wat_lex.specs.grammar.Classes.{quote}
 use Rattle.wat_lex.specs.tokens.ReadableTokens.{IsTokenOf, word_of}
 use Rattle.wat_lex.specs.values.WordValues.{name_value}
 use Rattle.wat_lex.specs.values.Names.{HasNoEscape}
@@ -52,6 +53,10 @@ annotation_at offset len = record { offset = offset; len = len; kind = Annotatio
 abbrev pub is_annotation : TokenKind → Bool
 is_annotation Annotation = true
 is_annotation kind = false
+
+-- the byte of the text behind the token's first is a quote
+abbrev pub is_quoted : List ℕ → Token → Bool
+is_quoted text t = unwrap_or (option_map (λ b. b == quote) (slice_get text (t.offset + 1))) false
 
 -- the last token is a parenthesis, and the next an annotation
 abbrev pub is_head : Option Token → Token → Bool

@@ -101,6 +101,13 @@ impl Names {
         }
     }
 
+    /// Whether no name is registered.
+    pub fn are_none(&self) -> bool
+        ensures { IsTrue result → self.now ≡ map.empty }
+    {
+        self.counts.is_empty()
+    }
+
     pub fn is_registered(&self, name: &str) -> bool
         ensures { result ≡ is_registered self.now name.now }
     {

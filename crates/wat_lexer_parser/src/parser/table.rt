@@ -4,7 +4,7 @@ ghost use Rattle.std.specs.Prelude.{IfOk, IfSome, OnOk, None, false, slice_get, 
 ghost use Rattle.wat_lex.specs.tokens.ReadableTokens.{IsTokenOf, word_of};
 ghost use Rattle.wat_lex.specs.tokens.Tiling.{MaximalTiling};
 ghost use Rattle.wat_lex.specs.declared.lexer.kinds.TokenKind.TheVariants.{Annotation};
-ghost use Rattle.wat_lexer_parser.specs.inside.Table.{annotation_at, is_annotation, is_head, Found};
+ghost use Rattle.wat_lexer_parser.specs.inside.Table.{annotation_at, is_annotation, is_head, is_quoted, Found};
 ghost use Rattle.wat_lexer_parser.specs.inside.Table.{Noted, NotedName};
 ghost use Rattle.wat_lexer_parser.specs.inside.Table.{closed_at, Counted, FirstFrom, OneMoreName, Opening, Paired};
 ghost use Rattle.wat_lexer_parser.specs.inside.Table.{Sorted, Started, StartedUpTo};
@@ -59,6 +59,17 @@ fn is_head(before: &[Token], token: Token) -> bool
     }
 }
 
+/// Whether the byte behind the token's first is a quote.
+pub fn is_quoted(text: &str, token: Token) -> bool
+    requires { token.offset < 2 ^ 32 }
+    ensures { result ≡ is_quoted text.now token }
+{
+    match text.as_bytes().get(token.offset + 1) {
+        Some(byte) => *byte == b'"',
+        None => false,
+    }
+}
+
 /// The name of an annotation, or what is wrong with it, where it is no part of the text. One that is
 /// part of it takes no memory, now and when it is read again.
 fn noted_name(
@@ -68,8 +79,14 @@ fn noted_name(
 ) -> Result<Option<Box<Result<String, LexError>>>, AllocError>
     requires token { IsTokenOf text.now token.now }
     requires kind { token.now.kind ≡ Annotation }
+    requires short { token.now.offset < 2 ^ 32 }
     ensures { IfOk result (λ name. NotedName (word_of text.now token.now) (name_view name)) }
 {
+    wat_lex::laws::tokens();
+    // A name without quotes is told by one byte; a string may have escapes.
+    if !is_quoted(text, *token) {
+        return Ok(None);
+    }
     let name = match token.name(alloc, text)? {
         Ok(CowStr::Borrowed(_)) => return Ok(None),
         Ok(CowStr::Owned(name)) => Ok(name),
@@ -100,6 +117,7 @@ impl Table {
     fn note(&mut self, alloc: Global, text: &str, token: &Token) -> Result<(), AllocError>
         requires token { IsTokenOf text.now token.now }
         requires kind { token.now.kind ≡ Annotation }
+        requires short { token.now.offset < 2 ^ 32 }
         requires two { 1 < length self.old.tokens.items }
         ensures opens { OnOk result
             (self.new.opens.items

@@ -11,7 +11,7 @@ ghost use Rattle.wat_lex.specs.values.Names.{HasNoEscape};
 ghost use Rattle.wat_lex.specs.declared.lexer.kinds.Token.{Token};
 ghost use Rattle.wat_lex.specs.declared.lexer.kinds.TokenKind.TheVariants.{Annotation, LParen};
 ghost use Rattle.wat_lexer_parser.specs.declared.parser.fault.FaultKind.TheVariants.{Lex};
-ghost use Rattle.wat_lexer_parser.specs.declared.parser.fault.Step.TheVariants.{Refuse, Take};
+ghost use Rattle.wat_lexer_parser.specs.declared.parser.fault.Step.TheVariants.{Refuse, Skip, Take};
 ghost use Rattle.wat_lexer_parser.specs.groups.Sorts.{is_blank, is_comment, is_marked, is_space};
 ghost use Rattle.wat_lexer_parser.specs.inside.Next.{IsNext};
 ghost use Rattle.wat_lexer_parser.specs.inside.Table.{HeadsAnnotation, IsTable, Pair};
@@ -28,7 +28,7 @@ ghost use Rattle.wat_lexer_parser.specs.inside.ShownIn.{step_named, step_next, s
 
 use crate::parser::fault::{Fault, FaultKind, Step};
 use crate::parser::names::Names;
-use crate::parser::table::{Table, find, is_annotation};
+use crate::parser::table::{Table, find, is_annotation, is_quoted};
 use std::alloc::Global;
 use std::marker::Model;
 use wat_lex::error::Error;
@@ -276,6 +276,23 @@ impl<'a> TableRef<'a> {
         }
     }
 
+    /// Whether the annotation at a place is skipped since no name is registered and it has one. It is
+    /// told without its name, and false tells nothing.
+    fn is_unregistered(&self, place: usize, token: Token, names: &Names) -> bool
+        requires token { slice_get self.now.tokens place ≡ Some token }
+        requires kind { token.kind ≡ Annotation }
+        ensures { IsTrue result →
+            step_named names.now token (name_at self.now.setting.text token) ≡ Skip }
+    {
+        wat_lex::laws::names();
+        wat_lex::laws::tokens();
+        self.is_readable(place, token);
+        if token.len < 2 {
+            return false;
+        }
+        names.are_none() && !is_quoted(self.text(), token)
+    }
+
     /// Where the group of the annotation is closed whose parenthesis stands at a place.
     fn close_of(&self, place: usize) -> Option<usize>
         requires { (u : Token) × HeadsAnnotation self.now.tokens place u }
@@ -299,10 +316,12 @@ impl<'a> TableRef<'a> {
         match self.token_at(place + 1) {
             Some(next) => match next.kind {
                 TokenKind::Annotation => {
-                    if self.is_marked(token) {
-                        self.step_named(place, names)
-                    } else {
+                    if !self.is_marked(token) {
                         Step::Take
+                    } else if self.is_unregistered(place + 1, next, names) {
+                        Step::Skip
+                    } else {
+                        self.step_named(place, names)
                     }
                 }
                 _ => Step::Take,
