@@ -21,12 +21,12 @@ mod settings;
 
 pub use faults::{LexError, LexFault};
 pub use kinds::{FloatKind, IntegerKind, SignToken, Token, TokenKind};
-use kinds::{Outline, Shape, Stride};
+use kinds::{Found, Lexeme, Stride};
 pub use read::numbers::{Float, Integer, magnitude};
 pub(crate) use scan::blocks::block_at;
 pub(crate) use scan::classes::is_confusing;
 pub(crate) use scan::comments::first_confusing;
-use scan::{first_fault, first_outline, kind_of};
+use scan::{first_fault, first_found};
 pub use settings::Settings;
 
 /// A lexer over a text: it cuts the text into tokens, whitespace and comments, and accounts for
@@ -124,11 +124,10 @@ impl<'a> Lexer<'a> {
             IsCharBoundary self.now.text (pos + t.len))) }
         ensures short { IfOk result (λ found. IfSome found (λ t. t.offset + t.len < 2 ^ 32)) }
     {
-        let outline = self.outline(pos, Stride::Block);
-        match outline.shape {
-            Shape::End => Ok(None),
-            Shape::Fault => Err(self.fault(pos)),
-            _ => Ok(Some(self.token(pos, outline, Stride::Block))),
+        match self.found(pos, Stride::Block) {
+            Found::Lexeme(lexeme) => Ok(Some(self.token(pos, lexeme))),
+            Found::End => Ok(None),
+            Found::Fault => Err(self.fault(pos)),
         }
     }
 
@@ -142,11 +141,10 @@ impl<'a> Lexer<'a> {
             IsCharBoundary self.now.text (pos + t.len))) }
         ensures short { IfOk result (λ found. IfSome found (λ t. t.offset + t.len < 2 ^ 32)) }
     {
-        let outline = self.outline(pos, Stride::Byte);
-        match outline.shape {
-            Shape::End => Ok(None),
-            Shape::Fault => Err(self.fault(pos)),
-            _ => Ok(Some(self.token(pos, outline, Stride::Byte))),
+        match self.found(pos, Stride::Byte) {
+            Found::Lexeme(lexeme) => Ok(Some(self.token(pos, lexeme))),
+            Found::End => Ok(None),
+            Found::Fault => Err(self.fault(pos)),
         }
     }
 
@@ -167,49 +165,48 @@ impl<'a> Lexer<'a> {
         ensures boundary { IsCharBoundary self.now.text pos.new }
     {
         let start = *pos;
-        let outline = self.outline(start, Stride::Block);
-        match outline.shape {
-            Shape::End => Ok(None),
-            Shape::Fault => Err(self.error_at(alloc, start)),
-            _ => {
-                let token = self.token(start, outline, Stride::Block);
+        match self.found(start, Stride::Block) {
+            Found::Lexeme(lexeme) => {
+                let token = self.token(start, lexeme);
                 *pos = start + token.len as usize;
                 Ok(Some(token))
             }
+            Found::End => Ok(None),
+            Found::Fault => Err(self.error_at(alloc, start)),
         }
     }
 
-    ghost use Rattle.std.specs.Prelude.{◌≢◌, drop};
-    ghost use Rattle.wat_lex.specs.inside.Outlines.{IsRefused, Outlined};
-    ghost use Rattle.wat_lex.specs.declared.lexer.kinds.Shape.TheVariants as shape;
+    ghost use Rattle.std.specs.Prelude.{drop};
+    ghost use Rattle.wat_lex.specs.inside.Outlines.{FoundIn, IsRefused};
+    ghost use Rattle.wat_lex.specs.inside.ScannedLexemes.{LexemeFound};
 
     /// What stands at a byte of the text.
     #[inline(always)]
-    fn outline(&self, pos: usize, stride: Stride) -> Outline
+    fn found(&self, pos: usize, stride: Stride) -> Found
         requires { IsCharBoundary self.now.text pos }
-        ensures { Outlined self.now.flags (drop pos self.now.text) result }
+        ensures { FoundIn self.now.flags (drop pos self.now.text) result }
     {
-        first_outline(&self.input[pos..], self.settings, stride)
+        first_found(&self.input[pos..], &self.settings, stride)
     }
 
-    /// The token of the outline of what stands at a byte of the text.
+    /// The token that was found at a byte of the text.
     #[inline(always)]
-    fn token(&self, pos: usize, outline: Outline, stride: Stride) -> Token
+    fn token(&self, pos: usize, lexeme: Lexeme) -> Token
         requires start { IsCharBoundary self.now.text pos }
-        requires outline { Outlined self.now.flags (drop pos self.now.text) outline }
-        requires no_end { outline.shape ≢ shape.End }
-        requires no_fault { outline.shape ≢ shape.Fault }
+        requires found { LexemeFound self.now.flags (drop pos self.now.text) lexeme }
         ensures token { TokenAt self.now pos result }
-        ensures len { result.len ≡ outline.len }
+        ensures len { result.len ≡ lexeme.len }
         ensures reader { IsTokenOf self.now.text result }
         ensures some { 0 < result.len }
         ensures boundary { IsCharBoundary self.now.text (pos + result.len) }
         ensures short { result.offset + result.len < 2 ^ 32 }
     {
+        // The proof takes from here that the text is UTF-8.
+        let _ = self.input();
         Token {
-            kind: kind_of(&self.input.as_bytes()[pos..], outline, stride),
+            kind: lexeme.kind,
             offset: pos,
-            len: outline.len as u32,
+            len: lexeme.len as u32,
         }
     }
 
@@ -326,20 +323,19 @@ impl<'l, 'a> Iterator for Tokens<'l, 'a> {
             return None;
         }
         let start = self.pos;
-        let outline = self.lexer.outline(start, Stride::Block);
-        match outline.shape {
-            Shape::End => {
+        match self.lexer.found(start, Stride::Block) {
+            Found::Lexeme(lexeme) => {
+                let token = self.lexer.token(start, lexeme);
+                self.pos = start + token.len as usize;
+                Some(Ok(token))
+            }
+            Found::End => {
                 self.done = true;
                 None
             }
-            Shape::Fault => {
+            Found::Fault => {
                 self.done = true;
                 Some(Err(self.lexer.error_at(self.alloc, start)))
-            }
-            _ => {
-                let token = self.lexer.token(start, outline, Stride::Block);
-                self.pos = start + token.len as usize;
-                Some(Ok(token))
             }
         }
     }

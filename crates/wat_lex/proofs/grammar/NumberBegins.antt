@@ -63,3 +63,19 @@ second_none c d t n p m i a = no_number (c ∷ d ∷ t) (subst NoNumber (sym (ow
 
     tail : (hex : Bool) → Decimals hex (c ∷ d ∷ t) → ⊥
     tail hex (decimals {t = s} h k) = no_integral c (d ∷ t) s n hex h
+
+-- one character is none, if it is no digit and no sign
+pub one_none : (c : ℕ) → is_ascii_digit c ≡ false → c ≢ 43 → c ≢ 45 → (kind : TokenKind) → Number (c ∷ []) kind → ⊥
+one_none c n p m = no_number (c ∷ []) (subst NoNumber (sym (own c [] p m)) (record {
+  inf = λ e. cc;
+  nan = λ e. cc;
+  payload = by;
+  integer = λ hex h. no_integral c [] [] n hex h;
+  float = tail;
+}))
+  where
+    by : Payload (c ∷ []) → ⊥
+    by (payload {t = s} e h) = cc
+
+    tail : (hex : Bool) → Decimals hex (c ∷ []) → ⊥
+    tail hex (decimals {t = s} h k) = no_integral c [] s n hex h

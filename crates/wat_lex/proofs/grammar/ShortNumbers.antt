@@ -88,3 +88,9 @@ some_sign_by s false false c w n e = absurd (n e)
 pub some_sign : (s : Sign) (w : List ℕ) → s ≢ sign.None → s ≡ sign_of w → unsigned w ≡ drop 1 w
 some_sign s [] n e = absurd (n e)
 some_sign s (c ∷ w) n e = some_sign_by s (c == 43) (c == 45) c w n e
+
+-- the first byte alone tells the sign
+pub sign_there : (text : List ℕ) (len : ℕ) → 0 < len → 0 < length text → sign_of (get_or text 0 0 ∷ []) ≡ sign_of (take len text)
+sign_there [] len p l = absurd (omega arith)
+sign_there (c ∷ t) zero p l = absurd (omega arith)
+sign_there (c ∷ t) (suc n) p l = refl

@@ -113,6 +113,14 @@ ends_at p text i n m e room few some =
     ∙ sym (doubly p v) ∙ sym (trailing_mask_l (λ x. not (p x)) 64 v (omega (arith, length-chunk i n text room)) (omega arith))
     ∙ ap (count_trailing_zeros 64) (sym e)
 
+-- and so within the block
+pub ends_before : (p : ℕ → Bool) (text : List ℕ) (i n m : ℕ) → m ≡ failures p (chunk i n text) → i + n ≤ length text → m ≢ 0 → prefix_len p (drop i text) < n
+ends_before p text i n m e room some =
+    let v = chunk i n text in
+    let stops : prefix_len p v ≢ length v = λ all. some (e ∙ none_fail p v all) in
+    let cut : prefix_len p (drop i text) ≡ prefix_len p v = split p text i n ∙ ap (λ b. cond b (length v + prefix_len p (drop (i + n) text)) (prefix_len p v)) (ne_eqb _ _ stops) in
+    omega (arith, cut, stops, prefix_len-le-length p v, length-chunk i n text room)
+
 -- where no bit of four masks together is set, none of each is
 record AllClear (a b c d : ℕ) : Type 0 where
   first : a ≡ 0

@@ -6,13 +6,13 @@ use Rattle.std.proofs.lemmas.Str.{encodes-chars, chars-nil}
 use Rattle.std.specs.List.{prefix_len}
 use Rattle.std.specs.Str.{chars, IsUtf8}
 use lib.Utf8.{encode, encodes}
-use Rattle.wat_lex.specs.grammar.Classes.{Begins, is_idchar, is_run_char, is_whitespace, is_punctuation}
+use Rattle.wat_lex.specs.grammar.Classes.{Begins, is_idchar, is_run_char, is_whitespace}
 use Rattle.wat_lex.specs.grammar.Runs.{WordKind, RunKind, named_kind}
 use Rattle.wat_lex.specs.tokens.Faults.{Fault, begins_word, unexpected, dangling, confusing, in_string}
 use Rattle.wat_lex.specs.tokens.Setting.{allowing}
 use Rattle.wat_lex.specs.inside.ScannedLexemes.{LexemeFound, Refused}
 use Rattle.wat_lex.specs.inside.ScannedRuns.{RunFound, IsKindOfRun}
-use Rattle.wat_lex.specs.inside.Outlines.{HasKind, IsRefused, Outlined, BeginsWord, IsShapeOfRun, IsShapeOfToken}
+use Rattle.wat_lex.specs.inside.Outlines.{HasKind, IsRefused, Outlined, BeginsWord, IsShapeOfRun}
 use Rattle.wat_lex.specs.declared.lexer.settings.Settings.{Settings}
 use Rattle.wat_lex.specs.declared.lexer.faults.LexFault.{LexFault}
 use Rattle.wat_lex.specs.declared.lexer.faults.LexError.{LexError}
@@ -23,87 +23,60 @@ use Rattle.wat_lex.specs.declared.lexer.kinds.TokenKind.{TokenKind}
 use Rattle.wat_lex.specs.declared.lexer.kinds.TokenKind.TheVariants as kind
 use Rattle.wat_lex.specs.declared.lexer.scan.runs.Pieces.{Pieces}
 use Rattle.wat_lex.proofs.grammar.AsciiPrefixes.{led, not_begun}
-use Rattle.wat_lex.proofs.grammar.OneRun.{idchar_runs}
 use Rattle.wat_lex.proofs.grammar.RunKinds.{no_strings, kind_of_word, kind_of_two, found_run, run_lexeme, run_fits}
 use Rattle.wat_lex.proofs.grammar.SomeRun.{some_kind}
-use Rattle.wat_lex.proofs.inside.LineComments.{found_open, found_close, found_semicolon, found_punctuation, found_whitespace, found_unexpected, run_char_ascii, word_ascii}
+use Rattle.wat_lex.proofs.inside.LineComments.{found_whitespace, found_unexpected, run_char_ascii, word_ascii}
 use Rattle.wat_lex.proofs.inside.RunSteps.{joined_start, joined_end}
 use Rattle.wat_lex.proofs.tokens.OneFault.{CommentStart, block, line, comment_start, run_begins, no_word_at_fault, fault_some}
-use Rattle.wat_lex.proofs.tokens.Scans.{found_fits}
 
 pub outlined_fault : (flags : Settings) (text : List ℕ) (f : LexFault) → Refused flags text f → Outlined flags text (record { shape = shape.Fault; len = 0 })
-outlined_fault flags text f h = record { fits = omega arith; word = λ k g. absurd g; end = λ e. cc; fault = λ _. (f, h) }
-
--- a word of the one kind that a shape stands for
-pub outlined_word : (flags : Settings) (text : List ℕ) (s : Shape) (k : TokenKind) (n : ℕ) → IsUtf8 text → s ≢ shape.End → s ≢ shape.Fault → ((j : TokenKind) → HasKind s (take n text) j → j ≡ k) → LexemeFound flags text (record { kind = k; len = n }) → Outlined flags text (record { shape = s; len = n })
-outlined_word flags text s k n u e f only h = record {
-  fits = found_fits flags text (record { kind = k; len = n }) u h;
-  word = λ j g. subst (λ x. LexemeFound flags text (record { kind = x; len = n })) (sym (only j g)) h;
-  end = λ a. absurd (e a);
-  fault = λ a. absurd (f a);
-}
-
-pub outlined_open : (flags : Settings) (text : List ℕ) → IsUtf8 text → 0 < length text → get_or text 0 0 ≡ 40 → (get_or text 1 0 ≡ 59 → ⊥) → Outlined flags text (record { shape = shape.LParen; len = 1 })
-outlined_open flags text u l e n = outlined_word flags text shape.LParen kind.LParen 1 u (λ a. cc) (λ a. cc) (λ j h. h) (found_open flags text u l e n)
-
-pub outlined_close : (flags : Settings) (text : List ℕ) → IsUtf8 text → 0 < length text → get_or text 0 0 ≡ 41 → Outlined flags text (record { shape = shape.RParen; len = 1 })
-outlined_close flags text u l e = outlined_word flags text shape.RParen kind.RParen 1 u (λ a. cc) (λ a. cc) (λ j h. h) (found_close flags text u l e)
-
-pub outlined_semicolon : (flags : Settings) (text : List ℕ) → IsUtf8 text → 0 < length text → get_or text 0 0 ≡ 59 → (get_or text 1 0 ≡ 59 → ⊥) → Outlined flags text (record { shape = shape.Reserved; len = 1 })
-outlined_semicolon flags text u l e n = outlined_word flags text shape.Reserved kind.Reserved 1 u (λ a. cc) (λ a. cc) (λ j h. h) (found_semicolon flags text u l e n)
-
-pub outlined_punctuation : (flags : Settings) (text : List ℕ) → IsUtf8 text → 0 < length text → is_punctuation (get_or text 0 0) ≡ true → Outlined flags text (record { shape = shape.Reserved; len = 1 })
-outlined_punctuation flags text u l e = outlined_word flags text shape.Reserved kind.Reserved 1 u (λ a. cc) (λ a. cc) (λ j h. h) (found_punctuation flags text u l e)
+outlined_fault flags text f h = record { fits = omega arith; word = λ k g. absurd g; fault = λ _. (f, h) }
 
 first_passes : (p : ℕ → Bool) (text : List ℕ) → 0 < length text → p (get_or text 0 0) ≡ true → prefix_len p text ≡ 1 + prefix_len p (drop 1 text)
 first_passes p [] l e = absurd (omega arith)
 first_passes p (b ∷ bs) l e = ap (λ x. cond x (1 + prefix_len p bs) 0) e
 
-pub outlined_whitespace : (flags : Settings) (text : List ℕ) (n : ℕ) → IsUtf8 text → 0 < length text → is_whitespace (get_or text 0 0) ≡ true → n ≡ 1 + prefix_len is_whitespace (drop 1 text) → Outlined flags text (record { shape = shape.Whitespace; len = n })
-outlined_whitespace flags text n u l t e = outlined_word flags text shape.Whitespace kind.Whitespace n u (λ a. cc) (λ a. cc) (λ j h. h) (found_whitespace flags text n u l t (e ∙ sym (first_passes is_whitespace text l t)))
+pub whitespace_there : (flags : Settings) (text : List ℕ) (n : ℕ) → IsUtf8 text → 0 < length text → is_whitespace (get_or text 0 0) ≡ true → n ≡ 1 + prefix_len is_whitespace (drop 1 text) → LexemeFound flags text (record { kind = kind.Whitespace; len = n })
+whitespace_there flags text n u l t e = found_whitespace flags text n u l t (e ∙ sym (first_passes is_whitespace text l t))
 
-pub outlined_other : (flags : Settings) (text : List ℕ) → IsUtf8 text → 0 < length text → begins_word (get_or text 0 0) ≡ false → Outlined flags text (record { shape = shape.Fault; len = 0 })
-outlined_other flags text u l n = by u.0 (sym u.1.1)
+pub refused_there : (flags : Settings) (text : List ℕ) → IsUtf8 text → 0 < length text → begins_word (get_or text 0 0) ≡ false → IsRefused flags text
+refused_there flags text u l n = by u.0 (sym u.1.1)
   where
-    by : (cs : List ℕ) → text ≡ encodes cs → Outlined flags text (record { shape = shape.Fault; len = 0 })
+    by : (cs : List ℕ) → text ≡ encodes cs → IsRefused flags text
     by [] e = absurd (omega (arith, ap length e))
-    by (c ∷ cs) e = outlined_fault flags text _ (found_unexpected flags text (encodes cs) c u e n)
+    by (c ∷ cs) e = (_, found_unexpected flags text (encodes cs) c u e n)
 
 first_of : (text : List ℕ) (n : ℕ) → 0 < n → 0 < length text → (rest : List ℕ) × (take n text ≡ get_or text 0 0 ∷ rest)
 first_of [] n p l = absurd (omega arith)
 first_of (b ∷ bs) zero p l = absurd (omega arith)
 first_of (b ∷ bs) (suc n) p l = (take n bs, refl)
 
-some_prefix : (p : ℕ → Bool) (text : List ℕ) → 0 < length text → p (get_or text 0 0) ≡ true → 0 < prefix_len p text
+pub some_prefix : (p : ℕ → Bool) (text : List ℕ) → 0 < length text → p (get_or text 0 0) ≡ true → 0 < prefix_len p text
 some_prefix p text l e = omega (arith, first_passes p text l e)
 
 -- a word of idchars that no string follows
-pub outlined_idchars : (flags : Settings) (text : List ℕ) (s : Shape) (n : ℕ) → IsUtf8 text → 0 < length text → BeginsWord (get_or text 0 0) s → n ≡ prefix_len is_idchar text → get_or text n 0 ≢ 34 → Outlined flags text (record { shape = s; len = n })
-outlined_idchars flags text s n u l b e q =
+pub idchars_there : (flags : Settings) (text : List ℕ) (k : TokenKind) (n : ℕ) → IsUtf8 text → 0 < length text → is_run_char (get_or text 0 0) ≡ true → n ≡ prefix_len is_idchar text → get_or text n 0 ≢ 34 → WordKind (take n text) k → LexemeFound flags text (record { kind = k; len = n })
+idchars_there flags text k n u l b e q word =
     let found : Pieces = record { len = n; idchars = n; strings = 0 } in
     let run : RunFound flags text found = joined_end flags text n n 0 (joined_start flags text n u e) (λ _. q) in
-    let some : 0 < n = omega (arith, e, some_prefix is_idchar text l b.idchar) in
-    let bytes = first_of text n some l in
-    record {
-      fits = run_fits flags text found run;
-      word = λ k h.
-          let word : WordKind (take n text) k = subst (λ x. WordKind x k) (sym bytes.1) (b.kind bytes.0 k (subst (λ x. HasKind s x k) bytes.1 h)) in
-          let is : IsKindOfRun (take n text) n 0 k = λ fl w ps f r i z. let p = no_strings fl w ps r (sym z) in kind_of_word w ps k p.same (subst (λ x. WordKind x k) (f ∙ p.bytes) word) in
-          found_run flags text found k u l (idchar_runs (get_or text 0 0) b.idchar) run is;
-      end = λ a. absurd (b.stands.0 a);
-      fault = λ a. absurd (b.stands.1 a);
-    }
+    let is : IsKindOfRun (take n text) n 0 k = λ fl w ps f r i z. let p = no_strings fl w ps r (sym z) in kind_of_word w ps k p.same (subst (λ x. WordKind x k) (f ∙ p.bytes) word) in
+    found_run flags text found k u l b run is
+
+-- the kind of a word whose first byte tells it
+pub start_tells : (text : List ℕ) (k : TokenKind) (n : ℕ) → 0 < length text → BeginsWord (get_or text 0 0) k → n ≡ prefix_len is_idchar text → WordKind (take n text) k
+start_tells text k n l b e =
+    let bytes = first_of text n (omega (arith, e, some_prefix is_idchar text l b.idchar)) l in
+    subst (λ x. WordKind x k) (sym bytes.1) (b.kind bytes.0)
 
 pub outlined_run : (flags : Settings) (text : List ℕ) (found : Pieces) (s : Shape) → IsUtf8 text → 0 < length text → is_run_char (get_or text 0 0) ≡ true → RunFound flags text found → IsShapeOfRun (take found.len text) found.idchars found.strings s → Outlined flags text (record { shape = s; len = found.len })
 outlined_run flags text found s u l b f h = record {
   fits = run_fits flags text found f;
   word = λ k g. found_run flags text found k u l b f (h.kind k g);
-  end = λ a. absurd (h.stands.0 a);
-  fault = λ a. absurd (h.stands.1 a);
+  fault = λ a. absurd (h.stands a);
 }
 
 -- the shape of `$` or `@` and a string
-pub named_run : (word : List ℕ) (n m : ℕ) (s : Shape) (k : TokenKind) → IsShapeOfToken s → ((j : TokenKind) → HasKind s word j → j ≡ k) → named_kind word ≡ k → m ≡ 1 → n ≡ 1 → IsShapeOfRun word n m s
+pub named_run : (word : List ℕ) (n m : ℕ) (s : Shape) (k : TokenKind) → s ≢ shape.Fault → ((j : TokenKind) → HasKind s word j → j ≡ k) → named_kind word ≡ k → m ≡ 1 → n ≡ 1 → IsShapeOfRun word n m s
 named_run word n m s k stands only e a b = record {
   stands = stands;
   kind = λ j h flags w ps f r i z. subst (RunKind ps) (ap named_kind (sym f) ∙ e ∙ sym (only j h)) (kind_of_two flags w ps r (sym z ∙ a) (sym i ∙ b));

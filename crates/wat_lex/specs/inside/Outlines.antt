@@ -1,12 +1,17 @@
--- What the scanner tells of the start of a text: a shape and a length. No part of the standard.
-use Rattle.std.specs.Prelude.{◌≡◌, ◌≢◌, ◌≤◌, ℕ, List, [], ◌∷◌, true, false, length, take}
+-- What the scanner tells of the start of a text: a token, and of a run first a shape and a length. No part of the standard.
+use Rattle.std.specs.Prelude.{◌≡◌, ◌≢◌, ◌≤◌, ℕ, List, [], ◌∷◌, true, false, length, take, get_or}
+use Rattle.std.specs.List.{prefix_len}
 use Rattle.wat_lex.specs.grammar.Classes.{is_whitespace, is_punctuation, is_idchar, open_paren, close_paren, semicolon, quote}
+use Rattle.wat_lex.specs.grammar.Numbers.{sign_of}
 use Rattle.wat_lex.specs.grammar.Runs.{WordKind}
 use Rattle.wat_lex.specs.tokens.Faults.{begins_word}
 use Rattle.wat_lex.specs.inside.ScannedLexemes.{LexemeFound, Refused}
 use Rattle.wat_lex.specs.inside.ScannedRuns.{IsKindOfRun}
 use Rattle.wat_lex.specs.declared.lexer.settings.Settings.{Settings}
 use Rattle.wat_lex.specs.declared.lexer.faults.LexFault.{LexFault}
+use Rattle.wat_lex.specs.declared.lexer.kinds.Found.{Found}
+use Rattle.wat_lex.specs.declared.lexer.kinds.Found.TheVariants as found
+use Rattle.wat_lex.specs.declared.lexer.kinds.Lexeme.{Lexeme}
 use Rattle.wat_lex.specs.declared.lexer.kinds.Outline.{Outline}
 use Rattle.wat_lex.specs.declared.lexer.kinds.Shape.{Shape}
 use Rattle.wat_lex.specs.declared.lexer.kinds.Shape.TheVariants as shape
@@ -17,44 +22,43 @@ use Rattle.wat_lex.specs.declared.lexer.scan.starts.Start.TheVariants as start
 
 -- what the shape says of the kind of a token of these bytes
 abbrev pub HasKind : Shape → List ℕ → TokenKind → Type 0
-HasKind shape.LineComment bytes k = k ≡ kind.LineComment
-HasKind shape.BlockComment bytes k = k ≡ kind.BlockComment
-HasKind shape.Whitespace bytes k = k ≡ kind.Whitespace
-HasKind shape.LParen bytes k = k ≡ kind.LParen
-HasKind shape.RParen bytes k = k ≡ kind.RParen
 HasKind shape.String bytes k = k ≡ kind.String
 HasKind shape.Id bytes k = k ≡ kind.Id
-HasKind shape.Keyword bytes k = k ≡ kind.Keyword
 HasKind shape.Annotation bytes k = k ≡ kind.Annotation
 HasKind shape.Reserved bytes k = k ≡ kind.Reserved
 HasKind shape.Word bytes k = WordKind bytes k
-HasKind shape.End bytes k = ⊥
 HasKind shape.Fault bytes k = ⊥
 
 -- there is a fault at the start of the text
 abbrev pub IsRefused : Settings → List ℕ → Type 0
 IsRefused flags text = (f : LexFault) × Refused flags text f
 
--- what stands at the start of the text has this shape and this length
+-- the run at the start of the text has this shape and this length
 pub record Outlined (flags : Settings) (text : List ℕ) (outline : Outline) : Type 0 where
   pub fits : outline.len ≤ length text
   pub word : (k : TokenKind) → HasKind outline.shape (take outline.len text) k → LexemeFound flags text (record { kind = k; len = outline.len })
-  pub end : outline.shape ≡ shape.End → text ≡ []
   pub fault : outline.shape ≡ shape.Fault → IsRefused flags text
 
--- a shape that some token has
-abbrev pub IsShapeOfToken : Shape → Type 0
-IsShapeOfToken s = (s ≢ shape.End) × (s ≢ shape.Fault)
+-- what stands at the start of the text
+abbrev pub FoundIn : Settings → List ℕ → Found → Type 0
+FoundIn flags text (found.Lexeme lexeme) = LexemeFound flags text lexeme
+FoundIn flags text found.End = text ≡ []
+FoundIn flags text found.Fault = IsRefused flags text
 
--- an idchar; a word of idchars that begins with it has this shape
-pub record BeginsWord (first : ℕ) (s : Shape) : Type 0 where
+-- a word of idchars alone, with no string behind it
+pub record IdcharsOnly (text : List ℕ) (lexeme : Lexeme) : Type 0 where
+  pub len : lexeme.len ≡ prefix_len is_idchar text
+  pub ends : get_or text lexeme.len 0 ≢ quote
+  pub kind : WordKind (take lexeme.len text) lexeme.kind
+
+-- an idchar; a word of idchars that begins with it has this kind
+pub record BeginsWord (first : ℕ) (k : TokenKind) : Type 0 where
   pub idchar : is_idchar first ≡ true
-  pub stands : IsShapeOfToken s
-  pub kind : (rest : List ℕ) (k : TokenKind) → HasKind s (first ∷ rest) k → WordKind (first ∷ rest) k
+  pub kind : (rest : List ℕ) → WordKind (first ∷ rest) k
 
 -- any run that these bytes are and that has so many idchars and strings has this shape
 pub record IsShapeOfRun (bytes : List ℕ) (idchars strings : ℕ) (s : Shape) : Type 0 where
-  pub stands : IsShapeOfToken s
+  pub stands : s ≢ shape.Fault
   pub kind : (k : TokenKind) → HasKind s bytes k → IsKindOfRun bytes idchars strings k
 
 -- what a text that begins with this byte begins with
@@ -65,5 +69,10 @@ Begun first start.CloseParen = first ≡ close_paren
 Begun first start.Semicolon = first ≡ semicolon
 Begun first start.Punctuation = is_punctuation first ≡ true
 Begun first start.Quote = first ≡ quote
-Begun first (start.Idchar s) = BeginsWord first s
+Begun first (start.Number sign) = (is_idchar first ≡ true) × (sign ≡ sign_of (first ∷ []))
+Begun first start.Letter = (97 ≤ first) × (first ≤ 122)
+Begun first start.Keyword = BeginsWord first kind.Keyword
+Begun first start.Id = BeginsWord first kind.Id
+Begun first start.Annotation = BeginsWord first kind.Annotation
+Begun first start.Reserved = BeginsWord first kind.Reserved
 Begun first start.Other = begins_word first ≡ false

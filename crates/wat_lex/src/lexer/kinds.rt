@@ -164,31 +164,32 @@ impl Sign {
     }
 }
 
-/// What stands at the start of a text: a token's kind, of which only contracts speak, and its
-/// length in bytes.
+/// A token at the start of a text: its kind, and its length in bytes.
 #[derive(Clone, Copy)]
 pub struct Lexeme {
     pub kind: TokenKind,
     pub len: usize,
 }
 
-/// What stands at the start of a text, told without the facts of a number.
-#[derive(Clone, Copy, PartialEq, Eq)]
-pub enum Shape {
-    LineComment,
-    BlockComment,
-    Whitespace,
-    LParen,
-    RParen,
-    String,
-    Id,
-    Keyword,
-    Annotation,
-    Reserved,
-    /// A word of idchars that may be a number.
-    Word,
+/// What stands at the start of a text.
+#[derive(Clone, Copy)]
+pub enum Found {
+    Lexeme(Lexeme),
     /// The text's end.
     End,
+    /// No token.
+    Fault,
+}
+
+/// What a run at the start of a text is, told without the facts of a number.
+#[derive(Clone, Copy, PartialEq, Eq)]
+pub enum Shape {
+    String,
+    Id,
+    Annotation,
+    Reserved,
+    /// A word of idchars alone, of any kind.
+    Word,
     /// No token.
     Fault,
 }
@@ -201,8 +202,7 @@ pub enum Stride {
     Block,
 }
 
-/// The shape of what stands at the start of a text, and its length in bytes, 0 at the end and at a
-/// fault.
+/// The shape of a run at the start of a text, and its length in bytes, 0 at a fault.
 #[derive(Clone, Copy)]
 pub struct Outline {
     pub shape: Shape,

@@ -1,17 +1,28 @@
 //! Scanning: what stands at the start of a text, by its first bytes.
-ghost use Rattle.std.specs.Prelude.{◌≡◌, ◌≢◌, ◌<◌, ◌≤◌, ℕ, List, false, length, slice_index, take};
+ghost use Rattle.std.specs.Prelude.{◌≡◌, ◌<◌, ◌≤◌, ◌↔◌, ◌∷◌, [], true, false, length, slice_index};
+ghost use Rattle.std.specs.Prelude.{IfSome, IsTrue};
+ghost use Rattle.std.specs.List.{prefix_len};
+ghost use Rattle.wat_lex.specs.grammar.Classes.{is_idchar, is_run_char};
+ghost use Rattle.wat_lex.specs.grammar.Numbers.{sign_of};
 ghost use Rattle.wat_lex.specs.tokens.Faults.{begins_word};
 ghost use Rattle.wat_lex.specs.inside.ScannedLexemes.{Refused};
-ghost use Rattle.wat_lex.specs.inside.Outlines.{Begun, HasKind, IsRefused, Outlined};
-ghost use Rattle.wat_lex.specs.declared.lexer.kinds.Shape.TheVariants.{Word, End, Fault};
-ghost use Rattle.wat_lex.specs.declared.lexer.scan.starts.Start.TheVariants.{Idchar};
+ghost use Rattle.wat_lex.specs.inside.Outlines.{BeginsWord, Begun, FoundIn, IdcharsOnly, IsRefused};
+ghost use Rattle.wat_lex.specs.inside.Outlines.{Outlined};
+ghost use Rattle.wat_lex.specs.declared.lexer.kinds.Found.TheVariants as found;
 ghost use Rattle.wat_lex.specs.declared.lexer.settings.Settings.{Settings};
 
 use crate::lexer::faults::{LexError, LexFault};
-use crate::lexer::kinds::{Outline, Shape, Stride, TokenKind};
-use crate::lexer::scan::classes::{idchar_len, idchar_len_of_word, is_run_char, whitespace_len};
-use crate::lexer::scan::comments::{block_comment, block_outline, line_comment, line_outline};
-use crate::lexer::scan::runs::{run, run_outline, word_kind};
+use crate::lexer::kinds::{Found, Lexeme, Outline, Shape, Sign, Stride, TokenKind};
+use crate::lexer::scan::blocks::{block_at, other_than_idchars};
+use crate::lexer::scan::classes::{
+    idchar_len_by_block, idchar_len_of_word, is_run_char, whitespace_len,
+};
+use crate::lexer::scan::comments::{
+    block_comment, block_comment_len, line_comment, line_comment_len,
+};
+use crate::lexer::scan::runs::{
+    decimal_kind, letters_kind, long_number_kind, other_kind, run, run_outline, short_number_kind,
+};
 use crate::lexer::scan::starts::{Start, start_of};
 use crate::lexer::settings::Settings;
 
@@ -33,109 +44,205 @@ fn byte_at(text: &[u8], i: usize) -> u8
     if i < text.len() { text[i] } else { 0 }
 }
 
+/// Whether a string follows so many bytes, so that they are not all of a run.
 #[inline(always)]
-fn outline(shape: Shape, len: usize) -> Outline
-    ensures { result ≡ record { shape = shape; len = len } }
+fn string_follows(text: &[u8], len: usize) -> bool
+    ensures { IsTrue result ↔ slice_index text.now len ≡ 34 }
 {
-    Outline { shape, len }
+    byte_at(text, len) == b'"'
 }
 
-/// The outline of a text that begins with `(`.
+/// A token of this kind and length.
 #[inline(always)]
-fn opened(text: &str, flags: Settings) -> Outline
+fn lexeme(kind: TokenKind, len: usize) -> Found
+    ensures { result ≡ found.Lexeme (record { kind = kind; len = len }) }
+{
+    Found::Lexeme(Lexeme { kind, len })
+}
+
+/// The token of idchars that no string follows; a word that begins so has this kind.
+#[inline(always)]
+fn idchars(text: &[u8], kind: TokenKind, stride: Stride) -> Option<Lexeme>
+    requires some { 0 < length text.now }
+    requires first { BeginsWord (slice_index text.now 0) kind }
+    ensures { IfSome result (IdcharsOnly text.now) }
+{
+    let len = idchar_len_of_word(text, stride);
+    if string_follows(text, len) {
+        return None;
+    }
+    Some(Lexeme { kind, len })
+}
+
+/// The token of idchars that no string follows, the first of which is a small letter.
+#[inline(always)]
+fn letters(text: &[u8], stride: Stride) -> Option<Lexeme>
+    requires { (97 ≤ slice_index text.now 0) × (slice_index text.now 0 ≤ 122) }
+    ensures { IfSome result (IdcharsOnly text.now) }
+{
+    let len = idchar_len_of_word(text, stride);
+    if string_follows(text, len) {
+        return None;
+    }
+    let kind = letters_kind(text, len, stride);
+    Some(Lexeme { kind, len })
+}
+
+/// The token of idchars that no string follows, found a byte at a time; it may be a number.
+#[inline(always)]
+fn number_by_byte(text: &[u8]) -> Option<Lexeme>
+    ensures { IfSome result (IdcharsOnly text.now) }
+{
+    let len = idchar_len_of_word(text, Stride::Byte);
+    if string_follows(text, len) {
+        return None;
+    }
+    let kind = decimal_kind(text, len, Stride::Byte);
+    Some(Lexeme { kind, len })
+}
+
+/// The token of so many idchars that no string follows. They are all that one block holds and some
+/// behind it, and may be a number.
+#[inline(always)]
+fn long_number(text: &[u8], len: usize) -> Option<Lexeme>
+    requires { len ≡ prefix_len is_idchar text.now }
+    ensures { IfSome result (IdcharsOnly text.now) }
+{
+    if string_follows(text, len) {
+        return None;
+    }
+    let kind = long_number_kind(text, len);
+    Some(Lexeme { kind, len })
+}
+
+/// The token of idchars that no string follows, the first of which is a digit or this sign.
+#[inline(always)]
+fn number(text: &[u8], sign: Sign, stride: Stride) -> Option<Lexeme>
+    requires some { 0 < length text.now }
+    requires first { is_idchar (slice_index text.now 0) ≡ true }
+    requires sign { sign ≡ sign_of (slice_index text.now 0 ∷ []) }
+    ensures { IfSome result (IdcharsOnly text.now) }
+{
+    if stride == Stride::Byte || text.len() < 16 {
+        return number_by_byte(text);
+    }
+    let others = other_than_idchars(block_at(text, 0));
+    if others == 0 {
+        return long_number(text, 16 + idchar_len_by_block(&text[16..]));
+    }
+    let len = others.trailing_zeros() as usize;
+    if string_follows(text, len) {
+        return None;
+    }
+    let kind = short_number_kind(text, len, sign);
+    Some(Lexeme { kind, len })
+}
+
+/// The token of idchars that no string follows, where the text begins so.
+#[inline(always)]
+fn word(text: &[u8], start: Start, stride: Stride) -> Option<Lexeme>
+    requires some { 0 < length text.now }
+    requires start { Begun (slice_index text.now 0) start }
+    ensures { IfSome result (IdcharsOnly text.now) }
+{
+    match start {
+        Start::Number(sign) => number(text, sign, stride),
+        Start::Letter => letters(text, stride),
+        Start::Keyword => idchars(text, TokenKind::Keyword, stride),
+        Start::Id => idchars(text, TokenKind::Id, stride),
+        Start::Annotation => idchars(text, TokenKind::Annotation, stride),
+        Start::Reserved => idchars(text, TokenKind::Reserved, stride),
+        _ => None,
+    }
+}
+
+/// What the outline of a run at the start tells of the text.
+#[inline(always)]
+fn told(text: &str, outline: Outline) -> Found
+    requires { outline.len ≤ length text.now }
+    ensures { (flags : Settings) → Outlined flags text.now outline → FoundIn flags text.now result }
+{
+    let kind = match outline.shape {
+        Shape::String => TokenKind::String,
+        Shape::Id => TokenKind::Id,
+        Shape::Annotation => TokenKind::Annotation,
+        Shape::Reserved => TokenKind::Reserved,
+        Shape::Word => other_kind(text.as_bytes(), outline.len, Stride::Byte),
+        Shape::Fault => return Found::Fault,
+    };
+    lexeme(kind, outline.len)
+}
+
+/// What stands at the start of a text that begins with an idchar or a string.
+// The settings are passed by reference, so that they are read only where they are needed.
+#[inline(always)]
+fn run_found(text: &str, start: Start, flags: &Settings, stride: Stride) -> Found
+    requires some { 0 < length text.now }
+    requires run { is_run_char (slice_index text.now 0) ≡ true }
+    requires start { Begun (slice_index text.now 0) start }
+    ensures { FoundIn flags.now text.now result }
+{
+    match word(text.as_bytes(), start, stride) {
+        Some(lexeme) => Found::Lexeme(lexeme),
+        None => told(text, run_outline(text, *flags)),
+    }
+}
+
+/// What stands at the start of a text that begins with `(`.
+#[inline(always)]
+fn opened(text: &str, flags: &Settings) -> Found
     requires some { 0 < length text.now }
     requires first { slice_index text.now 0 ≡ 40 }
-    ensures { Outlined flags text.now result }
+    ensures { FoundIn flags.now text.now result }
 {
-    if byte_at(text.as_bytes(), 1) == b';' {
-        return block_outline(text, flags);
+    if byte_at(text.as_bytes(), 1) != b';' {
+        return lexeme(TokenKind::LParen, 1);
     }
-    outline(Shape::LParen, 1)
+    match block_comment_len(text, *flags) {
+        Some(len) => lexeme(TokenKind::BlockComment, len),
+        None => Found::Fault,
+    }
 }
 
-/// The outline of a text that begins with `;`.
+/// What stands at the start of a text that begins with `;`.
 #[inline(always)]
-fn semicolon(text: &str, flags: Settings) -> Outline
+fn semicolon(text: &str, flags: &Settings) -> Found
     requires some { 0 < length text.now }
     requires first { slice_index text.now 0 ≡ 59 }
-    ensures { Outlined flags text.now result }
+    ensures { FoundIn flags.now text.now result }
 {
-    if byte_at(text.as_bytes(), 1) == b';' {
-        return line_outline(text, flags);
+    if byte_at(text.as_bytes(), 1) != b';' {
+        return lexeme(TokenKind::Reserved, 1);
     }
-    outline(Shape::Reserved, 1)
+    match line_comment_len(text, *flags) {
+        Some(len) => lexeme(TokenKind::LineComment, len),
+        None => Found::Fault,
+    }
 }
 
-/// The outline of a text that begins with an idchar; a word that begins so has this shape.
+/// What stands at the start.
 #[inline(always)]
-fn idchars(text: &str, shape: Shape, flags: Settings, stride: Stride) -> Outline
-    requires some { 0 < length text.now }
-    requires first { Begun (slice_index text.now 0) (Idchar shape) }
-    ensures { Outlined flags text.now result }
-{
-    let bytes = text.as_bytes();
-    let len = idchar_len_of_word(bytes, stride);
-    if byte_at(bytes, len) == b'"' {
-        return run_outline(text, len, flags);
-    }
-    outline(shape, len)
-}
-
-/// The outline of what stands at the start.
-#[inline(always)]
-pub fn first_outline(text: &str, flags: Settings, stride: Stride) -> Outline
-    ensures { Outlined flags text.now result }
+pub fn first_found(text: &str, flags: &Settings, stride: Stride) -> Found
+    ensures { FoundIn flags.now text.now result }
 {
     let bytes = text.as_bytes();
     if bytes.is_empty() {
-        return outline(Shape::End, 0);
+        return Found::End;
     }
-    match start_of(byte_at(bytes, 0)) {
-        Start::Whitespace => outline(Shape::Whitespace, 1 + whitespace_len(&bytes[1..], stride)),
+    let start = start_of(byte_at(bytes, 0));
+    match start {
+        Start::Whitespace => {
+            lexeme(
+                TokenKind::Whitespace,
+                1 + whitespace_len(&bytes[1..], stride),
+            )
+        }
         Start::OpenParen => opened(text, flags),
-        Start::CloseParen => outline(Shape::RParen, 1),
+        Start::CloseParen => lexeme(TokenKind::RParen, 1),
         Start::Semicolon => semicolon(text, flags),
-        Start::Punctuation => outline(Shape::Reserved, 1),
-        Start::Quote => run_outline(text, 0, flags),
-        Start::Idchar(shape) => idchars(text, shape, flags, stride),
-        Start::Other => outline(Shape::Fault, 0),
-    }
-}
-
-/// The kind of a token whose shape alone tells it.
-#[inline(always)]
-fn plain_kind(shape: Shape) -> TokenKind
-    requires no_word { shape ≢ Word }
-    requires no_end { shape ≢ End }
-    requires no_fault { shape ≢ Fault }
-    ensures { (bytes : List ℕ) → HasKind shape bytes result }
-{
-    match shape {
-        Shape::LineComment => TokenKind::LineComment,
-        Shape::BlockComment => TokenKind::BlockComment,
-        Shape::Whitespace => TokenKind::Whitespace,
-        Shape::LParen => TokenKind::LParen,
-        Shape::RParen => TokenKind::RParen,
-        Shape::String => TokenKind::String,
-        Shape::Id => TokenKind::Id,
-        Shape::Keyword => TokenKind::Keyword,
-        Shape::Annotation => TokenKind::Annotation,
-        Shape::Reserved => TokenKind::Reserved,
-        Shape::Word | Shape::End | Shape::Fault => unreachable!(),
-    }
-}
-
-/// The kind that an outline of the text's start stands for.
-#[inline(always)]
-pub fn kind_of(text: &[u8], outline: Outline, stride: Stride) -> TokenKind
-    requires fits { outline.len ≤ length text.now }
-    requires no_end { outline.shape ≢ End }
-    requires no_fault { outline.shape ≢ Fault }
-    ensures { HasKind outline.shape (take outline.len text.now) result }
-{
-    match outline.shape {
-        Shape::Word => word_kind(text, outline.len, stride),
-        shape => plain_kind(shape),
+        Start::Punctuation => lexeme(TokenKind::Reserved, 1),
+        Start::Other => Found::Fault,
+        _ => run_found(text, start, flags, stride),
     }
 }
 
@@ -165,7 +272,7 @@ pub fn first_fault(text: &str, flags: Settings) -> LexFault
     let bytes = text.as_bytes();
     let first = byte_at(bytes, 0);
     if is_run_char(first) {
-        return match run(text, idchar_len(bytes), flags) {
+        return match run(text, flags) {
             Err(fault) => fault,
             Ok(_) => unreachable!(),
         };

@@ -116,6 +116,8 @@ pub fn whitespace_len(text: &[u8], stride: Stride) -> usize
     }
 }
 
+// Where there are blocks, only the last word of a text is looked at so.
+#[inline(never)]
 fn idchar_len_by_byte(text: &[u8]) -> usize
     ensures { result ≡ prefix_len is_idchar text.now }
 {
@@ -126,8 +128,9 @@ fn idchar_len_by_byte(text: &[u8]) -> usize
     i
 }
 
+/// How many idchars stand at the start, found a block at a time.
 #[inline]
-fn idchar_len_by_block(text: &[u8]) -> usize
+pub fn idchar_len_by_block(text: &[u8]) -> usize
     ensures { result ≡ prefix_len is_idchar text.now }
 {
     let mut i = 0;

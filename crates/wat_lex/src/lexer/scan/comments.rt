@@ -11,11 +11,11 @@ ghost use Rattle.wat_lex.specs.declared.lexer.kinds.TokenKind.TheVariants.{LineC
 ghost use Rattle.wat_lex.specs.declared.lexer.kinds.TokenKind.TheVariants.{BlockComment};
 ghost use Rattle.wat_lex.specs.inside.Blocks.{GoesOn, is_plain_in_line, other_than_semicolon};
 ghost use Rattle.wat_lex.specs.inside.Nesting.{Reaches, opens_at, closes_at, passing};
-ghost use Rattle.wat_lex.specs.inside.Outlines.{Outlined};
+ghost use Rattle.wat_lex.specs.inside.Outlines.{IsRefused};
 ghost use Rattle.wat_lex.specs.tokens.Setting.{allowing};
 
 use crate::lexer::faults::{LexError, LexFault};
-use crate::lexer::kinds::{Lexeme, Outline, Shape, TokenKind};
+use crate::lexer::kinds::{Lexeme, TokenKind};
 use crate::lexer::scan::blocks::{
     block_at, equal_to, other_than_plain_in_line, other_than_surely_plain, semicolons,
 };
@@ -281,38 +281,30 @@ pub fn line_comment(text: &str, flags: Settings) -> Result<usize, LexFault>
     checked(text, comment, flags)
 }
 
-/// The outline of a text that begins with `(;`.
+/// How many bytes the block comment has with which the text begins, and None at a fault in it.
 #[inline(never)]
-pub fn block_outline(text: &str, flags: Settings) -> Outline
+pub fn block_comment_len(text: &str, flags: Settings) -> Option<usize>
     requires opened { (slice_index text.now 0 ≡ 40) × (slice_index text.now 1 ≡ 59) }
-    ensures { Outlined flags text.now result }
+    ensures some { IfSome result (λ len.
+        LexemeFound flags text.now (record { kind = BlockComment; len = len })) }
+    ensures none { IfNone result (IsRefused flags text.now) }
 {
     match block_comment(text, flags) {
-        Ok(len) => Outline {
-            shape: Shape::BlockComment,
-            len,
-        },
-        Err(_) => Outline {
-            shape: Shape::Fault,
-            len: 0,
-        },
+        Ok(len) => Some(len),
+        Err(_) => None,
     }
 }
 
-/// The outline of a text that begins with `;;`.
+/// How many bytes the line comment has with which the text begins, and None at a fault in it.
 #[inline(never)]
-pub fn line_outline(text: &str, flags: Settings) -> Outline
+pub fn line_comment_len(text: &str, flags: Settings) -> Option<usize>
     requires begun { (slice_index text.now 0 ≡ 59) × (slice_index text.now 1 ≡ 59) }
-    ensures { Outlined flags text.now result }
+    ensures some { IfSome result (λ len.
+        LexemeFound flags text.now (record { kind = LineComment; len = len })) }
+    ensures none { IfNone result (IsRefused flags text.now) }
 {
     match line_comment(text, flags) {
-        Ok(len) => Outline {
-            shape: Shape::LineComment,
-            len,
-        },
-        Err(_) => Outline {
-            shape: Shape::Fault,
-            len: 0,
-        },
+        Ok(len) => Some(len),
+        Err(_) => None,
     }
 }

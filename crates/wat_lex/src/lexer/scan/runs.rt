@@ -1,19 +1,19 @@
 //! Runs of idchars and strings.
 ghost use Rattle.std.specs.Prelude.{◌≡◌, ◌<◌, ◌≤◌, ◌+◌, ◌^◌, true, length, take, slice_index};
 ghost use Rattle.std.specs.Prelude.{IfOk, IfErr, IsTrue};
-ghost use Rattle.std.specs.List.{prefix_len};
 ghost use Rattle.wat_lex.specs.inside.ScannedLexemes.{Refused};
 ghost use Rattle.wat_lex.specs.inside.Outlines.{Outlined, IsShapeOfRun};
 ghost use Rattle.wat_lex.specs.inside.ScannedRuns.{RunFound};
+ghost use Rattle.wat_lex.specs.grammar.Numbers.{sign_of};
 ghost use Rattle.wat_lex.specs.grammar.Runs.{WordKind, kind_by_first, named_kind};
-ghost use Rattle.wat_lex.specs.grammar.Classes.{is_idchar, is_run_char};
-ghost use Rattle.wat_lex.specs.declared.lexer.kinds.TokenKind.TheVariants.{Keyword};
+ghost use Rattle.wat_lex.specs.grammar.Classes.{is_run_char};
 
 use crate::lexer::faults::LexFault;
-use crate::lexer::kinds::{FloatKind, Outline, Shape, Stride, TokenKind};
+use crate::lexer::kinds::{FloatKind, Outline, Shape, Sign, Stride, TokenKind};
+use crate::lexer::scan::byte_at;
 use crate::lexer::scan::classes::idchar_len;
 use crate::lexer::scan::numbers::{classify, plain_decimal, plain_float, plain_hexadecimal};
-use crate::lexer::scan::short::{short_decimal, short_prefixed};
+use crate::lexer::scan::short::{short_decimal, short_hexadecimal, short_payload};
 use crate::lexer::scan::strings::string_len;
 use crate::lexer::settings::Settings;
 
@@ -36,15 +36,14 @@ fn further(fault: LexFault, by: usize) -> LexFault
     }
 }
 
-/// The longest run at the start, whose first idchars are so many.
-pub fn run(text: &str, first: usize, flags: Settings) -> Result<Pieces, LexFault>
-    requires { first ≡ prefix_len is_idchar text.now }
+/// The longest run at the start.
+pub fn run(text: &str, flags: Settings) -> Result<Pieces, LexFault>
     ensures ok { IfOk result (RunFound flags text.now) }
     ensures err { IfErr result (Refused flags text.now) }
 {
     let bytes = text.as_bytes();
-    let mut idchars = first;
-    let mut len = first;
+    let mut idchars = idchar_len(bytes);
+    let mut len = idchars;
     let mut strings = 0usize;
     while len < bytes.len() && bytes[len] == b'"' {
         let taken = match string_len(&text[len + 1..], flags) {
@@ -84,15 +83,14 @@ fn run_shape(word: &[u8], idchars: usize, strings: usize) -> Shape
     }
 }
 
-/// The outline of a run with a string behind its first idchars, which are so many.
+/// The outline of a run.
 #[inline(never)]
-pub fn run_outline(text: &str, first: usize, flags: Settings) -> Outline
+pub fn run_outline(text: &str, flags: Settings) -> Outline
     requires some { 0 < length text.now }
     requires run { is_run_char (slice_index text.now 0) ≡ true }
-    requires first { first ≡ prefix_len is_idchar text.now }
     ensures { Outlined flags text.now result }
 {
-    match run(text, first, flags) {
+    match run(text, flags) {
         Ok(found) => {
             let word = &text.as_bytes()[..found.len];
             Outline {
@@ -127,22 +125,10 @@ fn kind_by_first(word: &[u8]) -> TokenKind
     }
 }
 
-/// Whether the word is a keyword by its first two letters: behind the first letter of `inf` and
-/// `nan` stands `n` or `a`, and no other number begins with a letter.
-#[inline(always)]
-fn is_surely_keyword(word: &[u8]) -> bool
-    ensures { IsTrue result → WordKind word.now Keyword }
-{
-    match word {
-        [b'a'..=b'z', second, ..] => *second != b'n' && *second != b'a',
-        _ => false,
-    }
-}
-
 /// The kind of the word of so many idchars at the start, which is no integer of decimal digits alone.
 /// It is no part of its caller, where the facts of a float would be carried with each token.
 #[inline(never)]
-fn other_kind(text: &[u8], len: usize, stride: Stride) -> TokenKind
+pub fn other_kind(text: &[u8], len: usize, stride: Stride) -> TokenKind
     requires { len ≤ length text.now }
     ensures { WordKind (take len text.now) result }
 {
@@ -159,48 +145,87 @@ fn other_kind(text: &[u8], len: usize, stride: Stride) -> TokenKind
     }
 }
 
-/// The same of a word that may begin with `0x` or `nan:0x`.
-#[inline(never)]
-fn prefixed_kind(text: &[u8], len: usize, stride: Stride) -> TokenKind
+/// The kind of a word that may be a number behind `0x`.
+#[inline(always)]
+fn hexadecimal_kind(text: &[u8], len: usize) -> TokenKind
     requires { len ≤ length text.now }
     ensures { WordKind (take len text.now) result }
 {
-    if stride == Stride::Block {
-        if let Some(kind) = short_prefixed(text, len).kind() {
-            return kind;
-        }
+    match short_hexadecimal(text, len).kind() {
+        Some(kind) => kind,
+        None => other_kind(text, len, Stride::Block),
     }
-    other_kind(text, len, stride)
 }
 
-/// The kind of the word of so many idchars at the start.
+/// The kind of a word that may be a NaN with a payload.
 #[inline(always)]
-pub fn word_kind(text: &[u8], len: usize, stride: Stride) -> TokenKind
+fn payload_kind(text: &[u8], len: usize, stride: Stride) -> TokenKind
     requires { len ≤ length text.now }
     ensures { WordKind (take len text.now) result }
 {
-    let word = &text[..len];
-    match word {
-        [b'a'..=b'z', ..] => {
-            if is_surely_keyword(word) {
-                return TokenKind::Keyword;
-            }
-            if let b"inf" = word {
-                return TokenKind::Float(FloatKind::Inf { negative: false });
-            }
-        }
-        [_, ..] if stride == Stride::Block && len <= 16 && text.len() >= 16 => {
-            if let Some(kind) = short_decimal(text, len) {
-                return kind;
-            }
-        }
-        [b'0', b'x', ..] => {}
-        _ => {
-            return match plain_decimal(text, len, stride) {
-                Some(kind) => kind,
-                None => other_kind(text, len, stride),
-            };
-        }
+    if stride == Stride::Byte {
+        return other_kind(text, len, stride);
     }
-    prefixed_kind(text, len, stride)
+    match short_payload(text, len).kind() {
+        Some(kind) => kind,
+        None => other_kind(text, len, stride),
+    }
+}
+
+/// The kind of a word that may be a number of decimal digits.
+#[inline(always)]
+pub fn decimal_kind(text: &[u8], len: usize, stride: Stride) -> TokenKind
+    requires { len ≤ length text.now }
+    ensures { WordKind (take len text.now) result }
+{
+    match plain_decimal(text, len, stride) {
+        Some(kind) => kind,
+        None => other_kind(text, len, stride),
+    }
+}
+
+/// The kind of a word that may be a number, and is longer than a block.
+#[inline(always)]
+pub fn long_number_kind(text: &[u8], len: usize) -> TokenKind
+    requires { len ≤ length text.now }
+    ensures { WordKind (take len text.now) result }
+{
+    match text {
+        [first, b'x', ..] if *first == b'0' => hexadecimal_kind(text, len),
+        _ => decimal_kind(text, len, Stride::Block),
+    }
+}
+
+/// The kind of a word that may be a number of this sign, where one block holds the word.
+#[inline(always)]
+pub fn short_number_kind(text: &[u8], len: usize, sign: Sign) -> TokenKind
+    requires sign { sign ≡ sign_of (take len text.now) }
+    requires some { 0 < len }
+    requires short { len ≤ 16 }
+    requires long { 16 ≤ length text.now }
+    ensures { WordKind (take len text.now) result }
+{
+    match short_decimal(text, len, sign) {
+        Some(kind) => kind,
+        None => hexadecimal_kind(text, len),
+    }
+}
+
+/// The kind of a word that begins with a small letter. Behind the first letter of `inf` and `nan`
+/// stands `n` or `a`, and no other number begins with a letter.
+#[inline(always)]
+pub fn letters_kind(text: &[u8], len: usize, stride: Stride) -> TokenKind
+    requires some { 0 < len }
+    requires within { len ≤ length text.now }
+    requires letter { (97 ≤ slice_index text.now 0) × (slice_index text.now 0 ≤ 122) }
+    ensures { WordKind (take len text.now) result }
+{
+    let second = byte_at(text, 1);
+    if second != b'n' && second != b'a' {
+        return TokenKind::Keyword;
+    }
+    if let b"inf" = &text[..len] {
+        return TokenKind::Float(FloatKind::Inf { negative: false });
+    }
+    payload_kind(text, len, stride)
 }

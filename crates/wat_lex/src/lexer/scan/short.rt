@@ -8,7 +8,7 @@ ghost use Rattle.wat_lex.specs.inside.ScannedNumbers.{PlainExponent, PlainTail, 
 
 use crate::lexer::kinds::{FloatKind, IntegerKind, Sign, TokenKind};
 use crate::lexer::scan::blocks::{block_at, other_than_digits, other_than_hex_digits};
-use crate::lexer::scan::numbers::{after, is_exponent_letter, sign_of, unsigned};
+use crate::lexer::scan::numbers::{after, is_exponent_letter, unsigned};
 
 /// How many of the first 16 bytes stand from a place on before the next one that has a bit.
 #[inline(always)]
@@ -75,15 +75,15 @@ fn sign_len(sign: Sign) -> usize
 }
 
 /// The kind of the word of so many bytes at the start, where that is a decimal integer or a decimal
-/// float without underscores, with a sign or none.
+/// float without underscores, behind this sign.
 #[inline(always)]
-pub fn short_decimal(text: &[u8], len: usize) -> Option<TokenKind>
+pub fn short_decimal(text: &[u8], len: usize, sign: Sign) -> Option<TokenKind>
+    requires sign { sign ≡ sign_of (take len text.now) }
     requires some { 0 < len }
     requires short { len ≤ 16 }
     requires long { 16 ≤ length text.now }
     ensures { IfSome result (λ kind. Number (take len text.now) kind) }
 {
-    let sign = sign_of(&text[..len]);
     let start = sign_len(sign);
     let others = other_than_digits(block_at(text, 0));
     let end = start + clear_from(others, start);
@@ -144,9 +144,9 @@ impl Prefixed {
 }
 
 /// What the word of so many bytes at the start is, where that is `0x` and behind it an integer or a
-/// float of at most 16 bytes.
-#[inline(always)]
-fn short_hexadecimal(text: &[u8], len: usize) -> Prefixed
+/// float of at most 16 bytes. It is a call that answers one byte, so that its caller stays small.
+#[inline(never)]
+pub fn short_hexadecimal(text: &[u8], len: usize) -> Prefixed
     requires { len ≤ length text.now }
     ensures { IfSome (prefixed_kind result) (λ kind. Number (take len text.now) kind) }
 {
@@ -174,8 +174,8 @@ fn short_hexadecimal(text: &[u8], len: usize) -> Prefixed
 }
 
 /// What the word of so many bytes at the start is, where that is `nan:0x` and at most 16 digits.
-#[inline(always)]
-fn short_payload(text: &[u8], len: usize) -> Prefixed
+#[inline(never)]
+pub fn short_payload(text: &[u8], len: usize) -> Prefixed
     requires { len ≤ length text.now }
     ensures { IfSome (prefixed_kind result) (λ kind. Number (take len text.now) kind) }
 {
@@ -191,17 +191,4 @@ fn short_payload(text: &[u8], len: usize) -> Prefixed
         return Prefixed::Other;
     }
     Prefixed::Payload
-}
-
-/// What the word of so many bytes at the start is, where it begins with `0x` or `nan:0x`.
-#[inline(always)]
-pub fn short_prefixed(text: &[u8], len: usize) -> Prefixed
-    requires { len ≤ length text.now }
-    ensures { IfSome (prefixed_kind result) (λ kind. Number (take len text.now) kind) }
-{
-    match &text[..len] {
-        [b'0', ..] => short_hexadecimal(text, len),
-        [b'n', ..] => short_payload(text, len),
-        _ => Prefixed::Other,
-    }
 }

@@ -1,8 +1,11 @@
-use Rattle.std.proofs.Common.{ap, ◌∙◌, get_or}
-use Rattle.wat_lex.proofs.inside.Outlines.{outlined_semicolon}
+use Rattle.std.proofs.Common.{ap, ◌∙◌, get_or, sym}
+use Rattle.wat_lex.proofs.inside.LineComments.{found_semicolon}
 use Rattle.wat_lex.proofs.lexer.scan.semicolon.Goals as goal
 
-pub returns : goal.returns
-returns c =
-    rw c.outline.ensures (outlined_semicolon c.args.flags c.args.text.now c.utf8.text c.requires.some c.requires.first
-    (λ k. c.if-byte_at-eq59.false (c.byte_at.ensures ∙ ap (λ t. get_or t 1 0) c.as_bytes.ensures.value ∙ k)))
+pub line_comment_len-requires : goal.line_comment_len-requires
+line_comment_len-requires c = record { begun = (c.requires.first, ap (λ t. get_or t 1 0) (sym c.as_bytes.ensures.value) ∙ sym c.byte_at.ensures ∙ c.if-byte_at-ne59.false) }
+
+pub returns-then-byte_at-ne59 : goal.returns-then-byte_at-ne59
+returns-then-byte_at-ne59 c =
+    rw c.lexeme.ensures (found_semicolon c.args.flags.now c.args.text.now c.utf8.text c.requires.some c.requires.first
+    (λ k. c.if-byte_at-ne59.true (c.byte_at.ensures ∙ ap (λ t. get_or t 1 0) c.as_bytes.ensures.value ∙ k)))

@@ -19,7 +19,7 @@ quote : (c : Then-bytes-len-eq34) → Quote c.args.text.now c.loop-len.len
 quote c = quote_at c.args.text.now c.as_bytes-bytes.result.now c.loop-len.len c.as_bytes-bytes.ensures.value c.loop-len-test.true c.if-bytes-len-eq34.true
 
 pub loop-len-init : goal.loop-len-init
-loop-len-init c = joined_start c.args.flags c.args.text.now _ c.utf8.text c.requires
+loop-len-init c = joined_start c.args.flags c.args.text.now _ c.utf8.text (c.idchar_len-idchars.ensures ∙ ap (prefix_len is_idchar) c.as_bytes-bytes.ensures.value)
 
 pub range_from-requires : goal.range_from-requires
 range_from-requires c = λ _.
