@@ -16,13 +16,13 @@ use Rattle.wat_lines.specs.Blocks.{AppendsEach, AppendsEachCut, ReportsEnd}
 use Rattle.wat_lines.specs.JsonRows.{json_line}
 use Rattle.wat_lines.specs.Lines.{line}
 use Rattle.wat_lines.specs.Streams.{AppendsPrefix, failure_after}
-use Rattle.wat_lines.specs.declared.ends.Failed.{Failed}
+use Rattle.wat_lines.specs.declared.failed.Failed.{Failed}
 use Rattle.wat_lines.specs.lemmas.KnownBytes.{appends_none}
 use Rattle.wat_lists.specs.Blanks.{Blanks}
 use Rattle.wat_lists.specs.JsonLists.{JsonLists}
 use Rattle.wat_lists.specs.Lists.{Lists}
 use Rattle.wat_lists.specs.Refusals.{answered}
-use Rattle.wat_lists.specs.declared.input.RunError.{RunError}
+use Rattle.wat_lists.specs.declared.input.RunFailure.{RunFailure}
 use Rattle.wat_commands.specs.Printed.{AppendsText, AppendsCut}
 use Rattle.wat_commands.specs.Writes.{Writes}
 
@@ -148,7 +148,7 @@ blanks_faulty settings text e a u l reports = record {
 }
 
 -- what is known of a call that wrote
-pub writes : {W : Type 0} (held : W → Option (List ℕ)) (failure : W → Option Failed) (prints : List ℕ → Option (Option Report) → Type 0) (output output' : W) (error : Option (Option Report)) (written : Result (Unit {0}) Failed) (answer : Result (Option (Option Report)) RunError)
+pub writes : {W : Type 0} (held : W → Option (List ℕ)) (failure : W → Option Failed) (prints : List ℕ → Option (Option Report) → Type 0) (output output' : W) (error : Option (Option Report)) (written : Result (Unit {0}) Failed) (answer : Result (Option (Option Report)) RunFailure)
     → answer ≡ answered written error → OnOk written (AppendsText prints error (held output) (held output')) → OnErr written (AppendsCut prints (held output) (held output'))
     → failure output ≡ None → failure output' ≡ failure_after (failure output) written → Writes held failure prints output output' answer
 writes held failure prints output output' error (Ok t) answer is all cut fresh failed = subst (Writes held failure prints output output') (sym is) (record {
@@ -188,13 +188,13 @@ gathered_cut text error old new (Err e) h = record { text = text; error = error;
 of_gathered : (prints : List ℕ → Option (Option Report) → Type 0) (text : List ℕ) (error : Option (Option Report)) (bytes : List ℕ) (e : Option (Option Report)) → prints text error → Gathered text error bytes e → prints bytes e
 of_gathered prints text error bytes e p g = subst (λ b. prints b e) (sym g.0) (subst (λ x. prints text x) (sym g.1) p)
 
-if_written : (prints : List ℕ → Option (Option Report) → Type 0) (text : List ℕ) (error : Option (Option Report)) (old new : Option (List ℕ)) (answer : Result (Option (Option Report)) RunError) → prints text error
+if_written : (prints : List ℕ → Option (Option Report) → Type 0) (text : List ℕ) (error : Option (Option Report)) (old new : Option (List ℕ)) (answer : Result (Option (Option Report)) RunFailure) → prints text error
     → IfOk answer (λ e. AppendsText (Gathered text error) e old new) → IfOk answer (λ e. AppendsText prints e old new)
 if_written prints text error old new (Ok e) p h = record { text = h.text; printed = of_gathered prints text error h.text e p h.printed; appended = h.appended }
 if_written prints text error old new (Err e) p h = tt
 
 -- where these are printed, they are written
-pub writes_as : {W : Type 0} (held : W → Option (List ℕ)) (write_failed : W → Option Failed) (prints : List ℕ → Option (Option Report) → Type 0) (output output' : W) (text : List ℕ) (error : Option (Option Report)) (answer : Result (Option (Option Report)) RunError)
+pub writes_as : {W : Type 0} (held : W → Option (List ℕ)) (write_failed : W → Option Failed) (prints : List ℕ → Option (Option Report) → Type 0) (output output' : W) (text : List ℕ) (error : Option (Option Report)) (answer : Result (Option (Option Report)) RunFailure)
     → prints text error → Writes held write_failed (Gathered text error) output output' answer → Writes held write_failed prints output output' answer
 writes_as held write_failed prints output output' text error answer p h = record {
   written = if_written prints text error (held output) (held output') answer p h.written;

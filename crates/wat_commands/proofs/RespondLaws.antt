@@ -3,7 +3,7 @@ use Rattle.std.proofs.Common.{◌≡◌, ◌⊎◌, inl, inr, ◌+◌, ◌<◌, 
 use Rattle.std.proofs.Math.Nat.{max_comm, max-le, le-max_left, le-max_right}
 use Rattle.std.proofs.lemmas.List.{take_more}
 use Rattle.std.specs.Prelude.{max, string_bytes, Option, IsSome, IfSome}
-use Rattle.wat_lines.specs.declared.ends.Failed.{Failed}
+use Rattle.wat_lines.specs.declared.failed.Failed.{Failed}
 use Rattle.wat_commands.specs.Options.{Word}
 use Rattle.wat_commands.specs.Outcomes.{status}
 use Rattle.wat_commands.specs.Responses.{GreatestOfEach, Runner, RanEach, RanFiles, worst}

@@ -1,5 +1,5 @@
 -- The words of the command line, and what they ask for. No part of the standard.
-use Rattle.std.specs.Prelude.{◌≡◌, ◌⊎◌, ◌≤◌, ◌+◌, ◌||◌, ◌&&◌, ◌==◌, nat_lt, not, ℕ, Bool, true, false, ⊤, List, [], ◌∷◌, ◌++◌, take, drop, length, codes, count_by, if◌then◌else◌, string_bytes, String, Option, Some, None, is_some, unwrap_or, All}
+use Rattle.std.specs.Prelude.{◌≡◌, ◌⊎◌, ◌≤◌, ◌+◌, ◌||◌, ◌&&◌, ◌==◌, nat_lt, not, ℕ, Bool, true, false, ⊤, List, [], ◌∷◌, ◌++◌, take, drop, length, codes, count_by, list_any, if◌then◌else◌, string_bytes, String, Option, Some, None, is_some, is_none, unwrap_or, All}
 use Rattle.std.specs.List.{prefix_len}
 use Rattle.std.specs.Str.{bytes_eq}
 use Rattle.std.specs.declared.alloc.Global.{Global}
@@ -8,6 +8,7 @@ use Rattle.wat_lexer_parser.specs.declared.parser.calls.Call.{Call}
 use Rattle.wat_lists.specs.Calls.{SpellsCall}
 use Rattle.wat_commands.specs.declared.options.Command.{Command}
 use Rattle.wat_commands.specs.declared.options.Command.TheVariants as command
+use Rattle.wat_commands.specs.declared.options.FileNames.{FileNames}
 use Rattle.wat_commands.specs.declared.options.Mode.{Mode}
 use Rattle.wat_commands.specs.declared.options.Mode.TheVariants as mode
 use Rattle.wat_commands.specs.declared.options.Task.{Task}
@@ -18,97 +19,106 @@ use Rattle.wat_commands.specs.declared.options.Verb.TheVariants as verb
 abbrev pub Word : Type 0
 Word = String Global
 
--- how often a word stands among the words
-abbrev pub occurrences : List ℕ → List Word → ℕ
-occurrences word words = count_by (λ other. bytes_eq (string_bytes other) word) words
+-- the word is this
+abbrev pub spells : List ℕ → Word → Bool
+spells text word = bytes_eq (string_bytes word) text
+
+-- an option that is a word alone
+abbrev pub is_flag : Word → Bool
+is_flag word = spells (codes "--allow-confusing") word || (spells (codes "--strict-underscores") word || spells (codes "--json") word)
+
+-- The options that the words begin with, the names of files that they give, and the words after them. An option is a flag, or `--file` and a name.
+pub record Front : Type 0 where
+  pub flags : List Word
+  pub files : List Word
+  pub rest : List Word
+
+abbrev pub with_flag : Word → Front → Front
+with_flag flag f = record { flags = flag ∷ f.flags; files = f.files; rest = f.rest }
+
+abbrev pub with_file : Word → Front → Front
+with_file file f = record { flags = f.flags; files = file ∷ f.files; rest = f.rest }
+
+abbrev pub no_options : List Word → Front
+no_options words = record { flags = []; files = []; rest = words }
+
+unfoldable pub front_of : List Word → Front
+front_of [] = no_options []
+front_of (word ∷ []) = if is_flag word then with_flag word (no_options []) else no_options (word ∷ [])
+front_of (word ∷ next ∷ words) =
+    if is_flag word then with_flag word (front_of (next ∷ words))
+    else if spells (codes "--file") word then with_file next (front_of words)
+    else no_options (word ∷ next ∷ words)
+
+-- how often a flag is given
+abbrev pub times : List ℕ → Front → ℕ
+times flag f = count_by (spells flag) f.flags
 
 -- once, or not at all
 abbrev pub once_if : Bool → ℕ
 once_if b = if b then 1 else 0
 
-abbrev pub is_option : List ℕ → Bool
-is_option word = bytes_eq word (codes "--allow-confusing") || (bytes_eq word (codes "--strict-underscores") || bytes_eq word (codes "--json"))
-
 -- the lists are to be lines of JSON
-abbrev pub wants_json : List Word → Bool
-wants_json words = nat_lt 0 (occurrences (codes "--json") words)
+abbrev pub wants_json : Front → Bool
+wants_json f = nat_lt 0 (times (codes "--json") f)
 
--- each option stands there once where its flag is set, and no other word does
-pub record Selects (words : List Word) (settings : Settings) : Type 0 where
-  pub allow : occurrences (codes "--allow-confusing") words ≡ once_if settings.allow
-  pub strict : occurrences (codes "--strict-underscores") words ≡ once_if settings.strict
-  pub json : occurrences (codes "--json") words ≡ once_if (wants_json words)
-  pub no_other : length words ≡ once_if settings.allow + once_if settings.strict + once_if (wants_json words)
-
--- how many options stand in front
-abbrev pub options_len : List Word → ℕ
-options_len words = prefix_len (λ word. is_option (string_bytes word)) words
-
--- the options in front, and the words behind them
-abbrev pub options_of : List Word → List Word
-options_of words = take (options_len words) words
-
-abbrev pub behind_options : List Word → List Word
-behind_options words = drop (options_len words) words
+-- each flag is given once where its setting is on, and else not
+pub record Selects (f : Front) (settings : Settings) : Type 0 where
+  pub allow : times (codes "--allow-confusing") f ≡ once_if settings.allow
+  pub strict : times (codes "--strict-underscores") f ≡ once_if settings.strict
+  pub json : times (codes "--json") f ≡ once_if (wants_json f)
 
 -- the command of a name
-abbrev pub verb_named : List ℕ → Option Verb
+abbrev pub verb_named : Word → Option Verb
 verb_named word =
-    if bytes_eq word (codes "list") then Some verb.List
-    else if bytes_eq word (codes "sig") then Some verb.Sig
-    else if bytes_eq word (codes "play") then Some verb.Play
-    else if bytes_eq word (codes "blank") then Some verb.Blank
-    else if bytes_eq word (codes "types") then Some verb.Types
-    else if bytes_eq word (codes "fmt") then Some verb.Fmt
+    if spells (codes "list") word then Some verb.List
+    else if spells (codes "sig") word then Some verb.Sig
+    else if spells (codes "play") word then Some verb.Play
+    else if spells (codes "blank") word then Some verb.Blank
+    else if spells (codes "types") word then Some verb.Types
+    else if spells (codes "fmt") word then Some verb.Fmt
     else None
 
--- the command that the words begin with, the list where they name none, and the words behind its name
+-- the command that the words begin with, the list where they name none, and the words after its name
 abbrev pub verb_of : List Word → Verb
 verb_of [] = verb.List
-verb_of (word ∷ words) = unwrap_or (verb_named (string_bytes word)) verb.List
+verb_of (word ∷ words) = unwrap_or (verb_named word) verb.List
 
-abbrev pub behind_verb : List Word → List Word
-behind_verb [] = []
-behind_verb (word ∷ words) = if is_some (verb_named (string_bytes word)) then words else word ∷ words
+abbrev pub after_verb : List Word → List Word
+after_verb [] = []
+after_verb (word ∷ words) = if is_some (verb_named word) then words else word ∷ words
 
 -- what is done with layouts, by the name of an option
-abbrev pub mode_named : List ℕ → Option Mode
+abbrev pub mode_named : Word → Option Mode
 mode_named word =
-    if bytes_eq word (codes "--check") then Some mode.Check
-    else if bytes_eq word (codes "--write") then Some mode.Write
+    if spells (codes "--check") word then Some mode.Check
+    else if spells (codes "--write") word then Some mode.Write
+    else if spells (codes "--diff") word then Some mode.Diff
     else None
 
--- what is done with layouts, by the words behind `fmt`: they are written where these say nothing else; and the words behind that
+-- what is done with layouts, by the words after `fmt`: they are written where these say nothing else; and the words after that
 abbrev pub mode_of : List Word → Mode
 mode_of [] = mode.Print
-mode_of (word ∷ words) = unwrap_or (mode_named (string_bytes word)) mode.Print
+mode_of (word ∷ words) = unwrap_or (mode_named word) mode.Print
 
-abbrev pub behind_mode : List Word → List Word
-behind_mode [] = []
-behind_mode (word ∷ words) = if is_some (mode_named (string_bytes word)) then words else word ∷ words
+abbrev pub after_mode : List Word → List Word
+after_mode [] = []
+after_mode (word ∷ words) = if is_some (mode_named word) then words else word ∷ words
 
--- how many words stand in front of `--`
+-- how many words come before `--`
 abbrev pub own_len : List Word → ℕ
-own_len words = prefix_len (λ word. not (bytes_eq (string_bytes word) (codes "--"))) words
+own_len words = prefix_len (λ word. not (spells (codes "--") word)) words
 
--- the words in front of `--`, and the words behind it
+-- the words before `--`, and the words after it
 abbrev pub own_words : List Word → List Word
 own_words words = take (own_len words) words
 
-abbrev pub file_words : List Word → List Word
-file_words words = drop (own_len words + 1) words
+abbrev pub last_words : List Word → List Word
+last_words words = drop (own_len words + 1) words
 
--- a name of annotations: no word with two dashes in front, and not `-h`
-abbrev pub is_name : List ℕ → Bool
-is_name word = not (bytes_eq (take 2 word) (codes "--")) && not (bytes_eq word (codes "-h"))
-
--- a file in front of `--`: `-`, or a word with no dash in front
-abbrev pub is_file : List ℕ → Bool
-is_file word = bytes_eq word (codes "-") || not (bytes_eq (take 1 word) (codes "-"))
-
--- each word passes the test
-abbrev pub AllPass : (List ℕ → Bool) → List Word → Type 0
-AllPass test words = All (λ word. test (string_bytes word) ≡ true) words
+-- a file before `--`: `-`, or a word with no dash in front
+abbrev pub is_file : Word → Bool
+is_file word = spells (codes "-") word || not (bytes_eq (take 1 (string_bytes word)) (codes "-"))
 
 -- each word stands for the call in its place
 abbrev pub SpellsCalls : List Word → List Call → Type 0
@@ -117,24 +127,24 @@ SpellsCalls [] (call ∷ calls) = ⊥
 SpellsCalls (word ∷ words) [] = ⊥
 SpellsCalls (word ∷ words) (call ∷ calls) = SpellsCall (string_bytes word) call × SpellsCalls words calls
 
--- a command, and the words in front of `--`, ask for this; and the options, where the lists are to be JSON, which else there is none of
+-- a command and the words after its name ask for this; and whether the lists are to be JSON, which else there is none of
 abbrev pub AsksTask : Verb → Bool → List Word → Task → Type 0
-AsksTask v json own task.List = (v ≡ verb.List) × (json ≡ false)
-AsksTask v json own (task.Sig names) = (v ≡ verb.Sig) × (json ≡ false) × (names.now ≡ own) × AllPass is_name own
-AsksTask v json own task.JsonList = (v ≡ verb.List) × (json ≡ true)
-AsksTask v json own (task.JsonSig names) = (v ≡ verb.Sig) × (json ≡ true) × (names.now ≡ own) × AllPass is_name own
-AsksTask v json own (task.Play calls) = (v ≡ verb.Play) × (json ≡ false) × SpellsCalls own calls.items
-AsksTask v json own task.Blank = (v ≡ verb.Blank) × (json ≡ false)
-AsksTask v json own task.Types = (v ≡ verb.Types) × (json ≡ false)
+AsksTask v json words task.List = (v ≡ verb.List) × (json ≡ false)
+AsksTask v json words (task.Sig names) = (v ≡ verb.Sig) × (json ≡ false) × (names.now ≡ words)
+AsksTask v json words task.JsonList = (v ≡ verb.List) × (json ≡ true)
+AsksTask v json words (task.JsonSig names) = (v ≡ verb.Sig) × (json ≡ true) × (names.now ≡ words)
+AsksTask v json words (task.Play calls) = (v ≡ verb.Play) × (json ≡ false) × SpellsCalls words calls.items
+AsksTask v json words task.Blank = (v ≡ verb.Blank) × (json ≡ false)
+AsksTask v json words task.Types = (v ≡ verb.Types) × (json ≡ false)
 
--- the words in front of `--` are files
-abbrev pub owns_files : Verb → Bool
-owns_files verb.List = true
-owns_files verb.Sig = false
-owns_files verb.Play = false
-owns_files verb.Blank = true
-owns_files verb.Types = true
-owns_files verb.Fmt = true
+-- all words after the command's name are its own; else they name files
+abbrev pub owns_words : Verb → Bool
+owns_words verb.List = false
+owns_words verb.Sig = true
+owns_words verb.Play = true
+owns_words verb.Blank = false
+owns_words verb.Types = false
+owns_words verb.Fmt = false
 
 -- the lists and `fmt` take any number of files, the others one at most
 abbrev pub takes_many : Verb → Bool
@@ -145,55 +155,71 @@ takes_many verb.Blank = false
 takes_many verb.Types = false
 takes_many verb.Fmt = true
 
--- a command's files: the words behind `--`, or else, where they are files, those in front of it
-pub record AsksFiles (v : Verb) (own behind files : List Word) : Type 0 where
-  pub named : files ≡ (if owns_files v && not (length own == 0) then own else behind)
-  pub plain : owns_files v ≡ true → AllPass is_file own × ((length own ≡ 0) ⊎ (length behind ≡ 0))
+-- words that name files: those before `--`, or, where there are none, those after it
+pub record NamesFiles (words files : List Word) : Type 0 where
+  pub named : files ≡ (if length (own_words words) == 0 then last_words words else own_words words)
+  pub plain : All (λ word. is_file word ≡ true) (own_words words)
+  pub alone : (length (own_words words) ≡ 0) ⊎ (length (last_words words) ≡ 0)
+
+-- the files that the words after a command's name ask for
+abbrev pub AsksFiles : Verb → List Word → List Word → Type 0
+AsksFiles v words files = if owns_words v then files ≡ [] else NamesFiles words files
+
+-- the files of a command: those of the options, and then those of its words
+abbrev pub file_names : FileNames → List Word
+file_names f = (front_of f.options.now).files ++ f.words.now
+
+-- the files of a command after options and a name, which are not too many
+pub record HasFiles (words : List Word) (v : Verb) (after : List Word) (files : List Word) : Type 0 where
+  pub own : List Word
+  pub named : AsksFiles v after own
+  pub all : files ≡ (front_of words).files ++ own
   pub few : (takes_many v ≡ true) ⊎ (length files ≤ 1)
 
--- the words behind the options ask for a task and name its files
-pub record AsksBehind (json : Bool) (words : List Word) (task : Task) (files : List Word) : Type 0 where
-  pub asked : AsksTask (verb_of words) json (own_words (behind_verb words)) task
-  pub named : AsksFiles (verb_of words) (own_words (behind_verb words)) (file_words (behind_verb words)) files
-
--- the words are options, and then those of a task with its files; `types` takes no options
+-- the words are options, and then those of a task with its files; `types` takes no flags
 pub record AsksRun (words : List Word) (settings : Settings) (task : Task) (files : List Word) : Type 0 where
-  pub selects : Selects (options_of words) settings
-  pub asks : AsksBehind (wants_json (options_of words)) (behind_options words) task files
-  pub bare : verb_of (behind_options words) ≡ verb.Types → length (options_of words) ≡ 0
+  pub selects : Selects (front_of words) settings
+  pub asked : AsksTask (verb_of (front_of words).rest) (wants_json (front_of words)) (after_verb (front_of words).rest) task
+  pub named : HasFiles words (verb_of (front_of words).rest) (after_verb (front_of words).rest) files
+  pub bare : verb_of (front_of words).rest ≡ verb.Types → (settings.allow ≡ false) × (settings.strict ≡ false)
 
--- the words behind `fmt` say what is done with layouts, of which there is no JSON, and name the files
-pub record AsksLayouts (json : Bool) (words : List Word) (m : Mode) (files : List Word) : Type 0 where
-  pub plain : json ≡ false
-  pub done : m ≡ mode_of words
-  pub named : AsksFiles verb.Fmt (own_words (behind_mode words)) (file_words (behind_mode words)) files
-
--- the words are options, and then `fmt` with its words and files
+-- the words are options, and then `fmt`, what is done with layouts, of which there is no JSON, and files
 pub record AsksFormat (words : List Word) (settings : Settings) (m : Mode) (files : List Word) : Type 0 where
-  pub selects : Selects (options_of words) settings
-  pub command : verb_of (behind_options words) ≡ verb.Fmt
-  pub asks : AsksLayouts (wants_json (options_of words)) (behind_verb (behind_options words)) m files
+  pub selects : Selects (front_of words) settings
+  pub command : verb_of (front_of words).rest ≡ verb.Fmt
+  pub plain : wants_json (front_of words) ≡ false
+  pub done : m ≡ mode_of (after_verb (front_of words).rest)
+  pub own : List Word
+  pub named : NamesFiles (after_mode (after_verb (front_of words).rest)) own
+  pub all : files ≡ (front_of words).files ++ own
 
 -- the first word
 abbrev pub begins_with : List ℕ → List Word → Bool
-begins_with word [] = false
-begins_with word (first ∷ words) = bytes_eq (string_bytes first) word
+begins_with text [] = false
+begins_with text (word ∷ words) = spells text word
 
--- what the words ask for
+abbrev pub asks_help : List Word → Bool
+asks_help words = begins_with (codes "--help") words || begins_with (codes "-h") words
+
+-- the words begin with the name of a command that is not `sig` or `play`
+abbrev pub begins_with_files : List Word → Bool
+begins_with_files [] = false
+begins_with_files (word ∷ words) = takes_files (verb_named word)
+  where
+    takes_files : Option Verb → Bool
+    takes_files None = false
+    takes_files (Some v) = not (owns_words v)
+
+-- what the words ask for: help, first of all or of a command that takes files; the version; a run; or layouts
 abbrev pub Asks : List Word → Command → Type 0
-Asks words command.Help = begins_with (codes "--help") words || begins_with (codes "-h") words ≡ true
+Asks words command.Help = asks_help words || (begins_with_files words && asks_help (after_verb words)) ≡ true
 Asks words command.Version = begins_with (codes "--version") words ≡ true
-Asks words (command.Run settings task files) = AsksRun words settings task files.now
-Asks words (command.Format settings m files) = AsksFormat words settings m files.now
+Asks words (command.Run settings task files) = AsksRun words settings task (file_names files)
+Asks words (command.Format settings m files) = AsksFormat words settings m (file_names files)
 
 -- the words are options, `play`, and then others
 abbrev pub AsksPlay : List Word → Type 0
-AsksPlay words = verb_of (behind_options words) ≡ verb.Play
-
--- the first of the words are options, and then `play`
-pub record BeginsToPlay (words : List Word) : Type 0 where
-  pub n : ℕ
-  pub play : AsksPlay (take n words)
+AsksPlay words = verb_of (front_of words).rest ≡ verb.Play
 
 -- the words ask for help, the version, a run, or layouts
 abbrev pub AsksSomething : List Word → Type 0
@@ -202,12 +228,17 @@ AsksSomething words = Asks words command.Help ⊎ (Asks words command.Version �
 abbrev pub AsksNothing : List Word → Type 0
 AsksNothing words = ¬ AsksSomething words
 
--- The wrong word: those in front of it ask for something, and with it they ask for nothing.
-pub record IsWrong (words : List Word) (wrong : List ℕ) : Type 0 where
-  pub front : List Word
-  pub word : Word
-  pub rest : List Word
-  pub cut : words ≡ front ++ word ∷ rest
-  pub text : string_bytes word ≡ wrong
-  pub fine : AsksSomething front
-  pub refused : AsksNothing (front ++ word ∷ [])
+-- a word that shows that it names a file: `-`, or one with a full stop or a solidus in it and no dash in front
+abbrev pub looks_like_file : Word → Bool
+looks_like_file word = spells (codes "-") word || (is_file word && list_any (λ b. b == 46 || b == 47) (string_bytes word))
+
+-- the word that is a file only where one of that name is there: the first after the options, where it is no command and does not show that it is a file
+abbrev pub file_in_question : List Word → Option Word
+file_in_question words = first (front_of words).rest
+  where
+    asked : Word → Option Word
+    asked word = if is_some (verb_named word) || (looks_like_file word || not (is_file word)) then None else Some word
+
+    first : List Word → Option Word
+    first [] = None
+    first (word ∷ words) = asked word

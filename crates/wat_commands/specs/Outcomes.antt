@@ -1,53 +1,60 @@
 -- What a run of the program ends in: its exit status, and its report on standard error. No part of the standard.
 use Rattle.std.specs.Prelude.{◌≡◌, ◌⊎◌, ◌==◌, ◌&&◌, ◌||◌, ℕ, Bool, false, List, [], ◌++◌, codes, Option, Some, None, IfSome, Result, Ok, Err, if◌then◌else◌}
 use Rattle.std.specs.Io.KnownBytes.{Appends, Keeps}
-use Rattle.std.specs.Str.{bytes_eq}
 use Rattle.wat_lex.specs.errors.Errors.{Report, lex_error_of, offset_of}
 use Rattle.wat_lex.specs.declared.lexer.faults.LexError.{LexError}
 use Rattle.wat_lex.specs.declared.lexer.faults.LexError.TheVariants.{Unexpected}
 use Rattle.wat_lex.specs.declared.lexer.settings.Settings.{Settings}
 use Rattle.wat_lines.specs.Causes.{cause, is_closed_pipe}
-use Rattle.wat_lines.specs.declared.ends.Failed.{Failed}
+use Rattle.wat_lines.specs.declared.failed.Failed.{Failed}
 use Rattle.wat_lists.specs.Blanks.{Blanks}
 use Rattle.wat_lists.specs.JsonLists.{JsonLists, JsonShows}
 use Rattle.wat_lists.specs.Lists.{Lists}
 use Rattle.wat_lists.specs.Places.{shown_in, of_file}
-use Rattle.wat_lists.specs.Refusals.{refusal}
+use Rattle.wat_lists.specs.Refusals.{bare_refusal, error_of, refusal}
 use Rattle.wat_lists.specs.Replies.{Plays}
 use Rattle.wat_lists.specs.Shows.{Shows}
-use Rattle.wat_lists.specs.declared.input.RunError.{RunError}
-use Rattle.wat_lists.specs.declared.input.RunError.TheVariants.{Read, TooLong, NotUtf8, Write, Memory}
+use Rattle.wat_lists.specs.declared.input.RunFailure.{RunFailure}
+use Rattle.wat_lists.specs.declared.input.RunFailure.TheVariants.{Read, TooLong, NotUtf8, Write, Memory}
 use Rattle.wat_commands.specs.Compiles.{Compiles}
-use Rattle.wat_commands.specs.Options.{is_option, is_file}
+use Rattle.wat_commands.specs.Complaints.{complaint}
 use Rattle.wat_commands.specs.Printed.{Prints, AppendsText, AppendsCut}
-use Rattle.wat_commands.specs.Runs.{Runs}
+use Rattle.wat_commands.specs.Runs.{RunsWithCause}
+use Rattle.wat_commands.specs.declared.complaint.Complaint.{Complaint}
+use Rattle.wat_commands.specs.declared.complaint.Complaint.TheVariants.{Usage, Twice, Nameless, Late, Unknown, Nothing, NoJson, NoFlags, NoCall, Mixed, TooMany}
 use Rattle.wat_commands.specs.declared.options.Task.{Task}
 use Rattle.wat_commands.specs.declared.options.Task.TheVariants as task
+use Rattle.wat_commands.specs.declared.outcome.Exit.{Exit}
 use Rattle.wat_commands.specs.declared.outcome.Outcome.{Outcome}
-use Rattle.wat_commands.specs.declared.outcome.Outcome.TheVariants.{Listed, Faulty, Refused, Unopened, Wrong, Unread}
+use Rattle.wat_commands.specs.declared.outcome.Outcome.TheVariants.{Listed, Faulty, Refused, Unopened, Wrong, Differs, Kept}
 
 -- what a run ended in
-abbrev pub outcome_of : Result (Option (Option Report)) RunError → Outcome
+abbrev pub outcome_of : Result (Option (Option Report)) RunFailure → Outcome
 outcome_of (Ok None) = Listed
 outcome_of (Ok (Some error)) = Faulty error
-outcome_of (Err error) = Refused error
+outcome_of (Err failure) = Refused failure
 
--- nobody reads what is written, so nobody is told
-abbrev pub is_unread : RunError → Bool
-is_unread (Read failed) = false
-is_unread TooLong = false
-is_unread (NotUtf8 offset) = false
-is_unread (Write failed) = is_closed_pipe failed
-is_unread (Memory refused) = false
+-- what is written of a file goes to a pipe that nobody reads, so nothing is reported
+abbrev pub is_unread : Bool → RunFailure → Bool
+is_unread named (Read failed) = false
+is_unread named TooLong = false
+is_unread named (NotUtf8 offset) = false
+is_unread named (Write failed) = named && is_closed_pipe failed
+is_unread named (Memory refused) = false
 
--- 0 where all is written, or nobody reads it; 1 where the text has a fault or is refused; 2 otherwise
-abbrev pub status : Outcome → ℕ
-status Listed = 0
-status (Faulty error) = 1
-status (Refused error) = if is_unread error then 0 else 2
-status (Unopened failed) = 2
-status (Wrong word) = 2
-status Unread = 2
+-- 0 where all is written, or nobody reads what is written of a file; 1 where the text has a fault, is refused or is not laid out; 2 otherwise
+abbrev pub status : Bool → Outcome → ℕ
+status named Listed = 0
+status named (Faulty error) = 1
+status named (Refused failure) = if is_unread named failure then 0 else 2
+status named (Unopened failed) = 2
+status named (Wrong complaint) = 2
+status named Differs = 1
+status named (Kept reason) = 2
+
+-- the number of an exit status
+abbrev pub exit_code : Exit → ℕ
+exit_code exit = exit.code
 
 -- The text begins with a byte order mark, and that is its fault.
 abbrev pub is_marked : Option Report → Bool
@@ -61,24 +68,38 @@ is_marked error = offset_of error == 0 && is_mark (lex_error_of error)
 abbrev pub hint : Option Report → List ℕ
 hint error = if is_marked error then codes "\nthe text begins with a byte order mark, which has to go" else []
 
--- what is said of a wrong word
-abbrev pub complaint : List ℕ → List ℕ
-complaint word =
-    if is_option word || (bytes_eq word (codes "--check") || (bytes_eq word (codes "--write") || (bytes_eq word (codes "--help") || (bytes_eq word (codes "-h") || bytes_eq word (codes "--version"))))) then codes "misplaced option"
-    else if is_file word then codes "unexpected word"
-    else codes "unknown option"
+-- what is reported of a refusal: with its cause where the input has a name
+abbrev pub refused : Option (List ℕ) → RunFailure → List ℕ
+refused None failure = codes "wat_tokens: " ++ (bare_refusal (error_of failure) ++ codes "\n")
+refused (Some name) failure = if is_unread true failure then [] else codes "wat_tokens: " ++ (of_file (Some name) ++ (refusal failure ++ codes "\n"))
 
-abbrev pub usage : List ℕ
-usage = codes "usage: wat_tokens [OPTION..] [list | sig NAME.. | play CALL.. | blank | types | fmt [--check | --write]] [--] [FILE..]; --help says more"
+-- what is wrong with words, and where more is said
+abbrev said : List ℕ → List ℕ
+said text = codes "wat_tokens: " ++ (text ++ codes "\nwat_tokens --help lists the commands and their options\n")
 
--- what stands on standard error: of a file's text, or of that of standard input
+-- what is reported of wrong words: the usage line alone, or what is wrong, and where more is said
+abbrev pub objection : Complaint → List ℕ
+objection Usage = complaint Usage ++ codes "\n"
+objection (Twice word) = said (complaint (Twice word))
+objection Nameless = said (complaint Nameless)
+objection (Late word) = said (complaint (Late word))
+objection (Unknown word) = said (complaint (Unknown word))
+objection (Nothing word) = said (complaint (Nothing word))
+objection NoJson = said (complaint NoJson)
+objection NoFlags = said (complaint NoFlags)
+objection NoCall = said (complaint NoCall)
+objection Mixed = said (complaint Mixed)
+objection TooMany = said (complaint TooMany)
+
+-- what is on standard error: of the text of an input with a name, or of standard input without one
 abbrev pub report : Option (List ℕ) → Outcome → List ℕ
 report name Listed = []
 report name (Faulty error) = shown_in name error ++ hint error ++ codes "\n"
-report name (Refused error) = if is_unread error then [] else codes "wat_tokens: " ++ (of_file name ++ (refusal error ++ codes "\n"))
+report name (Refused failure) = refused name failure
 report name (Unopened failed) = codes "wat_tokens: " ++ (of_file name ++ (codes "open failed" ++ (cause failed ++ codes "\n")))
-report name (Wrong word) = codes "wat_tokens: " ++ (complaint word.now ++ (codes ": " ++ (word.now ++ (codes "\n" ++ (usage ++ codes "\n")))))
-report name Unread = codes "wat_tokens: the words are no text\n" ++ usage ++ codes "\n"
+report name (Wrong complaint) = objection complaint
+report name Differs = []
+report name (Kept reason) = codes "wat_tokens: " ++ (of_file name ++ (reason.now ++ codes "\n"))
 
 -- What is reported of a fault is written. It leaves out the file's name where there is no memory for it.
 abbrev pub TellsFault : Option (List ℕ) → Option Report → Option (List ℕ) → Option (List ℕ) → Type 0
@@ -88,10 +109,11 @@ TellsFault name error old new = Appends old new (report name (Faulty error)) ⊎
 abbrev pub Tells : Option (List ℕ) → Outcome → Option (List ℕ) → Option (List ℕ) → Type 0
 Tells name Listed old new = Appends old new (report name Listed)
 Tells name (Faulty error) old new = TellsFault name error old new
-Tells name (Refused error) old new = Appends old new (report name (Refused error))
+Tells name (Refused failure) old new = Appends old new (report name (Refused failure))
 Tells name (Unopened failed) old new = Appends old new (report name (Unopened failed))
-Tells name (Wrong word) old new = Appends old new (report name (Wrong word))
-Tells name Unread old new = Appends old new (report name Unread)
+Tells name (Wrong complaint) old new = Appends old new (report name (Wrong complaint))
+Tells name Differs old new = Appends old new (report name Differs)
+Tells name (Kept reason) old new = Appends old new (report name (Kept reason))
 
 -- what the known bytes of the output have become where these texts are printed of the input's bytes
 abbrev pub Responds : (List ℕ → Option (Option Report) → Type 0) → Outcome → Option (List ℕ) → Option (List ℕ) → Type 0
@@ -103,22 +125,23 @@ Responds prints (Refused TooLong) old new = Keeps old new
 Responds prints (Refused (NotUtf8 offset)) old new = Keeps old new
 Responds prints (Refused (Memory refused)) old new = Keeps old new
 Responds prints (Unopened failed) old new = ⊥
-Responds prints (Wrong word) old new = ⊥
-Responds prints Unread old new = ⊥
+Responds prints (Wrong complaint) old new = ⊥
+Responds prints Differs old new = ⊥
+Responds prints (Kept reason) old new = ⊥
 
--- what a task prints
-abbrev pub task_prints : Settings → Task → Prints
-task_prints s task.List = Lists s
-task_prints s (task.Sig names) = Shows s names.now
-task_prints s task.JsonList = JsonLists s
-task_prints s (task.JsonSig names) = JsonShows s names.now
-task_prints s (task.Play calls) = Plays s calls.items
-task_prints s task.Blank = Blanks s
-task_prints s task.Types = Compiles
+-- what a task prints, of the text of a file of this name, if it has one
+abbrev pub task_prints : Settings → Option (List ℕ) → Task → Prints
+task_prints s file task.List = Lists s
+task_prints s file (task.Sig names) = Shows s names.now
+task_prints s file task.JsonList = JsonLists s file
+task_prints s file (task.JsonSig names) = JsonShows s file names.now
+task_prints s file (task.Play calls) = Plays s calls.items
+task_prints s file task.Blank = Blanks s
+task_prints s file task.Types = Compiles
 
 -- What is known of a run that ended in this outcome.
 pub record Ran {S T : Type 0} (left : S → Option (List ℕ)) (read_failed : S → Option Failed) (has_ended : S → Bool) (held : T → Option (List ℕ)) (write_failed : T → Option Failed) (prints : Prints) (input input' : S) (output output' : T) (outcome : Outcome) : Type 0 where
-  pub run : Result (Option (Option Report)) RunError
-  pub runs : Runs left read_failed has_ended held write_failed prints input input' output output' run
+  pub run : Result (Option (Option Report)) RunFailure
+  pub runs : RunsWithCause left read_failed has_ended held write_failed prints input input' output output' run
   pub outcome_is : outcome ≡ outcome_of run
   pub responds : IfSome (left input) (λ bytes. Responds (prints bytes) outcome (held output) (held output'))

@@ -1,6 +1,7 @@
 -- What a run writes of the bytes that it has read: one of the texts that are printed of them, with the error that is reported. No
 -- part of the standard.
 use Rattle.std.specs.Prelude.{ℕ, List, Option}
+use Rattle.std.specs.Option.{option_map}
 use Rattle.std.specs.Io.KnownBytes.{Appends}
 use Rattle.wat_lex.specs.errors.Errors.{Report}
 use Rattle.wat_lex.specs.declared.lexer.settings.Settings.{Settings}
@@ -22,8 +23,8 @@ Prints = List ℕ → List ℕ → Option (Option Report) → Type 0
 abbrev pub prints : Settings → Printing → Prints
 prints s printing.Raw = Lists s
 prints s (printing.Shown names) = Shows s names.now
-prints s printing.JsonRaw = JsonLists s
-prints s (printing.JsonShown names) = JsonShows s names.now
+prints s (printing.JsonRaw file) = JsonLists s (option_map (λ f. f.now) file)
+prints s (printing.JsonShown names file) = JsonShows s (option_map (λ f. f.now) file) names.now
 prints s (printing.Replies calls) = Plays s calls.now
 prints s printing.Blank = Blanks s
 prints s printing.Types = Compiles

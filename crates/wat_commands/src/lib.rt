@@ -4,6 +4,7 @@
 //! spells.
 #![tactic(auto)]
 
+pub mod complaint;
 pub mod help;
 pub mod options;
 pub mod outcome;

@@ -1,6 +1,7 @@
 //! The words of the command line.
-ghost use Rattle.std.specs.Prelude.{◌≡◌, ◌↔◌, ◌≤◌, ◌<◌, true, IfOk, OnErr, IfSome, IfNone, IsTrue};
-ghost use Rattle.std.specs.Prelude.{MatchOption, MatchResult, List, take, length, ◌+◌};
+ghost use Rattle.std.specs.Prelude.{◌≡◌, ◌↔◌, ◌<◌, true, false, IfOk, OnErr, IfSome, IfNone, IsTrue};
+ghost use Rattle.std.specs.Prelude.{MatchOption, List, length};
+ghost use Rattle.std.specs.Option.{option_map};
 ghost use Rattle.std.specs.declared.alloc.Global.{Global};
 ghost use Rattle.std.specs.declared.string.String.{String};
 ghost use Rattle.wat_lex.specs.declared.lexer.settings.Settings.{Settings};
@@ -9,15 +10,14 @@ ghost use Rattle.wat_commands.specs.declared.options.Command.{Command};
 ghost use Rattle.wat_commands.specs.declared.options.Mode.{Mode};
 ghost use Rattle.wat_commands.specs.declared.options.Task.{Task};
 ghost use Rattle.wat_commands.specs.declared.options.Verb.TheVariants as verbs;
-ghost use Rattle.wat_commands.specs.Options.{occurrences, is_option, options_len, Selects};
-ghost use Rattle.wat_commands.specs.Options.{wants_json};
-ghost use Rattle.wat_commands.specs.Options.{verb_named, verb_of, behind_verb, own_len, own_words};
-ghost use Rattle.wat_commands.specs.Options.{file_words, mode_named, mode_of, behind_mode};
-ghost use Rattle.wat_commands.specs.Options.{is_name, is_file, owns_files, takes_many, AllPass};
-ghost use Rattle.wat_commands.specs.Options.{SpellsCalls, AsksTask, AsksFiles, AsksBehind, AsksRun};
-ghost use Rattle.wat_commands.specs.Options.{AsksLayouts, AsksFormat};
-ghost use Rattle.wat_commands.specs.Options.{begins_with, Asks, AsksPlay, AsksNothing};
-ghost use Rattle.wat_commands.specs.Options.{AsksSomething, BeginsToPlay, IsWrong};
+ghost use Rattle.wat_commands.specs.Options.{front_of, no_options, times, wants_json, Selects};
+ghost use Rattle.wat_commands.specs.Options.{spells, verb_named, verb_of, after_verb, mode_named, mode_of};
+ghost use Rattle.wat_commands.specs.Options.{after_mode, own_len, own_words, last_words, is_file};
+ghost use Rattle.wat_commands.specs.Options.{owns_words, takes_many, file_names, SpellsCalls, AsksTask};
+ghost use Rattle.wat_commands.specs.Options.{HasFiles, NamesFiles, AsksFiles, AsksRun, AsksFormat, begins_with};
+ghost use Rattle.wat_commands.specs.Options.{asks_help, begins_with_files, Asks, AsksPlay, AsksNothing};
+ghost use Rattle.wat_commands.specs.Options.{looks_like_file, file_in_question};
+ghost use Rattle.wat_commands.specs.OptionSteps.{IsStep, IsNext};
 
 use std::alloc::{AllocError, Global};
 use wat_lex::lexer::Settings;
@@ -52,6 +52,15 @@ pub enum Mode {
     Check,
     /// The file becomes it, where it is not that already.
     Write,
+    /// The lines that differ are written, as a unified diff.
+    Diff,
+}
+
+/// The names of the files of a command: those of its options, and then those of its words.
+#[derive(Clone, Copy)]
+pub struct FileNames<'a> {
+    options: &'a [String],
+    words: &'a [String],
 }
 
 /// What the words of the command line ask for.
@@ -63,15 +72,15 @@ pub enum Command<'a> {
     Version,
     /// What is written of the texts of these files, which are read with these settings; of standard
     /// input where there is none.
-    Run(Settings, Task<'a>, &'a [String]),
+    Run(Settings, Task<'a>, FileNames<'a>),
     /// What is done with the layouts of the texts of these files, which are read with these settings;
     /// of standard input where there is none.
-    Format(Settings, Mode, &'a [String]),
+    Format(Settings, Mode, FileNames<'a>),
 }
 
 /// The name of a command.
 #[derive(Clone, Copy, PartialEq, Eq)]
-enum Verb {
+pub(crate) enum Verb {
     List,
     Sig,
     Play,
@@ -80,56 +89,139 @@ enum Verb {
     Fmt,
 }
 
-/// How often a word stands among the words.
-fn occurrences(word: &str, words: &[String]) -> usize
-    ensures { result ≡ occurrences word.now words.now }
-{
-    words.iter().filter(|other| other.as_str() == word).count()
+/// An option that is a word alone.
+#[derive(Clone, Copy, PartialEq, Eq)]
+pub(crate) enum Flag {
+    Allow,
+    Strict,
+    Json,
 }
 
-/// The settings that the words ask for: each option at most once, in any order, and no other word.
-fn settings_of(words: &[String]) -> Option<Settings>
-    ensures selected { IfSome result (λ settings. Selects words.now settings) }
-    ensures refused { IfNone result ((settings : Settings) → ¬ Selects words.now settings) }
+/// An option.
+#[derive(Clone, Copy)]
+pub(crate) enum Given<'a> {
+    Flag(Flag),
+    /// The name of a file.
+    File(&'a str),
+}
+
+/// How often each flag is given in front of the other words, and these.
+#[derive(Clone, Copy)]
+pub(crate) struct Front<'a> {
+    pub(crate) allow: usize,
+    pub(crate) strict: usize,
+    pub(crate) json: usize,
+    pub(crate) rest: &'a [String],
+}
+
+/// The option that the words begin with, and the words after it.
+pub(crate) fn next_option(words: &[String]) -> Option<(Given<'_>, &[String])>
+    ensures { MatchOption result (front_of words.now ≡ no_options words.now)
+        (λ r. IsStep words.now r.0 r.1.now) }
 {
-    let allow = occurrences("--allow-confusing", words);
-    let strict = occurrences("--strict-underscores", words);
-    let json = occurrences("--json", words);
-    if allow > 1 || strict > 1 || json > 1 || allow + strict + json != words.len() {
+    let (word, rest) = words.split_first()?;
+    let flag = match word.as_str() {
+        "--allow-confusing" => Flag::Allow,
+        "--strict-underscores" => Flag::Strict,
+        "--json" => Flag::Json,
+        "--file" => {
+            let (name, after) = rest.split_first()?;
+            return Some((Given::File(name.as_str()), after));
+        }
+        _ => return None,
+    };
+    Some((Given::Flag(flag), rest))
+}
+
+/// The flags in front of the other words, and these.
+pub(crate) fn read_front(words: &[String]) -> Front<'_>
+    ensures allow { result.allow ≡ times (codes "--allow-confusing") (front_of words.now) }
+    ensures strict { result.strict ≡ times (codes "--strict-underscores") (front_of words.now) }
+    ensures json { result.json ≡ times (codes "--json") (front_of words.now) }
+    ensures rest { result.rest.now ≡ (front_of words.now).rest }
+{
+    let mut front = Front {
+        allow: 0,
+        strict: 0,
+        json: 0,
+        rest: words,
+    };
+    while let Some((given, rest)) = next_option(front.rest) {
+        match given {
+            Given::Flag(Flag::Allow) => front.allow += 1,
+            Given::Flag(Flag::Strict) => front.strict += 1,
+            Given::Flag(Flag::Json) => front.json += 1,
+            Given::File(_) => {}
+        }
+        front.rest = rest;
+    }
+    front
+}
+
+impl<'a> FileNames<'a> {
+    /// The files that options give.
+    pub(crate) fn of_options(words: &'a [String]) -> FileNames<'a>
+        ensures { file_names result ≡ (front_of words.now).files }
+    {
+        FileNames {
+            options: words,
+            words: &[],
+        }
+    }
+
+    /// Takes the next name.
+    pub fn next(&mut self) -> Option<&'a str>
+        ensures { MatchOption result (file_names self.old ≡ [])
+            (λ name. IsNext (file_names self.old) name.now (file_names self.new)) }
+    {
+        while let Some((given, rest)) = next_option(self.options) {
+            self.options = rest;
+            if let Given::File(name) = given {
+                return Some(name);
+            }
+        }
+        let (name, rest) = self.words.split_first()?;
+        self.words = rest;
+        Some(name.as_str())
+    }
+
+    /// Whether there are several.
+    pub fn are_several(&self) -> bool
+        ensures { IsTrue result ↔ 1 < length (file_names self.now) }
+    {
+        let mut rest = *self;
+        rest.next().is_some() && rest.next().is_some()
+    }
+
+    /// Whether there is none.
+    pub fn are_none(&self) -> bool
+        ensures { IsTrue result ↔ (file_names self.now ≡ []) }
+    {
+        let mut rest = *self;
+        rest.next().is_none()
+    }
+}
+
+/// The settings that the options ask for, each of which is given at most once.
+fn settings_of(words: &[String]) -> Option<Settings>
+    ensures selected { IfSome result (λ settings. Selects (front_of words.now) settings) }
+    ensures refused { IfNone result ((settings : Settings) → ¬ Selects (front_of words.now) settings) }
+{
+    let front = read_front(words);
+    if front.allow > 1 || front.strict > 1 || front.json > 1 {
         return None;
     }
     Some(Settings {
-        allow: allow == 1,
-        strict: strict == 1,
+        allow: front.allow == 1,
+        strict: front.strict == 1,
     })
 }
 
-/// Whether the lists are to be lines of JSON.
-fn wants_json(words: &[String]) -> bool
-    ensures { result ≡ wants_json words.now }
-{
-    occurrences("--json", words) > 0
-}
-
-/// Whether the word is an option that stands in front of a command.
-pub fn is_option(word: &str) -> bool
-    ensures { result ≡ is_option word.now }
-{
-    word == "--allow-confusing" || word == "--strict-underscores" || word == "--json"
-}
-
-/// How many options stand in front.
-fn options_len(words: &[String]) -> usize
-    ensures { result ≡ options_len words.now }
-{
-    words.iter().take_while(|word| is_option(word)).count()
-}
-
 /// The command of a name.
-fn verb_named(word: &str) -> Option<Verb>
+pub(crate) fn verb_named(word: &String) -> Option<Verb>
     ensures { result ≡ verb_named word.now }
 {
-    match word {
+    match word.as_str() {
         "list" => Some(Verb::List),
         "sig" => Some(Verb::Sig),
         "play" => Some(Verb::Play),
@@ -140,10 +232,10 @@ fn verb_named(word: &str) -> Option<Verb>
     }
 }
 
-/// The command that the words begin with, and the words behind its name.
-fn split_verb(words: &[String]) -> (Verb, &[String])
+/// The command that the words begin with, and the words after its name.
+pub(crate) fn split_verb(words: &[String]) -> (Verb, &[String])
     ensures verb { result.0 ≡ verb_of words.now }
-    ensures behind { result.1.now ≡ behind_verb words.now }
+    ensures after { result.1.now ≡ after_verb words.now }
 {
     let Some((word, rest)) = words.split_first() else {
         return (Verb::List, words);
@@ -155,20 +247,21 @@ fn split_verb(words: &[String]) -> (Verb, &[String])
 }
 
 /// What is done with layouts, by the name of an option.
-fn mode_named(word: &str) -> Option<Mode>
+fn mode_named(word: &String) -> Option<Mode>
     ensures { result ≡ mode_named word.now }
 {
-    match word {
+    match word.as_str() {
         "--check" => Some(Mode::Check),
         "--write" => Some(Mode::Write),
+        "--diff" => Some(Mode::Diff),
         _ => None,
     }
 }
 
-/// What is done with layouts, by the words behind `fmt`, and those of them that stand behind that.
-fn split_mode(words: &[String]) -> (Mode, &[String])
+/// What is done with layouts, by the words after `fmt`, and those of them that come after that.
+pub(crate) fn split_mode(words: &[String]) -> (Mode, &[String])
     ensures mode { result.0 ≡ mode_of words.now }
-    ensures behind { result.1.now ≡ behind_mode words.now }
+    ensures after { result.1.now ≡ after_mode words.now }
 {
     let Some((word, rest)) = words.split_first() else {
         return (Mode::Print, words);
@@ -179,7 +272,7 @@ fn split_mode(words: &[String]) -> (Mode, &[String])
     }
 }
 
-/// How many words stand in front of `--`.
+/// How many words come before `--`.
 fn own_len(words: &[String]) -> usize
     ensures { result ≡ own_len words.now }
 {
@@ -189,10 +282,10 @@ fn own_len(words: &[String]) -> usize
         .count()
 }
 
-/// The words in front of `--`, and the words behind it.
+/// The words before `--`, and the words after it.
 fn split_files(words: &[String]) -> (&[String], &[String])
     ensures own { result.0.now ≡ own_words words.now }
-    ensures files { result.1.now ≡ file_words words.now }
+    ensures last { result.1.now ≡ last_words words.now }
 {
     let (own, rest) = words.split_at(own_len(words));
     match rest.split_first() {
@@ -201,45 +294,32 @@ fn split_files(words: &[String]) -> (&[String], &[String])
     }
 }
 
-/// Whether the word may name annotations.
-fn is_name(word: &str) -> bool
-    ensures { result ≡ is_name word.now }
-{
-    !word.as_bytes().starts_with(b"--") && word != "-h"
-}
-
-/// Whether the word may stand for a file in front of `--`.
-pub(crate) fn is_file(word: &str) -> bool
+/// Whether the word may name a file before `--`.
+pub(crate) fn is_file(word: &String) -> bool
     ensures { result ≡ is_file word.now }
 {
-    word == "-" || !word.as_bytes().starts_with(b"-")
-}
-
-fn are_names(words: &[String]) -> bool
-    ensures { IsTrue result ↔ AllPass is_name words.now }
-{
-    words.iter().all(|word| is_name(word))
+    word.as_str() == "-" || !word.as_bytes().starts_with(b"-")
 }
 
 fn are_files(words: &[String]) -> bool
-    ensures { IsTrue result ↔ AllPass is_file words.now }
+    ensures { IsTrue result ↔ All (λ word. is_file word ≡ true) words.now }
 {
     words.iter().all(|word| is_file(word))
 }
 
 impl Verb {
-    /// Whether the words in front of `--` are files.
-    fn owns_files(self) -> bool
-        ensures { result ≡ owns_files self }
+    /// Whether all words after the name are its own, and name no files.
+    pub(crate) fn owns_words(self) -> bool
+        ensures { result ≡ owns_words self }
     {
         match self {
-            Verb::List | Verb::Blank | Verb::Types | Verb::Fmt => true,
-            Verb::Sig | Verb::Play => false,
+            Verb::List | Verb::Blank | Verb::Types | Verb::Fmt => false,
+            Verb::Sig | Verb::Play => true,
         }
     }
 
     /// Whether there may be several files.
-    fn takes_many(self) -> bool
+    pub(crate) fn takes_many(self) -> bool
         ensures { result ≡ takes_many self }
     {
         match self {
@@ -265,163 +345,172 @@ fn read_calls(alloc: Global, words: &[String]) -> Result<Option<Vec<Call>>, Allo
     Ok(Some(calls))
 }
 
-/// What a command asks for as JSON with the words in front of `--`. Only the lists are JSON.
-fn json_task_of(verb: Verb, own: &[String]) -> Option<Task<'_>>
-    ensures { MatchOption result ((t : Task) → ¬ AsksTask verb true own.now t)
-        (AsksTask verb true own.now) }
+/// What a command asks for as JSON with the words after its name. Only the lists are JSON.
+fn json_task_of(verb: Verb, words: &[String]) -> Option<Task<'_>>
+    ensures { MatchOption result ((t : Task) → ¬ AsksTask verb true words.now t)
+        (AsksTask verb true words.now) }
 {
     match verb {
         Verb::List => Some(Task::JsonList),
-        Verb::Sig if are_names(own) => Some(Task::JsonSig(own)),
-        Verb::Sig | Verb::Play | Verb::Blank | Verb::Types | Verb::Fmt => None,
+        Verb::Sig => Some(Task::JsonSig(words)),
+        Verb::Play | Verb::Blank | Verb::Types | Verb::Fmt => None,
     }
 }
 
-/// What a command asks for with the words in front of `--`, as JSON or not.
+/// What a command asks for with the words after its name, as JSON or not.
 fn task_of<'a>(
     alloc: Global,
     verb: Verb,
     json: bool,
-    own: &'a [String],
+    words: &'a [String],
 ) -> Result<Option<Task<'a>>, AllocError>
     ensures asked { IfOk result (λ task.
-        MatchOption task ((t : Task) → ¬ AsksTask verb json own.now t) (AsksTask verb json own.now)) }
+        MatchOption task ((t : Task) → ¬ AsksTask verb json words.now t) (AsksTask verb json words.now)) }
     ensures refused { OnErr result (verb ≡ verbs.Play) }
 {
     if json {
-        return Ok(json_task_of(verb, own));
+        return Ok(json_task_of(verb, words));
     }
     Ok(match verb {
         Verb::List => Some(Task::List),
-        Verb::Sig if are_names(own) => Some(Task::Sig(own)),
-        Verb::Sig => None,
-        Verb::Play => read_calls(alloc, own)?.map(|calls| Task::Play(calls)),
+        Verb::Sig => Some(Task::Sig(words)),
+        Verb::Play => read_calls(alloc, words)?.map(|calls| Task::Play(calls)),
         Verb::Blank => Some(Task::Blank),
         Verb::Types => Some(Task::Types),
         Verb::Fmt => None,
     })
 }
 
-/// The files of a command with these words in front of `--`, and these behind it.
-fn files_of<'a>(verb: Verb, own: &'a [String], behind: &'a [String]) -> Option<&'a [String]>
-    ensures asked { IfSome result (λ files. AsksFiles verb own.now behind.now files.now) }
+/// The files that words name: those before `--`, or else those after it.
+fn named_files(words: &[String]) -> Option<&[String]>
+    ensures asked { IfSome result (λ files. NamesFiles words.now files.now) }
     ensures refused { IfNone result
-        ((files : List (String Global)) → ¬ AsksFiles verb own.now behind.now files) }
+        ((files : List (String Global)) → ¬ NamesFiles words.now files) }
 {
-    let mut files = behind;
-    if verb.owns_files() && !own.is_empty() {
-        if !are_files(own) || !behind.is_empty() {
-            return None;
-        }
-        files = own;
+    let (own, last) = split_files(words);
+    if own.is_empty() {
+        return Some(last);
     }
-    if files.len() > 1 && !verb.takes_many() {
+    if !are_files(own) || !last.is_empty() {
         return None;
     }
-    Some(files)
+    Some(own)
 }
 
-/// What the words behind the options ask for, as JSON or not.
-fn behind_options<'a>(
-    alloc: Global,
-    json: bool,
-    words: &'a [String],
-) -> Result<Option<(Task<'a>, &'a [String])>, AllocError>
-    ensures asked { IfOk result (λ read. MatchOption read
-        ((task : Task) (files : List (String Global)) → ¬ AsksBehind json words.now task files)
-        (λ r. AsksBehind json words.now r.0 r.1.now)) }
-    ensures refused { OnErr result (verb_of words.now ≡ verbs.Play) }
+/// The files that the words after a command's name ask for.
+fn files_of(verb: Verb, words: &[String]) -> Option<&[String]>
+    ensures asked { IfSome result (λ files. AsksFiles verb words.now files.now) }
+    ensures refused { IfNone result
+        ((files : List (String Global)) → ¬ AsksFiles verb words.now files) }
 {
-    let (verb, rest) = split_verb(words);
-    let (own, behind) = split_files(rest);
-    let Some(files) = files_of(verb, own, behind) else {
-        return Ok(None);
-    };
-    let Some(task) = task_of(alloc, verb, json, own)? else {
-        return Ok(None);
-    };
-    Ok(Some((task, files)))
-}
-
-/// What the words behind `fmt` ask for. There is no JSON of layouts.
-fn layouts_of(json: bool, words: &[String]) -> Option<(Mode, &[String])>
-    ensures { MatchOption result
-        ((mode : Mode) (files : List (String Global)) → ¬ AsksLayouts json words.now mode files)
-        (λ r. AsksLayouts json words.now r.0 r.1.now) }
-{
-    if json {
-        return None;
+    if verb.owns_words() {
+        return Some(&[]);
     }
-    let (mode, rest) = split_mode(words);
-    let (own, others) = split_files(rest);
-    let Some(files) = files_of(Verb::Fmt, own, others) else {
-        return None;
-    };
-    Some((mode, files))
+    named_files(words)
 }
 
-/// The formatting that the words ask for: options, each at most once, in any order, and then `fmt`
-/// with its words and files.
+/// The formatting that the words ask for: options, each flag at most once, and then `fmt` with its
+/// words and files. There is no JSON of layouts.
 fn format_of(words: &[String]) -> Option<Command<'_>>
     ensures { MatchOption result
         ((s : Settings) (m : Mode) (files : List (String Global)) → ¬ AsksFormat words.now s m files)
         (Asks words.now) }
 {
-    let (options, rest) = words.split_at(options_len(words));
-    let Some(settings) = settings_of(options) else {
-        return None;
-    };
-    let (verb, behind) = split_verb(rest);
-    if verb != Verb::Fmt {
+    let settings = settings_of(words)?;
+    let front = read_front(words);
+    let (verb, after) = split_verb(front.rest);
+    if verb != Verb::Fmt || front.json > 0 {
         return None;
     }
-    let Some((mode, files)) = layouts_of(wants_json(options), behind) else {
-        return None;
+    let (mode, rest) = split_mode(after);
+    let files = FileNames {
+        options: words,
+        words: named_files(rest)?,
     };
     Some(Command::Format(settings, mode, files))
 }
 
-/// The run that the words ask for: options, each at most once, in any order, and then a command
-/// with its words and files; `types` without options, and only a list as JSON.
+/// The files of a command, where there are not too many.
+fn all_files<'a>(words: &'a [String], verb: Verb, after: &'a [String]) -> Option<FileNames<'a>>
+    ensures asked { IfSome result (λ files. HasFiles words.now verb after.now (file_names files)) }
+    ensures refused { IfNone result
+        ((files : List (String Global)) → ¬ HasFiles words.now verb after.now files) }
+{
+    let files = FileNames {
+        options: words,
+        words: files_of(verb, after)?,
+    };
+    if !verb.takes_many() && files.are_several() {
+        return None;
+    }
+    Some(files)
+}
+
+/// The run that the words ask for: options, each flag at most once, and then a command with its words
+/// and files; `types` without flags, and only a list as JSON.
 fn run_of<'a>(alloc: Global, words: &'a [String]) -> Result<Option<Command<'a>>, AllocError>
     ensures asked { IfOk result (λ command. MatchOption command
         ((s : Settings) (t : Task) (files : List (String Global)) → ¬ AsksRun words.now s t files)
         (Asks words.now)) }
     ensures refused { OnErr result (AsksPlay words.now) }
 {
-    let (options, rest) = words.split_at(options_len(words));
-    let Some(settings) = settings_of(options) else {
+    let Some(settings) = settings_of(words) else {
         return Ok(None);
     };
-    let (verb, _) = split_verb(rest);
-    if verb == Verb::Types && !options.is_empty() {
+    let front = read_front(words);
+    let (verb, after) = split_verb(front.rest);
+    if verb == Verb::Types && (settings.allow || settings.strict) {
         return Ok(None);
     }
-    let Some((task, files)) = behind_options(alloc, wants_json(options), rest)? else {
+    let Some(files) = all_files(words, verb, after) else {
+        return Ok(None);
+    };
+    let Some(task) = task_of(alloc, verb, front.json > 0, after)? else {
         return Ok(None);
     };
     Ok(Some(Command::Run(settings, task, files)))
 }
 
 /// Whether the first word is this one.
-fn begins_with(word: &str, words: &[String]) -> bool
-    ensures { result ≡ begins_with word.now words.now }
+pub(crate) fn begins_with(text: &str, words: &[String]) -> bool
+    ensures { result ≡ begins_with text.now words.now }
 {
     match words.split_first() {
-        Some((first, _)) => first.as_str() == word,
+        Some((first, _)) => first.as_str() == text,
+        None => false,
+    }
+}
+
+/// Whether the first word asks for help.
+pub(crate) fn asks_help(words: &[String]) -> bool
+    ensures { result ≡ asks_help words.now }
+{
+    begins_with("--help", words) || begins_with("-h", words)
+}
+
+/// Whether the words begin with the name of a command that takes files after it.
+pub(crate) fn begins_with_files(words: &[String]) -> bool
+    ensures { result ≡ begins_with_files words.now }
+{
+    match words.split_first() {
+        Some((word, _)) => verb_named(word).is_some_and(|verb| !verb.owns_words()),
         None => false,
     }
 }
 
 /// What the words ask for, if they ask for something.
-pub fn command_of<'a>(alloc: Global, words: &'a [String]) -> Result<Option<Command<'a>>, AllocError>
+pub fn read_words<'a>(alloc: Global, words: &'a [String]) -> Result<Option<Command<'a>>, AllocError>
     ensures asked { IfOk result (λ command.
         MatchOption command (AsksNothing words.now) (Asks words.now)) }
 
     // Nothing else takes memory.
     ensures refused { OnErr result (AsksPlay words.now) }
 {
-    if begins_with("--help", words) || begins_with("-h", words) {
+    if asks_help(words) {
+        return Ok(Some(Command::Help));
+    }
+    let (_, after) = split_verb(words);
+    if begins_with_files(words) && asks_help(after) {
         return Ok(Some(Command::Help));
     }
     if begins_with("--version", words) {
@@ -433,46 +522,27 @@ pub fn command_of<'a>(alloc: Global, words: &'a [String]) -> Result<Option<Comma
     run_of(alloc, words)
 }
 
-/// How many words stand in front of the wrong one. The words up to each of them ask for something.
-fn fine_len(alloc: Global, words: &[String]) -> Result<usize, AllocError>
-    ensures fine { IfOk result (λ n. AsksSomething (take n words.now)) }
-    ensures bound { IfOk result (λ n. n ≤ length words.now) }
-    ensures next { IfOk result (λ n. n < length words.now → AsksNothing (take (n + 1) words.now)) }
-    ensures refused { OnErr result (BeginsToPlay words.now) }
+/// Whether a word shows that it names a file.
+pub(crate) fn looks_like_file(word: &String) -> bool
+    ensures { result ≡ looks_like_file word.now }
 {
-    let mut count = 0;
-    while count < words.len() {
-        if command_of(alloc, &words[..count + 1])?.is_none() {
-            return Ok(count);
-        }
-        count += 1;
-    }
-    Ok(count)
+    word.as_str() == "-"
+        || (is_file(word)
+            && word
+                .as_bytes()
+                .iter()
+                .any(|byte| *byte == b'.' || *byte == b'/'))
 }
 
-/// The wrong word among words that ask for nothing.
-fn wrong_word<'a>(alloc: Global, words: &'a [String]) -> Result<&'a str, AllocError>
-    requires { AsksNothing words.now }
-    ensures wrong { IfOk result (λ word. IsWrong words.now word.now) }
-    ensures refused { OnErr result (BeginsToPlay words.now) }
+/// The word that names a file only where one of that name is there: the first after the options,
+/// where it is no command and does not show that it names a file.
+pub fn file_in_question(words: &[String]) -> Option<&str>
+    ensures { option_map (λ w. w.now) result
+        ≡ option_map string_bytes (file_in_question words.now) }
 {
-    let count = fine_len(alloc, words)?;
-    Ok(words[count].as_str())
-}
-
-/// What the words ask for, or the wrong word.
-pub fn read_words<'a>(
-    alloc: Global,
-    words: &'a [String],
-) -> Result<Result<Command<'a>, &'a str>, AllocError>
-    ensures asked { IfOk result (λ read. MatchResult read (Asks words.now)
-        (λ word. AsksNothing words.now × IsWrong words.now word.now)) }
-
-    // Nothing else takes memory.
-    ensures refused { OnErr result (BeginsToPlay words.now) }
-{
-    match command_of(alloc, words)? {
-        Some(command) => Ok(Ok(command)),
-        None => Ok(Err(wrong_word(alloc, words)?)),
+    let (word, _) = read_front(words).rest.split_first()?;
+    if verb_named(word).is_some() || looks_like_file(word) || !is_file(word) {
+        return None;
     }
+    Some(word.as_str())
 }

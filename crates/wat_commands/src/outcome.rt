@@ -1,23 +1,22 @@
 //! What a run of the program ends in.
-ghost use Rattle.std.specs.Prelude.{◌≡◌, None, OnOk};
+ghost use Rattle.std.specs.Prelude.{◌≡◌, None, OnOk, true, false, max};
+ghost use Rattle.std.specs.Io.KnownBytes.{Appends};
 ghost use Rattle.std.specs.Option.{option_map};
-ghost use Rattle.wat_commands.specs.Outcomes.{complaint, is_marked, is_unread, outcome_of};
-ghost use Rattle.wat_commands.specs.Outcomes.{hint, Ran, status, task_prints, Tells, TellsFault};
+ghost use Rattle.wat_lex.specs.declared.lexer.settings.Settings.{Settings};
+ghost use Rattle.wat_commands.specs.Outcomes.{exit_code, is_marked, is_unread, outcome_of, hint};
+ghost use Rattle.wat_commands.specs.Outcomes.{refused, objection, Ran, status, task_prints, Tells};
+ghost use Rattle.wat_commands.specs.Outcomes.{TellsFault};
+ghost use Rattle.wat_commands.specs.Printed.{prints};
 
-use crate::options::{Task, is_file, is_option};
-use crate::run::{
-    RunError, run_blank, run_json_list, run_json_sig, run_list, run_play, run_sig, run_types,
-};
+use crate::complaint::Complaint;
+use crate::options::Task;
+use crate::run::{Printing, RunError, RunFailure, run};
 use std::alloc::Global;
 use std::{fmt, io};
 use wat_lex::error::Error;
 use wat_lex::lexer::{LexError, Settings};
 use wat_lines::ends::{Failed, Sink, Source};
-use wat_lists::named::named;
-
-const USAGE: &str =
-    "usage: wat_tokens [OPTION..] [list | sig NAME.. | play CALL.. | blank | types | \
-     fmt [--check | --write]] [--] [FILE..]; --help says more";
+use wat_lists::named::{Shown, named};
 
 /// What a run of the program ends in.
 #[derive(Drop)]
@@ -28,41 +27,55 @@ pub enum Outcome<'a> {
     /// comments are blanked or the text is to be a module.
     Faulty(Error),
     /// The run was refused. Only a failed write has written something, a prefix of what is printed.
-    Refused(RunError),
+    Refused(RunFailure),
     /// The file can't be opened.
     Unopened(Failed),
-    /// The program takes no words that have this one in its place.
-    Wrong(&'a str),
-    /// The words on the command line are no text.
-    Unread,
+    /// The words on the command line ask for nothing.
+    Wrong(Complaint<'a>),
+    /// The text is not laid out.
+    Differs,
+    /// The file is left as it is, for this reason.
+    Kept(&'a str),
 }
 
-/// Whether nobody reads what is written.
-fn is_unread(error: RunError) -> bool
-    ensures { result ≡ is_unread error }
-{
-    match error {
-        RunError::Write(failed) => failed.is_closed_pipe(),
-        _ => false,
+/// An exit status of the program. It is made of an outcome alone.
+#[derive(Clone, Copy, Debug, PartialEq, Eq)]
+pub struct Exit {
+    code: u8,
+}
+
+impl Exit {
+    /// The exit status of a program that did nothing.
+    pub fn idle() -> Exit
+        ensures { exit_code result ≡ 0 }
+    {
+        Exit { code: 0 }
+    }
+
+    /// The number.
+    pub fn code(self) -> u8
+        ensures { result ≡ exit_code self }
+    {
+        self.code
+    }
+
+    /// The greater of two.
+    pub fn or(self, other: Exit) -> Exit
+        ensures { exit_code result ≡ max (exit_code self) (exit_code other) }
+    {
+        Exit {
+            code: self.code.max(other.code),
+        }
     }
 }
 
-/// What is said of a wrong word.
-fn complaint(word: &str) -> &'static str
-    ensures { result.now ≡ complaint word.now }
+/// Whether what is written of a file goes to a pipe that nobody reads.
+fn is_unread(named: bool, failure: RunFailure) -> bool
+    ensures { result ≡ is_unread named failure }
 {
-    if is_option(word)
-        || word == "--check"
-        || word == "--write"
-        || word == "--help"
-        || word == "-h"
-        || word == "--version"
-    {
-        "misplaced option"
-    } else if is_file(word) {
-        "unexpected word"
-    } else {
-        "unknown option"
+    match failure {
+        RunFailure::Write(failed) => named && failed.is_closed_pipe(),
+        _ => false,
     }
 }
 
@@ -85,7 +98,7 @@ fn hint(error: &Error) -> &'static str
     }
 }
 
-/// A file's name in front of a message, or nothing.
+/// A file's name before a message, or nothing.
 #[derive(Clone, Copy)]
 struct OfFile<'a>(Option<&'a str>);
 
@@ -98,67 +111,72 @@ impl fmt::Display for OfFile<'_> {
 
     fn fmt<W: fmt::Write>(&self, f: &mut fmt::Formatter<W>) -> fmt::Result {
         match self.0 {
-            Some(name) => write!(f, "{name}: "),
+            Some(name) => write!(f, "{}: ", Shown(name)),
             None => Ok(()),
         }
     }
 }
 
-/// Writes what the task asks for of one text.
+/// What a task prints, of the text of a file of this name, if it has one.
+fn printing_of<'a>(task: &'a Task<'a>, file: Option<&'a str>) -> Printing<'a>
+    ensures { (s : Settings) → prints s result ≡ task_prints s (option_map (λ f. f.now) file) task.now }
+{
+    match task {
+        Task::List => Printing::Raw,
+        Task::Sig(names) => Printing::Shown(names),
+        Task::JsonList => Printing::JsonRaw(file),
+        Task::JsonSig(names) => Printing::JsonShown(names, file),
+        Task::Play(calls) => Printing::Replies(calls),
+        Task::Blank => Printing::Blank,
+        Task::Types => Printing::Types,
+    }
+}
+
+/// Writes what the task asks for of one text, that of a file of this name, if it has one.
 pub fn carry_out<R: Source, W: Sink>(
     alloc: Global,
     settings: Settings,
     task: &Task<'_>,
+    file: Option<&str>,
     input: &mut R,
     output: &mut W,
 ) -> Outcome<'static>
     requires input { R.failure input.old ≡ None }
     requires output { W.failure output.old ≡ None }
-    ensures { Ran R.left R.failure R.has_ended W.held W.failure (task_prints settings task.now)
+    ensures { Ran R.left R.failure R.has_ended W.held W.failure
+        (task_prints settings (option_map (λ f. f.now) file) task.now)
         input.old input.new output.old output.new result }
 {
-    match task {
-        Task::List => Outcome::of_run(run_list(alloc, input, output, settings)),
-        Task::Sig(names) => Outcome::of_run(run_sig(alloc, input, output, settings, names)),
-        Task::JsonList => Outcome::of_run(run_json_list(alloc, input, output, settings)),
-        Task::JsonSig(names) => {
-            Outcome::of_run(run_json_sig(alloc, input, output, settings, names))
-        }
-        Task::Play(calls) => match run_play(alloc, input, output, settings, calls) {
-            Ok(()) => Outcome::Listed,
-            Err(error) => Outcome::Refused(error),
-        },
-        Task::Blank => Outcome::of_run(run_blank(alloc, input, output, settings)),
-        Task::Types => Outcome::of_run(run_types(alloc, input, output)),
-    }
+    Outcome::of_run(run(alloc, input, output, settings, printing_of(task, file)))
 }
 
 impl<'a> Outcome<'a> {
     /// What a run ended in.
-    pub fn of_run(run: Result<Option<Error>, RunError>) -> Outcome<'a>
+    pub fn of_run(run: Result<Option<Error>, RunFailure>) -> Outcome<'a>
         ensures { result ≡ outcome_of run }
     {
         match run {
             Ok(None) => Outcome::Listed,
             Ok(Some(error)) => Outcome::Faulty(error),
-            Err(error) => Outcome::Refused(error),
+            Err(failure) => Outcome::Refused(failure),
         }
     }
 
-    /// The exit status.
-    pub fn status(&self) -> u8
-        ensures { result ≡ status self.now }
+    /// The exit status, of an input with a name or of standard input without one.
+    pub fn exit(&self, named: bool) -> Exit
+        ensures { exit_code result ≡ status named self.now }
     {
-        match self {
+        let code = match self {
             Outcome::Listed => 0,
-            Outcome::Faulty(_) => 1,
-            Outcome::Refused(error) if is_unread(*error) => 0,
-            Outcome::Refused(_) | Outcome::Unopened(_) | Outcome::Wrong(_) | Outcome::Unread => 2,
-        }
+            Outcome::Faulty(_) | Outcome::Differs => 1,
+            Outcome::Refused(failure) if is_unread(named, *failure) => 0,
+            Outcome::Refused(_) | Outcome::Unopened(_) | Outcome::Wrong(_) | Outcome::Kept(_) => 2,
+        };
+        Exit { code }
     }
 
-    /// Writes what there is to report of the text of a file, or of standard input: a line, the fault
-    /// with its place in the text, or nothing.
+    /// Writes what there is to report of the text of an input with this name, or of standard input
+    /// without one: a line, the fault with its place in the text, or nothing.
     pub fn report<W: io::Write>(
         &self,
         alloc: Global,
@@ -170,21 +188,50 @@ impl<'a> Outcome<'a> {
     {
         let file = OfFile(name);
         match self {
-            Outcome::Listed => Ok(()),
+            Outcome::Listed | Outcome::Differs => Ok(()),
             Outcome::Faulty(error) => report_fault(alloc, name, error, errors),
-            Outcome::Refused(error) if is_unread(*error) => Ok(()),
-            Outcome::Refused(error) => writeln!(errors, "wat_tokens: {file}{error}"),
+            Outcome::Refused(failure) => report_refusal(name, *failure, errors),
             Outcome::Unopened(failed) => writeln!(errors, "wat_tokens: {file}open failed{failed}"),
-            Outcome::Wrong(word) => {
-                writeln!(errors, "wat_tokens: {}: {word}\n{USAGE}", complaint(word))
-            }
-            Outcome::Unread => writeln!(errors, "wat_tokens: the words are no text\n{USAGE}"),
+            Outcome::Wrong(complaint) => report_complaint(complaint, errors),
+            Outcome::Kept(reason) => writeln!(errors, "wat_tokens: {file}{reason}"),
         }
     }
 }
 
-/// Writes a fault with its place in the text of a file, or of standard input. Where there is no
-/// memory for the file's name, it is left out.
+/// Writes why a run was refused, with the cause where the input has a name.
+fn report_refusal<W: io::Write>(
+    name: Option<&str>,
+    failure: RunFailure,
+    errors: &mut W,
+) -> io::Result<()>
+    ensures { OnOk result (Appends (W.contents errors.old) (W.contents errors.new)
+        (refused (option_map (λ n. n.now) name) failure)) }
+{
+    let Some(_) = name else {
+        return writeln!(errors, "wat_tokens: {}", RunError::from(failure));
+    };
+    if is_unread(true, failure) {
+        return Ok(());
+    }
+    writeln!(errors, "wat_tokens: {}{failure}", OfFile(name))
+}
+
+/// Writes what is wrong with words: the usage line alone, or that and where more is said.
+fn report_complaint<W: io::Write>(complaint: &Complaint<'_>, errors: &mut W) -> io::Result<()>
+    ensures { OnOk result (Appends (W.contents errors.old) (W.contents errors.new)
+        (objection complaint.now)) }
+{
+    if matches!(complaint, Complaint::Usage) {
+        return writeln!(errors, "{complaint}");
+    }
+    writeln!(
+        errors,
+        "wat_tokens: {complaint}\nwat_tokens --help lists the commands and their options"
+    )
+}
+
+/// Writes a fault with its place in the text of an input with this name, or of standard input without
+/// one. Where there is no memory for the name, it is left out.
 fn report_fault<W: io::Write>(
     alloc: Global,
     name: Option<&str>,

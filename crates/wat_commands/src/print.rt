@@ -1,27 +1,31 @@
 //! What is printed of bytes that may be no text.
 ghost use Rattle.std.specs.Prelude.{◌≡◌, ◌⊎◌, ◌↔◌, ◌<◌, ◌^◌, length, ℕ, None};
-ghost use Rattle.std.specs.Prelude.{Ok, IfOk, IfErr, IsErrOf, alloc_error};
+ghost use Rattle.std.specs.Prelude.{Ok, IfOk, IfErr, IsErrOf, OnOk, OnErr, alloc_error};
+ghost use Rattle.std.specs.Option.{option_map};
 ghost use Rattle.std.specs.Str.{IsValidUpTo};
 ghost use Rattle.wat_lines.specs.Blocks.{ReportsEnd};
 ghost use Rattle.wat_lists.specs.Blanks.{Blanks};
-ghost use Rattle.wat_lists.specs.JsonLists.{JsonLists};
+ghost use Rattle.wat_lines.specs.Streams.{failure_after};
+ghost use Rattle.wat_lists.specs.JsonLists.{JsonLists, json_report};
 ghost use Rattle.wat_lists.specs.Lists.{Lists};
 ghost use Rattle.wat_lists.specs.Refusals.{IsNotUtf8, IsWrite, answered};
 ghost use Rattle.wat_commands.specs.Compiles.{Compiles};
 ghost use Rattle.wat_commands.specs.Printed.{prints};
+ghost use Rattle.wat_commands.specs.JsonWrites.{AppendsRows, AppendsRowsCut};
 ghost use Rattle.wat_commands.specs.Writes.{Writes};
 
-use crate::run::RunError;
-use std::alloc::Global;
+use crate::run::RunFailure;
+use std::alloc::{AllocError, Global};
 use wat_lex::error::Error;
 use wat_lex::lexer::{Lexer, Settings};
 use wat_lex::token::Span;
 use wat_lexer_parser::laws;
 use wat_lexer_parser::parser::Call;
 use wat_lines::ends::{Failed, Sink};
+use wat_lines::row::object_open;
 use wat_lists::blank::write_blanked;
 use wat_lists::input::text_of;
-use wat_lists::json::{show_json, write_json};
+use wat_lists::json::{push_report, show_json, write_json};
 use wat_lists::list::{fault_of, lexer_of, write_lines};
 use wat_lists::play::play;
 use wat_lists::show::{Showing, show};
@@ -34,10 +38,11 @@ pub enum Printing<'a> {
     Raw,
     /// The tokens that are shown where these names are registered.
     Shown(&'a [String]),
-    /// Its raw tokens as JSON.
-    JsonRaw,
-    /// The tokens that are shown where these names are registered, as JSON.
-    JsonShown(&'a [String]),
+    /// Its raw tokens as JSON, with the name of its file, if there is one.
+    JsonRaw(Option<&'a str>),
+    /// The tokens that are shown where these names are registered, as JSON, with the name of its
+    /// file, if there is one.
+    JsonShown(&'a [String], Option<&'a str>),
     /// The replies to these calls.
     Replies(&'a [Call]),
     /// The text with its comments blanked.
@@ -47,19 +52,19 @@ pub enum Printing<'a> {
 }
 
 /// The error of what was written, or that the write failed.
-fn answer(written: Result<(), Failed>, error: Option<Error>) -> Result<Option<Error>, RunError>
+fn answer(written: Result<(), Failed>, error: Option<Error>) -> Result<Option<Error>, RunFailure>
     ensures { result ≡ answered written error }
 {
     match written {
         Ok(()) => Ok(error),
-        Err(failed) => Err(RunError::Write(failed)),
+        Err(failed) => Err(RunFailure::Write(failed)),
     }
 }
 
 /// The error of the fault of a lexer's text, where it has one.
-fn error_of(alloc: Global, lexer: &Lexer<'_>) -> Result<Option<Error>, RunError>
+fn error_of(alloc: Global, lexer: &Lexer<'_>) -> Result<Option<Error>, RunFailure>
     ensures error { IfOk result (ReportsEnd lexer.now) }
-    ensures refused { IfErr result (λ e. e ≡ RunError.Memory alloc_error) }
+    ensures refused { IfErr result (λ e. e ≡ RunFailure.Memory alloc_error) }
 {
     let Some(fault) = fault_of(lexer) else {
         return Ok(None);
@@ -67,7 +72,7 @@ fn error_of(alloc: Global, lexer: &Lexer<'_>) -> Result<Option<Error>, RunError>
     let span = Span::from_offset(fault.offset);
     let error = Error::lex(alloc, span, lexer.input(), fault.error);
     match error.alloc_error() {
-        Some(refused) => Err(RunError::from(refused)),
+        Some(refused) => Err(RunFailure::from(refused)),
         None => Ok(Some(error)),
     }
 }
@@ -79,11 +84,11 @@ fn print_raw<W: Sink>(
     text: &str,
     settings: Settings,
     output: &mut W,
-) -> Result<Option<Error>, RunError>
+) -> Result<Option<Error>, RunFailure>
     requires text { length text.now < 2 ^ 32 }
     requires output { W.failure output.old ≡ None }
     ensures printed { Writes W.held W.failure (Lists settings text.now) output.old output.new result }
-    ensures refused { IfErr result (λ e. IsWrite e ⊎ (e ≡ RunError.Memory alloc_error)) }
+    ensures refused { IfErr result (λ e. IsWrite e ⊎ (e ≡ RunFailure.Memory alloc_error)) }
 {
     wat_lex::laws::one_tiling();
     let lexer = lexer_of(text, settings);
@@ -91,24 +96,64 @@ fn print_raw<W: Sink>(
     answer(write_lines(&lexer, output), error)
 }
 
-/// Writes the lines of JSON of the raw tokens of a text, and answers the error of its fault. All memory
-/// is asked for before the first line is written: the text is read twice.
+/// The line of JSON of a fault, where there is one.
+fn json_end(
+    alloc: Global,
+    text: &str,
+    begin: &[u8],
+    error: &Option<Error>,
+) -> Result<Vec<u8>, AllocError>
+    requires { length text.now < 2 ^ 32 }
+    ensures { IfOk result (λ line. line.items ≡ json_report begin.now text.now error.now) }
+{
+    let mut line = Vec::new(alloc);
+    if let Some(error) = error {
+        push_report(alloc, &mut line, text, begin, error)?;
+    }
+    Ok(line)
+}
+
+/// Writes the lines of JSON of the raw tokens of a text, and then a line that is given.
+fn write_rows<W: Sink>(
+    lexer: &Lexer<'_>,
+    begin: &[u8],
+    last: &[u8],
+    output: &mut W,
+) -> Result<(), Failed>
+    ensures written { OnOk result (AppendsRows begin.now last.now lexer.now
+        (W.held output.old) (W.held output.new)) }
+    ensures cut { OnErr result (AppendsRowsCut begin.now last.now lexer.now
+        (W.held output.old) (W.held output.new)) }
+    ensures failed { W.failure output.new ≡ failure_after (W.failure output.old) result }
+{
+    write_json(lexer, begin, output)?;
+    if last.is_empty() {
+        return Ok(());
+    }
+    output.write_all(last)
+}
+
+/// Writes the lines of JSON of the raw tokens of a text and of its fault, and answers the error of
+/// that. All memory is asked for before the first line is written: the text is read twice.
 fn print_json<W: Sink>(
     alloc: Global,
     text: &str,
     settings: Settings,
+    file: Option<&str>,
     output: &mut W,
-) -> Result<Option<Error>, RunError>
+) -> Result<Option<Error>, RunFailure>
     requires text { length text.now < 2 ^ 32 }
     requires output { W.failure output.old ≡ None }
-    ensures printed { Writes W.held W.failure (JsonLists settings text.now)
-        output.old output.new result }
-    ensures refused { IfErr result (λ e. IsWrite e ⊎ (e ≡ RunError.Memory alloc_error)) }
+    ensures printed { Writes W.held W.failure
+        (JsonLists settings (option_map (λ f. f.now) file) text.now) output.old output.new result }
+    ensures refused { IfErr result (λ e. IsWrite e ⊎ (e ≡ RunFailure.Memory alloc_error)) }
 {
     wat_lex::laws::one_tiling();
     let lexer = lexer_of(text, settings);
+    let begin = object_open(alloc, file)?;
     let error = error_of(alloc, &lexer)?;
-    answer(write_json(&lexer, output), error)
+    let last = json_end(alloc, text, &begin, &error)?;
+    answer(write_rows(&lexer, &begin, &last, output), error)
 }
 
 /// Writes a text with its comments blanked, or answers the error of its fault.
@@ -117,11 +162,11 @@ fn print_blank<W: Sink>(
     text: &str,
     settings: Settings,
     output: &mut W,
-) -> Result<Option<Error>, RunError>
+) -> Result<Option<Error>, RunFailure>
     requires text { length text.now < 2 ^ 32 }
     requires output { W.failure output.old ≡ None }
     ensures printed { Writes W.held W.failure (Blanks settings text.now) output.old output.new result }
-    ensures refused { IfErr result (λ e. IsWrite e ⊎ (e ≡ RunError.Memory alloc_error)) }
+    ensures refused { IfErr result (λ e. IsWrite e ⊎ (e ≡ RunFailure.Memory alloc_error)) }
 {
     wat_lex::laws::one_tiling();
     laws::blank_texts();
@@ -137,7 +182,7 @@ fn print_text<W: Sink>(
     text: &[u8],
     error: Option<Error>,
     output: &mut W,
-) -> Result<Option<Error>, RunError>
+) -> Result<Option<Error>, RunFailure>
     requires { W.failure output.old ≡ None }
     ensures printed { Writes W.held W.failure
         (λ bytes e. (bytes ≡ text.now) × (e ≡ error)) output.old output.new result }
@@ -151,17 +196,17 @@ fn print_types<W: Sink>(
     alloc: Global,
     text: &str,
     output: &mut W,
-) -> Result<Option<Error>, RunError>
+) -> Result<Option<Error>, RunFailure>
     requires text { length text.now < 2 ^ 32 }
     requires output { W.failure output.old ≡ None }
     ensures printed { Writes W.held W.failure (Compiles text.now) output.old output.new result }
-    ensures refused { IfErr result (λ e. IsWrite e ⊎ (e ≡ RunError.Memory alloc_error)) }
+    ensures refused { IfErr result (λ e. IsWrite e ⊎ (e ≡ RunFailure.Memory alloc_error)) }
 {
     wat_lex::laws::one_tiling();
     match compile_types(alloc, text) {
         Ok(module) => print_text(&module, None, output),
         Err(error) => match error.alloc_error() {
-            Some(refused) => Err(RunError::from(refused)),
+            Some(refused) => Err(RunFailure::from(refused)),
             None => print_text(b"", Some(error), output),
         },
     }
@@ -174,12 +219,12 @@ fn print_of<W: Sink>(
     settings: Settings,
     printing: Printing<'_>,
     output: &mut W,
-) -> Result<Option<Error>, RunError>
+) -> Result<Option<Error>, RunFailure>
     requires text { length text.now < 2 ^ 32 }
     requires output { W.failure output.old ≡ None }
     ensures printed { Writes W.held W.failure (prints settings printing.entry text.now)
         output.old output.new result }
-    ensures refused { IfErr result (λ e. IsWrite e ⊎ (e ≡ RunError.Memory alloc_error)) }
+    ensures refused { IfErr result (λ e. IsWrite e ⊎ (e ≡ RunFailure.Memory alloc_error)) }
 {
     match printing {
         Printing::Raw => print_raw(alloc, text, settings, output),
@@ -187,9 +232,9 @@ fn print_of<W: Sink>(
             let Showing { lines, error } = show(alloc, text, settings, names)?;
             print_text(&lines, error, output)
         }
-        Printing::JsonRaw => print_json(alloc, text, settings, output),
-        Printing::JsonShown(names) => {
-            let Showing { lines: rows, error } = show_json(alloc, text, settings, names)?;
+        Printing::JsonRaw(file) => print_json(alloc, text, settings, file, output),
+        Printing::JsonShown(names, file) => {
+            let Showing { lines: rows, error } = show_json(alloc, text, settings, file, names)?;
             print_text(&rows, error, output)
         }
         Printing::Replies(calls) => {
@@ -208,15 +253,15 @@ pub fn print<W: Sink>(
     settings: Settings,
     printing: Printing<'_>,
     output: &mut W,
-) -> Result<Option<Error>, RunError>
+) -> Result<Option<Error>, RunFailure>
     requires bytes { length bytes.now < 2 ^ 32 }
     requires output { W.failure output.old ≡ None }
     ensures printed { Writes W.held W.failure (prints settings printing.entry bytes.now)
         output.old output.new result }
     ensures not_utf8 { (offset : ℕ) →
-        IsErrOf result (RunError.NotUtf8 offset) ↔ IsValidUpTo bytes.now offset }
+        IsErrOf result (RunFailure.NotUtf8 offset) ↔ IsValidUpTo bytes.now offset }
     ensures refused { IfErr result (λ e. IsNotUtf8 e ⊎
-        (IsWrite e ⊎ (e ≡ RunError.Memory alloc_error))) }
+        (IsWrite e ⊎ (e ≡ RunFailure.Memory alloc_error))) }
 {
     match text_of(bytes) {
         Ok(text) => print_of(alloc, text, settings, printing, output),

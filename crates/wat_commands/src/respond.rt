@@ -1,17 +1,20 @@
 //! What the program answers to the words of its command line.
-ghost use Rattle.std.specs.Prelude.{◌≡◌, ℕ, List, Option, None, IfSome, MatchResult};
+ghost use Rattle.std.specs.Prelude.{◌≡◌, ◌⊎◌, ℕ, List, Bool, Option, None, IfSome, MatchResult, IsTrue, is_some};
+ghost use Rattle.std.specs.Prelude.{nat_lt, length};
 ghost use Rattle.std.specs.Option.{option_map};
-ghost use Rattle.wat_commands.specs.Outcomes.{status, task_prints};
-ghost use Rattle.wat_commands.specs.Responses.{Found, Gives, Fails, name_of, RanFile};
-ghost use Rattle.wat_commands.specs.Responses.{RanAll, RanFiles, Responded, Says};
-ghost use Rattle.wat_commands.specs.Responses.{GreatestOfAll, GreatestOfEach};
+ghost use Rattle.wat_commands.specs.Options.{file_names};
+ghost use Rattle.wat_commands.specs.Outcomes.{exit_code, status, task_prints};
+ghost use Rattle.wat_commands.specs.Responses.{Found, Gives, Fails, IsMeant, IsNotMeant, name_of};
+ghost use Rattle.wat_commands.specs.Responses.{Acted, LaidOutAll, LaidOutEach, RanFile, RanFileOf};
+ghost use Rattle.wat_commands.specs.Responses.{RanAll, RanFiles, Responded, Says, label};
 ghost use Rattle.wat_commands.specs.declared.options.Mode.{Mode};
 ghost use Rattle.wat_lex.specs.declared.lexer.settings.Settings.{Settings};
 
+use crate::complaint::complaint_of;
 use crate::help::{help, version};
-use crate::options::{Command, Mode, Task, read_words};
-use crate::outcome::{Outcome, carry_out};
-use crate::run::RunError;
+use crate::options::{Command, FileNames, Mode, Task, file_in_question, read_words};
+use crate::outcome::{Exit, Outcome, carry_out};
+use crate::run::RunFailure;
 use std::alloc::Global;
 use std::io;
 use wat_lex::lexer::Settings;
@@ -24,57 +27,73 @@ pub trait Inputs {
     // What opening each file gives, where that is known.
     ghost found: { Self → List ℕ → Found };
 
-    // The exit status of what is done with the layout of each, where that is known.
-    ghost laid_out: { Self → Settings → Mode → List ℕ → Option ℕ };
+    // Whether there is a file of each name, where that is known.
+    ghost there: { Self → List ℕ → Option Bool };
+
+    // Opening this file takes the one to the other.
+    ghost opened: { Self → List ℕ → Self → Type 0 };
+
+    // Doing this with the layout of this file takes the one to the other, with this exit status.
+    ghost laid_out: { Self → Settings → Mode → List ℕ → Self → ℕ → Type 0 };
+
+    /// Whether there is a file of this name.
+    fn is_there(&self, file: &str) -> bool
+        ensures { IfSome (there self.now file.now) (λ known. result ≡ known) };
 
     /// Opens a file; `-` is standard input.
-    fn open(&self, file: &str) -> Result<Self::Input, Failed>
-        ensures { MatchResult result
-            (λ input. Gives (found self.now file.now) (Self.Input.left input)
+    fn open(&mut self, file: &str) -> Result<Self::Input, Failed>
+        ensures opened { opened self.old file.now self.new }
+        ensures gives { MatchResult result
+            (λ input. Gives (found self.old file.now) (Self.Input.left input)
             × (Self.Input.failure input ≡ None))
-            (λ failed. Fails (found self.now file.now) failed) };
+            (λ failed. Fails (found self.old file.now) failed) };
 
     /// Writes the layout of a file's text, or compares the text with it, or makes it that, and answers
     /// the exit status; `-` is standard input.
-    fn lay_out(&self, settings: Settings, mode: Mode, file: &str) -> u8
-        ensures { IfSome (laid_out self.now settings mode file.now) (λ status. result ≡ status) };
+    fn lay_out(&mut self, settings: Settings, mode: Mode, file: &str) -> Exit
+        ensures { laid_out self.old settings mode file.now self.new (exit_code result) };
 }
 
-/// The name that reports give to a file: none to standard input.
-fn name_of(file: &str) -> Option<&str>
-    ensures { option_map (λ n. n.now) result ≡ name_of file.now }
+/// The name that reports give to a file.
+pub fn name_of(file: &str) -> &str
+    ensures { result.now ≡ name_of file.now }
 {
-    if file == "-" { None } else { Some(file) }
+    if file == "-" { "<stdin>" } else { file }
 }
 
 /// Reports what a run ended in, and answers its status.
-fn told<E: io::Write>(
+fn reported<E: io::Write>(
     alloc: Global,
     outcome: &Outcome<'_>,
     name: Option<&str>,
     errors: &mut E,
-) -> u8
-    ensures { result ≡ status outcome.now }
+) -> Exit
+    ensures { exit_code result ≡ status (is_some name) outcome.now }
 {
     let _ = outcome.report(alloc, name, errors);
-    outcome.status()
+    outcome.exit(name.is_some())
 }
 
-/// Writes what the task asks for of the text of a file.
+/// Writes what the task asks for of the text of a file. Where there are several files its lines of
+/// JSON have its name.
 fn run_file<I: Inputs, W: Sink>(
     alloc: Global,
     settings: Settings,
     task: &Task<'_>,
-    inputs: &I,
+    several: bool,
+    inputs: &mut I,
     file: &str,
     output: &mut W,
 ) -> Outcome<'static>
     requires { W.failure output.old ≡ None }
-    ensures { RanFile I.Input.left I.Input.failure I.Input.has_ended W.held W.failure
-        (task_prints settings task.now) (I.found inputs.now file.now) output.old output.new result }
+    ensures opened { I.opened inputs.old file.now inputs.new }
+    ensures ran { RanFile I.Input.left I.Input.failure I.Input.has_ended W.held W.failure
+        (task_prints settings (label several file.now) task.now) (I.found inputs.old file.now)
+        output.old output.new result }
 {
+    let label = if several { Some(name_of(file)) } else { None };
     match inputs.open(file) {
-        Ok(mut input) => carry_out(alloc, settings, task, &mut input, output),
+        Ok(mut input) => carry_out(alloc, settings, task, label, &mut input, output),
         Err(failed) => Outcome::Unopened(failed),
     }
 }
@@ -85,23 +104,27 @@ fn run_files<I: Inputs, W: Sink, E: io::Write>(
     alloc: Global,
     settings: Settings,
     task: &Task<'_>,
-    inputs: &I,
-    files: &[String],
+    inputs: &mut I,
+    files: FileNames<'_>,
     output: &mut W,
     errors: &mut E,
-) -> u8
+) -> Exit
     requires { W.failure output.old ≡ None }
-    ensures { RanFiles (λ file. RanFile I.Input.left I.Input.failure I.Input.has_ended W.held W.failure
-        (task_prints settings task.now) (I.found inputs.now file))
-        W.failure files.now output.old output.new result }
+    ensures { RanFiles (λ file before after. RanFileOf I.opened I.found I.Input.left I.Input.failure
+        I.Input.has_ended W.held W.failure
+        (task_prints settings (label (nat_lt 1 (length (file_names files))) file) task.now)
+        file before after)
+        W.failure (file_names files) inputs.old inputs.new output.old output.new (exit_code result) }
 {
-    let mut worst = 0;
-    for file in files {
-        if output.failed() {
+    let several = files.are_several();
+    let mut left = files;
+    let mut worst = Exit::idle();
+    while !output.failed() {
+        let Some(file) = left.next() else {
             return worst;
-        }
-        let outcome = run_file(alloc, settings, task, inputs, file, output);
-        worst = worst.max(told(alloc, &outcome, name_of(file), errors));
+        };
+        let outcome = run_file(alloc, settings, task, several, inputs, file, output);
+        worst = worst.or(reported(alloc, &outcome, Some(name_of(file)), errors));
     }
     worst
 }
@@ -112,40 +135,55 @@ fn run_all<I: Inputs, W: Sink, E: io::Write>(
     alloc: Global,
     settings: Settings,
     task: &Task<'_>,
-    inputs: &I,
-    files: &[String],
+    inputs: &mut I,
+    files: FileNames<'_>,
     output: &mut W,
     errors: &mut E,
-) -> u8
+) -> Exit
     requires { W.failure output.old ≡ None }
-    ensures { RanAll (λ file. RanFile I.Input.left I.Input.failure I.Input.has_ended W.held W.failure
-        (task_prints settings task.now) (I.found inputs.now file))
-        W.failure files.now output.old output.new result }
+    ensures { RanAll (λ file before after. RanFileOf I.opened I.found I.Input.left I.Input.failure
+        I.Input.has_ended W.held W.failure
+        (task_prints settings (label (nat_lt 1 (length (file_names files))) file) task.now)
+        file before after)
+        W.failure (file_names files) inputs.old inputs.new output.old output.new (exit_code result) }
 {
-    if !files.is_empty() {
+    if !files.are_none() {
         return run_files(alloc, settings, task, inputs, files, output, errors);
     }
-    let outcome = run_file(alloc, settings, task, inputs, "-", output);
-    told(alloc, &outcome, None, errors)
+    let outcome = run_file(alloc, settings, task, false, inputs, "-", output);
+    reported(alloc, &outcome, None, errors)
 }
 
 /// Does what is asked with the layout of the text of each file, and answers the greatest status.
-fn lay_out_files<I: Inputs>(settings: Settings, mode: Mode, inputs: &I, files: &[String]) -> u8
-    ensures { GreatestOfEach (I.laid_out inputs.now settings mode) files.now result }
+fn lay_out_files<I: Inputs>(
+    settings: Settings,
+    mode: Mode,
+    inputs: &mut I,
+    files: FileNames<'_>,
+) -> Exit
+    ensures { LaidOutEach (λ file before after status. I.laid_out before settings mode file after status)
+        (file_names files) inputs.old inputs.new (exit_code result) }
 {
-    let mut worst = 0;
-    for name in files {
-        worst = worst.max(inputs.lay_out(settings, mode, name));
+    let mut left = files;
+    let mut worst = Exit::idle();
+    while let Some(file) = left.next() {
+        worst = worst.or(inputs.lay_out(settings, mode, file));
     }
     worst
 }
 
 /// Does what is asked with the layout of the text of each file, or of standard input where there is
 /// none, and answers the greatest status.
-fn lay_out_all<I: Inputs>(settings: Settings, mode: Mode, inputs: &I, files: &[String]) -> u8
-    ensures { GreatestOfAll (I.laid_out inputs.now settings mode) files.now result }
+fn lay_out_all<I: Inputs>(
+    settings: Settings,
+    mode: Mode,
+    inputs: &mut I,
+    files: FileNames<'_>,
+) -> Exit
+    ensures { LaidOutAll (λ file before after status. I.laid_out before settings mode file after status)
+        (file_names files) inputs.old inputs.new (exit_code result) }
 {
-    if !files.is_empty() {
+    if !files.are_none() {
         return lay_out_files(settings, mode, inputs, files);
     }
     inputs.lay_out(settings, mode, "-")
@@ -158,7 +196,44 @@ fn say<W: Sink>(text: &str, output: &mut W) -> Outcome<'static>
 {
     match output.write_all(text.as_bytes()) {
         Ok(()) => Outcome::Listed,
-        Err(failed) => Outcome::Refused(RunError::Write(failed)),
+        Err(failed) => Outcome::Refused(RunFailure::Write(failed)),
+    }
+}
+
+/// Whether the word in question, if there is one, names a file that is there.
+fn is_meant<I: Inputs>(words: &[String], inputs: &I) -> bool
+    ensures meant { IsTrue result → IsMeant (I.there inputs.now) words.now }
+    ensures not_meant { IsTrue result ⊎ IsNotMeant (I.there inputs.now) words.now }
+{
+    match file_in_question(words) {
+        Some(word) => inputs.is_there(word),
+        None => true,
+    }
+}
+
+/// Does what the words ask for, which have a meaning.
+fn act<I: Inputs, W: Sink, E: io::Write>(
+    alloc: Global,
+    command: &Command<'_>,
+    inputs: &mut I,
+    output: &mut W,
+    errors: &mut E,
+) -> Exit
+    requires { W.failure output.old ≡ None }
+    ensures { Acted W.held W.failure
+        (λ several settings task file before after. RanFileOf I.opened I.found I.Input.left
+        I.Input.failure I.Input.has_ended W.held W.failure (task_prints settings (label several file) task)
+        file before after)
+        (λ settings mode file before after status. I.laid_out before settings mode file after status)
+        command.now inputs.old inputs.new output.old output.new (exit_code result) }
+{
+    match command {
+        Command::Run(settings, task, files) => {
+            run_all(alloc, *settings, task, inputs, *files, output, errors)
+        }
+        Command::Format(settings, mode, files) => lay_out_all(*settings, *mode, inputs, *files),
+        Command::Help => reported(alloc, &say(help(), output), None, errors),
+        Command::Version => reported(alloc, &say(version(), output), None, errors),
     }
 }
 
@@ -167,31 +242,31 @@ fn say<W: Sink>(text: &str, output: &mut W) -> Outcome<'static>
 pub fn respond<I: Inputs, W: Sink, E: io::Write>(
     alloc: Global,
     words: &[String],
-    inputs: &I,
+    inputs: &mut I,
     output: &mut W,
     errors: &mut E,
-) -> u8
+) -> Exit
     requires { W.failure output.old ≡ None }
-    ensures { Responded W.held W.failure
-        (λ settings task file. RanFile I.Input.left I.Input.failure I.Input.has_ended W.held W.failure
-        (task_prints settings task) (I.found inputs.now file))
-        (I.laid_out inputs.now) words.now output.old output.new result }
+    ensures { Responded W.held W.failure (I.there inputs.old)
+        (λ several settings task file before after. RanFileOf I.opened I.found I.Input.left
+        I.Input.failure I.Input.has_ended W.held W.failure (task_prints settings (label several file) task)
+        file before after)
+        (λ settings mode file before after status. I.laid_out before settings mode file after status)
+        words.now inputs.old inputs.new output.old output.new (exit_code result) }
 {
+    if !is_meant(words, inputs) {
+        let complaint = complaint_of(words, false);
+        return reported(alloc, &Outcome::Wrong(complaint), None, errors);
+    }
     match read_words(alloc, words) {
-        Ok(Ok(Command::Run(settings, task, files))) => {
-            run_all(alloc, settings, &task, inputs, files, output, errors)
+        Ok(Some(command)) => act(alloc, &command, inputs, output, errors),
+        Ok(None) => {
+            let complaint = complaint_of(words, true);
+            reported(alloc, &Outcome::Wrong(complaint), None, errors)
         }
-        Ok(Ok(Command::Format(settings, mode, files))) => {
-            lay_out_all(settings, mode, inputs, files)
+        Err(refused) => {
+            let failure = RunFailure::from(refused);
+            reported(alloc, &Outcome::Refused(failure), None, errors)
         }
-        Ok(Ok(Command::Help)) => told(alloc, &say(help(), output), None, errors),
-        Ok(Ok(Command::Version)) => told(alloc, &say(version(), output), None, errors),
-        Ok(Err(word)) => told(alloc, &Outcome::Wrong(word), None, errors),
-        Err(refused) => told(
-            alloc,
-            &Outcome::Refused(RunError::from(refused)),
-            None,
-            errors,
-        ),
     }
 }

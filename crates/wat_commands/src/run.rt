@@ -2,41 +2,34 @@
 ghost use Rattle.std.specs.Prelude.{◌≡◌, ◌⊎◌, ◌↔◌, ℕ, true, None};
 ghost use Rattle.std.specs.Prelude.{IfOk, OnOk, IfErr, IfSome, IsErrOf};
 ghost use Rattle.std.specs.Str.{IsValidUpTo};
-ghost use Rattle.wat_lines.specs.declared.ends.Failed.{Failed};
-ghost use Rattle.wat_lists.specs.Blanks.{Blanks};
+ghost use Rattle.wat_lines.specs.declared.failed.Failed.{Failed};
 ghost use Rattle.wat_lists.specs.Inputs.{ReadsPast, ReadsShort, HasEnded};
-ghost use Rattle.wat_lists.specs.JsonLists.{JsonLists, JsonShows};
 ghost use Rattle.wat_lists.specs.Lists.{Lists};
 ghost use Rattle.wat_lists.specs.Refusals.{IsWrite, read_failure, write_failure};
 ghost use Rattle.wat_lists.specs.Replies.{Plays};
 ghost use Rattle.wat_lists.specs.Shows.{Shows};
-ghost use Rattle.wat_commands.specs.Compiles.{Compiles};
 ghost use Rattle.wat_commands.specs.Printed.{prints, AppendsText, AppendsCut};
-ghost use Rattle.wat_commands.specs.Runs.{without_error, Runs};
+ghost use Rattle.wat_commands.specs.Runs.{Runs, without_cause, without_error};
 
-use crate::print::{Printing, print};
+pub use crate::print::Printing;
+use crate::print::print;
 use std::alloc::Global;
 use wat_lex::error::Error;
 use wat_lex::lexer::Settings;
 use wat_lexer_parser::parser::Call;
 use wat_lines::ends::{Sink, Source};
-pub use wat_lists::input::RunError;
 use wat_lists::input::read_whole;
+pub use wat_lists::input::{RunError, RunFailure};
 
-/// How the text of a module is read: as the standard has it.
-const STANDARD: Settings = Settings {
-    allow: false,
-    strict: false,
-};
-
-/// Writes what is printed of all that the source has left, and answers the error of its fault.
-fn run<R: Source, W: Sink>(
+/// Writes what is printed of all that the source has left, and answers the error of its fault; or the
+/// cause of a refusal.
+pub fn run<R: Source, W: Sink>(
     alloc: Global,
     input: &mut R,
     output: &mut W,
     settings: Settings,
     printing: Printing<'_>,
-) -> Result<Option<Error>, RunError>
+) -> Result<Option<Error>, RunFailure>
     requires input { R.failure input.old ≡ None }
     requires output { W.failure output.old ≡ None }
     ensures written { IfOk result (λ error. IfSome (R.left input.old) (λ bytes.
@@ -45,30 +38,40 @@ fn run<R: Source, W: Sink>(
 
     // These come only once the source was read to its end.
     ensures ended { OnOk result (HasEnded (R.left input.new) (R.has_ended input.new)) }
-    ensures not_utf8_ended { (offset : ℕ) → IsErrOf result (RunError.NotUtf8 offset) →
+    ensures not_utf8_ended { (offset : ℕ) → IsErrOf result (RunFailure.NotUtf8 offset) →
         HasEnded (R.left input.new) (R.has_ended input.new) }
-    ensures write_ended { (failed : Failed) → IsErrOf result (RunError.Write failed) →
+    ensures write_ended { (failed : Failed) → IsErrOf result (RunFailure.Write failed) →
         HasEnded (R.left input.new) (R.has_ended input.new) }
 
     // When each refusal but that of memory comes.
     ensures read { read_failure result ≡ R.failure input.new }
-    ensures short { (IsErrOf result RunError.TooLong) ⊎
+    ensures short { (IsErrOf result RunFailure.TooLong) ⊎
         ReadsShort (R.left input.old) (R.left input.new) }
     ensures too_long { IfSome (R.left input.old) (λ _.
-        IsErrOf result RunError.TooLong ↔ ReadsPast (R.left input.old) (R.left input.new)) }
+        IsErrOf result RunFailure.TooLong ↔ ReadsPast (R.left input.old) (R.left input.new)) }
     ensures not_utf8 { (offset : ℕ) → IfSome (R.left input.old) (λ bytes.
-        IsErrOf result (RunError.NotUtf8 offset) ↔
+        IsErrOf result (RunFailure.NotUtf8 offset) ↔
         ((R.has_ended input.new ≡ true) × IsValidUpTo bytes offset)) }
     ensures write { write_failure result ≡ W.failure output.new }
 
     // A failed write has written a prefix of what is printed, and each other refusal nothing.
-    ensures cut { (failed : Failed) → IsErrOf result (RunError.Write failed) →
+    ensures cut { (failed : Failed) → IsErrOf result (RunFailure.Write failed) →
         IfSome (R.left input.old) (λ bytes. AppendsCut (prints settings printing.entry bytes)
         (W.held output.old) (W.held output.new)) }
     ensures unwritten { IfErr result (λ e. IsWrite e ⊎ (output.new ≡ output.old)) }
 {
     let bytes = read_whole(alloc, input)?;
     print(alloc, &bytes, settings, printing, output)
+}
+
+/// The answer of a run without the cause of its refusal.
+fn without_cause<T>(run: Result<T, RunFailure>) -> Result<T, RunError>
+    ensures { result ≡ without_cause run }
+{
+    match run {
+        Ok(answer) => Ok(answer),
+        Err(failure) => Err(RunError::from(failure)),
+    }
 }
 
 /// Writes the list of the raw tokens of all that the source has left, up to the first fault, and
@@ -84,7 +87,7 @@ pub fn run_list<R: Source, W: Sink>(
     ensures { Runs R.left R.failure R.has_ended W.held W.failure (Lists settings)
         input.old input.new output.old output.new result }
 {
-    run(alloc, input, output, settings, Printing::Raw)
+    without_cause(run(alloc, input, output, settings, Printing::Raw))
 }
 
 /// Writes the list of the tokens that count, those that a parser shows where these names are
@@ -101,38 +104,7 @@ pub fn run_sig<R: Source, W: Sink>(
     ensures { Runs R.left R.failure R.has_ended W.held W.failure (Shows settings names.now)
         input.old input.new output.old output.new result }
 {
-    run(alloc, input, output, settings, Printing::Shown(names))
-}
-
-/// Writes the list of the raw tokens as [`run_list`] does, with a line of JSON for each.
-pub fn run_json_list<R: Source, W: Sink>(
-    alloc: Global,
-    input: &mut R,
-    output: &mut W,
-    settings: Settings,
-) -> Result<Option<Error>, RunError>
-    requires input { R.failure input.old ≡ None }
-    requires output { W.failure output.old ≡ None }
-    ensures { Runs R.left R.failure R.has_ended W.held W.failure (JsonLists settings)
-        input.old input.new output.old output.new result }
-{
-    run(alloc, input, output, settings, Printing::JsonRaw)
-}
-
-/// Writes the list of the tokens that count as [`run_sig`] does, with a line of JSON for each.
-pub fn run_json_sig<R: Source, W: Sink>(
-    alloc: Global,
-    input: &mut R,
-    output: &mut W,
-    settings: Settings,
-    names: &[String],
-) -> Result<Option<Error>, RunError>
-    requires input { R.failure input.old ≡ None }
-    requires output { W.failure output.old ≡ None }
-    ensures { Runs R.left R.failure R.has_ended W.held W.failure (JsonShows settings names.now)
-        input.old input.new output.old output.new result }
-{
-    run(alloc, input, output, settings, Printing::JsonShown(names))
+    without_cause(run(alloc, input, output, settings, Printing::Shown(names)))
 }
 
 /// Writes a parser's replies to calls from the start of the text.
@@ -150,37 +122,6 @@ pub fn run_play<R: Source, W: Sink>(
 {
     match run(alloc, input, output, settings, Printing::Replies(calls)) {
         Ok(_) => Ok(()),
-        Err(error) => Err(error),
+        Err(failure) => Err(RunError::from(failure)),
     }
-}
-
-/// Writes all that the source has left with its comments blanked, spaces over all their bytes but the
-/// line ends. Where the text has a fault nothing is written, and the answer is that fault's error.
-pub fn run_blank<R: Source, W: Sink>(
-    alloc: Global,
-    input: &mut R,
-    output: &mut W,
-    settings: Settings,
-) -> Result<Option<Error>, RunError>
-    requires input { R.failure input.old ≡ None }
-    requires output { W.failure output.old ≡ None }
-    ensures { Runs R.left R.failure R.has_ended W.held W.failure (Blanks settings)
-        input.old input.new output.old output.new result }
-{
-    run(alloc, input, output, settings, Printing::Blank)
-}
-
-/// Writes the bytes of the module that all that the source has left spells. Where it is refused nothing
-/// is written, and the answer is the error of that refusal.
-pub fn run_types<R: Source, W: Sink>(
-    alloc: Global,
-    input: &mut R,
-    output: &mut W,
-) -> Result<Option<Error>, RunError>
-    requires input { R.failure input.old ≡ None }
-    requires output { W.failure output.old ≡ None }
-    ensures { Runs R.left R.failure R.has_ended W.held W.failure Compiles
-        input.old input.new output.old output.new result }
-{
-    run(alloc, input, output, STANDARD, Printing::Types)
 }

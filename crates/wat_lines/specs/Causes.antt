@@ -2,7 +2,7 @@
 -- specification.
 use Rattle.std.specs.Prelude.{◌==◌, ℕ, Bool, false, List, [], ◌++◌, codes, Option, Some, None, if◌then◌else◌}
 use Rattle.std.specs.Fmt.{decimal}
-use Rattle.wat_lines.specs.declared.ends.Failed.{Failed}
+use Rattle.wat_lines.specs.declared.failed.Failed.{Failed}
 
 abbrev pub error_words : ℕ → List ℕ
 error_words code =
@@ -19,6 +19,10 @@ error_words code =
     else if code == 36 then codes "file name too long"
     else if code == 40 then codes "too many levels of symbolic links"
     else codes "error " ++ decimal code ++ codes " of the system"
+
+-- the number of the error, where the call has one
+abbrev pub error_code : Failed → Option ℕ
+error_code failed = failed.code
 
 -- nothing where the call has no error number
 abbrev pub cause : Failed → List ℕ

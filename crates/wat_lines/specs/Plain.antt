@@ -1,6 +1,6 @@
 -- What callers see of a source over a reader, or a sink over a writer. No part of the standard.
 use Rattle.std.specs.Prelude.{Bool, Option}
-use Rattle.wat_lines.specs.declared.ends.Failed.{Failed}
+use Rattle.wat_lines.specs.declared.failed.Failed.{Failed}
 use Rattle.wat_lines.specs.declared.ends.Plain.{Plain}
 
 -- the reader or writer

@@ -2,7 +2,7 @@
 -- of the standard.
 use Rattle.std.specs.Prelude.{◌≡◌, ◌<◌, ◌≤◌, ℕ, Bool, false, List, length, take, Option, Some, Result, Ok, Err, ◌&&◌, nat_eq, nat_lt}
 use Rattle.std.specs.Io.KnownBytes.{Appends, Consumes, IsAtEnd}
-use Rattle.wat_lines.specs.declared.ends.Failed.{Failed}
+use Rattle.wat_lines.specs.declared.failed.Failed.{Failed}
 
 -- n bytes were read into the buffer, in their order; none, although there was room, only at the end
 pub record Reads (old new : Option (List ℕ)) (buffer : List ℕ) (n : ℕ) : Type 0 where

@@ -1,89 +1,16 @@
 //! Where the text comes from, and where the lines go.
 ghost use Rattle.std.specs.Prelude.{◌≡◌, ℕ, Bool, false, List, Option, None, IfOk, OnOk, OnErr};
-ghost use Rattle.std.specs.Prelude.{is_some, unsigned_abs};
-ghost use Rattle.std.specs.Option.{option_map};
+ghost use Rattle.std.specs.Prelude.{is_some};
 ghost use Rattle.std.specs.Io.KnownBytes.{Appends, Keeps};
-ghost use Rattle.std.specs.IoError.{raw_os_error};
-ghost use Rattle.wat_lines.specs.Causes.{error_words, is_closed_pipe};
 ghost use Rattle.wat_lines.specs.Streams.{Reads, AppendsPrefix, failure_after, gave_end};
 ghost use Rattle.wat_lines.specs.Plain.{plain_inner, plain_failure, plain_ended};
-ghost use Rattle.wat_lines.specs.declared.ends.Failed.{Failed};
+ghost use Rattle.wat_lines.specs.declared.failed.Failed.{Failed};
 
-use std::{fmt, io};
+use crate::failed::taken;
+use std::io;
 use wat_format::sink;
 
-/// A call of the system that failed: a read, a write, or the opening of a file.
-#[derive(Clone, Copy, Debug, PartialEq, Eq)]
-pub struct Failed {
-    /// The system's number of the error, where it has one.
-    pub code: Option<u32>,
-}
-
-/// The error of a write to a pipe that nobody reads.
-const CLOSED_PIPE: u32 = 32;
-
-impl Failed {
-    /// What an error of std's tells.
-    pub fn of(error: &io::Error) -> Failed
-        ensures { result.code ≡ option_map unsigned_abs (raw_os_error error.now) }
-    {
-        Failed {
-            code: error.raw_os_error().map(|code| code.unsigned_abs()),
-        }
-    }
-
-    /// Whether it was a write to a pipe that nobody reads.
-    pub fn is_closed_pipe(&self) -> bool
-        ensures { result ≡ is_closed_pipe self.now }
-    {
-        self.code == Some(CLOSED_PIPE)
-    }
-}
-
-/// Prints the cause behind a colon, or nothing where there is no error number.
-impl fmt::Display for Failed {
-    ghost use Rattle.std.specs.Prelude.{Some};
-    ghost use Rattle.wat_lines.specs.Causes.{cause};
-
-    ghost output = { λ f. Some (cause f) };
-
-    fn fmt<W: fmt::Write>(&self, f: &mut fmt::Formatter<W>) -> fmt::Result {
-        match self.code {
-            Some(code) => write!(f, ": {}", ErrorNumber(code)),
-            None => Ok(()),
-        }
-    }
-}
-
-/// The system's number of an error, which prints as its words.
-#[derive(Clone, Copy)]
-struct ErrorNumber(u32);
-
-impl fmt::Display for ErrorNumber {
-    ghost use Rattle.std.specs.Prelude.{Some};
-    ghost use Rattle.wat_lines.specs.Causes.{error_words};
-
-    ghost output = { λ n. Some (error_words n.0) };
-
-    fn fmt<W: fmt::Write>(&self, f: &mut fmt::Formatter<W>) -> fmt::Result {
-        let words = match self.0 {
-            2 => "no such file or directory",
-            5 => "input/output error",
-            9 => "bad file descriptor",
-            13 => "permission denied",
-            20 => "not a directory",
-            21 => "is a directory",
-            24 => "too many open files",
-            27 => "file too large",
-            28 => "no space left on device",
-            32 => "broken pipe",
-            36 => "file name too long",
-            40 => "too many levels of symbolic links",
-            code => return write!(f, "error {code} of the system"),
-        };
-        write!(f, "{words}")
-    }
-}
+pub use crate::failed::Failed;
 
 /// What a text is read from.
 pub trait Source {
@@ -235,11 +162,7 @@ fn write_through<W: io::Write>(writer: &mut W, bytes: &[u8]) -> Result<(), Faile
 {
     let mut written = 0;
     while written < bytes.len() {
-        match writer.write(&bytes[written..]) {
-            Ok(0) => return Err(Failed { code: None }),
-            Ok(count) => written += count,
-            Err(error) => return Err(Failed::of(&error)),
-        }
+        written += taken(writer.write(&bytes[written..]))?;
     }
     match writer.flush() {
         Ok(()) => Ok(()),

@@ -4,6 +4,7 @@
 
 pub mod block;
 pub mod ends;
+pub mod failed;
 pub mod line;
 pub mod position;
 pub mod row;

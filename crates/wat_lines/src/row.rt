@@ -1,12 +1,14 @@
 //! The lines of the lists as JSON. A line is put together of what stands in front of the token's text,
 //! of the text as a string, and of what stands behind it.
 ghost use Rattle.std.specs.Prelude.{◌≡◌, ◌++◌, ◌+◌, ◌<◌, ◌≤◌, ◌^◌, ℕ, List, [], length, take, flat_map, codes};
-ghost use Rattle.std.specs.Prelude.{OnOk, OnErr};
+ghost use Rattle.std.specs.Prelude.{OnOk, OnErr, IfOk};
+ghost use Rattle.std.specs.Option.{option_map};
 ghost use Rattle.std.specs.Fmt.{decimal};
 ghost use Rattle.std.specs.Str.{IsCharBoundary};
 ghost use Rattle.wat_lex.specs.tokens.ReadableTokens.{token_text};
 ghost use Rattle.wat_lines.specs.Blocks.{Puts};
-ghost use Rattle.wat_lines.specs.JsonRows.{json_behind, json_front, json_line};
+ghost use Rattle.wat_lines.specs.JsonRows.{json_behind, json_fault, json_fault_head, json_front};
+ghost use Rattle.wat_lines.specs.JsonRows.{json_head, json_line, json_open};
 ghost use Rattle.wat_lines.specs.JsonStrings.{escaped, hex_digit, json_string};
 ghost use Rattle.wat_lines.specs.Lines.{kind_name};
 ghost use Rattle.wat_lines.specs.Streams.{AppendsPrefix, failure_after};
@@ -15,9 +17,10 @@ use crate::block::Block;
 use crate::ends::{Failed, Sink};
 use crate::position::Positions;
 use itoa::Buffer;
-use std::alloc::AllocError;
+use std::alloc::{AllocError, Global};
 use std::marker::Model;
 use wat_lex::lexer::{Token, TokenKind};
+use wat_lex::token::Span;
 
 /// The room for what stands in a line in front of a token's text, or behind it.
 const ROOM: usize = 96;
@@ -92,12 +95,12 @@ fn kind_name(kind: TokenKind) -> &'static str
     }
 }
 
-/// What stands in a line in front of a token's text.
-fn front_of(token: &Token) -> Part
-    ensures { result ≡ json_front token.now }
+/// What comes in a token's line before its text, but for what each line begins with.
+fn head_of(token: &Token) -> Part
+    ensures { result ≡ json_head token.now }
 {
     let mut front = Part::new();
-    front.push("{\"offset\":");
+    front.push("\"offset\":");
     front.push_number(token.offset);
     front.push(",\"length\":");
     front.push_number(token.len as usize);
@@ -107,7 +110,18 @@ fn front_of(token: &Token) -> Part
     front
 }
 
-/// What stands behind it: line and column, which count from 0, and are told from 1.
+/// What comes in a fault's line before its message, but for what each line begins with.
+fn fault_head(offset: usize) -> Part
+    ensures { result ≡ json_fault_head offset }
+{
+    let mut front = Part::new();
+    front.push("\"offset\":");
+    front.push_number(offset);
+    front.push(",\"fault\":");
+    front
+}
+
+/// What comes last: line and column, which count from 0, and are written from 1.
 fn behind_of(line: usize, column: usize) -> Part
     requires line { line < 2 ^ 32 }
     requires column { column < 2 ^ 32 }
@@ -181,25 +195,43 @@ fn put_string<W: Sink>(block: &mut Block, output: &mut W, text: &[u8]) -> Result
     block.put(output, b"\"")
 }
 
-/// Puts a token's line behind the others.
+/// Puts what comes in a token's line before its text after the others.
+fn put_front<W: Sink>(
+    block: &mut Block,
+    output: &mut W,
+    begin: &[u8],
+    token: &Token,
+) -> Result<(), Failed>
+    ensures put { OnOk result (Puts (W.held output.old) (W.held output.new)
+        block.old block.new (json_front begin.now token.now)) }
+    ensures cut { OnErr result (AppendsPrefix (W.held output.old) (W.held output.new)
+        (block.old ++ json_front begin.now token.now)) }
+    ensures failed { W.failure output.new ≡ failure_after (W.failure output.old) result }
+{
+    block.put(output, begin)?;
+    block.put(output, head_of(token).bytes())
+}
+
+/// Puts a token's line after the others. Each line begins with `begin`, which [`object_open`] makes.
 pub fn put_row<W: Sink>(
     block: &mut Block,
     output: &mut W,
     positions: &mut Positions<'_>,
+    begin: &[u8],
     token: &Token,
 ) -> Result<(), Failed>
     requires place { IsCharBoundary positions.old token.now.offset }
     requires end { token.now.offset + token.now.len ≤ length positions.old }
     ensures put { OnOk result (Puts (W.held output.old) (W.held output.new)
-        block.old block.new (json_line positions.old token.now)) }
+        block.old block.new (json_line begin.now positions.old token.now)) }
     ensures cut { OnErr result (AppendsPrefix (W.held output.old) (W.held output.new)
-        (block.old ++ json_line positions.old token.now)) }
+        (block.old ++ json_line begin.now positions.old token.now)) }
     ensures failed { W.failure output.new ≡ failure_after (W.failure output.old) result }
     ensures positions { positions.new ≡ positions.old }
 {
     let text = positions.text().as_bytes();
     let (line, column) = positions.linecol(token.offset);
-    block.put(output, front_of(token).bytes())?;
+    put_front(block, output, begin, token)?;
     put_string(
         block,
         output,
@@ -228,23 +260,58 @@ fn push_string(lines: &mut Vec<u8>, text: &[u8]) -> Result<(), AllocError>
     lines.extend_from_slice(b"\"")
 }
 
-/// Writes a token's line behind the others.
+/// What each line of a list begins with: the name of the text's file, where it has one.
+pub fn object_open(alloc: Global, file: Option<&str>) -> Result<Vec<u8>, AllocError>
+    ensures { IfOk result (λ begin. begin.items ≡ json_open (option_map (λ f. f.now) file)) }
+{
+    let mut begin = Vec::new(alloc);
+    begin.extend_from_slice(b"{")?;
+    if let Some(name) = file {
+        begin.extend_from_slice(b"\"file\":")?;
+        push_string(&mut begin, name.as_bytes())?;
+        begin.extend_from_slice(b",")?;
+    }
+    Ok(begin)
+}
+
+/// Writes a token's line after the others. Each line begins with `begin`, which [`object_open`] makes.
 pub fn push_row(
     lines: &mut Vec<u8>,
     positions: &mut Positions<'_>,
+    begin: &[u8],
     token: &Token,
 ) -> Result<(), AllocError>
     requires place { IsCharBoundary positions.old token.now.offset }
     requires end { token.now.offset + token.now.len ≤ length positions.old }
-    ensures lines { OnOk result (lines.new.items ≡ lines.old.items ++ json_line positions.old token.now) }
+    ensures lines { OnOk result (lines.new.items ≡ lines.old.items ++ json_line begin.now positions.old token.now) }
     ensures positions { positions.new ≡ positions.old }
 {
     let text = positions.text().as_bytes();
     let (line, column) = positions.linecol(token.offset);
-    lines.extend_from_slice(front_of(token).bytes())?;
+    lines.extend_from_slice(begin)?;
+    lines.extend_from_slice(head_of(token).bytes())?;
     push_string(
         lines,
         &text[token.offset..token.offset + token.len as usize],
     )?;
+    lines.extend_from_slice(behind_of(line, column).bytes())
+}
+
+/// Writes the line of a fault of a text after the others, with its message.
+pub fn push_fault(
+    lines: &mut Vec<u8>,
+    text: &str,
+    begin: &[u8],
+    offset: usize,
+    message: &str,
+) -> Result<(), AllocError>
+    requires { length text.now < 2 ^ 32 }
+    ensures { OnOk result (lines.new.items
+        ≡ lines.old.items ++ json_fault begin.now text.now offset message.now) }
+{
+    let (line, column) = Span::from_offset(offset).linecol_in(text);
+    lines.extend_from_slice(begin)?;
+    lines.extend_from_slice(fault_head(offset).bytes())?;
+    push_string(lines, message.as_bytes())?;
     lines.extend_from_slice(behind_of(line, column).bytes())
 }

@@ -1,8 +1,27 @@
--- What an error prints of the text of a file: as without a file, but with the file's name in place of `<anon>`. No part of the standard.
-use Rattle.std.specs.Prelude.{ℕ, nat_lt, List, [], ◌++◌, codes, Option, Some, None, if◌then◌else◌}
+-- What an error prints of the text of a file: as without a file, but with the file's name in place of `<anon>`, and with pictures in place of control
+-- characters. No part of the standard.
+use Rattle.std.specs.Prelude.{ℕ, nat_lt, ◌==◌, ◌&&◌, nat_le, ◌+◌, List, [], ◌++◌, codes, map, Option, Some, None, if◌then◌else◌, encode_utf8_all}
 use Rattle.std.specs.Fmt.{decimal}
+use Rattle.std.specs.Str.{chars}
 use Rattle.wat_lex.specs.errors.Errors.{Report, cause_text, printed}
 use Rattle.wat_lex.specs.errors.Rendering.{Excerpt, right_in}
+
+-- The Unicode Standard, chapter 24, Control Pictures: the picture of a control character of ASCII. Another control character has none, and is shown as
+-- the replacement character.
+abbrev pub visible_char : ℕ → ℕ
+visible_char c =
+    if nat_lt c 0x20 then 0x2400 + c
+    else if c == 0x7F then 0x2421
+    else if nat_le 0x80 c && nat_lt c 0xA0 then 0xFFFD
+    else c
+
+-- a text without control characters
+abbrev pub visible : List ℕ → List ℕ
+visible text = encode_utf8_all (map visible_char (chars text))
+
+-- the same, with its line feeds
+abbrev pub visible_lines : List ℕ → List ℕ
+visible_lines text = encode_utf8_all (map (λ c. if c == 10 then 10 else visible_char c) (chars text))
 
 -- the place of an error in a file, and below it the line with a marker under the column; the place alone, from column 501 on
 abbrev pub place_in : List ℕ → Excerpt → List ℕ
@@ -19,17 +38,17 @@ abbrev pub in_file : List ℕ → Report → Option Excerpt → List ℕ
 in_file name r None = name ++ (codes ": " ++ printed (Some r))
 in_file name r (Some e) = cause_text r.cause ++ place_in name e
 
--- what an error prints of a file
+-- what an error prints of a file, with the control characters of its line
 abbrev pub printed_in : List ℕ → Option Report → List ℕ
 printed_in name None = name ++ (codes ": " ++ printed None)
 printed_in name (Some r) = in_file name r r.excerpt
 
--- of the text of a file of this name, or of standard input
+-- of the text of a file of this name, or of standard input without one
 abbrev pub shown_in : Option (List ℕ) → Option Report → List ℕ
 shown_in None error = printed error
-shown_in (Some name) error = printed_in name error
+shown_in (Some name) error = visible_lines (printed_in (visible name) error)
 
--- the file's name in front of a message
+-- the file's name before a message
 abbrev pub of_file : Option (List ℕ) → List ℕ
 of_file None = []
-of_file (Some name) = name ++ codes ": "
+of_file (Some name) = visible name ++ codes ": "

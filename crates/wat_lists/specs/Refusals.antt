@@ -2,29 +2,31 @@
 use Rattle.std.specs.Prelude.{◌≡◌, ℕ, List, ◌++◌, codes, Option, Some, None, Result, Ok, Err}
 use Rattle.std.specs.Fmt.{decimal}
 use Rattle.wat_lines.specs.Causes.{cause}
-use Rattle.wat_lines.specs.declared.ends.Failed.{Failed}
+use Rattle.wat_lines.specs.declared.failed.Failed.{Failed}
 use Rattle.wat_lists.specs.declared.input.RunError.{RunError}
-use Rattle.wat_lists.specs.declared.input.RunError.TheVariants.{Read, TooLong, NotUtf8, Write, Memory}
+use Rattle.wat_lists.specs.declared.input.RunError.TheVariants as error
+use Rattle.wat_lists.specs.declared.input.RunFailure.{RunFailure}
+use Rattle.wat_lists.specs.declared.input.RunFailure.TheVariants.{Read, TooLong, NotUtf8, Write, Memory}
 
 -- a read failed
-abbrev pub IsRead : RunError → Type 0
+abbrev pub IsRead : RunFailure → Type 0
 IsRead e = (failed : Failed) × (e ≡ Read failed)
 
 -- a write failed
-abbrev pub IsWrite : RunError → Type 0
+abbrev pub IsWrite : RunFailure → Type 0
 IsWrite e = (failed : Failed) × (e ≡ Write failed)
 
 -- the bytes are no text
-abbrev pub IsNotUtf8 : RunError → Type 0
+abbrev pub IsNotUtf8 : RunFailure → Type 0
 IsNotUtf8 e = (offset : ℕ) × (e ≡ NotUtf8 offset)
 
 -- the answer of a call that wrote: an error of the text, or the failure of the write
-abbrev pub answered : {T : Type 0} → Result (Unit {0}) Failed → T → Result T RunError
+abbrev pub answered : {T : Type 0} → Result (Unit {0}) Failed → T → Result T RunFailure
 answered (Ok u) error = Ok error
 answered (Err failed) error = Err (Write failed)
 
 -- the failure of a read, where that is why
-abbrev pub read_failure : {T : Type 0} → Result T RunError → Option Failed
+abbrev pub read_failure : {T : Type 0} → Result T RunFailure → Option Failed
 read_failure (Ok t) = None
 read_failure (Err (Read failed)) = Some failed
 read_failure (Err TooLong) = None
@@ -33,7 +35,7 @@ read_failure (Err (Write failed)) = None
 read_failure (Err (Memory refused)) = None
 
 -- the failure of a write, where that is why
-abbrev pub write_failure : {T : Type 0} → Result T RunError → Option Failed
+abbrev pub write_failure : {T : Type 0} → Result T RunFailure → Option Failed
 write_failure (Ok t) = None
 write_failure (Err (Read failed)) = None
 write_failure (Err TooLong) = None
@@ -42,7 +44,7 @@ write_failure (Err (Write failed)) = Some failed
 write_failure (Err (Memory refused)) = None
 
 -- the failure of the last write that failed, behind a run: the run's own, or that of before
-abbrev pub failure_behind : {T : Type 0} → Option Failed → Result T RunError → Option Failed
+abbrev pub failure_behind : {T : Type 0} → Option Failed → Result T RunFailure → Option Failed
 failure_behind before (Ok t) = before
 failure_behind before (Err (Read failed)) = before
 failure_behind before (Err TooLong) = before
@@ -50,8 +52,24 @@ failure_behind before (Err (NotUtf8 offset)) = before
 failure_behind before (Err (Write failed)) = Some failed
 failure_behind before (Err (Memory refused)) = before
 
--- what is told of it
-abbrev pub refusal : RunError → List ℕ
+-- the same without what is known of the cause
+abbrev pub error_of : RunFailure → RunError
+error_of (Read failed) = error.Read
+error_of TooLong = error.TooLong
+error_of (NotUtf8 offset) = error.NotUtf8
+error_of (Write failed) = error.Write
+error_of (Memory refused) = error.Memory
+
+-- what is reported of it
+abbrev pub bare_refusal : RunError → List ℕ
+bare_refusal error.Read = codes "read failed"
+bare_refusal error.TooLong = codes "input is too long"
+bare_refusal error.NotUtf8 = codes "input is not UTF-8"
+bare_refusal error.Write = codes "write failed"
+bare_refusal error.Memory = codes "out of memory"
+
+-- and with its cause, where that is known
+abbrev pub refusal : RunFailure → List ℕ
 refusal (Read failed) = codes "read failed" ++ cause failed
 refusal TooLong = codes "input is too long"
 refusal (NotUtf8 offset) = codes "input is not UTF-8 at byte " ++ decimal offset

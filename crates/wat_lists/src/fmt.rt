@@ -3,13 +3,13 @@ ghost use Rattle.std.specs.Prelude.{◌≡◌, ◌⊎◌, ◌↔◌, ◌<◌, �
 ghost use Rattle.std.specs.Prelude.{alloc_error, IfOk, OnOk, OnErr, IfErr, IfSome, IsErrOf};
 ghost use Rattle.std.specs.Str.{IsValidUpTo};
 ghost use Rattle.wat_lex.specs.errors.Errors.{lexical};
-ghost use Rattle.wat_lines.specs.declared.ends.Failed.{Failed};
+ghost use Rattle.wat_lines.specs.declared.failed.Failed.{Failed};
 ghost use Rattle.wat_lists.specs.Inputs.{ReadsPast, ReadsShort, HasEnded};
 ghost use Rattle.wat_lists.specs.Layouts.{Compares, WritesLayout, WritesPart};
 ghost use Rattle.wat_lists.specs.Refusals.{IsNotUtf8, IsWrite, failure_behind};
 ghost use Rattle.wat_lists.specs.Refusals.{read_failure, write_failure};
 
-use crate::input::{RunError, read_whole, text_of};
+use crate::input::{RunFailure, read_whole, text_of};
 use std::alloc::Global;
 use wat_format::error::Error as FormatError;
 use wat_format::format::format;
@@ -34,14 +34,14 @@ pub enum Compared {
 }
 
 /// The error of a text's fault.
-fn error_of(alloc: Global, text: &str, fault: LexFault) -> Result<Error, RunError>
+fn error_of(alloc: Global, text: &str, fault: LexFault) -> Result<Error, RunFailure>
     requires { length text.now < 2 ^ 32 }
     ensures error { IfOk result (λ error. error ≡ Some (lexical text.now fault)) }
-    ensures refused { IfErr result (λ e. e ≡ RunError.Memory alloc_error) }
+    ensures refused { IfErr result (λ e. e ≡ RunFailure.Memory alloc_error) }
 {
     let error = Error::lex(alloc, Span::from_offset(fault.offset), text, fault.error);
     match error.alloc_error() {
-        Some(refused) => Err(RunError::from(refused)),
+        Some(refused) => Err(RunFailure::from(refused)),
         None => Ok(error),
     }
 }
@@ -52,19 +52,19 @@ fn write_text<W: sink::Sink<Failure = Failed>>(
     text: &str,
     settings: Settings,
     output: &mut W,
-) -> Result<Option<Error>, RunError>
+) -> Result<Option<Error>, RunFailure>
     requires { length text.now < 2 ^ 32 }
     ensures written { IfOk result (λ error. WritesLayout settings text.now error
         (W.held output.old) (W.held output.new)) }
     ensures part { OnErr result
         (WritesPart settings text.now (W.held output.old) (W.held output.new)) }
     ensures write { W.failure output.new ≡ failure_behind (W.failure output.old) result }
-    ensures refused { IfErr result (λ e. IsWrite e ⊎ (e ≡ RunError.Memory alloc_error)) }
+    ensures refused { IfErr result (λ e. IsWrite e ⊎ (e ≡ RunFailure.Memory alloc_error)) }
 {
     match format_to(alloc, text, settings, output) {
         Ok(()) => Ok(None),
-        Err(WriteError::Memory(refused)) => Err(RunError::from(refused)),
-        Err(WriteError::Failed(failed)) => Err(RunError::Write(failed)),
+        Err(WriteError::Memory(refused)) => Err(RunFailure::from(refused)),
+        Err(WriteError::Failed(failed)) => Err(RunFailure::Write(failed)),
         Err(WriteError::Fault(fault)) => Ok(Some(error_of(alloc, text, fault)?)),
     }
 }
@@ -75,7 +75,7 @@ fn write_bytes<W: sink::Sink<Failure = Failed>>(
     bytes: &[u8],
     settings: Settings,
     output: &mut W,
-) -> Result<Option<Error>, RunError>
+) -> Result<Option<Error>, RunFailure>
     requires { length bytes.now < 2 ^ 32 }
     ensures written { IfOk result (λ error. WritesLayout settings bytes.now error
         (W.held output.old) (W.held output.new)) }
@@ -83,11 +83,11 @@ fn write_bytes<W: sink::Sink<Failure = Failed>>(
         (WritesPart settings bytes.now (W.held output.old) (W.held output.new)) }
     ensures write { W.failure output.new ≡ failure_behind (W.failure output.old) result }
     ensures unwritten { IfErr result (λ e. IsWrite e ⊎
-        ((e ≡ RunError.Memory alloc_error) ⊎ (output.new ≡ output.old))) }
+        ((e ≡ RunFailure.Memory alloc_error) ⊎ (output.new ≡ output.old))) }
     ensures not_utf8 { (offset : ℕ) →
-        IsErrOf result (RunError.NotUtf8 offset) ↔ IsValidUpTo bytes.now offset }
+        IsErrOf result (RunFailure.NotUtf8 offset) ↔ IsValidUpTo bytes.now offset }
     ensures refused { IfErr result (λ e. IsNotUtf8 e ⊎
-        (IsWrite e ⊎ (e ≡ RunError.Memory alloc_error))) }
+        (IsWrite e ⊎ (e ≡ RunFailure.Memory alloc_error))) }
 {
     match text_of(bytes) {
         Ok(text) => write_text(alloc, text, settings, output),
@@ -103,7 +103,7 @@ pub fn run_fmt<R: Source, W: sink::Sink<Failure = Failed>>(
     input: &mut R,
     output: &mut W,
     settings: Settings,
-) -> Result<Option<Error>, RunError>
+) -> Result<Option<Error>, RunFailure>
     requires { R.failure input.old ≡ None }
     ensures written { IfOk result (λ error. IfSome (R.left input.old) (λ bytes.
         WritesLayout settings bytes error (W.held output.old) (W.held output.new))) }
@@ -113,24 +113,24 @@ pub fn run_fmt<R: Source, W: sink::Sink<Failure = Failed>>(
     ensures part { OnErr result (IfSome (R.left input.old) (λ bytes.
         WritesPart settings bytes (W.held output.old) (W.held output.new))) }
     ensures unwritten { IfErr result (λ e. IsWrite e ⊎
-        ((e ≡ RunError.Memory alloc_error) ⊎ (output.new ≡ output.old))) }
+        ((e ≡ RunFailure.Memory alloc_error) ⊎ (output.new ≡ output.old))) }
 
     // These come only once the source was read to its end.
     ensures ended { OnOk result (HasEnded (R.left input.new) (R.has_ended input.new)) }
-    ensures not_utf8_ended { (offset : ℕ) → IsErrOf result (RunError.NotUtf8 offset) →
+    ensures not_utf8_ended { (offset : ℕ) → IsErrOf result (RunFailure.NotUtf8 offset) →
         HasEnded (R.left input.new) (R.has_ended input.new) }
-    ensures write_ended { (failed : Failed) → IsErrOf result (RunError.Write failed) →
+    ensures write_ended { (failed : Failed) → IsErrOf result (RunFailure.Write failed) →
         HasEnded (R.left input.new) (R.has_ended input.new) }
 
     // When each refusal but that of memory comes.
     ensures read { read_failure result ≡ R.failure input.new }
     ensures write { W.failure output.new ≡ failure_behind (W.failure output.old) result }
-    ensures short { (IsErrOf result RunError.TooLong) ⊎
+    ensures short { (IsErrOf result RunFailure.TooLong) ⊎
         ReadsShort (R.left input.old) (R.left input.new) }
     ensures too_long { IfSome (R.left input.old) (λ _.
-        IsErrOf result RunError.TooLong ↔ ReadsPast (R.left input.old) (R.left input.new)) }
+        IsErrOf result RunFailure.TooLong ↔ ReadsPast (R.left input.old) (R.left input.new)) }
     ensures not_utf8 { (offset : ℕ) → IfSome (R.left input.old) (λ bytes.
-        IsErrOf result (RunError.NotUtf8 offset) ↔
+        IsErrOf result (RunFailure.NotUtf8 offset) ↔
         ((R.has_ended input.new ≡ true) × IsValidUpTo bytes offset)) }
 {
     let bytes = read_whole(alloc, input)?;
@@ -138,10 +138,10 @@ pub fn run_fmt<R: Source, W: sink::Sink<Failure = Failed>>(
 }
 
 /// Compares a text with its layout.
-fn compare_text(alloc: Global, text: &str, settings: Settings) -> Result<Compared, RunError>
+fn compare_text(alloc: Global, text: &str, settings: Settings) -> Result<Compared, RunFailure>
     requires { length text.now < 2 ^ 32 }
     ensures compared { IfOk result (λ compared. Compares settings text.now compared) }
-    ensures refused { IfErr result (λ e. e ≡ RunError.Memory alloc_error) }
+    ensures refused { IfErr result (λ e. e ≡ RunFailure.Memory alloc_error) }
 {
     match format(alloc, text, settings) {
         Ok(answer) => {
@@ -153,17 +153,17 @@ fn compare_text(alloc: Global, text: &str, settings: Settings) -> Result<Compare
         }
         Err(FormatError::TooLong) => Ok(Compared::Longer),
         Err(FormatError::Fault(fault)) => Ok(Compared::Faulty(error_of(alloc, text, fault)?)),
-        Err(FormatError::Memory(refused)) => Err(RunError::from(refused)),
+        Err(FormatError::Memory(refused)) => Err(RunFailure::from(refused)),
     }
 }
 
 /// Compares the text that bytes are with its layout.
-fn compare_bytes(alloc: Global, bytes: &[u8], settings: Settings) -> Result<Compared, RunError>
+fn compare_bytes(alloc: Global, bytes: &[u8], settings: Settings) -> Result<Compared, RunFailure>
     requires { length bytes.now < 2 ^ 32 }
     ensures compared { IfOk result (λ compared. Compares settings bytes.now compared) }
     ensures not_utf8 { (offset : ℕ) →
-        IsErrOf result (RunError.NotUtf8 offset) ↔ IsValidUpTo bytes.now offset }
-    ensures refused { IfErr result (λ e. IsNotUtf8 e ⊎ (e ≡ RunError.Memory alloc_error)) }
+        IsErrOf result (RunFailure.NotUtf8 offset) ↔ IsValidUpTo bytes.now offset }
+    ensures refused { IfErr result (λ e. IsNotUtf8 e ⊎ (e ≡ RunFailure.Memory alloc_error)) }
 {
     match text_of(bytes) {
         Ok(text) => compare_text(alloc, text, settings),
@@ -176,25 +176,25 @@ pub fn run_compare<R: Source>(
     alloc: Global,
     input: &mut R,
     settings: Settings,
-) -> Result<Compared, RunError>
+) -> Result<Compared, RunFailure>
     requires { R.failure input.old ≡ None }
     ensures compared { IfOk result (λ compared. IfSome (R.left input.old) (λ bytes.
         Compares settings bytes compared)) }
 
     // These come only once the source was read to its end.
     ensures ended { OnOk result (HasEnded (R.left input.new) (R.has_ended input.new)) }
-    ensures not_utf8_ended { (offset : ℕ) → IsErrOf result (RunError.NotUtf8 offset) →
+    ensures not_utf8_ended { (offset : ℕ) → IsErrOf result (RunFailure.NotUtf8 offset) →
         HasEnded (R.left input.new) (R.has_ended input.new) }
 
     // When each refusal but that of memory comes.
     ensures read { read_failure result ≡ R.failure input.new }
     ensures write { write_failure result ≡ None }
-    ensures short { (IsErrOf result RunError.TooLong) ⊎
+    ensures short { (IsErrOf result RunFailure.TooLong) ⊎
         ReadsShort (R.left input.old) (R.left input.new) }
     ensures too_long { IfSome (R.left input.old) (λ _.
-        IsErrOf result RunError.TooLong ↔ ReadsPast (R.left input.old) (R.left input.new)) }
+        IsErrOf result RunFailure.TooLong ↔ ReadsPast (R.left input.old) (R.left input.new)) }
     ensures not_utf8 { (offset : ℕ) → IfSome (R.left input.old) (λ bytes.
-        IsErrOf result (RunError.NotUtf8 offset) ↔
+        IsErrOf result (RunFailure.NotUtf8 offset) ↔
         ((R.has_ended input.new ≡ true) × IsValidUpTo bytes offset)) }
 {
     let bytes = read_whole(alloc, input)?;

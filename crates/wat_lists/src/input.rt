@@ -13,6 +13,21 @@ use wat_lines::ends::{Failed, Source};
 #[derive(Clone, Copy, Debug, PartialEq, Eq)]
 pub enum RunError {
     /// A read failed.
+    Read,
+    /// The input has more than `u32::MAX` bytes.
+    TooLong,
+    /// The input is not UTF-8.
+    NotUtf8,
+    /// The write failed.
+    Write,
+    /// A request for memory was refused.
+    Memory,
+}
+
+/// Why a run ended without what it prints, with what is known of the cause.
+#[derive(Clone, Copy, Debug, PartialEq, Eq)]
+pub enum RunFailure {
+    /// A read failed.
     Read(Failed),
     /// The input has more than `u32::MAX` bytes.
     TooLong,
@@ -24,18 +39,18 @@ pub enum RunError {
     Memory(AllocError),
 }
 
-impl From<AllocError> for RunError {
+impl From<AllocError> for RunFailure {
     ghost use Rattle.std.specs.Prelude.{◌≡◌};
-    ghost use Rattle.wat_lists.specs.declared.input.RunError.TheVariants.{Memory};
+    ghost use Rattle.wat_lists.specs.declared.input.RunFailure.TheVariants.{Memory};
 
     ghost from_gives = { λ refused e. e ≡ Memory refused };
 
-    fn from(refused: AllocError) -> RunError {
-        RunError::Memory(refused)
+    fn from(refused: AllocError) -> RunFailure {
+        RunFailure::Memory(refused)
     }
 }
 
-impl fmt::Display for RunError {
+impl fmt::Display for RunFailure {
     ghost use Rattle.std.specs.Prelude.{Some};
     ghost use Rattle.wat_lists.specs.Refusals.{refusal};
 
@@ -43,12 +58,47 @@ impl fmt::Display for RunError {
 
     fn fmt<W: fmt::Write>(&self, f: &mut fmt::Formatter<W>) -> fmt::Result {
         match self {
-            RunError::Read(failed) => write!(f, "read failed{failed}"),
-            RunError::TooLong => write!(f, "input is too long"),
-            RunError::NotUtf8(offset) => write!(f, "input is not UTF-8 at byte {offset}"),
-            RunError::Write(failed) => write!(f, "write failed{failed}"),
-            RunError::Memory(_) => write!(f, "out of memory"),
+            RunFailure::Read(failed) => write!(f, "read failed{failed}"),
+            RunFailure::TooLong => write!(f, "input is too long"),
+            RunFailure::NotUtf8(offset) => write!(f, "input is not UTF-8 at byte {offset}"),
+            RunFailure::Write(failed) => write!(f, "write failed{failed}"),
+            RunFailure::Memory(_) => write!(f, "out of memory"),
         }
+    }
+}
+
+impl From<RunFailure> for RunError {
+    ghost use Rattle.std.specs.Prelude.{◌≡◌};
+    ghost use Rattle.wat_lists.specs.Refusals.{error_of};
+
+    ghost from_gives = { λ failure e. e ≡ error_of failure };
+
+    fn from(failure: RunFailure) -> RunError {
+        match failure {
+            RunFailure::Read(_) => RunError::Read,
+            RunFailure::TooLong => RunError::TooLong,
+            RunFailure::NotUtf8(_) => RunError::NotUtf8,
+            RunFailure::Write(_) => RunError::Write,
+            RunFailure::Memory(_) => RunError::Memory,
+        }
+    }
+}
+
+impl fmt::Display for RunError {
+    ghost use Rattle.std.specs.Prelude.{Some};
+    ghost use Rattle.wat_lists.specs.Refusals.{bare_refusal};
+
+    ghost output = { λ e. Some (bare_refusal e) };
+
+    fn fmt<W: fmt::Write>(&self, f: &mut fmt::Formatter<W>) -> fmt::Result {
+        let words = match self {
+            RunError::Read => "read failed",
+            RunError::TooLong => "input is too long",
+            RunError::NotUtf8 => "input is not UTF-8",
+            RunError::Write => "write failed",
+            RunError::Memory => "out of memory",
+        };
+        write!(f, "{words}")
     }
 }
 
@@ -60,29 +110,29 @@ const PIECE: usize = 65_536;
 
 /// All that a source has left, or the refusal: it is read to its end, or to one byte past the
 /// longest text.
-pub fn read_whole<R: Source>(alloc: Global, input: &mut R) -> Result<Vec<u8>, RunError>
+pub fn read_whole<R: Source>(alloc: Global, input: &mut R) -> Result<Vec<u8>, RunFailure>
     requires { R.failure input.old ≡ None }
     ensures whole { IfOk result (λ bytes.
         ReadsWhole (R.left input.old) (R.left input.new) bytes.items) }
     ensures ended { R.has_ended input.new ≡ is_ok result }
-    ensures past { IsErrOf result RunError.TooLong →
+    ensures past { IsErrOf result RunFailure.TooLong →
         ReadsPast (R.left input.old) (R.left input.new) }
-    ensures short { (IsErrOf result RunError.TooLong) ⊎
+    ensures short { (IsErrOf result RunFailure.TooLong) ⊎
         ReadsShort (R.left input.old) (R.left input.new) }
     ensures read { read_failure result ≡ R.failure input.new }
     ensures refused { IfErr result (λ e.
-        IsRead e ⊎ ((e ≡ RunError.TooLong) ⊎ (e ≡ RunError.Memory alloc_error))) }
+        IsRead e ⊎ ((e ≡ RunFailure.TooLong) ⊎ (e ≡ RunFailure.Memory alloc_error))) }
 {
     let mut bytes = Vec::new(alloc);
     let mut piece = [0u8; PIECE];
     'pieces: loop {
         let room = PIECE.min(LONGEST - bytes.len() + 1);
         match input.read(&mut piece[..room]) {
-            Err(failed) => return Err(RunError::Read(failed)),
+            Err(failed) => return Err(RunFailure::Read(failed)),
             Ok(0) => return Ok(bytes),
             Ok(count) => {
                 if count > LONGEST - bytes.len() {
-                    return Err(RunError::TooLong);
+                    return Err(RunFailure::TooLong);
                 }
                 bytes.extend_from_slice(&piece[..count])?;
             }
@@ -91,15 +141,15 @@ pub fn read_whole<R: Source>(alloc: Global, input: &mut R) -> Result<Vec<u8>, Ru
 }
 
 /// The text that bytes are.
-pub fn text_of(bytes: &[u8]) -> Result<&str, RunError>
+pub fn text_of(bytes: &[u8]) -> Result<&str, RunFailure>
     ensures text { IfOk result (λ text. text.now ≡ bytes.now) }
     ensures utf8 { OnOk result (IsUtf8 bytes.now) }
     ensures not_utf8 { (offset : ℕ) →
-        IsErrOf result (RunError.NotUtf8 offset) ↔ IsValidUpTo bytes.now offset }
+        IsErrOf result (RunFailure.NotUtf8 offset) ↔ IsValidUpTo bytes.now offset }
     ensures refused { IfErr result IsNotUtf8 }
 {
     match str::from_utf8(bytes) {
         Ok(text) => Ok(text),
-        Err(error) => Err(RunError::NotUtf8(error.valid_up_to())),
+        Err(error) => Err(RunFailure::NotUtf8(error.valid_up_to())),
     }
 }

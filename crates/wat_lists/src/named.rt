@@ -1,13 +1,55 @@
 //! What an error prints of the text of a file.
 ghost use Rattle.std.specs.Prelude.{◌≡◌, IfOk, string_bytes};
-ghost use Rattle.wat_lists.specs.Places.{printed_in};
+ghost use Rattle.wat_lists.specs.Places.{printed_in, visible, visible_char, visible_lines};
 
 use std::alloc::{AllocError, Global};
+use std::fmt;
 use wat_lex::error::Error;
+
+/// The character that is shown of a character: a picture of a control character.
+fn visible_char(c: char) -> char
+    ensures { result ≡ visible_char c }
+{
+    match c {
+        '\0'..='\u{1f}' => char::from_u32(0x2400 + c as u32).unwrap(),
+        '\u{7f}' => '\u{2421}',
+        '\u{80}'..='\u{9f}' => '\u{fffd}',
+        _ => c,
+    }
+}
+
+/// A text, which prints without its control characters: pictures are in their place.
+#[derive(Clone, Copy)]
+pub struct Shown<'a>(pub &'a str);
+
+impl fmt::Display for Shown<'_> {
+    ghost use Rattle.std.specs.Prelude.{Some};
+    ghost use Rattle.wat_lists.specs.Places.{visible};
+
+    ghost output = { λ s. Some (visible s.0.now) };
+
+    fn fmt<W: fmt::Write>(&self, f: &mut fmt::Formatter<W>) -> fmt::Result {
+        for c in self.0.chars() {
+            f.write_char(visible_char(c))?;
+        }
+        Ok(())
+    }
+}
+
+/// A text without its control characters but the line feeds.
+fn visible_lines(alloc: Global, text: &str) -> Result<String, AllocError>
+    ensures { IfOk result (λ shown. string_bytes shown ≡ visible_lines text.now) }
+{
+    let mut shown = String::new(alloc);
+    for c in text.chars() {
+        shown.push(if c == '\n' { c } else { visible_char(c) })?;
+    }
+    Ok(shown)
+}
 
 /// What an error prints, with a file's name in place of `<anon>`; or the name in front, where the
 /// error tells no line.
-pub fn named(alloc: Global, name: &str, error: &Error) -> Result<String, AllocError>
+fn placed(alloc: Global, name: &str, error: &Error) -> Result<String, AllocError>
     ensures { IfOk result (λ text. string_bytes text ≡ printed_in name.now error.now) }
 {
     let message = error.message(alloc)?;
@@ -23,4 +65,14 @@ pub fn named(alloc: Global, name: &str, error: &Error) -> Result<String, AllocEr
         return format!(in alloc; "{message} at {name}{rest}");
     }
     format!(in alloc; "{name}: {printed}")
+}
+
+/// What an error prints, with a file's name, and without control characters.
+pub fn named(alloc: Global, name: &str, error: &Error) -> Result<String, AllocError>
+    ensures { IfOk result (λ text.
+        string_bytes text ≡ visible_lines (printed_in (visible name.now) error.now)) }
+{
+    let name = format!(in alloc; "{}", Shown(name))?;
+    let placed = placed(alloc, &name, error)?;
+    visible_lines(alloc, &placed)
 }

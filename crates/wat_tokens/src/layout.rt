@@ -8,42 +8,36 @@ use std::io;
 use wat_commands::Settings;
 use wat_commands::ends::{Failed, Plain};
 use wat_commands::fmt::{Compared, run_compare, run_fmt};
+use wat_commands::named::Shown;
 use wat_commands::options::Mode;
-use wat_commands::outcome::Outcome;
-use wat_commands::run::RunError;
+use wat_commands::outcome::{Exit, Outcome};
+use wat_commands::respond::name_of;
+use wat_commands::run::RunFailure;
 
 /// Reports what came of a file, and answers the exit status.
-fn told(rt: &HostRuntime, file: &str, outcome: &Outcome<'_>) -> u8 {
-    let name = if file == "-" { None } else { Some(file) };
-    let _ = outcome.report(rt.alloc(), name, &mut rt.stderr());
-    outcome.status()
-}
-
-/// Reports what the other reports have no words for.
-fn complain(rt: &HostRuntime, file: &str, what: &str) -> u8 {
-    let _ = eprintln!(rt; "wat_tokens: {file}: {what}");
-    2
+fn reported(rt: &HostRuntime, file: &str, outcome: &Outcome<'_>) -> Exit {
+    let _ = outcome.report(rt.alloc(), Some(name_of(file)), &mut rt.stderr());
+    outcome.exit(true)
 }
 
 /// What a failed call that writes a file ends in.
 fn not_written(error: &io::Error) -> Outcome<'static> {
-    Outcome::Refused(RunError::Write(Failed::of(error)))
+    Outcome::Refused(RunFailure::Write(Failed::of(error)))
 }
 
 /// Names a file that is not laid out.
-fn name(rt: &HostRuntime, file: &str) -> u8 {
-    let shown = if file == "-" { "standard input" } else { file };
-    match println!(rt; "{shown}") {
-        Ok(()) => 1,
-        Err(error) => told(rt, file, &not_written(&error)),
+fn name(rt: &HostRuntime, file: &str) -> Outcome<'static> {
+    match println!(rt; "{}", Shown(name_of(file))) {
+        Ok(()) => Outcome::Differs,
+        Err(error) => not_written(&error),
     }
 }
 
 /// Makes a file that is not laid out this text.
-fn write(rt: &HostRuntime, file: &str, text: &str) -> u8 {
+fn write(rt: &HostRuntime, file: &str, text: &str) -> Outcome<'static> {
     match replace(rt, file, text) {
-        Ok(()) => 0,
-        Err(error) => told(rt, file, &not_written(&error)),
+        Ok(()) => Outcome::Listed,
+        Err(error) => not_written(&error),
     }
 }
 
@@ -54,33 +48,34 @@ fn compare(
     writes: bool,
     file: &str,
     input: &mut Plain<Input>,
-) -> u8
+) -> Outcome<'static>
     requires { plain_failure input.old ≡ None }
 {
     match run_compare(rt.alloc(), input, settings) {
-        Ok(Compared::Same) => 0,
-        Ok(Compared::Faulty(error)) => told(rt, file, &Outcome::Faulty(error)),
+        Ok(Compared::Same) => Outcome::Listed,
+        Ok(Compared::Faulty(error)) => Outcome::Faulty(error),
         Ok(Compared::Other(text)) if writes => write(rt, file, text.as_str()),
-        Ok(Compared::Longer) if writes => complain(rt, file, "its layout is too long"),
+        Ok(Compared::Longer) if writes => Outcome::Kept("its layout is too long"),
         Ok(Compared::Other(_) | Compared::Longer) => name(rt, file),
-        Err(error) => told(rt, file, &Outcome::Refused(error)),
+        Err(error) => Outcome::Refused(error),
     }
 }
 
 /// Does what is asked with the layout of the text of a file, and answers the exit status.
-pub fn lay_out(rt: &HostRuntime, settings: Settings, mode: Mode, file: &str) -> u8 {
+pub fn lay_out(rt: &HostRuntime, settings: Settings, mode: Mode, file: &str) -> Exit {
     let mut input = match open(rt, file) {
         Ok(input) => input,
-        Err(failed) => return told(rt, file, &Outcome::Unopened(failed)),
+        Err(failed) => return reported(rt, file, &Outcome::Unopened(failed)),
     };
-    match mode {
+    let outcome = match mode {
         Mode::Print => {
             let mut output = Plain::new(rt.stdout());
             let run = run_fmt(rt.alloc(), &mut input, &mut output, settings);
-            told(rt, file, &Outcome::of_run(run))
+            Outcome::of_run(run)
         }
-        Mode::Check => compare(rt, settings, false, file, &mut input),
-        Mode::Write if file == "-" => complain(rt, file, "standard input is no file"),
+        Mode::Check | Mode::Diff => compare(rt, settings, false, file, &mut input),
+        Mode::Write if file == "-" => Outcome::Kept("no file to write"),
         Mode::Write => compare(rt, settings, true, file, &mut input),
-    }
+    };
+    reported(rt, file, &outcome)
 }

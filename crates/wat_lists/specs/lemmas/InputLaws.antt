@@ -6,12 +6,12 @@ use Rattle.std.specs.Prelude.{Some, None, Option, IfSome, Result, Ok, Err, IfErr
 use Rattle.std.specs.Io.KnownBytes.{Consumes}
 use Rattle.std.specs.Str.{IsUtf8, IsValidUpTo}
 use Rattle.wat_lines.specs.Streams.{Reads}
-use Rattle.wat_lines.specs.declared.ends.Failed.{Failed}
+use Rattle.wat_lines.specs.declared.failed.Failed.{Failed}
 use Rattle.wat_lines.specs.lemmas.KnownBytes.{consumes_all, consumes_more}
 use Rattle.wat_lists.specs.Inputs.{ReadsWhole, ReadsPast, ReadsShort}
 use Rattle.wat_lists.specs.Refusals.{IsWrite}
-use Rattle.wat_lists.specs.declared.input.RunError.{RunError}
-use Rattle.wat_lists.specs.declared.input.RunError.TheVariants.{Read, TooLong, NotUtf8, Write, Memory}
+use Rattle.wat_lists.specs.declared.input.RunFailure.{RunFailure}
+use Rattle.wat_lists.specs.declared.input.RunFailure.TheVariants.{Read, TooLong, NotUtf8, Write, Memory}
 
 pub whole_is_short : {a b : Option (List ℕ)} {bytes : List ℕ} → ReadsWhole a b bytes → ReadsShort a b
 whole_is_short {bytes = bytes} r = record { bytes = bytes; given = r.given; short = r.short }
@@ -46,39 +46,39 @@ one_offset bs m n h k = elim (cases_order m n) [
   | inr other ↦ elim other [ inl less ↦ absurd (h.longest n less k.front) | inr more ↦ absurd (k.longest m more h.front) ]
 ]
 
-not_write : {T : Type 0} (n : ℕ) (failed : Failed) (r : Result T RunError) → r ≡ Err (Write failed) → r ≡ Err (NotUtf8 n) → ⊥
+not_write : {T : Type 0} (n : ℕ) (failed : Failed) (r : Result T RunFailure) → r ≡ Err (Write failed) → r ≡ Err (NotUtf8 n) → ⊥
 not_write n failed r h k = let d = sym h ∙ k in cc
 
-not_memory : {T : Type 0} (n : ℕ) (r : Result T RunError) → r ≡ Err (Memory alloc_error) → r ≡ Err (NotUtf8 n) → ⊥
+not_memory : {T : Type 0} (n : ℕ) (r : Result T RunFailure) → r ≡ Err (Memory alloc_error) → r ≡ Err (NotUtf8 n) → ⊥
 not_memory n r h k = let d = sym h ∙ k in cc
 
 -- what is refused for another reason is a text
-pub text_known : {T : Type 0} (r : Result T RunError) (bs : List ℕ) (n : ℕ) → IsUtf8 bs → IfErr r (λ e. IsWrite e ⊎ (e ≡ Memory alloc_error)) → IsErrOf r (NotUtf8 n) ↔ IsValidUpTo bs n
+pub text_known : {T : Type 0} (r : Result T RunFailure) (bs : List ℕ) (n : ℕ) → IsUtf8 bs → IfErr r (λ e. IsWrite e ⊎ (e ≡ Memory alloc_error)) → IsErrOf r (NotUtf8 n) ↔ IsValidUpTo bs n
 text_known (Ok t) bs n u h = (λ e. cc, λ v. absurd (valid_is_no_text bs n v u))
 text_known (Err e) bs n u h =
     (λ is. absurd (elim h [ inl w ↦ not_write n w.0 (Err e) (ap (λ x. Err x) w.1) is | inr m ↦ not_memory n (Err e) (ap (λ x. Err x) m) is ]), λ v. absurd (valid_is_no_text bs n v u))
 
-pub or_write : {T : Type 0} (r : Result T RunError) → IfErr r (λ e. e ≡ Memory alloc_error) → IfErr r (λ e. IsWrite e ⊎ (e ≡ Memory alloc_error))
+pub or_write : {T : Type 0} (r : Result T RunFailure) → IfErr r (λ e. e ≡ Memory alloc_error) → IfErr r (λ e. IsWrite e ⊎ (e ≡ Memory alloc_error))
 or_write (Ok t) h = tt
 or_write (Err e) h = inr h
 
-abbrev offset_of : RunError → ℕ
+abbrev offset_of : RunFailure → ℕ
 offset_of (Read failed) = 0
 offset_of TooLong = 0
 offset_of (NotUtf8 offset) = offset
 offset_of (Write failed) = 0
 offset_of (Memory refused) = 0
 
-abbrev error_of : {T : Type 0} → Result T RunError → RunError
+abbrev error_of : {T : Type 0} → Result T RunFailure → RunFailure
 error_of (Ok t) = TooLong
 error_of (Err e) = e
 
 -- the offset that is answered is the one
-pub stops_there : {T : Type 0} (bs : List ℕ) (m n : ℕ) → IsValidUpTo bs m → IsErrOf {T = T} {E = RunError} (Err (NotUtf8 m)) (NotUtf8 n) ↔ IsValidUpTo bs n
+pub stops_there : {T : Type 0} (bs : List ℕ) (m n : ℕ) → IsValidUpTo bs m → IsErrOf {T = T} {E = RunFailure} (Err (NotUtf8 m)) (NotUtf8 n) ↔ IsValidUpTo bs n
 stops_there bs m n v = (λ e. subst (λ k. IsValidUpTo bs k) (ap (λ r. offset_of (error_of r)) e) v, λ w. ap (λ k. Err (NotUtf8 k)) (one_offset bs m n v w))
 
 -- the same refusal of another call
-pub as_other : {T U B : Type 0} (e x : RunError) → (IsErrOf {T = T} {E = RunError} (Err e) x ↔ B) → (IsErrOf {T = U} {E = RunError} (Err e) x ↔ B)
+pub as_other : {T U B : Type 0} (e x : RunFailure) → (IsErrOf {T = T} {E = RunFailure} (Err e) x ↔ B) → (IsErrOf {T = U} {E = RunFailure} (Err e) x ↔ B)
 as_other e x h = (λ k. h.0 (ap (λ y. Err y) (ap error_of k)), λ b. ap (λ y. Err y) (ap error_of (h.1 b)))
 
 -- a read that goes past the longest text, into a buffer that has room for one byte more than it

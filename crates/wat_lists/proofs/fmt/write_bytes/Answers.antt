@@ -1,4 +1,4 @@
-use Rattle.wat_lists.specs.declared.input.RunError.TheVariants.{NotUtf8}
+use Rattle.wat_lists.specs.declared.input.RunFailure.TheVariants.{NotUtf8}
 use Rattle.wat_lists.specs.lemmas.InputLaws.{text_known, as_other}
 use Rattle.wat_lists.proofs.fmt.write_bytes.Goals as goal
 

@@ -1,7 +1,7 @@
 use Rattle.std.proofs.Common.{◌++◌, ◌∙◌, ap, sym}
 use Rattle.std.specs.Prelude.{codes, string_bytes}
 use Rattle.wat_lists.proofs.NamedLaws.{message_first, near_named, far_named, none_named, stripped, text_is}
-use Rattle.wat_lists.proofs.named.named.Goals as goal
+use Rattle.wat_lists.proofs.named.placed.Goals as goal
 
 pub returns-in_default : goal.returns-in_default
 returns-in_default c = absurd (message_first c.args.error.now c.deref.result.now c.as_str.result.now (c.deref.ensures ∙ c.in_ok-printed.ensures.ok) (c.as_str.ensures.value ∙ c.in_ok-message.ensures) c.in_default.ensures.cases)

@@ -1,0 +1,205 @@
+//! What is said of words that ask for nothing.
+ghost use Rattle.std.specs.Prelude.{◌≡◌, ◌↔◌, false};
+ghost use Rattle.wat_commands.specs.Complaints.{goes_beyond, is_own_option, rest_goes_beyond, Usage};
+ghost use Rattle.wat_commands.specs.Options.{front_of};
+
+use crate::options::{
+    FileNames, Front, Verb, is_file, looks_like_file, read_front, split_mode, split_verb,
+    verb_named,
+};
+use std::fmt;
+use wat_lists::named::Shown;
+
+/// What is wrong with words that ask for nothing.
+#[derive(Clone, Copy)]
+pub enum Complaint<'a> {
+    /// They are not of the form that the usage line shows, and say nothing of what goes beyond it.
+    Usage,
+    /// A flag is given twice.
+    Twice(&'a str),
+    /// `--file` has no name after it.
+    Nameless,
+    /// An option comes after the place where it belongs.
+    Late(&'a str),
+    /// There is no such option.
+    Unknown(&'a str),
+    /// There is no such command, and no such file.
+    Nothing(&'a str),
+    /// Only the lists are written as JSON.
+    NoJson,
+    /// `types` reads a text as the standard has it.
+    NoFlags,
+    /// A word is no call of a parser.
+    NoCall,
+    /// Files are named before `--` and after it.
+    Mixed,
+    /// The command takes one file.
+    TooMany,
+}
+
+impl fmt::Display for Complaint<'_> {
+    ghost use Rattle.std.specs.Prelude.{Some};
+    ghost use Rattle.wat_commands.specs.Complaints.{complaint};
+
+    ghost output = { λ c. Some (complaint c) };
+
+    fn fmt<W: fmt::Write>(&self, f: &mut fmt::Formatter<W>) -> fmt::Result {
+        match self {
+            Complaint::Usage => write!(
+                f,
+                "usage: wat_tokens [--allow-confusing] [--strict-underscores] [sig NAME.. | play CALL..]"
+            ),
+            Complaint::Twice(word) => write!(f, "{word} is given twice"),
+            Complaint::Nameless => write!(f, "--file has no name after it"),
+            Complaint::Late(word) => write!(f, "{word} comes too late"),
+            Complaint::Unknown(word) => write!(f, "unknown option: {}", Shown(word)),
+            Complaint::Nothing(word) => write!(f, "no such command or file: {}", Shown(word)),
+            Complaint::NoJson => write!(f, "--json goes with list and sig alone"),
+            Complaint::NoFlags => write!(
+                f,
+                "types takes neither --allow-confusing nor --strict-underscores"
+            ),
+            Complaint::NoCall => write!(f, "play takes calls of a parser alone"),
+            Complaint::Mixed => write!(f, "files are named before -- or after it, not both"),
+            Complaint::TooMany => write!(f, "this command takes one file"),
+        }
+    }
+}
+
+/// Whether a word is an option that the usage line does not show.
+fn is_own_option(word: &String) -> bool
+    ensures { result ≡ is_own_option word.now }
+{
+    let text = word.as_str();
+    text == "--file" || text == "--help" || text == "-h" || text == "--version"
+}
+
+/// Whether the words after the options say something that goes beyond the usage line. A first word
+/// that is no command names a file where it shows that, or where such a file is there.
+fn rest_goes_beyond(words: &[String], there: bool) -> bool
+    ensures { result ≡ rest_goes_beyond there words.now }
+{
+    let Some((word, _)) = words.split_first() else {
+        return false;
+    };
+    match verb_named(word) {
+        Some(verb) => !verb.owns_words(),
+        None => is_own_option(word) || looks_like_file(word) || (there && is_file(word)),
+    }
+}
+
+/// Whether the words say something that goes beyond the usage line.
+fn goes_beyond(words: &[String], there: bool) -> bool
+    ensures { result ≡ goes_beyond there words.now }
+{
+    let front = read_front(words);
+    let named = FileNames::of_options(words);
+    front.json > 0 || !named.are_none() || rest_goes_beyond(front.rest, there)
+}
+
+/// The flag that is given twice.
+fn twice(front: &Front<'_>) -> Option<&'static str> {
+    if front.allow > 1 {
+        return Some("--allow-confusing");
+    }
+    if front.strict > 1 {
+        return Some("--strict-underscores");
+    }
+    if front.json > 1 {
+        return Some("--json");
+    }
+    None
+}
+
+/// Whether the word is an option in another place.
+fn is_option(word: &str) -> bool {
+    matches!(
+        word,
+        "--allow-confusing"
+            | "--strict-underscores"
+            | "--json"
+            | "--file"
+            | "--help"
+            | "-h"
+            | "--version"
+            | "--check"
+            | "--write"
+            | "--diff"
+    )
+}
+
+/// What is wrong with the words that name files.
+fn wrong_files(words: &[String]) -> Complaint<'_> {
+    for word in words {
+        if word.as_str() == "--" {
+            break;
+        }
+        if !is_file(word) {
+            return if is_option(word) {
+                Complaint::Late(word.as_str())
+            } else {
+                Complaint::Unknown(word.as_str())
+            };
+        }
+    }
+    match words.split_first() {
+        Some((first, rest))
+            if first.as_str() != "--" && rest.iter().any(|word| word.as_str() == "--") => {
+            Complaint::Mixed
+        }
+        _ => Complaint::TooMany,
+    }
+}
+
+/// What is wrong with a command and the words after its name.
+fn wrong_command<'a>(front: &Front<'a>) -> Complaint<'a> {
+    let (verb, after) = split_verb(front.rest);
+    if front.json > 0 && verb != Verb::List && verb != Verb::Sig {
+        return Complaint::NoJson;
+    }
+    match verb {
+        Verb::Types if front.allow + front.strict > 0 => Complaint::NoFlags,
+        Verb::Fmt => wrong_files(split_mode(after).1),
+        Verb::Play if !after.is_empty() => Complaint::NoCall,
+        Verb::List | Verb::Sig | Verb::Play | Verb::Blank | Verb::Types => wrong_files(after),
+    }
+}
+
+/// What is wrong with words that go beyond the usage line.
+fn wrong_beyond(words: &[String], there: bool) -> Complaint<'_> {
+    let front = read_front(words);
+    if let Some(flag) = twice(&front) {
+        return Complaint::Twice(flag);
+    }
+    let Some((word, _)) = front.rest.split_first() else {
+        return wrong_command(&front);
+    };
+    if word.as_str() == "--file" {
+        return Complaint::Nameless;
+    }
+    if is_own_option(word) {
+        return Complaint::Late(word.as_str());
+    }
+    if verb_named(word).is_some() || looks_like_file(word) || (there && is_file(word)) {
+        return wrong_command(&front);
+    }
+    if is_file(word) {
+        Complaint::Nothing(word.as_str())
+    } else {
+        Complaint::Unknown(word.as_str())
+    }
+}
+
+/// What is wrong with words that ask for nothing, or whose first word is in question and names no
+/// file that is there.
+pub fn complaint_of(words: &[String], there: bool) -> Complaint<'_>
+    ensures { (result ≡ Complaint.Usage) ↔ (goes_beyond there words.now ≡ false) }
+{
+    if !goes_beyond(words, there) {
+        return Complaint::Usage;
+    }
+    match wrong_beyond(words, there) {
+        Complaint::Usage => Complaint::TooMany,
+        complaint => complaint,
+    }
+}
