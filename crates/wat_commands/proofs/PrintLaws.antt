@@ -1,6 +1,7 @@
 -- What is printed of a text that is read twice: first for its fault, and then for what is written.
-use Rattle.std.proofs.Common.{◌≡◌, ◌<◌, ◌^◌, ℕ, List, [], length, refl, sym, ap, ◌∙◌, subst, inl}
+use Rattle.std.proofs.Common.{◌≡◌, ◌<◌, ◌^◌, ℕ, List, [], ◌++◌, length, refl, sym, ap, ◌∙◌, subst, inl}
 use Rattle.std.specs.Prelude.{Option, Some, None, Result, Ok, Err, IfOk, OnOk, OnErr, flat_map}
+use Rattle.std.proofs.lemmas.List.{append-nil}
 use Rattle.std.specs.Option.{option_map}
 use Rattle.std.specs.Io.KnownBytes.{Appends}
 use Rattle.std.specs.Str.{IsUtf8}
@@ -13,16 +14,18 @@ use Rattle.wat_lex.specs.declared.lexer.kinds.Token.{Token}
 use Rattle.wat_lex.specs.declared.lexer.settings.Settings.{Settings}
 use Rattle.wat_lexer_parser.specs.laws.BlankTexts.{blank_text, BlankTextsShowTheSame}
 use Rattle.wat_lines.specs.Blocks.{AppendsEach, AppendsEachCut, ReportsEnd}
-use Rattle.wat_lines.specs.JsonRows.{json_line}
+use Rattle.wat_lines.specs.JsonRows.{json_line, json_lines, json_open}
 use Rattle.wat_lines.specs.Lines.{line}
 use Rattle.wat_lines.specs.Streams.{AppendsPrefix, failure_after}
 use Rattle.wat_lines.specs.declared.failed.Failed.{Failed}
-use Rattle.wat_lines.specs.lemmas.KnownBytes.{appends_none}
+use Rattle.wat_lines.specs.lemmas.BlockLaws.{cut_behind, cut_longer}
+use Rattle.wat_lines.specs.lemmas.KnownBytes.{appends_more, appends_none}
 use Rattle.wat_lists.specs.Blanks.{Blanks}
-use Rattle.wat_lists.specs.JsonLists.{JsonLists}
+use Rattle.wat_lists.specs.JsonLists.{JsonLists, json_report}
 use Rattle.wat_lists.specs.Lists.{Lists}
 use Rattle.wat_lists.specs.Refusals.{answered}
 use Rattle.wat_lists.specs.declared.input.RunFailure.{RunFailure}
+use Rattle.wat_commands.specs.JsonWrites.{AppendsRows, AppendsRowsCut}
 use Rattle.wat_commands.specs.Printed.{AppendsText, AppendsCut}
 use Rattle.wat_commands.specs.Writes.{Writes}
 
@@ -67,33 +70,48 @@ lists_cut settings text old new u l each = record {
   appended = each.appended;
 }
 
-pub json_written : TilingsAreOne → (settings : Settings) (text : List ℕ) (error : Option (Option Report)) (old new : Option (List ℕ)) → IsUtf8 text → length text < 2 ^ 32 → ReportsEnd (setting settings text) error → AppendsEach (json_line text) (setting settings text) old new
-    → AppendsText (JsonLists settings text) error old new
-json_written one settings text error old new u l reports each = record {
-  text = flat_map (json_line text) each.tokens;
-  printed = record {
-    utf8 = u;
-    short = l;
-    fault = each.ending;
-    list = record { tokens = each.tokens; tiling = each.tiling; lines = refl };
-    reported = same_ending one (setting settings text) error reports (each.tokens, each.ending, each.tiling);
-  };
-  appended = each.appended;
+-- the lines of the raw tokens of a text as JSON, and of its fault
+rows : TilingsAreOne → (settings : Settings) (file : Option (List ℕ)) (text begin last : List ℕ) (error : Option (Option Report)) → IsUtf8 text → length text < 2 ^ 32 → ReportsEnd (setting settings text) error → begin ≡ json_open file → last ≡ json_report begin text error
+    → (tokens : List Token) (ending : Option LexFault) → MaximalTiling (setting settings text) 0 tokens ending → JsonLists settings file text (json_lines begin text tokens ++ last) error
+rows one settings file text begin last error u l reports b e tokens ending tiling = record {
+  utf8 = u;
+  short = l;
+  tokens = tokens;
+  fault = ending;
+  tiling = tiling;
+  lines = ap (λ x. json_lines begin text tokens ++ x) e ∙ ap (λ x. json_lines x text tokens ++ json_report x text error) b;
+  reported = same_ending one (setting settings text) error reports (tokens, ending, tiling);
 }
 
-pub json_cut : (settings : Settings) (text : List ℕ) (old new : Option (List ℕ)) → IsUtf8 text → length text < 2 ^ 32 → AppendsEachCut (json_line text) (setting settings text) old new → AppendsCut (JsonLists settings text) old new
-json_cut settings text old new u l each = record {
-  text = flat_map (json_line text) each.tokens;
-  error = report_of text each.ending;
-  printed = record {
-    utf8 = u;
-    short = l;
-    fault = each.ending;
-    list = record { tokens = each.tokens; tiling = each.tiling; lines = refl };
-    reported = refl;
-  };
-  appended = each.appended;
+pub json_written : TilingsAreOne → (settings : Settings) (file : Option (List ℕ)) (text begin last : List ℕ) (error : Option (Option Report)) (old new : Option (List ℕ)) → IsUtf8 text → length text < 2 ^ 32 → ReportsEnd (setting settings text) error → begin ≡ json_open file → last ≡ json_report begin text error
+    → AppendsRows begin last (setting settings text) old new → AppendsText (JsonLists settings file text) error old new
+json_written one settings file text begin last error old new u l reports b e h = record {
+  text = json_lines begin text h.tokens ++ last;
+  printed = rows one settings file text begin last error u l reports b e h.tokens h.ending h.tiling;
+  appended = h.appended;
 }
+
+pub json_cut : TilingsAreOne → (settings : Settings) (file : Option (List ℕ)) (text begin last : List ℕ) (error : Option (Option Report)) (old new : Option (List ℕ)) → IsUtf8 text → length text < 2 ^ 32 → ReportsEnd (setting settings text) error → begin ≡ json_open file → last ≡ json_report begin text error
+    → AppendsRowsCut begin last (setting settings text) old new → AppendsCut (JsonLists settings file text) old new
+json_cut one settings file text begin last error old new u l reports b e h = record {
+  text = json_lines begin text h.tokens ++ last;
+  error = error;
+  printed = rows one settings file text begin last error u l reports b e h.tokens h.ending h.tiling;
+  appended = h.appended;
+}
+
+-- the lines of the tokens, and then the last one
+pub rows_alone : (begin last : List ℕ) (s : Setting) (old new : Option (List ℕ)) → last ≡ [] → AppendsEach (json_line begin s.text) s old new → AppendsRows begin last s old new
+rows_alone begin last s old new e h = record { tokens = h.tokens; ending = h.ending; tiling = h.tiling; appended = subst (λ x. Appends old new x) (sym (ap (λ x. json_lines begin s.text h.tokens ++ x) e ∙ append-nil (json_lines begin s.text h.tokens))) h.appended }
+
+pub rows_and_last : (begin last : List ℕ) (s : Setting) (old mid new : Option (List ℕ)) → AppendsEach (json_line begin s.text) s old mid → Appends mid new last → AppendsRows begin last s old new
+rows_and_last begin last s old mid new h k = record { tokens = h.tokens; ending = h.ending; tiling = h.tiling; appended = appends_more old mid new (json_lines begin s.text h.tokens) last (json_lines begin s.text h.tokens ++ last) h.appended k refl }
+
+pub rows_cut : (begin last : List ℕ) (s : Setting) (old new : Option (List ℕ)) → AppendsEachCut (json_line begin s.text) s old new → AppendsRowsCut begin last s old new
+rows_cut begin last s old new h = record { tokens = h.tokens; ending = h.ending; tiling = h.tiling; appended = cut_longer old new (json_lines begin s.text h.tokens) last (json_lines begin s.text h.tokens ++ last) h.appended refl }
+
+pub last_cut : (begin last : List ℕ) (s : Setting) (old mid new : Option (List ℕ)) → AppendsEach (json_line begin s.text) s old mid → AppendsPrefix mid new last → AppendsRowsCut begin last s old new
+last_cut begin last s old mid new h k = record { tokens = h.tokens; ending = h.ending; tiling = h.tiling; appended = cut_behind old mid new (json_lines begin s.text h.tokens) last (json_lines begin s.text h.tokens ++ last) h.appended k refl }
 
 no_ending : (text : List ℕ) (ending : Option LexFault) → None ≡ report_of text ending → ending ≡ None
 no_ending text None e = refl

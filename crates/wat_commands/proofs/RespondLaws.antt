@@ -1,21 +1,25 @@
--- Files that are run one behind the other.
-use Rattle.std.proofs.Common.{◌≡◌, ◌⊎◌, inl, inr, ◌+◌, ◌<◌, ◌≤◌, ℕ, List, [], ◌∷◌, ◌++◌, length, length-append, take, get_or, refl, sym, ap, ◌∙◌, subst, arith}
+-- Files that are run, or laid out, one after the other.
+use Rattle.std.proofs.Common.{◌≡◌, ◌⊎◌, inl, inr, ◌+◌, ◌<◌, ◌≤◌, ℕ, true, List, [], ◌∷◌, ◌++◌, length, length-append, take, refl, sym, ap, ◌∙◌, subst, arith, append_assoc}
 use Rattle.std.proofs.Math.Nat.{max_comm, max-le, le-max_left, le-max_right}
-use Rattle.std.proofs.lemmas.List.{take_more}
-use Rattle.std.specs.Prelude.{max, string_bytes, Option, IsSome, IfSome}
+use Rattle.std.proofs.Math.Seq.{take-append_seam}
+use Rattle.std.proofs.lemmas.List.{append-nil}
+use Rattle.std.specs.Prelude.{max, string_bytes, Option, IsSome}
 use Rattle.wat_lines.specs.declared.failed.Failed.{Failed}
 use Rattle.wat_commands.specs.Options.{Word}
+use Rattle.wat_commands.specs.OptionSteps.{IsNext}
 use Rattle.wat_commands.specs.Outcomes.{status}
-use Rattle.wat_commands.specs.Responses.{GreatestOfEach, Runner, RanEach, RanFiles, worst}
-use Rattle.wat_commands.specs.Responses.GreatestOfEach.{one_more}
+use Rattle.wat_commands.specs.Responses.{Layer, LaidOutEach, Runner, RanEach, RanFiles, worst}
+use Rattle.wat_commands.specs.Responses.LaidOutEach.{no_file, one_more}
 use Rattle.wat_commands.specs.Responses.RanEach.{none, more}
 use Rattle.wat_commands.specs.declared.outcome.Outcome.{Outcome}
 
--- so many of the files were run
-pub record RanSoFar {T : Type 0} (run : Runner T) (files : List Word) (n : ℕ) (output output' : T) (exit : ℕ) : Type 0 where
+-- those of the files were run that are not left
+pub record RanSoFar {I T : Type 0} (run : Runner I T) (files left : List Word) (inputs inputs' : I) (output output' : T) (exit : ℕ) : Type 0 where
+  pub done : List Word
   pub outcomes : List Outcome
-  pub ran : RanEach run (take n files) outcomes output output'
-  pub count : length outcomes ≡ n
+  pub ran : RanEach run done outcomes inputs inputs' output output'
+  pub all : files ≡ done ++ left
+  pub count : length outcomes ≡ length done
   pub greatest : exit ≡ worst outcomes
 
 max_assoc : (a b c : ℕ) → max a (max b c) ≡ max (max a b) c
@@ -24,34 +28,52 @@ max_assoc a b c =
     let right : max (max a b) c ≤ max a (max b c) = max-le (max-le (le-max_left a (max b c)) (omega (arith, le-max_left b c, le-max_right a (max b c)))) (omega (arith, le-max_right b c, le-max_right a (max b c))) in
     omega (arith, left, right)
 
-worst_more : (before : List Outcome) (outcome : Outcome) → worst (before ++ outcome ∷ []) ≡ max (worst before) (status outcome)
-worst_more [] outcome = max_comm (status outcome) 0
-worst_more (other ∷ before) outcome = ap (max (status other)) (worst_more before outcome) ∙ max_assoc (status other) (worst before) (status outcome)
+worst_more : (before : List Outcome) (outcome : Outcome) → worst (before ++ outcome ∷ []) ≡ max (worst before) (status true outcome)
+worst_more [] outcome = max_comm (status true outcome) 0
+worst_more (other ∷ before) outcome = ap (max (status true other)) (worst_more before outcome) ∙ max_assoc (status true other) (worst before) (status true outcome)
 
-pub none_ran : {T : Type 0} (run : Runner T) (files : List Word) (output : T) → RanSoFar run files 0 output output 0
-none_ran run files output = record { outcomes = []; ran = none output; count = refl; greatest = refl }
+pub none_ran : {I T : Type 0} (run : Runner I T) (files : List Word) (inputs : I) (output : T) → RanSoFar run files files inputs inputs output output 0
+none_ran run files inputs output = record { done = []; outcomes = []; ran = none inputs output; all = refl; count = refl; greatest = refl }
+
+next_done : (files done left left' : List Word) (word : Word) → files ≡ done ++ left → left ≡ word ∷ left' → files ≡ (done ++ word ∷ []) ++ left'
+next_done files done left left' word e f = e ∙ ap (λ x. done ++ x) f ∙ sym (append_assoc done (word ∷ []) left')
 
 -- one file more
-pub one_more_ran : {T : Type 0} (run : Runner T) (files : List Word) (n : ℕ) (file : Word) (output between output' : T) (outcome : Outcome) (greatest greatest' : ℕ) → n < length files → file ≡ get_or files n file → RanSoFar run files n output between greatest
-    → run (string_bytes file) between output' outcome → greatest' ≡ max greatest (status outcome) → RanSoFar run files (n + 1) output output' greatest'
-one_more_ran run files n file output between output' outcome greatest greatest' lt at h r e = record {
+pub one_more_ran : {I T : Type 0} (run : Runner I T) (files left left' : List Word) (name : List ℕ) (inputs between inputs' : I) (output within output' : T) (outcome : Outcome) (greatest greatest' : ℕ) → IsNext left name left' → RanSoFar run files left inputs between output within greatest
+    → run name between inputs' within output' outcome → greatest' ≡ max greatest (status true outcome) → RanSoFar run files left' inputs inputs' output output' greatest'
+one_more_ran run files left left' name inputs between inputs' output within output' outcome greatest greatest' next h r e = record {
+  done = h.done ++ next.word ∷ [];
   outcomes = h.outcomes ++ outcome ∷ [];
-  ran = more (take n files) (take (n + 1) files) file h.outcomes (h.outcomes ++ outcome ∷ []) outcome output between output' (take_more files n file lt ∙ ap (λ f. take n files ++ f ∷ []) (sym at)) refl h.ran r;
-  count = length-append h.outcomes (outcome ∷ []) ∙ ap (λ m. m + 1) h.count;
-  greatest = e ∙ ap (λ m. max m (status outcome)) h.greatest ∙ sym (worst_more h.outcomes outcome);
+  ran = more h.done (h.done ++ next.word ∷ []) next.word h.outcomes (h.outcomes ++ outcome ∷ []) outcome inputs between inputs' output within output' refl refl h.ran (subst (λ n. run n between inputs' within output' outcome) (sym next.text) r);
+  all = next_done files h.done left left' next.word h.all next.all;
+  count = length-append h.outcomes (outcome ∷ []) ∙ ap (λ m. m + 1) h.count ∙ sym (length-append h.done (next.word ∷ []));
+  greatest = e ∙ ap (λ m. max m (status true outcome)) h.greatest ∙ sym (worst_more h.outcomes outcome);
 }
 
-pub all_ran : {T : Type 0} (run : Runner T) (failure : T → Option Failed) (files : List Word) (n : ℕ) (output output' : T) (greatest : ℕ) → RanSoFar run files n output output' greatest → (n ≡ length files) ⊎ IsSome (failure output') → RanFiles run failure files output output' greatest
-all_ran run failure files n output output' greatest h whole = record {
+pub all_ran : {I T : Type 0} (run : Runner I T) (failure : T → Option Failed) (files left : List Word) (inputs inputs' : I) (output output' : T) (greatest : ℕ) → RanSoFar run files left inputs inputs' output output' greatest → (left ≡ []) ⊎ IsSome (failure output') → RanFiles run failure files inputs inputs' output output' greatest
+all_ran run failure files left inputs inputs' output output' greatest h whole = record {
   outcomes = h.outcomes;
-  ran = subst (λ m. RanEach run (take m files) h.outcomes output output') (sym h.count) h.ran;
-  whole = elim whole [ inl e ↦ inl (h.count ∙ e) | inr f ↦ inr f ];
+  ran = subst (λ fs. RanEach run fs h.outcomes inputs inputs' output output') (sym (ap (λ n. take n files) h.count ∙ ap (take (length h.done)) h.all ∙ take-append_seam h.done left)) h.ran;
+  whole = elim whole [ inl e ↦ inl (h.count ∙ sym (ap length (h.all ∙ ap (λ x. h.done ++ x) e ∙ append-nil h.done))) | inr f ↦ inr f ];
   greatest = h.greatest;
 }
 
--- the status of one file more
-pub one_more_status : (known : List ℕ → Option ℕ) (files : List Word) (n : ℕ) (file : Word) (worst status worst' : ℕ) → n < length files → file ≡ get_or files n file → GreatestOfEach known (take n files) worst → IfSome (known (string_bytes file)) (λ s. status ≡ s)
-    → worst' ≡ max worst status → GreatestOfEach known (take (n + 1) files) worst'
-one_more_status known files n file worst status worst' lt at h k e =
-    subst (λ m. GreatestOfEach known (take (n + 1) files) m) (sym e)
-    (one_more (take n files) (take (n + 1) files) file worst status (take_more files n file lt ∙ ap (λ f. take n files ++ f ∷ []) (sym at)) h k)
+-- those of the files were laid out that are not left
+pub record LaidSoFar {I : Type 0} (lay : Layer I) (files left : List Word) (inputs inputs' : I) (exit : ℕ) : Type 0 where
+  pub done : List Word
+  pub laid : LaidOutEach lay done inputs inputs' exit
+  pub all : files ≡ done ++ left
+
+pub none_laid : {I : Type 0} (lay : Layer I) (files : List Word) (inputs : I) → LaidSoFar lay files files inputs inputs 0
+none_laid lay files inputs = record { done = []; laid = no_file inputs; all = refl }
+
+pub one_more_laid : {I : Type 0} (lay : Layer I) (files left left' : List Word) (name : List ℕ) (inputs between inputs' : I) (worst worst' status : ℕ) → IsNext left name left' → LaidSoFar lay files left inputs between worst → lay name between inputs' status
+    → worst' ≡ max worst status → LaidSoFar lay files left' inputs inputs' worst'
+one_more_laid lay files left left' name inputs between inputs' worst worst' status next h l e = record {
+  done = h.done ++ next.word ∷ [];
+  laid = subst (λ m. LaidOutEach lay (h.done ++ next.word ∷ []) inputs inputs' m) (sym e) (one_more h.done (h.done ++ next.word ∷ []) next.word inputs between inputs' worst status refl h.laid (subst (λ n. lay n between inputs' status) (sym next.text) l));
+  all = next_done files h.done left left' next.word h.all next.all;
+}
+
+pub all_laid : {I : Type 0} (lay : Layer I) (files left : List Word) (inputs inputs' : I) (exit : ℕ) → LaidSoFar lay files left inputs inputs' exit → left ≡ [] → LaidOutEach lay files inputs inputs' exit
+all_laid lay files left inputs inputs' exit h e = subst (λ fs. LaidOutEach lay fs inputs inputs' exit) (sym (h.all ∙ ap (λ x. h.done ++ x) e ∙ append-nil h.done)) h.laid

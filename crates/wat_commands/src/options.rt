@@ -1,6 +1,6 @@
 //! The words of the command line.
 ghost use Rattle.std.specs.Prelude.{◌≡◌, ◌↔◌, ◌<◌, true, false, IfOk, OnErr, IfSome, IfNone, IsTrue};
-ghost use Rattle.std.specs.Prelude.{MatchOption, List, length};
+ghost use Rattle.std.specs.Prelude.{MatchOption, List, [], length, nat_eq, nat_lt, codes, string_bytes, All};
 ghost use Rattle.std.specs.Option.{option_map};
 ghost use Rattle.std.specs.declared.alloc.Global.{Global};
 ghost use Rattle.std.specs.declared.string.String.{String};
@@ -187,7 +187,7 @@ impl<'a> FileNames<'a> {
 
     /// Whether there are several.
     pub fn are_several(&self) -> bool
-        ensures { IsTrue result ↔ 1 < length (file_names self.now) }
+        ensures { result ≡ nat_lt 1 (length (file_names self.now)) }
     {
         let mut rest = *self;
         rest.next().is_some() && rest.next().is_some()
@@ -195,7 +195,7 @@ impl<'a> FileNames<'a> {
 
     /// Whether there is none.
     pub fn are_none(&self) -> bool
-        ensures { IsTrue result ↔ (file_names self.now ≡ []) }
+        ensures { result ≡ nat_eq (length (file_names self.now)) 0 }
     {
         let mut rest = *self;
         rest.next().is_none()

@@ -6,7 +6,6 @@ ghost use Rattle.wat_lex.specs.declared.lexer.settings.Settings.{Settings};
 ghost use Rattle.wat_commands.specs.Outcomes.{exit_code, is_marked, is_unread, outcome_of, hint};
 ghost use Rattle.wat_commands.specs.Outcomes.{refused, objection, Ran, status, task_prints, Tells};
 ghost use Rattle.wat_commands.specs.Outcomes.{TellsFault};
-ghost use Rattle.wat_commands.specs.Printed.{prints};
 
 use crate::complaint::Complaint;
 use crate::options::Task;
@@ -117,21 +116,6 @@ impl fmt::Display for OfFile<'_> {
     }
 }
 
-/// What a task prints, of the text of a file of this name, if it has one.
-fn printing_of<'a>(task: &'a Task<'a>, file: Option<&'a str>) -> Printing<'a>
-    ensures { (s : Settings) → prints s result ≡ task_prints s (option_map (λ f. f.now) file) task.now }
-{
-    match task {
-        Task::List => Printing::Raw,
-        Task::Sig(names) => Printing::Shown(names),
-        Task::JsonList => Printing::JsonRaw(file),
-        Task::JsonSig(names) => Printing::JsonShown(names, file),
-        Task::Play(calls) => Printing::Replies(calls),
-        Task::Blank => Printing::Blank,
-        Task::Types => Printing::Types,
-    }
-}
-
 /// Writes what the task asks for of one text, that of a file of this name, if it has one.
 pub fn carry_out<R: Source, W: Sink>(
     alloc: Global,
@@ -144,10 +128,18 @@ pub fn carry_out<R: Source, W: Sink>(
     requires input { R.failure input.old ≡ None }
     requires output { W.failure output.old ≡ None }
     ensures { Ran R.left R.failure R.has_ended W.held W.failure
-        (task_prints settings (option_map (λ f. f.now) file) task.now)
+        (task_prints settings (option_map (λ f. f.now) file.entry) task.now)
         input.old input.new output.old output.new result }
 {
-    Outcome::of_run(run(alloc, input, output, settings, printing_of(task, file)))
+    Outcome::of_run(match task {
+        Task::List => run(alloc, input, output, settings, Printing::Raw),
+        Task::Sig(names) => run(alloc, input, output, settings, Printing::Shown(names)),
+        Task::JsonList => run(alloc, input, output, settings, Printing::JsonRaw(file)),
+        Task::JsonSig(names) => run(alloc, input, output, settings, Printing::JsonShown(names, file)),
+        Task::Play(calls) => run(alloc, input, output, settings, Printing::Replies(calls)),
+        Task::Blank => run(alloc, input, output, settings, Printing::Blank),
+        Task::Types => run(alloc, input, output, settings, Printing::Types),
+    })
 }
 
 impl<'a> Outcome<'a> {

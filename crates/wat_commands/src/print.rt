@@ -145,7 +145,7 @@ fn print_json<W: Sink>(
     requires text { length text.now < 2 ^ 32 }
     requires output { W.failure output.old ≡ None }
     ensures printed { Writes W.held W.failure
-        (JsonLists settings (option_map (λ f. f.now) file) text.now) output.old output.new result }
+        (JsonLists settings (option_map (λ f. f.now) file.entry) text.now) output.old output.new result }
     ensures refused { IfErr result (λ e. IsWrite e ⊎ (e ≡ RunFailure.Memory alloc_error)) }
 {
     wat_lex::laws::one_tiling();

@@ -9,7 +9,7 @@ ghost use Rattle.wat_lists.specs.Refusals.{IsWrite, read_failure, write_failure}
 ghost use Rattle.wat_lists.specs.Replies.{Plays};
 ghost use Rattle.wat_lists.specs.Shows.{Shows};
 ghost use Rattle.wat_commands.specs.Printed.{prints, AppendsText, AppendsCut};
-ghost use Rattle.wat_commands.specs.Runs.{Runs, without_cause, without_error};
+ghost use Rattle.wat_commands.specs.Runs.{Runs, RunsWithCause, without_cause, without_error};
 
 pub use crate::print::Printing;
 use crate::print::print;
@@ -21,9 +21,8 @@ use wat_lines::ends::{Sink, Source};
 use wat_lists::input::read_whole;
 pub use wat_lists::input::{RunError, RunFailure};
 
-/// Writes what is printed of all that the source has left, and answers the error of its fault; or the
-/// cause of a refusal.
-pub fn run<R: Source, W: Sink>(
+/// Reads all that the source has left, and writes what is printed of it.
+fn read_and_print<R: Source, W: Sink>(
     alloc: Global,
     input: &mut R,
     output: &mut W,
@@ -62,6 +61,23 @@ pub fn run<R: Source, W: Sink>(
 {
     let bytes = read_whole(alloc, input)?;
     print(alloc, &bytes, settings, printing, output)
+}
+
+/// Writes what is printed of all that the source has left, and answers the error of its fault; or the
+/// cause of a refusal.
+pub fn run<R: Source, W: Sink>(
+    alloc: Global,
+    input: &mut R,
+    output: &mut W,
+    settings: Settings,
+    printing: Printing<'_>,
+) -> Result<Option<Error>, RunFailure>
+    requires input { R.failure input.old ≡ None }
+    requires output { W.failure output.old ≡ None }
+    ensures { RunsWithCause R.left R.failure R.has_ended W.held W.failure
+        (prints settings printing.entry) input.old input.new output.old output.new result }
+{
+    read_and_print(alloc, input, output, settings, printing)
 }
 
 /// The answer of a run without the cause of its refusal.

@@ -57,6 +57,10 @@ cut_each f a b c block block' xs ys i lt e h k =
 pub puts_parts : (a b c d : Option (List ℕ)) (k l m n xs ys zs : List ℕ) → Puts a b k l xs → Puts b c l m ys → Puts c d m n zs → Puts a d k n (xs ++ ys ++ zs)
 puts_parts a b c d k l m n xs ys zs f g h = puts_more a c d k m n (xs ++ ys) zs (xs ++ ys ++ zs) (puts_more a b c k l m xs ys (xs ++ ys) f g refl) h refl
 
+-- the write fails at the first of two parts
+pub cut_front : (a b : Option (List ℕ)) (k xs ys : List ℕ) → AppendsPrefix a b (k ++ xs) → AppendsPrefix a b (k ++ (xs ++ ys))
+cut_front a b k xs ys h = cut_longer a b (k ++ xs) ys (k ++ (xs ++ ys)) h (sym (append_assoc k xs ys))
+
 -- or the write fails at the first, the second or the third
 pub cut_first : (a b : Option (List ℕ)) (k xs ys zs : List ℕ) → AppendsPrefix a b (k ++ xs) → AppendsPrefix a b (k ++ (xs ++ ys ++ zs))
 cut_first a b k xs ys zs h = cut_longer a b (k ++ xs) (ys ++ zs) (k ++ (xs ++ ys ++ zs)) h (ap (λ x. k ++ x) (append_assoc xs ys zs) ∙ sym (append_assoc k xs (ys ++ zs)))

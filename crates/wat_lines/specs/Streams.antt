@@ -1,6 +1,6 @@
 -- What a read takes of the bytes that a source has left, and what a write adds to those that a sink holds. No part
 -- of the standard.
-use Rattle.std.specs.Prelude.{◌≡◌, ◌<◌, ◌≤◌, ℕ, Bool, false, List, length, take, Option, Some, Result, Ok, Err, ◌&&◌, nat_eq, nat_lt}
+use Rattle.std.specs.Prelude.{◌≡◌, ◌<◌, ◌≤◌, ℕ, Bool, false, List, length, take, Option, Some, Result, Ok, Err, MatchResult, ⊤, ◌&&◌, nat_eq, nat_lt}
 use Rattle.std.specs.Io.KnownBytes.{Appends, Consumes, IsAtEnd}
 use Rattle.wat_lines.specs.declared.failed.Failed.{Failed}
 
@@ -24,3 +24,7 @@ failure_after before (Err failed) = Some failed
 abbrev pub gave_end : {E : Type 0} → Result ℕ E → List ℕ → Bool
 gave_end (Ok n) buffer = nat_eq n 0 && nat_lt 0 (length buffer)
 gave_end (Err e) buffer = false
+
+-- a write that took none of its bytes, or failed
+abbrev pub TookNone : {E : Type 0} → Result ℕ E → Type 0
+TookNone written = MatchResult written (λ count. count ≡ 0) (λ _. ⊤)

@@ -162,7 +162,8 @@ fn write_through<W: io::Write>(writer: &mut W, bytes: &[u8]) -> Result<(), Faile
 {
     let mut written = 0;
     while written < bytes.len() {
-        written += taken(writer.write(&bytes[written..]))?;
+        let count = taken(writer.write(&bytes[written..]))?;
+        written += count;
     }
     match writer.flush() {
         Ok(()) => Ok(()),

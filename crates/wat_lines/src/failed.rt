@@ -1,8 +1,9 @@
 //! A call of the system that failed.
-ghost use Rattle.std.specs.Prelude.{◌≡◌, ◌<◌, Ok, IfOk, unsigned_abs};
+ghost use Rattle.std.specs.Prelude.{◌≡◌, ◌<◌, Ok, IfOk, OnErr, unsigned_abs};
 ghost use Rattle.std.specs.Option.{option_map};
 ghost use Rattle.std.specs.IoError.{raw_os_error};
 ghost use Rattle.wat_lines.specs.Causes.{error_code, error_words, is_closed_pipe};
+ghost use Rattle.wat_lines.specs.Streams.{TookNone};
 
 use std::{fmt, io};
 
@@ -44,7 +45,8 @@ impl Failed {
 
 /// How many bytes a write of some bytes took; or its failure, where it failed or took none.
 pub fn taken(written: io::Result<usize>) -> Result<usize, Failed>
-    ensures { IfOk result (λ count. (written ≡ Ok count) × (0 < count)) }
+    ensures took { IfOk result (λ count. (written ≡ Ok count) × (0 < count)) }
+    ensures none { OnErr result (TookNone written) }
 {
     match written {
         Ok(0) => Err(Failed { code: None }),

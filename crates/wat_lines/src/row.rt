@@ -262,7 +262,7 @@ fn push_string(lines: &mut Vec<u8>, text: &[u8]) -> Result<(), AllocError>
 
 /// What each line of a list begins with: the name of the text's file, where it has one.
 pub fn object_open(alloc: Global, file: Option<&str>) -> Result<Vec<u8>, AllocError>
-    ensures { IfOk result (λ begin. begin.items ≡ json_open (option_map (λ f. f.now) file)) }
+    ensures { IfOk result (λ begin. begin.items ≡ json_open (option_map (λ f. f.now) file.entry)) }
 {
     let mut begin = Vec::new(alloc);
     begin.extend_from_slice(b"{")?;

@@ -1,3 +1,4 @@
 mod Counts
 mod NamedLaws
 mod ShownLaws
+mod VisibleLaws

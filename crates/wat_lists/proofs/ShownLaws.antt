@@ -40,7 +40,7 @@ pub record ShownBy (each : Token → List ℕ) (s : Source) (names : Names) (pla
 pub as_lines : {s : Source} {names : Names} {place : ℕ} {text : List ℕ} {error : Option (Option Report)} → ShownBy line s names place text error → ShownFrom s names place text error
 as_lines h = record { tokens = h.tokens; fault = h.fault; shown = h.shown; lines = h.lines; reported = h.reported }
 
-pub as_json : {s : Source} {names : Names} {place : ℕ} {text : List ℕ} {error : Option (Option Report)} → ShownBy (json_line s.setting.text) s names place text error → JsonShownFrom s names place text error
+pub as_json : {s : Source} {names : Names} {place : ℕ} {begin text : List ℕ} {error : Option (Option Report)} → ShownBy (json_line begin s.setting.text) s names place text error → JsonShownFrom s names place begin text error
 as_json h = record { tokens = h.tokens; fault = h.fault; shown = h.shown; lines = h.lines; reported = h.reported }
 
 pub shown_start : (each : Token → List ℕ) (s : Source) (names : Names) (from : ℕ) (text : List ℕ) → text ≡ [] → ShownSoFar each s names from from text

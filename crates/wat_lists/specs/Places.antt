@@ -20,8 +20,11 @@ abbrev pub visible : List ℕ → List ℕ
 visible text = encode_utf8_all (map visible_char (chars text))
 
 -- the same, with its line feeds
+abbrev pub visible_in_lines : ℕ → ℕ
+visible_in_lines c = if c == 10 then 10 else visible_char c
+
 abbrev pub visible_lines : List ℕ → List ℕ
-visible_lines text = encode_utf8_all (map (λ c. if c == 10 then 10 else visible_char c) (chars text))
+visible_lines text = encode_utf8_all (map visible_in_lines (chars text))
 
 -- the place of an error in a file, and below it the line with a marker under the column; the place alone, from column 501 on
 abbrev pub place_in : List ℕ → Excerpt → List ℕ

@@ -129,7 +129,7 @@ pub fn show_json(
 ) -> Result<Showing, AllocError>
     requires { length text.now < 2 ^ 32 }
     ensures { IfOk result (λ s. JsonShownText (record { text = text.now; flags = settings })
-        (option_map (λ f. f.now) file) names.now s.lines.items s.error) }
+        (option_map (λ f. f.now) file.entry) names.now s.lines.items s.error) }
 {
     let begin = object_open(alloc, file)?;
     let Showing { mut lines, error } = show_rows(alloc, text, settings, &begin, names)?;

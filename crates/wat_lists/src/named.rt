@@ -1,6 +1,7 @@
 //! What an error prints of the text of a file.
 ghost use Rattle.std.specs.Prelude.{◌≡◌, IfOk, string_bytes};
-ghost use Rattle.wat_lists.specs.Places.{printed_in, visible, visible_char, visible_lines};
+ghost use Rattle.wat_lists.specs.Places.{printed_in, visible, visible_char, visible_in_lines};
+ghost use Rattle.wat_lists.specs.Places.{visible_lines};
 
 use std::alloc::{AllocError, Global};
 use std::fmt;
@@ -36,13 +37,20 @@ impl fmt::Display for Shown<'_> {
     }
 }
 
+/// The same, but for line feeds.
+fn visible_in_lines(c: char) -> char
+    ensures { result ≡ visible_in_lines c }
+{
+    if c == '\n' { c } else { visible_char(c) }
+}
+
 /// A text without its control characters but the line feeds.
 fn visible_lines(alloc: Global, text: &str) -> Result<String, AllocError>
     ensures { IfOk result (λ shown. string_bytes shown ≡ visible_lines text.now) }
 {
     let mut shown = String::new(alloc);
     for c in text.chars() {
-        shown.push(if c == '\n' { c } else { visible_char(c) })?;
+        shown.push(visible_in_lines(c))?;
     }
     Ok(shown)
 }

@@ -1,9 +1,9 @@
 -- Reads and writes one after another.
 use Rattle.std.proofs.Common.{◌≡◌, ℕ, List, [], ◌++◌, append_assoc, ap, drop, sym, take, ◌∙◌}
-use Rattle.std.specs.Prelude.{Some, None, Option}
-use Rattle.std.specs.Io.KnownBytes.{Consumes, Appends, Keeps, IsAtEnd}
+use Rattle.std.specs.Prelude.{Some, None, Option, Result, Ok, Err}
+use Rattle.std.specs.Io.KnownBytes.{Consumes, Appends, Keeps, IsAtEnd, WriteAppends}
 use Rattle.std.proofs.lemmas.List.{append-nil, take-append-drop}
-use Rattle.wat_lines.specs.Streams.{AppendsPrefix}
+use Rattle.wat_lines.specs.Streams.{AppendsPrefix, TookNone}
 use Rattle.wat_format.specs.Streams.{AppendsPrefix as AppendsFirst}
 
 pub consumes_none : (a : Option (List ℕ)) (bs : List ℕ) → bs ≡ [] → Consumes a a bs
@@ -40,3 +40,8 @@ appends_kept (Some x) (Some y) (Some z) xs h k = k ∙ h
 -- a prefix is a first part
 pub as_first : (old new : Option (List ℕ)) (bs : List ℕ) → AppendsPrefix old new bs → AppendsFirst old new bs
 as_first old new bs h = record { first = take h.n bs; rest = drop h.n bs; all = sym (take-append-drop h.n bs); appended = h.appended }
+
+-- bytes were written as far as a write that took none
+pub cut_there : {E : Type 0} (a b c : Option (List ℕ)) (bytes rest : List ℕ) (n : ℕ) (r : Result ℕ E) → Appends a b (take n bytes) → WriteAppends b c r rest → TookNone r → AppendsPrefix a c bytes
+cut_there a b c bytes rest n (Ok m) h w e = record { n = n; appended = appends_more a b c (take n bytes) (take m rest) (take n bytes) h w (sym (ap (λ k. take n bytes ++ take k rest) e ∙ append-nil (take n bytes))) }
+cut_there a b c bytes rest n (Err e) h w t = record { n = n; appended = appends_kept a b c (take n bytes) h w }

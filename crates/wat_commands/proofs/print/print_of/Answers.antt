@@ -1,4 +1,5 @@
 use Rattle.std.proofs.Common.{refl, None}
+use Rattle.std.specs.Option.{option_map}
 use Rattle.wat_lists.specs.JsonLists.{JsonShows}
 use Rattle.wat_lists.specs.Replies.{Plays}
 use Rattle.wat_lists.specs.Shows.{Shows}
@@ -20,7 +21,7 @@ returns-in-JsonRaw-clause-printed g c = rw c.in-JsonRaw.is c.print_json.ensures.
 pub returns-in_ok-rows-in-JsonShown-clause-printed : goal.returns-in_ok-rows-in-JsonShown-clause-printed
 returns-in_ok-rows-in-JsonShown-clause-printed g c =
     let shown = c.in_ok-rows-in-JsonShown.ensures in
-    rw c.in-JsonShown.is (writes_as g.W.Sink.held g.W.Sink.failure (JsonShows c.args.settings c.in-JsonShown.names.now c.args.text.now) _ _ c.deref-in-JsonShown.result.now _ c.print_text-in-JsonShown.result
+    rw c.in-JsonShown.is (writes_as g.W.Sink.held g.W.Sink.failure (JsonShows c.args.settings (option_map (λ f. f.now) c.in-JsonShown.file) c.in-JsonShown.names.now c.args.text.now) _ _ c.deref-in-JsonShown.result.now _ c.print_text-in-JsonShown.result
     (record { utf8 = c.utf8.text; short = c.requires.text; shown = rw c.deref-in-JsonShown.ensures.value shown }) c.print_text-in-JsonShown.ensures.printed)
 
 pub returns-in_ok-replies-in-Replies-clause-printed :

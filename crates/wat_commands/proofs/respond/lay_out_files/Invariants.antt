@@ -1,6 +1,11 @@
-use Rattle.std.proofs.Common.{take}
-use Rattle.wat_commands.specs.Responses.{GreatestOfEach}
+use Rattle.std.proofs.Common.{length}
+use Rattle.wat_commands.specs.Options.{file_names}
+use Rattle.wat_commands.specs.Outcomes.{exit_code}
+use Rattle.wat_commands.proofs.RespondLaws.{LaidSoFar}
 use Rattle.wat_commands.proofs.respond.lay_out_files.Given as goal
 
-abbrev pub invariant-loop-name : goal.invariant-loop-name
-invariant-loop-name g l = GreatestOfEach (g.I.Inputs.laid_out l.inputs l.settings l.mode) (take l.name-index l.files) l.worst
+abbrev pub invariant-loop : goal.invariant-loop
+invariant-loop g l = LaidSoFar (λ file before after status. g.I.Inputs.laid_out before l.settings l.mode file after status) (file_names l.files) (file_names l.left) l.initial.inputs l.inputs (exit_code l.worst)
+
+abbrev pub decreases-loop : goal.decreases-loop
+decreases-loop g l = length (file_names l.left)

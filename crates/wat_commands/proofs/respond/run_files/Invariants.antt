@@ -1,7 +1,13 @@
-use Rattle.wat_commands.specs.Outcomes.{task_prints}
-use Rattle.wat_commands.specs.Responses.{RanFile}
+use Rattle.std.proofs.Common.{◌≡◌, length}
+use Rattle.std.specs.Prelude.{nat_lt}
+use Rattle.wat_commands.specs.Options.{file_names}
+use Rattle.wat_commands.specs.Outcomes.{exit_code, task_prints}
+use Rattle.wat_commands.specs.Responses.{RanFileOf, label}
 use Rattle.wat_commands.proofs.RespondLaws.{RanSoFar}
 use Rattle.wat_commands.proofs.respond.run_files.Given as goal
 
-abbrev pub invariant-loop-file : goal.invariant-loop-file
-invariant-loop-file g l = RanSoFar (λ file. RanFile g.I.Input.Source.left g.I.Input.Source.failure g.I.Input.Source.has_ended g.W.Sink.held g.W.Sink.failure (task_prints l.settings l.task) (g.I.Inputs.found l.inputs file)) l.files l.file-index l.initial.output l.output l.worst
+abbrev pub invariant-loop : goal.invariant-loop
+invariant-loop g l = RanSoFar (λ file before after. RanFileOf g.I.Inputs.opened g.I.Inputs.found g.I.Input.Source.left g.I.Input.Source.failure g.I.Input.Source.has_ended g.W.Sink.held g.W.Sink.failure (task_prints l.settings (label (nat_lt 1 (length (file_names l.files))) file) l.task) file before after) (file_names l.files) (file_names l.left) l.initial.inputs l.inputs l.initial.output l.output (exit_code l.worst)
+
+abbrev pub decreases-loop : goal.decreases-loop
+decreases-loop g l = length (file_names l.left)

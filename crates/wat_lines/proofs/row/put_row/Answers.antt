@@ -7,35 +7,35 @@ use Rattle.wat_lines.specs.lemmas.BlockLaws.{on_err, ok_then, err_then}
 use Rattle.wat_lines.proofs.JsonLaws.{puts_parts, cut_first, cut_second, cut_third, text_of}
 use Rattle.wat_lines.proofs.row.put_row.Goals as goal
 
-pub returns-in_err-put-clause-cut : goal.returns-in_err-put-clause-cut
-returns-in_err-put-clause-cut g c =
+pub returns-in_err-put_front-clause-cut : goal.returns-in_err-put_front-clause-cut
+returns-in_err-put_front-clause-cut g c =
     let t = c.args.token.now in
     let text = c.args.positions.now in
-    let cut = rw (c.bytes.ensures, c.front_of.ensures) at c.in_err-put.ensures.cut in
-    on_err c.from_residual.result (cut_first _ _ c.args.block.now (json_front t) (json_string (token_text text t)) (json_behind (line_and_column text t.offset)) cut)
+    let cut = c.in_err-put_front.ensures.cut in
+    on_err c.from_residual.result (cut_first _ _ c.args.block.now (json_front c.args.begin.now t) (json_string (token_text text t)) (json_behind (line_and_column text t.offset)) cut)
 
 pub returns-in_err-put_string-clause-cut : goal.returns-in_err-put_string-clause-cut
 returns-in_err-put_string-clause-cut g c =
     let t = c.args.token.now in
     let text = c.args.positions.now in
-    let front = rw (c.bytes.ensures, c.front_of.ensures) at c.in_ok-put.ensures.put in
+    let front = c.in_ok-put_front.ensures.put in
     let cut = rw (text_of text c.as_bytes-text.result.now t (c.as_bytes-text.ensures.value ∙ c.text.ensures)) at c.in_err-put_string.ensures.cut in
-    on_err c.from_residual-in_err-put_string.result (cut_second _ _ _ c.args.block.now _ (json_front t) (json_string (token_text text t)) (json_behind (line_and_column text t.offset)) front cut)
+    on_err c.from_residual-in_err-put_string.result (cut_second _ _ _ c.args.block.now _ (json_front c.args.begin.now t) (json_string (token_text text t)) (json_behind (line_and_column text t.offset)) front cut)
 
 pub returns-clause-put : goal.returns-clause-put
 returns-clause-put g c =
     let t = c.args.token.now in
     let text = c.args.positions.now in
-    let front = rw (c.bytes.ensures, c.front_of.ensures) at c.in_ok-put.ensures.put in
+    let front = c.in_ok-put_front.ensures.put in
     let string = rw (text_of text c.as_bytes-text.result.now t (c.as_bytes-text.ensures.value ∙ c.text.ensures)) at c.in_ok-put_string.ensures.put in
-    let behind : c.bytes-2.result.now ≡ json_behind (line_and_column text t.offset) = c.bytes-2.ensures ∙ c.behind_of.ensures ∙ ap json_behind c.linecol-line.ensures.place in
-    ok_then c.put-2.result (puts_parts _ _ _ _ _ _ _ _ (json_front t) (json_string (token_text text t)) (json_behind (line_and_column text t.offset)) front string) (rw behind at c.put-2.ensures.put)
+    let behind : c.bytes.result.now ≡ json_behind (line_and_column text t.offset) = c.bytes.ensures ∙ c.behind_of.ensures ∙ ap json_behind c.linecol-line.ensures.place in
+    ok_then c.put.result (puts_parts _ _ _ _ _ _ _ _ (json_front c.args.begin.now t) (json_string (token_text text t)) (json_behind (line_and_column text t.offset)) front string) (rw behind at c.put.ensures.put)
 
 pub returns-clause-cut : goal.returns-clause-cut
 returns-clause-cut g c =
     let t = c.args.token.now in
     let text = c.args.positions.now in
-    let front = rw (c.bytes.ensures, c.front_of.ensures) at c.in_ok-put.ensures.put in
+    let front = c.in_ok-put_front.ensures.put in
     let string = rw (text_of text c.as_bytes-text.result.now t (c.as_bytes-text.ensures.value ∙ c.text.ensures)) at c.in_ok-put_string.ensures.put in
-    let behind : c.bytes-2.result.now ≡ json_behind (line_and_column text t.offset) = c.bytes-2.ensures ∙ c.behind_of.ensures ∙ ap json_behind c.linecol-line.ensures.place in
-    err_then c.put-2.result (cut_third _ _ _ _ c.args.block.now _ _ (json_front t) (json_string (token_text text t)) (json_behind (line_and_column text t.offset)) front string) (rw behind at c.put-2.ensures.cut)
+    let behind : c.bytes.result.now ≡ json_behind (line_and_column text t.offset) = c.bytes.ensures ∙ c.behind_of.ensures ∙ ap json_behind c.linecol-line.ensures.place in
+    err_then c.put.result (cut_third _ _ _ _ c.args.block.now _ _ (json_front c.args.begin.now t) (json_string (token_text text t)) (json_behind (line_and_column text t.offset)) front string) (rw behind at c.put.ensures.cut)

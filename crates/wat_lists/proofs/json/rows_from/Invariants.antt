@@ -8,7 +8,7 @@ invariant-tokens l = record {
   parser : l.cursor.parser ≡ l.fn.from.parser;
   on : l.fn.from.at ≤ l.cursor.at;
   positions : l.positions ≡ l.fn.from.parser.now.source.setting.text;
-  shown : ShownSoFar (json_line l.fn.from.parser.now.source.setting.text) l.fn.from.parser.now.source l.fn.from.parser.now.names l.fn.from.at l.cursor.at l.lines.items;
+  shown : ShownSoFar (json_line l.begin l.fn.from.parser.now.source.setting.text) l.fn.from.parser.now.source l.fn.from.parser.now.names l.fn.from.at l.cursor.at l.lines.items;
 }
 
 abbrev pub decreases-tokens : goal.decreases-tokens

@@ -5,7 +5,7 @@ use Rattle.wat_lists.proofs.json.write_json.Given as goal
 
 abbrev pub invariant-tokens : goal.invariant-tokens
 invariant-tokens g l = record {
-  putting : Putting (json_line l.lexer.text) l.lexer l.pos (g.W.Sink.held l.initial.output) (g.W.Sink.held l.output) l.block;
+  putting : Putting (json_line l.begin l.lexer.text) l.lexer l.pos (g.W.Sink.held l.initial.output) (g.W.Sink.held l.output) l.block;
   positions : l.positions ≡ l.lexer.text;
   failed : g.W.Sink.failure l.output ≡ g.W.Sink.failure l.initial.output;
 }

@@ -1,6 +1,6 @@
 use Rattle.std.proofs.Common.{rules}
 use Rattle.wat_lists.specs.lemmas.InputLaws.{past_known, no_text_known}
-use Rattle.wat_commands.proofs.run.run.Goals as goal
+use Rattle.wat_commands.proofs.run.read_and_print.Goals as goal
 
 pub returns-in_err-bytes-clause-too_long : goal.returns-in_err-bytes-clause-too_long
 returns-in_err-bytes-clause-too_long g c = past_known _ _ (search rules) (search rules)
