@@ -1,13 +1,15 @@
 -- What a run that ended is seen as.
-use Rattle.std.proofs.Common.{◌≡◌, ◌⊎◌, ℕ, Bool, List, inl, inr, ap, subst, refl}
-use Rattle.std.specs.Prelude.{Option, Some, None, Result, Ok, Err, IfOk, IfErr, IfSome, IsErrOf}
-use Rattle.std.specs.Io.KnownBytes.{Keeps}
+use Rattle.std.proofs.Common.{◌≡◌, ◌⊎◌, ℕ, Bool, true, false, List, [], ◌++◌, Bor, inl, inr, ap, subst, sym, refl}
+use Rattle.std.specs.Prelude.{Option, Some, None, Result, Ok, Err, IfOk, IfErr, IfSome, IsErrOf, OnOk, codes, if◌then◌else◌}
+use Rattle.std.specs.Option.{option_map}
+use Rattle.std.specs.Io.KnownBytes.{Appends, Keeps}
 use Rattle.wat_lex.specs.errors.Errors.{Report}
 use Rattle.wat_lines.specs.declared.failed.Failed.{Failed}
-use Rattle.wat_lists.specs.Refusals.{IsWrite}
+use Rattle.wat_lists.specs.Places.{of_file}
+use Rattle.wat_lists.specs.Refusals.{IsWrite, refusal}
 use Rattle.wat_lists.specs.declared.input.RunFailure.{RunFailure}
 use Rattle.wat_lists.specs.declared.input.RunFailure.TheVariants.{Read, TooLong, NotUtf8, Write, Memory}
-use Rattle.wat_commands.specs.Outcomes.{outcome_of, Responds, Ran}
+use Rattle.wat_commands.specs.Outcomes.{is_unread, outcome_of, refused, Responds, Ran}
 use Rattle.wat_commands.specs.Printed.{Prints, AppendsText, AppendsCut}
 use Rattle.wat_commands.specs.Runs.{RunsWithCause}
 use Rattle.wat_commands.specs.declared.outcome.Outcome.{Outcome}
@@ -42,3 +44,10 @@ ran {left = left} {held = held} {prints = prints} {input = input} {output = outp
   outcome_is = e;
   responds = rw e (run_responds held output output' prints (left input) run h.written h.cut h.unwritten);
 }
+
+-- what is reported of a refusal where the input has a name
+pub refused_named : {T E : Type 0} (r : Result T E) (name : Option (Bor (List ℕ))) (n : Bor (List ℕ)) (failure : RunFailure) (old new : Option (List ℕ)) → name ≡ Some n → is_unread true failure ≡ false
+    → OnOk r (Appends old new (codes "wat_tokens: " ++ (of_file (option_map (λ m. m.now) name) ++ (refusal failure ++ codes "\n")))) → OnOk r (Appends old new (refused (option_map (λ m. m.now) name) failure))
+refused_named r None n failure old new e u h = cc
+refused_named r (Some m) n failure old new e u h =
+    subst (λ b. OnOk r (Appends old new (if b then [] else codes "wat_tokens: " ++ (of_file (Some m.now) ++ (refusal failure ++ codes "\n"))))) (sym u) h

@@ -1,9 +1,11 @@
 -- Files that are run, or laid out, one after the other.
-use Rattle.std.proofs.Common.{◌≡◌, ◌⊎◌, inl, inr, ◌+◌, ◌<◌, ◌≤◌, ℕ, true, List, [], ◌∷◌, ◌++◌, length, length-append, take, refl, sym, ap, ◌∙◌, subst, arith, append_assoc}
+use Rattle.std.proofs.Common.{◌≡◌, ◌≢◌, ◌⊎◌, inl, inr, ◌+◌, ◌<◌, ◌≤◌, ℕ, Bool, true, false, Bor, List, [], ◌∷◌, ◌++◌, length, length-append, take, refl, sym, ap, ◌∙◌, subst, arith, append_assoc}
 use Rattle.std.proofs.Math.Nat.{max_comm, max-le, le-max_left, le-max_right}
 use Rattle.std.proofs.Math.Seq.{take-append_seam}
-use Rattle.std.proofs.lemmas.List.{append-nil}
-use Rattle.std.specs.Prelude.{max, string_bytes, Option, IsSome}
+use Rattle.std.proofs.lemmas.Bool.{eqb-true}
+use Rattle.std.proofs.lemmas.List.{append-nil, nil_from_length}
+use Rattle.std.specs.Option.{option_map}
+use Rattle.std.specs.Prelude.{max, nat_eq, string_bytes, Option, Some, None, IsSome, IfSome}
 use Rattle.wat_lines.specs.declared.failed.Failed.{Failed}
 use Rattle.wat_commands.specs.Options.{Word}
 use Rattle.wat_commands.specs.OptionSteps.{IsNext}
@@ -39,15 +41,15 @@ next_done : (files done left left' : List Word) (word : Word) → files ≡ done
 next_done files done left left' word e f = e ∙ ap (λ x. done ++ x) f ∙ sym (append_assoc done (word ∷ []) left')
 
 -- one file more
-pub one_more_ran : {I T : Type 0} (run : Runner I T) (files left left' : List Word) (name : List ℕ) (inputs between inputs' : I) (output within output' : T) (outcome : Outcome) (greatest greatest' : ℕ) → IsNext left name left' → RanSoFar run files left inputs between output within greatest
-    → run name between inputs' within output' outcome → greatest' ≡ max greatest (status true outcome) → RanSoFar run files left' inputs inputs' output output' greatest'
-one_more_ran run files left left' name inputs between inputs' output within output' outcome greatest greatest' next h r e = record {
+pub one_more_ran : {I T : Type 0} (run : Runner I T) (files left left' : List Word) (name : List ℕ) (inputs between inputs' : I) (output within output' : T) (outcome : Outcome) (greatest greatest' exit : ℕ) → IsNext left name left' → RanSoFar run files left inputs between output within greatest
+    → run name between inputs' within output' outcome → exit ≡ status true outcome → greatest' ≡ max greatest exit → RanSoFar run files left' inputs inputs' output output' greatest'
+one_more_ran run files left left' name inputs between inputs' output within output' outcome greatest greatest' exit next h r x e = record {
   done = h.done ++ next.word ∷ [];
   outcomes = h.outcomes ++ outcome ∷ [];
   ran = more h.done (h.done ++ next.word ∷ []) next.word h.outcomes (h.outcomes ++ outcome ∷ []) outcome inputs between inputs' output within output' refl refl h.ran (subst (λ n. run n between inputs' within output' outcome) (sym next.text) r);
   all = next_done files h.done left left' next.word h.all next.all;
   count = length-append h.outcomes (outcome ∷ []) ∙ ap (λ m. m + 1) h.count ∙ sym (length-append h.done (next.word ∷ []));
-  greatest = e ∙ ap (λ m. max m (status true outcome)) h.greatest ∙ sym (worst_more h.outcomes outcome);
+  greatest = e ∙ ap (max greatest) x ∙ ap (λ m. max m (status true outcome)) h.greatest ∙ sym (worst_more h.outcomes outcome);
 }
 
 pub all_ran : {I T : Type 0} (run : Runner I T) (failure : T → Option Failed) (files left : List Word) (inputs inputs' : I) (output output' : T) (greatest : ℕ) → RanSoFar run files left inputs inputs' output output' greatest → (left ≡ []) ⊎ IsSome (failure output') → RanFiles run failure files inputs inputs' output output' greatest
@@ -77,3 +79,22 @@ one_more_laid lay files left left' name inputs between inputs' worst worst' stat
 
 pub all_laid : {I : Type 0} (lay : Layer I) (files left : List Word) (inputs inputs' : I) (exit : ℕ) → LaidSoFar lay files left inputs inputs' exit → left ≡ [] → LaidOutEach lay files inputs inputs' exit
 all_laid lay files left inputs inputs' exit h e = subst (λ fs. LaidOutEach lay fs inputs inputs' exit) (sym (h.all ∙ ap (λ x. h.done ++ x) e ∙ append-nil h.done)) h.laid
+
+-- names that there are none of, or some
+pub none_named : (names : List Word) → nat_eq (length names) 0 ≡ true → names ≡ []
+none_named names e = nil_from_length names (eqb-true (length names) 0 e)
+
+pub some_named : (names : List Word) → nat_eq (length names) 0 ≡ false → names ≢ []
+some_named names e h = let d : true ≡ false = ap (λ ns. nat_eq (length ns) 0) (sym h) ∙ e in cc
+
+-- the word in question
+pub in_question : (there : List ℕ → Option Bool) (o : Option Word) (b : Bor (List ℕ)) (r : Bool) → Some b.now ≡ option_map string_bytes o → IfSome (there b.now) (λ known. r ≡ known) → (r ≡ true) ⊎ ((w : Word) × (o ≡ Some w) × IfSome (there (string_bytes w)) (λ known. known ≡ false))
+in_question there None b r e h = cc
+in_question there (Some w) b true e h = inl refl
+in_question there (Some w) b false e h =
+    let same : b.now ≡ string_bytes w = cc in
+    inr (w, refl, subst (λ t. IfSome (there t) (λ known. known ≡ false)) same (flipped (there b.now) h))
+  where
+    flipped : (o : Option Bool) → IfSome o (λ known. false ≡ known) → IfSome o (λ known. known ≡ false)
+    flipped None h = tt
+    flipped (Some k) h = sym h

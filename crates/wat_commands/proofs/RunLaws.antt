@@ -64,24 +64,24 @@ no_text : (r : Run) (n : ℕ) → IsErrOf r (NotUtf8 n) → IsErrOf (without_cau
 no_text r n x = ap without_cause x
 
 -- the clauses of a run, one by one
-as_written : {P : Option (Option Report) → Type 0} (r : Run) → IfOk r P → IfOk (without_cause r) P
-as_written (Ok e) h = h
-as_written (Err f) h = tt
+as_written : (P : Option (Option Report) → Type 0) (r : Run) → IfOk r P → IfOk (without_cause r) P
+as_written P (Ok e) h = h
+as_written P (Err f) h = tt
 
-as_ended : {P : Type 0} (r : Run) → OnOk r P → OnOk (without_cause r) P
-as_ended (Ok e) h = h
-as_ended (Err f) h = tt
+as_ended : (P : Type 0) (r : Run) → OnOk r P → OnOk (without_cause r) P
+as_ended P (Ok e) h = h
+as_ended P (Err f) h = tt
 
-as_unwritten : {P : Type 0} (r : Run) → IfErr r (λ e. IsWrite e ⊎ P) → IfErr (without_cause r) (λ e. (e ≡ error.Write) ⊎ P)
-as_unwritten (Ok e) h = tt
-as_unwritten (Err f) h = elim h [ inl w ↦ inl (ap error_of w.1) | inr p ↦ inr p ]
+as_unwritten : (P : Type 0) (r : Run) → IfErr r (λ e. IsWrite e ⊎ P) → IfErr (without_cause r) (λ e. (e ≡ error.Write) ⊎ P)
+as_unwritten P (Ok e) h = tt
+as_unwritten P (Err f) h = elim h [ inl w ↦ inl (ap error_of w.1) | inr p ↦ inr p ]
 
-as_known : {A : Type 0} (o p : Option Failed) → o ≡ p → (A ↔ IsSome o) → (A ↔ IsSome p)
-as_known o p e h = subst (λ q. _ ↔ IsSome q) e h
+as_known : (A : Type 0) (o p : Option Failed) → o ≡ p → (A ↔ IsSome o) → (A ↔ IsSome p)
+as_known A o p e h = subst (λ q. A ↔ IsSome q) e h
 
-as_long : {P : Type 0} (left : Option (List ℕ)) (r : Run) → IfSome left (λ _. IsErrOf r TooLong ↔ P) → IfSome left (λ _. IsErrOf (without_cause r) error.TooLong ↔ P)
-as_long None r h = tt
-as_long (Some bytes) r h = (λ x. h.0 ((longs r).0 x), λ p. (longs r).1 (h.1 p))
+as_long : (P : Type 0) (left : Option (List ℕ)) (r : Run) → IfSome left (λ _. IsErrOf r TooLong ↔ P) → IfSome left (λ _. IsErrOf (without_cause r) error.TooLong ↔ P)
+as_long P None r h = tt
+as_long P (Some bytes) r h = (λ x. h.0 ((longs r).0 x), λ p. (longs r).1 (h.1 p))
 
 as_no_text : (left : Option (List ℕ)) (ended : Bool) (r : Run) → ((n : ℕ) → IfSome left (λ bytes. IsErrOf r (NotUtf8 n) ↔ ((ended ≡ true) × IsValidUpTo bytes n)))
     → IfSome left (λ bytes. IsErrOf (without_cause r) error.NotUtf8 ↔ ((ended ≡ true) × (n : ℕ) × IsValidUpTo bytes n))
@@ -94,16 +94,16 @@ as_no_text (Some bytes) ended r h = (
 pub forget : {S T : Type 0} {left : S → Option (List ℕ)} {read_failed : S → Option Failed} {has_ended : S → Bool} {held : T → Option (List ℕ)} {write_failed : T → Option Failed} {prints : Prints} {input input' : S} {output output' : T} (run : Run)
     → RunsWithCause left read_failed has_ended held write_failed prints input input' output output' run → Runs left read_failed has_ended held write_failed prints input input' output output' (without_cause run)
 forget {left = left} {read_failed = read_failed} {has_ended = has_ended} {write_failed = write_failed} {input = input} {input' = input'} {output' = output'} run h = record {
-  written = as_written run h.written;
+  written = as_written _ run h.written;
   cut = λ x. let k = written_with run x in h.cut k.0 k.1;
-  unwritten = as_unwritten run h.unwritten;
-  ended = as_ended run h.ended;
+  unwritten = as_unwritten _ run h.unwritten;
+  ended = as_ended _ run h.ended;
   not_utf8_ended = λ x. let k = no_texts run x in h.not_utf8_ended k.0 k.1;
   write_ended = λ x. let k = written_with run x in h.write_ended k.0 k.1;
-  read = as_known (read_failure run) (read_failed input') h.read (reads run);
-  write = as_known (write_failure run) (write_failed output') h.write (writes run);
+  read = as_known _ (read_failure run) (read_failed input') h.read (reads run);
+  write = as_known _ (write_failure run) (write_failed output') h.write (writes run);
   short = elim h.short [ inl x ↦ inl ((longs run).1 x) | inr s ↦ inr s ];
-  too_long = as_long (left input) run h.too_long;
+  too_long = as_long _ (left input) run h.too_long;
   not_utf8 = as_no_text (left input) (has_ended input') run h.not_utf8;
 }
 

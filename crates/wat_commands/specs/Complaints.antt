@@ -24,16 +24,20 @@ rest_goes_beyond there (word ∷ words) = by (verb_named word)
 abbrev pub goes_beyond : Bool → List Word → Bool
 goes_beyond there words = wants_json (front_of words) || (not (length (front_of words).files == 0) || rest_goes_beyond there (front_of words).rest)
 
--- what is said
+-- where more is said
+abbrev more : List ℕ
+more = codes "\nwat_tokens --help lists the commands and their options"
+
+-- what is said: the usage line alone, or what is wrong and where more is said
 abbrev pub complaint : Complaint → List ℕ
 complaint Usage = codes "usage: wat_tokens [--allow-confusing] [--strict-underscores] [sig NAME.. | play CALL..]"
-complaint (Twice word) = word.now ++ codes " is given twice"
-complaint Nameless = codes "--file has no name after it"
-complaint (Late word) = word.now ++ codes " comes too late"
-complaint (Unknown word) = codes "unknown option: " ++ visible word.now
-complaint (Nothing word) = codes "no such command or file: " ++ visible word.now
-complaint NoJson = codes "--json goes with list and sig alone"
-complaint NoFlags = codes "types takes neither --allow-confusing nor --strict-underscores"
-complaint NoCall = codes "play takes calls of a parser alone"
-complaint Mixed = codes "files are named before -- or after it, not both"
-complaint TooMany = codes "this command takes one file"
+complaint (Twice word) = codes "wat_tokens: " ++ (word.now ++ (codes " is given twice" ++ more))
+complaint Nameless = codes "wat_tokens: --file has no name after it" ++ more
+complaint (Late word) = codes "wat_tokens: " ++ (word.now ++ (codes " comes too late" ++ more))
+complaint (Unknown word) = codes "wat_tokens: unknown option: " ++ (visible word.now ++ more)
+complaint (Nothing word) = codes "wat_tokens: no such command or file: " ++ (visible word.now ++ more)
+complaint NoJson = codes "wat_tokens: --json goes with list and sig alone" ++ more
+complaint NoFlags = codes "wat_tokens: types takes no flags" ++ more
+complaint NoCall = codes "wat_tokens: play takes calls of a parser alone" ++ more
+complaint Mixed = codes "wat_tokens: files are before -- or after it, not both" ++ more
+complaint TooMany = codes "wat_tokens: this command takes one file" ++ more

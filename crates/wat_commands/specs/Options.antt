@@ -1,6 +1,6 @@
 -- The words of the command line, and what they ask for. No part of the standard.
-use Rattle.std.specs.Prelude.{◌≡◌, ◌⊎◌, ◌≤◌, ◌+◌, ◌||◌, ◌&&◌, ◌==◌, nat_lt, not, ℕ, Bool, true, false, ⊤, List, [], ◌∷◌, ◌++◌, take, drop, length, codes, count_by, list_any, if◌then◌else◌, string_bytes, String, Option, Some, None, is_some, is_none, unwrap_or, All}
-use Rattle.std.specs.List.{prefix_len}
+use Rattle.std.specs.Prelude.{◌≡◌, ◌⊎◌, ◌≤◌, ◌+◌, ◌||◌, ◌&&◌, ◌==◌, nat_lt, not, ℕ, Bool, true, false, ⊤, List, [], ◌∷◌, ◌++◌, take, drop, length, codes, if◌then◌else◌, string_bytes, String, Option, Some, None, is_some, is_none, unwrap_or, All}
+use Rattle.std.specs.List.{list_any, prefix_len}
 use Rattle.std.specs.Str.{bytes_eq}
 use Rattle.std.specs.declared.alloc.Global.{Global}
 use Rattle.wat_lex.specs.declared.lexer.settings.Settings.{Settings}
@@ -9,6 +9,8 @@ use Rattle.wat_lists.specs.Calls.{SpellsCall}
 use Rattle.wat_commands.specs.declared.options.Command.{Command}
 use Rattle.wat_commands.specs.declared.options.Command.TheVariants as command
 use Rattle.wat_commands.specs.declared.options.FileNames.{FileNames}
+use Rattle.wat_commands.specs.declared.options.Flag.{Flag}
+use Rattle.wat_commands.specs.declared.options.Flag.TheVariants as flag
 use Rattle.wat_commands.specs.declared.options.Mode.{Mode}
 use Rattle.wat_commands.specs.declared.options.Mode.TheVariants as mode
 use Rattle.wat_commands.specs.declared.options.Task.{Task}
@@ -23,36 +25,57 @@ Word = String Global
 abbrev pub spells : List ℕ → Word → Bool
 spells text word = bytes_eq (string_bytes word) text
 
--- an option that is a word alone
-abbrev pub is_flag : Word → Bool
-is_flag word = spells (codes "--allow-confusing") word || (spells (codes "--strict-underscores") word || spells (codes "--json") word)
+-- the option of a name, of those that are a word alone
+abbrev pub flag_of : Word → Option Flag
+flag_of word =
+    if spells (codes "--allow-confusing") word then Some flag.Allow
+    else if spells (codes "--strict-underscores") word then Some flag.Strict
+    else if spells (codes "--json") word then Some flag.Json
+    else None
 
 -- The options that the words begin with, the names of files that they give, and the words after them. An option is a flag, or `--file` and a name.
 pub record Front : Type 0 where
-  pub flags : List Word
+  pub flags : List Flag
   pub files : List Word
   pub rest : List Word
 
-abbrev pub with_flag : Word → Front → Front
-with_flag flag f = record { flags = flag ∷ f.flags; files = f.files; rest = f.rest }
+abbrev pub with_flag : Flag → Front → Front
+with_flag f front = record { flags = f ∷ front.flags; files = front.files; rest = front.rest }
 
 abbrev pub with_file : Word → Front → Front
-with_file file f = record { flags = f.flags; files = file ∷ f.files; rest = f.rest }
+with_file file front = record { flags = front.flags; files = file ∷ front.files; rest = front.rest }
 
 abbrev pub no_options : List Word → Front
 no_options words = record { flags = []; files = []; rest = words }
 
+-- a flag and what follows it, or else the other
+abbrev pub flag_or : Option Flag → Front → Front → Front
+flag_or (Some f) front other = with_flag f front
+flag_or None front other = other
+
 unfoldable pub front_of : List Word → Front
 front_of [] = no_options []
-front_of (word ∷ []) = if is_flag word then with_flag word (no_options []) else no_options (word ∷ [])
-front_of (word ∷ next ∷ words) =
-    if is_flag word then with_flag word (front_of (next ∷ words))
-    else if spells (codes "--file") word then with_file next (front_of words)
-    else no_options (word ∷ next ∷ words)
+front_of (word ∷ []) = flag_or (flag_of word) (no_options []) (no_options (word ∷ []))
+front_of (word ∷ next ∷ words) = flag_or (flag_of word) (front_of (next ∷ words)) (if spells (codes "--file") word then with_file next (front_of words) else no_options (word ∷ next ∷ words))
+
+abbrev pub same_flag : Flag → Flag → Bool
+same_flag flag.Allow flag.Allow = true
+same_flag flag.Allow flag.Strict = false
+same_flag flag.Allow flag.Json = false
+same_flag flag.Strict flag.Allow = false
+same_flag flag.Strict flag.Strict = true
+same_flag flag.Strict flag.Json = false
+same_flag flag.Json flag.Allow = false
+same_flag flag.Json flag.Strict = false
+same_flag flag.Json flag.Json = true
 
 -- how often a flag is given
-abbrev pub times : List ℕ → Front → ℕ
-times flag f = count_by (spells flag) f.flags
+abbrev pub times_in : Flag → List Flag → ℕ
+times_in f [] = 0
+times_in f (given ∷ flags) = (if same_flag f given then 1 else 0) + times_in f flags
+
+abbrev pub times : Flag → Front → ℕ
+times f front = times_in f front.flags
 
 -- once, or not at all
 abbrev pub once_if : Bool → ℕ
@@ -60,13 +83,13 @@ once_if b = if b then 1 else 0
 
 -- the lists are to be lines of JSON
 abbrev pub wants_json : Front → Bool
-wants_json f = nat_lt 0 (times (codes "--json") f)
+wants_json f = nat_lt 0 (times flag.Json f)
 
 -- each flag is given once where its setting is on, and else not
 pub record Selects (f : Front) (settings : Settings) : Type 0 where
-  pub allow : times (codes "--allow-confusing") f ≡ once_if settings.allow
-  pub strict : times (codes "--strict-underscores") f ≡ once_if settings.strict
-  pub json : times (codes "--json") f ≡ once_if (wants_json f)
+  pub allow : times flag.Allow f ≡ once_if settings.allow
+  pub strict : times flag.Strict f ≡ once_if settings.strict
+  pub json : times flag.Json f ≡ once_if (wants_json f)
 
 -- the command of a name
 abbrev pub verb_named : Word → Option Verb
@@ -163,7 +186,11 @@ pub record NamesFiles (words files : List Word) : Type 0 where
 
 -- the files that the words after a command's name ask for
 abbrev pub AsksFiles : Verb → List Word → List Word → Type 0
-AsksFiles v words files = if owns_words v then files ≡ [] else NamesFiles words files
+AsksFiles v words files = by (owns_words v)
+  where
+    by : Bool → Type 0
+    by true = files ≡ []
+    by false = NamesFiles words files
 
 -- the files of a command: those of the options, and then those of its words
 abbrev pub file_names : FileNames → List Word
@@ -210,9 +237,13 @@ begins_with_files (word ∷ words) = takes_files (verb_named word)
     takes_files None = false
     takes_files (Some v) = not (owns_words v)
 
--- what the words ask for: help, first of all or of a command that takes files; the version; a run; or layouts
+-- help is asked for, first of all or of a command that takes files
+abbrev pub wants_help : List Word → Bool
+wants_help words = asks_help words || (begins_with_files words && asks_help (after_verb words))
+
+-- what the words ask for: help, the version, a run, or layouts
 abbrev pub Asks : List Word → Command → Type 0
-Asks words command.Help = asks_help words || (begins_with_files words && asks_help (after_verb words)) ≡ true
+Asks words command.Help = wants_help words ≡ true
 Asks words command.Version = begins_with (codes "--version") words ≡ true
 Asks words (command.Run settings task files) = AsksRun words settings task (file_names files)
 Asks words (command.Format settings m files) = AsksFormat words settings m (file_names files)
@@ -230,7 +261,7 @@ AsksNothing words = ¬ AsksSomething words
 
 -- a word that shows that it names a file: `-`, or one with a full stop or a solidus in it and no dash in front
 abbrev pub looks_like_file : Word → Bool
-looks_like_file word = spells (codes "-") word || (is_file word && list_any (λ b. b == 46 || b == 47) (string_bytes word))
+looks_like_file word = spells (codes "-") word || (is_file word && (list_any (λ b. b == 46) (string_bytes word) || list_any (λ b. b == 47) (string_bytes word)))
 
 -- the word that is a file only where one of that name is there: the first after the options, where it is no command and does not show that it is a file
 abbrev pub file_in_question : List Word → Option Word

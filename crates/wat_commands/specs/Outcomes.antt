@@ -1,5 +1,5 @@
 -- What a run of the program ends in: its exit status, and its report on standard error. No part of the standard.
-use Rattle.std.specs.Prelude.{◌≡◌, ◌⊎◌, ◌==◌, ◌&&◌, ◌||◌, ℕ, Bool, false, List, [], ◌++◌, codes, Option, Some, None, IfSome, Result, Ok, Err, if◌then◌else◌}
+use Rattle.std.specs.Prelude.{◌≡◌, ◌⊎◌, ◌==◌, ◌&&◌, ◌||◌, ℕ, Bool, true, false, List, [], ◌++◌, codes, Option, Some, None, IfSome, Result, Ok, Err, if◌then◌else◌}
 use Rattle.std.specs.Io.KnownBytes.{Appends, Keeps}
 use Rattle.wat_lex.specs.errors.Errors.{Report, lex_error_of, offset_of}
 use Rattle.wat_lex.specs.declared.lexer.faults.LexError.{LexError}
@@ -20,8 +20,6 @@ use Rattle.wat_commands.specs.Compiles.{Compiles}
 use Rattle.wat_commands.specs.Complaints.{complaint}
 use Rattle.wat_commands.specs.Printed.{Prints, AppendsText, AppendsCut}
 use Rattle.wat_commands.specs.Runs.{RunsWithCause}
-use Rattle.wat_commands.specs.declared.complaint.Complaint.{Complaint}
-use Rattle.wat_commands.specs.declared.complaint.Complaint.TheVariants.{Usage, Twice, Nameless, Late, Unknown, Nothing, NoJson, NoFlags, NoCall, Mixed, TooMany}
 use Rattle.wat_commands.specs.declared.options.Task.{Task}
 use Rattle.wat_commands.specs.declared.options.Task.TheVariants as task
 use Rattle.wat_commands.specs.declared.outcome.Exit.{Exit}
@@ -48,7 +46,7 @@ status named Listed = 0
 status named (Faulty error) = 1
 status named (Refused failure) = if is_unread named failure then 0 else 2
 status named (Unopened failed) = 2
-status named (Wrong complaint) = 2
+status named (Wrong words) = 2
 status named Differs = 1
 status named (Kept reason) = 2
 
@@ -73,31 +71,18 @@ abbrev pub refused : Option (List ℕ) → RunFailure → List ℕ
 refused None failure = codes "wat_tokens: " ++ (bare_refusal (error_of failure) ++ codes "\n")
 refused (Some name) failure = if is_unread true failure then [] else codes "wat_tokens: " ++ (of_file (Some name) ++ (refusal failure ++ codes "\n"))
 
--- what is wrong with words, and where more is said
-abbrev said : List ℕ → List ℕ
-said text = codes "wat_tokens: " ++ (text ++ codes "\nwat_tokens --help lists the commands and their options\n")
-
--- what is reported of wrong words: the usage line alone, or what is wrong, and where more is said
-abbrev pub objection : Complaint → List ℕ
-objection Usage = complaint Usage ++ codes "\n"
-objection (Twice word) = said (complaint (Twice word))
-objection Nameless = said (complaint Nameless)
-objection (Late word) = said (complaint (Late word))
-objection (Unknown word) = said (complaint (Unknown word))
-objection (Nothing word) = said (complaint (Nothing word))
-objection NoJson = said (complaint NoJson)
-objection NoFlags = said (complaint NoFlags)
-objection NoCall = said (complaint NoCall)
-objection Mixed = said (complaint Mixed)
-objection TooMany = said (complaint TooMany)
+-- what is reported of a fault; there is a hint where the input has a name
+abbrev pub fault_report : Option (List ℕ) → Option Report → List ℕ
+fault_report None error = shown_in None error ++ codes "\n"
+fault_report (Some name) error = shown_in (Some name) error ++ hint error ++ codes "\n"
 
 -- what is on standard error: of the text of an input with a name, or of standard input without one
 abbrev pub report : Option (List ℕ) → Outcome → List ℕ
 report name Listed = []
-report name (Faulty error) = shown_in name error ++ hint error ++ codes "\n"
+report name (Faulty error) = fault_report name error
 report name (Refused failure) = refused name failure
 report name (Unopened failed) = codes "wat_tokens: " ++ (of_file name ++ (codes "open failed" ++ (cause failed ++ codes "\n")))
-report name (Wrong complaint) = objection complaint
+report name (Wrong words) = complaint words ++ codes "\n"
 report name Differs = []
 report name (Kept reason) = codes "wat_tokens: " ++ (of_file name ++ (reason.now ++ codes "\n"))
 
@@ -111,7 +96,7 @@ Tells name Listed old new = Appends old new (report name Listed)
 Tells name (Faulty error) old new = TellsFault name error old new
 Tells name (Refused failure) old new = Appends old new (report name (Refused failure))
 Tells name (Unopened failed) old new = Appends old new (report name (Unopened failed))
-Tells name (Wrong complaint) old new = Appends old new (report name (Wrong complaint))
+Tells name (Wrong words) old new = Appends old new (report name (Wrong words))
 Tells name Differs old new = Appends old new (report name Differs)
 Tells name (Kept reason) old new = Appends old new (report name (Kept reason))
 
@@ -125,7 +110,7 @@ Responds prints (Refused TooLong) old new = Keeps old new
 Responds prints (Refused (NotUtf8 offset)) old new = Keeps old new
 Responds prints (Refused (Memory refused)) old new = Keeps old new
 Responds prints (Unopened failed) old new = ⊥
-Responds prints (Wrong complaint) old new = ⊥
+Responds prints (Wrong words) old new = ⊥
 Responds prints Differs old new = ⊥
 Responds prints (Kept reason) old new = ⊥
 

@@ -1,6 +1,6 @@
 -- What the program answers to the words of its command line: what it opens and lays out, what it writes, and its exit status. No part of the
 -- standard.
-use Rattle.std.specs.Prelude.{◌≡◌, ◌≢◌, ◌⊎◌, ◌<◌, ℕ, Bool, true, false, List, [], ◌∷◌, ◌++◌, length, take, max, nat_lt, codes, string_bytes, Option, Some, None, IsSome, IfSome, MatchOption, Unit, Result, Ok, Err, if◌then◌else◌}
+use Rattle.std.specs.Prelude.{◌≡◌, ◌≢◌, ◌⊎◌, ◌<◌, ℕ, Bool, true, false, List, [], ◌∷◌, ◌++◌, length, take, max, nat_lt, codes, string_bytes, Option, Some, None, IsSome, IfSome, MatchOption, Result, Ok, Err, if◌then◌else◌}
 use Rattle.std.specs.Io.KnownBytes.{Appends}
 use Rattle.std.specs.Str.{bytes_eq}
 use Rattle.wat_lex.specs.declared.lexer.settings.Settings.{Settings}
@@ -45,11 +45,15 @@ pub data RanFile {S T : Type 0} (left : S → Option (List ℕ)) (read_failed : 
 
 -- A file is opened, and this is known of the run over it.
 abbrev pub RanFileOf : {I S T : Type 0} → (I → List ℕ → I → Type 0) → (I → List ℕ → Found) → (S → Option (List ℕ)) → (S → Option Failed) → (S → Bool) → (T → Option (List ℕ)) → (T → Option Failed) → Prints → List ℕ → I → I → T → T → Outcome → Type 0
-RanFileOf opened found left read_failed has_ended held write_failed prints file inputs inputs' output output' outcome = opened inputs file inputs' × RanFile left read_failed has_ended held write_failed prints (found inputs file) output output' outcome
+RanFileOf opening finding left read_failed has_ended held write_failed prints file inputs inputs' output output' outcome = opening inputs file inputs' × RanFile left read_failed has_ended held write_failed prints (finding inputs file) output output' outcome
 
 -- what is done over a file takes inputs and output from these to those, and the run ends in this outcome
 abbrev pub Runner : Type 0 → Type 0 → Type 1
 Runner I T = List ℕ → I → I → T → T → Outcome → Type 0
+
+-- A file was run, and this is its status.
+abbrev pub RanWith : {I T : Type 0} → Runner I T → List ℕ → I → I → T → T → ℕ → Type 0
+RanWith run file inputs inputs' output output' exit = (outcome : Outcome) × run file inputs inputs' output output' outcome × (exit ≡ status true outcome)
 
 -- Files were run one after the other.
 pub data RanEach {I T : Type 0} (run : Runner I T) : List Word → List Outcome → I → I → T → T → Type 0 where

@@ -1,14 +1,18 @@
 //! What is said of words that ask for nothing.
 ghost use Rattle.std.specs.Prelude.{◌≡◌, ◌↔◌, false};
-ghost use Rattle.wat_commands.specs.Complaints.{goes_beyond, is_own_option, rest_goes_beyond, Usage};
-ghost use Rattle.wat_commands.specs.Options.{front_of};
+ghost use Rattle.wat_commands.specs.Complaints.{goes_beyond, is_own_option, rest_goes_beyond};
 
 use crate::options::{
-    FileNames, Front, Verb, is_file, looks_like_file, read_front, split_mode, split_verb,
-    verb_named,
+    FileNames, Flag, Verb, after_options, is_file, looks_like_file, split_mode, split_verb, times,
+    verb_named, wants_json,
 };
 use std::fmt;
 use wat_lists::named::Shown;
+
+const USAGE: &str =
+    "usage: wat_tokens [--allow-confusing] [--strict-underscores] [sig NAME.. | play CALL..]";
+
+const MORE: &str = "\nwat_tokens --help lists the commands and their options";
 
 /// What is wrong with words that ask for nothing.
 #[derive(Clone, Copy)]
@@ -45,23 +49,28 @@ impl fmt::Display for Complaint<'_> {
 
     fn fmt<W: fmt::Write>(&self, f: &mut fmt::Formatter<W>) -> fmt::Result {
         match self {
-            Complaint::Usage => write!(
+            Complaint::Usage => write!(f, "{USAGE}"),
+            Complaint::Twice(word) => write!(f, "wat_tokens: {word} is given twice{MORE}"),
+            Complaint::Nameless => write!(f, "wat_tokens: --file has no name after it{MORE}"),
+            Complaint::Late(word) => write!(f, "wat_tokens: {word} comes too late{MORE}"),
+            Complaint::Unknown(word) => {
+                write!(f, "wat_tokens: unknown option: {}{MORE}", Shown(word))
+            }
+            Complaint::Nothing(word) => {
+                write!(
+                    f,
+                    "wat_tokens: no such command or file: {}{MORE}",
+                    Shown(word)
+                )
+            }
+            Complaint::NoJson => write!(f, "wat_tokens: --json goes with list and sig alone{MORE}"),
+            Complaint::NoFlags => write!(f, "wat_tokens: types takes no flags{MORE}"),
+            Complaint::NoCall => write!(f, "wat_tokens: play takes calls of a parser alone{MORE}"),
+            Complaint::Mixed => write!(
                 f,
-                "usage: wat_tokens [--allow-confusing] [--strict-underscores] [sig NAME.. | play CALL..]"
+                "wat_tokens: files are before -- or after it, not both{MORE}"
             ),
-            Complaint::Twice(word) => write!(f, "{word} is given twice"),
-            Complaint::Nameless => write!(f, "--file has no name after it"),
-            Complaint::Late(word) => write!(f, "{word} comes too late"),
-            Complaint::Unknown(word) => write!(f, "unknown option: {}", Shown(word)),
-            Complaint::Nothing(word) => write!(f, "no such command or file: {}", Shown(word)),
-            Complaint::NoJson => write!(f, "--json goes with list and sig alone"),
-            Complaint::NoFlags => write!(
-                f,
-                "types takes neither --allow-confusing nor --strict-underscores"
-            ),
-            Complaint::NoCall => write!(f, "play takes calls of a parser alone"),
-            Complaint::Mixed => write!(f, "files are named before -- or after it, not both"),
-            Complaint::TooMany => write!(f, "this command takes one file"),
+            Complaint::TooMany => write!(f, "wat_tokens: this command takes one file{MORE}"),
         }
     }
 }
@@ -92,20 +101,20 @@ fn rest_goes_beyond(words: &[String], there: bool) -> bool
 fn goes_beyond(words: &[String], there: bool) -> bool
     ensures { result ≡ goes_beyond there words.now }
 {
-    let front = read_front(words);
-    let named = FileNames::of_options(words);
-    front.json > 0 || !named.are_none() || rest_goes_beyond(front.rest, there)
+    wants_json(words)
+        || !FileNames::of_options(words).are_none()
+        || rest_goes_beyond(after_options(words), there)
 }
 
 /// The flag that is given twice.
-fn twice(front: &Front<'_>) -> Option<&'static str> {
-    if front.allow > 1 {
+fn twice(words: &[String]) -> Option<&'static str> {
+    if times(Flag::Allow, words) > 1 {
         return Some("--allow-confusing");
     }
-    if front.strict > 1 {
+    if times(Flag::Strict, words) > 1 {
         return Some("--strict-underscores");
     }
-    if front.json > 1 {
+    if times(Flag::Json, words) > 1 {
         return Some("--json");
     }
     None
@@ -152,13 +161,15 @@ fn wrong_files(words: &[String]) -> Complaint<'_> {
 }
 
 /// What is wrong with a command and the words after its name.
-fn wrong_command<'a>(front: &Front<'a>) -> Complaint<'a> {
-    let (verb, after) = split_verb(front.rest);
-    if front.json > 0 && verb != Verb::List && verb != Verb::Sig {
+fn wrong_command(words: &[String]) -> Complaint<'_> {
+    let (verb, after) = split_verb(after_options(words));
+    if verb != Verb::List && verb != Verb::Sig && wants_json(words) {
         return Complaint::NoJson;
     }
     match verb {
-        Verb::Types if front.allow + front.strict > 0 => Complaint::NoFlags,
+        Verb::Types if times(Flag::Allow, words) > 0 || times(Flag::Strict, words) > 0 => {
+            Complaint::NoFlags
+        }
         Verb::Fmt => wrong_files(split_mode(after).1),
         Verb::Play if !after.is_empty() => Complaint::NoCall,
         Verb::List | Verb::Sig | Verb::Play | Verb::Blank | Verb::Types => wrong_files(after),
@@ -167,12 +178,11 @@ fn wrong_command<'a>(front: &Front<'a>) -> Complaint<'a> {
 
 /// What is wrong with words that go beyond the usage line.
 fn wrong_beyond(words: &[String], there: bool) -> Complaint<'_> {
-    let front = read_front(words);
-    if let Some(flag) = twice(&front) {
+    if let Some(flag) = twice(words) {
         return Complaint::Twice(flag);
     }
-    let Some((word, _)) = front.rest.split_first() else {
-        return wrong_command(&front);
+    let Some((word, _)) = after_options(words).split_first() else {
+        return wrong_command(words);
     };
     if word.as_str() == "--file" {
         return Complaint::Nameless;
@@ -181,7 +191,7 @@ fn wrong_beyond(words: &[String], there: bool) -> Complaint<'_> {
         return Complaint::Late(word.as_str());
     }
     if verb_named(word).is_some() || looks_like_file(word) || (there && is_file(word)) {
-        return wrong_command(&front);
+        return wrong_command(words);
     }
     if is_file(word) {
         Complaint::Nothing(word.as_str())

@@ -10,14 +10,14 @@ ghost use Rattle.wat_commands.specs.declared.options.Command.{Command};
 ghost use Rattle.wat_commands.specs.declared.options.Mode.{Mode};
 ghost use Rattle.wat_commands.specs.declared.options.Task.{Task};
 ghost use Rattle.wat_commands.specs.declared.options.Verb.TheVariants as verbs;
-ghost use Rattle.wat_commands.specs.Options.{front_of, no_options, times, wants_json, Selects};
+ghost use Rattle.wat_commands.specs.Options.{front_of, flag_of, no_options, times, wants_json, Selects};
 ghost use Rattle.wat_commands.specs.Options.{spells, verb_named, verb_of, after_verb, mode_named, mode_of};
 ghost use Rattle.wat_commands.specs.Options.{after_mode, own_len, own_words, last_words, is_file};
 ghost use Rattle.wat_commands.specs.Options.{owns_words, takes_many, file_names, SpellsCalls, AsksTask};
 ghost use Rattle.wat_commands.specs.Options.{HasFiles, NamesFiles, AsksFiles, AsksRun, AsksFormat, begins_with};
-ghost use Rattle.wat_commands.specs.Options.{asks_help, begins_with_files, Asks, AsksPlay, AsksNothing};
+ghost use Rattle.wat_commands.specs.Options.{asks_help, begins_with_files, wants_help, Asks, AsksPlay, AsksNothing};
 ghost use Rattle.wat_commands.specs.Options.{looks_like_file, file_in_question};
-ghost use Rattle.wat_commands.specs.OptionSteps.{IsStep, IsNext};
+ghost use Rattle.wat_commands.specs.OptionSteps.{once_for, IsStep, IsNext};
 
 use std::alloc::{AllocError, Global};
 use wat_lex::lexer::Settings;
@@ -105,57 +105,88 @@ pub(crate) enum Given<'a> {
     File(&'a str),
 }
 
-/// How often each flag is given in front of the other words, and these.
-#[derive(Clone, Copy)]
-pub(crate) struct Front<'a> {
-    pub(crate) allow: usize,
-    pub(crate) strict: usize,
-    pub(crate) json: usize,
-    pub(crate) rest: &'a [String],
+impl Given<'_> {
+    /// One where it is this flag, and else zero.
+    fn once_for(self, flag: Flag) -> usize
+        ensures { result ≡ once_for flag self.entry }
+    {
+        match self {
+            Given::Flag(given) if given == flag => 1,
+            Given::Flag(_) | Given::File(_) => 0,
+        }
+    }
+}
+
+/// The flag of a name.
+fn flag_named(word: &String) -> Option<Flag>
+    ensures { result ≡ flag_of word.now }
+{
+    match word.as_str() {
+        "--allow-confusing" => Some(Flag::Allow),
+        "--strict-underscores" => Some(Flag::Strict),
+        "--json" => Some(Flag::Json),
+        _ => None,
+    }
+}
+
+/// Whether a word is the option that names a file.
+fn is_file_option(word: &String) -> bool
+    ensures { result ≡ spells (codes "--file") word.now }
+{
+    word.as_str() == "--file"
 }
 
 /// The option that the words begin with, and the words after it.
-pub(crate) fn next_option(words: &[String]) -> Option<(Given<'_>, &[String])>
+fn next_option(words: &[String]) -> Option<(Given<'_>, &[String])>
     ensures { MatchOption result (front_of words.now ≡ no_options words.now)
         (λ r. IsStep words.now r.0 r.1.now) }
 {
-    let (word, rest) = words.split_first()?;
-    let flag = match word.as_str() {
-        "--allow-confusing" => Flag::Allow,
-        "--strict-underscores" => Flag::Strict,
-        "--json" => Flag::Json,
-        "--file" => {
-            let (name, after) = rest.split_first()?;
-            return Some((Given::File(name.as_str()), after));
-        }
-        _ => return None,
+    let Some((word, rest)) = words.split_first() else {
+        return None;
     };
-    Some((Given::Flag(flag), rest))
+    if let Some(flag) = flag_named(word) {
+        return Some((Given::Flag(flag), rest));
+    }
+    if !is_file_option(word) {
+        return None;
+    }
+    let Some((name, after)) = rest.split_first() else {
+        return None;
+    };
+    Some((Given::File(name.as_str()), after))
 }
 
-/// The flags in front of the other words, and these.
-pub(crate) fn read_front(words: &[String]) -> Front<'_>
-    ensures allow { result.allow ≡ times (codes "--allow-confusing") (front_of words.now) }
-    ensures strict { result.strict ≡ times (codes "--strict-underscores") (front_of words.now) }
-    ensures json { result.json ≡ times (codes "--json") (front_of words.now) }
-    ensures rest { result.rest.now ≡ (front_of words.now).rest }
+/// How often a flag is given before the other words.
+pub(crate) fn times(flag: Flag, words: &[String]) -> usize
+    ensures { result ≡ times flag (front_of words.now) }
 {
-    let mut front = Front {
-        allow: 0,
-        strict: 0,
-        json: 0,
-        rest: words,
-    };
-    while let Some((given, rest)) = next_option(front.rest) {
-        match given {
-            Given::Flag(Flag::Allow) => front.allow += 1,
-            Given::Flag(Flag::Strict) => front.strict += 1,
-            Given::Flag(Flag::Json) => front.json += 1,
-            Given::File(_) => {}
-        }
-        front.rest = rest;
+    // The proof takes from here that there are not too many words to count.
+    let _ = words.iter();
+    let mut count = 0;
+    let mut rest = words;
+    while let Some((given, after)) = next_option(rest) {
+        count += given.once_for(flag);
+        rest = after;
     }
-    front
+    count
+}
+
+/// The words after the options.
+pub(crate) fn after_options(words: &[String]) -> &[String]
+    ensures { result.now ≡ (front_of words.now).rest }
+{
+    let mut rest = words;
+    while let Some((_, after)) = next_option(rest) {
+        rest = after;
+    }
+    rest
+}
+
+/// Whether the lists are to be lines of JSON.
+pub(crate) fn wants_json(words: &[String]) -> bool
+    ensures { result ≡ wants_json (front_of words.now) }
+{
+    times(Flag::Json, words) > 0
 }
 
 impl<'a> FileNames<'a> {
@@ -180,7 +211,9 @@ impl<'a> FileNames<'a> {
                 return Some(name);
             }
         }
-        let (name, rest) = self.words.split_first()?;
+        let Some((name, rest)) = self.words.split_first() else {
+            return None;
+        };
         self.words = rest;
         Some(name.as_str())
     }
@@ -207,13 +240,14 @@ fn settings_of(words: &[String]) -> Option<Settings>
     ensures selected { IfSome result (λ settings. Selects (front_of words.now) settings) }
     ensures refused { IfNone result ((settings : Settings) → ¬ Selects (front_of words.now) settings) }
 {
-    let front = read_front(words);
-    if front.allow > 1 || front.strict > 1 || front.json > 1 {
+    let allow = times(Flag::Allow, words);
+    let strict = times(Flag::Strict, words);
+    if allow > 1 || strict > 1 || times(Flag::Json, words) > 1 {
         return None;
     }
     Some(Settings {
-        allow: front.allow == 1,
-        strict: front.strict == 1,
+        allow: allow == 1,
+        strict: strict == 1,
     })
 }
 
@@ -416,16 +450,20 @@ fn format_of(words: &[String]) -> Option<Command<'_>>
         ((s : Settings) (m : Mode) (files : List (String Global)) → ¬ AsksFormat words.now s m files)
         (Asks words.now) }
 {
-    let settings = settings_of(words)?;
-    let front = read_front(words);
-    let (verb, after) = split_verb(front.rest);
-    if verb != Verb::Fmt || front.json > 0 {
+    let Some(settings) = settings_of(words) else {
+        return None;
+    };
+    let (verb, after) = split_verb(after_options(words));
+    if verb != Verb::Fmt || wants_json(words) {
         return None;
     }
     let (mode, rest) = split_mode(after);
+    let Some(own) = named_files(rest) else {
+        return None;
+    };
     let files = FileNames {
         options: words,
-        words: named_files(rest)?,
+        words: own,
     };
     Some(Command::Format(settings, mode, files))
 }
@@ -436,9 +474,12 @@ fn all_files<'a>(words: &'a [String], verb: Verb, after: &'a [String]) -> Option
     ensures refused { IfNone result
         ((files : List (String Global)) → ¬ HasFiles words.now verb after.now files) }
 {
+    let Some(own) = files_of(verb, after) else {
+        return None;
+    };
     let files = FileNames {
         options: words,
-        words: files_of(verb, after)?,
+        words: own,
     };
     if !verb.takes_many() && files.are_several() {
         return None;
@@ -457,15 +498,14 @@ fn run_of<'a>(alloc: Global, words: &'a [String]) -> Result<Option<Command<'a>>,
     let Some(settings) = settings_of(words) else {
         return Ok(None);
     };
-    let front = read_front(words);
-    let (verb, after) = split_verb(front.rest);
+    let (verb, after) = split_verb(after_options(words));
     if verb == Verb::Types && (settings.allow || settings.strict) {
         return Ok(None);
     }
     let Some(files) = all_files(words, verb, after) else {
         return Ok(None);
     };
-    let Some(task) = task_of(alloc, verb, front.json > 0, after)? else {
+    let Some(task) = task_of(alloc, verb, wants_json(words), after)? else {
         return Ok(None);
     };
     Ok(Some(Command::Run(settings, task, files)))
@@ -498,6 +538,13 @@ pub(crate) fn begins_with_files(words: &[String]) -> bool
     }
 }
 
+/// Whether the words ask for help, first of all or of a command that takes files.
+fn wants_help(words: &[String]) -> bool
+    ensures { result ≡ wants_help words.now }
+{
+    asks_help(words) || (begins_with_files(words) && asks_help(split_verb(words).1))
+}
+
 /// What the words ask for, if they ask for something.
 pub fn read_words<'a>(alloc: Global, words: &'a [String]) -> Result<Option<Command<'a>>, AllocError>
     ensures asked { IfOk result (λ command.
@@ -506,11 +553,7 @@ pub fn read_words<'a>(alloc: Global, words: &'a [String]) -> Result<Option<Comma
     // Nothing else takes memory.
     ensures refused { OnErr result (AsksPlay words.now) }
 {
-    if asks_help(words) {
-        return Ok(Some(Command::Help));
-    }
-    let (_, after) = split_verb(words);
-    if begins_with_files(words) && asks_help(after) {
+    if wants_help(words) {
         return Ok(Some(Command::Help));
     }
     if begins_with("--version", words) {
@@ -526,12 +569,8 @@ pub fn read_words<'a>(alloc: Global, words: &'a [String]) -> Result<Option<Comma
 pub(crate) fn looks_like_file(word: &String) -> bool
     ensures { result ≡ looks_like_file word.now }
 {
-    word.as_str() == "-"
-        || (is_file(word)
-            && word
-                .as_bytes()
-                .iter()
-                .any(|byte| *byte == b'.' || *byte == b'/'))
+    let bytes = word.as_bytes();
+    word.as_str() == "-" || (is_file(word) && (bytes.contains(&b'.') || bytes.contains(&b'/')))
 }
 
 /// The word that names a file only where one of that name is there: the first after the options,
@@ -540,7 +579,9 @@ pub fn file_in_question(words: &[String]) -> Option<&str>
     ensures { option_map (λ w. w.now) result
         ≡ option_map string_bytes (file_in_question words.now) }
 {
-    let (word, _) = read_front(words).rest.split_first()?;
+    let Some((word, _)) = after_options(words).split_first() else {
+        return None;
+    };
     if verb_named(word).is_some() || looks_like_file(word) || !is_file(word) {
         return None;
     }

@@ -4,7 +4,7 @@ ghost use Rattle.std.specs.Io.KnownBytes.{Appends};
 ghost use Rattle.std.specs.Option.{option_map};
 ghost use Rattle.wat_lex.specs.declared.lexer.settings.Settings.{Settings};
 ghost use Rattle.wat_commands.specs.Outcomes.{exit_code, is_marked, is_unread, outcome_of, hint};
-ghost use Rattle.wat_commands.specs.Outcomes.{refused, objection, Ran, status, task_prints, Tells};
+ghost use Rattle.wat_commands.specs.Outcomes.{refused, Ran, status, task_prints, Tells};
 ghost use Rattle.wat_commands.specs.Outcomes.{TellsFault};
 
 use crate::complaint::Complaint;
@@ -131,15 +131,24 @@ pub fn carry_out<R: Source, W: Sink>(
         (task_prints settings (option_map (λ f. f.now) file.entry) task.now)
         input.old input.new output.old output.new result }
 {
-    Outcome::of_run(match task {
-        Task::List => run(alloc, input, output, settings, Printing::Raw),
-        Task::Sig(names) => run(alloc, input, output, settings, Printing::Shown(names)),
-        Task::JsonList => run(alloc, input, output, settings, Printing::JsonRaw(file)),
-        Task::JsonSig(names) => run(alloc, input, output, settings, Printing::JsonShown(names, file)),
-        Task::Play(calls) => run(alloc, input, output, settings, Printing::Replies(calls)),
-        Task::Blank => run(alloc, input, output, settings, Printing::Blank),
-        Task::Types => run(alloc, input, output, settings, Printing::Types),
-    })
+    match task {
+        Task::List => Outcome::of_run(run(alloc, input, output, settings, Printing::Raw)),
+        Task::Sig(names) => {
+            Outcome::of_run(run(alloc, input, output, settings, Printing::Shown(names)))
+        }
+        Task::JsonList => {
+            Outcome::of_run(run(alloc, input, output, settings, Printing::JsonRaw(file)))
+        }
+        Task::JsonSig(names) => {
+            let printing = Printing::JsonShown(names, file);
+            Outcome::of_run(run(alloc, input, output, settings, printing))
+        }
+        Task::Play(calls) => {
+            Outcome::of_run(run(alloc, input, output, settings, Printing::Replies(calls)))
+        }
+        Task::Blank => Outcome::of_run(run(alloc, input, output, settings, Printing::Blank)),
+        Task::Types => Outcome::of_run(run(alloc, input, output, settings, Printing::Types)),
+    }
 }
 
 impl<'a> Outcome<'a> {
@@ -184,7 +193,7 @@ impl<'a> Outcome<'a> {
             Outcome::Faulty(error) => report_fault(alloc, name, error, errors),
             Outcome::Refused(failure) => report_refusal(name, *failure, errors),
             Outcome::Unopened(failed) => writeln!(errors, "wat_tokens: {file}open failed{failed}"),
-            Outcome::Wrong(complaint) => report_complaint(complaint, errors),
+            Outcome::Wrong(complaint) => writeln!(errors, "{complaint}"),
             Outcome::Kept(reason) => writeln!(errors, "wat_tokens: {file}{reason}"),
         }
     }
@@ -197,29 +206,13 @@ fn report_refusal<W: io::Write>(
     errors: &mut W,
 ) -> io::Result<()>
     ensures { OnOk result (Appends (W.contents errors.old) (W.contents errors.new)
-        (refused (option_map (λ n. n.now) name) failure)) }
+        (refused (option_map (λ n. n.now) name.entry) failure)) }
 {
-    let Some(_) = name else {
-        return writeln!(errors, "wat_tokens: {}", RunError::from(failure));
-    };
-    if is_unread(true, failure) {
-        return Ok(());
+    match name {
+        None => writeln!(errors, "wat_tokens: {}", RunError::from(failure)),
+        Some(_) if is_unread(true, failure) => Ok(()),
+        Some(_) => writeln!(errors, "wat_tokens: {}{failure}", OfFile(name)),
     }
-    writeln!(errors, "wat_tokens: {}{failure}", OfFile(name))
-}
-
-/// Writes what is wrong with words: the usage line alone, or that and where more is said.
-fn report_complaint<W: io::Write>(complaint: &Complaint<'_>, errors: &mut W) -> io::Result<()>
-    ensures { OnOk result (Appends (W.contents errors.old) (W.contents errors.new)
-        (objection complaint.now)) }
-{
-    if matches!(complaint, Complaint::Usage) {
-        return writeln!(errors, "{complaint}");
-    }
-    writeln!(
-        errors,
-        "wat_tokens: {complaint}\nwat_tokens --help lists the commands and their options"
-    )
 }
 
 /// Writes a fault with its place in the text of an input with this name, or of standard input without
@@ -233,12 +226,11 @@ fn report_fault<W: io::Write>(
     ensures { OnOk result (TellsFault (option_map (λ n. n.now) name.entry) error.now
         (W.contents errors.old) (W.contents errors.new)) }
 {
-    let hint = hint(error);
     let Some(name) = name else {
-        return writeln!(errors, "{error}{hint}");
+        return writeln!(errors, "{error}");
     };
     match named(alloc, name, error) {
-        Ok(text) => writeln!(errors, "{text}{hint}"),
-        Err(_) => writeln!(errors, "{error}{hint}"),
+        Ok(text) => writeln!(errors, "{text}{}", hint(error)),
+        Err(_) => writeln!(errors, "{error}"),
     }
 }

@@ -6,7 +6,7 @@ ghost use Rattle.wat_commands.specs.Options.{file_names};
 ghost use Rattle.wat_commands.specs.Outcomes.{exit_code, status, task_prints};
 ghost use Rattle.wat_commands.specs.Responses.{Found, Gives, Fails, IsMeant, IsNotMeant, name_of};
 ghost use Rattle.wat_commands.specs.Responses.{Acted, LaidOutAll, LaidOutEach, RanFile, RanFileOf};
-ghost use Rattle.wat_commands.specs.Responses.{RanAll, RanFiles, Responded, Says, label};
+ghost use Rattle.wat_commands.specs.Responses.{RanAll, RanFiles, RanWith, Responded, Says, label};
 ghost use Rattle.wat_commands.specs.declared.options.Mode.{Mode};
 ghost use Rattle.wat_lex.specs.declared.lexer.settings.Settings.{Settings};
 
@@ -68,10 +68,17 @@ fn reported<E: io::Write>(
     name: Option<&str>,
     errors: &mut E,
 ) -> Exit
-    ensures { exit_code result ≡ status (is_some name) outcome.now }
+    ensures { exit_code result ≡ status (is_some name.entry) outcome.now }
 {
     let _ = outcome.report(alloc, name, errors);
     outcome.exit(name.is_some())
+}
+
+/// The name that lines of JSON have: that of their file, where there are several.
+fn label(several: bool, file: &str) -> Option<&str>
+    ensures { option_map (λ n. n.now) result ≡ label several file.now }
+{
+    if several { Some(name_of(file)) } else { None }
 }
 
 /// Writes what the task asks for of the text of a file. Where there are several files its lines of
@@ -91,11 +98,31 @@ fn run_file<I: Inputs, W: Sink>(
         (task_prints settings (label several file.now) task.now) (I.found inputs.old file.now)
         output.old output.new result }
 {
-    let label = if several { Some(name_of(file)) } else { None };
+    let label = label(several, file);
     match inputs.open(file) {
         Ok(mut input) => carry_out(alloc, settings, task, label, &mut input, output),
         Err(failed) => Outcome::Unopened(failed),
     }
+}
+
+/// Writes what the task asks for of the text of a file, and reports what the run ended in.
+fn run_and_report<I: Inputs, W: Sink, E: io::Write>(
+    alloc: Global,
+    settings: Settings,
+    task: &Task<'_>,
+    several: bool,
+    inputs: &mut I,
+    file: &str,
+    output: &mut W,
+    errors: &mut E,
+) -> Exit
+    requires { W.failure output.old ≡ None }
+    ensures { RanWith (λ f before after. RanFileOf I.opened I.found I.Input.left I.Input.failure
+        I.Input.has_ended W.held W.failure (task_prints settings (label several f) task.now) f before after)
+        file.now inputs.old inputs.new output.old output.new (exit_code result) }
+{
+    let outcome = run_file(alloc, settings, task, several, inputs, file, output);
+    reported(alloc, &outcome, Some(name_of(file)), errors)
 }
 
 /// Writes what the task asks for of the text of each file, reports what each run ended in, and
@@ -112,9 +139,9 @@ fn run_files<I: Inputs, W: Sink, E: io::Write>(
     requires { W.failure output.old ≡ None }
     ensures { RanFiles (λ file before after. RanFileOf I.opened I.found I.Input.left I.Input.failure
         I.Input.has_ended W.held W.failure
-        (task_prints settings (label (nat_lt 1 (length (file_names files))) file) task.now)
+        (task_prints settings (label (nat_lt 1 (length (file_names files.entry))) file) task.now)
         file before after)
-        W.failure (file_names files) inputs.old inputs.new output.old output.new (exit_code result) }
+        W.failure (file_names files.entry) inputs.old inputs.new output.old output.new (exit_code result) }
 {
     let several = files.are_several();
     let mut left = files;
@@ -123,8 +150,8 @@ fn run_files<I: Inputs, W: Sink, E: io::Write>(
         let Some(file) = left.next() else {
             return worst;
         };
-        let outcome = run_file(alloc, settings, task, several, inputs, file, output);
-        worst = worst.or(reported(alloc, &outcome, Some(name_of(file)), errors));
+        let exit = run_and_report(alloc, settings, task, several, inputs, file, output, errors);
+        worst = worst.or(exit);
     }
     worst
 }
@@ -143,9 +170,9 @@ fn run_all<I: Inputs, W: Sink, E: io::Write>(
     requires { W.failure output.old ≡ None }
     ensures { RanAll (λ file before after. RanFileOf I.opened I.found I.Input.left I.Input.failure
         I.Input.has_ended W.held W.failure
-        (task_prints settings (label (nat_lt 1 (length (file_names files))) file) task.now)
+        (task_prints settings (label (nat_lt 1 (length (file_names files.entry))) file) task.now)
         file before after)
-        W.failure (file_names files) inputs.old inputs.new output.old output.new (exit_code result) }
+        W.failure (file_names files.entry) inputs.old inputs.new output.old output.new (exit_code result) }
 {
     if !files.are_none() {
         return run_files(alloc, settings, task, inputs, files, output, errors);
@@ -162,7 +189,7 @@ fn lay_out_files<I: Inputs>(
     files: FileNames<'_>,
 ) -> Exit
     ensures { LaidOutEach (λ file before after status. I.laid_out before settings mode file after status)
-        (file_names files) inputs.old inputs.new (exit_code result) }
+        (file_names files.entry) inputs.old inputs.new (exit_code result) }
 {
     let mut left = files;
     let mut worst = Exit::idle();
@@ -181,7 +208,7 @@ fn lay_out_all<I: Inputs>(
     files: FileNames<'_>,
 ) -> Exit
     ensures { LaidOutAll (λ file before after status. I.laid_out before settings mode file after status)
-        (file_names files) inputs.old inputs.new (exit_code result) }
+        (file_names files.entry) inputs.old inputs.new (exit_code result) }
 {
     if !files.are_none() {
         return lay_out_files(settings, mode, inputs, files);
