@@ -9,6 +9,7 @@
 mod blanking;
 mod closures;
 mod cursors;
+mod lengths;
 mod parsing;
 mod replaying;
 mod spaceship;
@@ -24,6 +25,9 @@ use wat_lex_answers::row::Row;
 /// What the call of a row answers.
 fn answer(alloc: Global, row: &Row<'_>) -> Result<String, Error> {
     if let Some(answer) = wat_lex_answers::answer(alloc, row)? {
+        return Ok(answer);
+    }
+    if let Some(answer) = lengths::answer(alloc, row)? {
         return Ok(answer);
     }
     if let Some(answer) = types::answer(alloc, row)? {

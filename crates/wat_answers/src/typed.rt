@@ -111,10 +111,25 @@ fn miss(lookahead: &mut Lookahead1<'_, '_>, count: usize) -> Result<bool, Error>
     )
 }
 
+/// Looks so many times at a type that is not there.
+fn miss_often(lookahead: &mut Lookahead1<'_, '_>, count: usize) -> Result<bool, Error> {
+    for _ in 0..count {
+        if lookahead.peek::<u32>()? {
+            return Ok(true);
+        }
+    }
+    Ok(false)
+}
+
 /// What a lookahead reports behind so many misses.
 fn report(alloc: Global, parser: &Parser<'_>, count: usize) -> Result<String, Error> {
     let mut lookahead = parser.lookahead1();
-    if miss(&mut lookahead, count)? {
+    let is_seen = if count > 5 {
+        miss_often(&mut lookahead, count)?
+    } else {
+        miss(&mut lookahead, count)?
+    };
+    if is_seen {
         return Ok(String::from_str(alloc, "seen")?);
     }
     Err(lookahead.error())

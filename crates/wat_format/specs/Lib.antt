@@ -7,4 +7,3 @@ pub mod Errors
 pub mod Laws
 pub mod Spaces
 pub mod inside
-pub mod Writers

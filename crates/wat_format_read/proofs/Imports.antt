@@ -6,7 +6,7 @@ use Rattle.wat_format_read.specs.Formats.{entry_moved, imports_moved}
 use Rattle.wat_format_shown.specs.Reads.{Moves, OutcomeMoved}
 use Rattle.wat_format_shown.specs.Sides.{Sides, Alike, passed}
 use Rattle.wat_format_shown.specs.lemmas.Moving.{moved_and_then, moved_mapped, moves_and_then, moves_fewer, moves_group, moves_mapped, moves_one_of, moves_optional, moves_while}
-use Rattle.wat_format_shown.specs.lemmas.Seeing.{moves_id, moves_keyword, moves_more, moves_sight_of, moves_word}
+use Rattle.wat_format_shown.specs.lemmas.Seeing.{ShownLaws, moves_id, moves_keyword, moves_more, moves_sight_of, moves_word}
 use Rattle.wat_format_shown.specs.lemmas.Types.{moves_identifier, moves_keyword_at, moves_optional_name, moves_text, moves_u32, span_moved, spelled_moved, stays}
 use Rattle.wat_imports.specs.Imports.{Read, called, described, details, entry, imports, inner, kind, list}
 use Rattle.wat_imports.specs.declared.Kind.{Kind}
@@ -19,50 +19,50 @@ use Rattle.wat_lexer_parser.specs.readings.Types.{Spelled, an_identifier, identi
 use Rattle.wat_words.specs.Words.{quoted}
 
 -- a number behind a keyword
-moves_numbered : (w : List ℕ) (of : ℕ → Kind) → Moves 2 stays (and_then (keyword false w) (λ at. mapped of u32))
-moves_numbered w of = moves_and_then span_moved stays 1 1 (keyword false w) (λ at. mapped of u32) (moves_keyword_at false w) (λ s ts v h. moves_mapped stays stays of 1 u32 (λ move n. refl) moves_u32 s ts h)
+moves_numbered : ShownLaws → (w : List ℕ) (of : ℕ → Kind) → Moves 2 stays (and_then (keyword false w) (λ at. mapped of u32))
+moves_numbered laws w of = moves_and_then span_moved stays 1 1 (keyword false w) (λ at. mapped of u32) (moves_keyword_at laws false w) (λ s ts v h. moves_mapped stays stays of 1 u32 (λ move n. refl) (moves_u32 laws) s ts h)
 
-moves_kind : Moves 2 stays kind.reading
+moves_kind : ShownLaws → Moves 2 stays kind.reading
 unfolding kind
-moves_kind =
+moves_kind laws =
     let code = and_then (keyword false (codes "code")) (λ at. mapped Code u32) in
     let pages = and_then (keyword false (codes "pages")) (λ at. mapped Pages u32) in
-    moves_one_of 2 stays (choice (sees_word as_keyword (codes "code")) (quoted false (codes "code")) code ∷ choice (sees_word as_keyword (codes "pages")) (quoted false (codes "pages")) pages ∷ [])
-    (moves_word as_keyword (codes "code") moves_keyword, moves_numbered (codes "code") Code, (moves_word as_keyword (codes "pages") moves_keyword, moves_numbered (codes "pages") Pages, tt))
+    moves_one_of laws 2 stays (choice (sees_word as_keyword (codes "code")) (quoted false (codes "code")) code ∷ choice (sees_word as_keyword (codes "pages")) (quoted false (codes "pages")) pages ∷ [])
+    (moves_word laws as_keyword (codes "code") moves_keyword, moves_numbered laws (codes "code") Code, (moves_word laws as_keyword (codes "pages") moves_keyword, moves_numbered laws (codes "pages") Pages, tt))
 
 -- with the identifier that was read before, moved
-described_moves : (p f : List ℕ) (s : Sides) (ts : List Token) (i : Option Spelled) → Alike s ts → OutcomeMoved (entry_moved s.move) 2 s ts ((described p f i).reading s.here) ((described p f (option_map (spelled_moved s.move) i)).reading s.there)
+described_moves : ShownLaws → (p f : List ℕ) (s : Sides) (ts : List Token) (i : Option Spelled) → Alike s ts → OutcomeMoved (entry_moved s.move) 2 s ts ((described p f i).reading s.here) ((described p f (option_map (spelled_moved s.move) i)).reading s.there)
 unfolding described
-described_moves p f s ts i h =
+described_moves laws p f s ts i h =
     let here : Kind → Option (List ℕ) → Read = λ k n. record { place = p; field = f; id = i; kind = k; name = n } in
     let there : Kind → Option (List ℕ) → Read = λ k n. record { place = p; field = f; id = option_map (spelled_moved s.move) i; kind = k; name = n } in
     let o = kind.reading s.here in
     let q = kind.reading s.there in
     let t = passed s o.passed q.passed in
-    moved_and_then (λ k. k) (entry_moved s.move) 2 0 s ts o q (λ k. mapped (here k) optional_name) (λ k. mapped (there k) optional_name) (moves_kind s ts h)
-    (λ k r alike few. moved_mapped (λ n. n) (entry_moved s.move) (here k) (there k) 0 t r (optional_name t.here) (optional_name t.there) (λ n. refl) (moves_optional_name t r alike))
+    moved_and_then (λ k. k) (entry_moved s.move) 2 0 s ts o q (λ k. mapped (here k) optional_name) (λ k. mapped (there k) optional_name) (moves_kind laws s ts h)
+    (λ k r alike few. moved_mapped (λ n. n) (entry_moved s.move) (here k) (there k) 0 t r (optional_name t.here) (optional_name t.there) (λ n. refl) (moves_optional_name laws t r alike))
 
-moves_called : (p f : List ℕ) → Moves 2 entry_moved (called p f).reading
+moves_called : ShownLaws → (p f : List ℕ) → Moves 2 entry_moved (called p f).reading
 unfolding called
-moves_called p f = moves_and_then (λ move. option_map (spelled_moved move)) entry_moved 0 2 (optional an_identifier identifier) (λ i. (described p f i).reading) (moves_optional spelled_moved 1 an_identifier identifier (moves_sight_of stays as_id moves_id) moves_identifier)
-    (λ s ts i h. described_moves p f s ts i h)
+moves_called laws p f = moves_and_then (λ move. option_map (spelled_moved move)) entry_moved 0 2 (optional an_identifier identifier) (λ i. (described p f i).reading) (moves_optional spelled_moved 1 an_identifier identifier (moves_sight_of laws stays as_id moves_id) (moves_identifier laws))
+    (λ s ts i h. described_moves laws p f s ts i h)
 
-moves_details : Moves 4 entry_moved details.reading
+moves_details : ShownLaws → Moves 4 entry_moved details.reading
 unfolding details
-moves_details = moves_and_then stays entry_moved 1 3 text (λ p. and_then text (λ f. (called p f).reading)) moves_text (λ s ts p h. moves_and_then stays entry_moved 1 2 text (λ f. (called p f).reading) moves_text (λ s ts f h. moves_called p f s ts h) s ts h)
+moves_details laws = moves_and_then stays entry_moved 1 3 text (λ p. and_then text (λ f. (called p f).reading)) (moves_text laws) (λ s ts p h. moves_and_then stays entry_moved 1 2 text (λ f. (called p f).reading) (moves_text laws) (λ s ts f h. moves_called laws p f s ts h) s ts h)
 
-moves_inner : Moves 5 entry_moved inner.reading
+moves_inner : ShownLaws → Moves 5 entry_moved inner.reading
 unfolding inner
-moves_inner = moves_and_then span_moved entry_moved 1 4 (keyword false (codes "entry")) (λ at. details.reading) (moves_keyword_at false (codes "entry")) (λ s ts v h. moves_details s ts h)
+moves_inner laws = moves_and_then span_moved entry_moved 1 4 (keyword false (codes "entry")) (λ at. details.reading) (moves_keyword_at laws false (codes "entry")) (λ s ts v h. moves_details laws s ts h)
 
-moves_entry : Moves 1 entry_moved entry.reading
-moves_entry = moves_fewer entry_moved 7 1 entry.reading (omega arith) (moves_group 5 entry_moved inner.reading moves_inner)
+moves_entry : ShownLaws → Moves 1 entry_moved entry.reading
+moves_entry laws = moves_fewer entry_moved 7 1 entry.reading (omega arith) (moves_group laws 5 entry_moved inner.reading (moves_inner laws))
 
-moves_list : Moves 1 imports_moved list.reading
+moves_list : ShownLaws → Moves 1 imports_moved list.reading
 unfolding list
-moves_list =
+moves_list laws =
     let entries = while_seen more_comes entry.reading in
-    moves_and_then span_moved imports_moved 1 0 (keyword false (codes "imports")) (λ at. entries) (moves_keyword_at false (codes "imports")) (λ s ts v h. moves_while entry_moved more_comes entry.reading moves_more moves_entry s ts h)
+    moves_and_then span_moved imports_moved 1 0 (keyword false (codes "imports")) (λ at. entries) (moves_keyword_at laws false (codes "imports")) (λ s ts v h. moves_while entry_moved more_comes entry.reading (moves_more laws) (moves_entry laws) s ts h)
 
-pub moves_imports : Moves 3 imports_moved imports.reading
-moves_imports = moves_group 1 imports_moved list.reading moves_list
+pub moves_imports : ShownLaws → Moves 3 imports_moved imports.reading
+moves_imports laws = moves_group laws 1 imports_moved list.reading (moves_list laws)

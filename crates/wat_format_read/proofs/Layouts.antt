@@ -17,7 +17,7 @@ use Rattle.wat_types.specs.Meanings.{module_types}
 use Rattle.wat_types.specs.Signatures.{Signature}
 
 -- the one reads these where the other does
-read_back : (move : ℕ → ℕ) (s r : Source) (fs : List Signature) (a : Result (List Signature) Report) → WholeMoved (stays move) move s.tokens r.setting.text a (whole module_types r) → whole module_types r ≡ Ok fs → a ≡ Ok fs
+read_back : (move : ℕ → ℕ) (s r : Source) (fs : List Signature) (a : Result (List Signature) Report) → WholeMoved (stays move) move s r a (whole module_types r) → whole module_types r ≡ Ok fs → a ≡ Ok fs
 read_back move s r fs (Ok gs) h e = sym h ∙ e
 read_back move s r fs (Err f) h e = let k : ◌≡◌ {A = Result (List Signature) Report} (Err h.0) (Ok fs) = sym h.1 ∙ e in cc
 
@@ -29,6 +29,6 @@ layouts_spell_the_same law same some laid text tokens fs utf8 m =
     let s : Source = record { setting = plain text; track = false; tokens = tokens; ending = None } in
     let r : Source = record { setting = plain y; track = false; tokens = raw.0; ending = raw.1 } in
     let k = law s r utf8 m refl raw.2 refl in (
-      λ h. (same r fs utf8_y raw.2 refl).0 (subst (λ a. WholeMoved (stays k.0) k.0 tokens y a (whole module_types r)) ((same s fs utf8 m refl).1 h) k.2),
-      λ h. (same s fs utf8 m refl).0 (read_back k.0 s r fs (whole module_types s) k.2 ((same r fs utf8_y raw.2 refl).1 h)),
+      λ h. (same r fs utf8_y raw.2 refl).0 (subst (λ a. WholeMoved (stays k.0) k.0 s r a (whole module_types r)) ((same s fs utf8 m refl).1 h) k.3),
+      λ h. (same s fs utf8 m refl).0 (read_back k.0 s r fs (whole module_types s) k.3 ((same r fs utf8_y raw.2 refl).1 h)),
     )

@@ -14,6 +14,8 @@ pub fn sums()
     ensures { LayoutsReadTheSame stays sum.reading }
 {
     wat_format_shown::laws::read::<wat_sums::Sum>();
+    wat_lexer_parser::laws::shown();
+    wat_lexer_parser::laws::counting();
 }
 
 /// So is an import list: the same entries, of which only the identifiers' spans are moved, or the

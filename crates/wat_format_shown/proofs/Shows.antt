@@ -26,7 +26,7 @@ use Rattle.wat_format_shown.specs.Moved.{fault_moved, ShowsMoved, LayoutsShowThe
 use Rattle.wat_format_shown.proofs.Alike.{twins}
 use Rattle.wat_format_shown.proofs.Places.{moved, moved_end, same_by}
 use Rattle.wat_format_shown.specs.Reads.{LayoutsAreSameTexts}
-use Rattle.wat_format_shown.specs.Sides.{AllSame, SameTexts, ShownLaws}
+use Rattle.wat_format_shown.specs.Sides.{AllSame, SameTexts}
 use Rattle.wat_format_shown.proofs.Same.{Moved, all_moved}
 use Rattle.wat_format_shown.proofs.Tokens.{Before, before, rising, all_measured}
 
@@ -122,11 +122,10 @@ module _ (laws : Laws) (s : Setting) (ts : List Token) (utf8 : IsUtf8 s.text) (m
   same_is_shown = (move, shows)
 
   -- the same of these tokens and of the layout's
-  same_texts : ShownLaws → (o : Source) → IsRead o → o.setting ≡ r → SameTexts of_text o move
-  same_texts shown o read e =
+  same_texts : (o : Source) → IsRead o → o.setting ≡ r → SameTexts of_text o move
+  same_texts o read e =
       let is : (us ≡ o.tokens) × (None ≡ o.ending) = laws.one_tiling r 0 us o.tokens None o.ending tiling (subst (λ z. MaximalTiling z 0 o.tokens o.ending) e read) in
       record {
-        laws = shown;
         utf8 = (utf8, subst (λ z. IsUtf8 z.text) (sym e) utf8_r);
         read = (m, read);
         ending = (refl, sym is.1);
@@ -135,17 +134,16 @@ module _ (laws : Laws) (s : Setting) (ts : List Token) (utf8 : IsUtf8 s.text) (m
       }
 
 pub layouts_are_same_texts : Laws → LayoutsAreSameTexts
-layouts_are_same_texts laws shown s r utf8 read ending other e =
+layouts_are_same_texts laws s r utf8 read ending other e =
     let m = subst (MaximalTiling s.setting 0 s.tokens) ending read in
     let k = move laws s.setting s.tokens utf8 m in (
       k,
       subst (λ z. ShowsMoved s.setting z k) (sym e) (shows laws s.setting s.tokens utf8 m),
-      as_source s k r ending (same_texts laws s.setting s.tokens utf8 m shown r other e),
+      as_source s k r ending (same_texts laws s.setting s.tokens utf8 m r other e),
     )
   where
     as_source : (s : Source) (move : ℕ → ℕ) (r : Source) → s.ending ≡ None → SameTexts (record { setting = s.setting; track = false; tokens = s.tokens; ending = None }) r move → SameTexts s r move
     as_source s move r e h = record {
-      laws = h.laws;
       utf8 = h.utf8;
       read = (subst (MaximalTiling s.setting 0 s.tokens) (sym e) h.read.0, h.read.1);
       ending = (e, h.ending.1);

@@ -2,7 +2,6 @@
 use Rattle.std.specs.Prelude.{◌≡◌, ◌≤◌, ◌+◌, ℕ, Bool, List, length, Option, Some, None, Result, Ok, Err}
 use Rattle.std.specs.Str.{IsUtf8}
 use Rattle.wat_lex.specs.errors.Errors.{Report}
-use Rattle.wat_lex.specs.tokens.ReadableTokens.{token_text}
 use Rattle.wat_lex.specs.declared.lexer.kinds.Token.{Token}
 use Rattle.wat_lexer_parser.specs.parser.Sights.{Sight}
 use Rattle.wat_lexer_parser.specs.parser.Takers.{Reader}
@@ -11,7 +10,7 @@ use Rattle.wat_lexer_parser.specs.readings.Readings.{Outcome, Reading, whole}
 use Rattle.wat_format.specs.Laws.{over}
 use Rattle.wat_format.specs.Layout.{layout}
 use Rattle.wat_format_shown.specs.Moved.{token_moved, ShowsMoved}
-use Rattle.wat_format_shown.specs.Sides.{Sides, Alike, RefusalMoved, SameRefusal, SameTexts, ShownLaws, passed}
+use Rattle.wat_format_shown.specs.Sides.{Sides, Alike, Met, RefusalMoved, SameRefusal, SameTexts, passed}
 
 -- The other answers the same value, moved, before the same tokens, n fewer at least; or the same refusal.
 abbrev pub AnswerMoved : {V : Type 0} → (V → V) → ℕ → Sides → List Token → Result V Report → ℕ → Outcome V → Type 0
@@ -41,24 +40,23 @@ ReadMoved moved s (Some (Ok v)) o = o ≡ Some (Ok (moved v))
 ReadMoved moved s (Some (Err f)) o = (g : Report) × (o ≡ Some (Err g)) × SameRefusal s f g
 
 abbrev pub MovesReader : {V : Type 0} → ((ℕ → ℕ) → V → V) → Reader V → Type 0
-MovesReader moved read = (s : Sides) (t : Token) → token_text s.there.source.setting.text (token_moved s.move t) ≡ token_text s.here.source.setting.text t
-    → ReadMoved (moved s.move) s (read s.here.source.setting.text t t.kind) (read s.there.source.setting.text (token_moved s.move t) t.kind)
+MovesReader moved read = (s : Sides) (t : Token) → Met s t → ReadMoved (moved s.move) s (read s.here.source.setting.text t t.kind) (read s.there.source.setting.text (token_moved s.move t) t.kind)
 
 -- what is read of whole texts: the same value, moved, or the same refusal
-abbrev pub WholeMoved : {V : Type 0} → (V → V) → (ℕ → ℕ) → List Token → List ℕ → Result V Report → Result V Report → Type 0
-WholeMoved moved move tokens text (Ok v) r = r ≡ Ok (moved v)
-WholeMoved moved move tokens text (Err f) r = (g : Report) × (r ≡ Err g) × RefusalMoved move tokens text f g
+abbrev pub WholeMoved : {V : Type 0} → (V → V) → (ℕ → ℕ) → Source → Source → Result V Report → Result V Report → Type 0
+WholeMoved moved move s r (Ok v) a = a ≡ Ok (moved v)
+WholeMoved moved move s r (Err f) a = (g : Report) × (a ≡ Err g) × RefusalMoved move s r f g
 
 -- What is read of a text of the same tokens is the same, moved.
 abbrev pub TextsReadTheSame : {V : Type 0} → ((ℕ → ℕ) → V → V) → Reading V → Type 0
-TextsReadTheSame moved m = (s r : Source) (move : ℕ → ℕ) → SameTexts s r move → WholeMoved (moved move) move s.tokens r.setting.text (whole m s) (whole m r)
+TextsReadTheSame moved m = (s r : Source) (move : ℕ → ℕ) → SameTexts s r move → WholeMoved (moved move) move s r (whole m s) (whole m r)
 
 -- The tokens of a layout are those of the text, by a map that moves all that is shown.
 abbrev pub LayoutsAreSameTexts : Type 0
-LayoutsAreSameTexts = ShownLaws → (s r : Source) → IsUtf8 s.setting.text → IsRead s → s.ending ≡ None → IsRead r → r.setting ≡ over s.setting (layout s.setting.text s.tokens)
+LayoutsAreSameTexts = (s r : Source) → IsUtf8 s.setting.text → IsRead s → s.ending ≡ None → IsRead r → r.setting ≡ over s.setting (layout s.setting.text s.tokens)
     → (move : ℕ → ℕ) × ShowsMoved s.setting r.setting move × SameTexts s r move
 
--- What is read of a layout is the same, moved by a map that moves all that is shown.
+-- What is read of a layout is the same, moved by a map that moves all that is shown and each token that counts.
 abbrev pub LayoutsReadTheSame : {V : Type 0} → ((ℕ → ℕ) → V → V) → Reading V → Type 0
 LayoutsReadTheSame moved m = (s r : Source) → IsUtf8 s.setting.text → IsRead s → s.ending ≡ None → IsRead r → r.setting ≡ over s.setting (layout s.setting.text s.tokens)
-    → (move : ℕ → ℕ) × ShowsMoved s.setting r.setting move × WholeMoved (moved move) move s.tokens r.setting.text (whole m s) (whole m r)
+    → (move : ℕ → ℕ) × ShowsMoved s.setting r.setting move × SameTexts s r move × WholeMoved (moved move) move s r (whole m s) (whole m r)

@@ -1,8 +1,8 @@
 -- A parser in a text, and one in another text of the same tokens, which may stand elsewhere. No part of the standard.
-use Rattle.std.specs.Prelude.{◌≡◌, ◌⊎◌, ◌+◌, ◌-◌, ℕ, List, [], ◌∷◌, codes, drop, length, slice_get, Some, None}
+use Rattle.std.specs.Prelude.{◌≡◌, ◌+◌, ℕ, List, [], ◌∷◌, drop, length, slice_get, Some, None}
 use Rattle.std.specs.Option.{option_map}
 use Rattle.std.specs.Str.{IsUtf8}
-use Rattle.wat_lex.specs.errors.Errors.{Report, Custom}
+use Rattle.wat_lex.specs.errors.Errors.{Report}
 use Rattle.wat_lex.specs.errors.Rendering.{excerpt}
 use Rattle.wat_lex.specs.tokens.ReadableTokens.{token_text}
 use Rattle.wat_lex.specs.declared.lexer.kinds.Token.{Token}
@@ -12,8 +12,7 @@ use Rattle.wat_lexer_parser.specs.parser.State.{State, at_place}
 use Rattle.wat_lexer_parser.specs.places.Places.{offset_at}
 use Rattle.wat_lexer_parser.specs.places.Source.{Source, IsRead}
 use Rattle.wat_lexer_parser.specs.readings.Readings.{on}
-use Rattle.wat_lexer_parser.specs.laws.Counting.{CountingShowsTheSame, counting}
-use Rattle.wat_lexer_parser.specs.shown.Showing.{OneThingShown, SomethingShown}
+use Rattle.wat_lexer_parser.specs.laws.Counting.{counting}
 use Rattle.wat_format_shown.specs.Moved.{token_moved}
 
 module _ (x y : List ℕ) (move : ℕ → ℕ) where
@@ -29,37 +28,31 @@ module _ (x y : List ℕ) (move : ℕ → ℕ) where
   AllSame (t ∷ ts) [] = ⊥
   AllSame (t ∷ ts) (u ∷ us) = Same t u × AllSame ts us
 
--- what the laws of the parser say
-pub record ShownLaws : Type 0 where
-  pub one : OneThingShown
-  pub some : SomethingShown
-  pub counting : CountingShowsTheSame
-
 -- Both texts have no fault, the tokens that count are the same, and the second ends where the map says that the first does.
 pub record SameTexts (s r : Source) (move : ℕ → ℕ) : Type 0 where
-  pub laws : ShownLaws
   pub utf8 : IsUtf8 s.setting.text × IsUtf8 r.setting.text
   pub read : IsRead s × IsRead r
   pub ending : (s.ending ≡ None) × (r.ending ≡ None)
   pub tokens : AllSame s.setting.text r.setting.text move (counting s.tokens) (counting r.tokens)
   pub end : move (length s.setting.text) ≡ length r.setting.text
 
--- How a byte of one text stands in the other: by the map, as the start of a token and the text's end do; where one of the tokens ends, with that
--- token; or at the start of both.
-pub data Stands (move : ℕ → ℕ) (tokens : List Token) (p q : ℕ) : Type 0 where
-  by_map : q ≡ move p → Stands move tokens p q
-  with_token : (t : Token) (n : ℕ) → slice_get tokens n ≡ Some t → p ≡ t.offset + t.len → q ≡ move t.offset + t.len → Stands move tokens p q
-  at_start : p ≡ 0 → q ≡ 0 → Stands move tokens p q
+-- the token is one of these
+abbrev pub Among : List Token → Token → Type 0
+Among ts t = (n : ℕ) × (slice_get ts n ≡ Some t)
 
--- That a group is not closed is told right behind its parenthesis.
-abbrev pub BehindOpen : (ℕ → ℕ) → Report → Report → Type 0
-BehindOpen move f g = (f.cause ≡ Custom (codes "unclosed annotation")) × (g.offset ≡ move (f.offset - 1) + 1)
+-- Where a byte of one text is in the other: where a token that counts begins, by the map; where the text ends, at the end; where such a token
+-- ends, at the end of the same one; and the start at the start. So it follows from the tokens that count of both texts.
+pub data Stands (move : ℕ → ℕ) (s r : Source) (p q : ℕ) : Type 0 where
+  at_token : (t : Token) → Among (counting s.tokens) t → p ≡ t.offset → q ≡ move t.offset → Stands move s r p q
+  at_end : p ≡ length s.setting.text → q ≡ length r.setting.text → Stands move s r p q
+  after_token : (t : Token) → Among (counting s.tokens) t → p ≡ t.offset + t.len → q ≡ move t.offset + t.len → Stands move s r p q
+  at_start : p ≡ 0 → q ≡ 0 → Stands move s r p q
 
 -- The same is wrong, at the byte that stands so; what is kept of the text is kept of the other.
-pub record RefusalMoved (move : ℕ → ℕ) (tokens : List Token) (text : List ℕ) (f g : Report) : Type 0 where
+pub record RefusalMoved (move : ℕ → ℕ) (s r : Source) (f g : Report) : Type 0 where
   pub cause : g.cause ≡ f.cause
-  pub offset : Stands move tokens f.offset g.offset ⊎ BehindOpen move f g
-  pub excerpt : g.excerpt ≡ option_map (λ e. excerpt text g.offset) f.excerpt
+  pub offset : Stands move s r f.offset g.offset
+  pub excerpt : g.excerpt ≡ option_map (λ e. excerpt r.setting.text g.offset) f.excerpt
 
 -- a parser's state in each text, and the map from one text to the other
 pub record Sides : Type 0 where
@@ -75,10 +68,15 @@ abbrev pub passed : Sides → ℕ → ℕ → Sides
 passed s n m = record s { here = on s.here n; there = on s.there m }
 
 abbrev pub Stand : Sides → ℕ → ℕ → Type 0
-Stand s p q = Stands s.move s.here.source.tokens p q
+Stand s p q = Stands s.move s.here.source s.there.source p q
 
 abbrev pub SameRefusal : Sides → Report → Report → Type 0
-SameRefusal s f g = RefusalMoved s.move s.here.source.tokens s.there.source.setting.text f g
+SameRefusal s f g = RefusalMoved s.move s.here.source s.there.source f g
+
+-- A token of the one text that counts, which the other has where the map says.
+pub record Met (s : Sides) (t : Token) : Type 0 where
+  pub among : Among (counting s.here.source.tokens) t
+  pub text : token_text s.there.source.setting.text (token_moved s.move t) ≡ token_text s.here.source.setting.text t
 
 -- From one state these tokens count, and from the other the same, under the same names.
 pub record Alike (s : Sides) (ts : List Token) : Type 0 where

@@ -1,7 +1,7 @@
 //! Values as bytes of the binary format.
 
 ghost use Rattle.std.specs.Prelude.{◌≡◌, ◌++◌, ◌^◌, ◌<◌, ◌≤◌, ◌↔◌, ℕ, List, [], ◌∷◌};
-ghost use Rattle.std.specs.Prelude.{IsErrOf, IsTrue, OnErr, OnOk, alloc_error};
+ghost use Rattle.std.specs.Prelude.{IsErrOf, IsTrue, OnErr, OnOk};
 ghost use Rattle.std.specs.Prelude.{length, string_bytes, take, vec_len};
 ghost use Rattle.wat_lex.specs.binary.Encoding.{ListFits, StringFits, StringTooLong, TextFits};
 ghost use Rattle.wat_lex.specs.binary.Encoding.{TextTooLong, list_encoding, string_encoding};
@@ -14,8 +14,8 @@ use std::alloc::{AllocError, AllocFailed};
 /// Why a value was not encoded.
 #[derive(Clone, Copy, Debug, PartialEq, Eq)]
 pub enum EncodeError {
-    /// A request for memory was refused, by this refusal.
-    Memory(AllocError),
+    /// A request for memory was refused.
+    Memory,
     /// A length or a `usize` is above `u32::MAX`.
     TooLong,
 }
@@ -24,21 +24,21 @@ impl From<AllocError> for EncodeError {
     ghost use Rattle.std.specs.Prelude.{◌≡◌};
     ghost use Rattle.wat_lex.specs.declared.encode.EncodeError.TheVariants.{Memory};
 
-    ghost from_gives = { λ refused error. error ≡ Memory refused };
+    ghost from_gives = { λ _ error. error ≡ Memory };
 
-    fn from(refused: AllocError) -> EncodeError {
-        EncodeError::Memory(refused)
+    fn from(_: AllocError) -> EncodeError {
+        EncodeError::Memory
     }
 }
 
 impl<T: Drop> From<AllocFailed<T>> for EncodeError {
-    ghost use Rattle.std.specs.Prelude.{◌≡◌, alloc_error};
+    ghost use Rattle.std.specs.Prelude.{◌≡◌};
     ghost use Rattle.wat_lex.specs.declared.encode.EncodeError.TheVariants.{Memory};
 
-    ghost from_gives = { λ _ error. error ≡ Memory alloc_error };
+    ghost from_gives = { λ _ error. error ≡ Memory };
 
     fn from(failed: AllocFailed<T>) -> EncodeError {
-        EncodeError::Memory(AllocError::from(failed))
+        EncodeError::from(AllocError::from(failed))
     }
 }
 
@@ -62,7 +62,7 @@ pub trait Encode {
         ensures ok { OnOk result (e.new.items ≡ e.old.items ++ encoding self.now) }
         ensures fitting { OnOk result (fits self.now) }
         ensures too_long { IsErrOf result EncodeError.TooLong ↔ ¬ fits self.now }
-        ensures memory { IsErrOf result (EncodeError.Memory alloc_error) → fits self.now }
+        ensures memory { IsErrOf result EncodeError.Memory → fits self.now }
         ensures err { OnErr result (e.new.items ≡ e.old.items) };
 }
 
@@ -85,7 +85,7 @@ fn taken_back(
 /// Appends the unsigned LEB128 bytes of a number, of which a refusal leaves some.
 fn push_unsigned(mut rest: u64, e: &mut Vec<u8>) -> Result<(), EncodeError>
     ensures ok { OnOk result (e.new.items ≡ e.old.items ++ unsigned_leb128 rest) }
-    ensures memory { OnErr result (result ≡ Err (EncodeError.Memory alloc_error)) }
+    ensures memory { OnErr result (result ≡ Err EncodeError.Memory) }
     ensures prefix { take (vec_len e.old) e.new.items ≡ e.old.items }
 {
     while rest >= 0x80 {
@@ -99,7 +99,7 @@ fn push_unsigned(mut rest: u64, e: &mut Vec<u8>) -> Result<(), EncodeError>
 /// Appends the signed LEB128 bytes of a number, of which a refusal leaves some.
 fn push_signed(mut rest: i64, e: &mut Vec<u8>) -> Result<(), EncodeError>
     ensures ok { OnOk result (e.new.items ≡ e.old.items ++ signed_leb128 rest) }
-    ensures memory { OnErr result (result ≡ Err (EncodeError.Memory alloc_error)) }
+    ensures memory { OnErr result (result ≡ Err EncodeError.Memory) }
     ensures prefix { take (vec_len e.old) e.new.items ≡ e.old.items }
 {
     while rest < -0x40 || rest >= 0x40 {
@@ -125,7 +125,7 @@ fn high_bits(number: i64) -> i64
 /// Appends the unsigned LEB128 bytes of a number.
 fn encode_unsigned(number: u64, e: &mut Vec<u8>) -> Result<(), EncodeError>
     ensures ok { OnOk result (e.new.items ≡ e.old.items ++ unsigned_leb128 number) }
-    ensures memory { OnErr result (result ≡ Err (EncodeError.Memory alloc_error)) }
+    ensures memory { OnErr result (result ≡ Err EncodeError.Memory) }
     ensures err { OnErr result (e.new.items ≡ e.old.items) }
 {
     let start = e.len();
@@ -136,7 +136,7 @@ fn encode_unsigned(number: u64, e: &mut Vec<u8>) -> Result<(), EncodeError>
 /// Appends the signed LEB128 bytes of a number.
 fn encode_signed(number: i64, e: &mut Vec<u8>) -> Result<(), EncodeError>
     ensures ok { OnOk result (e.new.items ≡ e.old.items ++ signed_leb128 number) }
-    ensures memory { OnErr result (result ≡ Err (EncodeError.Memory alloc_error)) }
+    ensures memory { OnErr result (result ≡ Err EncodeError.Memory) }
     ensures err { OnErr result (e.new.items ≡ e.old.items) }
 {
     let start = e.len();
@@ -156,7 +156,7 @@ fn encode_length(length: usize, e: &mut Vec<u8>) -> Result<(), EncodeError>
     ensures ok { OnOk result (e.new.items ≡ e.old.items ++ unsigned_leb128 length) }
     ensures fitting { OnOk result (length < 2 ^ 32) }
     ensures too_long { IsErrOf result EncodeError.TooLong ↔ (2 ^ 32 ≤ length) }
-    ensures memory { IsErrOf result (EncodeError.Memory alloc_error) → length < 2 ^ 32 }
+    ensures memory { IsErrOf result EncodeError.Memory → length < 2 ^ 32 }
     ensures err { OnErr result (e.new.items ≡ e.old.items) }
 {
     if !length_fits(length) {
@@ -178,7 +178,7 @@ impl Encode for u8 {
 
     fn encode(&self, e: &mut Vec<u8>) -> Result<(), EncodeError>
         ensures ok { OnOk result (e.new.items ≡ e.old.items ++ self.now ∷ []) }
-        ensures memory { OnErr result (result ≡ Err (EncodeError.Memory alloc_error)) }
+        ensures memory { OnErr result (result ≡ Err EncodeError.Memory) }
         ensures err { OnErr result (e.new.items ≡ e.old.items) }
     {
         e.push(*self)?;
@@ -200,7 +200,7 @@ impl Encode for u32 {
 
     fn encode(&self, e: &mut Vec<u8>) -> Result<(), EncodeError>
         ensures ok { OnOk result (e.new.items ≡ e.old.items ++ unsigned_leb128 self.now) }
-        ensures memory { OnErr result (result ≡ Err (EncodeError.Memory alloc_error)) }
+        ensures memory { OnErr result (result ≡ Err EncodeError.Memory) }
         ensures err { OnErr result (e.new.items ≡ e.old.items) }
 
         // The bytes decode to the number, no shorter ones do, and no others as long.
@@ -224,7 +224,7 @@ impl Encode for u64 {
 
     fn encode(&self, e: &mut Vec<u8>) -> Result<(), EncodeError>
         ensures ok { OnOk result (e.new.items ≡ e.old.items ++ unsigned_leb128 self.now) }
-        ensures memory { OnErr result (result ≡ Err (EncodeError.Memory alloc_error)) }
+        ensures memory { OnErr result (result ≡ Err EncodeError.Memory) }
         ensures err { OnErr result (e.new.items ≡ e.old.items) }
 
         // The bytes decode to the number, no shorter ones do, and no others as long.
@@ -248,7 +248,7 @@ impl Encode for i32 {
 
     fn encode(&self, e: &mut Vec<u8>) -> Result<(), EncodeError>
         ensures ok { OnOk result (e.new.items ≡ e.old.items ++ signed_leb128 self.now) }
-        ensures memory { OnErr result (result ≡ Err (EncodeError.Memory alloc_error)) }
+        ensures memory { OnErr result (result ≡ Err EncodeError.Memory) }
         ensures err { OnErr result (e.new.items ≡ e.old.items) }
 
         // The bytes decode to the number, no shorter ones do, and no others as long.
@@ -272,7 +272,7 @@ impl Encode for i64 {
 
     fn encode(&self, e: &mut Vec<u8>) -> Result<(), EncodeError>
         ensures ok { OnOk result (e.new.items ≡ e.old.items ++ signed_leb128 self.now) }
-        ensures memory { OnErr result (result ≡ Err (EncodeError.Memory alloc_error)) }
+        ensures memory { OnErr result (result ≡ Err EncodeError.Memory) }
         ensures err { OnErr result (e.new.items ≡ e.old.items) }
 
         // The bytes decode to the number, no shorter ones do, and no others as long.
@@ -299,7 +299,7 @@ impl Encode for usize {
         ensures ok { OnOk result (e.new.items ≡ e.old.items ++ unsigned_leb128 self.now) }
         ensures fitting { OnOk result (self.now < 2 ^ 32) }
         ensures too_long { IsErrOf result EncodeError.TooLong ↔ (2 ^ 32 ≤ self.now) }
-        ensures memory { IsErrOf result (EncodeError.Memory alloc_error) → self.now < 2 ^ 32 }
+        ensures memory { IsErrOf result EncodeError.Memory → self.now < 2 ^ 32 }
         ensures err { OnErr result (e.new.items ≡ e.old.items) }
 
         // The bytes decode to the number, no shorter ones do, and no others as long.
@@ -334,7 +334,7 @@ pub fn encode_slice<T: Encode>(items: &[T], e: &mut Vec<u8>) -> Result<(), Encod
     ensures fitting { OnOk result (ListFits T.fits items.now) }
     ensures too_long { IsErrOf result EncodeError.TooLong ↔ ¬ ListFits T.fits items.now }
     ensures too_many { 2 ^ 32 ≤ length items.now → IsErrOf result EncodeError.TooLong }
-    ensures memory { IsErrOf result (EncodeError.Memory alloc_error) → ListFits T.fits items.now }
+    ensures memory { IsErrOf result EncodeError.Memory → ListFits T.fits items.now }
     ensures err { OnErr result (e.new.items ≡ e.old.items) }
 
     // The leading bytes decode to the length, no shorter ones do, and no others as long.
@@ -376,7 +376,7 @@ pub fn encode_str(text: &str, e: &mut Vec<u8>) -> Result<(), EncodeError>
     ensures ok { OnOk result (e.new.items ≡ e.old.items ++ text_encoding text.now) }
     ensures fitting { OnOk result (TextFits text.now) }
     ensures too_long { IsErrOf result EncodeError.TooLong ↔ TextTooLong text.now }
-    ensures memory { IsErrOf result (EncodeError.Memory alloc_error) → TextFits text.now }
+    ensures memory { IsErrOf result EncodeError.Memory → TextFits text.now }
     ensures err { OnErr result (e.new.items ≡ e.old.items) }
 
     // The leading bytes decode to the length, no shorter ones do, and no others as long.
@@ -392,7 +392,7 @@ fn push_text(text: &str, e: &mut Vec<u8>) -> Result<(), EncodeError>
     ensures ok { OnOk result (e.new.items ≡ e.old.items ++ text_encoding text.now) }
     ensures fitting { OnOk result (TextFits text.now) }
     ensures too_long { IsErrOf result EncodeError.TooLong ↔ TextTooLong text.now }
-    ensures memory { IsErrOf result (EncodeError.Memory alloc_error) → TextFits text.now }
+    ensures memory { IsErrOf result EncodeError.Memory → TextFits text.now }
     ensures prefix { take (vec_len e.old) e.new.items ≡ e.old.items }
 {
     encode_length(text.len(), e)?;
@@ -416,7 +416,7 @@ impl<T: Encode> Encode for Vec<T> {
         ensures fitting { OnOk result (ListFits T.fits self.now.items) }
         ensures too_long { IsErrOf result EncodeError.TooLong ↔ ¬ ListFits T.fits self.now.items }
         ensures too_many { 2 ^ 32 ≤ vec_len self.now → IsErrOf result EncodeError.TooLong }
-        ensures memory { IsErrOf result (EncodeError.Memory alloc_error) → ListFits T.fits self.now.items }
+        ensures memory { IsErrOf result EncodeError.Memory → ListFits T.fits self.now.items }
         ensures err { OnErr result (e.new.items ≡ e.old.items) }
 
         // The leading bytes decode to the length, no shorter ones do, and no others as long.
@@ -441,7 +441,7 @@ impl Encode for String {
         ensures ok { OnOk result (e.new.items ≡ e.old.items ++ string_encoding self.now) }
         ensures fitting { OnOk result (StringFits self.now) }
         ensures too_long { IsErrOf result EncodeError.TooLong ↔ StringTooLong self.now }
-        ensures memory { IsErrOf result (EncodeError.Memory alloc_error) → StringFits self.now }
+        ensures memory { IsErrOf result EncodeError.Memory → StringFits self.now }
         ensures err { OnErr result (e.new.items ≡ e.old.items) }
 
         // The leading bytes decode to the length, no shorter ones do, and no others as long.

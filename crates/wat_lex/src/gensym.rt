@@ -1,7 +1,7 @@
 //! Identifiers that a program makes, each of which differs from all that a text spells.
 
 ghost use Rattle.std.specs.Prelude.{◌≡◌, ◌≢◌, ◌+◌, ◌↔◌, false, None, Some, IsErr, IsErrOf, IsOk};
-ghost use Rattle.std.specs.Prelude.{IfErr, IfNone, IfOk, IfSome, OnErr, OnOk, alloc_error};
+ghost use Rattle.std.specs.Prelude.{IfErr, IfNone, IfOk, IfSome, OnErr, OnOk};
 ghost use Rattle.wat_lex.specs.identifiers.Identifiers.{IsFresh, generated};
 
 use crate::token::{Id, Span};
@@ -31,18 +31,18 @@ pub struct GensymFull;
 pub enum FillError {
     /// The counter is at its last value, `u32::MAX`.
     Full,
-    /// The request for a copy's memory was refused, by this refusal.
-    Memory(AllocError),
+    /// The request for a copy's memory was refused.
+    Memory,
 }
 
 impl From<AllocError> for FillError {
     ghost use Rattle.std.specs.Prelude.{◌≡◌};
     ghost use Rattle.wat_lex.specs.declared.gensym.FillError.TheVariants.{Memory};
 
-    ghost from_gives = { λ refused error. error ≡ Memory refused };
+    ghost from_gives = { λ _ error. error ≡ Memory };
 
-    fn from(refused: AllocError) -> FillError {
-        FillError::Memory(refused)
+    fn from(_: AllocError) -> FillError {
+        FillError::Memory
     }
 }
 
@@ -98,7 +98,7 @@ impl Gensym {
         // A slot that holds an identifier keeps it, and only the copy can find no memory.
         ensures held { IfSome slot.old (λ id. (slot.new ≡ Some id) × (self.new ≡ self.old)) }
         ensures copied { IfSome slot.old (λ id. IfOk result (λ copy. copy ≡ id)) }
-        ensures refused { IfSome slot.old (λ _. IfErr result (λ e. e ≡ FillError.Memory alloc_error)) }
+        ensures refused { IfSome slot.old (λ _. IfErr result (λ e. e ≡ FillError.Memory)) }
         ensures free { IfSome slot.old (λ id. id.owned ≡ false → IsOk result) }
 
         // An empty one is filled as `generate` makes identifiers, unless the counter is at its last
@@ -107,7 +107,7 @@ impl Gensym {
         ensures filled { IfNone slot.old (IfOk result (λ id. slot.new ≡ Some id)) }
         ensures counts { IfNone slot.old (OnOk result (self.new ≡ self.old + 1)) }
         ensures full { IsErrOf result FillError.Full ↔ ((slot.old ≡ None) × (self.old ≡ u32.MAX)) }
-        ensures no_memory { IfNone slot.old (result ≢ Err (FillError.Memory alloc_error)) }
+        ensures no_memory { IfNone slot.old (result ≢ Err FillError.Memory) }
         ensures fresh { IfNone slot.old (IfOk result (IsFresh self.old)) }
 
         ensures err { OnErr result ((slot.new ≡ slot.old) × (self.new ≡ self.old)) }

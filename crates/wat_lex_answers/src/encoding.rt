@@ -13,7 +13,7 @@ fn bytes<T: Encode + Drop>(alloc: Global, number: Option<T>) -> Result<String, E
     match number.encode(&mut bytes) {
         Ok(()) => Ok(format!(in alloc; "{bytes:?}")?),
         Err(EncodeError::TooLong) => Ok(String::from_str(alloc, "too long")?),
-        Err(EncodeError::Memory(refused)) => Err(Error::from(refused)),
+        Err(EncodeError::Memory) => Err(Error::out_of_memory()),
     }
 }
 

@@ -3,7 +3,7 @@ use crate::row::Row;
 use crate::tokens::{name, short, shown, write_comma, write_token};
 use std::alloc::{AllocError, Global};
 use wat_lex::error::Error;
-use wat_lex::lexer::{Lexer, Settings, TokenKind};
+use wat_lex::lexer::{Float, Lexer, Settings, TokenKind};
 
 const PLAIN: Settings = Settings {
     allow: false,
@@ -117,6 +117,53 @@ fn read(alloc: Global, text: &str, at: usize, settings: Settings) -> Result<Stri
     Ok(shown)
 }
 
+fn of_bytes(alloc: Global, kind: &str, count: usize) -> Result<String, AllocError> {
+    format!(in alloc; "{kind} of {count} bytes")
+}
+
+/// How many bytes each part of a floating-point number has.
+fn part_lengths(alloc: Global, float: &Float<'_>) -> Result<String, AllocError> {
+    match float {
+        Float::Val {
+            integral,
+            fractional,
+            exponent,
+            ..
+        } => {
+            let integral = integral.len();
+            let fractional = fractional.as_ref().map_or(0, |part| part.len());
+            let exponent = exponent.as_ref().map_or(0, |part| part.len());
+            format!(in alloc; "Float of {integral}, {fractional} and {exponent} bytes")
+        }
+        Float::Nan { val, .. } => {
+            of_bytes(alloc, "payload", val.as_ref().map_or(0, |part| part.len()))
+        }
+        Float::Inf { .. } => String::from_str(alloc, "infinity"),
+    }
+}
+
+/// How long the value is of the word that a text begins with.
+fn length(alloc: Global, text: &str) -> Result<String, Error> {
+    let text = short(text);
+    let Some(token) = Lexer::new(text).parse(alloc, &mut 0)? else {
+        return Ok(String::new(alloc));
+    };
+    let shown = match token.kind {
+        TokenKind::String => of_bytes(alloc, "String", token.string(alloc, text)?.len())?,
+        TokenKind::Id => of_bytes(alloc, "Id", token.id(alloc, text)?.len())?,
+        TokenKind::Annotation => {
+            of_bytes(alloc, "Annotation", token.annotation(alloc, text)?.len())?
+        }
+        TokenKind::Integer(kind) => {
+            let integer = token.integer(alloc, text, kind)?;
+            of_bytes(alloc, "Integer", integer.val().0.len())?
+        }
+        TokenKind::Float(kind) => part_lengths(alloc, &token.float(alloc, text, kind)?)?,
+        other => format!(in alloc; "{} without a value", name(other))?,
+    };
+    Ok(shown)
+}
+
 /// What a call answers; None where none of these is asked.
 pub fn answer(alloc: Global, row: &Row<'_>) -> Result<Option<String>, Error> {
     let text = row.text.as_str();
@@ -129,6 +176,7 @@ pub fn answer(alloc: Global, row: &Row<'_>) -> Result<Option<String>, Error> {
         "first" => first(alloc, text)?,
         "scan" => scan(alloc, text, row.at())?,
         "annotation" => annotation(alloc, text, row.at())?,
+        "length" => length(alloc, text)?,
         "read" => read(alloc, text, row.at(), PLAIN)?,
         "read-allowing" => read(alloc, text, row.at(), ALLOWING)?,
         _ => return Ok(None),

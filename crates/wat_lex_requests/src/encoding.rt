@@ -20,7 +20,7 @@ fn written(answer: Result<(), EncodeError>, buffer: &[u8], bytes: &[u8]) -> Endi
     };
     match answer {
         Ok(()) => Ending::answer_where(behind == bytes),
-        Err(EncodeError::Memory(_)) => Ending::memory_where(behind.is_empty()),
+        Err(EncodeError::Memory) => Ending::memory_where(behind.is_empty()),
         Err(EncodeError::TooLong) => Ending::Wrong,
     }
 }

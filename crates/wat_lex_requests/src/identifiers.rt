@@ -58,7 +58,7 @@ fn filled_slot(run: &mut Run<'_>) -> Result<Ending, Error> {
     let is_kept = matches!(&slot, Some(id) if is_x(id)) && is_fresh(&mut gensym);
     match &copy {
         Ok(copy) => Ok(Ending::answer_where(is_kept && is_x(copy))),
-        Err(FillError::Memory(_)) => Ok(Ending::memory_where(is_kept)),
+        Err(FillError::Memory) => Ok(Ending::memory_where(is_kept)),
         Err(FillError::Full) => Ok(Ending::Wrong),
     }
 }

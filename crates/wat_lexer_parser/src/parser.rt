@@ -255,7 +255,8 @@ impl<'a> Parser<'a> {
 
     /// Refuses more than [`MAX_PARENS_DEPTH`] open groups.
     pub fn depth_check(&self) -> Result<(), Error>
-        ensures { Answers false (λ u. u) (depth_checked self.now) result }
+        ensures checked { Answers false (λ u. u) (depth_checked self.now) result }
+        ensures most { MAX_PARENS_DEPTH ≡ 100 }
     {
         if self.depth > MAX_PARENS_DEPTH {
             return Err(self.error("item nesting too deep"));

@@ -1,4 +1,5 @@
-//! What readers answer, and bytes into a caller's buffer.
+//! What readers answer, and bytes into a caller's buffer. The fields of an answer are private, so that
+//! each is made here, and tells want of memory only of a refusal in hand.
 ghost use Rattle.std.specs.Prelude.{◌≡◌, length, Ok, Err};
 ghost use Rattle.wat_parser_c.specs.Answers.{answer_of, left_of, put, status_of};
 
@@ -11,11 +12,20 @@ use wat_rows::rows::fault_code;
 #[derive(Clone, Copy, Debug, PartialEq)]
 pub struct Answer {
     /// How many bytes it has. They were written where the buffer has room for all of them.
-    pub needed: usize,
+    needed: usize,
     /// 0 where there was something, otherwise why not: 1 where no such token or fault stands there, 2
     /// for want of memory, 3 where the number has no such part or the name no fault, or else
     /// the number of what is wrong with the name.
-    pub status: u32,
+    status: u32,
+}
+
+impl Answer {
+    /// The answer that there are so many bytes.
+    pub(crate) fn given(needed: usize) -> Answer
+        ensures { result ≡ record { needed = needed; status = 0 } }
+    {
+        Answer { needed, status: 0 }
+    }
 }
 
 /// Why there is nothing to give.
@@ -63,5 +73,5 @@ pub fn give(bytes: &[u8], out: &mut [u8]) -> Answer
     if needed <= out.len() {
         out[..needed].copy_from_slice(bytes);
     }
-    Answer { needed, status: 0 }
+    Answer::given(needed)
 }

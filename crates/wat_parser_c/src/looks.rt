@@ -1,22 +1,23 @@
 //! Rows of the tokens that count, their links, and what is shown of them.
-ghost use Rattle.std.specs.Prelude.{◌≡◌, ◌≤◌, ◌<◌, ◌^◌, ◌-◌, ℕ, length, take, drop, map};
+ghost use Rattle.std.specs.Prelude.{◌≡◌, ◌≤◌, ◌<◌, ◌^◌, ◌-◌, length, take, drop, map};
 ghost use Rattle.std.specs.Str.{IsCharBoundary, IsUtf8};
 ghost use Rattle.wat_lexer_parser.specs.places.Places.{offset_at};
 ghost use Rattle.wat_lexer_parser.specs.places.Source.{Source};
 ghost use Rattle.wat_rows.specs.Counting.{FillsCounting, OneFillCounting};
 ghost use Rattle.wat_rows.specs.Links.{AreLinked, without_link};
 ghost use Rattle.wat_rows.specs.Looks.{LooksInNumbers, names_of};
-ghost use Rattle.wat_rows.specs.Places.{AreRowsOf, RowsOf, raw_place};
+ghost use Rattle.wat_rows.specs.Places.{AreRowsOf, RowsOf, TellTokensOf, raw_place};
 ghost use Rattle.wat_rows.specs.Rows.{setting};
 
 use std::alloc::Global;
 use std::str;
 use wat_lex::lexer::Settings;
+use wat_rows::answers::Look;
 use wat_rows::behind::offset_behind;
 use wat_rows::counting::{Row, fill_counting};
 use wat_rows::laws::one_fill_counting;
 use wat_rows::links::link;
-use wat_rows::looks::{Look, look_in_numbers};
+use wat_rows::looks::look_in_numbers;
 use wat_rows::rows::Filled;
 
 /// Fills rows with the tokens that count from a byte of the text on, without links, up to its end or
@@ -78,11 +79,12 @@ pub extern "C" fn wat_shown(
     look_in_numbers(alloc, text, rows, why, place, names, ends)
 }
 
-/// The byte at which a parser stands that has taken so many rows: where the last of them ends, or 0.
+/// The place of a parser that has taken so many rows, with links or without: where the last of them
+/// ends, or 0.
 #[unsafe(no_mangle)]
 pub extern "C" fn wat_behind(rows: &[Row], place: usize) -> usize
     requires { place ≤ length rows.now }
-    ensures { (s : Source) (why : ℕ) → AreRowsOf s rows.now why →
+    ensures { (s : Source) → TellTokensOf s rows.now →
         result ≡ offset_at s.tokens (raw_place s.tokens place) }
 {
     offset_behind(rows, place)

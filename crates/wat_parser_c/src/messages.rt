@@ -67,10 +67,11 @@ fn give_message(error: LexError, out: &mut [u8]) -> Answer
 {
     let rendered = Rendered::new("", LexFault { offset: 0, error });
     let needed = rendered.length() - place_length("", 0);
+    let answer = Answer::given(needed);
     if needed <= out.len() {
         rendered.write_to(&mut out[..needed]);
     }
-    Answer { needed, status: 0 }
+    answer
 }
 
 /// The message of the fault of these numbers. It takes no memory.

@@ -44,10 +44,11 @@ fn give_long(text: &str, offset: usize, message: &[u8], out: &mut [u8]) -> Answe
     ensures { Answers (Prints text.now offset message.now []) out.old out.new result }
 {
     let needed = message.len() + place_length(text, offset);
+    let answer = Answer::given(needed);
     if needed <= out.len() {
         write_long(text, offset, message, &mut out[..needed]);
     }
-    Answer { needed, status: 0 }
+    answer
 }
 
 /// What stands before and behind the name of the file, where the error of `rendered_at` is printed.

@@ -29,7 +29,7 @@ use Rattle.wat_rows.specs.inside.Naming.{NameMeans.misnamed as means_misnamed, N
 use Rattle.wat_rows.specs.declared.counting.Row.{Row}
 use Rattle.wat_rows.specs.declared.looks.Named.{Named}
 use Rattle.wat_rows.specs.declared.looks.Named.TheVariants as named
-use Rattle.wat_rows.specs.declared.looks.NotShown.TheVariants as unseen
+use Rattle.wat_rows.specs.declared.answers.NotShown.TheVariants as unseen
 use Rattle.wat_rows.proofs.CodedGroups.{codes_closed, tokens_closed}
 use Rattle.wat_rows.proofs.Coding.{code_annotation, code_marked, code_of, codes, marked_kind}
 use Rattle.wat_rows.proofs.Fronts.{front, none_past}

@@ -15,7 +15,7 @@ use Rattle.wat_lexer_parser.specs.laws.Counting.{CountingShowsTheSame, PlainToke
 use Rattle.wat_lexer_parser.specs.shown.Showing.{OneThingShown, SomethingShown}
 use Rattle.wat_rows.specs.Counting.{IsRow, StopsCounting, StopsCounting.ended, StopsCounting.full, StopsCounting.faulty, row_of}
 use Rattle.wat_rows.specs.Links.{without_link}
-use Rattle.wat_rows.specs.Pieces.{FillsInPieces, FillsInPieces.last, FillsInPieces.piece, PiecesAreRows, PlainRowsAreShown, RowsTellTokens}
+use Rattle.wat_rows.specs.Pieces.{FillsInPieces, FillsInPieces.last, FillsInPieces.piece, PiecesAreRows, PiecesTellTokens, PlainRowsAreShown, RowsTellTokens}
 use Rattle.wat_rows.specs.Places.{ending_code}
 use Rattle.wat_rows.specs.declared.counting.Row.{Row}
 use Rattle.wat_rows.proofs.Counted.{counting_append, counting_blank, counting_other}
@@ -85,6 +85,17 @@ pieces_are_rows s filled rows why h same linked =
       };
     }
 
+pub pieces_tell_tokens : PiecesTellTokens
+pieces_tell_tokens s filled rows why h same =
+    let r = read s 0 filled why h in (
+      record { setting = s; track = false; tokens = r.tokens; ending = r.ended.ending },
+      refl,
+      record {
+        read = record { to = r.to; tiling = r.tiling; ends = r.ended.ends };
+        told = same ∙ ap (map without_link) r.told ∙ unlinked s.text (counting r.tokens);
+      },
+    )
+
 -- where a token that counts stands
 pub record Stands (s : Setting) (t : Token) : Type 0 where
   pub boundary : IsCharBoundary s.text t.offset
@@ -114,21 +125,19 @@ row_told : (x : List ℕ) (row : Row) (t : Token) → without_link row ≡ row_o
 row_told x row t e = ap (λ (r : Row). record r { link = row.link }) e
 
 pub rows_tell_tokens : TokensEndAtBoundaries → RowsTellTokens
-rows_tell_tokens ends text rows why number row utf8 h e =
-    let s = h.source in
-    let k = tells s.setting.text rows (counting s.tokens) number row h.are.told e in
-    let utf8_there : IsUtf8 s.setting.text = subst IsUtf8 (sym h.of_text) utf8 in
-    let at = stands ends s.setting 0 h.are.read.to s.tokens number k.token utf8_there
-    (IsCharBoundary-start s.setting.text utf8_there) h.are.read.tiling k.there in
+rows_tell_tokens ends s rows number row utf8 h e =
+    let x = s.setting.text in
+    let k = tells x rows (counting s.tokens) number row h.told e in
+    let at = stands ends s.setting 0 h.read.to s.tokens number k.token utf8 (IsCharBoundary-start x utf8) h.read.tiling k.there in
     let offset : row.offset ≡ k.token.offset = ap (λ (r : Row). r.offset) k.told in
-    subst (λ x. IsRow x row) h.of_text (record {
+    record {
       flags = s.setting.flags;
       token = k.token;
-      boundary = subst (IsCharBoundary s.setting.text) (sym offset) at.boundary;
+      boundary = subst (IsCharBoundary x) (sym offset) at.boundary;
       stands = subst (λ p. TokenAt s.setting p k.token) (sym offset) at.stands;
       counts = counts s.tokens number k.token k.there;
-      told = row_told s.setting.text row k.token k.told;
-    })
+      told = row_told x row k.token k.told;
+    }
 
 pub plain_rows_are_shown : SomethingShown → OneThingShown → CountingShowsTheSame → PlainTokensAreShown → PlainRowsAreShown
 plain_rows_are_shown some one same plain s rows why number row names utf8 are there other =

@@ -16,9 +16,9 @@ use Rattle.wat_lexer_parser.specs.laws.Counting.{counting}
 use Rattle.wat_lexer_parser.specs.shown.Shown.{IsMarked, IsMisnamed}
 use Rattle.wat_lexer_parser.specs.shown.Showing.{Look, shown}
 use Rattle.wat_rows.specs.Places.{raw_place}
-use Rattle.wat_rows.specs.declared.looks.Look.{Look as LookRow}
-use Rattle.wat_rows.specs.declared.looks.NotShown.{NotShown}
-use Rattle.wat_rows.specs.declared.looks.NotShown.TheVariants as unseen
+use Rattle.wat_rows.specs.declared.answers.Look.{Look as LookRow}
+use Rattle.wat_rows.specs.declared.answers.NotShown.{NotShown}
+use Rattle.wat_rows.specs.declared.answers.NotShown.TheVariants as unseen
 
 -- The names that end at these bytes, each beginning where the one before ends, the first at the byte that is given. Where an end lies
 -- before the name's beginning or past the bytes, there is no name.

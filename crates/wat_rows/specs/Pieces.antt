@@ -7,7 +7,7 @@ use Rattle.wat_lexer_parser.specs.places.Source.{Source}
 use Rattle.wat_rows.specs.Counting.{FillsCounting, IsRow, opens_at}
 use Rattle.wat_rows.specs.Links.{AreLinked, without_link}
 use Rattle.wat_rows.specs.Looks.{Looks}
-use Rattle.wat_rows.specs.Places.{AreRowsOf, RowsOf}
+use Rattle.wat_rows.specs.Places.{AreRowsOf, RowsOf, TellTokensOf}
 use Rattle.wat_rows.specs.declared.counting.Row.{Row}
 use Rattle.wat_rows.specs.declared.rows.Filled.{Filled}
 
@@ -24,10 +24,15 @@ abbrev pub PiecesAreRows : Type 0
 PiecesAreRows = (s : Setting) (filled rows : List Row) (why : ℕ) → FillsInPieces s 0 filled why → map without_link rows ≡ map without_link filled
     → AreLinked rows → RowsOf s.text rows why
 
+-- pieces from the text's start on, one after the other, are rows of its tokens, whatever links they are given
+abbrev pub PiecesTellTokens : Type 0
+PiecesTellTokens = (s : Setting) (filled rows : List Row) (why : ℕ) → FillsInPieces s 0 filled why → map without_link rows ≡ map without_link filled
+    → (source : Source) × (source.setting ≡ s) × TellTokensOf source rows
+
 -- each of the rows of a text tells a token of it
 abbrev pub RowsTellTokens : Type 0
-RowsTellTokens = (text : List ℕ) (rows : List Row) (why number : ℕ) (row : Row) → IsUtf8 text → RowsOf text rows why
-    → slice_get rows number ≡ Some row → IsRow text row
+RowsTellTokens = (s : Source) (rows : List Row) (number : ℕ) (row : Row) → IsUtf8 s.setting.text → TellTokensOf s rows
+    → slice_get rows number ≡ Some row → IsRow s.setting.text row
 
 -- A row is shown at its place, whatever names are registered, if it is no `(` with `@` directly behind it.
 abbrev pub PlainRowsAreShown : Type 0

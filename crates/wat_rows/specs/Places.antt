@@ -23,7 +23,12 @@ pub record AreRowsOf (s : Source) (rows : List Row) (why : ℕ) : Type 0 where
   pub linked : AreLinked rows
   pub ends : why ≡ ending_code s.ending
 
--- the same, under some flags
+-- the rows are those of all tokens of the text that count, whatever links they have
+pub record TellTokensOf (s : Source) (rows : List Row) : Type 0 where
+  pub read : IsRead s
+  pub told : map without_link rows ≡ map (row_of s.setting.text 0) (counting s.tokens)
+
+-- the rows are those of a text, under some flags
 pub record RowsOf (text : List ℕ) (rows : List Row) (why : ℕ) : Type 0 where
   pub source : Source
   pub of_text : source.setting.text ≡ text

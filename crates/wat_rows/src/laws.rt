@@ -2,7 +2,7 @@
 ghost use Rattle.std.specs.Prelude.{ℕ};
 ghost use Rattle.wat_lex.specs.tokens.Setting.{Setting};
 ghost use Rattle.wat_rows.specs.Counting.{OneFillCounting};
-ghost use Rattle.wat_rows.specs.Pieces.{PiecesAreRows, PlainRowsAreShown, RowsTellTokens};
+ghost use Rattle.wat_rows.specs.Pieces.{PiecesAreRows, PiecesTellTokens, PlainRowsAreShown, RowsTellTokens};
 ghost use Rattle.wat_rows.specs.Rows.{OneFill};
 
 /// The rows from each place are the only ones.
@@ -19,9 +19,11 @@ pub fn one_fill_counting()
     wat_lex::laws::one_answer();
 }
 
-/// Rows that are filled in pieces, one behind the other, and then linked are those of the whole text, and each tells a token.
+/// Rows that are filled in pieces, one after the other, and then linked are those of the whole text. Whatever links they have, they are rows of
+/// its tokens, and each tells one.
 pub fn rows_of_a_text()
     ensures rows { PiecesAreRows }
+    ensures unlinked { PiecesTellTokens }
     ensures tokens { RowsTellTokens }
 {
     wat_lex::laws::tokens();

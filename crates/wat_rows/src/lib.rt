@@ -1,6 +1,7 @@
 //! Rows of numbers for the tokens of a text, as the programs in C and Rust over `wat_parser_c` hold them.
 #![tactic(auto)]
 
+pub mod answers;
 pub mod at;
 pub mod behind;
 pub mod counting;

@@ -8,36 +8,11 @@ ghost use Rattle.wat_rows.specs.Looks.{Looks, LooksInNumbers, names_of};
 ghost use Rattle.wat_rows.specs.inside.Naming.{IsWithin, NameMeans, annotation_of, is_between, not_closed, not_shown};
 ghost use Rattle.wat_rows.specs.Places.{AreRowsOf, RowsOf};
 
+use crate::answers::{Look, NotShown};
 use crate::counting::Row;
 use crate::links::row_at;
 use std::alloc::{AllocError, Global};
 use wat_lex::lexer::{Token, TokenKind};
-
-/// The number of the row that is shown, or that of the row at fault, or how many rows there are; and why no row is shown.
-#[repr(C)]
-#[derive(Clone, Copy, Debug, PartialEq)]
-pub struct Look {
-    /// The row that is shown; the `(` that nothing closes; the annotation whose name is at fault; otherwise how many rows there are.
-    pub row: u32,
-    /// 0 where a row is shown, 1 at the text's end, 2 for want of memory, 3 at the text's fault, 4 where the group of an annotation that
-    /// is not registered is not closed, 5 where an annotation's name is at fault.
-    pub status: u32,
-}
-
-/// Why no row is shown.
-#[derive(Clone, Copy, Debug, PartialEq)]
-pub enum NotShown {
-    /// The text ends.
-    TextEnd,
-    /// A request for memory was refused, by this refusal.
-    Memory(AllocError),
-    /// The text has a fault.
-    TextFault,
-    /// The text ends in the group of an annotation that is not registered, which this `(` opens.
-    Unclosed(usize),
-    /// The name of this annotation is empty, or it is not UTF-8.
-    Misnamed(usize),
-}
 
 /// What the name of an annotation means.
 #[derive(Clone, Copy)]
@@ -179,16 +154,8 @@ pub fn look_in_numbers(
     ensures { (s : Source) → s.setting.text ≡ text.now → AreRowsOf s rows.now why →
         LooksInNumbers s (length rows.now) place (names_of names.now ends.now) result }
 {
-    let (row, status) = match look_at(alloc, text, rows, why, place, names, ends) {
-        Ok(number) => (number, 0),
-        Err(NotShown::TextEnd) => (rows.len(), 1),
-        Err(NotShown::Memory(_)) => (rows.len(), 2),
-        Err(NotShown::TextFault) => (rows.len(), 3),
-        Err(NotShown::Unclosed(number)) => (number, 4),
-        Err(NotShown::Misnamed(number)) => (number, 5),
-    };
-    Look {
-        row: row as u32,
-        status,
-    }
+    Look::of(
+        look_at(alloc, text, rows, why, place, names, ends),
+        rows.len(),
+    )
 }

@@ -57,7 +57,7 @@ pub fn compile_types(alloc: Global, text: &str) -> Result<Vec<u8>, Error>
     let module = parse::<Module>(&buffer)?;
     match binary::module(alloc, &module.types) {
         Ok(bytes) => Ok(bytes),
-        Err(EncodeError::Memory(refused)) => Err(Error::from(refused)),
+        Err(EncodeError::Memory) => Err(Error::out_of_memory()),
         Err(EncodeError::TooLong) => {
             let message = String::from_str(alloc, "section too long")?;
             Err(Error::new(Span::from_offset(0), message))

@@ -1,5 +1,5 @@
 -- Each word of the language of readings keeps what is moved: where its parts answer the same, moved, so does it. These are proofs, which a reader may skip.
-use Rattle.std.proofs.Common.{◌≡◌, ◌∙◌, ◌<◌, ◌≤◌, ◌+◌, ◌-◌, ℕ, zero, suc, arith, List, [], ◌∷◌, ◌++◌, Bool, true, false, refl, sym, ap, subst, inl, length, drop, length-drop, Some, None, Ok, Err}
+use Rattle.std.proofs.Common.{◌≡◌, ◌∙◌, ◌<◌, ◌≤◌, ◌+◌, ◌-◌, ℕ, zero, suc, arith, List, [], ◌∷◌, ◌++◌, Bool, true, false, refl, sym, ap, subst, length, drop, length-drop, Some, None, Ok, Err}
 use Rattle.std.specs.Prelude.{Option, Result, cond, if◌then◌else◌, map, nat_eq, nat_le, not}
 use Rattle.std.specs.Option.{option_map}
 use Rattle.wat_lex.specs.errors.Errors.{Report}
@@ -20,7 +20,7 @@ use Rattle.wat_lexer_parser.specs.laws.Counting.{counting}
 use Rattle.wat_lexer_parser.specs.shown.Showing.{shown}
 use Rattle.wat_format_shown.specs.Reads.{AnswerMoved, Moves, MovesReader, MovesSight, OutcomeMoved, ToldMoved}
 use Rattle.wat_format_shown.specs.Sides.{Sides, Alike, AllSame, SameRefusal, at_places, passed}
-use Rattle.wat_format_shown.specs.lemmas.Seeing.{NeedsToken, Onward, PlaceMoved, TakenMoved, alike_at, closed_moves, empty_moves, opened_moves, report_moves, span_moves, taken_moves}
+use Rattle.wat_format_shown.specs.lemmas.Seeing.{NeedsToken, Onward, ShownLaws, PlaceMoved, TakenMoved, alike_at, closed_moves, empty_moves, opened_moves, report_moves, span_moves, taken_moves}
 
 pub refuses : {V : Type 0} (moved : V → V) (n : ℕ) (s : Sides) (ts : List Token) (f g : Report) (k j : ℕ) → SameRefusal s f g → OutcomeMoved moved n s ts (refused f k) (refused g j)
 refuses moved n s ts f g k j h = (g, refl, h)
@@ -44,11 +44,11 @@ moved_as {V} moved other n s ts o q e h = by_answer o.answer h
 pub moved_give : {V : Type 0} (moved : V → V) (v w : V) (s : Sides) (ts : List Token) → w ≡ moved v → Alike s ts → OutcomeMoved moved 0 s ts (give v s.here) (give w s.there)
 moved_give moved v w s ts e h = (ap Ok e, ts, alike_at s s.here.place (s.here.place + 0) s.there.place (s.there.place + 0) ts (omega arith) (omega arith) h, omega arith)
 
-pub moves_refuse : {V : Type 0} (moved : (ℕ → ℕ) → V → V) (n : ℕ) (message : List ℕ) → Moves n moved (refuse message)
-moves_refuse moved n message s ts h = refuses (moved s.move) n s ts _ _ 0 0 (report_moves s ts message h)
+pub moves_refuse : ShownLaws → {V : Type 0} (moved : (ℕ → ℕ) → V → V) (n : ℕ) (message : List ℕ) → Moves n moved (refuse message)
+moves_refuse laws moved n message s ts h = refuses (moved s.move) n s ts _ _ 0 0 (report_moves laws s ts message h)
 
 pub moves_refuse_behind : {V : Type 0} (moved : (ℕ → ℕ) → V → V) (n : ℕ) (message : List ℕ) → Moves n moved (refuse_behind message)
-moves_refuse_behind moved n message s ts h = refuses (moved s.move) n s ts _ _ 0 0 (record { cause = refl; offset = inl h.place; excerpt = refl })
+moves_refuse_behind moved n message s ts h = refuses (moved s.move) n s ts _ _ 0 0 (record { cause = refl; offset = h.place; excerpt = refl })
 
 -- A token.
 
@@ -62,9 +62,9 @@ token_by_moves moved s ts f g t u (Ok (Some (v, p))) b r h =
     (refl, on.rest, alike_at s p (s.here.place + (p - s.here.place)) q (s.there.place + (q - s.there.place)) on.rest (omega (arith, on.here)) (omega (arith, on.there)) on.alike, on.fewer)
 token_by_moves moved s ts f g t u (Err e) b r h = subst (λ b. OutcomeMoved moved 1 s ts (refused e 0) (token_by b u (refused g 0) s.there.place)) (sym h.1) (h.0, refl, h.2)
 
-pub moves_token : {V : Type 0} (moved : (ℕ → ℕ) → V → V) (read : Reader V) (message : List ℕ) → MovesReader moved read → Moves 1 moved (token read message)
-moves_token moved read message r s ts h =
-    token_by_moves (moved s.move) s ts _ _ (may_take_at read s.here) (may_take_at read s.there) (taken_at read s.here) (taken_at read s.there) (report_moves s ts message h) (taken_moves moved read r s ts h)
+pub moves_token : ShownLaws → {V : Type 0} (moved : (ℕ → ℕ) → V → V) (read : Reader V) (message : List ℕ) → MovesReader moved read → Moves 1 moved (token read message)
+moves_token laws moved read message r s ts h =
+    token_by_moves (moved s.move) s ts _ _ (may_take_at read s.here) (may_take_at read s.there) (taken_at read s.here) (taken_at read s.there) (report_moves laws s ts message h) (taken_moves laws moved read r s ts h)
 
 -- Values.
 
@@ -76,16 +76,16 @@ moved_mapped {V} {W} g h f e n s ts o q same k = by_answer o.answer k
     by_answer (Err r) k = (k.0, ap (told_as e) k.1, k.2)
 
 -- the value with its span, where a token is shown if there is a value, so that it is the span of one
-pub moved_spanned : {V : Type 0} (g : V → V) (n : ℕ) (s : Sides) (ts : List Token) (o q : Outcome V)
+pub moved_spanned : ShownLaws → {V : Type 0} (g : V → V) (n : ℕ) (s : Sides) (ts : List Token) (o q : Outcome V)
     → ((v : V) → o.answer ≡ Ok v → (t : Token) × (p : ℕ) × (shown s.here.source s.here.place s.here.names ≡ Ok (Some (t, p)))) → Alike s ts → OutcomeMoved g n s ts o q
     → OutcomeMoved {V = V × ℕ} (λ v. (g v.0, s.move v.1)) n s ts (mapped_by (λ v. (v, current_span s.here.source s.here.place s.here.names)) o) (mapped_by (λ v. (v, current_span s.there.source s.there.place s.there.names)) q)
-moved_spanned {V} g n s ts o q need h k = by_answer o.answer refl k
+moved_spanned laws {V} g n s ts o q need h k = by_answer o.answer refl k
   where
     by_answer : (x : Result V Report) → o.answer ≡ x → AnswerMoved g n s ts x o.passed q
         → AnswerMoved {V = V × ℕ} (λ v. (g v.0, s.move v.1)) n s ts (told_as (λ v. (v, current_span s.here.source s.here.place s.here.names)) x) o.passed (mapped_by (λ v. (v, current_span s.there.source s.there.place s.there.names)) q)
     by_answer (Ok v) e k =
         let t = need v e in
-        (ap (told_as {W = V × ℕ} (λ v. (v, current_span s.there.source s.there.place s.there.names))) k.0 ∙ ap (λ p. Ok (g v, p)) (span_moves s ts t.0 t.1 t.2 h), k.1, k.2, k.3)
+        (ap (told_as {W = V × ℕ} (λ v. (v, current_span s.there.source s.there.place s.there.names))) k.0 ∙ ap (λ p. Ok (g v, p)) (span_moves laws s ts t.0 t.1 t.2 h), k.1, k.2, k.3)
     by_answer (Err r) e k = (k.0, ap (told_as {W = V × ℕ} (λ v. (v, current_span s.there.source s.there.place s.there.names))) k.1, k.2)
 
 pub moved_checked : {V W : Type 0} (g : V → V) (h : W → W) (check : V → Option W) (n : ℕ) (s : Sides) (ts : List Token) (o q : Outcome V) (f e : Report) → ((v : V) → check (g v) ≡ option_map h (check v)) → SameRefusal s f e → OutcomeMoved g n s ts o q
@@ -144,26 +144,26 @@ moved_where_seen g n s ts (Ok true) b t u o q c d h k j = subst (λ b. OutcomeMo
 moved_where_seen g n s ts (Ok false) b t u o q c d h k j = subst (λ b. OutcomeMoved g n s ts (also_taking t c) (where_seen_by b u q d)) (sym h) (moved_also g t u n s ts c d j)
 moved_where_seen g n s ts (Err f) b t u o q c d h k j = subst (λ b. OutcomeMoved g n s ts (refused f 0) (where_seen_by b u q d)) (sym h.1) (h.0, refl, h.2)
 
-attempts_moves : (s : Sides) (ts : List Token) (missed : List (List ℕ)) → Alike s ts → SameRefusal s (attempts_report s.here missed) (attempts_report s.there missed)
-attempts_moves s ts missed h =
-    subst (λ empty. SameRefusal s (attempts_report s.here missed) (report_here s.there.source s.there.place s.there.names (attempts_message empty missed))) (sym (empty_moves s ts h))
-    (report_moves s ts (attempts_message (empty_of (shown s.here.source s.here.place s.here.names)) missed) h)
+attempts_moves : ShownLaws → (s : Sides) (ts : List Token) (missed : List (List ℕ)) → Alike s ts → SameRefusal s (attempts_report s.here missed) (attempts_report s.there missed)
+attempts_moves laws s ts missed h =
+    subst (λ empty. SameRefusal s (attempts_report s.here missed) (report_here s.there.source s.there.place s.there.names (attempts_message empty missed))) (sym (empty_moves laws s ts h))
+    (report_moves laws s ts (attempts_message (empty_of (shown s.here.source s.here.place s.here.names)) missed) h)
 
 -- each of several alternatives moves
 abbrev pub EachMoves : {V : Type 0} → ℕ → ((ℕ → ℕ) → V → V) → List (Choice V) → Type 0
 EachMoves n moved [] = Unit {0}
 EachMoves n moved (c ∷ cs) = MovesSight c.sight × Moves n moved c.reading × EachMoves n moved cs
 
-one_behind_moves : {V : Type 0} (n : ℕ) (moved : (ℕ → ℕ) → V → V) (missed : List (List ℕ)) (cs : List (Choice V)) → EachMoves n moved cs → Moves n moved (one_behind missed cs)
-one_behind_moves n moved missed [] e s ts h = refuses (moved s.move) n s ts _ _ 0 0 (attempts_moves s ts missed h)
-one_behind_moves n moved missed (c ∷ cs) e s ts h =
+one_behind_moves : ShownLaws → {V : Type 0} (n : ℕ) (moved : (ℕ → ℕ) → V → V) (missed : List (List ℕ)) (cs : List (Choice V)) → EachMoves n moved cs → Moves n moved (one_behind missed cs)
+one_behind_moves laws n moved missed [] e s ts h = refuses (moved s.move) n s ts _ _ 0 0 (attempts_moves laws s ts missed h)
+one_behind_moves laws n moved missed (c ∷ cs) e s ts h =
     let takes = nat_le attempts_held (length missed) in
     let rest = one_behind (missed ++ (c.shows ∷ [])) cs in
     moved_where_seen (moved s.move) n s ts (c.sight s.here).told (c.sight s.there).told (c.sight s.here).takes (c.sight s.there).takes (c.reading s.here) (c.reading s.there) (also_taking takes (rest s.here)) (also_taking takes (rest s.there)) (e.0 s ts h) (e.1 s ts h)
-    (moved_also (moved s.move) takes takes n s ts (rest s.here) (rest s.there) (one_behind_moves n moved (missed ++ (c.shows ∷ [])) cs e.2 s ts h))
+    (moved_also (moved s.move) takes takes n s ts (rest s.here) (rest s.there) (one_behind_moves laws n moved (missed ++ (c.shows ∷ [])) cs e.2 s ts h))
 
-pub moves_one_of : {V : Type 0} (n : ℕ) (moved : (ℕ → ℕ) → V → V) (cs : List (Choice V)) → EachMoves n moved cs → Moves n moved (one_of cs)
-moves_one_of n moved cs e = one_behind_moves n moved [] cs e
+pub moves_one_of : ShownLaws → {V : Type 0} (n : ℕ) (moved : (ℕ → ℕ) → V → V) (cs : List (Choice V)) → EachMoves n moved cs → Moves n moved (one_of cs)
+moves_one_of laws n moved cs e = one_behind_moves laws n moved [] cs e
 
 -- Loops.
 
@@ -217,7 +217,7 @@ goes_in s p q ts h = record { texts = h.texts; names = h.names; here = h.here; t
 comes_out : (s : Sides) (p q k l : ℕ) (ts : List Token) → Alike (passed (within s p q) k l) ts → Alike (at_places s (p + k) (q + l)) ts
 comes_out s p q k l ts h = record { texts = h.texts; names = h.names; here = h.here; there = h.there; place = h.place }
 
-module _ {V : Type 0} (g : V → V) (n : ℕ) (s : Sides) (ts : List Token) where
+module _ (laws : ShownLaws) {V : Type 0} (g : V → V) (n : ℕ) (s : Sides) (ts : List Token) where
   closed_by_moves : (p q : ℕ) (r : List Token) (v : V) (t u : Bool) (a b : Result ℕ Report) → length r + (n + 1) ≤ length ts → s.here.place < p → s.there.place < q → PlaceMoved (at_places s p q) r a b
       → OutcomeMoved g (n + 2) s ts (closed_by a v t s.here.place) (closed_by b (g v) u s.there.place)
   closed_by_moves p q r v t u (Ok z) b few l k h =
@@ -232,7 +232,7 @@ module _ {V : Type 0} (g : V → V) (n : ℕ) (s : Sides) (ts : List Token) wher
       let is : inside_by c.answer c (inside s.there q) s.there ≡ closed_by (closed s.there.source (q + c.passed) s.there.names) (g v) c.takes_memory s.there.place = ap (λ x. inside_by x c (inside s.there q) s.there) h.0 in
       subst (λ d. OutcomeMoved g (n + 2) s ts (inside_by (Ok v) o (inside s.here p) s.here) d) (sym is)
       (closed_by_moves (p + o.passed) (q + c.passed) h.1 v o.takes_memory c.takes_memory (closed s.here.source (p + o.passed) s.here.names) (closed s.there.source (q + c.passed) s.there.names) (omega (arith, h.3, on.fewer)) (omega (arith, on.here)) (omega (arith, on.there))
-      (closed_moves (at_places s (p + o.passed) (q + c.passed)) h.1 (comes_out s p q o.passed c.passed h.1 h.2)))
+      (closed_moves laws (at_places s (p + o.passed) (q + c.passed)) h.1 (comes_out s p q o.passed c.passed h.1 h.2)))
   inside_by_moves p q on o c (Err f) h =
       let is : inside_by c.answer c (inside s.there q) s.there ≡ refused h.0 0 = ap (λ x. inside_by x c (inside s.there q) s.there) h.1 in
       subst (λ d. OutcomeMoved g (n + 2) s ts (refused f 0) d) (sym is) (h.0, refl, h.2)
@@ -248,10 +248,10 @@ module _ {V : Type 0} (g : V → V) (n : ℕ) (s : Sides) (ts : List Token) wher
 
   pub moved_group : (m k : Reading V) → Alike s ts → ((p q : ℕ) (r : List Token) → Alike (within s p q) r → OutcomeMoved g n (within s p q) r (m (inside s.here p)) (k (inside s.there q)))
       → OutcomeMoved g (n + 2) s ts (group m s.here) (group k s.there)
-  moved_group m k h inner = opened_by_moves m k inner (opened s.here.source s.here.place s.here.names) (opened s.there.source s.there.place s.there.names) (opened_moves s ts h)
+  moved_group m k h inner = opened_by_moves m k inner (opened s.here.source s.here.place s.here.names) (opened s.there.source s.there.place s.there.names) (opened_moves laws s ts h)
 
-pub moves_group : {V : Type 0} (n : ℕ) (moved : (ℕ → ℕ) → V → V) (m : Reading V) → Moves n moved m → Moves (n + 2) moved (group m)
-moves_group n moved m one s ts h = moved_group (moved s.move) n s ts m m h (λ p q r alike. one (within s p q) r alike)
+pub moves_group : ShownLaws → {V : Type 0} (n : ℕ) (moved : (ℕ → ℕ) → V → V) (m : Reading V) → Moves n moved m → Moves (n + 2) moved (group m)
+moves_group laws n moved m one s ts h = moved_group laws (moved s.move) n s ts m m h (λ p q r alike. one (within s p q) r alike)
 
 -- The same of readings, from any two states.
 
@@ -271,8 +271,8 @@ moves_mapped moved other f n m e one s ts h = moved_mapped (moved s.move) (other
 abbrev pub spanned_moved : {V : Type 0} → ((ℕ → ℕ) → V → V) → (ℕ → ℕ) → V × ℕ → V × ℕ
 spanned_moved moved move v = (moved move v.0, move v.1)
 
-pub moves_spanned : {V : Type 0} (moved : (ℕ → ℕ) → V → V) (n : ℕ) (m : Reading V) → NeedsToken m → Moves n moved m → Moves n (spanned_moved moved) (spanned m)
-moves_spanned moved n m need one s ts h = moved_spanned (moved s.move) n s ts (m s.here) (m s.there) (need s.here) h (one s ts h)
+pub moves_spanned : ShownLaws → {V : Type 0} (moved : (ℕ → ℕ) → V → V) (n : ℕ) (m : Reading V) → NeedsToken m → Moves n moved m → Moves n (spanned_moved moved) (spanned m)
+moves_spanned laws moved n m need one s ts h = moved_spanned laws (moved s.move) n s ts (m s.here) (m s.there) (need s.here) h (one s ts h)
 
 -- what needs a token
 pub needs_token : {V : Type 0} (read : Reader V) (message : List ℕ) → NeedsToken (token read message)
@@ -284,9 +284,9 @@ needs_token read message a v e =
 pub needs_checked : {V W : Type 0} (check : V → Option W) (message : List ℕ) (m : Reading V) → NeedsToken m → NeedsToken (checked check message m)
 needs_checked check message m need a w e = let k = checked_got (m a).answer (m a) check _ w e in need a k.0 k.1
 
-pub moves_checked : {V W : Type 0} (moved : (ℕ → ℕ) → V → V) (other : (ℕ → ℕ) → W → W) (check : V → Option W) (message : List ℕ) (n : ℕ) (m : Reading V)
+pub moves_checked : ShownLaws → {V W : Type 0} (moved : (ℕ → ℕ) → V → V) (other : (ℕ → ℕ) → W → W) (check : V → Option W) (message : List ℕ) (n : ℕ) (m : Reading V)
     → ((move : ℕ → ℕ) (v : V) → check (moved move v) ≡ option_map (other move) (check v)) → Moves n moved m → Moves n other (checked check message m)
-moves_checked moved other check message n m e one s ts h = moved_checked (moved s.move) (other s.move) check n s ts (m s.here) (m s.there) _ _ (e s.move) (report_moves s ts message h) (one s ts h)
+moves_checked laws moved other check message n m e one s ts h = moved_checked (moved s.move) (other s.move) check n s ts (m s.here) (m s.there) _ _ (e s.move) (report_moves laws s ts message h) (one s ts h)
 
 pub moves_allocated : {V : Type 0} (moved : (ℕ → ℕ) → V → V) (n : ℕ) (m : Reading V) → Moves n moved m → Moves n moved (allocated m)
 moves_allocated moved n m one s ts h = moved_also (moved s.move) true true n s ts (m s.here) (m s.there) (one s ts h)
@@ -309,7 +309,7 @@ moves_optional {V} moved n sight m look one =
 
 under_moves : {V : Type 0} (moved : (ℕ → ℕ) → V → V) (n : ℕ) (x : List ℕ) (m : Reading V) → Moves n moved m → (s : Sides) (ts : List Token) → Alike s ts → (full : Bool) (t u : Bool)
     → OutcomeMoved (moved s.move) n s ts (under_by (if full then Err (too_often s.here) else Ok (record s.here { names = more s.here.names x })) t m) (under_by (if full then Err (too_often s.there) else Ok (record s.there { names = more s.there.names x })) u m)
-under_moves moved n x m one s ts h true t u = (too_often s.there, refl, record { cause = refl; offset = inl h.place; excerpt = refl })
+under_moves moved n x m one s ts h true t u = (too_often s.there, refl, record { cause = refl; offset = h.place; excerpt = refl })
 under_moves {V} moved n x m one s ts h false t u =
     let named = record s { here = record s.here { names = more s.here.names x }; there = record s.there { names = more s.there.names x } } in
     let alike : Alike named ts = record { texts = h.texts; names = ap (λ z. more z x) h.names; here = h.here; there = h.there; place = h.place } in

@@ -1,5 +1,5 @@
 -- What is seen from a parser, and from one to which the same tokens are shown elsewhere. These are proofs, which a reader may skip.
-use Rattle.std.proofs.Common.{◌≡◌, ◌∙◌, ◌<◌, ◌≤◌, ◌+◌, ◌-◌, ℕ, arith, List, Bool, true, false, refl, sym, ap, subst, inl, inr, length, drop, Some, None, Ok, Err}
+use Rattle.std.proofs.Common.{◌≡◌, ◌∙◌, ◌<◌, ◌≤◌, ◌+◌, ◌-◌, ℕ, arith, List, Bool, true, false, refl, sym, ap, subst, length, drop, Some, None, Ok, Err}
 use Rattle.std.specs.Prelude.{◌&&◌, Option, Result, bytes_eq, codes, if◌then◌else◌, is_some, not}
 use Rattle.std.specs.Str.{IsUtf8, chars}
 use Rattle.wat_lex.specs.errors.Errors.{Report, lexical}
@@ -25,17 +25,24 @@ use Rattle.wat_lexer_parser.specs.parser.Takers.{Reader, as_open, as_close, as_k
 use Rattle.wat_lexer_parser.specs.lemmas.Parts.{sees, taken_or}
 use Rattle.wat_lexer_parser.specs.places.Places.{current_span, empty_of}
 use Rattle.wat_lexer_parser.specs.lemmas.Parts as parts
-use Rattle.wat_lexer_parser.specs.places.Source.{IsRead}
+use Rattle.wat_lexer_parser.specs.places.Source.{Source, IsRead}
 use Rattle.wat_lexer_parser.specs.readings.Readings.{Reading, more_comes}
 use Rattle.wat_lexer_parser.specs.readings.Types.{behind_open, is_taken, sees_annotation, sees_word, spelling, spelling_by, as_owned_id, named_by}
-use Rattle.wat_lexer_parser.specs.laws.Counting.{counting, counting_behind}
+use Rattle.wat_lexer_parser.specs.laws.Counting.{CountingShowsTheSame, counting, counting_behind}
 use Rattle.wat_lexer_parser.specs.shown.Shown.{Finding}
 use Rattle.wat_lexer_parser.specs.inside.ShownIn.{Showing, shown_in}
-use Rattle.wat_lexer_parser.specs.shown.Showing.{placed, shown}
+use Rattle.wat_lexer_parser.specs.shown.Showing.{OneThingShown, SomethingShown, placed, shown}
 use Rattle.wat_format_shown.specs.Moved.{fault_moved, place_moved, token_moved}
 use Rattle.wat_format_shown.specs.Reads.{MovesReader, MovesSight, ReadMoved, ToldMoved}
-use Rattle.wat_format_shown.specs.Sides.{Sides, Alike, AllSame, RefusalMoved, Same, SameRefusal, ShownLaws, Stand, by_map, with_token, at_places}
+use Rattle.wat_format_shown.specs.Sides.{Sides, Alike, AllSame, Among, Met, RefusalMoved, Same, SameRefusal, Stand, after_token, at_end, at_token, at_places}
+use Rattle.wat_format_shown.specs.lemmas.Among.{FaultIn, FoundIn, among_counting, found_in, paren_of}
 use Rattle.wat_format_shown.specs.lemmas.Found.{Found, found}
+
+-- what the laws of the parser say
+pub record ShownLaws : Type 0 where
+  pub one : OneThingShown
+  pub some : SomethingShown
+  pub counting : CountingShowsTheSame
 
 -- What is found at a place, of all raw tokens.
 
@@ -66,7 +73,7 @@ behind_finding : (a : State) (t : Token) (r : List Token) → finding a ≡ Ok (
 unfolding finding
 behind_finding a t r e = behind_place t a.source.tokens a.place r (behind_in a.source.setting.text a.source.ending a.names Showing (drop a.place a.source.tokens) t r e)
 
-module _ (s : Sides) where
+module _ (laws : ShownLaws) (s : Sides) where
   abbrev x : List ℕ
   x = s.here.source.setting.text
 
@@ -74,46 +81,56 @@ module _ (s : Sides) where
   y = s.there.source.setting.text
 
   found_here : (ts : List Token) → Alike s ts → counting_behind (finding s.here) ≡ shown_in x None s.here.names Showing ts
-  found_here ts h = counted h.texts.laws s.here h.texts.utf8.0 h.texts.read.0 h.texts.ending.0 ∙ ap (shown_in x None s.here.names Showing) h.here
+  found_here ts h = counted laws s.here h.texts.utf8.0 h.texts.read.0 h.texts.ending.0 ∙ ap (shown_in x None s.here.names Showing) h.here
 
   found_there : (ts : List Token) → Alike s ts → counting_behind (finding s.there) ≡ shown_in y None s.here.names Showing (counting (drop s.there.place s.there.source.tokens))
-  found_there ts h = counted h.texts.laws s.there h.texts.utf8.1 h.texts.read.1 h.texts.ending.1 ∙ ap (λ n. shown_in y None n Showing (counting (drop s.there.place s.there.source.tokens))) h.names
+  found_there ts h = counted laws s.there h.texts.utf8.1 h.texts.read.1 h.texts.ending.1 ∙ ap (λ n. shown_in y None n Showing (counting (drop s.there.place s.there.source.tokens))) h.names
 
   found_both : (ts : List Token) → Alike s ts → Found x y s.move (counting_behind (finding s.here)) (counting_behind (finding s.there))
   found_both ts h =
       let us = counting (drop s.there.place s.there.source.tokens) in
       subst (λ a. Found x y s.move a (counting_behind (finding s.there))) (sym (found_here ts h)) (subst (λ b. Found x y s.move (shown_in x None s.here.names Showing ts) b) (sym (found_there ts h)) (found x y s.move s.here.names ts us h.there Showing))
 
+  -- a token that is found counts, and a fault is at one that does
+  seen_in : (ts : List Token) → Alike s ts → FoundIn (counting s.here.source.tokens) (counting_behind (finding s.here))
+  seen_in ts h =
+      let all = counting s.here.source.tokens in
+      let among : (t : Token) → Among ts t → Among all t = λ t k. among_counting s.here.source.tokens s.here.place t (subst (λ l. Among l t) (sym h.here) k) in
+      subst (FoundIn all) (sym (found_here ts h)) (found_in x s.here.names all ts among Showing tt)
+
 -- Spans, and refusals at them.
 
-refusal_by : (move : ℕ → ℕ) (tokens : List Token) (x y : List ℕ) (p : ℕ) (kind : FaultKind) → RefusalMoved move tokens y (report_of x (record { offset = p; kind = kind })) (report_of y (record { offset = place_moved move kind p; kind = kind }))
+refusal_by : (move : ℕ → ℕ) (s r : Source) → IsRead s → (p : ℕ) (kind : FaultKind) → FaultIn (counting s.tokens) kind p → RefusalMoved move s r (report_of s.setting.text (record { offset = p; kind = kind })) (report_of r.setting.text (record { offset = place_moved move kind p; kind = kind }))
 unfolding report_of
-refusal_by move tokens x y p (Lex e) = record { cause = refl; offset = inl (by_map refl); excerpt = refl }
-refusal_by move tokens x y p Unclosed = record { cause = refl; offset = inr (refl, refl); excerpt = refl }
+refusal_by move s r read p (Lex e) h = record { cause = refl; offset = at_token h.0 h.1 h.2 (ap move h.2); excerpt = refl }
+refusal_by move s r read p Unclosed h =
+    let len = paren_of s read h.0 h.1 h.2 in
+    let at : p - 1 ≡ h.0.offset = omega (arith, h.3) in
+    record { cause = refl; offset = after_token h.0 h.1 (h.3 ∙ ap (λ n. h.0.offset + n) (sym len)) (ap (λ q. move q + 1) at ∙ ap (λ n. move h.0.offset + n) (sym len)); excerpt = refl }
 
-refusal_of : (move : ℕ → ℕ) (tokens : List Token) (x y : List ℕ) (f : Fault) → RefusalMoved move tokens y (report_of x f) (report_of y (fault_moved move f))
+refusal_of : (move : ℕ → ℕ) (s r : Source) → IsRead s → (f : Fault) → FaultIn (counting s.tokens) f.kind f.offset → RefusalMoved move s r (report_of s.setting.text f) (report_of r.setting.text (fault_moved move f))
 unfolding report_of
-refusal_of move tokens x y f = refusal_by move tokens x y f.offset f.kind
+refusal_of move s r read f h = refusal_by move s r read f.offset f.kind h
 
-span_by : (s : Sides) (ts : List Token) (f g : Finding) → Alike s ts → Found s.here.source.setting.text s.there.source.setting.text s.move (counting_behind f) (counting_behind g)
+span_by : (s : Sides) (ts : List Token) (f g : Finding) → Alike s ts → FoundIn (counting s.here.source.tokens) (counting_behind f) → Found s.here.source.setting.text s.there.source.setting.text s.move (counting_behind f) (counting_behind g)
     → Stand s (parts.span_of s.here.source s.here.place (placed s.here.source.tokens f)) (parts.span_of s.there.source s.there.place (placed s.there.source.tokens g))
-span_by s ts (Ok None) (Ok None) h k = by_map (sym h.texts.end)
-span_by s ts (Ok None) (Ok (Some (u, q))) h k = cc
-span_by s ts (Ok None) (Err g) h k = cc
-span_by s ts (Ok (Some (t, r))) (Ok None) h k = let e = k.2 in cc
-span_by s ts (Ok (Some (t, r))) (Ok (Some (u, q))) h k = by_map (ap (λ (v : Token). v.offset) ((same_token {F = Fault} u k.0 (counting q) k.1 k.2).0 ∙ k.3.is))
-span_by s ts (Ok (Some (t, r))) (Err g) h k = let e = k.2 in cc
-span_by s ts (Err f) (Ok None) h k = cc
-span_by s ts (Err f) (Ok (Some (u, q))) h k = cc
-span_by s ts (Err f) (Err g) h k = h.place
+span_by s ts (Ok None) (Ok None) h i k = at_end refl refl
+span_by s ts (Ok None) (Ok (Some (u, q))) h i k = cc
+span_by s ts (Ok None) (Err g) h i k = cc
+span_by s ts (Ok (Some (t, r))) (Ok None) h i k = let e = k.2 in cc
+span_by s ts (Ok (Some (t, r))) (Ok (Some (u, q))) h i k = at_token t i refl (ap (λ (v : Token). v.offset) ((same_token {F = Fault} u k.0 (counting q) k.1 k.2).0 ∙ k.3.is))
+span_by s ts (Ok (Some (t, r))) (Err g) h i k = let e = k.2 in cc
+span_by s ts (Err f) (Ok None) h i k = cc
+span_by s ts (Err f) (Ok (Some (u, q))) h i k = cc
+span_by s ts (Err f) (Err g) h i k = h.place
 
-pub span_stands : (s : Sides) (ts : List Token) → Alike s ts → Stand s (current_span s.here.source s.here.place s.here.names) (current_span s.there.source s.there.place s.there.names)
-span_stands s ts h =
+pub span_stands : ShownLaws → (s : Sides) (ts : List Token) → Alike s ts → Stand s (current_span s.here.source s.here.place s.here.names) (current_span s.there.source s.there.place s.there.names)
+span_stands laws s ts h =
     let there = parts.span_of s.there.source s.there.place (placed s.there.source.tokens (finding s.there)) in
-    subst (λ p. Stand s p (current_span s.there.source s.there.place s.there.names)) (sym (span_is s.here)) (subst (λ q. Stand s (parts.span_of s.here.source s.here.place (placed s.here.source.tokens (finding s.here))) q) (sym (span_is s.there)) (span_by s ts (finding s.here) (finding s.there) h (found_both s ts h)))
+    subst (λ p. Stand s p (current_span s.there.source s.there.place s.there.names)) (sym (span_is s.here)) (subst (λ q. Stand s (parts.span_of s.here.source s.here.place (placed s.here.source.tokens (finding s.here))) q) (sym (span_is s.there)) (span_by s ts (finding s.here) (finding s.there) h (seen_in laws s ts h) (found_both laws s ts h)))
 
-pub report_moves : (s : Sides) (ts : List Token) (message : List ℕ) → Alike s ts → SameRefusal s (report_here s.here.source s.here.place s.here.names message) (report_here s.there.source s.there.place s.there.names message)
-report_moves s ts message h = record { cause = refl; offset = inl (span_stands s ts h); excerpt = refl }
+pub report_moves : ShownLaws → (s : Sides) (ts : List Token) (message : List ℕ) → Alike s ts → SameRefusal s (report_here s.here.source s.here.place s.here.names message) (report_here s.there.source s.there.place s.there.names message)
+report_moves laws s ts message h = record { cause = refl; offset = span_stands laws s ts h; excerpt = refl }
 
 -- a reading that needs a token to be shown
 abbrev pub NeedsToken : {V : Type 0} → Reading V → Type 0
@@ -128,10 +145,10 @@ span_of_token s ts (Ok (Some (v, r))) (Err g) t q k e = let d = k.2 in cc
 span_of_token s ts (Err f) g t q k e = cc
 
 -- where a token is shown, its span is moved by the map
-pub span_moves : (s : Sides) (ts : List Token) (t : Token) (q : ℕ) → shown s.here.source s.here.place s.here.names ≡ Ok (Some (t, q)) → Alike s ts
+pub span_moves : ShownLaws → (s : Sides) (ts : List Token) (t : Token) (q : ℕ) → shown s.here.source s.here.place s.here.names ≡ Ok (Some (t, q)) → Alike s ts
     → current_span s.there.source s.there.place s.there.names ≡ s.move (current_span s.here.source s.here.place s.here.names)
-span_moves s ts t q e h =
-    span_is s.there ∙ span_of_token s ts (finding s.here) (finding s.there) t q (found_both s ts h) (sym (shown_is s.here) ∙ e) ∙ sym (ap s.move (span_is s.here))
+span_moves laws s ts t q e h =
+    span_is s.there ∙ span_of_token s ts (finding s.here) (finding s.there) t q (found_both laws s ts h) (sym (shown_is s.here) ∙ e) ∙ sym (ap s.move (span_is s.here))
 
 -- What is seen.
 
@@ -148,12 +165,12 @@ pub record Onward (s : Sides) (ts : List Token) (p q : ℕ) : Type 0 where
 
 abbrev pub SeenMoved : Sides → List Token → Seen → Seen → Type 0
 SeenMoved s ts (Ok None) b = b ≡ Ok None
-SeenMoved s ts (Ok (Some (t, p))) b = (q : ℕ) × (b ≡ Ok (Some (token_moved s.move t, q))) × (token_text s.there.source.setting.text (token_moved s.move t) ≡ token_text s.here.source.setting.text t) × Onward s ts p q
+SeenMoved s ts (Ok (Some (t, p))) b = (q : ℕ) × (b ≡ Ok (Some (token_moved s.move t, q))) × Met s t × Onward s ts p q
 SeenMoved s ts (Err f) b = (g : Report) × (b ≡ Err g) × SameRefusal s f g
 
-onward : (s : Sides) (ts : List Token) (t u v : Token) (r q z : List Token) → Alike s ts → finding s.here ≡ Ok (Some (t, r)) → finding s.there ≡ Ok (Some (u, q)) → u ≡ v → counting q ≡ z → Same s.here.source.setting.text s.there.source.setting.text s.move t v
-    → AllSame s.here.source.setting.text s.there.source.setting.text s.move (counting r) z → Onward s ts (length s.here.source.tokens - length r) (length s.there.source.tokens - length q)
-onward s ts t u v r q z h e d w c same rest =
+onward : ShownLaws → (s : Sides) (ts : List Token) (t u v : Token) (r q z : List Token) → Alike s ts → finding s.here ≡ Ok (Some (t, r)) → finding s.there ≡ Ok (Some (u, q)) → u ≡ v → counting q ≡ z → Same s.here.source.setting.text s.there.source.setting.text s.move t v
+    → AllSame s.here.source.setting.text s.there.source.setting.text s.move (counting r) z → Among (counting s.here.source.tokens) t → Onward s ts (length s.here.source.tokens - length r) (length s.there.source.tokens - length q)
+onward laws s ts t u v r q z h e d w c same rest among =
     let x = s.here.source.setting.text in
     let y = s.there.source.setting.text in
     let b = behind_finding s.here t r e in
@@ -162,7 +179,7 @@ onward s ts t u v r q z h e d w c same rest =
     let o = length s.there.source.tokens - length q in
     let taken = shown_is_taken s.here.source s.here.place s.here.names t p (shown_is s.here ∙ ap (placed s.here.source.tokens) e) in
     let other = shown_is_taken s.there.source s.there.place s.there.names u o (shown_is s.there ∙ ap (placed s.there.source.tokens) d) in
-    let counts : shown_in x None s.here.names Showing ts ≡ Ok (Some (t, counting r)) = sym (found_here s ts h) ∙ ap counting_behind e in
+    let counts : shown_in x None s.here.names Showing ts ≡ Ok (Some (t, counting r)) = sym (found_here laws s ts h) ∙ ap counting_behind e in
     record {
       rest = counting r;
       alike = record {
@@ -170,38 +187,40 @@ onward s ts t u v r q z h e d w c same rest =
         names = h.names;
         here = ap counting (sym b.tail);
         there = subst (AllSame x y s.move (counting r)) (sym c ∙ ap counting f.tail) rest;
-        place = with_token t (p - 1) b.there taken.3 (other.3 ∙ ap (λ (k : Token). k.offset + k.len) (w ∙ same.is));
+        place = after_token t among taken.3 (other.3 ∙ ap (λ (k : Token). k.offset + k.len) (w ∙ same.is));
       };
       fewer = omega (arith, forward_in x None s.here.names Showing ts t (counting r) counts);
       here = b.forward;
       there = f.forward;
     }
 
-seen_by : (s : Sides) (ts : List Token) (f g : Finding) → Alike s ts → finding s.here ≡ f → finding s.there ≡ g → Found s.here.source.setting.text s.there.source.setting.text s.move (counting_behind f) (counting_behind g)
+seen_by : ShownLaws → (s : Sides) (ts : List Token) (f g : Finding) → Alike s ts → finding s.here ≡ f → finding s.there ≡ g → Found s.here.source.setting.text s.there.source.setting.text s.move (counting_behind f) (counting_behind g)
     → SeenMoved s ts (told s.here.source.setting.text (placed s.here.source.tokens f)) (told s.there.source.setting.text (placed s.there.source.tokens g))
-seen_by s ts (Ok None) (Ok None) h e d k = refl
-seen_by s ts (Ok None) (Ok (Some (u, q))) h e d k = cc
-seen_by s ts (Ok None) (Err g) h e d k = cc
-seen_by s ts (Ok (Some (t, r))) (Ok None) h e d k = let c = k.2 in cc
-seen_by s ts (Ok (Some (t, r))) (Ok (Some (u, q))) h e d k =
+seen_by laws s ts (Ok None) (Ok None) h e d k = refl
+seen_by laws s ts (Ok None) (Ok (Some (u, q))) h e d k = cc
+seen_by laws s ts (Ok None) (Err g) h e d k = cc
+seen_by laws s ts (Ok (Some (t, r))) (Ok None) h e d k = let c = k.2 in cc
+seen_by laws s ts (Ok (Some (t, r))) (Ok (Some (u, q))) h e d k =
     let c = same_token {F = Fault} u k.0 (counting q) k.1 k.2 in
+    let among : Among (counting s.here.source.tokens) t = subst (λ f. FoundIn (counting s.here.source.tokens) (counting_behind f)) e (seen_in laws s ts h) in
     let at = length s.there.source.tokens - length q in (
       at,
       ap (λ v. Ok (Some (v, at))) (c.0 ∙ k.3.is),
-      subst (λ v. token_text s.there.source.setting.text v ≡ token_text s.here.source.setting.text t) k.3.is k.3.text,
-      onward s ts t u k.0 r q k.1 h e d c.0 c.1 k.3 k.4,
+      record { among = among; text = subst (λ v. token_text s.there.source.setting.text v ≡ token_text s.here.source.setting.text t) k.3.is k.3.text },
+      onward laws s ts t u k.0 r q k.1 h e d c.0 c.1 k.3 k.4 among,
     )
-seen_by s ts (Ok (Some (t, r))) (Err g) h e d k = let c = k.2 in cc
-seen_by s ts (Err f) (Ok None) h e d k = cc
-seen_by s ts (Err f) (Ok (Some (u, q))) h e d k = cc
-seen_by s ts (Err f) (Err g) h e d k =
+seen_by laws s ts (Ok (Some (t, r))) (Err g) h e d k = let c = k.2 in cc
+seen_by laws s ts (Err f) (Ok None) h e d k = cc
+seen_by laws s ts (Err f) (Ok (Some (u, q))) h e d k = cc
+seen_by laws s ts (Err f) (Err g) h e d k =
     let c : g ≡ fault_moved s.move f = cc in
-    (report_of s.there.source.setting.text (fault_moved s.move f), ap (λ g. Err (report_of s.there.source.setting.text g)) c, refusal_of s.move s.here.source.tokens s.here.source.setting.text s.there.source.setting.text f)
+    let at : FaultIn (counting s.here.source.tokens) f.kind f.offset = subst (λ f. FoundIn (counting s.here.source.tokens) (counting_behind f)) e (seen_in laws s ts h) in
+    (report_of s.there.source.setting.text (fault_moved s.move f), ap (λ g. Err (report_of s.there.source.setting.text g)) c, refusal_of s.move s.here.source s.there.source h.texts.read.0 f at)
 
-pub seen_moves : (s : Sides) (ts : List Token) → Alike s ts → SeenMoved s ts (seen_at s.here) (seen_at s.there)
-seen_moves s ts h =
+pub seen_moves : ShownLaws → (s : Sides) (ts : List Token) → Alike s ts → SeenMoved s ts (seen_at s.here) (seen_at s.there)
+seen_moves laws s ts h =
     subst (λ a. SeenMoved s ts a (seen_at s.there)) (sym (seen_is s.here))
-    (subst (λ b. SeenMoved s ts (told s.here.source.setting.text (placed s.here.source.tokens (finding s.here))) b) (sym (seen_is s.there)) (seen_by s ts (finding s.here) (finding s.there) h refl refl (found_both s ts h)))
+    (subst (λ b. SeenMoved s ts (told s.here.source.setting.text (placed s.here.source.tokens (finding s.here))) b) (sym (seen_is s.there)) (seen_by laws s ts (finding s.here) (finding s.there) h refl refl (found_both laws s ts h)))
 
 -- What is taken.
 
@@ -223,8 +242,8 @@ taken_of_seen moved read r s ts (Ok (Some (t, p))) b h =
     (taken_by_moves (moved s.move) s ts p h.0 (read s.here.source.setting.text t t.kind) _ h.3 (r s t h.2))
 taken_of_seen moved read r s ts (Err f) b h = (h.0, ap (taken read s.there.source.setting.text) h.1, h.2)
 
-pub taken_moves : {V : Type 0} (moved : (ℕ → ℕ) → V → V) (read : Reader V) → MovesReader moved read → (s : Sides) (ts : List Token) → Alike s ts → TakenMoved (moved s.move) s ts (taken_at read s.here) (taken_at read s.there)
-taken_moves moved read r s ts h = taken_of_seen moved read r s ts (seen_at s.here) (seen_at s.there) (seen_moves s ts h)
+pub taken_moves : ShownLaws → {V : Type 0} (moved : (ℕ → ℕ) → V → V) (read : Reader V) → MovesReader moved read → (s : Sides) (ts : List Token) → Alike s ts → TakenMoved (moved s.move) s ts (taken_at read s.here) (taken_at read s.there)
+taken_moves laws moved read r s ts h = taken_of_seen moved read r s ts (seen_at s.here) (seen_at s.there) (seen_moves laws s ts h)
 
 -- Readers.
 
@@ -246,28 +265,28 @@ pub moves_keyword : MovesReader (λ move v. v) as_keyword
 moves_keyword s t e = by_kind t.kind
   where
     by_kind : (k : TokenKind) → ReadMoved (λ v. v) s (as_keyword s.here.source.setting.text t k) (as_keyword s.there.source.setting.text (token_moved s.move t) k)
-    by_kind Keyword = ap (λ w. Some (Ok w)) e
+    by_kind Keyword = ap (λ w. Some (Ok w)) e.text
     by_kind k = refl
 
 pub moves_reserved : MovesReader (λ move v. v) as_reserved
 moves_reserved s t e = by_kind t.kind
   where
     by_kind : (k : TokenKind) → ReadMoved (λ v. v) s (as_reserved s.here.source.setting.text t k) (as_reserved s.there.source.setting.text (token_moved s.move t) k)
-    by_kind Reserved = ap (λ w. Some (Ok w)) e
+    by_kind Reserved = ap (λ w. Some (Ok w)) e.text
     by_kind k = refl
 
 pub moves_string : MovesReader (λ move v. v) as_string
 moves_string s t e = by_kind t.kind
   where
     by_kind : (k : TokenKind) → ReadMoved (λ v. v) s (as_string s.here.source.setting.text t k) (as_string s.there.source.setting.text (token_moved s.move t) k)
-    by_kind String = ap (λ w. Some (Ok (string_value (chars w)))) e
+    by_kind String = ap (λ w. Some (Ok (string_value (chars w)))) e.text
     by_kind k = refl
 
 pub moves_integer : MovesReader (λ move v. v) as_integer
 moves_integer s t e = by_kind t.kind
   where
     by_kind : (k : TokenKind) → ReadMoved (λ v. v) s (as_integer s.here.source.setting.text t k) (as_integer s.there.source.setting.text (token_moved s.move t) k)
-    by_kind (Integer i) = ap (λ w. Some (Ok (is_minus (sign_token i.sign), integer_value i.hex (chars w)))) e
+    by_kind (Integer i) = ap (λ w. Some (Ok (is_minus (sign_token i.sign), integer_value i.hex (chars w)))) e.text
     by_kind k = refl
 
 pub moves_float : MovesReader (λ move v. v) as_float
@@ -278,17 +297,17 @@ moves_float s t e = by_kind t.kind
     by_kind k = refl
 
 -- a name, or what is wrong with it at the token
-name_moves : (s : Sides) (t : Token) (a : Result (List ℕ) LexError) → ReadMoved (λ v. v) s (Some (name_or_report s.here.source.setting.text t a)) (Some (name_or_report s.there.source.setting.text (token_moved s.move t) a))
-name_moves s t (Ok name) = refl
-name_moves s t (Err e) = (lexical s.there.source.setting.text (record { offset = s.move t.offset; error = e }), refl, record { cause = refl; offset = inl (by_map refl); excerpt = refl })
+name_moves : (s : Sides) (t : Token) → Among (counting s.here.source.tokens) t → (a : Result (List ℕ) LexError) → ReadMoved (λ v. v) s (Some (name_or_report s.here.source.setting.text t a)) (Some (name_or_report s.there.source.setting.text (token_moved s.move t) a))
+name_moves s t among (Ok name) = refl
+name_moves s t among (Err e) = (lexical s.there.source.setting.text (record { offset = s.move t.offset; error = e }), refl, record { cause = refl; offset = at_token t among refl refl; excerpt = refl })
 
-named_moves : (empty : LexError) (s : Sides) (t : Token) → token_text s.there.source.setting.text (token_moved s.move t) ≡ token_text s.here.source.setting.text t
+named_moves : (empty : LexError) (s : Sides) (t : Token) → Met s t
     → ReadMoved (λ v. v) s (Some (name_or_report s.here.source.setting.text t (name_value empty (word_of s.here.source.setting.text t))))
     (Some (name_or_report s.there.source.setting.text (token_moved s.move t) (name_value empty (word_of s.there.source.setting.text (token_moved s.move t)))))
 named_moves empty s t e =
     let x = s.here.source.setting.text in
     let y = s.there.source.setting.text in
-    subst (λ w. ReadMoved (λ v. v) s (Some (name_or_report x t (name_value empty (word_of x t)))) (Some (name_or_report y (token_moved s.move t) (name_value empty (chars w))))) (sym e) (name_moves s t (name_value empty (word_of x t)))
+    subst (λ w. ReadMoved (λ v. v) s (Some (name_or_report x t (name_value empty (word_of x t)))) (Some (name_or_report y (token_moved s.move t) (name_value empty (chars w))))) (sym e.text) (name_moves s t e.among (name_value empty (word_of x t)))
 
 pub moves_id : MovesReader (λ move v. v) as_id
 moves_id s t e = by_kind t.kind
@@ -314,7 +333,7 @@ moves_owned_id s t e =
     let x = s.here.source.setting.text in
     let y = s.there.source.setting.text in
     let u = token_moved s.move t in
-    let same : name_takes y u ≡ name_takes x t = ap (λ w. contains quote (chars w) && contains backslash (chars w)) e in
+    let same : name_takes y u ≡ name_takes x t = ap (λ w. contains quote (chars w) && contains backslash (chars w)) e.text in
     subst (λ owned. ReadMoved (λ v. v) s (as_owned_id x t t.kind) (named_by owned (as_id y u t.kind))) (sym same) (owned_moves s (name_takes x t) (as_id x t t.kind) (as_id y u t.kind) (moves_id s t e))
 
 spelled_if : (s : Sides) (b : Bool) → ReadMoved {V = Unit {0}} (λ v. v) s (if b then Some (Ok tt) else None) (if b then Some (Ok tt) else None)
@@ -341,13 +360,13 @@ taken_or_moves s ts e f (Ok None) b r h = (f, ap (taken_or f) h, r)
 taken_or_moves s ts e f (Ok (Some (v, p))) b r h = (h.0, ap (taken_or f) h.1, h.2)
 taken_or_moves s ts e f (Err g) b r h = (h.0, ap (taken_or f) h.1, h.2)
 
-pub opened_moves : (s : Sides) (ts : List Token) → Alike s ts → PlaceMoved s ts (opened s.here.source s.here.place s.here.names) (opened s.there.source s.there.place s.there.names)
+pub opened_moves : ShownLaws → (s : Sides) (ts : List Token) → Alike s ts → PlaceMoved s ts (opened s.here.source s.here.place s.here.names) (opened s.there.source s.there.place s.there.names)
 unfolding opened
-opened_moves s ts h = taken_or_moves s ts _ _ (taken_at as_open s.here) (taken_at as_open s.there) (report_moves s ts (codes "expected `(`") h) (taken_moves (λ move v. v) as_open moves_open s ts h)
+opened_moves laws s ts h = taken_or_moves s ts _ _ (taken_at as_open s.here) (taken_at as_open s.there) (report_moves laws s ts (codes "expected `(`") h) (taken_moves laws (λ move v. v) as_open moves_open s ts h)
 
-pub closed_moves : (s : Sides) (ts : List Token) → Alike s ts → PlaceMoved s ts (closed s.here.source s.here.place s.here.names) (closed s.there.source s.there.place s.there.names)
+pub closed_moves : ShownLaws → (s : Sides) (ts : List Token) → Alike s ts → PlaceMoved s ts (closed s.here.source s.here.place s.here.names) (closed s.there.source s.there.place s.there.names)
 unfolding closed
-closed_moves s ts h = taken_or_moves s ts _ _ (taken_at as_close s.here) (taken_at as_close s.there) (report_moves s ts (codes "expected `)`") h) (taken_moves (λ move v. v) as_close moves_close s ts h)
+closed_moves laws s ts h = taken_or_moves s ts _ _ (taken_at as_close s.here) (taken_at as_close s.there) (report_moves laws s ts (codes "expected `)`") h) (taken_moves laws (λ move v. v) as_close moves_close s ts h)
 
 -- Looks.
 
@@ -362,8 +381,8 @@ sees_of_seen moved read r s ts (Ok None) b h = ap (sees read s.there.source.sett
 sees_of_seen moved read r s ts (Ok (Some (t, p))) b h = ap (sees read s.there.source.setting.text) h.1 ∙ ap Ok (some_moves (moved s.move) s (read s.here.source.setting.text t t.kind) _ (r s t h.2))
 sees_of_seen moved read r s ts (Err f) b h = (h.0, ap (sees read s.there.source.setting.text) h.1, h.2)
 
-pub moves_sight_of : {V : Type 0} (moved : (ℕ → ℕ) → V → V) (read : Reader V) → MovesReader moved read → MovesSight (sight_of read)
-moves_sight_of moved read r s ts h = sees_of_seen moved read r s ts (seen_at s.here) (seen_at s.there) (seen_moves s ts h)
+pub moves_sight_of : ShownLaws → {V : Type 0} (moved : (ℕ → ℕ) → V → V) (read : Reader V) → MovesReader moved read → MovesSight (sight_of read)
+moves_sight_of laws moved read r s ts h = sees_of_seen moved read r s ts (seen_at s.here) (seen_at s.there) (seen_moves laws s ts h)
 
 empty_by : (s : Sides) (f g : Finding) → Found s.here.source.setting.text s.there.source.setting.text s.move (counting_behind f) (counting_behind g) → empty_of (placed s.there.source.tokens g) ≡ empty_of (placed s.here.source.tokens f)
 empty_by s (Ok None) (Ok None) k = refl
@@ -377,11 +396,11 @@ empty_by s (Err f) (Ok (Some (u, q))) k = cc
 empty_by s (Err f) (Err g) k = refl
 
 -- whether the end or `)` is shown
-pub empty_moves : (s : Sides) (ts : List Token) → Alike s ts → empty_of (shown s.there.source s.there.place s.there.names) ≡ empty_of (shown s.here.source s.here.place s.here.names)
-empty_moves s ts h = ap empty_of (shown_is s.there) ∙ empty_by s (finding s.here) (finding s.there) (found_both s ts h) ∙ sym (ap empty_of (shown_is s.here))
+pub empty_moves : ShownLaws → (s : Sides) (ts : List Token) → Alike s ts → empty_of (shown s.there.source s.there.place s.there.names) ≡ empty_of (shown s.here.source s.here.place s.here.names)
+empty_moves laws s ts h = ap empty_of (shown_is s.there) ∙ empty_by s (finding s.here) (finding s.there) (found_both laws s ts h) ∙ sym (ap empty_of (shown_is s.here))
 
-pub moves_more : MovesSight more_comes
-moves_more s ts h = ap (λ empty. Ok (not empty)) (empty_moves s ts h)
+pub moves_more : ShownLaws → MovesSight more_comes
+moves_more laws s ts h = ap (λ empty. Ok (not empty)) (empty_moves laws s ts h)
 
 second_moves : (sight : Sight) → MovesSight sight → (s : Sides) (ts : List Token) (a b : Seen) → SeenMoved s ts a b → ToldMoved s (seen_behind sight s.here a).told (seen_behind sight s.there b).told
 second_moves sight m s ts (Ok None) b h = ap (λ b. (seen_behind sight s.there b).told) h
@@ -389,8 +408,8 @@ second_moves sight m s ts (Ok (Some (t, p))) b h =
     subst (λ b. ToldMoved s (sight (at_place s.here p)).told (seen_behind sight s.there b).told) (sym h.1) (m (at_places s p h.0) h.3.rest h.3.alike)
 second_moves sight m s ts (Err f) b h = (h.0, ap (λ b. (seen_behind sight s.there b).told) h.1, h.2)
 
-pub moves_second : (sight : Sight) → MovesSight sight → MovesSight (second sight)
-moves_second sight m s ts h = second_moves sight m s ts (seen_at s.here) (seen_at s.there) (seen_moves s ts h)
+pub moves_second : ShownLaws → (sight : Sight) → MovesSight sight → MovesSight (second sight)
+moves_second laws sight m s ts h = second_moves sight m s ts (seen_at s.here) (seen_at s.there) (seen_moves laws s ts h)
 
 open_moves : (sight : Sight) → MovesSight sight → (s : Sides) (ts : List Token) (a b : Result (Option (Unit {0} × ℕ)) Report) → TakenMoved (λ v. v) s ts a b → ToldMoved s (seen_behind sight s.here a).told (seen_behind sight s.there b).told
 open_moves sight m s ts (Ok None) b h = ap (λ b. (seen_behind sight s.there b).told) h
@@ -398,16 +417,16 @@ open_moves sight m s ts (Ok (Some (u, p))) b h =
     subst (λ b. ToldMoved s (sight (at_place s.here p)).told (seen_behind sight s.there b).told) (sym h.1) (m (at_places s p h.0) h.2.rest h.2.alike)
 open_moves sight m s ts (Err f) b h = (h.0, ap (λ b. (seen_behind sight s.there b).told) h.1, h.2)
 
-pub moves_behind_open : (sight : Sight) → MovesSight sight → MovesSight (behind_open sight)
-moves_behind_open sight m s ts h = open_moves sight m s ts (taken_at as_open s.here) (taken_at as_open s.there) (taken_moves (λ move v. v) as_open moves_open s ts h)
+pub moves_behind_open : ShownLaws → (sight : Sight) → MovesSight sight → MovesSight (behind_open sight)
+moves_behind_open laws sight m s ts h = open_moves sight m s ts (taken_at as_open s.here) (taken_at as_open s.there) (taken_moves laws (λ move v. v) as_open moves_open s ts h)
 
 word_moves : (s : Sides) (ts : List Token) (a b : Result (Option (Unit {0} × ℕ)) Report) → TakenMoved (λ v. v) s ts a b → ToldMoved s (is_taken a) (is_taken b)
 word_moves s ts (Ok None) b h = ap is_taken h
 word_moves s ts (Ok (Some (u, p))) b h = ap is_taken h.1
 word_moves s ts (Err f) b h = (h.0, ap is_taken h.1, h.2)
 
-pub moves_word : (read : Reader (List ℕ)) (w : List ℕ) → MovesReader (λ move v. v) read → MovesSight (sees_word read w)
-moves_word read w r s ts h = word_moves s ts (taken_at (spelling read w) s.here) (taken_at (spelling read w) s.there) (taken_moves (λ move v. v) (spelling read w) (moves_spelling read w r) s ts h)
+pub moves_word : ShownLaws → (read : Reader (List ℕ)) (w : List ℕ) → MovesReader (λ move v. v) read → MovesSight (sees_word read w)
+moves_word laws read w r s ts h = word_moves s ts (taken_at (spelling read w) s.here) (taken_at (spelling read w) s.there) (taken_moves laws (λ move v. v) (spelling read w) (moves_spelling read w r) s ts h)
 
-pub moves_named : (w : List ℕ) → MovesSight (sees_annotation w)
-moves_named w s ts h = moves_word as_annotation w moves_annotation s ts h
+pub moves_named : ShownLaws → (w : List ℕ) → MovesSight (sees_annotation w)
+moves_named laws w s ts h = moves_word laws as_annotation w moves_annotation s ts h

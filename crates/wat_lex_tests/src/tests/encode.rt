@@ -136,7 +136,7 @@ fn out_of_memory_leaves_the_buffer(rt: HostRuntime) -> Result<(), Fail> {
     match encode_slice(&numbers, &mut e) {
         Ok(()) => assert_eq!(rt; e.len(), 122),
         Err(error) => {
-            assert!(rt; matches!(error, EncodeError::Memory(_)));
+            assert_eq!(rt; error, EncodeError::Memory);
             assert_eq!(rt; e.as_slice(), [0xff].as_slice());
         }
     }

@@ -1,5 +1,5 @@
 //! The table of a buffer: the raw tokens of its text, and what a look has to know of annotations.
-ghost use Rattle.std.specs.Prelude.{◌≡◌, ◌<◌, ◌≤◌, ◌+◌, ◌-◌, ◌^◌, ◌++◌, ◌∷◌, [], length, map};
+ghost use Rattle.std.specs.Prelude.{◌≡◌, ◌<◌, ◌≤◌, ◌+◌, ◌-◌, ◌*◌, ◌^◌, ◌++◌, ◌∷◌, [], length, map};
 ghost use Rattle.std.specs.Prelude.{IfOk, IfSome, OnOk, None, false, slice_get, get_or};
 ghost use Rattle.wat_lex.specs.tokens.ReadableTokens.{IsTokenOf, word_of};
 ghost use Rattle.wat_lex.specs.tokens.Tiling.{MaximalTiling};
@@ -95,16 +95,24 @@ fn noted_name(
     Ok(Some(Box::new(alloc, name)?))
 }
 
+/// For how many tokens of a text room is asked at first.
+fn first_room(text: &str) -> usize
+    ensures likely { 2 * result ≤ length text.now }
+    ensures most { result ≤ 65472 }
+{
+    FIRST_ROOM.min(text.len() / LIKELY)
+}
+
 impl Table {
-    /// The table of no tokens, with room for so many.
-    fn new(alloc: Global, room: usize) -> Result<Table, AllocError>
+    /// The table of no tokens, with room for those of a text that are asked for at first.
+    fn new(alloc: Global, text: &str) -> Result<Table, AllocError>
         ensures tokens { IfOk result (λ t. t.tokens.items ≡ []) }
         ensures fault { IfOk result (λ t. t.fault ≡ None) }
         ensures opens { IfOk result (λ t. t.opens.items ≡ []) }
         ensures names { IfOk result (λ t. map name_view t.names.items ≡ []) }
     {
         Ok(Table {
-            tokens: Vec::with_capacity(alloc, room)?,
+            tokens: Vec::with_capacity(alloc, first_room(text))?,
             fault: None,
             opens: Vec::new(alloc),
             names: Vec::new(alloc),
@@ -350,7 +358,7 @@ fn fill(alloc: Global, lexer: &Lexer<'_>) -> Result<Table, AllocError>
         (map name_view t.names.items)) }
 {
     let text = lexer.input();
-    let mut table = Table::new(alloc, FIRST_ROOM.min(text.len() / LIKELY))?;
+    let mut table = Table::new(alloc, text)?;
     let mut pos = 0;
     'tokens: loop {
         match lexer.scan(pos) {

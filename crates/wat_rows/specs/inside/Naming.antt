@@ -12,8 +12,8 @@ use Rattle.wat_lexer_parser.specs.shown.Shown.{HasName, IsMisnamed}
 use Rattle.wat_rows.specs.declared.counting.Row.{Row}
 use Rattle.wat_rows.specs.declared.looks.Named.{Named}
 use Rattle.wat_rows.specs.declared.looks.Named.TheVariants as named
-use Rattle.wat_rows.specs.declared.looks.NotShown.{NotShown}
-use Rattle.wat_rows.specs.declared.looks.NotShown.TheVariants as unseen
+use Rattle.wat_rows.specs.declared.answers.NotShown.{NotShown}
+use Rattle.wat_rows.specs.declared.answers.NotShown.TheVariants as unseen
 
 -- what the name of this annotation means
 pub data NameMeans (text : List ℕ) (t : Token) (names : Names) : Named → Type 0 where

@@ -1,5 +1,7 @@
-use Rattle.std.proofs.Common.{◌≡◌, ◌+◌, ◌++◌, [], length, arith, length-append, refl}
+use Rattle.std.proofs.Common.{◌≡◌, ◌+◌, ◌++◌, [], drop, length, arith, length-append, refl, subst, sym}
 use Rattle.wat_lex.specs.errors.Rendering.{excerpt, shown_place}
+use Rattle.wat_parser_c.specs.Answers.{Answers}
+use Rattle.wat_parser_c.specs.Printing.{Prints}
 use Rattle.wat_parser_c.proofs.Lengths.{length_excerpt}
 use Rattle.wat_parser_c.proofs.PrintedErrors.{fits_put, short_put}
 use Rattle.wat_parser_c.proofs.printing.give_long.Goals as goal
@@ -12,11 +14,13 @@ returns-then-needed-out c =
     let m = c.args.message.now in
     let place = shown_place (excerpt c.args.text.now c.args.offset) in
     let n : length m + c.place_length.result ≡ length (m ++ place) = omega (arith, c.place_length.ensures, length-append m place) in
-    fits_put c.args.text.now c.args.offset m [] c.args.out.now c.write_long.new.out (length m + c.place_length.result) refl n c.write_long.ensures c.if-needed-out.true
+    subst (Answers (Prints c.args.text.now c.args.offset m []) c.args.out.now (c.write_long.new.out ++ drop (length m + c.place_length.result) c.args.out.now)) (sym c.given-answer.ensures)
+    (fits_put c.args.text.now c.args.offset m [] c.args.out.now c.write_long.new.out (length m + c.place_length.result) refl n c.write_long.ensures c.if-needed-out.true)
 
 pub returns-else-needed-out : goal.returns-else-needed-out
 returns-else-needed-out c =
     let m = c.args.message.now in
     let place = shown_place (excerpt c.args.text.now c.args.offset) in
     let n : length m + c.place_length.result ≡ length (m ++ place) = omega (arith, c.place_length.ensures, length-append m place) in
-    short_put c.args.text.now c.args.offset m [] c.args.out.now (length m + c.place_length.result) n c.if-needed-out.false
+    subst (Answers (Prints c.args.text.now c.args.offset m []) c.args.out.now c.args.out.now) (sym c.given-answer.ensures)
+    (short_put c.args.text.now c.args.offset m [] c.args.out.now (length m + c.place_length.result) n c.if-needed-out.false)

@@ -9,12 +9,12 @@ use Rattle.wat_rows.proofs.Told.{tells}
 use Rattle.wat_rows.proofs.behind.offset_behind.Goals as goal
 
 pub returns-then-count-eq0 : goal.returns-then-count-eq0
-returns-then-count-eq0 c = λ s why h.
+returns-then-count-eq0 c = λ s h.
     let z : c.args.count ≡ 0 = omega arith in
     sym (ap (λ n. offset_at s.tokens (raw_place s.tokens n)) z ∙ offset_of_none s.tokens)
 
 pub returns : goal.returns
-returns c = λ s why h.
+returns c = λ s h.
     let inside : c.args.count - 1 < length c.args.rows.now = omega arith in
     let n : suc (c.args.count - 1) ≡ c.args.count = omega arith in
     let there = slice_get-get_or c.args.rows.now (c.args.count - 1) _ inside in

@@ -6,7 +6,7 @@ use Rattle.wat_lex.specs.tokens.ReadableTokens.{IsTokenOf}
 use Rattle.wat_lexer_parser.specs.laws.Counting.{counting}
 use Rattle.wat_rows.specs.Looks.{Looks, names_of}
 use Rattle.wat_rows.specs.inside.Naming.{NameMeans, annotation_of, not_closed, not_shown}
-use Rattle.wat_rows.specs.declared.looks.NotShown.{NotShown}
+use Rattle.wat_rows.specs.declared.answers.NotShown.{NotShown}
 use Rattle.wat_rows.proofs.Looking.{answer_past, answer_plain, answer_last, answer_other, answer_taken, answer_refused, answer_memory}
 use Rattle.wat_rows.proofs.Looking.{answer_unclosed, look_behind, link_forward}
 use Rattle.wat_rows.proofs.RawPlaces.{readable}
