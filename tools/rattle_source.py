@@ -126,6 +126,7 @@ class Item:
     body: list = dataclasses.field(default_factory=list)
     # of an `impl`: the trait, none where it has none
     trait: list = dataclasses.field(default_factory=list)
+    attributes: list = dataclasses.field(default_factory=list)
     is_test: bool = False
 
 
@@ -238,7 +239,9 @@ def read_item(tokens, at, item):
         return end + 1
     if item.kind == "macro_rules":
         item.name = tokens[at + 1].text
-        return past_group(tokens, at + 2)
+        end = past_group(tokens, at + 2)
+        item.body = tokens[at + 2 : end]
+        return end
     item.name = tokens[at].text
     if tokens[at + 1].text == "{":
         end = past_group(tokens, at + 1)
@@ -271,13 +274,16 @@ def items_of(tokens):
         elif text in ITEMS:
             item = Item(text, "", public, tokens[at].line)
             item.derives = set().union(*map(derives_of, attributes))
+            item.attributes = [token for it in attributes for token in it]
             item.is_test = any([it.text for it in a][1:] == ["[", "cfg", "(", "test", ")", "]"] for a in attributes)
             at = read_item(tokens, at + 1, item)
             items.append(item)
             attributes, public = [], False
         else:
-            # a macro's call, or a block of foreign items
-            at = past_group(tokens, at) if text in OPEN else at + 1
+            # a part of a macro's call, or a block of foreign items
+            end = past_group(tokens, at) if text in OPEN else at + 1
+            items.append(Item("other", "", public, tokens[at].line, body=tokens[at:end]))
+            at = end
             attributes, public = [], False
     return items
 
