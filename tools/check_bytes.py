@@ -20,6 +20,8 @@ TOOLS = pathlib.Path(__file__).resolve().parent
 SECONDS = 20
 # What a run asks for beside what goes by the text: the words, a report, one block of output.
 BESIDE = 200_000
+# How much of standard input is read at once.
+PIECE = 65_536
 WHITE = ("Whitespace", "LineComment", "BlockComment")
 
 
@@ -75,6 +77,8 @@ class Room:
             say(f"asked for {counted.get('asked')} bytes, {counted.get('asked', 0) / max(size, 1):.2f} for each of the text, where {times} is the bound")
         if counted.get("held"):
             say(f"still holds {counted['held']} bytes at its end")
+        if text and counted.get("reads", 0) > -(-len(text) // PIECE) + 1:
+            say(f"{counted['reads']} reads of {len(text)} bytes, by pieces of {PIECE}")
         if counted.get("writes", 0) > writes:
             say(f"{counted['writes']} writes, where {writes} is the bound")
         share = counted.get("asked", 0) / max(size, 1)
@@ -167,11 +171,13 @@ def layouts(room):
 
 def files(room):
     """Five files, each other than the next, of which two are laid out."""
-    texts = {f"{i}.wat": "".join(lines(3_900 + i)).encode() for i in range(5)}
+    texts = {f"{i}.wat": "".join(lines(3_900 + i)).encode().replace(b" (param", b"\n\n   (param") for i in range(5)}
     for i in (1, 3):
         texts[f"{i}.wat"] = room.run(["fmt"], texts[f"{i}.wat"])[1]
     laid = {name: room.run(["fmt"], text)[1] for name, text in texts.items()}
     rest = [name for name in texts if texts[name] != laid[name]]
+    if len(rest) != 3:
+        room.faults.append("fmt, five files: not three of them are to be laid out")
     size = sum(map(len, texts.values()))
 
     def stay(what, wanted):
@@ -185,10 +191,10 @@ def files(room):
     stay("fmt, five files", texts)
     room.check("fmt, other order", ["fmt", *reversed(texts)], size=size, times=2.4, writes=30, wanted=b"".join(reversed(laid.values())))
     told = b"".join(name.encode() + b"\n" for name in rest)
-    room.check("fmt --check, five files", ["fmt", "--check", *texts], size=size, times=3.1, writes=5, wanted=told, status=1 if rest else 0)
+    room.check("fmt --check, five files", ["fmt", "--check", *texts], size=size, times=3.1, writes=5, wanted=told, status=1)
     stay("fmt --check, five files", texts)
     room.check("list, five files", ["list", *texts], size=size, times=1.6, writes=210, wanted=b"".join(room.run([], it)[1] for it in texts.values()))
-    room.check("fmt --write, five files", ["fmt", "--write", *texts], size=size, times=3.1, writes=0, wanted=b"", status=1 if rest else 0)
+    room.check("fmt --write, five files", ["fmt", "--write", *texts], size=size, times=3.1, writes=0, wanted=b"")
     stay("fmt --write, five files", laid)
 
 

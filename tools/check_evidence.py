@@ -26,16 +26,21 @@ HARNESS = set(
 # The places that may make a refusal.
 REFUSALS = [
     ("wat_lex/src/error.rt", "Error::out_of_memory", "Error::from(AllocError)", "the public constructor, for callers who have no refusal in hand"),
+    ("wat_lex/src/encode.rt", "From<AllocError> for EncodeError::from", "EncodeError::Memory", "made of a refusal"),
+    ("wat_lex/src/gensym.rt", "From<AllocError> for FillError::from", "FillError::Memory", "made of a refusal"),
+    ("wat_lists/src/input.rt", "From<RunFailure> for RunError::from", "RunFailure::Memory(_) => RunError::Memory", "made of one that holds a refusal"),
+    (
+        "wat_types/src/lib.rt",
+        "compile_types",
+        "Err(EncodeError::Memory) => Err(Error::out_of_memory())",
+        "of a variant that holds nothing, and is made of a refusal",
+    ),
     (
         "wat_tokens/src/main.rt",
         "not_read",
-        "io::ErrorKind::OutOfMemory => Outcome::Refused(RunError::from(AllocError))",
+        "io::ErrorKind::OutOfMemory => Outcome::Refused(RunFailure::from(AllocError))",
         "the standard library keeps only the kind of an `io::Error`, and this kind is that of a refused request",
     ),
-    ("wat_lex/src/encode.rt", "From<AllocError> for EncodeError::from", "EncodeError::Memory", "made of a refusal"),
-    ("wat_lex/src/encode.rt", "From<AllocFailed<T>> for EncodeError::from", "EncodeError::Memory", "made of a refusal"),
-    ("wat_lex/src/gensym.rt", "From<AllocError> for FillError::from", "FillError::Memory", "made of a refusal"),
-    ("wat_lists/src/input.rt", "From<AllocError> for RunError::from", "RunError::Memory", "made of a refusal"),
 ]
 # Requests whose size is no single item and no given text: the request, all that stands in the function's body before it, which says what its size
 # is, and why that is no more than what is at hand.
@@ -43,16 +48,9 @@ REQUESTS = [
     (
         "wat_lexer_parser/src/parser/table.rt",
         "Table::new",
-        "Vec::with_capacity(alloc, room)",
+        "Vec::with_capacity(alloc, first_room(text))",
         "Ok(Table { tokens:",
-        "the room that `fill` gives it",
-    ),
-    (
-        "wat_lexer_parser/src/parser/table.rt",
-        "fill",
-        "Table::new(alloc, FIRST_ROOM.min(text.len() / LIKELY))",
-        "let text = lexer.input(); let mut table =",
-        "a token for each two bytes of the text, and at most 65,472 tokens",
+        "by the clause of `first_room` a token for each two bytes of the text, and at most 65,472 tokens",
     ),
     (
         "wat_lexer_parser/src/parser/table.rt",
@@ -97,45 +95,25 @@ REQUESTS = [
         "the fault's line, which is a part of the text, with its marker",
     ),
 ]
-# What these requests are made of.
-CONSTANTS = [
-    ("wat_lexer_parser/src/parser/table.rt", "const FIRST_ROOM: usize = 65_472;"),
-    ("wat_lexer_parser/src/parser/table.rt", "const LIKELY: usize = 2;"),
-]
-# Functions of our own that are handed the size of a request: calls of them are requests.
-ASKS = {"Table::new"}
-# The places that may make a value that stands for a failed call, or a number that stands for a refusal.
+# The places that may make a value that stands for a failed call, or a number that stands for a refusal. What holds such a value is made of one.
 FAILURES = [
-    ("wat_lines/src/ends.rt", "Failed::of", "Failed { code: error.raw_os_error().map(|code| code.unsigned_abs()) }", "of an error of std's"),
-    ("wat_lines/src/ends.rt", "write_through", "Ok(0) => return Err(Failed { code: None })", "a write that takes nothing"),
-    ("wat_format/src/sink.rt", "write_through", "Ok(0) => return Err(Stopped { code: None })", "a write that takes nothing"),
-    (
-        "wat_format/src/sink.rt",
-        "write_through",
-        "Err(error) => { return Err(Stopped { code: error.raw_os_error() }); }",
-        "a write that failed",
-    ),
-    ("wat_format/src/sink.rt", "write_through", "Err(error) => Err(Stopped { code: error.raw_os_error() })", "a flush that failed"),
-    ("wat_tokens/src/main.rt", "not_read", "_ => Outcome::Unread", "the words could not be read"),
-    ("wat_commands/src/respond.rt", "run_file", "Err(failed) => Outcome::Unopened(failed)", "handed on"),
-    ("wat_tokens/src/layout.rt", "lay_out", "Err(failed) => return told(rt, file, &Outcome::Unopened(failed))", "handed on"),
-    ("wat_commands/src/respond.rt", "say", "Err(failed) => Outcome::Refused(RunError::Write(failed))", "handed on"),
-    ("wat_commands/src/print.rt", "answer", "Err(failed) => Err(RunError::Write(failed))", "handed on"),
-    ("wat_lists/src/fmt.rt", "write_text", "Err(WriteError::Failed(failed)) => Err(RunError::Write(failed))", "handed on"),
-    ("wat_format/src/stream.rt", "write_bytes", "Err(failure) => Err(WriteError::Failed(failure))", "handed on"),
-    ("wat_lists/src/input.rt", "read_whole", "Err(failed) => return Err(RunError::Read(failed))", "handed on"),
-    ("wat_tokens/src/layout.rt", "not_written", "Outcome::Refused(RunError::Write(Failed::of(error)))", "of an error of std's"),
+    ("wat_lines/src/failed.rt", "Failed::of", "Failed { code: error.raw_os_error().map(|code| code.unsigned_abs()) }", "of an error of std's"),
+    ("wat_lines/src/failed.rt", "taken", "Ok(0) => Err(Failed { code: None })", "of a write that takes nothing"),
+    ("wat_lists/src/input.rt", "From<RunFailure> for RunError::from", "RunFailure::Read(_) => RunError::Read", "of one that holds a failure"),
+    ("wat_lists/src/input.rt", "From<RunFailure> for RunError::from", "RunFailure::Write(_) => RunError::Write", "of one that holds a failure"),
     ("wat_parser_c/src/answers.rt", "Refusal::answer", "Answer { needed: 0, status: self.status() }", "of the refusal"),
     ("wat_parser_c/src/answers.rt", "Refusal::status", "Refusal::Memory(_) => 2", "of the refusal"),
-    ("wat_rows/src/looks.rt", "look_in_numbers", "Err(NotShown::Memory(_)) => (rows.len(), 2)", "of the refusal"),
-    ("wat_rows/src/looks.rt", "look_in_numbers", "Look { row: row as u32, status }", "of what the look answers"),
+    ("wat_rows/src/answers.rt", "Look::of", "Err(NotShown::Memory(_)) => (rows, 2)", "of the refusal"),
+    ("wat_rows/src/answers.rt", "Look::of", "Look { row: row as u32, status }", "of what the look found"),
     (
         "wat_commands/src/outcome.rt",
-        "Outcome<'a>::status",
-        "Outcome::Refused(_) | Outcome::Unopened(_) | Outcome::Wrong(_) | Outcome::Unread => 2",
+        "Outcome<'a>::exit",
+        "Outcome::Refused(_) | Outcome::Unopened(_) | Outcome::Wrong(_) | Outcome::Kept(_) => 2",
         "of what the run ended in",
     ),
-    ("wat_tokens/src/layout.rt", "complain", "2", "of a file that could not be compared or replaced"),
+    ("wat_commands/src/outcome.rt", "Outcome<'a>::exit", "Exit { code }", "of what the run ended in"),
+    ("wat_commands/src/outcome.rt", "Exit::or", "Exit { code: self.code.max(other.code) }", "of two statuses"),
+    ("wat_commands/src/outcome.rt", "Exit::idle", "Exit { code: 0 }", "of nothing that was done"),
 ]
 # Files in which a status is a plain number.
 STATUSES = {
@@ -144,12 +122,14 @@ STATUSES = {
     "wat_parser_c/src/comments.rt",
     "wat_parser_c/src/messages.rt",
     "wat_parser_c/src/printing.rt",
+    "wat_rows/src/answers.rt",
     "wat_rows/src/looks.rt",
     "wat_commands/src/respond.rt",
     "wat_commands/src/outcome.rt",
     "wat_tokens/src/layout.rt",
     "wat_tokens/src/main.rt",
 }
+
 # Values that stand for a refusal.
 REFUSAL = {"AllocError", "AllocFailed", "TryReserveError", "SpawnError", "LayoutError", "out_of_memory"}
 # Errors of which the variant for a refusal holds nothing.
@@ -185,9 +165,9 @@ FAILED = [
     (re.compile(r"^io::Error::(from|new|other|from_raw_os_error|last_os_error)\b"), "an error of std's"),
     (re.compile(r"^(io::)?ErrorKind::"), "an error of std's"),
     (re.compile(r"^fmt::Error\b(?!::)"), "an error of printing"),
-    (re.compile(r"^(RunError|Outcome|WriteError)::(Read|Write|Unread|Unopened|Failed)\b"), "a failure"),
+    (re.compile(r"^RunError::(Read|Write)\b(?!\()"), "a failure"),
 ]
-STATUS = [(re.compile(r"^(Answer|Look)\{(?!needed(:[^{}]*)?,status:0,?\})"), "a status"), (re.compile(r"^2$"), "a status of 2")]
+STATUS = [(re.compile(r"^(Answer|Look|Exit)\{(?!needed(:[^{}]*)?,status:0,?\})"), "a status"), (re.compile(r"^2$"), "a status of 2")]
 # The longest array, and the widest hole of what is printed, that need not be listed.
 LONGEST_ARRAY = 65_536
 WIDEST = 64
@@ -369,8 +349,6 @@ class Search:
                 continue
             if word in SIZED and before[-1:] != ["fn"]:
                 self.say(code, at, f"a request that is not listed: {self.call(code, at)}")
-            elif any(words[at : at + 3] == spread(it) for it in ASKS):
-                self.say(code, at, f"a request that is not listed: {self.call(code, at + 2)}")
             elif word in PRINTS and after == ["!"]:
                 self.widths(code, at, allowed)
             elif word in KEEPS:
@@ -440,7 +418,8 @@ class Search:
         inside = patterns(code.tokens)
         forms = FAILED + (STATUS if code.file in STATUSES else [])
         for at, token in enumerate(code.tokens):
-            if at in allowed or at in inside or token.kind not in ("name", "number") or code.words[at - 1 : at] in (["::"], ["."]):
+            before = code.words[at - 1 : at]
+            if at in allowed or at in inside or token.kind not in ("name", "number") or before in (["::"], ["."], ["=="], ["!="]):
                 continue
             end = at + 1
             while code.words[end : end + 1] == ["::"]:
@@ -473,9 +452,6 @@ class Search:
             count = self.met[id(entry)]
             if entry[0] in files and count != 1:
                 self.found.append((entry[0], 0, f"listed once, and there {count} times: {entry[1]}: {entry[2]}"))
-        for file, constant in CONSTANTS:
-            if file in files and constant not in files[file]:
-                self.found.append((file, 0, f"not there: {constant}"))
 
 
 def searched(files):
@@ -592,7 +568,6 @@ Err(io::ErrorKind::Other.into())
 return Err(fmt::Error);
 return Err(RunError::Write);
 let failed = RunError::Read;
-Outcome::Unread
 unsafe { list.set_len(10) }
 """.strip("\n").split("\n")
 # Items that do so.
@@ -633,19 +608,22 @@ HANDED_ON = [
     "// AllocError\nconst TEXT: &str = \"AllocError\";",
     "ghost use Rattle.std.specs.Prelude.{AllocError};",
     "fn f() { match reader.read(buffer) { Err(Failed { code }) => code, Ok(count) => count } }",
+    "fn f() { if error.kind() == io::ErrorKind::NotFound { return Ok(()); } }",
 ]
 # What a change of a listed place has to be found by: a file, what stands there, and what is put there.
 CHANGED = [
-    ("wat_lexer_parser/src/parser/table.rt", "Ok(Table {", "let room = usize::MAX;\n        Ok(Table {"),
-    ("wat_lexer_parser/src/parser/table.rt", "FIRST_ROOM.min(text.len() / LIKELY)", "text.len().saturating_mul(16)"),
-    ("wat_lexer_parser/src/parser/table.rt", "Table::new(alloc, FIRST_ROOM.min(text.len() / LIKELY))", "Table::new(alloc, usize::MAX / 64)"),
-    ("wat_lexer_parser/src/parser/table.rt", "const FIRST_ROOM: usize = 65_472;", "const FIRST_ROOM: usize = 65_472_000;"),
+    ("wat_lexer_parser/src/parser/table.rt", "Ok(Table {", "let text = other_text();\n        Ok(Table {"),
+    ("wat_lexer_parser/src/parser/table.rt", "with_capacity(alloc, first_room(text))", "with_capacity(alloc, usize::MAX / 64)"),
+    ("wat_lexer_parser/src/parser/table.rt", "with_capacity(alloc, first_room(text))", "with_capacity(alloc, 16 * first_room(text))"),
     ("wat_lexer_parser/src/parser/table.rt", "vec![in alloc; None; opens.len()]", "vec![in alloc; None; 8 * opens.len()]"),
     ("wat_lexer_parser/src/parser/table.rt", "vec![in alloc; None; opens.len()]?", "vec![in alloc; None; opens.len()]?;\n    let more = vec![in alloc; None; opens.len()]?"),
     ("wat_parser_c/src/printing.rt", "let rendered = rendered_at(text, offset);", "let rendered = rendered_at(all, offset);"),
     ("wat_lex/src/error.rt", "Error::from(AllocError)", "Error::from({ AllocError })"),
     ("wat_lex/src/encode.rt", "if !length_fits(length) {", "if length > 99 {\n        return Err(EncodeError::Memory);\n    }\n    if !length_fits(length) {"),
-    ("wat_lines/src/ends.rt", "self.ended = false;", "self.ended = false;\n        return Err(Failed { code: None });"),
+    ("wat_lines/src/failed.rt", "Ok(count) => Ok(count),", "Ok(count) if count > 9 => Err(Failed { code: None }),\n        Ok(count) => Ok(count),"),
+    ("wat_lists/src/input.rt", "RunFailure::TooLong => RunError::TooLong", "RunFailure::TooLong => RunError::Read"),
+    ("wat_commands/src/outcome.rt", "Outcome::Listed => 0,", "Outcome::Listed => 2,"),
+    ("wat_rows/src/answers.rt", "Ok(number) => (number, 0),", "Ok(number) if number > 999 => (number, 2),\n            Ok(number) => (number, 0),"),
 ]
 
 
