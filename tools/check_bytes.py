@@ -1,5 +1,5 @@
 #!/usr/bin/env python3
-"""Runs the program over long texts, and counts the bytes that it asks for, those that it still holds at its end, and its writes.
+"""Runs the program over long texts, and counts the bytes that it asks for, those that it still holds at its end, its writes and the files it opens.
 
 usage: tools/check_bytes.py PROGRAM
 
@@ -46,7 +46,7 @@ class Room:
         (self.folder / name).write_bytes(text)
 
     def run(self, words, text=b""):
-        """Runs the words on the text, which is a file, so that each read gives as much: status, what was written, what was reported, and what was counted in a run."""
+        """Status, what was written, reported and counted in a run on the text, which stands in a file, so that each read gives as much."""
         counts, given = self.folder / "counts", self.folder / "given"
         given.write_bytes(text)
         with open(counts, "wb") as told, open(given, "rb") as source:
@@ -61,8 +61,8 @@ class Room:
         numbers = {it: int(number) for it, number in re.findall(r"(\w+)=(\d+)", counts.read_text())}
         return done.returncode, done.stdout, done.stderr, numbers
 
-    def check(self, name, words, text=b"", *, size=None, times, writes, wanted=None, status=0):
-        """A run whose bytes and writes stay within bounds, and which answers what is wanted; answers what it wrote."""
+    def check(self, name, words, text=b"", *, size=None, times, writes, opens=0, wanted=None, status=0):
+        """A run whose bytes, writes and opened files stay within bounds, and which answers what is wanted; answers what it wrote."""
         got, written, reported, counted = self.run(words, text)
         size = len(text) if size is None else size
         say = lambda what: self.faults.append(f"{name}: {what}")
@@ -74,11 +74,13 @@ class Room:
         if wanted is not None and written != wanted:
             say(f"wrote {len(written)} bytes in place of {len(wanted)}, or others")
         if counted.get("asked", 0) > times * size + BESIDE or not counted.get("requests"):
-            say(f"asked for {counted.get('asked')} bytes, {counted.get('asked', 0) / max(size, 1):.2f} for each of the text, where {times} is the bound")
+            say(f"asked for {counted.get('asked')} bytes of memory for {size} of text, where {times} for each is the bound")
         if counted.get("held"):
             say(f"still holds {counted['held']} bytes at its end")
         if text and counted.get("reads", 0) > -(-len(text) // PIECE) + 1:
             say(f"{counted['reads']} reads of {len(text)} bytes, by pieces of {PIECE}")
+        if counted.get("opens", 0) > opens:
+            say(f"{counted['opens']} files opened, where {opens} is the bound")
         if counted.get("writes", 0) > writes:
             say(f"{counted['writes']} writes, where {writes} is the bound")
         share = counted.get("asked", 0) / max(size, 1)
@@ -187,14 +189,14 @@ def files(room):
 
     for name, text in texts.items():
         room.file(name, text)
-    room.check("fmt, five files", ["fmt", *texts], size=size, times=2.4, writes=30, wanted=b"".join(laid.values()))
+    room.check("fmt, five files", ["fmt", *texts], size=size, times=2.4, writes=30, opens=5, wanted=b"".join(laid.values()))
     stay("fmt, five files", texts)
-    room.check("fmt, other order", ["fmt", *reversed(texts)], size=size, times=2.4, writes=30, wanted=b"".join(reversed(laid.values())))
+    room.check("fmt, other order", ["fmt", *reversed(texts)], size=size, times=2.4, writes=30, opens=5, wanted=b"".join(reversed(laid.values())))
     told = b"".join(name.encode() + b"\n" for name in rest)
-    room.check("fmt --check, five files", ["fmt", "--check", *texts], size=size, times=3.1, writes=5, wanted=told, status=1)
+    room.check("fmt --check, five files", ["fmt", "--check", *texts], size=size, times=3.1, writes=5, opens=5, wanted=told, status=1)
     stay("fmt --check, five files", texts)
-    room.check("list, five files", ["list", *texts], size=size, times=1.6, writes=210, wanted=b"".join(room.run([], it)[1] for it in texts.values()))
-    room.check("fmt --write, five files", ["fmt", "--write", *texts], size=size, times=3.1, writes=0, wanted=b"")
+    room.check("list, five files", ["list", *texts], size=size, times=1.6, writes=210, opens=5, wanted=b"".join(room.run([], it)[1] for it in texts.values()))
+    room.check("fmt --write, five files", ["fmt", "--write", *texts], size=size, times=3.1, writes=0, opens=8, wanted=b"")
     stay("fmt --write, five files", laid)
 
 

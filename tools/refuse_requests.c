@@ -2,7 +2,7 @@
  * where REFUSE_FROM is; a request to make a block no larger is neither counted nor refused, so the sizes of the blocks are kept. Of the reads of
  * standard input the Nth where FAIL_READ is N, and of the writes on standard output the Nth where FAIL_WRITE is; where MOST is N, each moves N
  * bytes at most. The others go to the C library. Where TELL is the number of an open file, it is told there at the end how many of each there
- * were; how many bytes were asked for, where a block that grows asks for what it grows by; how many were held at most; and how many are still
+ * were, and how many files were opened; how many bytes were asked for, where a block that grows asks for what it grows by; how many were held at most; and how many are still
  * held. It includes no header, so that a compiler alone builds it. */
 
 typedef unsigned long size;
@@ -12,6 +12,7 @@ extern void *__libc_calloc(size count, size bytes);
 extern void *__libc_realloc(void *block, size bytes);
 extern void __libc_free(void *block);
 extern void *__libc_memalign(size alignment, size bytes);
+extern int __open(const char *name, int flags, int mode);
 extern long __read(int file, void *bytes, size count);
 extern long __write(int file, const void *bytes, size count);
 extern int *__errno_location(void);
@@ -19,7 +20,7 @@ extern char *getenv(const char *name);
 extern long atol(const char *text);
 extern int dprintf(int file, const char *format, ...);
 
-static long requests, reads, writes;
+static long requests, opens, reads, writes;
 static size asked, held, most;
 
 static long number(const char *name)
@@ -140,6 +141,12 @@ static long fail(void)
     return -1;
 }
 
+int open(const char *name, int flags, int mode)
+{
+    opens += 1;
+    return __open(name, flags, mode);
+}
+
 long read(int file, void *bytes, size count)
 {
     if (file != 0) {
@@ -161,6 +168,7 @@ long write(int file, const void *bytes, size count)
 __attribute__((destructor)) static void tell(void)
 {
     if (number("TELL")) {
-        dprintf(number("TELL"), "requests=%ld reads=%ld writes=%ld asked=%lu most=%lu held=%lu\n", requests, reads, writes, asked, most, held);
+        dprintf(number("TELL"), "requests=%ld opens=%ld reads=%ld writes=%ld asked=%lu most=%lu held=%lu\n", requests, opens, reads, writes, asked,
+            most, held);
     }
 }
