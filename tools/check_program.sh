@@ -49,14 +49,22 @@ fault() {
     fault_in "$1" '<anon>' "${@:2}"
 }
 
-# json_fault OFFSET COLUMN MESSAGE: the report of a fault in a text's first line as JSON; the message as it stands in the string
+# json_fault OFFSET MESSAGE LINE COLUMN: the line of a fault as JSON; the message as it stands in the string
 json_fault() {
-    printf '{"offset":%s,"line":1,"column":%s,"message":"%s"}\\n' "$@"
+    printf '{"offset":%s,"fault":"%s","line":%s,"column":%s}\\n' "$@"
 }
 
-# json_fault_in FILE OFFSET COLUMN MESSAGE
+# json_fault_in FILE OFFSET MESSAGE LINE COLUMN
 json_fault_in() {
-    printf '{"file":"%s","offset":%s,"line":1,"column":%s,"message":"%s"}\\n' "$@"
+    printf '{"file":"%s",' "$1"
+    json_fault "${@:2}" | cut -c2-
+}
+
+# expect_json_fault NAME LINES FAULT REPORT COMMAND..: a list as JSON that ends with a fault: its line follows the tokens, and it is reported too
+expect_json_fault() {
+    local name=$1 lines=$2 fault=$3 report=$4
+    shift 4
+    expect "$name" 1 "$lines$fault" "$report" "$@"
 }
 
 # json OFFSET LENGTH KIND TEXT LINE COLUMN: a token's line; the text as it stands in the string
@@ -85,7 +93,7 @@ unread() {
 }
 
 usage='usage: wat_tokens [--allow-confusing] [--strict-underscores] [sig NAME.. | play CALL..]\n'
-more='usage: wat_tokens --help says more\n'
+more='wat_tokens --help lists the commands and their options\n'
 confusing=$';;\u202e'
 confusing_fault=$(fault "likely-confusing unicode character found '\\\\u{202e}'" 3 ';;' '  ')
 underscores='"\u{1__0}"'
@@ -266,13 +274,19 @@ expect 'json, lines' 0 "$(json 0 2 Id '$a' 1 1)$(json 2 3 Whitespace '\\n\\n ' 1
     "$program" --json list < <(printf '$a\n\n 1\r\n')
 expect 'json, escapes' 0 "$(json 0 14 BlockComment '(;\\u0001\\u0008\\t\\r\\u001f\\"\\\\\0177\0303\0251;)' 1 1)$(json 14 1 Keyword x 1 15)" '' \
     "$program" --json < <(printf %b '(;\0001\b\t\r\0037"\\\0177\0303\0251;)x')
-expect 'json, a fault' 1 "$(json 0 1 Keyword x 1 1)" "$(json_fault 1 2 'unterminated block comment')" "$program" --json < <(printf 'x(;')
-expect 'json, a fault at the start' 1 '' "$(json_fault 0 1 'unterminated block comment')" "$program" --json list < <(printf '(;')
-expect 'json, a fault in a later line' 1 "$(json 0 1 Keyword x 1 1)$(json 1 3 Whitespace '\\r\\n ' 1 2)" \
-    '{"offset":6,"line":2,"column":4,"message":"unexpected end-of-file"}\n' "$program" --json < <(printf 'x\r\n "a')
-expect 'json, a message that is escaped' 1 '' "$(json_fault 2 3 "invalid string escape 'q'")" "$program" --json < <(printf '"\\q"')
-expect 'json, a message that is escaped too' 1 '' "$(json_fault 0 1 "unexpected character '\\\\\\\\u{7}'")" "$program" --json < <(printf '\007')
-expect 'json, confusing' 1 '' "$(json_fault 2 3 "likely-confusing unicode character found '\\\\\\\\u{202e}'")" "$program" --json < <(printf %s "$confusing")
+expect_json_fault 'json, a fault' "$(json 0 1 Keyword x 1 1)" "$(json_fault 1 'unterminated block comment' 1 2)" \
+    "$(fault 'unterminated block comment' 2 'x(;' ' ')" "$program" --json < <(printf 'x(;')
+expect_json_fault 'json, a fault at the start' '' "$(json_fault 0 'unterminated block comment' 1 1)" "$(fault 'unterminated block comment' 1 '(;' '')" \
+    "$program" --json list < <(printf '(;')
+expect_json_fault 'json, a fault in a later line' "$(json 0 1 Keyword x 1 1)$(json 1 3 Whitespace '\\r\\n ' 1 2)" \
+    "$(json_fault 6 'unexpected end-of-file' 2 4)" 'unexpected end-of-file\n     --> <anon>:2:4\n      |\n    2 |  "a\n      |    ^\n' \
+    "$program" --json < <(printf 'x\r\n "a')
+expect_json_fault 'json, a message with a character' '' "$(json_fault 2 "invalid string escape 'q'" 1 3)" \
+    "$(fault "invalid string escape 'q'" 3 '"\\q"' '  ')" "$program" --json < <(printf '"\\q"')
+expect_json_fault 'json, a message that is escaped' '' "$(json_fault 0 "unexpected character '\\\\\\\\u{7}'" 1 1)" \
+    "$(fault "unexpected character '\\\\u{7}'" 1 '\a' '')" "$program" --json < <(printf '\007')
+expect_json_fault 'json, confusing' '' "$(json_fault 2 "likely-confusing unicode character found '\\\\\\\\u{202e}'" 1 3)" "$confusing_fault" \
+    "$program" --json < <(printf %s "$confusing")
 expect 'json, confusing, allowed' 0 "$(json 0 5 LineComment "$confusing" 1 1)" '' "$program" --allow-confusing --json < <(printf %s "$confusing")
 expect 'json, sig' 0 "$(json 17 1 Keyword x 1 18)" '' "$program" --json sig < <(printf %s "$annotated")
 expect 'json, sig, a name' 0 "$(json 0 1 LParen '(' 1 1)$(json 1 2 Annotation @a 1 2)$(json 9 1 RParen ')' 1 10)$(json 17 1 Keyword x 1 18)" '' \
@@ -280,7 +294,8 @@ expect 'json, sig, a name' 0 "$(json 0 1 LParen '(' 1 1)$(json 1 2 Annotation @a
 # shellcheck disable=SC2016
 expect 'json, sig, lines' 0 "$(json 0 1 Keyword x 1 1)$(json 10 2 Id '$y' 3 5)$(json 13 2 Float 1. 4 1)" '' \
     "$program" --json sig < <(printf 'x ;;\n\n(;;)$y\n1.')
-expect 'json, sig, not closed' 1 "$(json 0 1 Keyword x 1 1)" "$(json_fault 3 4 'unclosed annotation')" "$program" --json sig < <(printf 'x (@a 1')
+expect_json_fault 'json, sig, not closed' "$(json 0 1 Keyword x 1 1)" "$(json_fault 3 'unclosed annotation' 1 4)" \
+    'unclosed annotation at byte offset 3\n' "$program" --json sig < <(printf 'x (@a 1')
 expect 'json, no UTF-8' 2 '' 'wat_tokens: input is not UTF-8\n' "$program" --json < <(printf 'a \377')
 output=/dev/full expect 'json, no room' 2 '' 'wat_tokens: write failed\n' "$program" --json < <(printf x)
 output=/dev/full expect 'json, sig, no room' 2 '' 'wat_tokens: write failed\n' "$program" --json sig < <(printf x)
@@ -348,7 +363,7 @@ rm once
 
 # files of sig and play, and of any command
 expect 'sig, files' 0 "$word$word" '' "$program" --file a --file sig sig name < /dev/null
-expect 'sig, a file and names' 1 '0..1 LParen\n1..3 Annotation\n4..5 Integer\n' '' "$program" --file open sig a -- < /dev/null
+expect 'sig, a file and names' 0 '0..1 LParen\n1..3 Annotation\n4..5 Integer\n' '' "$program" --file open sig a -- < /dev/null
 expect 'sig, a file, options' 0 "$word" '' "$program" --allow-confusing --file a --strict-underscores sig < /dev/null
 expect 'sig, no such file' 2 "$word" 'wat_tokens: none: open failed: no such file or directory\n' "$program" --file none --file a sig < /dev/null
 expect 'sig, open annotation' 1 '' 'open: unclosed annotation at byte offset 1\n' "$program" --file open sig < /dev/null
@@ -394,17 +409,21 @@ expect 'a long name' 1 "$word" "$(fault_in 'unterminated block comment' "$long" 
 
 # files as JSON: the name stands first where there are several files, and in each fault
 expect 'json, a file' 0 "$(json 0 1 Keyword x 1 1)" '' "$program" --json a < /dev/null
-expect 'json, a file with a fault' 1 "$(json 0 1 Keyword x 1 1)" "$(json_fault_in bad 1 2 'unterminated block comment')" "$program" --json bad < /dev/null
-expect 'json, files' 1 "$(json_in bad 0 1 Keyword x 1 1)$(json_in a 0 1 Keyword x 1 1)" "$(json_fault_in bad 1 2 'unterminated block comment')" \
-    "$program" --json bad a < /dev/null
+expect_json_fault 'json, a file with a fault' "$(json 0 1 Keyword x 1 1)" "$(json_fault 1 'unterminated block comment' 1 2)" "$bad" \
+    "$program" --json bad < /dev/null
+expect_json_fault 'json, files, the last with a fault' "$(json_in a 0 1 Keyword x 1 1)$(json_in bad 0 1 Keyword x 1 1)" \
+    "$(json_fault_in bad 1 'unterminated block comment' 1 2)" "$bad" "$program" --json a bad < /dev/null
 expect 'json, sig, files' 0 "$(json_in a 0 1 Keyword x 1 1)$(json_in sig 0 1 Keyword y 1 1)" '' "$program" --json --file a --file sig sig name < /dev/null
-expect 'json, standard input among files' 1 "$(json_in a 0 1 Keyword x 1 1)$(json_in '<stdin>' 0 1 Keyword x 1 1)" \
-    "$(json_fault_in '<stdin>' 1 2 'unterminated block comment')" "$program" --json a - < <(printf 'x(;')
-expect 'json, standard input, named' 1 "$(json 0 1 Keyword x 1 1)" "$(json_fault_in '<stdin>' 1 2 'unterminated block comment')" \
+stdin_bad=$(fault_in 'unterminated block comment' '<stdin>' 2 'x(;' ' ')
+expect_json_fault 'json, standard input among files' "$(json_in a 0 1 Keyword x 1 1)$(json_in '<stdin>' 0 1 Keyword x 1 1)" \
+    "$(json_fault_in '<stdin>' 1 'unterminated block comment' 1 2)" "$stdin_bad" "$program" --json a - < <(printf 'x(;')
+expect_json_fault 'json, standard input, named' "$(json 0 1 Keyword x 1 1)" "$(json_fault 1 'unterminated block comment' 1 2)" "$stdin_bad" \
     "$program" --json - < <(printf 'x(;')
 printf 'x(;' > $'j"\e\\.wat'
-expect 'json, a name that is escaped' 1 "$(json 0 1 Keyword x 1 1)" "$(json_fault_in 'j\\"\\u001b\\\\\\\\.wat' 1 2 'unterminated block comment')" \
-    "$program" --json $'j"\e\\.wat' < /dev/null
+escaped='j\\"\\u001b\\\\.wat'
+expect_json_fault 'json, a name that is escaped' "$(json_in a 0 1 Keyword x 1 1)$(json_in "$escaped" 0 1 Keyword x 1 1)" \
+    "$(json_fault_in "$escaped" 1 'unterminated block comment' 1 2)" "$(fault_in 'unterminated block comment' $'j"\u241b\\\\.wat' 2 'x(;' ' ')" \
+    "$program" --json a $'j"\e\\.wat' < /dev/null
 expect 'json, no such file' 2 '' 'wat_tokens: none: open failed: no such file or directory\n' "$program" --json list none < /dev/null
 cd "$top"
 
@@ -419,28 +438,32 @@ expect 'help, short' 0 "$help\n" '' "$program" -h sig < /dev/null
 expect 'version' 0 'wat_tokens 0.1.0, of wast 263.0.0\n' '' "$program" --version < /dev/null
 output=/dev/full expect 'help, no room' 2 '' 'wat_tokens: write failed\n' "$program" --help < /dev/null
 
-# expect_wrong COMPLAINT WORD WORDS..: words beyond those that were asked for, among which one is wrong
+# expect_wrong COMPLAINT WORDS..: words beyond those that were asked for, and what is said of them
 expect_wrong() {
-    local complaint=$1 wrong=$2
-    shift 2
-    expect "the words $*" 2 '' "wat_tokens: $complaint: $wrong\n$more" "$program" "$@" < /
+    local complaint=$1
+    shift
+    expect "the words $*" 2 '' "wat_tokens: $complaint\n$more" "$program" "$@" < /
 }
 # wrong words of the commands beyond those that were asked for
 wrong_words_beyond() {
-    expect_wrong 'misplaced option' --allow-confusing blank --allow-confusing
-    expect_wrong 'misplaced option' --strict-underscores types --strict-underscores
-    expect_wrong 'misplaced option' --json list --json
-    expect_wrong 'misplaced option' --json --json --json
-    expect_wrong 'misplaced option' --json --json --allow-confusing --json
-    expect_wrong 'misplaced option' --help --allow-confusing --help
-    expect_wrong 'misplaced option' --version a --version
-    expect_wrong 'unexpected word' types --allow-confusing types
-    expect_wrong 'unexpected word' types --json types
-    expect_wrong 'unexpected word' blank --json blank
-    expect_wrong 'unexpected word' play --json play look
-    expect_wrong 'unexpected word' b types a b
-    expect_wrong 'unexpected word' b blank a b
-    expect_wrong 'unexpected word' b blank -- a b
+    expect_wrong '--allow-confusing comes too late' blank --allow-confusing
+    expect_wrong '--strict-underscores comes too late' types --strict-underscores
+    expect_wrong '--json comes too late' list --json
+    expect_wrong '--help comes too late' --allow-confusing --help
+    expect_wrong '--json is given twice' --json --json
+    expect_wrong '--json is given twice' --json --allow-confusing --json
+    expect_wrong '--file has no name after it' --file
+    expect_wrong 'unknown option: --x' list --x
+    expect_wrong 'no such command or file: foo' --json foo
+    expect_wrong 'types takes neither --allow-confusing nor --strict-underscores' --allow-confusing types
+    expect_wrong '--json goes with list and sig alone' --json types
+    expect_wrong '--json goes with list and sig alone' --json blank
+    expect_wrong '--json goes with list and sig alone' --json play look
+    expect_wrong 'this command takes one file' types a b
+    expect_wrong 'this command takes one file' blank a b
+    expect_wrong 'this command takes one file' blank -- a b
+    expect_wrong 'this command takes one file' --file a --file b blank
+    expect_wrong 'this command takes one file' --file a --file b play look
 }
 wrong_words_beyond
 
