@@ -99,6 +99,7 @@ REQUESTS = [
 FAILURES = [
     ("wat_lines/src/failed.rt", "Failed::of", "Failed { code: error.raw_os_error().map(|code| code.unsigned_abs()) }", "of an error of std's"),
     ("wat_lines/src/failed.rt", "taken", "Ok(0) => Err(Failed { code: None })", "of a write that takes nothing"),
+    ("wat_lines/src/ends.rt", "write_through", "taken(writer.write(&bytes[written..]))", "of the write"),
     ("wat_lists/src/input.rt", "From<RunFailure> for RunError::from", "RunFailure::Read(_) => RunError::Read", "of one that holds a failure"),
     ("wat_lists/src/input.rt", "From<RunFailure> for RunError::from", "RunFailure::Write(_) => RunError::Write", "of one that holds a failure"),
     ("wat_parser_c/src/answers.rt", "Refusal::answer", "Answer { needed: 0, status: self.status() }", "of the refusal"),
@@ -166,6 +167,7 @@ FAILED = [
     (re.compile(r"^(io::)?ErrorKind::"), "an error of std's"),
     (re.compile(r"^fmt::Error\b(?!::)"), "an error of printing"),
     (re.compile(r"^RunError::(Read|Write)\b(?!\()"), "a failure"),
+    (re.compile(r"^(failed::)?taken\($|^failed::taken$"), "a failure, by `taken`,"),
 ]
 STATUS = [(re.compile(r"^(Answer|Look|Exit)\{(?!needed(:[^{}]*)?,status:0,?\})"), "a status"), (re.compile(r"^2$"), "a status of 2")]
 # The longest array, and the widest hole of what is printed, that need not be listed.
@@ -427,7 +429,7 @@ class Search:
             if code.words[end : end + 1] == ["{"] and end < len(code.words) and token.text[0].isupper():
                 end = past_group(code.tokens, end)
             line = written(code.tokens[at:end])
-            if code.words[end : end + 1] == ["("] and "::" in line:
+            if code.words[end : end + 1] == ["("] and ("::" in line or line == "taken"):
                 line += "("
             if line.endswith("::refused(") and code.words[end + 1 : end + 2] == ["2"]:
                 self.say(code, at, f"a status that no call made: {line}2")
@@ -621,6 +623,7 @@ CHANGED = [
     ("wat_lex/src/error.rt", "Error::from(AllocError)", "Error::from({ AllocError })"),
     ("wat_lex/src/encode.rt", "if !length_fits(length) {", "if length > 99 {\n        return Err(EncodeError::Memory);\n    }\n    if !length_fits(length) {"),
     ("wat_lines/src/failed.rt", "Ok(count) => Ok(count),", "Ok(count) if count > 9 => Err(Failed { code: None }),\n        Ok(count) => Ok(count),"),
+    ("wat_lines/src/ends.rt", "let mut written = 0;", "let mut written = 0;\n    if bytes.len() > 999 {\n        taken(Ok(0))?;\n    }"),
     ("wat_lists/src/input.rt", "RunFailure::TooLong => RunError::TooLong", "RunFailure::TooLong => RunError::Read"),
     ("wat_commands/src/outcome.rt", "Outcome::Listed => 0,", "Outcome::Listed => 2,"),
     ("wat_rows/src/answers.rt", "Ok(number) => (number, 0),", "Ok(number) if number > 999 => (number, 2),\n            Ok(number) => (number, 0),"),
