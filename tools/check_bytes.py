@@ -46,15 +46,15 @@ class Room:
         (self.folder / name).write_bytes(text)
 
     def run(self, words, text=b""):
-        """Status, what was written, reported and counted in a run on the text, which stands in a file, so that each read gives as much."""
+        """Status, what was written, reported and counted in a run on the text, which is in a file, so that each read gives as much."""
         counts, given = self.folder / "counts", self.folder / "given"
         given.write_bytes(text)
-        with open(counts, "wb") as told, open(given, "rb") as source:
-            os.set_inheritable(told.fileno(), True)
-            inside = {"LD_PRELOAD": str(self.library), "TELL": str(told.fileno()), "PATH": os.environ["PATH"]}
+        with open(counts, "wb") as counted, open(given, "rb") as source:
+            os.set_inheritable(counted.fileno(), True)
+            inside = {"LD_PRELOAD": str(self.library), "TELL": str(counted.fileno()), "PATH": os.environ["PATH"]}
             try:
                 done = subprocess.run(
-                    [self.program, *words], stdin=source, capture_output=True, cwd=self.folder, env=inside, timeout=SECONDS, pass_fds=[told.fileno()]
+                    [self.program, *words], stdin=source, capture_output=True, cwd=self.folder, env=inside, timeout=SECONDS, pass_fds=[counted.fileno()]
                 )
             except subprocess.TimeoutExpired:
                 return None, b"", b"", {}
@@ -192,8 +192,8 @@ def files(room):
     room.check("fmt, five files", ["fmt", *texts], size=size, times=2.4, writes=30, opens=5, wanted=b"".join(laid.values()))
     stay("fmt, five files", texts)
     room.check("fmt, other order", ["fmt", *reversed(texts)], size=size, times=2.4, writes=30, opens=5, wanted=b"".join(reversed(laid.values())))
-    told = b"".join(name.encode() + b"\n" for name in rest)
-    room.check("fmt --check, five files", ["fmt", "--check", *texts], size=size, times=3.1, writes=5, opens=5, wanted=told, status=1)
+    named = b"".join(name.encode() + b"\n" for name in rest)
+    room.check("fmt --check, five files", ["fmt", "--check", *texts], size=size, times=3.1, writes=5, opens=5, wanted=named, status=1)
     stay("fmt --check, five files", texts)
     room.check("list, five files", ["list", *texts], size=size, times=1.6, writes=210, opens=5, wanted=b"".join(room.run([], it)[1] for it in texts.values()))
     room.check("fmt --write, five files", ["fmt", "--write", *texts], size=size, times=3.1, writes=0, opens=8, wanted=b"")

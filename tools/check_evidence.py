@@ -4,9 +4,9 @@
 usage: tools/check_evidence.py [--self-test] [CRATES]
 
 It goes by the tokens of each source that is built into a library or program, and finds, outside the places that stand in its lists with a reason:
-values that stand for a refusal; requests for memory whose size is no single item and no given text; requests whose refusal is not handed on, or
-whose room is not used; values that stand for a failed call; and words that keep memory for good. Contracts, comments, strings, the crates of tests
-and what stands after `#[cfg(test)]` are left out. docs/MEMORY.md says what it does not see. CRATES is the folder of the crates.
+values that mean a refusal; requests for memory whose size is no single item and no given text; requests whose refusal is not handed on, or
+whose room is not used; values that mean a failed call; and words that keep memory for good. Contracts, comments, strings, the crates of tests
+and what comes after `#[cfg(test)]` are left out. docs/MEMORY.md says what it does not see. CRATES is the folder of the crates.
 """
 import collections
 import dataclasses
@@ -18,12 +18,12 @@ import tempfile
 import rattle_source
 from rattle_source import OPEN, items_of, past_group, split_at, tokens_of, uses_of, written
 
-# Crates of tests, and the programs that refuse requests from outside. No other crate may stand on one of them.
+# Crates of tests, and the programs that refuse requests from outside. No other crate may use one of them.
 HARNESS = set(
     "wat_answers wat_command_tests wat_response_tests wat_lex_answers wat_lex_requests wat_lex_tests wat_requests wat_row_tests wat_type_tests".split()
 )
 
-# A place is a file, a function of it, and what stands there, once. Functions of an `impl` have the type's name in front, and the trait's.
+# A place is a file, a function of it, and what is there, once. Functions of an `impl` have the type's name in front, and the trait's.
 # The places that may make a refusal.
 REFUSALS = [
     ("wat_lex/src/error.rt", "Error::out_of_memory", "Error::from(AllocError)", "the public constructor, for callers who have no refusal in hand"),
@@ -43,7 +43,7 @@ REFUSALS = [
         "the standard library keeps only the kind of an `io::Error`, and this kind is that of a refused request",
     ),
 ]
-# Requests whose size is no single item and no given text: the request, all that stands in the function's body before it, which says what its size
+# Requests whose size is no single item and no given text: the request, all of the function's body that comes before it, which says what its size
 # is, and why that is no more than what is at hand.
 REQUESTS = [
     (
@@ -96,7 +96,7 @@ REQUESTS = [
         "the fault's line, which is a part of the text, with its marker",
     ),
 ]
-# The places that may make a value that stands for a failed call, or a number that stands for a refusal. What holds such a value is made of one.
+# The places that may make a value that means a failed call, or a number that means a refusal. What holds such a value is made of one.
 FAILURES = [
     ("wat_lines/src/failed.rt", "Failed::of", "Failed { code: error.raw_os_error().map(|code| code.unsigned_abs()) }", "of an error of std's"),
     ("wat_lines/src/failed.rt", "taken", "Ok(0) => Err(Failed { code: None })", "of a write that takes nothing"),
@@ -132,7 +132,7 @@ STATUSES = {
     "wat_tokens/src/main.rt",
 }
 
-# Values that stand for a refusal.
+# Values that mean a refusal.
 REFUSAL = {"AllocError", "AllocFailed", "TryReserveError", "SpawnError", "LayoutError", "out_of_memory"}
 # Errors of which the variant for a refusal holds nothing.
 BARE = {"EncodeError", "FillError", "RunError"}
@@ -159,9 +159,9 @@ PRINTS = set("format write writeln print println eprint eprintln".split())
 TAKEN = set("is_ok is_err ok err unwrap_or unwrap_or_default unwrap_or_else map_or map_or_else".split())
 # Words that keep memory for good.
 KEEPS = {"forget", "ManuallyDrop", "leak", "into_raw", "into_raw_parts", "Rc", "Arc"}
-# The one name that stands for another one.
+# The one other name for something.
 ALIASES = ["wat_format::error::Error as FormatError"]
-# Values that stand for a call that failed, as the beginning of what makes one.
+# Values that mean a call that failed, as the beginning of what makes one.
 FAILED = [
     (re.compile(r"^(Failed|Stopped)\{"), "a failure"),
     (re.compile(r"^io::Error::(from|new|other|from_raw_os_error|last_os_error)\b"), "an error of std's"),
@@ -189,7 +189,7 @@ class Code:
 
 
 def stretches(file, items, front=""):
-    """The stretches of what stands in a source, without contracts and tests."""
+    """The stretches of a source, without contracts and tests."""
     for item in items:
         if item.is_test:
             continue
@@ -237,7 +237,7 @@ def patterns(tokens):
 
 
 def past(tokens, at, ends, last=None):
-    """The place of the first of some words that stands in no bracket."""
+    """The place of the first of some words that is in no bracket."""
     last = len(tokens) if last is None else last
     while at < last and tokens[at].text not in ends:
         at = past_group(tokens, at) if tokens[at].text in OPEN and tokens[at].text not in ends else at + 1
@@ -314,7 +314,7 @@ class Search:
                 self.say(code, 0, f"a name that is looked for with its module: {'::'.join(path)}")
 
     def refusals(self, code):
-        """Values that stand for a refusal, and ways to make one."""
+        """Values that mean a refusal, and ways to make one."""
         allowed = self.places(code, REFUSALS)
         inside = patterns(code.tokens)
         words = code.words
@@ -332,7 +332,7 @@ class Search:
                 self.say(code, at, "unsafe code that is no text of the caller's")
 
     def is_type(self, code, at):
-        """Whether the name of a refusal stands as a type in code: in `<..>`, or before `::from(`."""
+        """Whether the name of a refusal is a type in code: in `<..>`, or before `::from(`."""
         words = code.words
         if code.place == "use":
             return words[at + 1 : at + 2] != ["as"]
@@ -407,7 +407,7 @@ class Search:
         return code.only_types and len(words[0]) == 1
 
     def pins(self, code):
-        """What stands in front of a listed request, which says what its size is."""
+        """What comes before a listed request, which says what its size is."""
         for entry in REQUESTS:
             if entry[3] and entry[0] == code.file and entry[1] == code.place and not code.only_types:
                 words = without_commas(code.words)[0][1:]
@@ -416,7 +416,7 @@ class Search:
                     self.say(code, 0, f"before {entry[2]} there is more than what its list says")
 
     def failures(self, code):
-        """Values that stand for a failed call, and numbers that stand for a refusal."""
+        """Values that mean a failed call, and numbers that mean a refusal."""
         allowed = self.places(code, FAILURES)
         inside = patterns(code.tokens)
         forms = FAILED + (STATUS if code.file in STATUSES else [])
@@ -493,13 +493,13 @@ def sources(crates):
 
 
 def harness_faults(crates):
-    """The crates that stand on one of tests, though they are none themselves."""
+    """The crates that use one of tests, though they are none themselves."""
     listed = crates.parent / "crates.txt"
     for line in listed.read_text(encoding="utf-8").splitlines() if listed.exists() else []:
         crate, _, below = line.partition(":")
         for name in set(below.split()) & HARNESS:
             if crate.split()[0] not in HARNESS:
-                yield ("crates.txt", 0, f"{crate.split()[0]} stands on the tests of {name}")
+                yield ("crates.txt", 0, f"{crate.split()[0]} is over the tests of {name}")
 
 
 # Bodies of a function that make a refusal or a failure of their own, or ask for more than an item or a text: each has to be found.
@@ -613,7 +613,7 @@ HANDED_ON = [
     "fn f() { match reader.read(buffer) { Err(Failed { code }) => code, Ok(count) => count } }",
     "fn f() { if error.kind() == io::ErrorKind::NotFound { return Ok(()); } }",
 ]
-# What a change of a listed place has to be found by: a file, what stands there, and what is put there.
+# What a change of a listed place has to be found by: a file, what is there, and what is put there.
 CHANGED = [
     ("wat_lexer_parser/src/parser/table.rt", "Ok(Table {", "let text = other_text();\n        Ok(Table {"),
     ("wat_lexer_parser/src/parser/table.rt", "with_capacity(alloc, first_room(text))", "with_capacity(alloc, usize::MAX / 64)"),

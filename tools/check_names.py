@@ -5,10 +5,9 @@ tools/public_names.txt. Names that nobody asked for are no difference, but for v
 usage: tools/check_names.py [--self-test]
 
 Each difference is a line, and the status is then 1. Those that are known stand in the list too, each with its reason, and as a table in
-docs/DIFFERENCES.md; a known one that is none, or that stands in one of the two alone, is a difference too.
+docs/DIFFERENCES.md; a known one that is none, or that is in one of the two alone, is a difference too.
 """
 import collections
-import pathlib
 import re
 import sys
 
@@ -24,9 +23,9 @@ DERIVED = {"Copy", "Clone", "Debug", "PartialOrd", "Ord", "PartialEq", "Eq", "Ha
 class Module:
     """A module of a crate: its items by name, its modules, and the names that it gives again."""
 
-    def __init__(self, path, tokens, file, root):
+    def __init__(self, path, tokens, file, root, read):
         self.path, self.items, self.modules, self.uses, self.impls = path, {}, {}, [], []
-        self.root = root or self
+        self.root, self.read = root or self, read
         self.public_modules = set()
         for item in items_of(tokens):
             if item.kind == "mod" and not item.is_test:
@@ -42,10 +41,10 @@ class Module:
     def inner(self, item, file):
         path = f"{self.path}::{item.name}"
         if item.body:
-            return Module(path, item.body, file.parent / item.name / "mod.rt", self.root)
+            return Module(path, item.body, file.parent / item.name / "mod.rt", self.root, self.read)
         folder = file.parent if file.name in ("lib.rt", "mod.rt") else file.with_suffix("")
         source = folder / f"{item.name}.rt"
-        return Module(path, tokens_of(READ(source)), source, self.root)
+        return Module(path, tokens_of(self.read(source)), source, self.root, self.read)
 
     def all_impls(self):
         return self.impls + [it for module in self.modules.values() for it in module.all_impls()]
@@ -54,21 +53,21 @@ class Module:
         return [self] + [it for name in sorted(self.public_modules) for it in self.modules[name].all_modules()]
 
 
-def READ(file):
+def text_of(file):
     return file.read_text(encoding="utf-8")
 
 
 class Crates:
-    """The libraries, read as they are asked for, and where their names lead."""
+    """The libraries, read as they are asked for, and where their names lead; `read` gives the text of a file."""
 
-    def __init__(self):
-        self.read = {}
+    def __init__(self, read):
+        self.read, self.known = read, {}
 
     def crate(self, name):
-        if name not in self.read:
+        if name not in self.known:
             file = rattle_source.CRATES / name / "src/lib.rt"
-            self.read[name] = Module(name, tokens_of(READ(file)), file, None) if file.exists() else None
-        return self.read[name]
+            self.known[name] = Module(name, tokens_of(self.read(file)), file, None, self.read) if file.exists() else None
+        return self.known[name]
 
     def find(self, path, start=None):
         """What a path names: a module, or an item with the module that declares it; None where it names nothing."""
@@ -367,7 +366,7 @@ class Names:
         place, rest = line.split(" = ")
         value, file = rest.split(", ")
         file, stretch = file.split()
-        for at, word in enumerate(READ(ROOT / "tools" / file).split("\n\n")[int(stretch) - 1].split()):
+        for at, word in enumerate(text_of(ROOT / "tools" / file).split("\n\n")[int(stretch) - 1].split()):
             name = self.exceptions[place].get(word, re.sub(r"[-.:]", "_", word))
             yield from self.alias(place.split("::") + [name], [], tokens_of(value.replace("<I>", f"<{at}>")))
 
@@ -375,7 +374,7 @@ class Names:
         """The `impl` of a trait for a type, by the names of both; that of a trait of one crate may stand in another one."""
         asked = renamed(short(texts(tokens_of(type_of))), GENERIC, "own ")
         name = texts(tokens_of(trait))[0]
-        for crate in [it for it in self.crates.read.values() if it]:
+        for crate in [it for it in self.crates.known.values() if it]:
             for block in crate.all_impls():
                 if block.trait and short(texts(block.trait))[0] == name:
                     if renamed(short(texts(block.head)), GENERIC, "own ") == asked:
@@ -523,9 +522,9 @@ def lines_of(text):
     return lines, blocks
 
 
-def differences(lines):
+def differences(lines, read=text_of):
     """What the sources have otherwise than the lines ask."""
-    names = Names(Crates())
+    names = Names(Crates(read))
     for line in lines:
         kind, rest = line.split(" ", 1)
         if kind in ("fn", "const"):
@@ -564,7 +563,7 @@ def check(lines, blocks, document):
     yield from (f"in the table of DIFFERENCES.md alone: {it}" for it in rows if it not in wanted)
 
 
-# What is planted in a source, each as (file, what stands there, what is put there, the beginning of a line that says it).
+# What is planted in a source, each as (file, what is there, what is put there, the beginning of a line that says it).
 PLANTED = [
     ("wat_lex/src/lexer/kinds.rt", "    pub len: u32,", "    pub len: u64,", "other: struct wat_lex::lexer::Token: asked u32, here u64"),
     ("wat_lex/src/lexer/kinds.rt", "    Plus,\n", "", "missing: enum wat_lex::lexer::SignToken: variant Plus"),
@@ -596,20 +595,16 @@ PLANTED = [
 
 
 def planted_found(lines, file, before, after, said):
-    """Whether a planted difference is said."""
-    global READ
-    read = READ
-    if before not in read(rattle_source.CRATES / file):
+    """Whether a planted difference is reported."""
+    place = rattle_source.CRATES / file
+    if before not in text_of(place):
         return False
-    READ = lambda it: read(it).replace(before, after) if it == rattle_source.CRATES / file else read(it)
-    try:
-        return any(it.startswith(said) for it in differences(lines))
-    finally:
-        READ = read
+    read = lambda it: text_of(it).replace(before, after) if it == place else text_of(it)
+    return any(it.startswith(said) for it in differences(lines, read))
 
 
 def self_test():
-    lines, blocks = lines_of(READ(NAMES))
+    lines, blocks = lines_of(text_of(NAMES))
     missed = [it for it in PLANTED if not planted_found(lines, *it)]
     for file, before, after, said in missed:
         print(f"check_names.py: not seen: {file}: {before.strip()} as {after.strip() or 'nothing'}")
@@ -630,8 +625,8 @@ def main():
     if sys.argv[1:]:
         print(__doc__.split("\n\n")[1], file=sys.stderr)
         return 2
-    lines, blocks = lines_of(READ(NAMES))
-    found = list(check(lines, blocks, READ(DIFFERENCES)))
+    lines, blocks = lines_of(text_of(NAMES))
+    found = list(check(lines, blocks, text_of(DIFFERENCES)))
     for it in found:
         print(it)
     print(f"check_names.py: {len(lines)} lines, {len(blocks)} known differences, {len(found)} others")

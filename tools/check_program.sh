@@ -1,6 +1,6 @@
 #!/usr/bin/env bash
 # Builds the program, proved, and runs it: its exit status, standard output and standard error must be the ones that stand here. First come the runs
-# that it was asked for: over standard input, with no word, `sig` or `play`, and the two options. Then what it has beyond these, which is told apart
+# that it was asked for: over standard input, with no word, `sig` or `play`, and the two options. Then what it has beyond these, which is known
 # by its words: JSON, blank, types, files, help. An input that is too long is left out, since it takes 4 GiB of memory; a test of wat_response_tests
 # has its line and status.
 #
@@ -49,7 +49,7 @@ fault() {
     fault_in "$1" '<anon>' "${@:2}"
 }
 
-# json_fault OFFSET MESSAGE LINE COLUMN: the line of a fault as JSON; the message as it stands in the string
+# json_fault OFFSET MESSAGE LINE COLUMN: the line of a fault as JSON; the message as it is in the string
 json_fault() {
     printf '{"offset":%s,"fault":"%s","line":%s,"column":%s}\\n' "$@"
 }
@@ -67,7 +67,7 @@ expect_json_fault() {
     expect "$name" 1 "$lines$fault" "$report" "$@"
 }
 
-# json OFFSET LENGTH KIND TEXT LINE COLUMN: a token's line; the text as it stands in the string
+# json OFFSET LENGTH KIND TEXT LINE COLUMN: a token's line; the text as it is in the string
 json() {
     printf '{"offset":%s,"length":%s,"kind":"%s","text":"%s","line":%s,"column":%s}\\n' "$@"
 }
@@ -260,7 +260,7 @@ expect 'sig, a name that is not there' 0 '' '' "$program" sig --allow-confusin <
 expect 'sig, a file as a name' 0 "$word" '' "$program" sig a sig -- a < <(printf x)
 expect 'sig, an option as a name' 1 '' "$confusing_fault" "$program" sig --allow-confusing < <(printf %s "$confusing")
 
-# what stands in a fault of standard input is raw
+# what is in a fault of standard input is raw
 controls='x \007\0177\0302\0205\r    \001y'
 expect 'a fault among control characters' 1 '0..1 Keyword\n1..2 Whitespace\n' "$(fault "unexpected character '\\\\u{7}'" 3 "$controls" '  ')" \
     "$program" < <(printf 'x \007\177\302\205\r\t\001y')
@@ -407,7 +407,7 @@ long=$(printf 'n%.0s' {1..200})
 printf 'x(;' > "$long"
 expect 'a long name' 1 "$word" "$(fault_in 'unterminated block comment' "$long" 2 'x(;' ' ')" "$program" "$long" < /dev/null
 
-# files as JSON: the name stands first where there are several files, and in each fault
+# files as JSON: the name comes first where there are several files, and in each fault
 expect 'json, a file' 0 "$(json 0 1 Keyword x 1 1)" '' "$program" --json a < /dev/null
 expect_json_fault 'json, a file with a fault' "$(json 0 1 Keyword x 1 1)" "$(json_fault 1 'unterminated block comment' 1 2)" "$bad" \
     "$program" --json bad < /dev/null

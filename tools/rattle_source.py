@@ -118,7 +118,7 @@ class Item:
     line: int
     derives: set = dataclasses.field(default_factory=set)
     generics: list = dataclasses.field(default_factory=list)
-    # of a function: its parameters and its answer; of a type: its fields or variants; of an alias or a constant: what it stands for
+    # of a function: its parameters and its answer; of a type: its fields or variants; of an alias or a constant: what it is
     head: list = dataclasses.field(default_factory=list)
     answer: list = dataclasses.field(default_factory=list)
     value: list = dataclasses.field(default_factory=list)
@@ -141,7 +141,7 @@ def derives_of(attribute):
 
 
 def past_head(tokens, at, ends):
-    """The place of the first of some words or signs that stands in no bracket."""
+    """The place of the first of some words or signs that is in no bracket."""
     while at < len(tokens) and tokens[at].text not in ends:
         text = tokens[at].text
         at = past_group(tokens, at) if text in OPEN else past_angles(tokens, at) if text == "<" else at + 1
@@ -224,7 +224,7 @@ def read_stated(tokens, at, item):
 
 
 def read_item(tokens, at, item):
-    """Reads the item whose keyword stands before this place, and answers the place after it."""
+    """Reads the item whose keyword is before this place, and answers the place after it."""
     if item.kind == "fn":
         return read_fn(tokens, at, item)
     if item.kind in ("struct", "enum", "union"):
@@ -289,7 +289,7 @@ def items_of(tokens):
 
 
 def uses_of(tokens):
-    """The names that a `use` brings, each with its path as a list of words; a star stands for all names."""
+    """The names that a `use` brings, each with its path as a list of words; a star means all names."""
     def walk(tokens, front):
         for part in split_at(tokens, ","):
             words = [it.text for it in part]

@@ -1,8 +1,8 @@
 /* Refuses requests of the program that it is loaded in front of. Of those for memory the Nth where REFUSE_AT is N, and each from the Nth on
  * where REFUSE_FROM is; a request to make a block no larger is neither counted nor refused, so the sizes of the blocks are kept. Of the reads of
  * standard input the Nth where FAIL_READ is N, and of the writes on standard output the Nth where FAIL_WRITE is; where MOST is N, each moves N
- * bytes at most. The others go to the C library. Where TELL is the number of an open file, it is told there at the end how many of each there
- * were, and how many files were opened; how many bytes were asked for, where a block that grows asks for what it grows by; how many were held at most; and how many are still
+ * bytes at most. The others go to the C library. Where TELL is the number of an open file, it is written there at the end how many of each
+ * there were, and how many files were opened; how many bytes were asked for, where a block that grows asks for what it grows by; how many were held at most; and how many are still
  * held. It includes no header, so that a compiler alone builds it. */
 
 typedef unsigned long size;
