@@ -83,13 +83,15 @@ expect_usage() {
     expect "the words $*" 2 '' "$usage" "$program" "$@" < /
 }
 
-# unread NAME STATUS ERRORS COMMAND..: runs the command on the script's input, with an output that nobody reads any more
+# unread NAME STATUS ERRORS COMMAND..: runs the command on the script's input, with a pipe as output that nobody reads any more
 unread() {
     local name=$1 status=$2 errors=$3
     shift 3
-    # shellcheck disable=SC2016
-    expect "$name, to a pipe that nobody reads" "$status" '' "$errors" \
-        bash -c 'set -o pipefail; { sleep 0.1; "$@"; } | exec true' bash "$@"
+    expect "$name, to a pipe that nobody reads" "$status" '' "$errors" python3 -c '
+import os, subprocess, sys
+reader, writer = os.pipe()
+os.close(reader)
+sys.exit(subprocess.run(sys.argv[1:], stdout=writer, check=False).returncode % 256)' "$@"
 }
 
 usage='usage: wat_tokens [--allow-confusing] [--strict-underscores] [sig NAME.. | play CALL..]\n'
