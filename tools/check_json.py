@@ -1,7 +1,7 @@
 #!/usr/bin/env python3
 """Reads what the program writes with --json by Python's own parser of JSON, and compares each object with the row of the plain list and with
-the text: offset, length, kind and text, and line and column, which are counted here once more. The report and the exit status must be those of
-the plain list. The texts are those of crates/wat_tokens/agreement, generated ones, and some with each byte that is escaped. At some tokens of
+the text: offset, length, kind and text, and line and column, which are counted here once more. Report and exit status must be those of the plain
+list, and after the last token an object of the fault must say what the report says. The texts are those of crates/wat_tokens/agreement, generated ones, and some with each byte that is escaped. At some tokens of
 plain ASCII the text is cut and a fault put behind it, whose message must tell the object's line and column.
 
 usage: tools/check_json.py PROGRAM [FILE..]     these files in place of the texts
@@ -20,6 +20,7 @@ TOOLS = pathlib.Path(__file__).resolve().parent
 AGREEMENT = TOOLS.parent / "crates/wat_tokens/agreement"
 ROW = re.compile(rb"(\d+)\.\.(\d+) (\w+)")
 MEMBERS = ["offset", "length", "kind", "text", "line", "column"]
+FAULT = ["offset", "fault", "line", "column"]
 ODD = [
     ";;" + "".join(chr(c) for c in range(128) if c not in (10, 13)) + "\n(;" + "".join(chr(c) for c in range(128)) + ";)x",
     "(;\r\n\n\r\t;)\r\n \"\\\"\\\\\\u{22}\" ;;\\\n\n$x",
@@ -48,6 +49,22 @@ def faults(text, rows, lines):
             yield f"{line!r} in place of {wanted}"
 
 
+def fault_faults(text, report, line):
+    """What is wrong with the line of a fault as JSON, beside its report."""
+    fault = json.loads(line.decode())
+    if list(fault) != FAULT:
+        yield f"no line of a fault: {line!r}"
+        return
+    offset, message = fault["offset"], fault["fault"]
+    number = text.count(b"\n", 0, offset) + 1
+    column = offset - text.rfind(b"\n", 0, offset)
+    if (fault["line"], fault["column"]) != (number, column):
+        yield f"{line!r}, where line {number} and column {column} are wanted"
+    forms = (f"{message}\n     --> <anon>:{number}:", f"{message} at <anon>:{number}:", f"{message} at byte offset {offset}\n")
+    if not report.decode().startswith(forms):
+        yield f"{line!r} with the report {report!r}"
+
+
 def places(program, text, lines):
     """Of some tokens of a text of plain ASCII the object, and the message of a fault that is put in the token's place."""
     plain = all(byte in (10, 13) or 32 <= byte < 127 for byte in text)
@@ -68,6 +85,8 @@ def check(program, name, text):
         if (told, reported) != (status, report):
             wrong.append(f"status {told} in place of {status}, or another report")
         lines = lines.splitlines(keepends=True)
+        if status == 1:
+            wrong += fault_faults(text, report, lines.pop() if lines else b"{}")
         wrong += [f"no line end: {line!r}" for line in lines if not line.endswith(b"}\n")]
         wrong += faults(text, rows.splitlines(), lines)
         objects += len(lines)

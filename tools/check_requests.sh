@@ -3,7 +3,9 @@
 #
 # A row's line tells where the refused request was: before the call (`set-up`), in the call (`memory`, or `answer` where the call can do
 # without it), or right behind the call (`behind`), where the program makes a request of its own. So the requests of the call are those
-# between. Each call of a row `free-..` makes none, and each other call answers want of memory at one of its requests at least.
+# between. Each call of a row `free-..` makes none, and each other call answers want of memory at one of its requests at least. A row has its
+# line in tools/request_bounds.txt: how many requests its call makes at most, and how many bytes the row asks for at most where nothing is refused, which
+# is twice what was seen. Nothing may be held at its end.
 #
 # The requests are refused by tools/refuse_requests.c, which is loaded in front of the C library's allocator. docs/MEMORY.md says why.
 #
@@ -73,6 +75,18 @@ refuse_rest() {
     fi
 }
 
+# count_bytes: whether the row's requests and bytes are within its bounds, and nothing is held at its end
+count_bytes() {
+    local asked=0 held=0 most_requests most_bytes bound
+    # shellcheck disable=SC1091
+    LD_PRELOAD="$room/refuse.so" TELL=9 "$program" < "$room/name" > "$room/output" 9> "$room/counts" && . "$room/counts"
+    bound=$(grep "^$row " tools/request_bounds.txt) || fault "$row has no line in tools/request_bounds.txt"
+    read -r _ most_requests most_bytes <<< "${bound:-none 0 0}"
+    [ "$((wanting + spared))" -le "$most_requests" ] || fault "$row makes $((wanting + spared)) requests, where $most_requests is the bound"
+    [ "$asked" -le "$most_bytes" ] || fault "$row asks for $asked bytes, where $most_bytes is the bound"
+    [ "$held" = 0 ] || fault "$row still holds $held bytes at its end"
+}
+
 "$program" < /dev/null > "$room/rows"
 if ! cmp -s "$room/rows" crates/wat_requests/stdout; then
     fault 'with ample memory the rows are not those of crates/wat_requests/stdout'
@@ -84,6 +98,7 @@ while read -r row word; do
     printf %s "$row" > "$room/name"
     refuse_each
     refuse_rest
+    count_bytes
     printf '%-28s %6d %8d %6d %6d\n' "$row" "$before" "$((wanting + spared))" "$wanting" "$spared"
     case $row in
         free-*) [ "$((wanting + spared))" = 0 ] || fault "$row takes memory" ;;

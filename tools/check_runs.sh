@@ -104,8 +104,8 @@ check() {
     is_whole || fault "${words[*]}, a byte a call"
     count
     refuse_each MOST=1
-    fail_each FAIL_READ "$reads" 'read failed: input/output error' 0
-    fail_each FAIL_WRITE "$writes" 'write failed: input/output error' 1
+    fail_each FAIL_READ "$reads" 'read failed' 0
+    fail_each FAIL_WRITE "$writes" 'write failed' 1
     tell "$reads" "$writes"
 }
 

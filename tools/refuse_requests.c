@@ -1,7 +1,9 @@
 /* Refuses requests of the program that it is loaded in front of. Of those for memory the Nth where REFUSE_AT is N, and each from the Nth on
- * where REFUSE_FROM is; a request to make a block no larger is neither counted nor refused, so the sizes of the blocks are kept. Of the reads of standard input the Nth where FAIL_READ is N, and of the writes on standard output the Nth where FAIL_WRITE is;
- * where MOST is N, each moves N bytes at most. The others go to the C library. Where TELL is the number of an open file, it is told there at
- * the end how many of each there were. It includes no header, so that a compiler alone builds it. */
+ * where REFUSE_FROM is; a request to make a block no larger is neither counted nor refused, so the sizes of the blocks are kept. Of the reads of
+ * standard input the Nth where FAIL_READ is N, and of the writes on standard output the Nth where FAIL_WRITE is; where MOST is N, each moves N
+ * bytes at most. The others go to the C library. Where TELL is the number of an open file, it is written there at the end how many of each
+ * there were, and how many files were opened; how many bytes were asked for, where a block that grows asks for what it grows by; how many were held at most; and how many are still
+ * held. It includes no header, so that a compiler alone builds it. */
 
 typedef unsigned long size;
 
@@ -10,6 +12,7 @@ extern void *__libc_calloc(size count, size bytes);
 extern void *__libc_realloc(void *block, size bytes);
 extern void __libc_free(void *block);
 extern void *__libc_memalign(size alignment, size bytes);
+extern int __open(const char *name, int flags, int mode);
 extern long __read(int file, void *bytes, size count);
 extern long __write(int file, const void *bytes, size count);
 extern int *__errno_location(void);
@@ -17,7 +20,8 @@ extern char *getenv(const char *name);
 extern long atol(const char *text);
 extern int dprintf(int file, const char *format, ...);
 
-static long requests, reads, writes;
+static long requests, opens, reads, writes;
+static size asked, held, most;
 
 static long number(const char *name)
 {
@@ -34,53 +38,72 @@ static int is_refused(void)
     return requests == at || (from > 0 && requests >= from);
 }
 
-#define MOST_BLOCKS 4096
+/* The blocks that are held, by their address. */
+#define MOST_BLOCKS (1ul << 20)
+#define GIVEN_BACK ((void *)1)
 
 static struct { void *start; size bytes; } blocks[MOST_BLOCKS];
+static size used;
 
-/* The place where a block is kept, or a free one for none. */
-static int place_of(void *start)
+/* The place where a block is kept, or a free one. */
+static size place_of(void *start)
 {
-    int i;
-    for (i = 0; i < MOST_BLOCKS - 1 && blocks[i].start != start; i++) {
+    size at = (size)start / 16 * 2654435761ul % MOST_BLOCKS;
+    while (blocks[at].start && blocks[at].start != start) {
+        at = (at + 1) % MOST_BLOCKS;
     }
-    return i;
+    return at;
 }
 
 static void *kept(void *start, size bytes)
 {
     if (start) {
-        int i = place_of(0);
-        if (i == MOST_BLOCKS - 1) {
+        size at = place_of(start);
+        used += 1;
+        if (used == MOST_BLOCKS) {
             __builtin_trap();
         }
-        blocks[i].start = start;
-        blocks[i].bytes = bytes;
+        blocks[at].start = start;
+        blocks[at].bytes = bytes;
+        held += bytes;
+        most = held > most ? held : most;
     }
     return start;
 }
 
+static size bytes_of(void *start)
+{
+    size at = place_of(start);
+    return blocks[at].start ? blocks[at].bytes : 0;
+}
+
 static void forget(void *start)
 {
-    if (start) {
-        blocks[place_of(start)].start = 0;
+    size at = place_of(start);
+    if (start && blocks[at].start) {
+        held -= blocks[at].bytes;
+        blocks[at].start = GIVEN_BACK;
+        blocks[at].bytes = 0;
     }
 }
 
 void *malloc(size bytes)
 {
+    asked += bytes;
     return is_refused() ? 0 : kept(__libc_malloc(bytes), bytes);
 }
 
 void *calloc(size count, size bytes)
 {
+    asked += count * bytes;
     return is_refused() ? 0 : kept(__libc_calloc(count, bytes), count * bytes);
 }
 
 void *realloc(void *start, size bytes)
 {
-    size had = start ? blocks[place_of(start)].bytes : 0;
+    size had = start ? bytes_of(start) : 0;
     void *moved;
+    asked += bytes > had ? bytes - had : 0;
     if (bytes > had && is_refused()) {
         return 0;
     }
@@ -94,6 +117,7 @@ void *realloc(void *start, size bytes)
 
 void *aligned_alloc(size alignment, size bytes)
 {
+    asked += bytes;
     return is_refused() ? 0 : kept(__libc_memalign(alignment, bytes), bytes);
 }
 
@@ -117,6 +141,12 @@ static long fail(void)
     return -1;
 }
 
+int open(const char *name, int flags, int mode)
+{
+    opens += 1;
+    return __open(name, flags, mode);
+}
+
 long read(int file, void *bytes, size count)
 {
     if (file != 0) {
@@ -138,6 +168,7 @@ long write(int file, const void *bytes, size count)
 __attribute__((destructor)) static void tell(void)
 {
     if (number("TELL")) {
-        dprintf(number("TELL"), "requests=%ld reads=%ld writes=%ld\n", requests, reads, writes);
+        dprintf(number("TELL"), "requests=%ld opens=%ld reads=%ld writes=%ld asked=%lu most=%lu held=%lu\n", requests, opens, reads, writes, asked,
+            most, held);
     }
 }
