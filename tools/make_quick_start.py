@@ -2,12 +2,13 @@
 """Writes the files of crates/wat_sums, and the laws of the words of readings, into docs/A-TYPE-OF-ONES-OWN.md, and lines of the examples
 from C and Rust into README.md.
 
-usage: tools/make_quick_start.py [--check]
+usage: tools/make_quick_start.py [--check | --self-test]
 
 A file, or some lines of it, goes between `<!-- file PATH [FIRST-LAST] -->` and `<!-- end -->`, and all files of a folder that are not empty,
 each behind its name, between `<!-- files FOLDER -->` and `<!-- end -->`. Between `<!-- laws -->` and `<!-- end -->` stands a table of words, each with
 what it reads; its last column is the law that the specs have of the word. With --check nothing is written, and the status is 1 where a
-page differs from the files. It is also 1 where the table lacks a word that has a law.
+page differs from the files. It is also 1 where the table lacks a word that has a law, and where a file of the crate is not shown whole.
+--self-test shows that each file of the crate is missed where its part is taken out of the page, or shows only some of its lines.
 """
 import pathlib
 import re
@@ -16,6 +17,7 @@ import textwrap
 
 ROOT = pathlib.Path(__file__).resolve().parent.parent
 PAGES = ["README.md", "docs/A-TYPE-OF-ONES-OWN.md"]
+CRATE, ITS_PAGE = "crates/wat_sums", "docs/A-TYPE-OF-ONES-OWN.md"
 LAWS = ROOT / "crates/wat_lexer_parser/specs/lemmas"
 PART = re.compile(r"<!-- (file (?P<path>\S+)( (?P<first>\d+)-(?P<last>\d+))?|files (?P<folder>\S+)|laws) -->\n(?P<body>.*?)<!-- end -->\n", re.S)
 LAW = re.compile(r"^pub (?P<name>advances_\w+) : (.* → )?Advances \(?(?P<word>\w+)[^→\n]*$", re.M)
@@ -31,11 +33,46 @@ def fenced(path, first=None, last=None):
     return f"```{LANGUAGES[pathlib.Path(path).suffix]}\n{text}\n```\n"
 
 
+def files_of(path):
+    """All files of a folder that are not empty, by their names below the root, but what was built."""
+    files = sorted(file.relative_to(ROOT) for file in (ROOT / path).rglob("*") if file.is_file() and file.stat().st_size)
+    return [file for file in files if "out" not in file.parts and (ROOT / file).read_text().strip()]
+
+
 def folder(path):
-    """All files of a folder, each behind its name."""
-    files = sorted(file for file in (ROOT / path).rglob("*") if file.is_file() and file.read_text().strip())
-    named = ((file.relative_to(ROOT / path).as_posix(), file.relative_to(ROOT)) for file in files)
+    """All files of a folder, each after its name."""
+    named = ((file.relative_to(path).as_posix(), file) for file in files_of(path))
     return "\n".join(f"`{pathlib.Path(path).name}/{name}`:\n\n{fenced(file)}" for name, file in named)
+
+
+def shown_whole(text):
+    """The files that a page shows whole."""
+    shown = set()
+    for match in PART.finditer(text):
+        if match["folder"]:
+            shown.update(map(str, files_of(match["folder"])))
+        elif match["path"] and not match["first"]:
+            shown.add(match["path"])
+    return shown
+
+
+def missed(text):
+    """The files of the crate that its page does not show whole."""
+    return sorted({str(file) for file in files_of(CRATE)} - shown_whole(text))
+
+
+def self_test():
+    """Takes each part of the crate out of its page, and shows only the first line of each file."""
+    page = (ROOT / ITS_PAGE).read_text()
+    parts = [match for match in PART.finditer(page) if str(match["path"] or match["folder"]).startswith(CRATE + "/")]
+    for match in parts:
+        wanted = sorted(map(str, files_of(match["folder"]))) if match["folder"] else [match["path"]]
+        assert missed(page.replace(match[0], "")) == wanted, f"{match[1]} is taken out, and {wanted} are not all that is missed"
+        if match["path"]:
+            cut = match[0].replace(match["path"] + " -->", match["path"] + " 1-1 -->")
+            assert missed(page.replace(match[0], cut)) == wanted, f"{match[1]} is cut, and not missed"
+    assert missed(page) == [] and len(parts) > 1, "the page lacks a file of its crate"
+    print(f"make_quick_start.py: each of {len(parts)} parts of {CRATE} is missed where it is not shown")
 
 
 def laws():
@@ -73,8 +110,13 @@ def part(match):
 
 
 def main():
-    if sys.argv[1:] not in ([], ["--check"]):
+    if sys.argv[1:] not in ([], ["--check"], ["--self-test"]):
         sys.exit(__doc__.split("\n\n")[1])
+    if sys.argv[1:] == ["--self-test"]:
+        return self_test()
+    lacks = missed((ROOT / ITS_PAGE).read_text())
+    if lacks:
+        sys.exit(f"make_quick_start.py: {ITS_PAGE} does not show whole: {', '.join(lacks)}")
     for name in PAGES:
         page = ROOT / name
         old = page.read_text()
