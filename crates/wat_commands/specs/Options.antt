@@ -75,6 +75,7 @@ behind_verb (word ∷ words) = if is_some (verb_named (string_bytes word)) then 
 abbrev pub mode_named : List ℕ → Option Mode
 mode_named word =
     if bytes_eq word (codes "--check") then Some mode.Check
+    else if bytes_eq word (codes "--diff") then Some mode.Diff
     else if bytes_eq word (codes "--write") then Some mode.Write
     else None
 

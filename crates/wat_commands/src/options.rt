@@ -50,6 +50,8 @@ pub enum Mode {
     Print,
     /// It is compared with the text.
     Check,
+    /// The lines that differ are written, as a unified diff.
+    Diff,
     /// The file becomes it, where it is not that already.
     Write,
 }
@@ -160,6 +162,7 @@ fn mode_named(word: &str) -> Option<Mode>
 {
     match word {
         "--check" => Some(Mode::Check),
+        "--diff" => Some(Mode::Diff),
         "--write" => Some(Mode::Write),
         _ => None,
     }

@@ -3,7 +3,31 @@ ghost use Rattle.std.specs.Prelude.{◌≡◌, IfOk, string_bytes};
 ghost use Rattle.wat_lists.specs.Places.{printed_in};
 
 use std::alloc::{AllocError, Global};
+use std::fmt;
 use wat_lex::error::Error;
+
+/// The name of a file as it is shown: each control character as the picture of it.
+#[derive(Clone, Copy)]
+pub struct Shown<'a>(pub &'a str);
+
+/// What is shown in place of a character.
+fn picture(character: char) -> char {
+    match character {
+        '\0'..='\x1f' => char::from_u32(0x2400 + u32::from(character)).unwrap_or('\u{fffd}'),
+        '\x7f' => '\u{2421}',
+        '\u{80}'..='\u{9f}' => '\u{fffd}',
+        _ => character,
+    }
+}
+
+impl fmt::Display for Shown<'_> {
+    fn fmt<W: fmt::Write>(&self, f: &mut fmt::Formatter<W>) -> fmt::Result {
+        for character in self.0.chars() {
+            f.write_char(picture(character))?;
+        }
+        Ok(())
+    }
+}
 
 /// What an error prints, with a file's name in place of `<anon>`; or the name in front, where the
 /// error tells no line.

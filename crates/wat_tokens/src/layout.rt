@@ -2,48 +2,25 @@
 ghost use Rattle.std.specs.Prelude.{◌≡◌, None};
 ghost use Rattle.wat_lines.specs.Plain.{plain_failure};
 
+use crate::folders::{Kind, kind_of, push_entries};
 use crate::input::{Input, open};
+use crate::patch::{Unwritten, write_patch};
 use crate::replace::replace;
-use std::io;
+use crate::report::{complain, name, not_opened, not_written, told};
+use std::fs;
 use wat_commands::Settings;
-use wat_commands::ends::{Failed, Plain};
+use wat_commands::ends::Plain;
 use wat_commands::fmt::{Compared, run_compare, run_fmt};
 use wat_commands::options::Mode;
 use wat_commands::outcome::Outcome;
 use wat_commands::run::RunError;
-
-/// Reports what came of a file, and answers the exit status.
-fn told(rt: &HostRuntime, file: &str, outcome: &Outcome<'_>) -> u8 {
-    let name = if file == "-" { None } else { Some(file) };
-    let _ = outcome.report(rt.alloc(), name, &mut rt.stderr());
-    outcome.status()
-}
-
-/// Reports what the other reports have no words for.
-fn complain(rt: &HostRuntime, file: &str, what: &str) -> u8 {
-    let _ = eprintln!(rt; "wat_tokens: {file}: {what}");
-    2
-}
-
-/// What a failed call that writes a file ends in.
-fn not_written(error: &io::Error) -> Outcome<'static> {
-    Outcome::Refused(RunError::Write(Failed::of(error)))
-}
-
-/// Names a file that is not laid out.
-fn name(rt: &HostRuntime, file: &str) -> u8 {
-    let shown = if file == "-" { "standard input" } else { file };
-    match println!(rt; "{shown}") {
-        Ok(()) => 1,
-        Err(error) => told(rt, file, &not_written(&error)),
-    }
-}
+use wat_lists::input::read_whole;
 
 /// Makes a file that is not laid out this text.
 fn write(rt: &HostRuntime, file: &str, text: &str) -> u8 {
     match replace(rt, file, text) {
         Ok(()) => 0,
-        Err(error) => told(rt, file, &not_written(&error)),
+        Err(kept) => complain(rt, file, &kept),
     }
 }
 
@@ -61,14 +38,46 @@ fn compare(
         Ok(Compared::Same) => 0,
         Ok(Compared::Faulty(error)) => told(rt, file, &Outcome::Faulty(error)),
         Ok(Compared::Other(text)) if writes => write(rt, file, text.as_str()),
-        Ok(Compared::Longer) if writes => complain(rt, file, "its layout is too long"),
+        Ok(Compared::Longer) if writes => complain(rt, file, &"its layout is too long"),
         Ok(Compared::Other(_) | Compared::Longer) => name(rt, file),
         Err(error) => told(rt, file, &Outcome::Refused(error)),
     }
 }
 
+/// Writes the lines in which a text and its layout differ.
+fn write_difference(rt: &HostRuntime, file: &str, text: &[u8], layout: &[u8]) -> u8 {
+    let mut output = Plain::new(rt.stdout());
+    match write_patch(rt.alloc(), file, text, layout, &mut output) {
+        Ok(()) => 1,
+        Err(Unwritten::Failed(failed)) => not_written(rt, file, failed),
+        Err(Unwritten::Memory(refused)) => {
+            told(rt, file, &Outcome::Refused(RunError::from(refused)))
+        }
+    }
+}
+
+/// Compares the text of a file with its layout, and writes the lines that differ.
+fn show_difference(rt: &HostRuntime, settings: Settings, file: &str, input: &mut Plain<Input>) -> u8
+    requires { plain_failure input.old ≡ None }
+{
+    let bytes = match read_whole(rt.alloc(), input) {
+        Ok(bytes) => bytes,
+        Err(error) => return told(rt, file, &Outcome::Refused(error)),
+    };
+    match run_compare(rt.alloc(), &mut Plain::new(bytes.as_slice()), settings) {
+        Ok(Compared::Same) => 0,
+        Ok(Compared::Faulty(error)) => told(rt, file, &Outcome::Faulty(error)),
+        Ok(Compared::Other(text)) => write_difference(rt, file, &bytes, text.as_bytes()),
+        Ok(Compared::Longer) => complain(rt, file, &"its layout is too long"),
+        Err(error) => told(rt, file, &Outcome::Refused(error)),
+    }
+}
+
 /// Does what is asked with the layout of the text of a file, and answers the exit status.
-pub fn lay_out(rt: &HostRuntime, settings: Settings, mode: Mode, file: &str) -> u8 {
+fn lay_out_file(rt: &HostRuntime, settings: Settings, mode: Mode, file: &str) -> u8 {
+    if mode == Mode::Write && file == "-" {
+        return complain(rt, file, &"no file to write");
+    }
     let mut input = match open(rt, file) {
         Ok(input) => input,
         Err(failed) => return told(rt, file, &Outcome::Unopened(failed)),
@@ -80,7 +89,54 @@ pub fn lay_out(rt: &HostRuntime, settings: Settings, mode: Mode, file: &str) -> 
             told(rt, file, &Outcome::of_run(run))
         }
         Mode::Check => compare(rt, settings, false, file, &mut input),
-        Mode::Write if file == "-" => complain(rt, file, "standard input is no file"),
+        Mode::Diff => show_difference(rt, settings, file, &mut input),
         Mode::Write => compare(rt, settings, true, file, &mut input),
     }
+}
+
+/// Does what is asked with an entry of a folder: with a text, or with a folder, whose entries are
+/// then left to do.
+fn lay_out_entry(
+    rt: &HostRuntime,
+    settings: Settings,
+    mode: Mode,
+    entry: &str,
+    left: &mut Vec<String>,
+) -> u8 {
+    match kind_of(rt, entry) {
+        Ok(Kind::Folder) => push_entries(rt, entry, left),
+        Ok(Kind::Text) => lay_out_file(rt, settings, mode, entry),
+        Ok(Kind::Other) => 0,
+        Err(error) => not_opened(rt, entry, &error),
+    }
+}
+
+/// Does what is asked with the layout of each text below a folder, and answers the greatest status.
+fn lay_out_folder(rt: &HostRuntime, settings: Settings, mode: Mode, folder: &str) -> u8 {
+    let mut left = Vec::new(rt.alloc());
+    let mut worst = push_entries(rt, folder, &mut left);
+    for _ in 0..u64::MAX {
+        let Some(entry) = left.pop() else {
+            break;
+        };
+        worst = worst.max(lay_out_entry(rt, settings, mode, entry.as_str(), &mut left));
+    }
+    worst
+}
+
+/// Whether a name leads to a folder.
+fn is_folder(rt: &HostRuntime, file: &str) -> bool {
+    match fs::metadata(rt, file) {
+        Ok(metadata) => file != "-" && metadata.is_dir(),
+        Err(_) => false,
+    }
+}
+
+/// Does what is asked with the layout of a file's text, or of each text below a folder, and answers
+/// the greatest status; `-` is standard input.
+pub fn lay_out(rt: &HostRuntime, settings: Settings, mode: Mode, file: &str) -> u8 {
+    if is_folder(rt, file) {
+        return lay_out_folder(rt, settings, mode, file);
+    }
+    lay_out_file(rt, settings, mode, file)
 }

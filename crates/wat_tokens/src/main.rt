@@ -2,9 +2,13 @@
 //! asks for beside them.
 #![tactic(auto)]
 
+mod diff;
+mod folders;
 mod input;
 mod layout;
+mod patch;
 mod replace;
+mod report;
 
 use input::{Input, open};
 use layout::lay_out;
