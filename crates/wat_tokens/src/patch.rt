@@ -96,15 +96,15 @@ fn are_near(change: &Change, next: &Change) -> bool {
 
 /// A diff on its way to a sink.
 #[derive(Drop)]
-struct Patch<'a, W> {
+struct Patch<'t, 'o, W> {
     alloc: Global,
-    text: &'a [u8],
-    layout: &'a [u8],
+    text: &'t [u8],
+    layout: &'t [u8],
     block: Block,
-    output: &'a mut W,
+    output: &'o mut W,
 }
 
-impl<W: Sink> Patch<'_, W> {
+impl<W: Sink> Patch<'_, '_, W> {
     fn put(&mut self, bytes: &[u8]) -> Result<(), Failed> {
         self.block.put(self.output, bytes)
     }
@@ -190,11 +190,11 @@ fn names(alloc: Global, file: &str) -> Result<String, AllocError> {
 
 /// Writes the lines in which the text of a file and its layout differ. Where they are the same only
 /// the file is named.
-pub fn write_patch<W: Sink>(
+pub fn write_patch<'t, W: Sink>(
     alloc: Global,
     file: &str,
-    text: &[u8],
-    layout: &[u8],
+    text: &'t [u8],
+    layout: &'t [u8],
     output: &mut W,
 ) -> Result<(), Unwritten> {
     let changes = changes(alloc, text, layout)?;
