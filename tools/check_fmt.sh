@@ -327,7 +327,7 @@ run 1 fmt --check tree
 expect 'the texts below a folder' "$listed" "$(cat out)"
 expect 'and nothing is reported' '' "$(cat err)"
 run 1 fmt --check tree/
-expect 'a slash behind its name' "$listed" "$(cat out)"
+expect 'a slash after its name' "$listed" "$(cat out)"
 run 1 fmt --check neat tree in tree/b
 expect 'files and folders, as they are named' "$listed"$'\nin\ntree/b/x.wat\ntree/b/y.wast' "$(cat out)"
 ln -s tree to_tree

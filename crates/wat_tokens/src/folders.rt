@@ -1,5 +1,5 @@
 //! The texts below a folder.
-use crate::report::{complain, not_opened, told};
+use crate::report::{complain, not_opened, report};
 use std::alloc::AllocError;
 use std::fs::ReadDir;
 use std::{fs, io};
@@ -39,7 +39,7 @@ pub fn kind_of(rt: &HostRuntime, entry: &str) -> io::Result<Kind> {
     }
 }
 
-/// Reports an entry of a folder that the system did not tell.
+/// Reports an entry of a folder that can't be read.
 fn not_listed(rt: &HostRuntime, folder: &str, error: &io::Error) -> u8 {
     if error.kind() == io::ErrorKind::InvalidFilename {
         return complain(rt, folder, &"it has a file whose name is not UTF-8");
@@ -68,7 +68,7 @@ fn gather(
     Ok(status)
 }
 
-/// Puts the entries of a folder behind those that are left, the first by its name last, and answers
+/// Puts the entries of a folder after those that are left, the first by its name last, and answers
 /// the exit status.
 fn try_push(
     rt: &HostRuntime,
@@ -85,7 +85,7 @@ fn try_push(
     Ok(status)
 }
 
-/// Puts the entries of a folder behind those that are left, the first by its name last, reports what
+/// Puts the entries of a folder after those that are left, the first by its name last, reports what
 /// could not be read, and answers the exit status.
 pub fn push_entries(rt: &HostRuntime, folder: &str, left: &mut Vec<String>) -> u8 {
     let listing = match fs::read_dir(rt, folder) {
@@ -94,6 +94,6 @@ pub fn push_entries(rt: &HostRuntime, folder: &str, left: &mut Vec<String>) -> u
     };
     match try_push(rt, folder, listing, left) {
         Ok(status) => status,
-        Err(refused) => told(rt, folder, &Outcome::Refused(RunError::from(refused))),
+        Err(refused) => report(rt, folder, &Outcome::Refused(RunError::from(refused))),
     }
 }

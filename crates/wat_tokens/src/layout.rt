@@ -6,7 +6,7 @@ use crate::folders::{Kind, kind_of, push_entries};
 use crate::input::{Input, open};
 use crate::patch::{Unwritten, write_patch};
 use crate::replace::replace;
-use crate::report::{complain, name, not_opened, not_written, told};
+use crate::report::{complain, name, not_opened, not_written, report};
 use std::fs;
 use wat_commands::Settings;
 use wat_commands::ends::Plain;
@@ -36,11 +36,11 @@ fn compare(
 {
     match run_compare(rt.alloc(), input, settings) {
         Ok(Compared::Same) => 0,
-        Ok(Compared::Faulty(error)) => told(rt, file, &Outcome::Faulty(error)),
+        Ok(Compared::Faulty(error)) => report(rt, file, &Outcome::Faulty(error)),
         Ok(Compared::Other(text)) if writes => write(rt, file, text.as_str()),
         Ok(Compared::Longer) if writes => complain(rt, file, &"its layout is too long"),
         Ok(Compared::Other(_) | Compared::Longer) => name(rt, file),
-        Err(error) => told(rt, file, &Outcome::Refused(error)),
+        Err(error) => report(rt, file, &Outcome::Refused(error)),
     }
 }
 
@@ -51,7 +51,7 @@ fn write_difference(rt: &HostRuntime, file: &str, text: &[u8], layout: &[u8]) ->
         Ok(()) => 1,
         Err(Unwritten::Failed(failed)) => not_written(rt, file, failed),
         Err(Unwritten::Memory(refused)) => {
-            told(rt, file, &Outcome::Refused(RunError::from(refused)))
+            report(rt, file, &Outcome::Refused(RunError::from(refused)))
         }
     }
 }
@@ -62,14 +62,14 @@ fn show_difference(rt: &HostRuntime, settings: Settings, file: &str, input: &mut
 {
     let bytes = match read_whole(rt.alloc(), input) {
         Ok(bytes) => bytes,
-        Err(error) => return told(rt, file, &Outcome::Refused(error)),
+        Err(error) => return report(rt, file, &Outcome::Refused(error)),
     };
     match run_compare(rt.alloc(), &mut Plain::new(bytes.as_slice()), settings) {
         Ok(Compared::Same) => 0,
-        Ok(Compared::Faulty(error)) => told(rt, file, &Outcome::Faulty(error)),
+        Ok(Compared::Faulty(error)) => report(rt, file, &Outcome::Faulty(error)),
         Ok(Compared::Other(text)) => write_difference(rt, file, &bytes, text.as_bytes()),
         Ok(Compared::Longer) => complain(rt, file, &"its layout is too long"),
-        Err(error) => told(rt, file, &Outcome::Refused(error)),
+        Err(error) => report(rt, file, &Outcome::Refused(error)),
     }
 }
 
@@ -80,13 +80,13 @@ fn lay_out_file(rt: &HostRuntime, settings: Settings, mode: Mode, file: &str) ->
     }
     let mut input = match open(rt, file) {
         Ok(input) => input,
-        Err(failed) => return told(rt, file, &Outcome::Unopened(failed)),
+        Err(failed) => return report(rt, file, &Outcome::Unopened(failed)),
     };
     match mode {
         Mode::Print => {
             let mut output = Plain::new(rt.stdout());
             let run = run_fmt(rt.alloc(), &mut input, &mut output, settings);
-            told(rt, file, &Outcome::of_run(run))
+            report(rt, file, &Outcome::of_run(run))
         }
         Mode::Check => compare(rt, settings, false, file, &mut input),
         Mode::Diff => show_difference(rt, settings, file, &mut input),
@@ -127,7 +127,7 @@ fn lay_out_folder(rt: &HostRuntime, settings: Settings, mode: Mode, folder: &str
 /// Whether a name leads to a folder.
 fn is_folder(rt: &HostRuntime, file: &str) -> bool {
     match fs::metadata(rt, file) {
-        Ok(metadata) => file != "-" && metadata.is_dir(),
+        Ok(metadata) => metadata.is_dir(),
         Err(_) => false,
     }
 }
@@ -135,7 +135,7 @@ fn is_folder(rt: &HostRuntime, file: &str) -> bool {
 /// Does what is asked with the layout of a file's text, or of each text below a folder, and answers
 /// the greatest status; `-` is standard input.
 pub fn lay_out(rt: &HostRuntime, settings: Settings, mode: Mode, file: &str) -> u8 {
-    if is_folder(rt, file) {
+    if file != "-" && is_folder(rt, file) {
         return lay_out_folder(rt, settings, mode, file);
     }
     lay_out_file(rt, settings, mode, file)

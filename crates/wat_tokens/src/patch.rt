@@ -9,6 +9,9 @@ use wat_lines::block::Block;
 /// How many lines are shown in front of a change and after it.
 const CONTEXT: usize = 3;
 
+/// What comes after a last line without an end.
+const NO_END: &[u8] = b"\n\\ No newline at end of file\n";
+
 /// Why a diff is not whole.
 #[derive(Clone, Copy, Debug, PartialEq, Eq)]
 pub enum Unwritten {
@@ -38,6 +41,14 @@ impl Stretch {
     /// Its part of a text.
     fn of<'a>(&self, text: &'a [u8]) -> &'a [u8] {
         text.get(self.from.bytes..self.to.bytes).unwrap_or(&[])
+    }
+
+    /// With the lines around it that are shown.
+    fn with_context(&self, text: &[u8]) -> Stretch {
+        Stretch {
+            from: lines_up(text, self.from, CONTEXT),
+            to: lines_down(text, self.to, CONTEXT),
+        }
     }
 }
 
@@ -87,95 +98,67 @@ fn lines_down(text: &[u8], place: Place, count: usize) -> Place {
 
 /// Whether the lines between two changes are shown with them.
 fn are_near(change: &Change, next: &Change) -> bool {
-    let between = Stretch {
-        from: change.old.to,
-        to: next.old.from,
-    };
-    between.len() <= 2 * CONTEXT
+    Stretch::new(change.old.to, next.old.from).len() <= 2 * CONTEXT
 }
 
 /// A diff on its way to a sink.
 #[derive(Drop)]
-struct Patch<'t, 'o, W> {
-    alloc: Global,
-    text: &'t [u8],
-    layout: &'t [u8],
+struct Patch<'a> {
+    text: &'a [u8],
+    layout: &'a [u8],
     block: Block,
-    output: &'o mut W,
 }
 
-impl<W: Sink> Patch<'_, '_, W> {
-    fn put(&mut self, bytes: &[u8]) -> Result<(), Failed> {
-        self.block.put(self.output, bytes)
-    }
-
+impl Patch<'_> {
     /// Puts lines, each with a mark in front.
-    fn put_lines(&mut self, mark: &[u8], lines: &[u8]) -> Result<(), Failed> {
+    fn put_lines<W: Sink>(
+        &mut self,
+        output: &mut W,
+        mark: &[u8],
+        lines: &[u8],
+    ) -> Result<(), Failed> {
         for line in lines.split_inclusive(|byte| *byte == b'\n') {
-            self.put(mark)?;
-            self.put(line)?;
+            self.block.put(output, mark)?;
+            self.block.put(output, line)?;
             if !line.ends_with(b"\n") {
-                self.put(b"\n\\ No newline at end of file\n")?;
+                self.block.put(output, NO_END)?;
             }
         }
         Ok(())
     }
 
-    /// Puts which lines a hunk has.
-    fn put_head(&mut self, shown: Stretch, hunk: &Change) -> Result<(), Unwritten> {
-        let above = Stretch {
-            from: shown.from,
-            to: hunk.old.from,
-        };
-        let below = Stretch {
-            from: hunk.old.to,
-            to: shown.to,
-        };
-        let new = Stretch {
-            from: lines_up(self.layout, hunk.new.from, above.len()),
-            to: lines_down(self.layout, hunk.new.to, below.len()),
-        };
-        let head = format!(in self.alloc; "@@ -{shown} +{new} @@\n")?;
-        self.put(head.as_bytes())?;
-        Ok(())
+    /// Puts a change after the lines that are shown in front of it.
+    fn put_change<W: Sink>(
+        &mut self,
+        output: &mut W,
+        above: Stretch,
+        change: &Change,
+    ) -> Result<(), Failed> {
+        self.put_lines(output, b" ", above.of(self.text))?;
+        self.put_lines(output, b"-", change.old.of(self.text))?;
+        self.put_lines(output, b"+", change.new.of(self.layout))
     }
 
     /// Puts changes that are near to each other, with the lines around them.
-    fn put_hunk(&mut self, changes: &[Change]) -> Result<(), Unwritten> {
+    fn put_hunk<W: Sink>(
+        &mut self,
+        alloc: Global,
+        output: &mut W,
+        changes: &[Change],
+    ) -> Result<(), Unwritten> {
         let (Some(first), Some(last)) = (changes.first(), changes.last()) else {
             return Ok(());
         };
-        let shown = Stretch {
-            from: lines_up(self.text, first.old.from, CONTEXT),
-            to: lines_down(self.text, last.old.to, CONTEXT),
-        };
-        let hunk = Change {
-            old: Stretch {
-                from: first.old.from,
-                to: last.old.to,
-            },
-            new: Stretch {
-                from: first.new.from,
-                to: last.new.to,
-            },
-        };
-        self.put_head(shown, &hunk)?;
-        let mut at = shown.from;
+        let old = Stretch::new(first.old.from, last.old.to).with_context(self.text);
+        let new = Stretch::new(first.new.from, last.new.to).with_context(self.layout);
+        let head = format!(in alloc; "@@ -{old} +{new} @@\n")?;
+        self.block.put(output, head.as_bytes())?;
+        let mut at = old.from;
         for change in changes {
-            let between = Stretch {
-                from: at,
-                to: change.old.from,
-            };
-            self.put_lines(b" ", between.of(self.text))?;
-            self.put_lines(b"-", change.old.of(self.text))?;
-            self.put_lines(b"+", change.new.of(self.layout))?;
+            self.put_change(output, Stretch::new(at, change.old.from), change)?;
             at = change.old.to;
         }
-        let below = Stretch {
-            from: at,
-            to: shown.to,
-        };
-        self.put_lines(b" ", below.of(self.text))?;
+        self.put_lines(output, b" ", Stretch::new(at, old.to).of(self.text))?;
         Ok(())
     }
 }
@@ -190,26 +173,24 @@ fn names(alloc: Global, file: &str) -> Result<String, AllocError> {
 
 /// Writes the lines in which the text of a file and its layout differ. Where they are the same only
 /// the file is named.
-pub fn write_patch<'t, W: Sink>(
+pub fn write_patch<W: Sink>(
     alloc: Global,
     file: &str,
-    text: &'t [u8],
-    layout: &'t [u8],
+    text: &[u8],
+    layout: &[u8],
     output: &mut W,
 ) -> Result<(), Unwritten> {
     let changes = changes(alloc, text, layout)?;
     let names = names(alloc, file)?;
     let mut patch = Patch {
-        alloc,
         text,
         layout,
         block: Block::new(),
-        output,
     };
-    patch.put(names.as_bytes())?;
+    patch.block.put(output, names.as_bytes())?;
     for hunk in changes.chunk_by(|change, next| are_near(change, next)) {
-        patch.put_hunk(hunk)?;
+        patch.put_hunk(alloc, output, hunk)?;
     }
-    patch.block.write(patch.output)?;
+    patch.block.write(output)?;
     Ok(())
 }

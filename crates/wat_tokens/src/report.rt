@@ -17,7 +17,7 @@ impl fmt::Display for Named<'_> {
 }
 
 /// Reports what came of a file, and answers the exit status.
-pub fn told(rt: &HostRuntime, file: &str, outcome: &Outcome<'_>) -> u8 {
+pub fn report(rt: &HostRuntime, file: &str, outcome: &Outcome<'_>) -> u8 {
     let name = if file == "-" { None } else { Some(file) };
     let _ = outcome.report(rt.alloc(), name, &mut rt.stderr());
     outcome.status()
@@ -31,12 +31,12 @@ pub fn complain<D: fmt::Display>(rt: &HostRuntime, file: &str, what: &D) -> u8 {
 
 /// Reports that standard output can't be written.
 pub fn not_written(rt: &HostRuntime, file: &str, failed: Failed) -> u8 {
-    told(rt, file, &Outcome::Refused(RunError::Write(failed)))
+    report(rt, file, &Outcome::Refused(RunError::Write(failed)))
 }
 
 /// Reports that the system did not open a file or folder.
 pub fn not_opened(rt: &HostRuntime, file: &str, error: &io::Error) -> u8 {
-    told(rt, file, &Outcome::Unopened(Failed::of(error)))
+    report(rt, file, &Outcome::Unopened(Failed::of(error)))
 }
 
 /// Names a file that is not laid out.
