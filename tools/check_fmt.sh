@@ -30,11 +30,11 @@ expect() {
     fi
 }
 
-# run STATUS WORD..: runs the program over what stands in the file `in`, and compares its status
+# run STATUS WORD..: runs the program over the text in the file `in`, for two minutes at most, and compares its status
 run() {
     local wanted=$1 status=0
     shift
-    "${user[@]}" "$program" "$@" < in > out 2> err || status=$?
+    timeout 120 "${user[@]}" "$program" "$@" < in > out 2> err || status=$?
     expect "status of $*" "$wanted" "$status"
 }
 
