@@ -356,7 +356,7 @@ mkdir names
 printf '( a )' > names/a.wat
 if printf '( a )' > $'names/\351.wat' 2> err; then
     run 2 fmt --check names
-    expect 'a name in a folder that is not UTF-8' 'wat_tokens: names: it has a file whose name is not UTF-8' "$(cat err)"
+    expect 'a name in a folder that is not UTF-8' 'wat_tokens: names: a name in it is not UTF-8' "$(cat err)"
     expect 'the others are done' names/a.wat "$(cat out)"
 fi
 if can_be_plain; then

@@ -42,7 +42,7 @@ pub fn kind_of(rt: &HostRuntime, entry: &str) -> io::Result<Kind> {
 /// Reports an entry of a folder that can't be read.
 fn not_listed(rt: &HostRuntime, folder: &str, error: &io::Error) -> u8 {
     if error.kind() == io::ErrorKind::InvalidFilename {
-        return complain(rt, folder, &"it has a file whose name is not UTF-8");
+        return complain(rt, folder, &"a name in it is not UTF-8");
     }
     complain(
         rt,

@@ -173,11 +173,11 @@ fn names(alloc: Global, file: &str) -> Result<String, AllocError> {
 
 /// Writes the lines in which the text of a file and its layout differ. Where they are the same only
 /// the file is named.
-pub fn write_patch<W: Sink>(
+pub fn write_patch<'a, W: Sink>(
     alloc: Global,
     file: &str,
-    text: &[u8],
-    layout: &[u8],
+    text: &'a [u8],
+    layout: &'a [u8],
     output: &mut W,
 ) -> Result<(), Unwritten> {
     let changes = changes(alloc, text, layout)?;
