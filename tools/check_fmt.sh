@@ -259,6 +259,19 @@ expect 'hunks' '--- hunks
 -
  1
 -' "$(cat out)"
+printf '(\n\n(\na)\n  b)\n1\n2\n3\n4\n' > joined
+run 1 fmt --diff joined
+expect 'lines that become one' '--- joined
++++ joined
+@@ -1,7 +1,4 @@
+-(
+-
+-(
+-a)
++((a)
+   b)
+ 1
+ 2' "$(cat out)"
 printf '\n \n' > blank
 run 1 fmt --diff blank
 expect 'a text of white space' $'--- blank\n+++ blank\n@@ -1,2 +0,0 @@\n-\n- ' "$(cat out)"
@@ -344,14 +357,14 @@ run 0 fmt --check tree/none
 run 0 fmt --diff tree/none
 run 0 fmt --write tree/none
 expect 'a folder without texts' '' "$(cat out err)"
-chmod 444 tree/z.wat
+chmod 444 tree/b/x.wat
 run 2 fmt --write tree
-expect 'report of a file in a folder' 'wat_tokens: tree/z.wat: read-only, left as it is' "$(cat err)"
-expect 'the texts of a folder are written' '(e_wat) (a_wast) (in_wat) (x_wat) (y_wast) ( z_wat )' "$(cat tree/.c/d/e.wat tree/a.wast tree/a.wat/in.wat tree/b/x.wat tree/b/y.wast tree/z.wat | tr '\n' ' ')"
+expect 'report of a file in a folder' 'wat_tokens: tree/b/x.wat: read-only, left as it is' "$(cat err)"
+expect 'the texts of a folder are written' '(e_wat) (a_wast) (in_wat) (y_wast) (z_wat) ( x_wat )' "$(cat tree/.c/d/e.wat tree/a.wast tree/a.wat/in.wat tree/b/y.wast tree/z.wat tree/b/x.wat | tr '\n' ' ')"
 expect 'the file of a link too' '(a) symbolic link' "$(cat outside.wat) $(stat -c %F tree/link.wat)"
 expect 'and no others' '( a )( a )' "$(cat tree/a.txt tree/wat)"
 run 1 fmt --check tree
-expect 'then they are laid out' 'tree/z.wat' "$(cat out)"
+expect 'then they are laid out' 'tree/b/x.wat' "$(cat out)"
 mkdir names
 printf '( a )' > names/a.wat
 if printf '( a )' > $'names/\351.wat' 2> err; then
