@@ -1,9 +1,8 @@
 //! The texts below a folder.
-use crate::report::{complain, not_opened, report};
+use crate::report::{Failure, complain, not_opened, report};
 use std::alloc::AllocError;
 use std::fs::ReadDir;
 use std::{fs, io};
-use wat_commands::ends::Failed;
 use wat_commands::outcome::Outcome;
 use wat_commands::run::RunError;
 
@@ -44,11 +43,7 @@ fn not_listed(rt: &HostRuntime, folder: &str, error: &io::Error) -> u8 {
     if error.kind() == io::ErrorKind::InvalidFilename {
         return complain(rt, folder, &"a name in it is not UTF-8");
     }
-    complain(
-        rt,
-        folder,
-        &format_args!("read failed{}", Failed::of(error)),
-    )
+    complain(rt, folder, &Failure("read", error))
 }
 
 /// Gathers the entries of a folder that can be read, reports each other, and answers the exit status.

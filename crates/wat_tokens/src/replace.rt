@@ -1,10 +1,10 @@
 //! Writing a file again.
+use crate::report::Failure;
 use std::alloc::AllocError;
 use std::fs::{File, Permissions};
 use std::io::Write;
 use std::path::PathBuf;
 use std::{fmt, fs, io};
-use wat_commands::ends::Failed;
 use wat_commands::named::Shown;
 
 /// Why a file was left as it was.
@@ -15,22 +15,20 @@ pub enum Kept {
     /// Its temporary file, of this name, is there already.
     Busy(String),
     /// Its temporary file, of this name, can't be made.
-    Unmade(String, Failed),
-    /// A call of the system failed.
-    Unwritten(Failed),
-    /// A request for memory was refused, by this refusal.
-    Memory(AllocError),
+    Unmade(String, io::Error),
+    /// A call of the system failed, or a request for memory was refused.
+    Unwritten(io::Error),
 }
 
 impl From<AllocError> for Kept {
     fn from(refused: AllocError) -> Kept {
-        Kept::Memory(refused)
+        Kept::Unwritten(io::Error::from(refused))
     }
 }
 
 impl From<io::Error> for Kept {
     fn from(error: io::Error) -> Kept {
-        Kept::Unwritten(Failed::of(&error))
+        Kept::Unwritten(error)
     }
 }
 
@@ -43,9 +41,8 @@ impl fmt::Display for Kept {
                 "{} is there already: remove it, or another run is at work",
                 Shown(name)
             ),
-            Kept::Unmade(name, failed) => write!(f, "{}: open failed{failed}", Shown(name)),
-            Kept::Unwritten(failed) => write!(f, "write failed{failed}"),
-            Kept::Memory(_) => write!(f, "out of memory"),
+            Kept::Unmade(name, error) => write!(f, "{}: {}", Shown(name), Failure("open", error)),
+            Kept::Unwritten(error) => write!(f, "{}", Failure("write", error)),
         }
     }
 }
@@ -76,7 +73,7 @@ fn replace_target(rt: &HostRuntime, target: &str, text: &str) -> Result<(), Kept
     let temporary = format!(in rt.alloc(); "{target}.wat_tokens")?;
     let mut beside = match File::create_new(rt, temporary.as_str()) {
         Ok(beside) => beside,
-        Err(error) => return Err(not_made(temporary, &error)),
+        Err(error) => return Err(not_made(temporary, error)),
     };
     let mut done = fill(&mut beside, permissions, text);
     if done.is_ok() {
@@ -89,10 +86,10 @@ fn replace_target(rt: &HostRuntime, target: &str, text: &str) -> Result<(), Kept
 }
 
 /// Why a temporary file is not made.
-fn not_made(temporary: String, error: &io::Error) -> Kept {
+fn not_made(temporary: String, error: io::Error) -> Kept {
     match error.kind() {
         io::ErrorKind::AlreadyExists => Kept::Busy(temporary),
-        _ => Kept::Unmade(temporary, Failed::of(error)),
+        _ => Kept::Unmade(temporary, error),
     }
 }
 

@@ -16,6 +16,19 @@ impl fmt::Display for Named<'_> {
     }
 }
 
+/// A call of the system that failed, in words.
+#[derive(Clone, Copy)]
+pub struct Failure<'a>(pub &'static str, pub &'a io::Error);
+
+impl fmt::Display for Failure<'_> {
+    fn fmt<W: fmt::Write>(&self, f: &mut fmt::Formatter<W>) -> fmt::Result {
+        match self.1.kind() {
+            io::ErrorKind::OutOfMemory => write!(f, "out of memory"),
+            _ => write!(f, "{} failed{}", self.0, Failed::of(self.1)),
+        }
+    }
+}
+
 /// Reports what came of a file, and answers the exit status.
 pub fn report(rt: &HostRuntime, file: &str, outcome: &Outcome<'_>) -> u8 {
     let name = if file == "-" { None } else { Some(file) };
@@ -36,7 +49,7 @@ pub fn not_written(rt: &HostRuntime, file: &str, failed: Failed) -> u8 {
 
 /// Reports that the system did not open a file or folder.
 pub fn not_opened(rt: &HostRuntime, file: &str, error: &io::Error) -> u8 {
-    report(rt, file, &Outcome::Unopened(Failed::of(error)))
+    complain(rt, file, &Failure("open", error))
 }
 
 /// Names a file that is not laid out.
