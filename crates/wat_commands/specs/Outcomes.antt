@@ -48,7 +48,7 @@ status named (Refused failure) = if is_unread named failure then 0 else 2
 status named (Unopened failed) = 2
 status named (Wrong words) = 2
 status named Differs = 1
-status named (Kept reason) = 2
+status named Kept = 2
 
 -- the number of an exit status
 abbrev pub exit_code : Exit → ℕ
@@ -84,7 +84,7 @@ report name (Refused failure) = refused name failure
 report name (Unopened failed) = codes "wat_tokens: " ++ (of_file name ++ (codes "open failed" ++ (cause failed ++ codes "\n")))
 report name (Wrong words) = complaint words ++ codes "\n"
 report name Differs = []
-report name (Kept reason) = codes "wat_tokens: " ++ (of_file name ++ (reason.now ++ codes "\n"))
+report name Kept = []
 
 -- What is reported of a fault is written. It leaves out the file's name where there is no memory for it.
 abbrev pub TellsFault : Option (List ℕ) → Option Report → Option (List ℕ) → Option (List ℕ) → Type 0
@@ -98,7 +98,7 @@ Tells name (Refused failure) old new = Appends old new (report name (Refused fai
 Tells name (Unopened failed) old new = Appends old new (report name (Unopened failed))
 Tells name (Wrong words) old new = Appends old new (report name (Wrong words))
 Tells name Differs old new = Appends old new (report name Differs)
-Tells name (Kept reason) old new = Appends old new (report name (Kept reason))
+Tells name Kept old new = Appends old new (report name Kept)
 
 -- what the known bytes of the output have become where these texts are printed of the input's bytes
 abbrev pub Responds : (List ℕ → Option (Option Report) → Type 0) → Outcome → Option (List ℕ) → Option (List ℕ) → Type 0
@@ -112,7 +112,7 @@ Responds prints (Refused (Memory refused)) old new = Keeps old new
 Responds prints (Unopened failed) old new = ⊥
 Responds prints (Wrong words) old new = ⊥
 Responds prints Differs old new = ⊥
-Responds prints (Kept reason) old new = ⊥
+Responds prints Kept old new = ⊥
 
 -- what a task prints, of the text of a file of this name, if it has one
 abbrev pub task_prints : Settings → Option (List ℕ) → Task → Prints

@@ -33,8 +33,8 @@ pub enum Outcome<'a> {
     Wrong(Complaint<'a>),
     /// The text is not laid out.
     Differs,
-    /// The file is left as it is, for this reason.
-    Kept(&'a str),
+    /// The file is left as it is, or can't be read, which is reported where it is found.
+    Kept,
 }
 
 /// An exit status of the program. It is made of an outcome alone.
@@ -171,7 +171,7 @@ impl<'a> Outcome<'a> {
             Outcome::Listed => 0,
             Outcome::Faulty(_) | Outcome::Differs => 1,
             Outcome::Refused(failure) if is_unread(named, *failure) => 0,
-            Outcome::Refused(_) | Outcome::Unopened(_) | Outcome::Wrong(_) | Outcome::Kept(_) => 2,
+            Outcome::Refused(_) | Outcome::Unopened(_) | Outcome::Wrong(_) | Outcome::Kept => 2,
         };
         Exit { code }
     }
@@ -189,12 +189,11 @@ impl<'a> Outcome<'a> {
     {
         let file = OfFile(name);
         match self {
-            Outcome::Listed | Outcome::Differs => Ok(()),
+            Outcome::Listed | Outcome::Differs | Outcome::Kept => Ok(()),
             Outcome::Faulty(error) => report_fault(alloc, name, error, errors),
             Outcome::Refused(failure) => report_refusal(name, *failure, errors),
             Outcome::Unopened(failed) => writeln!(errors, "wat_tokens: {file}open failed{failed}"),
             Outcome::Wrong(complaint) => writeln!(errors, "{complaint}"),
-            Outcome::Kept(reason) => writeln!(errors, "wat_tokens: {file}{reason}"),
         }
     }
 }

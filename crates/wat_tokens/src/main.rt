@@ -2,9 +2,13 @@
 //! asks for beside them.
 #![tactic(auto)]
 
+mod diff;
+mod folders;
 mod input;
 mod layout;
+mod patch;
 mod replace;
+mod report;
 
 use input::{Input, open};
 use layout::lay_out;
@@ -12,8 +16,8 @@ use std::alloc::AllocError;
 use std::process::ExitCode;
 use std::{env, fs, io};
 use wat_commands::Settings;
-use wat_commands::ends::{Failed, Plain};
 use wat_commands::complaint::Complaint;
+use wat_commands::ends::{Failed, Plain};
 use wat_commands::options::Mode;
 use wat_commands::outcome::{Exit, Outcome};
 use wat_commands::respond::{Inputs, respond};

@@ -1,23 +1,96 @@
-//! Writing a file anew.
+//! Writing a file again.
+use crate::report::Failure;
+use std::alloc::AllocError;
 use std::fs::{File, Permissions};
 use std::io::Write;
-use std::{fs, io};
+use std::path::PathBuf;
+use std::{fmt, fs, io};
+use wat_commands::named::Shown;
+
+/// Why a file was left as it was.
+#[derive(Drop)]
+pub enum Kept {
+    /// Nobody may write it.
+    ReadOnly,
+    /// Its temporary file, of this name, is there already.
+    Busy(String),
+    /// Its temporary file, of this name, can't be made.
+    Unmade(String, io::Error),
+    /// A call of the system failed, or a request for memory was refused.
+    Unwritten(io::Error),
+}
+
+impl From<AllocError> for Kept {
+    fn from(refused: AllocError) -> Kept {
+        Kept::Unwritten(io::Error::from(refused))
+    }
+}
+
+impl From<io::Error> for Kept {
+    fn from(error: io::Error) -> Kept {
+        Kept::Unwritten(error)
+    }
+}
+
+impl fmt::Display for Kept {
+    fn fmt<W: fmt::Write>(&self, f: &mut fmt::Formatter<W>) -> fmt::Result {
+        match self {
+            Kept::ReadOnly => write!(f, "read-only, left as it is"),
+            Kept::Busy(name) => write!(
+                f,
+                "{} is there already: remove it, or another run is at work",
+                Shown(name)
+            ),
+            Kept::Unmade(name, error) => write!(f, "{}: {}", Shown(name), Failure("open", error)),
+            Kept::Unwritten(error) => write!(f, "{}", Failure("write", error)),
+        }
+    }
+}
 
 /// Puts the text in place of a file's: it is written into a temporary file beside it, with the
 /// file's permissions, which then takes the file's name. Where that fails the file is as it was.
-pub fn replace(rt: &HostRuntime, file: &str, text: &str) -> io::Result<()> {
-    let target = fs::canonicalize(rt, file)?;
-    let permissions = fs::metadata(rt, target.as_str())?.permissions();
-    let temporary = format!(in rt.alloc(); "{}.wat_tokens", target.as_str())?;
-    let mut beside = File::create_new(rt, temporary.as_str())?;
+pub fn replace(rt: &HostRuntime, file: &str, text: &str) -> Result<(), Kept> {
+    match target_of(rt, file)? {
+        Some(target) => replace_target(rt, target.as_str(), text),
+        None => replace_target(rt, file, text),
+    }
+}
+
+/// The file that a symbolic link leads to.
+fn target_of(rt: &HostRuntime, file: &str) -> io::Result<Option<PathBuf>> {
+    if !fs::symlink_metadata(rt, file)?.is_symlink() {
+        return Ok(None);
+    }
+    Ok(Some(fs::canonicalize(rt, file)?))
+}
+
+/// Puts the text in place of that of a file that is no link.
+fn replace_target(rt: &HostRuntime, target: &str, text: &str) -> Result<(), Kept> {
+    let permissions = fs::metadata(rt, target)?.permissions();
+    if permissions.readonly() {
+        return Err(Kept::ReadOnly);
+    }
+    let temporary = format!(in rt.alloc(); "{target}.wat_tokens")?;
+    let mut beside = match File::create_new(rt, temporary.as_str()) {
+        Ok(beside) => beside,
+        Err(error) => return Err(not_made(temporary, error)),
+    };
     let mut done = fill(&mut beside, permissions, text);
     if done.is_ok() {
-        done = fs::rename(rt, temporary.as_str(), target.as_str());
+        done = fs::rename(rt, temporary.as_str(), target);
     }
     if done.is_err() {
         let _ = fs::remove_file(rt, temporary.as_str());
     }
-    done
+    Ok(done?)
+}
+
+/// Why a temporary file is not made.
+fn not_made(temporary: String, error: io::Error) -> Kept {
+    match error.kind() {
+        io::ErrorKind::AlreadyExists => Kept::Busy(temporary),
+        _ => Kept::Unmade(temporary, error),
+    }
 }
 
 /// Writes a temporary file, down to the disk.
