@@ -203,11 +203,17 @@ pub record HasFiles (words : List Word) (v : Verb) (after : List Word) (files : 
   pub all : files ≡ (front_of words).files ++ own
   pub few : (takes_many v ≡ true) ⊎ (length files ≤ 1)
 
--- the words are options, and then those of a task with its files; `types` takes no flags
+-- the first word
+abbrev pub begins_with : List ℕ → List Word → Bool
+begins_with text [] = false
+begins_with text (word ∷ words) = spells text word
+
+-- the words are options, and then those of a task with its files, of which `--` is not the first; `types` takes no flags
 pub record AsksRun (words : List Word) (settings : Settings) (task : Task) (files : List Word) : Type 0 where
   pub selects : Selects (front_of words) settings
   pub asked : AsksTask (verb_of (front_of words).rest) (wants_json (front_of words)) (after_verb (front_of words).rest) task
   pub named : HasFiles words (verb_of (front_of words).rest) (after_verb (front_of words).rest) files
+  pub begun : begins_with (codes "--") (front_of words).rest ≡ false
   pub bare : verb_of (front_of words).rest ≡ verb.Types → (settings.allow ≡ false) × (settings.strict ≡ false)
 
 -- the words are options, and then `fmt`, what is done with layouts, of which there is no JSON, and files
@@ -219,11 +225,6 @@ pub record AsksFormat (words : List Word) (settings : Settings) (m : Mode) (file
   pub own : List Word
   pub named : NamesFiles (after_mode (after_verb (front_of words).rest)) own
   pub all : files ≡ (front_of words).files ++ own
-
--- the first word
-abbrev pub begins_with : List ℕ → List Word → Bool
-begins_with text [] = false
-begins_with text (word ∷ words) = spells text word
 
 abbrev pub asks_help : List Word → Bool
 asks_help words = begins_with (codes "--help") words || begins_with (codes "-h") words

@@ -171,6 +171,7 @@ fn wrong_command(words: &[String]) -> Complaint<'_> {
             Complaint::NoFlags
         }
         Verb::Fmt => wrong_files(split_mode(after).1),
+        Verb::Play if FileNames::of_options(words).are_several() => Complaint::TooMany,
         Verb::Play if !after.is_empty() => Complaint::NoCall,
         Verb::List | Verb::Sig | Verb::Play | Verb::Blank | Verb::Types => wrong_files(after),
     }

@@ -498,6 +498,9 @@ fn run_of<'a>(alloc: Global, words: &'a [String]) -> Result<Option<Command<'a>>,
     let Some(settings) = settings_of(words) else {
         return Ok(None);
     };
+    if begins_with("--", after_options(words)) {
+        return Ok(None);
+    }
     let (verb, after) = split_verb(after_options(words));
     if verb == Verb::Types && (settings.allow || settings.strict) {
         return Ok(None);

@@ -7,12 +7,15 @@ mod responses;
 mod shown;
 
 use std::alloc::Global;
+use std::io;
 use std::test::Fail;
 use wat_commands::Settings;
 use wat_commands::ends::Failed;
 
-/// A failure without an error number.
-const FAILED: Failed = Failed { code: None };
+/// A failure with this error number of the system.
+fn failed(code: i32) -> Failed {
+    Failed::of(&io::Error::from_raw_os_error(code))
+}
 
 const OFF: Settings = Settings {
     allow: false,

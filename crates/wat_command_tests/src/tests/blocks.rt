@@ -1,9 +1,9 @@
 //! Texts whose output is longer than a block.
-use crate::tests::{Counted, FAILED, OFF, counting_writer, list};
+use crate::tests::{Counted, OFF, counting_writer, list};
 use std::alloc::Global;
 use std::test::Fail;
 use wat_commands::ends::Plain;
-use wat_commands::run::{RunError, run_blank};
+use wat_commands::run::{Printing, RunError, run};
 
 /// How many parentheses the text has: their lines fill two blocks and some of a third.
 const PARENS: usize = 9_000;
@@ -62,7 +62,7 @@ fn a_fault_stands_behind_blocks(rt: HostRuntime) -> Result<(), Fail> {
 fn a_later_block_is_not_written(rt: HostRuntime) -> Result<(), Fail> {
     for fails_at in 0..3 {
         let (result, writer) = list_of(rt.alloc(), "", fails_at)?;
-        assert_eq!(rt; result, Err(RunError::Write(FAILED)));
+        assert_eq!(rt; result, Err(RunError::Write));
         let lines = paren_lines(rt.alloc())?;
         let held = writer.held.as_slice();
         assert!(rt; lines.as_bytes().starts_with(held) && held.len() < lines.len());
@@ -86,7 +86,7 @@ fn long_string(alloc: Global, front: &str, behind: &str) -> Result<String, Fail>
 fn blanked(alloc: Global, text: &str) -> Result<Vec<u8>, Fail> {
     let mut input = Plain::new(text.as_bytes());
     let mut output = Plain::new(Vec::new(alloc));
-    match run_blank(alloc, &mut input, &mut output, OFF) {
+    match run(alloc, &mut input, &mut output, OFF, Printing::Blank) {
         Ok(None) => Ok(output.into_inner()),
         _ => Err(Fail::from("the run is refused, or there is a fault")),
     }

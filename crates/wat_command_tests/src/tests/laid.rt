@@ -1,12 +1,12 @@
 //! Texts that are laid out, and texts that are compared with their layouts.
-use super::{FAILED, OFF, Pieces};
+use super::{OFF, Pieces, failed};
 use std::alloc::{AllocError, Global};
 use std::io;
 use std::process::Abort;
 use std::test::Fail;
 use wat_commands::ends::Plain;
 use wat_commands::fmt::{Compared, run_compare, run_fmt};
-use wat_commands::run::RunError;
+use wat_commands::run::RunFailure;
 
 /// A writer that takes so many bytes, and then nothing.
 #[derive(Drop)]
@@ -77,7 +77,7 @@ fn a_writer_that_takes_no_more(rt: HostRuntime) {
         left: 2,
     });
     let run = run_fmt(rt.alloc(), &mut input, &mut output, OFF);
-    assert!(rt; matches!(&run, Err(RunError::Write(failed)) if *failed == FAILED));
+    assert!(rt; matches!(&run, Err(RunFailure::Write(why)) if *why == failed()));
     assert_eq!(rt; output.into_inner().held.as_slice(), b"(a".as_slice());
 }
 
@@ -92,7 +92,7 @@ fn a_source_that_fails(rt: HostRuntime) {
     };
     let mut output = Plain::new(Vec::new(rt.alloc()));
     let run = run_fmt(rt.alloc(), &mut input, &mut output, OFF);
-    assert!(rt; matches!(&run, Err(RunError::Read(failed)) if *failed == FAILED));
+    assert!(rt; matches!(&run, Err(RunFailure::Read(why)) if *why == failed()));
     assert!(rt; output.into_inner().is_empty());
 }
 

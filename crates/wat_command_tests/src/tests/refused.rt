@@ -1,12 +1,10 @@
 //! The seven runs over a source that gives few bytes a call and fails at each call in turn, and to a
 //! sink that fails. Where memory is wanting, each of them answers that and has written nothing.
-use crate::tests::{FAILED, OFF, Pieces, Room};
+use crate::tests::{OFF, Pieces, Room};
 use std::alloc::Global;
 use std::process::Abort;
 use std::test::Fail;
-use wat_commands::run::{
-    RunError, run_blank, run_json_list, run_json_sig, run_list, run_play, run_sig, run_types,
-};
+use wat_commands::run::{Printing, RunError, run as print, run_list, run_play, run_sig};
 use wat_lexer_parser::parser::Call;
 
 const TEXT: &str = "(@a \"x\") b";
@@ -44,6 +42,21 @@ const KINDS: [(Kind, &str, &str); 7] = [
     (Kind::Types, "(module)", "\0asm\x01\0\0\0"),
 ];
 
+/// A run that prints this.
+fn printed(
+    rt: &impl Abort,
+    input: &mut Pieces<'_>,
+    output: &mut Room,
+    printing: Printing<'_>,
+) -> Result<(), RunError> {
+    assert!(rt; input.failure.is_none() && output.failure.is_none());
+    let alloc = *output.held.allocator();
+    match print(alloc, input, output, OFF, printing) {
+        Ok(_) => Ok(()),
+        Err(failure) => Err(RunError::from(failure)),
+    }
+}
+
 /// A run of the kind. Its own words take memory too.
 fn run(
     rt: &impl Abort,
@@ -56,11 +69,13 @@ fn run(
     match kind {
         Kind::List => run_list(alloc, input, output, OFF).map(|_| ()),
         Kind::Sig => {
-            let names = [String::from_str(alloc, "a")?];
-            run_sig(alloc, input, output, OFF, &names).map(|_| ())
+            let Ok(name) = String::from_str(alloc, "a") else {
+                return Err(RunError::Memory);
+            };
+            run_sig(alloc, input, output, OFF, &[name]).map(|_| ())
         }
-        Kind::JsonList => run_json_list(alloc, input, output, OFF).map(|_| ()),
-        Kind::JsonSig => run_json_sig(alloc, input, output, OFF, &[]).map(|_| ()),
+        Kind::JsonList => printed(rt, input, output, Printing::JsonRaw(None)),
+        Kind::JsonSig => printed(rt, input, output, Printing::JsonShown(&[], None)),
         Kind::Play => run_play(
             alloc,
             input,
@@ -68,8 +83,8 @@ fn run(
             OFF,
             &[Call::Look, Call::Take, Call::Look],
         ),
-        Kind::Blank => run_blank(alloc, input, output, OFF).map(|_| ()),
-        Kind::Types => run_types(alloc, input, output).map(|_| ()),
+        Kind::Blank => printed(rt, input, output, Printing::Blank),
+        Kind::Types => printed(rt, input, output, Printing::Types),
     }
 }
 
@@ -107,18 +122,15 @@ fn read_fails(
     match answer {
         Ok(()) => assert_eq!(rt; held, written.as_bytes()),
         Err(error) => {
-            assert!(rt; error == RunError::Read(FAILED) || matches!(error, RunError::Memory(_)));
+            assert!(rt; error == RunError::Read || matches!(error, RunError::Memory));
             assert!(rt; held.is_empty());
         }
     }
     let reads = text.len().div_ceil(most.max(1)) + 1;
     assert!(rt;
-        matches!(answer, Err(RunError::Memory(_))) || (answer == Ok(())) == (fails_in >= reads)
+        matches!(answer, Err(RunError::Memory)) || (answer == Ok(())) == (fails_in >= reads)
     );
-    assert_eq!(rt;
-        input.failure.is_some(),
-        answer == Err(RunError::Read(FAILED))
-    );
+    assert_eq!(rt; input.failure.is_some(), answer == Err(RunError::Read));
     Ok(())
 }
 
@@ -138,8 +150,8 @@ fn the_write_fails(rt: HostRuntime) -> Result<(), Fail> {
     for (kind, text, _) in KINDS {
         let mut output = room(rt.alloc(), true)?;
         let answer = run(&rt, kind, &mut pieces(text, 1, 99), &mut output);
-        let failed = answer == Err(RunError::Write(FAILED));
-        assert!(rt; failed || matches!(answer, Err(RunError::Memory(_))));
+        let failed = answer == Err(RunError::Write);
+        assert!(rt; failed || matches!(answer, Err(RunError::Memory)));
         assert_eq!(rt; output.failure.is_some(), failed);
         assert!(rt; output.held.is_empty());
     }

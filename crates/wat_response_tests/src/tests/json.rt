@@ -4,7 +4,7 @@ use crate::tests::OFF;
 use std::alloc::Global;
 use std::test::Fail;
 use wat_commands::ends::Plain;
-use wat_commands::run::{run_json_list, run_json_sig};
+use wat_commands::run::{Printing, run};
 
 /// Words, a text, and what is answered.
 const LINES: &str = "\
@@ -17,16 +17,18 @@ const LINES: &str = "\
     \";;\\u0001\\u001f\\\"\\\\\u{7f}\u{e9}\u{1f600}\\t\",\"line\":1,\"column\":1}\n\
     {\"offset\":14,\"length\":2,\"kind\":\"Whitespace\",\"text\":\"\\r \",\"line\":1,\"column\":15}\n\
     {\"offset\":16,\"length\":1,\"kind\":\"Integer\",\"text\":\"1\",\"line\":1,\"column\":17}\n\x1e\
-    --json sig | (;\n\n;) \u{0} => 1\nunexpected character '\\u{0}'\n     --> <anon>:3:4\n      |\n    3 | ;) \u{0}\n      |    ^\n\x1e\
+    --json sig | (;\n\n;) \u{0} => 1\n{\"offset\":7,\"fault\":\"unexpected character '\\\\u{0}'\",\"line\":3,\"column\":4}\nunexpected character '\\u{0}'\n     --> <anon>:3:4\n      |\n    3 | ;) \u{0}\n      |    ^\n\x1e\
     --json sig a | (@a\n(;\n;) \"\\00\") 0x1p3 => 0\n{\"offset\":0,\"length\":1,\"kind\":\"LParen\",\"text\":\"(\",\"line\":1,\"column\":1}\n\
     {\"offset\":1,\"length\":2,\"kind\":\"Annotation\",\"text\":\"@a\",\"line\":1,\"column\":2}\n\
     {\"offset\":10,\"length\":5,\"kind\":\"String\",\"text\":\"\\\"\\\\00\\\"\",\"line\":3,\"column\":4}\n\
     {\"offset\":15,\"length\":1,\"kind\":\"RParen\",\"text\":\")\",\"line\":3,\"column\":9}\n\
     {\"offset\":17,\"length\":5,\"kind\":\"Float\",\"text\":\"0x1p3\",\"line\":3,\"column\":11}\n\x1e\
     --json sig | x (@a 1 => 1\n{\"offset\":0,\"length\":1,\"kind\":\"Keyword\",\"text\":\"x\",\"line\":1,\"column\":1}\n\
+    {\"offset\":3,\"fault\":\"unclosed annotation\",\"line\":1,\"column\":4}\n\
     unclosed annotation at byte offset 3\n\x1e\
     --json --allow-confusing --strict-underscores | ;;\u{202e} => 0\n{\"offset\":0,\"length\":5,\"kind\":\"LineComment\",\"text\":\";;\u{202e}\",\"line\":1,\"column\":1}\n\x1e\
     --json | x(; => 1\n{\"offset\":0,\"length\":1,\"kind\":\"Keyword\",\"text\":\"x\",\"line\":1,\"column\":1}\n\
+    {\"offset\":1,\"fault\":\"unterminated block comment\",\"line\":1,\"column\":2}\n\
     unterminated block comment\n     --> <anon>:1:2\n      |\n    1 | x(;\n      |  ^\n";
 
 #[test]
@@ -38,7 +40,7 @@ fn lines_of_json(rt: HostRuntime) -> Result<(), Fail> {
 fn list(alloc: Global, text: &str) -> Result<Vec<u8>, Fail> {
     let mut input = Plain::new(text.as_bytes());
     let mut output = Plain::new(Vec::new(alloc));
-    match run_json_list(alloc, &mut input, &mut output, OFF) {
+    match run(alloc, &mut input, &mut output, OFF, Printing::JsonRaw(None)) {
         Ok(None) => Ok(output.into_inner()),
         _ => Err(Fail::from("the run is refused, or there is a fault")),
     }
@@ -48,7 +50,13 @@ fn list(alloc: Global, text: &str) -> Result<Vec<u8>, Fail> {
 fn sig(alloc: Global, text: &str) -> Result<Vec<u8>, Fail> {
     let mut input = Plain::new(text.as_bytes());
     let mut output = Plain::new(Vec::new(alloc));
-    match run_json_sig(alloc, &mut input, &mut output, OFF, &[]) {
+    match run(
+        alloc,
+        &mut input,
+        &mut output,
+        OFF,
+        Printing::JsonShown(&[], None),
+    ) {
         Ok(None) => Ok(output.into_inner()),
         _ => Err(Fail::from("the run is refused, or there is a fault")),
     }

@@ -1,15 +1,16 @@
 //! What the words of a command line come to: words, files with their texts, and what is written and
 //! reported.
-use super::{FAILED, words_of};
+use super::{failed, words_of};
 use std::alloc::{AllocError, Global};
 use std::process::Abort;
 use std::str;
 use std::test::Fail;
+use wat_commands::complaint::{Complaint, complaint_of};
 use wat_commands::ends::{Failed, Plain};
-use wat_commands::options::{Command, Mode, Task, read_words};
-use wat_commands::outcome::Outcome;
+use wat_commands::options::{Command, FileNames, Mode, Task, read_words};
+use wat_commands::outcome::{Exit, Outcome};
 use wat_commands::respond::{Inputs, respond};
-use wat_commands::run::RunError;
+use wat_commands::run::RunFailure;
 use wat_lex::error::Error;
 use wat_lex::lexer::{LexError, Settings};
 use wat_lex::token::Span;
@@ -20,26 +21,37 @@ use wat_lexer_parser::parser::Call;
 pub(super) struct Alone<'a>(pub(super) &'a str);
 
 impl<'a> Inputs for Alone<'a> {
-    ghost use Rattle.std.specs.Prelude.{Some, Ok};
+    ghost use Rattle.std.specs.Prelude.{◌≡◌, Some, Ok, true};
 
     type Input = Plain<&'a [u8]>;
 
     ghost found = { λ t _. Some (Ok t.0.now) };
 
-    ghost laid_out = { λ _ _ _ _. Some 0 };
+    ghost there = { λ _ _. Some true };
 
-    fn open(&self, _file: &str) -> Result<Plain<&'a [u8]>, Failed> {
+    ghost opened = { λ before _ after. after ≡ before };
+
+    ghost laid_out = { λ before _ _ _ after _. after ≡ before };
+
+    fn is_there(&self, _file: &str) -> bool {
+        true
+    }
+
+    fn open(&mut self, _file: &str) -> Result<Plain<&'a [u8]>, Failed> {
         Ok(Plain::new(self.0.as_bytes()))
     }
 
-    fn lay_out(&self, _settings: Settings, _mode: Mode, _file: &str) -> u8 {
-        0
+    fn lay_out(&mut self, _settings: Settings, _mode: Mode, _file: &str) -> Exit {
+        Exit::idle()
     }
 }
 
-/// Files with their names, and no others.
+/// Files with their names, and no others. It tells what was asked of it, a line each.
 #[derive(Drop)]
-struct Folder<'a>(&'a [(&'a str, &'a [u8])]);
+struct Folder<'a> {
+    files: &'a [(&'a str, &'a [u8])],
+    asked: String,
+}
 
 impl<'a> Inputs for Folder<'a> {
     ghost use Rattle.std.specs.Prelude.{None};
@@ -48,35 +60,42 @@ impl<'a> Inputs for Folder<'a> {
 
     ghost found = { λ _ _. None };
 
-    ghost laid_out = { λ _ _ _ _. None };
+    ghost there = { λ _ _. None };
 
-    // A status of its own for each way to ask.
-    fn lay_out(&self, settings: Settings, mode: Mode, file: &str) -> u8 {
-        let asked = match mode {
-            Mode::Print => 10,
-            Mode::Check => 20,
-            Mode::Write => 30,
-        };
-        let strict = if settings.strict { 1 } else { 0 };
-        asked + strict + if file == "a" { 5 } else { 0 }
+    ghost opened = { λ _ _ _. Unit {0} };
+
+    ghost laid_out = { λ _ _ _ _ _ _. Unit {0} };
+
+    fn is_there(&self, file: &str) -> bool {
+        self.files.iter().any(|(name, _)| *name == file)
     }
 
-    fn open(&self, file: &str) -> Result<Plain<&'a [u8]>, Failed> {
-        for (name, bytes) in self.0 {
+    fn open(&mut self, file: &str) -> Result<Plain<&'a [u8]>, Failed> {
+        let _ = writeln!(self.asked, "open {file}");
+        for (name, bytes) in self.files {
             if *name == file {
                 return Ok(Plain::new(*bytes));
             }
         }
-        Err(Failed { code: Some(2) })
+        Err(failed(2))
+    }
+
+    fn lay_out(&mut self, settings: Settings, mode: Mode, file: &str) -> Exit {
+        let _ = writeln!(self.asked, "{mode:?} {} {file}", settings.strict);
+        match file {
+            "a" => Outcome::Differs.exit(true),
+            "bad" => Outcome::Kept.exit(true),
+            _ => Exit::idle(),
+        }
     }
 }
 
 /// The status, and what is written and reported.
-fn response<I: Inputs>(alloc: Global, words: &[String], inputs: &I) -> (u8, Vec<u8>, Vec<u8>) {
+fn response<I: Inputs>(alloc: Global, words: &[String], inputs: &mut I) -> (u8, Vec<u8>, Vec<u8>) {
     let mut output = Plain::new(Vec::new(alloc));
     let mut errors = Vec::new(alloc);
-    let status = respond(alloc, words, inputs, &mut output, &mut errors);
-    (status, output.into_inner(), errors)
+    let exit = respond(alloc, words, inputs, &mut output, &mut errors);
+    (exit.code(), output.into_inner(), errors)
 }
 
 /// A status, and what is written and reported, as one text.
@@ -87,21 +106,26 @@ fn shown(alloc: Global, status: u8, lines: &[u8], errors: &[u8]) -> Result<Strin
 }
 
 /// The status, and what is written and reported, as one text.
-pub(super) fn answered<I: Inputs>(alloc: Global, words: &str, inputs: &I) -> Result<String, Fail> {
+pub(super) fn answered<I: Inputs>(
+    alloc: Global,
+    words: &str,
+    inputs: &mut I,
+) -> Result<String, Fail> {
     let words = words_of(alloc, words)?;
     let (status, lines, errors) = response(alloc, &words, inputs);
     shown(alloc, status, &lines, &errors)
 }
 
-/// Each in quotes, behind what stands there.
-fn push_files(text: &mut String, files: &[String]) -> Result<(), AllocError> {
-    for file in files {
+/// Each in quotes, after what is there.
+fn push_files(text: &mut String, files: FileNames<'_>) -> Result<(), AllocError> {
+    let mut left = files;
+    while let Some(file) = left.next() {
         write!(text, " {file:?}")?;
     }
     Ok(())
 }
 
-/// Each in angle brackets, behind what stands there.
+/// Each in angle brackets, after what is there.
 fn push_names(text: &mut String, names: &[String]) -> Result<(), AllocError> {
     for name in names {
         write!(text, " <{name}>")?;
@@ -109,7 +133,7 @@ fn push_names(text: &mut String, names: &[String]) -> Result<(), AllocError> {
     Ok(())
 }
 
-/// Each call, behind what stands there.
+/// Each call, after what is there.
 fn push_calls(text: &mut String, calls: &[Call]) -> Result<(), AllocError> {
     for call in calls {
         write!(text, " {call:?}")?;
@@ -142,23 +166,28 @@ fn spelled(alloc: Global, command: &Command<'_>) -> Result<String, AllocError> {
         Command::Run(settings, task, files) => {
             write!(text, "{} {}", settings.allow, settings.strict)?;
             push_task(&mut text, task)?;
-            push_files(&mut text, files)?;
+            push_files(&mut text, *files)?;
         }
         Command::Format(settings, mode, files) => {
             write!(text, "{} {} {mode:?}", settings.allow, settings.strict)?;
-            push_files(&mut text, files)?;
+            push_files(&mut text, *files)?;
         }
     }
     Ok(text)
 }
 
-/// What the words ask for, or `!` and the wrong word.
+/// What the words ask for, or `!` and what is wrong with them.
 fn asked(alloc: Global, text: &str) -> Result<String, Fail> {
     let words = words_of(alloc, text)?;
-    match read_words(alloc, &words)? {
-        Ok(command) => Ok(spelled(alloc, &command)?),
-        Err(word) => Ok(format!(in alloc; "!{word}")?),
+    if let Some(command) = read_words(alloc, &words)? {
+        return Ok(spelled(alloc, &command)?);
     }
+    let complaint = complaint_of(&words, true).to_string(alloc)?;
+    let first = complaint.lines().next().unwrap_or("");
+    Ok(format!(in alloc;
+        "!{}",
+        first.strip_prefix("wat_tokens: ").unwrap_or("usage")
+    )?)
 }
 
 /// Whether the words of each row ask for what stands behind them.
@@ -179,63 +208,68 @@ const WORDS: &str = "\
     --strict-underscores list -> false true list\n\
     --allow-confusing --strict-underscores -> true true list\n\
     --strict-underscores --allow-confusing -> true true list\n\
-    --allow-confusing --allow-confusing -> !--allow-confusing\n\
+    --allow-confusing --allow-confusing -> !usage\n\
+    --strict-underscores --allow-confusing --strict-underscores -> !usage\n\
     a -> false false list \"a\"\n\
     list a - b -> false false list \"a\" \"-\" \"b\"\n\
-    -- a --b -> false false list \"a\" \"--b\"\n\
+    list -- a --b -> false false list \"a\" \"--b\"\n\
     a -- -> false false list \"a\"\n\
-    a -- b -> !b\n\
-    a -b -> !-b\n\
-    a --allow-confusing -> !--allow-confusing\n\
-    -x -> !-x\n\
-    --nothing a -> !--nothing\n\
+    -- a -> !usage\n\
+    -- -> !usage\n\
+    a -- b -> !files are before -- or after it, not both\n\
+    a -b -> !unknown option: -b\n\
+    a --allow-confusing -> !--allow-confusing comes too late\n\
+    -x -> !usage\n\
+    --nothing a -> !usage\n\
+    --file -> !--file has no name after it\n\
+    --file a -> false false list \"a\"\n\
+    --file a --json --file --json b -> false false json list \"a\" \"--json\" \"b\"\n\
+    --file sig sig sig -> false false <sig> \"sig\"\n\
     sig -> false false\n\
     sig a play -> false false <a> <play>\n\
-    sig a -- play sig -> false false <a> \"play\" \"sig\"\n\
-    sig b --allow-confusing -> !--allow-confusing\n\
-    sig b --help a -> !--help\n\
-    sig -h -> !-h\n\
-    sig -a -> false false <-a>\n\
+    sig a -- play --json --help -h --file -> false false <a> <--> <play> <--json> <--help> <-h> <--file>\n\
     --allow-confusing sig a a -> true false <a> <a>\n\
+    --file a --file b sig -> false false \"a\" \"b\"\n\
     --strict-underscores --allow-confusing play -> true true\n\
-    play look take comment parens=12 reg=b unreg= -- a -> false false Look Take Comment Parens(12) Register(\"b\") Unregister(\"\") \"a\"\n\
-    play look -- a b -> !b\n\
-    play look Look -> !Look\n\
-    play --allow-confusing -> !--allow-confusing\n\
-    play blank -> !blank\n\
+    --file a play look take comment parens=12 reg=b unreg= -> false false Look Take Comment Parens(12) Register(\"b\") Unregister(\"\") \"a\"\n\
+    --file a --file b play look -> !this command takes one file\n\
+    play look Look -> !usage\n\
+    play -- -> !usage\n\
+    play parens=1234567890 -> !usage\n\
+    --allow-confusing play --allow-confusing -> !usage\n\
+    play blank -> !usage\n\
+    --json play look -> !--json goes with list and sig alone\n\
+    --file a play Look -> !play takes calls of a parser alone\n\
     blank -> false false blank\n\
     --allow-confusing blank x -> true false blank \"x\"\n\
     sig blank -> false false <blank>\n\
-    blank x y -> !y\n\
-    blank -- x y -> !y\n\
-    blank --allow-confusing -> !--allow-confusing\n\
+    blank x y -> !this command takes one file\n\
+    blank -- x y -> !this command takes one file\n\
+    blank --allow-confusing -> !--allow-confusing comes too late\n\
     types -> false false types\n\
-    types x -> false false types \"x\"\n\
-    types x y -> !y\n\
-    --allow-confusing types -> !types\n\
-    --strict-underscores types -> !types\n\
-    types --allow-confusing -> !--allow-confusing\n\
+    --file x types -> false false types \"x\"\n\
+    types x y -> !this command takes one file\n\
+    --allow-confusing types -> !types takes no flags\n\
+    --strict-underscores types -> !types takes no flags\n\
     blank types -> false false blank \"types\"\n\
     Types -> false false list \"Types\"\n\
     --json -> false false json list\n\
     --json list a b -> false false json list \"a\" \"b\"\n\
-    --json sig a -- b -> false false json <a> \"b\"\n\
+    --json --file b sig a -> false false json <a> \"b\"\n\
     --json --allow-confusing sig -> true false json\n\
     --strict-underscores --json -> false true json list\n\
-    --json --json -> !--json\n\
-    --json --allow-confusing --json -> !--json\n\
-    --json play -> !play\n\
-    --json blank -> !blank\n\
-    --json types -> !types\n\
-    --json -- play -> false false json list \"play\"\n\
-    list --json -> !--json\n\
-    sig a --json -> !--json\n\
-    --json sig --json -> !--json\n\
-    --json=x -> !--json=x\n\
+    --json --json -> !--json is given twice\n\
+    --json blank -> !--json goes with list and sig alone\n\
+    --json types -> !--json goes with list and sig alone\n\
+    list --json -> !--json comes too late\n\
+    --json=x -> !usage\n\
     --help -> help\n\
     -h sig -> help\n\
+    fmt --help -> help\n\
+    list -h -> help\n\
+    play --help -> !usage\n\
     --version -> version\n\
-    --allow-confusing --help -> !--help";
+    --allow-confusing --help -> !--help comes too late";
 
 #[test]
 fn words(rt: HostRuntime) -> Result<(), Fail> {
@@ -248,11 +282,13 @@ const LAYOUTS: &str = "\
     fmt a - b -> false false Print \"a\" \"-\" \"b\"\n\
     fmt --check -> false false Check\n\
     fmt --write a -> false false Write \"a\"\n\
+    fmt --diff a -> false false Diff \"a\"\n\
     fmt --check -- --write -> false false Check \"--write\"\n\
-    fmt --check --write -> !--write\n\
-    fmt a --check -> !--check\n\
-    --check fmt -> !--check\n\
-    --json fmt -> !fmt\n\
+    --file a fmt --check b -> false false Check \"a\" \"b\"\n\
+    fmt --check --write -> !--write comes too late\n\
+    fmt a --check -> !--check comes too late\n\
+    --check fmt -> !usage\n\
+    --json fmt -> !--json goes with list and sig alone\n\
     --allow-confusing fmt --check -> true false Check";
 
 #[test]
@@ -260,113 +296,211 @@ fn words_of_layouts(rt: HostRuntime) -> Result<(), Fail> {
     each_asks(&rt, rt.alloc(), LAYOUTS)
 }
 
-/// Words, and what is answered over a folder.
+/// Words, and what is answered over a folder, and then what was asked of that.
 const FILES: &str = "\
-    \x20=> 0\n0..1 Keyword\n\x1e\
-    a => 0\n0..1 Keyword\n\x1e\
-    a - a => 0\n0..1 Keyword\n0..1 Keyword\n0..1 Keyword\n\x1e\
+    \x20=> 0\n0..1 Keyword\nopen -\n\x1e\
+    a => 0\n0..1 Keyword\nopen a\n\x1e\
+    a - a => 0\n0..1 Keyword\n0..1 Keyword\n0..1 Keyword\nopen a\nopen -\nopen a\n\x1e\
     bad a => 1\n0..1 Keyword\n0..1 Keyword\nunterminated block comment\n     --> bad:1:2\n      |\n\
-    \x20   1 | x(;\n      |  ^\n\x1e\
+    \x20   1 | x(;\n      |  ^\nopen bad\nopen a\n\x1e\
     a none bad => 2\n0..1 Keyword\n0..1 Keyword\nwat_tokens: none: open failed: no such file or directory\n\
-    unterminated block comment\n     --> bad:1:2\n      |\n    1 | x(;\n      |  ^\n\x1e\
-    sig -- open => 1\nopen: unclosed annotation at byte offset 1\n\x1e\
-    bytes => 2\nwat_tokens: bytes: input is not UTF-8 at byte 2\n\x1e\
+    unterminated block comment\n     --> bad:1:2\n      |\n    1 | x(;\n      |  ^\nopen a\nopen none\nopen bad\n\x1e\
+    none => 2\nusage: wat_tokens [--allow-confusing] [--strict-underscores] [sig NAME.. | play CALL..]\n\x1e\
+    none a.wat => 2\nusage: wat_tokens [--allow-confusing] [--strict-underscores] [sig NAME.. | play CALL..]\n\x1e\
+    none.wat => 2\nwat_tokens: none.wat: open failed: no such file or directory\nopen none.wat\n\x1e\
+    --json none => 2\nwat_tokens: no such command or file: none\nwat_tokens --help lists the commands and their options\n\x1e\
+    --file open sig => 1\nopen: unclosed annotation at byte offset 1\nopen open\n\x1e\
+    bytes => 2\nwat_tokens: bytes: input is not UTF-8 at byte 2\nopen bytes\n\x1e\
     mark => 1\nunexpected character '\\u{feff}'\n     --> mark:1:1\n      |\n    1 | \u{feff}\n      | ^\n\
-    the text begins with a byte order mark, which has to go\n\x1e\
-    blank a => 0\nx\x1e\
-    play take -- a => 0\n0..1 Keyword\n\x1e\
-    fmt => 10\n\x1e\
-    --strict-underscores fmt a => 16\n\x1e\
-    fmt --check -- b => 20\n\x1e\
-    fmt --write b a c => 35\n";
+    the text begins with a byte order mark, which has to go\nopen mark\n\x1e\
+    controls => 1\n0..1 LParen\n1..2 Keyword\n2..3 Whitespace\nunexpected character '\\u{1b}'\n     --> controls:1:4\n      |\n\
+    \x20   1 | (a \u{241b}\u{2421}\n      |    ^\nopen controls\n\x1e\
+    --json a bad => 1\n{\"file\":\"a\",\"offset\":0,\"length\":1,\"kind\":\"Keyword\",\"text\":\"x\",\"line\":1,\"column\":1}\n\
+    {\"file\":\"bad\",\"offset\":0,\"length\":1,\"kind\":\"Keyword\",\"text\":\"x\",\"line\":1,\"column\":1}\n\
+    {\"file\":\"bad\",\"offset\":1,\"fault\":\"unterminated block comment\",\"line\":1,\"column\":2}\n\
+    unterminated block comment\n     --> bad:1:2\n      |\n    1 | x(;\n      |  ^\nopen a\nopen bad\n\x1e\
+    --json --file a --file - sig => 0\n{\"file\":\"a\",\"offset\":0,\"length\":1,\"kind\":\"Keyword\",\"text\":\"x\",\"line\":1,\"column\":1}\n\
+    {\"file\":\"<stdin>\",\"offset\":0,\"length\":1,\"kind\":\"Keyword\",\"text\":\"y\",\"line\":1,\"column\":1}\nopen a\nopen -\n\x1e\
+    blank a => 0\nxopen a\n\x1e\
+    --file a play take => 0\n0..1 Keyword\nopen a\n\x1e\
+    fmt => 0\nPrint false -\n\x1e\
+    --strict-underscores fmt a => 1\nPrint true a\n\x1e\
+    fmt --check -- b => 0\nCheck false b\n\x1e\
+    fmt --check 1 2 a 4 5 6 => 1\nCheck false 1\nCheck false 2\nCheck false a\nCheck false 4\nCheck false 5\nCheck false 6\n\x1e\
+    fmt --write b a bad c => 2\nWrite false b\nWrite false a\nWrite false bad\nWrite false c\n";
 
 #[test]
 fn files(rt: HostRuntime) -> Result<(), Fail> {
-    let folder = Folder(&[
+    let files: [(&str, &[u8]); 7] = [
         ("-", b"y"),
         ("a", b"x"),
         ("bad", b"x(;"),
         ("open", b"(@a 1"),
         ("bytes", b"ab\xff"),
         ("mark", b"\xef\xbb\xbf"),
-    ]);
+        ("controls", b"(a \x1b\x7f"),
+    ];
     for row in FILES.split('\x1e') {
         let (words, want) = row.split_once(" => ").unwrap_or((row, ""));
-        let got = answered(rt.alloc(), words, &folder)?;
+        let mut folder = Folder {
+            files: &files,
+            asked: String::new(rt.alloc()),
+        };
+        let mut got = answered(rt.alloc(), words, &mut folder)?;
+        got.push_str(&folder.asked)?;
         assert_eq!(rt; got.as_str(), want, "{words}");
     }
     Ok(())
 }
 
-/// Whether an outcome has this status, and reports this line.
+/// What a name of more than 100 bytes, and a name with control characters, are in reports.
+#[test]
+fn names_of_files(rt: HostRuntime) -> Result<(), Fail> {
+    let long = "n".repeat(rt.alloc(), 2_000)?;
+    let name = format!(in rt.alloc(); "{long}\u{1b}\n\u{7f}\u{85}")?;
+    let shown = format!(in rt.alloc(); "{long}\u{241b}\u{240a}\u{2421}\u{fffd}")?;
+    let error = Error::lex(
+        rt.alloc(),
+        Span::from_offset(0),
+        "(;\u{7}",
+        LexError::EmptyId,
+    );
+    let mut errors = Vec::new(rt.alloc());
+    Outcome::Faulty(error).report(rt.alloc(), Some(&name), &mut errors)?;
+    Outcome::Unopened(failed(2)).report(rt.alloc(), Some(&name), &mut errors)?;
+    let want = format!(in rt.alloc();
+        "empty identifier\n     --> {shown}:1:1\n      |\n    1 | (;\u{2407}\n      | ^\n\
+         wat_tokens: {shown}: open failed: no such file or directory\n"
+    )?;
+    assert_eq!(rt; errors.as_slice(), want.as_bytes());
+    Ok(())
+}
+
+/// A parser's replies to more calls than any stored text has.
+#[test]
+fn many_calls(rt: HostRuntime) -> Result<(), Fail> {
+    let mut words = String::from_str(rt.alloc(), "play")?;
+    let mut want = String::from_str(rt.alloc(), "0\n")?;
+    for _ in 0..2_000 {
+        words.push_str(" look")?;
+        want.push_str("0..1 Keyword\n")?;
+    }
+    let got = answered(rt.alloc(), &words, &mut Alone("x"))?;
+    assert_eq!(rt; got.as_str(), want.as_str());
+    Ok(())
+}
+
+/// Lines of more than a megabyte are written, and a fault after a megabyte is reported.
+#[test]
+fn long_texts(rt: HostRuntime) -> Result<(), Fail> {
+    let mut text = "x ".repeat(rt.alloc(), 550_000)?;
+    text.push_str("(;")?;
+    let got = answered(rt.alloc(), "sig", &mut Alone(&text))?;
+    assert!(rt; got.starts_with("1\n0..1 Keyword\n2..3 Keyword\n"));
+    assert!(rt;
+        got.ends_with(
+            "\n1099998..1099999 Keyword\nunterminated block comment at <anon>:1:1100001\n"
+        )
+    );
+    assert!(rt; got.len() > 8_000_000);
+    Ok(())
+}
+
+/// Whether an outcome of an input with this name, if any, has this status, and reports this.
 fn reports(
     rt: &impl Abort,
     alloc: Global,
-    outcome: &Outcome<'_>,
+    (outcome, name): (&Outcome<'_>, Option<&str>),
     status: u8,
     line: &str,
 ) -> Result<(), Fail> {
     let mut errors = Vec::new(alloc);
-    outcome.report(alloc, None, &mut errors)?;
+    outcome.report(alloc, name, &mut errors)?;
     assert_eq!(rt; errors.as_slice(), line.as_bytes());
-    assert_eq!(rt; outcome.status(), status);
+    assert_eq!(rt; outcome.exit(name.is_some()).code(), status);
     Ok(())
 }
 
-/// Whether a run that is refused ends in status 2, and says why.
-fn is_refused(rt: &impl Abort, alloc: Global, error: RunError, why: &str) -> Result<(), Fail> {
-    let line = format!(in alloc; "wat_tokens: {why}\n")?;
-    reports(rt, alloc, &Outcome::Refused(error), 2, &line)
+/// Whether a refused run says why: in these words without a name, and in those of a file.
+fn is_refused(
+    rt: &impl Abort,
+    alloc: Global,
+    failure: RunFailure,
+    bare: &str,
+    named: &str,
+) -> Result<(), Fail> {
+    let outcome = Outcome::Refused(failure);
+    let line = format!(in alloc; "wat_tokens: {bare}\n")?;
+    reports(rt, alloc, (&outcome, None), 2, &line)?;
+    let line = format!(in alloc; "wat_tokens: f: {named}\n")?;
+    reports(rt, alloc, (&outcome, Some("f")), 2, &line)
 }
 
 #[test]
 fn refused_runs(rt: HostRuntime) -> Result<(), Fail> {
     let alloc = rt.alloc();
-    let code = |code| Failed { code: Some(code) };
-    is_refused(
-        &rt,
-        alloc,
-        RunError::Read(code(5)),
-        "read failed: input/output error",
-    )?;
-    is_refused(
-        &rt,
-        alloc,
-        RunError::Read(code(107)),
-        "read failed: error 107 of the system",
-    )?;
-    is_refused(&rt, alloc, RunError::TooLong, "input is too long")?;
-    is_refused(
-        &rt,
-        alloc,
-        RunError::NotUtf8(7),
-        "input is not UTF-8 at byte 7",
-    )?;
-    is_refused(&rt, alloc, RunError::from(AllocError), "out of memory")
+    let rows = [
+        (
+            RunFailure::Read(failed(5)),
+            "read failed",
+            "read failed: input/output error",
+        ),
+        (
+            RunFailure::Read(failed(107)),
+            "read failed",
+            "read failed: error 107 of the system",
+        ),
+        (
+            RunFailure::Write(failed(28)),
+            "write failed",
+            "write failed: no space left on device",
+        ),
+        (
+            RunFailure::TooLong,
+            "input is too long",
+            "input is too long",
+        ),
+        (
+            RunFailure::NotUtf8(7),
+            "input is not UTF-8",
+            "input is not UTF-8 at byte 7",
+        ),
+        (
+            RunFailure::from(AllocError),
+            "out of memory",
+            "out of memory",
+        ),
+    ];
+    for (failure, bare, named) in rows {
+        is_refused(&rt, alloc, failure, bare, named)?;
+    }
+    Ok(())
 }
 
 #[test]
 fn outcomes_of_runs(rt: HostRuntime) -> Result<(), Fail> {
     let alloc = rt.alloc();
-    reports(&rt, alloc, &Outcome::of_run(Ok(None)), 0, "")?;
-    let failed = Outcome::of_run(Err(RunError::Write(FAILED)));
-    reports(&rt, alloc, &failed, 2, "wat_tokens: write failed\n")?;
-    let broken_pipe = Failed { code: Some(32) };
+    reports(&rt, alloc, (&Outcome::of_run(Ok(None)), None), 0, "")?;
+    let broken_pipe = Outcome::of_run(Err(RunFailure::Write(failed(32))));
     reports(
         &rt,
         alloc,
-        &Outcome::of_run(Err(RunError::Write(broken_pipe))),
-        0,
-        "",
-    )?;
-    let unopened = Outcome::Unopened(Failed { code: Some(13) });
-    reports(
-        &rt,
-        alloc,
-        &unopened,
+        (&broken_pipe, None),
         2,
-        "wat_tokens: open failed: permission denied\n",
-    )
+        "wat_tokens: write failed\n",
+    )?;
+    reports(&rt, alloc, (&broken_pipe, Some("f")), 0, "")?;
+    reports(
+        &rt,
+        alloc,
+        (&Outcome::Unopened(failed(13)), Some("f")),
+        2,
+        "wat_tokens: f: open failed: permission denied\n",
+    )?;
+    let wrong = Outcome::Wrong(Complaint::Usage);
+    let usage =
+        "usage: wat_tokens [--allow-confusing] [--strict-underscores] [sig NAME.. | play CALL..]\n";
+    reports(&rt, alloc, (&wrong, None), 2, usage)
 }
 
 #[test]
@@ -374,48 +508,15 @@ fn faults_of_runs(rt: HostRuntime) -> Result<(), Fail> {
     let alloc = rt.alloc();
     let message = String::from_str(rt.alloc(), "m")?;
     let fault = Outcome::of_run(Ok(Some(Error::new(Span::from_offset(3), message))));
-    reports(&rt, alloc, &fault, 1, "m at byte offset 3\n")?;
+    reports(&rt, alloc, (&fault, None), 1, "m at byte offset 3\n")?;
     let unexpected = LexError::Unexpected('\u{feff}');
     let mark = Error::lex(rt.alloc(), Span::from_offset(0), "\u{feff}", unexpected);
+    let outcome = Outcome::of_run(Ok(Some(mark)));
     reports(
         &rt,
         alloc,
-        &Outcome::of_run(Ok(Some(mark))),
+        (&outcome, None),
         1,
-        "unexpected character '\\u{feff}'\n     --> <anon>:1:1\n      |\n    1 | \u{feff}\n      | ^\n\
-         the text begins with a byte order mark, which has to go\n",
+        "unexpected character '\\u{feff}'\n     --> <anon>:1:1\n      |\n    1 | \u{feff}\n      | ^\n",
     )
-}
-
-/// Whether wrong words end in status 2, and say what is wrong and how the words go.
-fn shows_usage(
-    rt: &impl Abort,
-    alloc: Global,
-    outcome: &Outcome<'_>,
-    why: &str,
-) -> Result<(), Fail> {
-    let usage = "usage: wat_tokens [OPTION..] [list | sig NAME.. | play CALL.. | blank | types | \
-         fmt [--check | --write]] [--] [FILE..]; --help says more\n";
-    let lines = format!(in alloc; "wat_tokens: {why}\n{usage}")?;
-    reports(rt, alloc, outcome, 2, &lines)
-}
-
-#[test]
-fn wrong_words(rt: HostRuntime) -> Result<(), Fail> {
-    let alloc = rt.alloc();
-    shows_usage(
-        &rt,
-        alloc,
-        &Outcome::Wrong("--json=x"),
-        "unknown option: --json=x",
-    )?;
-    shows_usage(
-        &rt,
-        alloc,
-        &Outcome::Wrong("--json"),
-        "misplaced option: --json",
-    )?;
-    shows_usage(&rt, alloc, &Outcome::Wrong("-h"), "misplaced option: -h")?;
-    shows_usage(&rt, alloc, &Outcome::Wrong("x"), "unexpected word: x")?;
-    shows_usage(&rt, alloc, &Outcome::Unread, "the words are no text")
 }
