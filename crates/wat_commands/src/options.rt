@@ -498,10 +498,11 @@ fn run_of<'a>(alloc: Global, words: &'a [String]) -> Result<Option<Command<'a>>,
     let Some(settings) = settings_of(words) else {
         return Ok(None);
     };
-    if begins_with("--", after_options(words)) {
+    let rest = after_options(words);
+    if begins_with("--", rest) {
         return Ok(None);
     }
-    let (verb, after) = split_verb(after_options(words));
+    let (verb, after) = split_verb(rest);
     if verb == Verb::Types && (settings.allow || settings.strict) {
         return Ok(None);
     }
