@@ -10,7 +10,7 @@ use wat_lex::lexer::Settings;
 use wat_rows::counting::{Row, fill_counting};
 use wat_rows::laws::rows_of_a_text;
 use wat_rows::links::link;
-use wat_rows::looks::{Look, look_in_numbers};
+use wat_rows::looks::look_in_numbers;
 use wat_rows::rows::{Filled, KindRow};
 
 const SETTINGS: Settings = Settings {
@@ -52,9 +52,9 @@ fn shows(
     text: &str,
     names: &[&str],
     place: usize,
-    expected: Look,
+    expected: (u32, u32),
 ) -> Result<(), Fail> {
-    assert!(rt; text.len() < 1000 && text.is_char_boundary(0));
+    assert!(rt; text.len() < 50_000 && text.is_char_boundary(0));
     let mut room = [NO_ROW; 16];
     let filled = read(text, &mut room);
     assert!(rt; filled.why != 1, "{text}");
@@ -66,45 +66,44 @@ fn shows(
     }
     let rows = &room[..filled.count];
     let found = look_in_numbers(alloc, text, rows, filled.why, place, &bytes, &ends);
-    assert_eq!(rt; found, expected, "{text}");
+    assert_eq!(rt; (found.row(), found.status()), expected, "{text}");
     Ok(())
-}
-
-fn told(row: u32, status: u32) -> Look {
-    Look { row, status }
 }
 
 #[test]
 fn looks_under_names(rt: HostRuntime) -> Result<(), Fail> {
     let alloc = rt.alloc();
-    shows(&rt, alloc, "(@a x) b", &[], 0, told(4, 0))?;
-    shows(&rt, alloc, "(@a x) b", &["b", "a"], 0, told(0, 0))?;
-    shows(&rt, alloc, "(@a x) b", &["a"], 1, told(1, 0))?;
-    shows(&rt, alloc, "(@a (b)) ;; c\n (@b) d", &[], 0, told(9, 0))?;
-    shows(
-        &rt,
-        alloc,
-        "(@a (b)) ;; c\n (@b) d",
-        &["x", "b"],
-        0,
-        told(6, 0),
-    )?;
-    shows(&rt, alloc, "(@\"\\61\") b", &["a"], 0, told(0, 0))?;
-    shows(&rt, alloc, "(@\"\\61\") b", &["b"], 0, told(3, 0))?;
-    shows(&rt, alloc, "(@\"a\") b", &["a"], 0, told(0, 0))
+    shows(&rt, alloc, "(@a x) b", &[], 0, (4, 0))?;
+    shows(&rt, alloc, "(@a x) b", &["b", "a"], 0, (0, 0))?;
+    shows(&rt, alloc, "(@a x) b", &["a"], 1, (1, 0))?;
+    shows(&rt, alloc, "(@a (b)) ;; c\n (@b) d", &[], 0, (9, 0))?;
+    shows(&rt, alloc, "(@a (b)) ;; c\n (@b) d", &["x", "b"], 0, (6, 0))?;
+    shows(&rt, alloc, "(@\"\\61\") b", &["a"], 0, (0, 0))?;
+    shows(&rt, alloc, "(@\"\\61\") b", &["b"], 0, (3, 0))?;
+    shows(&rt, alloc, "(@\"a\") b", &["a"], 0, (0, 0))
+}
+
+#[test]
+fn looks_under_a_long_name(rt: HostRuntime) -> Result<(), Fail> {
+    let alloc = rt.alloc();
+    let name = "n".repeat(alloc, 40_000)?;
+    let text = format!(in alloc; "(@\"{name}\\6e\" x) b")?;
+    let name = "n".repeat(alloc, 40_001)?;
+    shows(&rt, alloc, &text, &[&name], 0, (0, 0))?;
+    shows(&rt, alloc, &text, &["n"], 0, (4, 0))
 }
 
 #[test]
 fn looks_that_show_no_row(rt: HostRuntime) -> Result<(), Fail> {
     let alloc = rt.alloc();
-    shows(&rt, alloc, "", &[], 0, told(0, 1))?;
-    shows(&rt, alloc, "a", &[], 1, told(1, 1))?;
-    shows(&rt, alloc, "a", &[], 2, told(1, 1))?;
-    shows(&rt, alloc, "(@a (;", &[], 0, told(2, 3))?;
-    shows(&rt, alloc, "(@a b \"", &["a"], 3, told(3, 3))?;
-    shows(&rt, alloc, "a (@a (b)", &[], 1, told(1, 4))?;
-    shows(&rt, alloc, "a (@) b", &[], 1, told(2, 5))?;
-    shows(&rt, alloc, "(@\"\\ff\") b", &[], 0, told(1, 5))
+    shows(&rt, alloc, "", &[], 0, (0, 1))?;
+    shows(&rt, alloc, "a", &[], 1, (1, 1))?;
+    shows(&rt, alloc, "a", &[], 2, (1, 1))?;
+    shows(&rt, alloc, "(@a (;", &[], 0, (2, 3))?;
+    shows(&rt, alloc, "(@a b \"", &["a"], 3, (3, 3))?;
+    shows(&rt, alloc, "a (@a (b)", &[], 1, (1, 4))?;
+    shows(&rt, alloc, "a (@) b", &[], 1, (2, 5))?;
+    shows(&rt, alloc, "(@\"\\ff\") b", &[], 0, (1, 5))
 }
 
 #[test]

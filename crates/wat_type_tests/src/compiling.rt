@@ -54,6 +54,27 @@ fn types(rt: HostRuntime) -> Result<(), Fail> {
     )
 }
 
+/// More types than a thousand.
+#[test]
+fn many_types(rt: HostRuntime) -> Result<(), Fail> {
+    let alloc = rt.alloc();
+    let mut text = String::from_str(alloc, "(module")?;
+    text.push_str("(type (func))".repeat(alloc, 1001)?.as_str())?;
+    text.push(')')?;
+    let mut expected = Vec::new(alloc);
+    expected.extend_from_slice(&HEADER)?;
+    expected.extend_from_slice(&[0x01, 0xBD, 0x17, 0xE9, 0x07])?;
+    for _ in 0..1001 {
+        expected.extend_from_slice(&[0x60, 0x00, 0x00])?;
+    }
+    assert!(rt; text.len() < 20_000);
+    match compile_types(alloc, &text) {
+        Ok(bytes) => assert_eq!(rt; &bytes[..], &expected[..]),
+        Err(_) => panic!(rt; "many types are refused"),
+    }
+    Ok(())
+}
+
 fn refuses(
     rt: &impl Abort,
     alloc: Global,
