@@ -19,7 +19,7 @@ pub fn version() -> &'static str
 const HELP: &str = "\
 wat_tokens: the tokens of WebAssembly text
 
-usage: wat_tokens [OPTION..] [COMMAND] [--] [FILE..]
+usage: wat_tokens [OPTION..] [COMMAND] [FILE..]
 
 It reads FILE, or standard input where there is none or FILE is `-`, and writes standard output.
 
@@ -30,23 +30,26 @@ commands, `list` where none is named:
   play CALL..  the replies of a parser to calls, a line each
   blank        the text with spaces over its comments
   types        the bytes of the module, where it holds nothing but function types
-  fmt          the text laid out; with `--check` behind it the names of the files that are not,
-               with `--write` nothing: these files are written anew
+  fmt          the text laid out; with `--check` after it the names of the files that are not,
+               with `--diff` the lines that differ, with `--write` nothing: these files are
+               rewritten; a folder is the `.wat` and `.wast` files below it
 
-`list`, `sig` and `fmt` take any number of files, the others one. Behind the words of `sig` and `play`
-the files stand behind `--`.
+`list`, `sig` and `fmt` take any number of files, the others one. All words after `sig` and `play` are
+names and calls: their files are options. Without a command the first FILE is `-`, or has a `.` or a
+`/` in it, or is there. After `--` a FILE may begin with a dash.
 
-options, which stand in front of the command:
+options, which come before the command:
   --allow-confusing     pass characters that can make a text look other than it is
   --strict-underscores  refuse doubled underscores in `\\u{..}`
   --json                write each token of `list` or `sig` as a line of JSON: offset and length
-                        in bytes, kind, text, line and column
-  -h, --help            this text
+                        in bytes, kind, text, line and column; and a fault as the last line
+  --file NAME           read this file; may be given more than once
+  -h, --help            this text, also after `list`, `blank`, `types` and `fmt`
   --version             the version
 
 calls of a parser:
   look        show the next token
-  take        show the next token, and step behind it
+  take        show the next token, and step past it
   comment     take the comment that comes next
   reg=NAME    show the annotations of a name from here on
   unreg=NAME  hide them again
@@ -57,8 +60,8 @@ exit status: 0 where all is written, 1 where a text has a fault, is no module or
 
 examples:
   wat_tokens a.wat
-  wat_tokens sig name -- a.wat b.wat
-  wat_tokens --json sig -- a.wat
+  wat_tokens --file a.wat --file b.wat sig name
+  wat_tokens --json --file a.wat sig
   wat_tokens fmt --write a.wat b.wat
   printf '(@a x) (func)' | wat_tokens play look reg=a take
 ";

@@ -28,7 +28,7 @@ use wat_commands::run::RunFailure;
 struct Files<'a>(&'a HostRuntime);
 
 impl Inputs for Files<'_> {
-    ghost use Rattle.std.specs.Prelude.{None, Unit};
+    ghost use Rattle.std.specs.Prelude.{None};
 
     type Input = Plain<Input>;
 
