@@ -88,7 +88,7 @@ run 2 fmt --check missing messy
 expect '--check goes on' messy "$(cat out)"
 run 2 fmt --no-such-option
 run 2 fmt messy --check
-expect 'an option behind a file' 'wat_tokens: misplaced option: --check' "$(head -1 err)"
+expect 'an option behind a file' 'wat_tokens: --check comes too late' "$(head -1 err)"
 run 2 fmt --check --write
 run 2 --json fmt
 for words in '--write' '--write -' '--write -- -'; do

@@ -457,7 +457,7 @@ wrong_words_beyond() {
     expect_wrong '--file has no name after it' --file
     expect_wrong 'unknown option: --x' list --x
     expect_wrong 'no such command or file: foo' --json foo
-    expect_wrong 'types takes neither --allow-confusing nor --strict-underscores' --allow-confusing types
+    expect_wrong 'types takes no flags' --allow-confusing types
     expect_wrong '--json goes with list and sig alone' --json types
     expect_wrong '--json goes with list and sig alone' --json blank
     expect_wrong '--json goes with list and sig alone' --json play look

@@ -28,9 +28,20 @@ is_whole() {
     cmp -s "$room/output" "$room/whole_output" && cmp -s "$room/errors" "$room/whole_errors" && cmp -s "$room/status" "$room/whole_status"
 }
 
-# failed_with MESSAGE BYTES: whether the run ended with this line and status 2 behind so many bytes of its lines
+# says MESSAGE: whether the report is this line; that of `fmt` has the input's name, and may have a cause
+says() {
+    local line
+    line=$(cat "$room/errors")
+    if [ "${words[0]-}" = fmt ]; then
+        [[ $line == "wat_tokens: <stdin>: $1"* && $line != *$'\n'* ]]
+    else
+        [ "$line" = "wat_tokens: $1" ]
+    fi
+}
+
+# failed_with MESSAGE BYTES: whether the run ended with this line and status 2 after so many bytes of its lines
 failed_with() {
-    [ "$(cat "$room/status")" = 2 ] && [ "$(cat "$room/errors")" = "wat_tokens: $1" ] \
+    [ "$(cat "$room/status")" = 2 ] && says "$1" \
         && head -c "$2" "$room/whole_output" | cmp -s - "$room/output"
 }
 

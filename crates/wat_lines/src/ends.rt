@@ -6,11 +6,10 @@ ghost use Rattle.wat_lines.specs.Streams.{Reads, AppendsPrefix, failure_after, g
 ghost use Rattle.wat_lines.specs.Plain.{plain_inner, plain_failure, plain_ended};
 ghost use Rattle.wat_lines.specs.declared.failed.Failed.{Failed};
 
+pub use crate::failed::Failed;
 use crate::failed::taken;
 use std::io;
 use wat_format::sink;
-
-pub use crate::failed::Failed;
 
 /// What a text is read from.
 pub trait Source {
