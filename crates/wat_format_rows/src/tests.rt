@@ -1,10 +1,11 @@
-//! Texts as they are laid out, into a string and into writers, and what is refused.
-use std::alloc::Global;
-use std::io;
+//! Texts as they are laid out, into a string and into sinks, and what is refused.
+ghost use Rattle.std.specs.Prelude.{◌≡◌};
+
+use std::alloc::{AllocError, AllocFailed, Global};
 use std::test::Fail;
 use wat_format::error::Error;
 use wat_format::format::format;
-use wat_format::sink::Writer;
+use wat_format::sink::Sink;
 use wat_format::stream::{WriteError, format_to};
 use wat_lex::lexer::Settings;
 
@@ -13,38 +14,87 @@ const PLAIN: Settings = Settings {
     strict: false,
 };
 
+/// How many bytes a text has at most.
+const MOST: usize = 4_000_000_000;
+
 const ALLOWING: Settings = Settings {
     allow: true,
     strict: false,
 };
 
-/// A writer with room for so many bytes. Then it takes nothing, or fails.
+/// Why a sink took no more.
+#[derive(Clone, Copy, Debug, PartialEq, Eq)]
+enum Refused {
+    Full,
+    Memory,
+}
+
+impl From<AllocError> for Refused {
+    fn from(_: AllocError) -> Refused {
+        Refused::Memory
+    }
+}
+
+impl From<AllocFailed<usize>> for Refused {
+    fn from(_: AllocFailed<usize>) -> Refused {
+        Refused::Memory
+    }
+}
+
+/// A sink with room for so many bytes, which knows how many each call wrote.
 #[derive(Drop)]
 struct Narrow {
     held: Vec<u8>,
+    calls: Vec<usize>,
     room: usize,
-    fails: bool,
+    failure: Option<Refused>,
 }
 
-impl io::Write for Narrow {
-    fn write(&mut self, bytes: &[u8]) -> io::Result<usize> {
-        let count = self.room.min(bytes.len());
-        if count == 0 && self.fails {
-            return Err(io::ErrorKind::StorageFull.into());
+impl Narrow {
+    fn new(alloc: Global, room: usize) -> Narrow {
+        Narrow {
+            held: Vec::new(alloc),
+            calls: Vec::new(alloc),
+            room,
+            failure: None,
         }
-        self.held.extend_from_slice(&bytes[..count])?;
-        self.room -= count;
-        Ok(count)
     }
 
-    fn flush(&mut self) -> io::Result<()> {
+    fn take(&mut self, bytes: &[u8]) -> Result<(), Refused>
+        ensures { self.new.failure ≡ self.old.failure }
+    {
+        let count = self.room.min(bytes.len());
+        self.held.extend_from_slice(&bytes[..count])?;
+        self.calls.push(count)?;
+        self.room -= count;
+        if count < bytes.len() {
+            return Err(Refused::Full);
+        }
         Ok(())
+    }
+}
+
+impl Sink for Narrow {
+    ghost use Rattle.std.specs.Prelude.{None};
+
+    type Failure = Refused;
+
+    ghost held = { λ _. None };
+
+    ghost failure = { λ narrow. narrow.failure };
+
+    fn write_all(&mut self, bytes: &[u8]) -> Result<(), Refused> {
+        let taken = self.take(bytes);
+        if let Err(refused) = taken {
+            self.failure = Some(refused);
+        }
+        taken
     }
 }
 
 /// The text laid out, or the error as it prints.
 fn shown(alloc: Global, text: &str, settings: Settings) -> Result<String, Fail> {
-    if text.len() > 1_000_000 {
+    if text.len() > MOST {
         return Ok(String::new(alloc));
     }
     match format(alloc, text, settings) {
@@ -54,12 +104,12 @@ fn shown(alloc: Global, text: &str, settings: Settings) -> Result<String, Fail> 
     }
 }
 
-/// What a writer is given, and the error as it prints.
-fn written(alloc: Global, text: &str, writer: &mut Writer<Narrow>) -> Result<String, Fail> {
-    if text.len() > 1_000_000 {
+/// Writes the text laid out into a sink, and answers the error as it prints.
+fn written(alloc: Global, text: &str, sink: &mut Narrow) -> Result<String, Fail> {
+    if text.len() > MOST {
         return Ok(String::new(alloc));
     }
-    match format_to(alloc, text, PLAIN, writer) {
+    match format_to(alloc, text, PLAIN, sink) {
         Ok(()) => Ok(String::new(alloc)),
         Err(WriteError::Memory(refused)) => Err(refused.into()),
         Err(error) => Ok(format!(in alloc; "{error}")?),
@@ -93,49 +143,71 @@ fn strings(rt: HostRuntime) -> Result<(), Fail> {
 }
 
 #[test]
-fn writers(rt: HostRuntime) -> Result<(), Fail> {
+fn sinks(rt: HostRuntime) -> Result<(), Fail> {
     let text = "( a\n b )";
     let rows = [
-        (text, 100, false, "(a\n  b)\n", ""),
-        (text, 4, false, "(a\n ", "write failed"),
-        (text, 4, true, "(a\n ", "write failed"),
+        (text, 100, "(a\n  b)\n", ""),
+        (text, 4, "(a\n ", "write failed"),
         (
             "( a\n \"",
             100,
-            false,
             "",
             "unexpected end-of-file at byte offset 6",
         ),
     ];
-    for (text, room, fails, want, error) in rows {
-        let held = Vec::new(rt.alloc());
-        let mut writer = Writer::new(Narrow { held, room, fails });
-        let got = written(rt.alloc(), text, &mut writer)?;
+    for (text, room, want, error) in rows {
+        let mut sink = Narrow::new(rt.alloc(), room);
+        let got = written(rt.alloc(), text, &mut sink)?;
         assert_eq!(rt; got.as_str(), error, "{text}");
-        assert!(rt;
-            writer.into_inner().held.as_slice() == want.as_bytes(),
-            "{text}"
-        );
+        assert!(rt; sink.held.as_slice() == want.as_bytes(), "{text}");
     }
     Ok(())
 }
 
+/// So many groups of a word of so many letters, in lines of their own, and then a string of so many bytes.
+fn long_text(
+    alloc: Global,
+    groups: usize,
+    letters: usize,
+    string: usize,
+) -> Result<String, AllocError> {
+    let word = "a".repeat(alloc, letters)?;
+    let mut text = String::new(alloc);
+    for _ in 0..groups {
+        text.push_str("( ")?;
+        text.push_str(word.as_str())?;
+        text.push_str(" )\n")?;
+    }
+    text.push('"')?;
+    text.push_str("s".repeat(alloc, string)?.as_str())?;
+    text.push_str("\"\n")?;
+    Ok(text)
+}
+
+// Each block is written by a call of its own, as soon as it has 65,536 bytes. So no call but the last
+// writes less, and none more than the longest token above that.
 #[test]
 fn blocks(rt: HostRuntime) -> Result<(), Fail> {
-    let mut text = String::new(rt.alloc());
-    for _ in 0..20_000 {
-        text.push_str("( a )\n")?;
+    let rows = [
+        (2, 1, 3, 1),
+        (20_000, 1, 3, 2),
+        (10_500, 100, 3, 17),
+        (2, 1, 1_000_000, 2),
+    ];
+    for (groups, letters, string, calls) in rows {
+        let text = long_text(rt.alloc(), groups, letters, string)?;
+        let mut sink = Narrow::new(rt.alloc(), 10_000_000);
+        let got = written(rt.alloc(), text.as_str(), &mut sink)?;
+        assert_eq!(rt; got.as_str(), "");
+        let want = shown(rt.alloc(), text.as_str(), PLAIN)?;
+        assert_eq!(rt; want.len(), (letters + 3) * groups + string + 3);
+        assert!(rt; sink.held.as_slice() == want.as_bytes());
+        assert_eq!(rt; sink.calls.len(), calls);
+        for (number, count) in sink.calls.iter().enumerate() {
+            let is_last = number + 1 == calls;
+            assert!(rt; is_last || *count >= 65_536, "{count}");
+            assert!(rt; *count < 65_536 + letters + string + 8, "{count}");
+        }
     }
-    let held = Vec::new(rt.alloc());
-    let mut writer = Writer::new(Narrow {
-        held,
-        room: 1_000_000,
-        fails: false,
-    });
-    let got = written(rt.alloc(), text.as_str(), &mut writer)?;
-    assert_eq!(rt; got.as_str(), "");
-    let want = shown(rt.alloc(), text.as_str(), PLAIN)?;
-    assert_eq!(rt; want.len(), 80_000);
-    assert!(rt; writer.into_inner().held.as_slice() == want.as_bytes());
     Ok(())
 }

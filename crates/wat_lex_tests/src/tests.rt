@@ -4,4 +4,5 @@ mod encode;
 mod error;
 mod gensym;
 mod lexer;
+mod long;
 mod token;
