@@ -9,9 +9,11 @@ fn generated_identifiers_differ(rt: HostRuntime) -> Result<(), Fail> {
     let span = Span::from_offset(3);
     let mut gensym = Gensym::new();
     let first = gensym.generate(span)?;
-    assert!(rt; first != gensym.generate(span)?);
+    let second = gensym.generate(span)?;
+    assert!(rt; first != second);
     assert_eq!(rt; first.name(), "gensym");
     assert!(rt; first != Id::new("gensym", span));
+    assert!(rt; second != Id::new("gensym", span));
     Ok(())
 }
 
