@@ -1,5 +1,5 @@
 -- What a run of the program ends in: its exit status, and its report on standard error. No part of the standard.
-use Rattle.std.specs.Prelude.{◌≡◌, ◌⊎◌, ◌==◌, ◌&&◌, ◌||◌, ℕ, Bool, true, false, List, [], ◌++◌, codes, Option, Some, None, IfSome, Result, Ok, Err, if◌then◌else◌}
+use Rattle.std.specs.Prelude.{◌≡◌, ◌⊎◌, ◌==◌, ◌&&◌, ◌||◌, ℕ, Bool, true, false, List, [], ◌++◌, codes, Option, Some, None, IfSome, Result, Ok, Err, alloc_error, if◌then◌else◌}
 use Rattle.std.specs.Io.KnownBytes.{Appends, Keeps}
 use Rattle.wat_lex.specs.errors.Errors.{Report, lex_error_of, offset_of}
 use Rattle.wat_lex.specs.declared.lexer.faults.LexError.{LexError}
@@ -86,9 +86,10 @@ report name (Wrong words) = complaint words ++ codes "\n"
 report name Differs = []
 report name Kept = []
 
--- What is reported of a fault is written. It leaves out the file's name where there is no memory for it.
+-- What is reported of a fault is written; or, where the input has a name and there is no memory for the report, that.
 abbrev pub TellsFault : Option (List ℕ) → Option Report → Option (List ℕ) → Option (List ℕ) → Type 0
-TellsFault name error old new = Appends old new (report name (Faulty error)) ⊎ Appends old new (report None (Faulty error))
+TellsFault None error old new = Appends old new (report None (Faulty error))
+TellsFault (Some name) error old new = Appends old new (report (Some name) (Faulty error)) ⊎ Appends old new (refused (Some name) (Memory alloc_error))
 
 -- The report is written.
 abbrev pub Tells : Option (List ℕ) → Outcome → Option (List ℕ) → Option (List ℕ) → Type 0

@@ -40,7 +40,7 @@ label several file = if several then Some (name_of file) else None
 
 -- What is known of the run over a file: it was opened and run, or not opened.
 pub data RanFile {S T : Type 0} (left : S → Option (List ℕ)) (read_failed : S → Option Failed) (has_ended : S → Bool) (held : T → Option (List ℕ)) (write_failed : T → Option Failed) (prints : Prints) (found : Found) (output output' : T) (outcome : Outcome) : Type 0 where
-  opened : (input input' : S) → Gives found (left input) → Ran left read_failed has_ended held write_failed prints input input' output output' outcome → RanFile left read_failed has_ended held write_failed prints found output output' outcome
+  opened : (input input' : S) → Gives found (left input) → read_failed input ≡ None → Ran left read_failed has_ended held write_failed prints input input' output output' outcome → RanFile left read_failed has_ended held write_failed prints found output output' outcome
   unopened : (failed : Failed) → Fails found failed → outcome ≡ Unopened failed → output' ≡ output → RanFile left read_failed has_ended held write_failed prints found output output' outcome
 
 -- A file is opened, and this is known of the run over it.
@@ -55,11 +55,11 @@ Runner I T = List ℕ → I → I → T → T → Outcome → Type 0
 abbrev pub RanWith : {I T : Type 0} → Runner I T → List ℕ → I → I → T → T → ℕ → Type 0
 RanWith run file inputs inputs' output output' exit = (outcome : Outcome) × run file inputs inputs' output output' outcome × (exit ≡ status true outcome)
 
--- Files were run one after the other.
-pub data RanEach {I T : Type 0} (run : Runner I T) : List Word → List Outcome → I → I → T → T → Type 0 where
-  none : (inputs : I) (output : T) → RanEach run [] [] inputs inputs output output
+-- Files were run one after the other, none after a failed write.
+pub data RanEach {I T : Type 0} (run : Runner I T) (write_failed : T → Option Failed) : List Word → List Outcome → I → I → T → T → Type 0 where
+  none : (inputs : I) (output : T) → RanEach run write_failed [] [] inputs inputs output output
   more : (front files : List Word) (file : Word) (before outcomes : List Outcome) (outcome : Outcome) (inputs between inputs' : I) (output within output' : T) → files ≡ front ++ file ∷ [] → outcomes ≡ before ++ outcome ∷ []
-      → RanEach run front before inputs between output within → run (string_bytes file) between inputs' within output' outcome → RanEach run files outcomes inputs inputs' output output'
+      → RanEach run write_failed front before inputs between output within → write_failed within ≡ None → run (string_bytes file) between inputs' within output' outcome → RanEach run write_failed files outcomes inputs inputs' output output'
 
 -- the greatest of their statuses
 abbrev pub worst : List Outcome → ℕ
@@ -69,7 +69,7 @@ worst (outcome ∷ outcomes) = max (status true outcome) (worst outcomes)
 -- All files were run, or those up to the one at which a write failed; and this is the exit status.
 pub record RanFiles {I T : Type 0} (run : Runner I T) (write_failed : T → Option Failed) (files : List Word) (inputs inputs' : I) (output output' : T) (exit : ℕ) : Type 0 where
   pub outcomes : List Outcome
-  pub ran : RanEach run (take (length outcomes) files) outcomes inputs inputs' output output'
+  pub ran : RanEach run write_failed (take (length outcomes) files) outcomes inputs inputs' output output'
   pub whole : (length outcomes ≡ length files) ⊎ IsSome (write_failed output')
   pub greatest : exit ≡ worst outcomes
 

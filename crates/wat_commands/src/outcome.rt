@@ -215,7 +215,7 @@ fn report_refusal<W: io::Write>(
 }
 
 /// Writes a fault with its place in the text of an input with this name, or of standard input without
-/// one. Where there is no memory for the name, it is left out.
+/// one. Where there is no memory for a report with a name, it says so.
 fn report_fault<W: io::Write>(
     alloc: Global,
     name: Option<&str>,
@@ -225,11 +225,11 @@ fn report_fault<W: io::Write>(
     ensures { OnOk result (TellsFault (option_map (λ n. n.now) name.entry) error.now
         (W.contents errors.old) (W.contents errors.new)) }
 {
-    let Some(name) = name else {
+    let Some(file) = name else {
         return writeln!(errors, "{error}");
     };
-    match named(alloc, name, error) {
+    match named(alloc, file, error) {
         Ok(text) => writeln!(errors, "{text}{}", hint(error)),
-        Err(_) => writeln!(errors, "{error}"),
+        Err(refused) => report_refusal(name, RunFailure::from(refused), errors),
     }
 }

@@ -4,7 +4,7 @@ use crate::tests::{OFF, Pieces, Room};
 use std::alloc::Global;
 use std::process::Abort;
 use std::test::Fail;
-use wat_commands::run::{Printing, RunError, run as print, run_list, run_play, run_sig};
+use wat_commands::run::{Printing, RunError, run as run_printing, run_list, run_play, run_sig};
 use wat_lexer_parser::parser::Call;
 
 const TEXT: &str = "(@a \"x\") b";
@@ -51,7 +51,7 @@ fn printed(
 ) -> Result<(), RunError> {
     assert!(rt; input.failure.is_none() && output.failure.is_none());
     let alloc = *output.held.allocator();
-    match print(alloc, input, output, OFF, printing) {
+    match run_printing(alloc, input, output, OFF, printing) {
         Ok(_) => Ok(()),
         Err(failure) => Err(RunError::from(failure)),
     }

@@ -31,7 +31,7 @@ impl<'a> Inputs for Alone<'a> {
 
     ghost opened = { λ before _ after. after ≡ before };
 
-    ghost laid_out = { λ before _ _ _ after _. after ≡ before };
+    ghost laid_out = { λ before _ _ _ after status. (after ≡ before) × (status ≡ 0) };
 
     fn is_there(&self, _file: &str) -> bool {
         true
@@ -119,7 +119,10 @@ pub(super) fn answered<I: Inputs>(
 /// Each in quotes, after what is there.
 fn push_files(text: &mut String, files: FileNames<'_>) -> Result<(), AllocError> {
     let mut left = files;
-    while let Some(file) = left.next() {
+    for _ in 0..u64::MAX {
+        let Some(file) = left.next() else {
+            break;
+        };
         write!(text, " {file:?}")?;
     }
     Ok(())

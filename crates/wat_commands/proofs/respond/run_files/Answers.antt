@@ -5,12 +5,12 @@ use Rattle.wat_commands.proofs.RespondLaws.{none_ran, one_more_ran, all_ran}
 use Rattle.wat_commands.proofs.respond.run_files.Goals as goal
 
 pub loop-left-init : goal.loop-left-init
-loop-left-init g c = rw c.idle-worst.ensures (none_ran _ (file_names c.args.files) c.args.inputs.now c.args.output.now)
+loop-left-init g c = rw c.idle-worst.ensures (none_ran _ g.W.Sink.failure (file_names c.args.files) c.args.inputs.now c.args.output.now)
 
 pub loop-left-preserved : goal.loop-left-preserved
 loop-left-preserved g c =
     let ran = rw c.are_several-several.ensures at c.run_and_report-exit.ensures in
-    one_more_ran _ (file_names c.args.files) _ _ c.in-Some.file.now _ _ _ _ _ _ ran.0 (exit_code c.loop-left.worst) _ (exit_code c.run_and_report-exit.result) c.in-Some.ensures c.loop-left.invariant ran.1 ran.2 c.or-worst.ensures
+    one_more_ran _ g.W.Sink.failure (file_names c.args.files) _ _ c.in-Some.file.now _ _ _ _ _ _ ran.0 (exit_code c.loop-left.worst) _ (exit_code c.run_and_report-exit.result) c.in-Some.ensures c.loop-left.invariant (search rules) ran.1 ran.2 c.or-worst.ensures
 
 pub returns-in_default : goal.returns-in_default
 returns-in_default g c = all_ran _ g.W.Sink.failure (file_names c.args.files) _ _ _ _ _ (exit_code c.loop-left.worst) c.loop-left.invariant (inl c.in_default.ensures)
