@@ -1,6 +1,6 @@
 -- A look changes nothing of a parser.
 use Rattle.std.proofs.Common.{◌≡◌, ◌∙◌, ℕ, zero, suc, List, [], ◌∷◌, ap, refl, take}
-use Rattle.wat_lexer_parser.specs.calls.Calls.{AfterSome, answer, state_after}
+use Rattle.wat_lexer_parser.specs.calls.Calls.{AfterSome, state_after}
 use Rattle.wat_lexer_parser.specs.declared.parser.calls.Call.{Call}
 use Rattle.wat_lexer_parser.specs.declared.parser.calls.Call.TheVariants.{Look}
 use Rattle.wat_lexer_parser.specs.parser.State.{State}

@@ -1,10 +1,12 @@
 -- The map that says where a token stands.
-use Rattle.std.proofs.Common.{◌≡◌, ◌+◌, ◌≤◌, ℕ, true, false, eqb, List, [], ◌∷◌, refl, sym, ap, ◌∙◌, arith}
+use Rattle.std.proofs.Common.{◌≡◌, ◌+◌, ◌≤◌, ℕ, zero, suc, true, false, eqb, List, [], ◌∷◌, refl, sym, ap, ◌∙◌, subst, arith}
 use Rattle.std.proofs.lemmas.Bool.Decides.{nat_tests}
 use Rattle.std.specs.Prelude.{if◌then◌else◌}
 use Rattle.wat_lex.specs.declared.lexer.kinds.Token.{Token}
+use Rattle.wat_lexer_parser.specs.laws.Counting.{counting}
 use Rattle.wat_format_shown.proofs.Alike.{AllTwins}
-use Rattle.wat_format_shown.specs.Sides.{AllSame}
+use Rattle.wat_format_shown.specs.Reads.{MapsAreOne}
+use Rattle.wat_format_shown.specs.Sides.{AllSame, Among}
 use Rattle.wat_format_shown.proofs.Tokens.{Before, Rising}
 
 -- the place of the other token, where a token stands here, and else the end of the other text
@@ -44,3 +46,15 @@ module _ (x y : List ℕ) (e : ℕ) (move : ℕ → ℕ) where
         record { is = token_is t u (move t.offset) at h.0.len h.0.kind; text = h.0.text; mark = h.0.mark },
         same_by (t.offset + 1) ts us (λ q le. f q (omega (arith, le, r.0)) ∙ moved_on e t u ts us q le) r.1 h.1,
       )
+
+module _ (x y : List ℕ) (move other : ℕ → ℕ) where
+  one_map : (ts us : List Token) (t : Token) → AllSame x y move ts us → AllSame x y other ts us → Among ts t → move t.offset ≡ other t.offset
+  one_map [] us t h g (n, e) = cc
+  one_map (u ∷ ts) [] t h g k = absurd h
+  one_map (u ∷ ts) (v ∷ us) t h g (zero, e) =
+      let is : u ≡ t = cc in
+      subst (λ (w : Token). move w.offset ≡ other w.offset) is (sym (ap (λ (w : Token). w.offset) h.0.is) ∙ ap (λ (w : Token). w.offset) g.0.is)
+  one_map (u ∷ ts) (v ∷ us) t h g (suc n, e) = one_map ts us t h.1 g.1 (n, e)
+
+pub maps_are_one : MapsAreOne
+maps_are_one s r move other t h g k = one_map s.setting.text r.setting.text move other (counting s.tokens) (counting r.tokens) t h.tokens g.tokens k

@@ -11,13 +11,14 @@ use Rattle.wat_lex.specs.grammar.Words.{Word}
 use Rattle.wat_lex.specs.tokens.EverySetting.{TokensAreReadable, TokensEndAtBoundaries, WordsOfTokens}
 use Rattle.wat_lex.specs.tokens.ReadableTokens.{token_text}
 use Rattle.wat_lex.specs.tokens.Setting.{Setting}
-use Rattle.wat_lex.specs.tokens.Tiling.{TokenAt, Tiling}
+use Rattle.wat_lex.specs.tokens.Tiling.{Tiling}
 use Rattle.wat_lex.specs.declared.lexer.settings.Settings.{Settings}
 use Rattle.wat_lex.specs.declared.lexer.kinds.Token.{Token}
 use Rattle.wat_lex.specs.declared.lexer.kinds.TokenKind.{TokenKind}
 use Rattle.wat_lex.specs.declared.lexer.kinds.TokenKind.TheVariants.{LineComment, BlockComment, Whitespace, LParen, RParen, String, Id, Keyword, Annotation, Reserved, Integer, Float}
 use Rattle.wat_lexer_parser.specs.groups.Sorts.{is_blank}
 use Rattle.wat_lexer_parser.specs.laws.Counting.{counting}
+use Rattle.wat_format_shown.specs.lemmas.Among.{paren_at}
 
 size_some : (w : List ℕ) → w ≢ [] → 0 < size w
 size_some [] h = absurd (h refl)
@@ -106,14 +107,8 @@ abbrev pub AllMeasured : List ℕ → List Token → Type 0
 AllMeasured text [] = Unit {0}
 AllMeasured text (t ∷ ts) = Measured text t × AllMeasured text ts
 
-paren_len : (s : Setting) (p : ℕ) (t : Token) → TokenAt s p t → t.kind ≡ LParen → t.len ≡ 1
-unfolding encode
-paren_len s p t h e =
-    let w : h.word ≡ 40 ∷ [] = subst (λ k. Word k h.word s.flags) e h.stands.word in
-    h.len ∙ ap size w
-
 pub all_measured : TokensAreReadable → TokensEndAtBoundaries → WordsOfTokens → (s : Setting) (p to : ℕ) (ts : List Token) → IsUtf8 s.text → IsCharBoundary s.text p → Tiling s p to ts → AllMeasured s.text ts
 all_measured readable ends words s p to [] u b h = tt
 all_measured readable ends words s p to (t ∷ ts) u b h =
     let r = readable s p t b h.0 in
-    (record { len = r.len ∙ sym (ap size (words s.text t u r)); paren = paren_len s p t h.0 }, all_measured readable ends words s (t.offset + t.len) to ts u (ends s p t u b h.0) h.1)
+    (record { len = r.len ∙ sym (ap size (words s.text t u r)); paren = paren_at s p t h.0 }, all_measured readable ends words s (t.offset + t.len) to ts u (ends s p t u b h.0) h.1)

@@ -3,6 +3,7 @@ use Rattle.std.specs.Prelude.{◌≡◌, ◌≤◌, ◌+◌, ℕ, Bool, List, le
 use Rattle.std.specs.Str.{IsUtf8}
 use Rattle.wat_lex.specs.errors.Errors.{Report}
 use Rattle.wat_lex.specs.declared.lexer.kinds.Token.{Token}
+use Rattle.wat_lexer_parser.specs.laws.Counting.{counting}
 use Rattle.wat_lexer_parser.specs.parser.Sights.{Sight}
 use Rattle.wat_lexer_parser.specs.parser.Takers.{Reader}
 use Rattle.wat_lexer_parser.specs.places.Source.{Source, IsRead}
@@ -10,7 +11,7 @@ use Rattle.wat_lexer_parser.specs.readings.Readings.{Outcome, Reading, whole}
 use Rattle.wat_format.specs.Laws.{over}
 use Rattle.wat_format.specs.Layout.{layout}
 use Rattle.wat_format_shown.specs.Moved.{token_moved, ShowsMoved}
-use Rattle.wat_format_shown.specs.Sides.{Sides, Alike, Met, RefusalMoved, SameRefusal, SameTexts, passed}
+use Rattle.wat_format_shown.specs.Sides.{Sides, Alike, Among, Met, RefusalMoved, SameRefusal, SameTexts, passed}
 
 -- The other answers the same value, moved, before the same tokens, n fewer at least; or the same refusal.
 abbrev pub AnswerMoved : {V : Type 0} → (V → V) → ℕ → Sides → List Token → Result V Report → ℕ → Outcome V → Type 0
@@ -55,6 +56,10 @@ TextsReadTheSame moved m = (s r : Source) (move : ℕ → ℕ) → SameTexts s r
 abbrev pub LayoutsAreSameTexts : Type 0
 LayoutsAreSameTexts = (s r : Source) → IsUtf8 s.setting.text → IsRead s → s.ending ≡ None → IsRead r → r.setting ≡ over s.setting (layout s.setting.text s.tokens)
     → (move : ℕ → ℕ) × ShowsMoved s.setting r.setting move × SameTexts s r move
+
+-- Two such maps are the same where a token that counts begins.
+abbrev pub MapsAreOne : Type 0
+MapsAreOne = (s r : Source) (move other : ℕ → ℕ) (t : Token) → SameTexts s r move → SameTexts s r other → Among (counting s.tokens) t → move t.offset ≡ other t.offset
 
 -- What is read of a layout is the same, moved by a map that moves all that is shown and each token that counts.
 abbrev pub LayoutsReadTheSame : {V : Type 0} → ((ℕ → ℕ) → V → V) → Reading V → Type 0

@@ -2,7 +2,7 @@
 //! is the law.
 ghost use Rattle.std.specs.Prelude.{ℕ};
 ghost use Rattle.wat_format_shown.specs.Moved.{LayoutsShowTheSame};
-ghost use Rattle.wat_format_shown.specs.Reads.{LayoutsAreSameTexts, LayoutsReadTheSame, Moves};
+ghost use Rattle.wat_format_shown.specs.Reads.{LayoutsAreSameTexts, LayoutsReadTheSame, MapsAreOne, Moves};
 
 use wat_lexer_parser::parser::Parse;
 
@@ -32,9 +32,10 @@ pub fn read<'a, T: Parse<'a>>()
 }
 
 /// The tokens of a layout that count are those of the text, kind by kind, byte by byte and mark by
-/// mark, moved by the map that moves what is shown.
+/// mark, moved by the map that moves what is shown. Where such a token begins there is one such map.
 pub fn same_texts()
-    ensures { LayoutsAreSameTexts }
+    ensures same { LayoutsAreSameTexts }
+    ensures one { MapsAreOne }
 {
     wat_format::laws::kept_tokens();
     wat_lex::laws::one_tiling();

@@ -13,7 +13,7 @@ use Rattle.wat_lex.specs.declared.lexer.kinds.Token.{Token}
 use Rattle.wat_lexer_parser.specs.groups.Sorts.{is_blank}
 use Rattle.wat_lexer_parser.specs.laws.Counting.{CountingShowsTheSame, PlainTokensAreShown, counting}
 use Rattle.wat_lexer_parser.specs.shown.Showing.{OneThingShown, SomethingShown}
-use Rattle.wat_rows.specs.Counting.{IsRow, StopsCounting, StopsCounting.ended, StopsCounting.full, StopsCounting.faulty, row_of}
+use Rattle.wat_rows.specs.Counting.{StopsCounting, StopsCounting.ended, StopsCounting.full, StopsCounting.faulty, row_of}
 use Rattle.wat_rows.specs.Links.{without_link}
 use Rattle.wat_rows.specs.Pieces.{FillsInPieces, FillsInPieces.last, FillsInPieces.piece, PiecesAreRows, PiecesTellTokens, PlainRowsAreShown, RowsTellTokens}
 use Rattle.wat_rows.specs.Places.{ending_code}

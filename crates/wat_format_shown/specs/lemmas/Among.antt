@@ -98,7 +98,8 @@ first_or_rest : (u t : Token) (ts : List Token) → Among (u ∷ ts) t → (u �
 first_or_rest u t ts (zero, e) = inl cc
 first_or_rest u t ts (suc n, e) = inr (n, e)
 
-paren_at : (s : Setting) (p : ℕ) (t : Token) → TokenAt s p t → t.kind ≡ LParen → t.len ≡ 1
+-- a parenthesis is one byte
+pub paren_at : (s : Setting) (p : ℕ) (t : Token) → TokenAt s p t → t.kind ≡ LParen → t.len ≡ 1
 unfolding encode
 paren_at s p t h e =
     let w : h.word ≡ 40 ∷ [] = subst (λ k. Word k h.word s.flags) e h.stands.word in
@@ -118,6 +119,5 @@ paren_in s p to (u ∷ us) t h k e =
       | false ↦ λ k. paren_in s (u.offset + u.len) to us t h.1 k e
     ] k
 
--- a parenthesis is one byte
 pub paren_of : (s : Source) → IsRead s → (t : Token) → Among (counting s.tokens) t → t.kind ≡ LParen → t.len ≡ 1
 paren_of s read t h e = paren_in s.setting 0 read.to s.tokens t read.tiling h e

@@ -32,10 +32,11 @@ fn places_of_a_long_text(rt: HostRuntime) -> Result<(), Fail> {
 fn a_long_message_is_kept(rt: HostRuntime) -> Result<(), Fail> {
     let alloc = rt.alloc();
     let message = "m".repeat(alloc, COUNT)?;
-    let copy = message.clone()?;
-    let error = Error::parse(alloc, Span::from_offset(1), "ab", message);
-    assert!(rt; !error.is_out_of_memory());
-    assert!(rt; error.message(alloc)? == copy);
+    let span = Span::from_offset(1);
+    let plain = Error::new(span, message.clone()?);
+    assert!(rt; plain.message(alloc)? == message);
+    let in_text = Error::parse(alloc, span, "ab", message.clone()?);
+    assert!(rt; in_text.message(alloc)? == message);
     Ok(())
 }
 

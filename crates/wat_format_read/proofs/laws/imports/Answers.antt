@@ -15,4 +15,4 @@ pub returns-clause-named : goal.returns-clause-named
 returns-clause-named c =
     let named = under (codes "name") imports.reading in
     let laws : ShownLaws = record { one = c.shown.ensures.one; some = c.shown.ensures.some; counting = c.counting.ensures.same } in
-    layouts_read_the_same c.same_texts.ensures imports_moved named (texts_read_the_same laws 3 imports_moved named (moves_under imports_moved 3 (codes "name") imports.reading (moves_imports laws)))
+    layouts_read_the_same c.same_texts.ensures.same imports_moved named (texts_read_the_same laws 3 imports_moved named (moves_under imports_moved 3 (codes "name") imports.reading (moves_imports laws)))
