@@ -115,6 +115,10 @@ FAILURES = [
     ),
     ("wat_commands/src/outcome.rt", "Outcome<'a>::exit", "Exit { code }", "of what the run ended in"),
     ("wat_tokens/src/replace.rt", "From<AllocError> for Kept::from", "Kept::Unwritten(io::Error::from(refused))", "of the refused request"),
+    ("wat_commands/src/respond.rt", "respond", "reported(alloc, &Outcome::Wrong(complaint), None, errors) }", "of words that ask for nothing, by the contract of `respond`"),
+    ("wat_commands/src/respond.rt", "respond", "return reported(alloc, &Outcome::Wrong(complaint), None, errors)", "of a word that names no file, by the same"),
+    ("wat_tokens/src/main.rt", "not_read", "Outcome::Wrong(Complaint::Usage)", "of words that can't be read"),
+    ("wat_tokens/src/report.rt", "complain", "Outcome::Kept.exit(true)", "of what was reported"),
     ("wat_commands/src/outcome.rt", "Exit::or", "Exit { code: self.code.max(other.code) }", "of two statuses"),
     ("wat_commands/src/outcome.rt", "Exit::idle", "Exit { code: 0 }", "of nothing that was done"),
 ]
@@ -170,6 +174,7 @@ FAILED = [
     (re.compile(r"^fmt::Error\b(?!::)"), "an error of printing"),
     (re.compile(r"^RunError::(Read|Write)\b(?!\()"), "a failure"),
     (re.compile(r"^(failed::)?taken\($|^failed::taken$"), "a failure, by `taken`,"),
+    (re.compile(r"^Outcome::(Kept|Wrong)\b"), "an outcome of words or files"),
 ]
 STATUS = [(re.compile(r"^(Answer|Look|Exit)\{(?!needed(:[^{}]*)?,status:0,?\})"), "a status"), (re.compile(r"^2$"), "a status of 2")]
 # The longest array, and the widest hole of what is printed, that need not be listed.
@@ -628,6 +633,11 @@ CHANGED = [
     ("wat_lines/src/ends.rt", "let mut written = 0;", "let mut written = 0;\n    if bytes.len() > 999 {\n        taken(Ok(0))?;\n    }"),
     ("wat_lists/src/input.rt", "RunFailure::TooLong => RunError::TooLong", "RunFailure::TooLong => RunError::Read"),
     ("wat_commands/src/outcome.rt", "Outcome::Listed => 0,", "Outcome::Listed => 2,"),
+    (
+        "wat_commands/src/respond.rt",
+        "match read_words(alloc, words) {",
+        "if words.len() > 13 {\n        return Outcome::Kept.exit(false);\n    }\n    match read_words(alloc, words) {",
+    ),
     (
         "wat_parser_c/src/given.rt",
         "match string_at(alloc, text, pos, settings) {",
