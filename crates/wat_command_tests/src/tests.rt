@@ -72,8 +72,9 @@ impl<'a> Source for Pieces<'a> {
     fn read(&mut self, buffer: &mut [u8]) -> Result<usize, Failed> {
         self.ended = false;
         if self.fails_in == 0 {
-            self.failure = Some(failed());
-            return Err(failed());
+            let why = failed();
+            self.failure = Some(why);
+            return Err(why);
         }
         self.fails_in -= 1;
         let count = self.most.max(1).min(self.rest.len()).min(buffer.len());
@@ -108,8 +109,9 @@ impl Sink for Room {
 
     fn write_all(&mut self, bytes: &[u8]) -> Result<(), Failed> {
         if self.broken || self.held.extend_from_slice(bytes).is_err() {
-            self.failure = Some(failed());
-            return Err(failed());
+            let why = failed();
+            self.failure = Some(why);
+            return Err(why);
         }
         Ok(())
     }
