@@ -1,0 +1,18 @@
+//! The lexer of the WebAssembly text format, compiled from the proved text.
+//!
+//! The modules [`lex`], [`words`] and [`parser`] are made from the proved sources, from which no more was taken than what is for the prover;
+//! each contract is kept as documentation. [`shim`] is the part of Rattle's library that they use.
+#![no_std]
+
+extern crate alloc;
+#[cfg(test)]
+extern crate std;
+
+// Proofs name loops, and contracts speak of parameters that the code leaves alone; types of words are named as the words are.
+#[allow(unused_imports, unused_labels, unused_variables)]
+pub mod lex;
+#[allow(unused_imports, unused_labels, unused_variables)]
+#[allow(non_camel_case_types)]
+pub mod parser;
+pub mod shim;
+pub mod words;
