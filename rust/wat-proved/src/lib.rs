@@ -8,11 +8,13 @@ extern crate alloc;
 #[cfg(test)]
 extern crate std;
 
-// Proofs name loops, and contracts speak of parameters that the code leaves alone; types of words are named as the words are.
+// Proofs name loops, contracts speak of parameters and fields that the code leaves alone, and each file imports the shim's names, of which it
+// may need none. Types of words are named as the words are.
 #[allow(unused_imports, unused_labels, unused_variables)]
 pub mod lex;
-#[allow(unused_imports, unused_labels, unused_variables)]
+#[allow(dead_code, unused_imports, unused_labels, unused_variables)]
 #[allow(non_camel_case_types)]
 pub mod parser;
 pub mod shim;
+#[allow(unused_imports)]
 pub mod words;

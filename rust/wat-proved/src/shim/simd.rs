@@ -41,7 +41,11 @@ pub mod prelude {
 #[inline(always)]
 fn halves(bytes: [u8; 16]) -> [u64; 2] {
     let (low, high) = bytes.split_at(8);
-    [low, high].map(|half| half.iter().rev().fold(0, |sum, byte| sum << 8 | u64::from(*byte)))
+    [low, high].map(|half| {
+        half.iter()
+            .rev()
+            .fold(0, |sum, byte| sum << 8 | u64::from(*byte))
+    })
 }
 
 /// What a block has by the operations that its target gives it.

@@ -37,7 +37,11 @@ fn compared(table: __m128i, indices: __m128i) -> __m128i {
     let mut found = sse2!(_mm_setzero_si128());
     let mut place = 0;
     while place < 16 {
-        let byte = if place < 8 { low[place] } else { high[place - 8] };
+        let byte = if place < 8 {
+            low[place]
+        } else {
+            high[place - 8]
+        };
         let is_here = sse2!(_mm_cmpeq_epi8(indices, _mm_set1_epi8(place as i8)));
         let here = sse2!(_mm_and_si128(is_here, _mm_set1_epi8(byte as i8)));
         found = sse2!(_mm_or_si128(found, here));
@@ -155,5 +159,28 @@ impl Not for Mask {
     #[inline(always)]
     fn not(self) -> Mask {
         Mask(sse2!(_mm_xor_si128(self.0, _mm_set1_epi8(-1))))
+    }
+}
+
+/// Both forms of a look-up in a table answer the same, whichever one the crate is built with.
+#[cfg(test)]
+#[test]
+fn a_shuffle_answers_as_comparisons_do() {
+    if !std::is_x86_feature_detected!("ssse3") {
+        std::eprintln!("left out, as this processor has no SSSE3");
+        return;
+    }
+    let table = u8x16::from_array(core::array::from_fn(|i| (i * 37 + 11) as u8));
+    for index in (0..16).chain(128..=255u8) {
+        for other in 0..16 {
+            let indices =
+                u8x16::from_array(core::array::from_fn(
+                    |i| if i % 2 == 0 { index } else { other },
+                ));
+            // SAFETY: the processor has SSSE3.
+            let by_shuffle = u8x16(unsafe { shuffled(table.0, indices.0) });
+            let by_comparison = u8x16(compared(table.0, indices.0));
+            assert!(!by_shuffle.simd_ne(by_comparison).any(), "{index} {other}");
+        }
     }
 }
