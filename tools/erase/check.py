@@ -108,7 +108,7 @@ class Walk:
         for before, after in [*WRITTEN, ("crate::", f"crate::{module}::")]:
             before = scan(before)
             self.written[before[0].text].append((before, scan(after)))
-        self.name = name
+        self.name, self.module = name, module
         self.contracts = {}
         self.at = self.there = 0
         self.function = None
@@ -181,7 +181,11 @@ class Walk:
 
     def equal(self):
         here, there = self.source[self.at], self.made[self.there] if self.there < len(self.made) else None
-        if there is None or (here.kind, here.text) != (there.kind, there.text):
+        wanted = here.text
+        if here.kind == "doc":
+            # The path of a link begins at the crate's root.
+            wanted = wanted.replace("](crate::", f"](crate::{self.module}::")
+        if there is None or (here.kind, wanted) != (there.kind, there.text):
             self.fault("no rule explains the difference")
         if here.text == "fn":
             self.function = self.there
@@ -407,6 +411,7 @@ PLANTED = [
     ("a function is public", "wat_lex/src/token.rt", "pub(crate) fn gensym", "pub fn gensym"),
     ("a bound is lost", "wat_lex/src/encode.rt", "pub fn slice_fits<T: Encode>", "pub fn slice_fits<T>"),
     ("a path has another root", "wat_lex/src/token.rt", "use core::hash::", "use crate::shim::hash::"),
+    ("a link leads elsewhere", "wat_lex/src/token.rt", "](crate::lex::gensym::Gensym)", "](crate::gensym::Gensym)"),
     ("an operator is another one", "wat_lex/src/token.rt", "self.name() == other.name() && self", "self.name() == other.name() || self"),
     ("a function is there twice", "wat_words/src/table.rt", "fn entry_at", "fn entry_at() {}\nfn entry_at"),
     ("a comment is dropped", "wat_lex/src/lexer/scan/starts.rt", "// Bytes that are neighbours stand", "// Bytes"),

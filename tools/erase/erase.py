@@ -167,6 +167,7 @@ class Eraser:
     def __init__(self, text, module):
         self.source = Source(text)
         self.out = []
+        self.module = module
         self.written = [(solid_of(before), after.replace("SELF", module)) for before, after in WRITTEN.items()]
         self.rules = {"ghost": self.ghost, "requires": self.contract, "ensures": self.contract, "#": self.attribute, "impl": self.model}
 
@@ -186,6 +187,9 @@ class Eraser:
             after = self.otherwise(at) if after is None else after
             if after is not None:
                 return after
+        if kind == "doc":
+            # A link has a path too.
+            text = text.replace("](crate::", f"](crate::{self.module}::")
         self.out.append((kind, text))
         return at + 1
 
@@ -222,12 +226,13 @@ class Eraser:
         if not self.source.is_token(inner, "["):
             return None
         end, name = self.source.group(inner), self.source.next(inner)
+        line = end + (self.source.tokens[end][0] == "space")
         if self.source.is_token(name, "tactic"):
-            return end
+            return line
         if self.source.is_token(name, "derive"):
             kept = [text for kind, text in self.source.tokens[name + 1 : end] if kind == "word" and text != "Drop"]
             self.out += tokens_of(f"#[derive({', '.join(kept)})]" if kept else "")
-            return end
+            return end if kept else line
         return None
 
     def contract(self, at):

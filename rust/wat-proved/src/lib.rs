@@ -9,12 +9,20 @@ extern crate alloc;
 extern crate std;
 
 // Proofs name loops, contracts speak of parameters and fields that the code leaves alone, and each file imports the shim's names, of which it
-// may need none. Types of words are named as the words are.
+// may need none. Types of words are named as the words are. Clippy's advice on style is for text that is written in Rust.
 #[allow(unused_imports, unused_labels, unused_variables)]
+#[allow(
+    clippy::style,
+    clippy::complexity,
+    clippy::manual_unwrap_or_default,
+    clippy::sliced_string_as_bytes
+)]
 pub mod lex;
 #[allow(dead_code, unused_imports, unused_labels, unused_variables)]
 #[allow(non_camel_case_types)]
+#[allow(clippy::style, clippy::complexity)]
 pub mod parser;
 pub mod shim;
 #[allow(unused_imports)]
+#[allow(clippy::style, clippy::complexity)]
 pub mod words;

@@ -4,7 +4,6 @@
 //! registered are passed over.
 //!
 //! The items of the lexer are named here again, so that who reads texts needs no other crate.
-
 use crate::shim::prelude::*;
 pub mod annotation;
 pub mod kw;

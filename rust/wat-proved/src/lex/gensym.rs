@@ -6,7 +6,6 @@ use crate::lex::token::{Id, Span};
 use crate::shim::alloc::{AllocError, Global};
 
 /// A counter of the identifiers that a program has made, the generation of the newest one.
-
 pub struct Gensym {
     generation: u32,
 }

@@ -310,7 +310,6 @@ impl<'a> Lexer<'a> {
 }
 
 /// The tokens from a place on. It ends for good after the first fault, or at the text's end.
-
 pub struct Tokens<'l, 'a> {
     lexer: &'l Lexer<'a>,
     alloc: Global,

@@ -81,10 +81,9 @@ fn since_line_feed(text: &[u8]) -> usize {
 /// An identifier: a name, and where it stands. The name is without the `$` that the text has before
 /// it.
 ///
-/// What a text spells has generation 0. [`Gensym`](crate::gensym::Gensym) makes identifiers of
+/// What a text spells has generation 0. [`Gensym`](crate::lex::gensym::Gensym) makes identifiers of
 /// other generations, which differ from each of those. Equality and hash look at name and
 /// generation alone.
-
 pub struct Id<'a> {
     name: CowStr<'a>,
     generation: u32,

@@ -34,7 +34,6 @@ use crate::lex::token::Span;
 pub use whole::parse;
 
 /// A parser over a buffer: a place in its text, and the names of annotations that are registered.
-
 pub struct Parser<'a> {
     table: TableRef<'a>,
     place: usize,
@@ -158,7 +157,7 @@ impl<'a> Parser<'a> {
     }
 
     /// The current span at a place.
-
+    ///
     /// # Proved
     ///
     /// ```text
@@ -175,7 +174,7 @@ impl<'a> Parser<'a> {
     }
 
     /// What holds of every parser: its tokens are those of its text, which is UTF-8 and of fewer than
-    /// 2^32 bytes. So the laws of the module [`laws`](crate::laws) hold of what it shows. The call
+    /// 2^32 bytes. So the laws of the module [`laws`](crate::parser::laws) hold of what it shows. The call
     /// does nothing; it is for the proofs of crates above.
     ///
     /// # Proved
@@ -426,7 +425,7 @@ impl<'a> Parser<'a> {
     }
 
     /// Takes `(`.
-
+    ///
     /// # Proved
     ///
     /// ```text
@@ -451,7 +450,7 @@ impl<'a> Parser<'a> {
     }
 
     /// Takes `)`.
-
+    ///
     /// # Proved
     ///
     /// ```text

@@ -8,8 +8,7 @@ use crate::lex::lexer::LexFault;
 use crate::lex::token::Span;
 use core::fmt;
 
-/// A fault of a text, which prints as its [`Error`](crate::error::Error) does, and takes no memory.
-
+/// A fault of a text, which prints as its [`Error`](crate::lex::error::Error) does, and takes no memory.
 pub struct Rendered<'a> {
     text: &'a str,
     fault: LexFault,

@@ -17,7 +17,6 @@ const TAB: usize = 4;
 pub struct Line<'a>(pub &'a str);
 
 /// The characters that are shown of a line. They come from either end.
-
 pub struct Shown<'a> {
     /// The spaces that are still to come of a TAB before the characters.
     front: usize,

@@ -14,7 +14,6 @@ const LAST_MARKED: usize = 500;
 
 /// The line of a text that an error is about, and its place. It prints both, with a marker under
 /// the column.
-
 pub struct Excerpt<'a> {
     line: usize,
     column: usize,

@@ -70,7 +70,7 @@ impl Token {
 
     /// The value of a string. It is borrowed where no escape stands in the string,
     /// and then no memory is taken.
-
+    ///
     /// # Proved
     ///
     /// ```text
@@ -97,7 +97,7 @@ impl Token {
 
     /// The name of an identifier. It is borrowed where no escape stands in it,
     /// and then no memory is taken.
-
+    ///
     /// # Proved
     ///
     /// ```text
@@ -121,7 +121,7 @@ impl Token {
 
     /// The name of an annotation. It is borrowed where no escape stands in it,
     /// and then no memory is taken.
-
+    ///
     /// # Proved
     ///
     /// ```text
@@ -146,7 +146,7 @@ impl Token {
     /// The name of an identifier or an annotation, or what is wrong with it, at the token:
     /// `EmptyId` or `EmptyAnnotation` where it is empty, `InvalidUtf8Id` where it is not UTF-8. It
     /// is borrowed where no escape stands in it, and memory is taken only where one does.
-
+    ///
     /// # Proved
     ///
     /// ```text
@@ -217,7 +217,7 @@ impl Token {
 
     /// What a floating-point token reads as. Memory is taken where it has underscores,
     /// and for hexadecimal digits that are no payload.
-
+    ///
     /// # Proved
     ///
     /// ```text

@@ -41,7 +41,6 @@ pub fn line_feeds(text: &[u8]) -> usize {
 
 /// Where the lines of a text end, for those who ask for many places of it: each is found by a
 /// binary search, where [`Span::linecol_in`] reads the text up to the place.
-
 pub struct LineIndex<'a> {
     text: &'a str,
     /// The offset of each line feed.

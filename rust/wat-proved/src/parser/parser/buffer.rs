@@ -14,7 +14,6 @@ use crate::lex::lexer::{LexFault, Lexer, Settings, Token};
 ///
 /// The tokens are found once, when the buffer is made. A fault of the text is kept, and reported
 /// when the parser reaches it.
-
 pub struct ParseBuffer<'a> {
     lexer: Lexer<'a>,
     track: bool,

@@ -153,7 +153,7 @@ impl<'a> Parser<'a> {
 
     /// The reply to taking a group of up to so many tokens, and the place behind it, or the
     /// parser's own where it is no such group.
-
+    ///
     /// # Proved
     ///
     /// ```text

@@ -55,7 +55,6 @@ impl<'p, 'a> Cursor<'p, 'a> {
     ///     IsTokenOf self.entry.parser.now.source.setting.text v.0)) }
     /// ```
     #[inline(always)]
-
     fn look(self) -> Result<Option<(Token, usize)>, Error> {
         let parser = self.parser;
         match parser.kept(self.at) {
@@ -80,7 +79,6 @@ impl<'p, 'a> Cursor<'p, 'a> {
     ///     IsTokenOf self.entry.parser.now.source.setting.text v.0)) }
     /// ```
     #[inline(never)]
-
     fn look_anew(self) -> Result<Option<(Token, usize)>, Error> {
         let parser = self.parser;
         match parser.look(self.at) {
@@ -145,7 +143,7 @@ impl<'p, 'a> Cursor<'p, 'a> {
     }
 
     /// The current span, where this token is shown.
-
+    ///
     /// # Proved
     ///
     /// ```text

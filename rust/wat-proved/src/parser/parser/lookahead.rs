@@ -10,7 +10,6 @@ use crate::lex::error::Error;
 
 /// A look at what is shown that remembers at which types it peeked in vain, for the message that
 /// one of them was expected. It holds the first four of them itself.
-
 pub struct Lookahead1<'p, 'a> {
     parser: &'p Parser<'a>,
     attempts: SmallVec<&'static str, 4>,
@@ -102,7 +101,7 @@ fn message(alloc: Global, is_empty: bool, attempts: &[&'static str]) -> Result<S
 }
 
 /// That one of several types was expected.
-
+///
 /// # Proved
 ///
 /// ```text

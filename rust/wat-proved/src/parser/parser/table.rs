@@ -20,7 +20,6 @@ const FIRST_ROOM: usize = 65_472;
 
 /// The raw tokens of a text up to its end or its first fault, and the annotations among them that
 /// stand directly behind a parenthesis.
-
 pub struct Table {
     pub tokens: Vec<Token>,
     pub fault: Option<LexFault>,

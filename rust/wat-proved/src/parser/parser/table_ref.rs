@@ -15,7 +15,6 @@ use crate::lex::token::Span;
 ///
 /// It holds references at one lifetime, that of the loan, and no buffer: so a buffer that is a
 /// local variable can be lent to its parsers.
-
 pub struct TableRef<'a> {
     text: &'a str,
     settings: Settings,
@@ -529,7 +528,7 @@ impl<'a> TableRef<'a> {
     }
 
     /// The place behind the whitespace token at a place, if one is there.
-
+    ///
     /// # Proved
     ///
     /// ```text
@@ -546,7 +545,7 @@ impl<'a> TableRef<'a> {
     }
 
     /// The comment at a place, with the place behind it. It takes no memory.
-
+    ///
     /// # Proved
     ///
     /// ```text
@@ -611,7 +610,6 @@ impl<'a> TableRef<'a> {
     /// ensures { IsUnlessMemory result (report_of self.now.setting.text fault) }
     /// ```
     #[cold]
-
     pub fn error_of(&self, fault: Fault) -> Error {
         let span = Span::from_offset(fault.offset);
         match fault.kind {

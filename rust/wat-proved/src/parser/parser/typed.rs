@@ -8,7 +8,6 @@ use crate::lex::error::Error;
 use crate::words::{StdAnnotation, Word};
 
 /// What is read where annotations of a name are shown.
-
 struct Under<N: Word, T> {
     value: T,
     of: PhantomData<N>,
@@ -24,7 +23,6 @@ impl<'a, N: Word, T: Parse<'a>> Parse<'a> for Under<N, T> {
 }
 
 /// One type behind another.
-
 struct Pair<T, U> {
     first: T,
     second: U,
@@ -110,7 +108,7 @@ impl<'a> Parser<'a> {
     /// Reads a type where the standard annotations are shown: `custom`, `producers`, `name`,
     /// `dylink.0` and `metadata.code.branch_hint`. All names are taken back, also where the type
     /// refuses or one of them can't be registered.
-
+    ///
     /// # Proved
     ///
     /// ```text

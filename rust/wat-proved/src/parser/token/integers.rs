@@ -56,7 +56,6 @@ fn unsigned_value(text: &str, token: &Token, kind: IntegerKind, most: u64) -> Op
 /// ensures on { IfOk result (λ v. cursor.entry.at < v.1.at) }
 /// ```
 #[inline(always)]
-
 fn shown_integer<'p, 'a>(
     cursor: Cursor<'p, 'a>,
     expected: &str,
@@ -72,7 +71,7 @@ fn shown_integer<'p, 'a>(
 
 /// Takes an integer of a type without a sign, with the place where it stands. The messages are for
 /// where none is shown, and where it is out of range.
-
+///
 /// # Proved
 ///
 /// ```text
@@ -117,7 +116,7 @@ fn parse_unsigned(
 }
 
 /// The value of an integer token in a type with a sign, which goes from `-half` up to `half - 1`.
-
+///
 /// # Proved
 ///
 /// ```text
@@ -183,7 +182,7 @@ fn negative(magnitude: u64, half: u64) -> Option<i64> {
 }
 
 /// Takes an integer of a type with a sign, as [`unsigned`] does.
-
+///
 /// # Proved
 ///
 /// ```text
