@@ -4,34 +4,50 @@
 //! pointer: `unsafe` says no more than that the target has the instruction.
 
 // Each is built where its target is; plain Rust also for the tests, which compare it with the others.
-#[cfg(all(target_arch = "aarch64", target_endian = "little"))]
+#[cfg(all(
+    target_arch = "aarch64",
+    target_endian = "little",
+    target_feature = "neon"
+))]
 mod neon;
 #[cfg(any(
     test,
     not(any(
         all(target_arch = "x86_64", target_feature = "sse2"),
-        all(target_arch = "aarch64", target_endian = "little"),
-        all(target_family = "wasm", target_feature = "simd128")
+        all(
+            target_arch = "aarch64",
+            target_endian = "little",
+            target_feature = "neon"
+        ),
+        all(target_arch = "wasm32", target_feature = "simd128")
     ))
 ))]
 mod plain;
 #[cfg(test)]
 mod tests;
-#[cfg(all(target_family = "wasm", target_feature = "simd128"))]
+#[cfg(all(target_arch = "wasm32", target_feature = "simd128"))]
 mod wasm;
 #[cfg(all(target_arch = "x86_64", target_feature = "sse2"))]
 mod x86;
 
 pub mod prelude {
-    #[cfg(all(target_arch = "aarch64", target_endian = "little"))]
+    #[cfg(all(
+        target_arch = "aarch64",
+        target_endian = "little",
+        target_feature = "neon"
+    ))]
     pub use super::neon::{Mask, u8x16};
     #[cfg(not(any(
         all(target_arch = "x86_64", target_feature = "sse2"),
-        all(target_arch = "aarch64", target_endian = "little"),
-        all(target_family = "wasm", target_feature = "simd128")
+        all(
+            target_arch = "aarch64",
+            target_endian = "little",
+            target_feature = "neon"
+        ),
+        all(target_arch = "wasm32", target_feature = "simd128")
     )))]
     pub use super::plain::{Mask, u8x16};
-    #[cfg(all(target_family = "wasm", target_feature = "simd128"))]
+    #[cfg(all(target_arch = "wasm32", target_feature = "simd128"))]
     pub use super::wasm::{Mask, u8x16};
     #[cfg(all(target_arch = "x86_64", target_feature = "sse2"))]
     pub use super::x86::{Mask, u8x16};
