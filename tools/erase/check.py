@@ -27,6 +27,8 @@ WRITTEN = [
     *((f"std::{name}", f"core::{name}") for name in SAME_IN_CORE),
     ("wat_lex::", "crate::lex::"),
     ("wat_words::", "crate::words::"),
+    ("wat_lexer_parser::", "crate::parser::"),
+    ("wat_lex_answers::", "crate::lex_answers::"),
     ("smallvec::", "crate::shim::smallvec::"),
     ("unicode_width::", "crate::shim::unicode_width::"),
     ("vec![in", "try_vec!["),
@@ -34,6 +36,7 @@ WRITTEN = [
     ("<W: fmt::Write>", ""),
     ("fmt::Formatter<W>", "fmt::Formatter<'_>"),
     (".join(alloc,", ".join_in(alloc,"),
+    (".to_string(alloc)", ".to_string_in(alloc)"),
     (".kind.clone()?", ".kind.clone()"),
     # What is taken away.
     ("use std::marker::Model;", ""),
@@ -189,6 +192,8 @@ class Walk:
             self.fault("no rule explains the difference")
         if here.text == "fn":
             self.function = self.there
+        elif here.text == "{":
+            self.function = None
         self.at += 1
         self.there += 1
 
@@ -249,7 +254,7 @@ class Walk:
         return self.after_group(at) if self.text(at) == "{" else None
 
     def contract(self):
-        """A contract, which has to be the documentation of the function that it is of."""
+        """A contract, which has to be the documentation of its function; that of a closure, in a function's body, is not shown."""
         begin, end, at = self.at, None, self.at
         while (after := self.clause_end(at)) is not None:
             at = end = after
@@ -259,7 +264,7 @@ class Walk:
             return False
         lines = self.lines[self.source[begin].line - 1 : self.source[end - 1].line]
         lines[-1] = lines[-1].rstrip().removesuffix(";")
-        if self.contracts.pop(self.function, None) != contract_lines("\n".join(lines)):
+        if self.function is not None and self.contracts.pop(self.function, None) != contract_lines("\n".join(lines)):
             self.fault("the documentation is not the function's contract")
         self.at = end
         return True
@@ -377,7 +382,7 @@ def committed_faults():
         if has_rustfmt and committed != erase.laid_out(made):
             yield f"{name}: what is committed is not what the tool makes"
     for module in erase.MODULES.values():
-        for path in (erase.CRATE / "src" / module).rglob("*"):
+        for path in (erase.CRATE / module).rglob("*"):
             if path.is_file() and path not in wanted:
                 yield f"{path}: made of no source"
     if not has_rustfmt:
@@ -425,7 +430,7 @@ def planted_faults(name, file, before, after):
     source, module = UNSAFE, "lex"
     path = f"crates/{file}"
     if file is not None:
-        source, module = (erase.PROJECT / path).read_text(encoding="utf-8"), erase.MODULES[file.split("/")[0]]
+        source, module = (erase.PROJECT / path).read_text(encoding="utf-8"), erase.MODULES[file.split("/")[0]].removeprefix("src/")
     made = f"// Made by tools/erase from {path}; do not edit.\n" + erase.Eraser(source, module).erased()
     if faults_of(source, made, module, path):
         return None

@@ -2,7 +2,7 @@
 """Makes Rust of the proved sources: takes away what is for the prover alone, and writes a closed list of tokens otherwise. docs/ERASURE.md says
 what goes, what is written otherwise, and what is trusted.
 
-It writes rust/wat-proved/src/MODULE for each crate in MODULES, in the layout of rustfmt.
+It writes the modules of rust/wat-proved that MODULES names, in the layout of rustfmt.
 
 usage: tools/erase/erase.py
 """
@@ -12,8 +12,16 @@ import subprocess
 
 PROJECT = pathlib.Path(__file__).resolve().parents[2]
 CRATE = PROJECT / "rust/wat-proved"
-# The module of the Rust crate that holds each crate's sources.
-MODULES = {"wat_lex": "lex", "wat_words": "words", "wat_lexer_parser": "parser"}
+# The module of the Rust crate that holds each crate's sources; the last two are for its tests.
+MODULES = {
+    "wat_lex": "src/lex",
+    "wat_words": "src/words",
+    "wat_lexer_parser": "src/parser",
+    "wat_lex_answers": "tests/answers/lex_answers",
+    "wat_answers": "tests/answers/answers",
+}
+# What takes Rattle's streams is written in Rust.
+LEFT_OUT = {"wat_answers/src/main.rt"}
 # What is written otherwise: the closed list. The first entry that fits counts. SELF is the module of the source.
 WRITTEN = {
     # Rust has no models, and drops each value.
@@ -31,6 +39,7 @@ WRITTEN = {
     "format!(in": "try_format!(",
     "vec![in": "try_vec![",
     ".join(alloc,": ".join_in(alloc,",
+    ".to_string(alloc)": ".to_string_in(alloc)",
     # A clone of any type can't be refused in Rust.
     ".kind.clone()?": ".kind.clone()",
     # A formatter has its writer as a parameter in Rattle, and none in Rust.
@@ -41,6 +50,8 @@ WRITTEN = {
     "crate::": "crate::SELF::",
     "wat_lex::": "crate::lex::",
     "wat_words::": "crate::words::",
+    "wat_lexer_parser::": "crate::parser::",
+    "wat_lex_answers::": "crate::lex_answers::",
 }
 PRELUDE = "use crate::shim::prelude::*;\n"
 
@@ -201,7 +212,7 @@ class Eraser:
         for before, after in self.written:
             if before[0] == text and (end := self.source.are(at, before)) is not None:
                 self.out += tokens_of(after)
-                return end
+                return end + (after.endswith(("(", "[")) and self.source.tokens[end][0] == "space")
         return None
 
     def ghost(self, at):
@@ -237,7 +248,8 @@ class Eraser:
 
     def contract(self, at):
         end = self.source.contract(at)
-        if end is not None:
+        # A closure's contract, which is in a function's body, has no documentation to be in.
+        if end is not None and ("sign", "{") not in self.out[self.last("fn", len(self.out)) :]:
             place = self.start_of_function()
             documented = any(kind == "doc" for kind, _ in self.out[max(place - 2, 0) : place])
             text = "".join(text for _, text in self.source.tokens[at:end])
@@ -271,7 +283,9 @@ def sources():
         folder = PROJECT / "crates" / crate / "src"
         for source in sorted(folder.rglob("*.rt")):
             inside = source.relative_to(folder).with_suffix(".rs")
-            yield source, module, CRATE / "src" / (f"{module}.rs" if str(inside) == "lib.rs" else f"{module}/{inside}")
+            if f"{crate}/src/{source.relative_to(folder)}" not in LEFT_OUT:
+                target = CRATE / (f"{module}.rs" if str(inside) == "lib.rs" else f"{module}/{inside}")
+                yield source, module.split("/")[-1], target
 
 
 def made(source, module):

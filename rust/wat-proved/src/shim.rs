@@ -15,7 +15,7 @@ pub mod vec;
 /// The names that a Rattle source has without an import.
 pub mod prelude {
     pub use crate::shim::boxed::Box;
-    pub(crate) use crate::shim::macros::{try_format, try_vec};
-    pub use crate::shim::string::{JoinIn, String};
+    pub use crate::shim::macros::{try_format, try_vec};
+    pub use crate::shim::string::{JoinIn, String, ToStringIn};
     pub use crate::shim::vec::Vec;
 }

@@ -217,7 +217,7 @@ impl Error {
         match &self.kind {
             Kind::Memory(_) => String::from_str(alloc, "out of memory"),
             Kind::Plain { message, .. } => message.clone(),
-            Kind::InText(located) => try_format!( alloc; "{}", located.reason),
+            Kind::InText(located) => try_format!(alloc; "{}", located.reason),
         }
     }
 }

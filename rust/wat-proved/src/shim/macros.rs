@@ -1,16 +1,20 @@
 //! The macros that take memory of an allocator.
 
+#[macro_export]
+#[doc(hidden)]
 /// `format!(in alloc; ..)` of Rattle.
 macro_rules! try_format {
     ($alloc:expr; $($rest:tt)*) => {{
         let mut text = $crate::shim::string::String::new($alloc);
-        match core::fmt::Write::write_fmt(&mut text, format_args!($($rest)*)) {
+        match text.write_fmt(format_args!($($rest)*)) {
             Ok(()) => Ok(text),
-            Err(_) => Err($crate::shim::alloc::AllocError),
+            Err(refused) => Err(refused),
         }
     }};
 }
 
+#[macro_export]
+#[doc(hidden)]
 /// `vec![in alloc; item; count]` of Rattle.
 macro_rules! try_vec {
     [$alloc:expr; $item:expr; $count:expr] => {
@@ -18,4 +22,4 @@ macro_rules! try_vec {
     };
 }
 
-pub(crate) use {try_format, try_vec};
+pub use {try_format, try_vec};

@@ -65,6 +65,11 @@ impl String {
         Ok(())
     }
 
+    /// Appends what is printed, by `write!`. Where that is refused, what was printed before the refusal stays.
+    pub fn write_fmt(&mut self, printed: fmt::Arguments<'_>) -> Result<(), AllocError> {
+        fmt::Write::write_fmt(self, printed).map_err(|_| AllocError)
+    }
+
     #[inline]
     pub fn as_str(&self) -> &str {
         &self.0
@@ -120,5 +125,18 @@ impl JoinIn for [&str] {
             all.push_str(text)?;
         }
         Ok(all)
+    }
+}
+
+/// What is printed, as a text.
+pub trait ToStringIn {
+    fn to_string_in(&self, alloc: Global) -> Result<String, AllocError>;
+}
+
+impl<T: fmt::Display + ?Sized> ToStringIn for T {
+    fn to_string_in(&self, alloc: Global) -> Result<String, AllocError> {
+        let mut text = String::new(alloc);
+        text.write_fmt(format_args!("{self}"))?;
+        Ok(text)
     }
 }

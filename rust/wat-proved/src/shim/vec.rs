@@ -1,9 +1,10 @@
 //! Vectors.
 use crate::shim::alloc::{AllocError, AllocFailed, Global};
+use core::fmt;
 use core::ops::{Deref, DerefMut};
 
 /// A vector that answers a refused request for memory, and is then as it was.
-#[derive(Debug, PartialEq, Eq, PartialOrd, Ord, Hash)]
+#[derive(PartialEq, Eq, PartialOrd, Ord, Hash)]
 pub struct Vec<T>(alloc::vec::Vec<T>);
 
 impl<T> Vec<T> {
@@ -105,6 +106,12 @@ impl<T> DerefMut for Vec<T> {
     #[inline]
     fn deref_mut(&mut self) -> &mut [T] {
         &mut self.0
+    }
+}
+
+impl<T: fmt::Debug> fmt::Debug for Vec<T> {
+    fn fmt(&self, f: &mut fmt::Formatter<'_>) -> fmt::Result {
+        self.0.fmt(f)
     }
 }
 

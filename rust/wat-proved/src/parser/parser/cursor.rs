@@ -178,7 +178,7 @@ impl<'p, 'a> Cursor<'p, 'a> {
     /// ```
     pub(crate) fn error_of(&self, what: &str, word: &str) -> Error {
         let parser = self.parser;
-        match try_format!( parser.alloc(); "{what}{word}") {
+        match try_format!(parser.alloc(); "{what}{word}") {
             Ok(message) => self.error(message.as_str()),
             Err(refused) => Error::from(refused),
         }

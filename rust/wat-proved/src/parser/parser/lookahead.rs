@@ -92,10 +92,10 @@ fn message(alloc: Global, is_empty: bool, attempts: &[&'static str]) -> Result<S
         return String::from_str(alloc, "unexpected token");
     };
     let Some((other, more)) = others.split_first() else {
-        return try_format!( alloc; "unexpected token, expected {one}");
+        return try_format!(alloc; "unexpected token, expected {one}");
     };
     let Some(_) = more.split_first() else {
-        return try_format!( alloc; "unexpected token, expected {one} or {other}");
+        return try_format!(alloc; "unexpected token, expected {one} or {other}");
     };
     one_of(alloc, attempts)
 }
@@ -110,5 +110,5 @@ fn message(alloc: Global, is_empty: bool, attempts: &[&'static str]) -> Result<S
 /// ```
 fn one_of(alloc: Global, attempts: &[&'static str]) -> Result<String, AllocError> {
     let all = attempts.join_in(alloc, ", ")?;
-    try_format!( alloc; "unexpected token, expected one of: {all}")
+    try_format!(alloc; "unexpected token, expected one of: {all}")
 }

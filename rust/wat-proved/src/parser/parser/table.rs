@@ -389,7 +389,7 @@ fn closes(
     tokens: &[Token],
     opens: &[usize],
 ) -> Result<Vec<Option<usize>>, AllocError> {
-    let mut closes: Vec<Option<usize>> = try_vec![ alloc; None; opens.len()]?;
+    let mut closes: Vec<Option<usize>> = try_vec![alloc; None; opens.len()]?;
     let mut opened: Vec<Option<usize>> = Vec::new(alloc);
     let mut passed = 0;
     let mut i = next_open(opens, passed, 0, tokens.len());
