@@ -115,7 +115,7 @@ class Walk:
         self.contracts = {}
         self.at = self.there = 0
         self.function = None
-        self.unwrapped = set()
+        self.unwrapped, self.wrapped = set(), set()
 
     def fault(self, what):
         here = self.source[min(self.at, len(self.source) - 1)]
@@ -131,7 +131,7 @@ class Walk:
             pass
         self.take_prelude()
         while self.at < len(self.source):
-            if not self.is_taken_away() and not self.is_written_otherwise() and not self.is_laid_out():
+            if not self.is_taken_away() and not self.is_laid_out() and not self.is_written_otherwise():
                 self.equal()
         while self.there < len(self.made) and self.made[self.there].text == ",":
             self.fault("a sign too many")
@@ -203,11 +203,12 @@ class Walk:
     def text(self, at):
         return self.source[at].text if at < len(self.source) else ""
 
-    def after_group(self, at):
-        """The place after a group in the source."""
+    def after_group(self, at, tokens=None):
+        """The place after a group, in the source where no tokens are named."""
+        tokens = self.source if tokens is None else tokens
         open_groups = []
         while True:
-            text = self.text(at)
+            text = tokens[at].text
             if text in CLOSERS:
                 open_groups.append(CLOSERS[text])
             elif open_groups and text == open_groups[-1]:
@@ -331,26 +332,36 @@ class Walk:
         here, there = self.source[self.at].text, self.made[self.there].text if self.there < len(self.made) else ""
         if here == "," and there in CLOSING and self.text(self.at + 1) == there:
             self.at += 1
-            return True
-        if there == "," and here in CLOSING and self.there + 1 < len(self.made) and self.made[self.there + 1].text == here:
+        elif there == "," and here in CLOSING and self.there + 1 < len(self.made) and self.made[self.there + 1].text == here:
             self.there += 1
-            return True
-        if here == "{" != there and self.text(self.at - 2) + self.text(self.at - 1) == "=>" and self.is_one_expression():
+        elif here == "{" != there and self.is_arm(self.source, self.at):
             self.unwrapped.add(self.after_group(self.at) - 1)
             self.at += 1
-            return True
-        if self.at in self.unwrapped and there == ",":
+        elif self.at in self.unwrapped and there == ",":
             self.at += 1 + (self.text(self.at + 1) == ",")
             self.there += 1
-            return True
-        return False
+        elif there == "{" != here and self.is_arm(self.made, self.there):
+            self.wrapped.add(self.after_group(self.there, self.made) - 1)
+            self.there += 1
+        elif there == ";" and self.there + 1 in self.wrapped:
+            self.there += 1
+        elif self.there in self.wrapped and here == ",":
+            self.at += 1
+            self.there += 1
+        else:
+            return False
+        return True
 
-    def is_one_expression(self):
-        """Whether a group has no statement."""
-        at, end = self.at + 1, self.after_group(self.at) - 1
-        while at < end and self.text(at) != ";":
-            at = self.after_group(at)
-        return at == end
+    def is_arm(self, tokens, at):
+        """Whether an arm's braces are here, around one expression: with no statement in them, but for the `;` that ends a `return`."""
+        if [token.text for token in tokens[at - 2 : at]] != ["=", ">"]:
+            return False
+        end = self.after_group(at, tokens) - 1
+        at += 1
+        is_return = tokens[at].text == "return"
+        while at < end and tokens[at].text != ";":
+            at = self.after_group(at, tokens)
+        return at == end - (is_return and tokens[end - 1].text == ";")
 
 
 def faults_of(source, made, module, name):

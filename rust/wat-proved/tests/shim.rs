@@ -3,7 +3,6 @@
 use std::alloc::{GlobalAlloc, Layout, System};
 use std::cell::Cell;
 use std::collections::BTreeMap as StdMap;
-use std::fmt::Write;
 use std::ptr::null_mut;
 use wat_proved::lex::lexer::{Lexer, TokenKind};
 use wat_proved::shim::alloc::{AllocError, AllocFailed, Global};

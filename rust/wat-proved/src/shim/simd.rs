@@ -54,6 +54,8 @@ pub mod prelude {
 }
 
 /// The two halves of a block, the first byte lowest.
+// Plain Rust takes a block as it is.
+#[allow(dead_code)]
 #[inline(always)]
 fn halves(bytes: [u8; 16]) -> [u64; 2] {
     let (low, high) = bytes.split_at(8);
