@@ -1,7 +1,7 @@
 //! Blocks of 16 bytes: by the vectors of x86-64, AArch64 or WebAssembly where the target has them, else in plain Rust.
 //!
-//! Each of these has the same answers. Bytes come into a vector as two numbers of 64 bits, so no instruction takes a
-//! pointer: `unsafe` says no more than that the target has the instruction.
+//! Each of these has the same answers. Bytes come into a vector by value, so no instruction takes a pointer: `unsafe` says no more than that
+//! the target has the instruction, and that 16 bytes are a vector.
 
 // Each is built where its target is; plain Rust also for the tests, which compare it with the others.
 #[cfg(all(
@@ -51,19 +51,6 @@ pub mod prelude {
     pub use super::wasm::{Mask, u8x16};
     #[cfg(all(target_arch = "x86_64", target_feature = "sse2"))]
     pub use super::x86::{Mask, u8x16};
-}
-
-/// The two halves of a block, the first byte lowest.
-// Plain Rust takes a block as it is.
-#[allow(dead_code)]
-#[inline(always)]
-fn halves(bytes: [u8; 16]) -> [u64; 2] {
-    let (low, high) = bytes.split_at(8);
-    [low, high].map(|half| {
-        half.iter()
-            .rev()
-            .fold(0, |sum, byte| sum << 8 | u64::from(*byte))
-    })
 }
 
 /// What a block has by the operations that its target gives it.

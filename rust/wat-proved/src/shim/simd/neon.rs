@@ -25,8 +25,8 @@ const BITS: u64 = 0x8040_2010_0804_0201;
 impl u8x16 {
     #[inline(always)]
     pub fn from_array(bytes: [u8; 16]) -> u8x16 {
-        let [low, high] = super::halves(bytes);
-        u8x16(neon!(vcombine_u8(vcreate_u8(low), vcreate_u8(high))))
+        // SAFETY: both have 16 bytes, and any of these are a vector.
+        u8x16(unsafe { core::mem::transmute::<[u8; 16], uint8x16_t>(bytes) })
     }
 
     #[inline(always)]

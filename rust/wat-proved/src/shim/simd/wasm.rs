@@ -14,8 +14,8 @@ super::common!();
 impl u8x16 {
     #[inline(always)]
     pub fn from_array(bytes: [u8; 16]) -> u8x16 {
-        let [low, high] = super::halves(bytes);
-        u8x16(u64x2(low, high))
+        // SAFETY: both have 16 bytes, and any of these are a vector.
+        u8x16(unsafe { core::mem::transmute::<[u8; 16], v128>(bytes) })
     }
 
     #[inline(always)]

@@ -32,18 +32,13 @@ fn shuffled(table: __m128i, indices: __m128i) -> __m128i {
 #[cfg(any(test, not(target_feature = "ssse3")))]
 #[inline(always)]
 fn compared(table: __m128i, indices: __m128i) -> __m128i {
-    let low = sse2!(_mm_cvtsi128_si64(table)).to_le_bytes();
-    let high = sse2!(_mm_cvtsi128_si64(_mm_unpackhi_epi64(table, table))).to_le_bytes();
+    // SAFETY: both have 16 bytes, and these may be any.
+    let table = unsafe { core::mem::transmute::<__m128i, [u8; 16]>(table) };
     let mut found = sse2!(_mm_setzero_si128());
     let mut place = 0;
     while place < 16 {
-        let byte = if place < 8 {
-            low[place]
-        } else {
-            high[place - 8]
-        };
         let is_here = sse2!(_mm_cmpeq_epi8(indices, _mm_set1_epi8(place as i8)));
-        let here = sse2!(_mm_and_si128(is_here, _mm_set1_epi8(byte as i8)));
+        let here = sse2!(_mm_and_si128(is_here, _mm_set1_epi8(table[place] as i8)));
         found = sse2!(_mm_or_si128(found, here));
         place += 1;
     }
@@ -53,8 +48,8 @@ fn compared(table: __m128i, indices: __m128i) -> __m128i {
 impl u8x16 {
     #[inline(always)]
     pub fn from_array(bytes: [u8; 16]) -> u8x16 {
-        let [low, high] = super::halves(bytes);
-        u8x16(sse2!(_mm_set_epi64x(high as i64, low as i64)))
+        // SAFETY: both have 16 bytes, and any of these are a vector.
+        u8x16(unsafe { core::mem::transmute::<[u8; 16], __m128i>(bytes) })
     }
 
     #[inline(always)]
