@@ -1,7 +1,7 @@
 #!/usr/bin/env python3
 """Checks what tools/erase/erase.py makes, by other means: it walks over the tokens of a source and of what was made of it side by side, and
-explains each difference by a rule of docs/ERASURE.md. What no rule explains is a fault. It shares no code with the tool; it has a scanner of
-its own, and takes from the tool only what is checked.
+explains each difference by a rule of docs/ERASURE.md. What no rule explains is a fault. It has a scanner and a list of its own, and takes from
+the tool only what is checked and the names of the files.
 
 usage: tools/erase/check.py               what the tool makes today of each source
        tools/erase/check.py --committed   the committed files too: they are what the tool makes today, and each is explained
@@ -19,6 +19,8 @@ Token = collections.namedtuple("Token", "kind text line")
 CLOSERS = {"(": ")", "[": "]", "{": "}"}
 # Before each of these a comma is a matter of layout.
 CLOSING = (")", "]", "}", ">")
+# After these a parenthesis begins no call.
+NO_CALLS = ("as", "break", "else", "if", "in", "let", "match", "mut", "ref", "return", "while")
 SAME_IN_CORE = ("fmt", "hash", "marker", "mem", "result", "str", "{")
 
 # What is written otherwise, wherever it is found: the tokens of the source, and those that have to be in their place.
@@ -116,6 +118,8 @@ class Walk:
         self.at = self.there = 0
         self.function = None
         self.unwrapped, self.wrapped = set(), set()
+        # Of each group that is open in the source: whether a comma at its end is a matter of layout.
+        self.groups = []
 
     def fault(self, what):
         here = self.source[min(self.at, len(self.source) - 1)]
@@ -194,8 +198,21 @@ class Walk:
             self.function = self.there
         elif here.text == "{":
             self.function = None
+        self.note(self.at)
         self.at += 1
         self.there += 1
+
+    def note(self, at):
+        """Keeps account of groups. In parentheses that are no call's, one comma makes a tuple."""
+        text = self.text(at)
+        if text in CLOSERS:
+            before, last = self.source[max(at - 2, 0)].text, self.source[max(at - 1, 0)]
+            is_call = last.kind == "word" and last.text not in NO_CALLS or last.text in (")", "]", "!") or last.text == ">" and before not in "-="
+            self.groups.append(text != "(" or is_call)
+        elif text in CLOSERS.values():
+            self.groups.pop()
+        elif text == "," and self.groups:
+            self.groups[-1] = True
 
     def begins(self, tokens, at, wanted):
         return [token.text for token in tokens[at : at + len(wanted)]] == [token.text for token in wanted]
@@ -322,6 +339,8 @@ class Walk:
                 continue
             if not self.begins(self.made, self.there, after):
                 self.fault("not written as the closed list has it")
+            for at in range(self.at, self.at + len(before)):
+                self.note(at)
             self.at += len(before)
             self.there += len(after)
             return True
@@ -330,9 +349,10 @@ class Walk:
     def is_laid_out(self):
         """Whether the layout makes a difference here: by a comma before a closing bracket, or by an arm's braces around one expression."""
         here, there = self.source[self.at].text, self.made[self.there].text if self.there < len(self.made) else ""
-        if here == "," and there in CLOSING and self.text(self.at + 1) == there:
+        is_layout = not self.groups or self.groups[-1]
+        if here == "," and there in CLOSING and self.text(self.at + 1) == there and is_layout:
             self.at += 1
-        elif there == "," and here in CLOSING and self.there + 1 < len(self.made) and self.made[self.there + 1].text == here:
+        elif there == "," and here in CLOSING and is_layout and self.there + 1 < len(self.made) and self.made[self.there + 1].text == here:
             self.there += 1
         elif here == "{" != there and self.is_arm(self.source, self.at):
             self.unwrapped.add(self.after_group(self.at) - 1)
@@ -410,11 +430,26 @@ def made_faults():
 PLANTED = [
     ("a statement is dropped", "wat_lex/src/lexer.rt", "*pos = start + token.len as usize;", ""),
     ("an attribute is dropped", "wat_lex/src/lexer.rt", "#[cold]", ""),
-    ("a name of a derive is dropped", "wat_lex/src/gensym.rt", "#[derive(Clone, Copy, Debug, PartialEq, Eq)]", "#[derive(Clone, Copy, Debug, PartialEq)]"),
+    (
+        "a name of a derive is dropped",
+        "wat_lex/src/gensym.rt",
+        "#[derive(Clone, Copy, Debug, PartialEq, Eq)]",
+        "#[derive(Clone, Copy, Debug, PartialEq)]",
+    ),
     ("a mut is dropped", "wat_lex/src/lexer/scan/plain.rt", "let mut i = 0;", "let i = 0;"),
-    ("a ghost item is kept", "wat_lex/src/lexer/scan/starts.rt", "use crate::lex::lexer::kinds::Sign;", "use crate::lex::lexer::kinds::Sign;\nghost use Rattle.wat_lex;"),
+    (
+        "a ghost item is kept",
+        "wat_lex/src/lexer/scan/starts.rt",
+        "use crate::lex::lexer::kinds::Sign;",
+        "use crate::lex::lexer::kinds::Sign;\nghost use Rattle.wat_lex;",
+    ),
     ("a clause is kept", "wat_lex/src/token.rt", "pub fn offset(&self) -> usize", "pub fn offset(&self) -> usize ensures { result ≡ self.now }"),
-    ("a clause is another function's", "wat_lex/src/token.rt", "/// ensures { result.now ≡ self.now.name }", "/// ensures { result ≡ self.now.span }"),
+    (
+        "a clause is another function's",
+        "wat_lex/src/token.rt",
+        "/// ensures { result.now ≡ self.now.name }",
+        "/// ensures { result ≡ self.now.span }",
+    ),
     ("a requires is left out of the documentation", "wat_lex/src/lexer.rt", "/// requires { length input.now < 2 ^ 32 }\n", ""),
     ("a contract is not shown", "wat_words/src/lib.rt", "/// # Proved\n///\n/// ```text\n/// ensures { result.now ≡ text }\n/// ```\n", ""),
     ("a literal is another one", "wat_lex/src/lexer/scan/classes.rt", "const WHITESPACE: u8 = 8;", "const WHITESPACE: u8 = 9;"),
@@ -422,6 +457,8 @@ PLANTED = [
     ("arguments are swapped", "wat_lex/src/error/text.rt", "columns(source, column)", "columns(column, source)"),
     ("a ? is lost", "wat_lex/src/token.rt", "id.clone(alloc)?", "id.clone(alloc)"),
     ("an unsafe is lost", None, "pub unsafe fn of(x: u8)", "pub fn of(x: u8)"),
+    ("a tuple of one is no tuple", None, "(1,)", "(1)"),
+    ("a value is a tuple", None, "= (2)", "= (2,)"),
     ("an unsafe is gained", "wat_lex/src/token.rt", "pub fn offset(", "pub unsafe fn offset("),
     ("an arm is dropped", "wat_lex/src/lexer/scan/starts.rt", "b'$' => Start::Id,", ""),
     ("a function is public", "wat_lex/src/token.rt", "pub(crate) fn gensym", "pub fn gensym"),
@@ -433,12 +470,13 @@ PLANTED = [
     ("a comment is dropped", "wat_lex/src/lexer/scan/starts.rt", "// Bytes that are neighbours stand", "// Bytes"),
     ("the end is lost", "wat_lex/src/gensym.rt", "Ok(Id::gensym(span, self.generation))\n    }\n}", ""),
 ]
-UNSAFE = "/// It is.\npub unsafe fn of(x: u8)\n    ensures { ⊤ }\n{}\n"
+# What the sources do not have.
+OTHERS = "/// It is.\npub unsafe fn of(x: u8)\n    ensures { ⊤ }\n{\n    let one = (1,);\n    let two = (2);\n}\n"
 
 
 def planted_faults(name, file, before, after):
     """The faults of what is made of a source into which a bug is planted."""
-    source, module = UNSAFE, "lex"
+    source, module = OTHERS, "lex"
     path = f"crates/{file}"
     if file is not None:
         source, module = (erase.PROJECT / path).read_text(encoding="utf-8"), erase.MODULES[file.split("/")[0]].removeprefix("src/")

@@ -1,8 +1,9 @@
-//! The lexer of the WebAssembly text format, compiled from the proved text.
+//! The lexer of the WebAssembly text format and the parser over it, compiled from the proved text.
 //!
 //! The modules [`lex`], [`words`] and [`parser`] are made from the proved sources, from which no more was taken than what is for the prover;
 //! each contract is kept as documentation. [`shim`] is the part of Rattle's library that they use.
 #![no_std]
+#![deny(unsafe_code)]
 
 extern crate alloc;
 #[cfg(test)]

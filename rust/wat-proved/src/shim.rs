@@ -6,6 +6,8 @@ pub mod borrow;
 pub mod boxed;
 pub mod collections;
 mod macros;
+// The calls of the target's instructions.
+#[allow(unsafe_code)]
 pub mod simd;
 pub mod smallvec;
 pub mod string;
