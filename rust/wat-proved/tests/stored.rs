@@ -77,3 +77,42 @@ fn stored_texts_are_listed_as_they_are_stored() {
     println!("{} texts, {with_fault} with a fault", texts.len());
     assert!(texts.len() >= 240, "{}", texts.len());
 }
+
+/// Both ways of scanning answer the same from the start of a text to its end or its first fault.
+fn scan_both_ways(text: &str) -> usize {
+    let lexer = Lexer::new(text);
+    let (mut pos, mut tokens) = (0, 0);
+    loop {
+        let found = lexer.scan(pos);
+        assert_eq!(found, lexer.scan_by_byte(pos), "{pos} of {text:?}");
+        match found {
+            Ok(Some(token)) => pos += token.len as usize,
+            _ => return tokens,
+        }
+        tokens += 1;
+    }
+}
+
+#[test]
+fn blocks_and_bytes_find_the_same() {
+    let texts: Vec<String> = plain_lists()
+        .iter()
+        .map(|(path, _)| fs::read_to_string(path).unwrap())
+        .collect();
+    let mut random = 5u64;
+    let mut below = |count: usize| {
+        random = random
+            .wrapping_mul(6_364_136_223_846_793_005)
+            .wrapping_add(1);
+        (random >> 33) as usize % count
+    };
+    let mut tokens: usize = texts.iter().map(|text| scan_both_ways(text)).sum();
+    for _ in 0..5_000 {
+        let parts = [below(texts.len()), below(texts.len())].map(|text| texts[text].as_str());
+        let cut = |text: &str, at: usize| (0..=at).rev().find(|at| text.is_char_boundary(*at));
+        let [first, second] = parts.map(|text| cut(text, below(text.len() + 1)).unwrap());
+        tokens += scan_both_ways(&format!("{}{}", &parts[0][..first], &parts[1][second..]));
+    }
+    println!("{tokens} tokens");
+    assert!(tokens > 100_000, "{tokens}");
+}
