@@ -1,0 +1,23 @@
+//! The part of Rattle's library that the proved sources use, over Rust's own: collections that answer a refused request for memory as a
+//! value, and blocks of 16 bytes.
+
+pub mod alloc;
+pub mod borrow;
+pub mod boxed;
+pub mod collections;
+mod macros;
+// The calls of the target's instructions.
+#[allow(unsafe_code)]
+pub mod simd;
+pub mod smallvec;
+pub mod string;
+pub mod unicode_width;
+pub mod vec;
+
+/// The names that a Rattle source has without an import.
+pub mod prelude {
+    pub use crate::shim::boxed::Box;
+    pub use crate::shim::macros::{try_format, try_vec};
+    pub use crate::shim::string::{JoinIn, String, ToStringIn};
+    pub use crate::shim::vec::Vec;
+}

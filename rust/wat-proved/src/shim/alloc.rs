@@ -1,0 +1,37 @@
+//! Refused requests for memory, and the handle of the allocator.
+use core::fmt;
+
+/// A request for memory was refused.
+#[derive(Clone, Copy, Debug, PartialEq, Eq)]
+pub struct AllocError;
+
+impl fmt::Display for AllocError {
+    fn fmt(&self, f: &mut fmt::Formatter<'_>) -> fmt::Result {
+        f.write_str("memory allocation failed")
+    }
+}
+
+impl core::error::Error for AllocError {}
+
+/// So that `?` works on `write!` to a text within an `fmt`.
+impl From<AllocError> for fmt::Error {
+    fn from(_: AllocError) -> fmt::Error {
+        fmt::Error
+    }
+}
+
+/// A value that was not stored, as a request for memory was refused.
+#[derive(Clone, Copy, Debug, PartialEq, Eq)]
+pub struct AllocFailed<T> {
+    pub value: T,
+}
+
+impl<T> From<AllocFailed<T>> for AllocError {
+    fn from(_: AllocFailed<T>) -> AllocError {
+        AllocError
+    }
+}
+
+/// The handle of Rust's global allocator.
+#[derive(Clone, Copy, Debug, PartialEq, Eq)]
+pub struct Global;

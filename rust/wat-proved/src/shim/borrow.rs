@@ -1,0 +1,96 @@
+//! Texts and slices that are borrowed until they have to be owned.
+use crate::shim::alloc::{AllocError, Global};
+use crate::shim::string::String;
+use crate::shim::vec::Vec;
+use core::fmt;
+use core::ops::Deref;
+
+pub enum CowStr<'a> {
+    Borrowed(&'a str),
+    Owned(String),
+}
+
+impl CowStr<'_> {
+    #[inline]
+    pub fn as_str(&self) -> &str {
+        match self {
+            CowStr::Borrowed(text) => text,
+            CowStr::Owned(text) => text.as_str(),
+        }
+    }
+
+    /// The text as one of its own. It takes memory where it was borrowed.
+    pub fn into_owned(self, alloc: Global) -> Result<String, AllocError> {
+        match self {
+            CowStr::Borrowed(text) => String::from_str(alloc, text),
+            CowStr::Owned(text) => Ok(text),
+        }
+    }
+}
+
+impl Deref for CowStr<'_> {
+    type Target = str;
+
+    #[inline]
+    fn deref(&self) -> &str {
+        self.as_str()
+    }
+}
+
+impl PartialEq for CowStr<'_> {
+    fn eq(&self, other: &Self) -> bool {
+        self.as_str() == other.as_str()
+    }
+}
+
+impl Eq for CowStr<'_> {}
+
+impl fmt::Debug for CowStr<'_> {
+    fn fmt(&self, f: &mut fmt::Formatter<'_>) -> fmt::Result {
+        fmt::Debug::fmt(self.as_str(), f)
+    }
+}
+
+impl fmt::Display for CowStr<'_> {
+    fn fmt(&self, f: &mut fmt::Formatter<'_>) -> fmt::Result {
+        fmt::Display::fmt(self.as_str(), f)
+    }
+}
+
+pub enum CowSlice<'a, T> {
+    Borrowed(&'a [T]),
+    Owned(Vec<T>),
+}
+
+impl<T> CowSlice<'_, T> {
+    #[inline]
+    pub fn as_slice(&self) -> &[T] {
+        match self {
+            CowSlice::Borrowed(items) => items,
+            CowSlice::Owned(items) => items.as_slice(),
+        }
+    }
+}
+
+impl<T> Deref for CowSlice<'_, T> {
+    type Target = [T];
+
+    #[inline]
+    fn deref(&self) -> &[T] {
+        self.as_slice()
+    }
+}
+
+impl<T: PartialEq> PartialEq for CowSlice<'_, T> {
+    fn eq(&self, other: &Self) -> bool {
+        self.as_slice() == other.as_slice()
+    }
+}
+
+impl<T: Eq> Eq for CowSlice<'_, T> {}
+
+impl<T: fmt::Debug> fmt::Debug for CowSlice<'_, T> {
+    fn fmt(&self, f: &mut fmt::Formatter<'_>) -> fmt::Result {
+        self.as_slice().fmt(f)
+    }
+}

@@ -1,0 +1,70 @@
+//! Maps.
+use crate::shim::alloc::{AllocError, Global};
+use crate::shim::vec::Vec;
+use core::borrow::Borrow;
+
+/// A map by the order of its keys, which answers a refused request for memory, and is then as it was.
+// Rust's map can't answer a refusal. Its pairs are in a sorted vector here: to insert or to remove one moves those after it.
+#[derive(Debug)]
+pub struct BTreeMap<K, V> {
+    pairs: Vec<(K, V)>,
+}
+
+impl<K: Ord, V> BTreeMap<K, V> {
+    pub const fn new(alloc: Global) -> BTreeMap<K, V> {
+        BTreeMap {
+            pairs: Vec::new(alloc),
+        }
+    }
+
+    pub fn len(&self) -> usize {
+        self.pairs.len()
+    }
+
+    pub fn is_empty(&self) -> bool {
+        self.pairs.is_empty()
+    }
+
+    fn place<Q: Ord + ?Sized>(&self, key: &Q) -> Result<usize, usize>
+    where
+        K: Borrow<Q>,
+    {
+        self.pairs
+            .binary_search_by(|(other, _)| other.borrow().cmp(key))
+    }
+
+    pub fn get<Q: Ord + ?Sized>(&self, key: &Q) -> Option<&V>
+    where
+        K: Borrow<Q>,
+    {
+        let place = self.place(key).ok()?;
+        Some(&self.pairs[place].1)
+    }
+
+    pub fn get_mut<Q: Ord + ?Sized>(&mut self, key: &Q) -> Option<&mut V>
+    where
+        K: Borrow<Q>,
+    {
+        let place = self.place(key).ok()?;
+        Some(&mut self.pairs[place].1)
+    }
+
+    /// Gives a key a value, and answers the one that it had.
+    pub fn insert(&mut self, key: K, value: V) -> Result<Option<V>, AllocError> {
+        match self.place(&key) {
+            Ok(place) => Ok(Some(core::mem::replace(&mut self.pairs[place].1, value))),
+            Err(place) => {
+                self.pairs.insert(place, (key, value))?;
+                Ok(None)
+            }
+        }
+    }
+
+    pub fn remove<Q: Ord + ?Sized>(&mut self, key: &Q) -> Option<V>
+    where
+        K: Borrow<Q>,
+    {
+        let place = self.place(key).ok()?;
+        Some(self.pairs.remove(place).1)
+    }
+}

@@ -1,0 +1,98 @@
+//! Blocks of 16 bytes: by the vectors of x86-64, AArch64 or WebAssembly where the target has them, else in plain Rust.
+//!
+//! Each of these has the same answers. Bytes come into a vector by value, so no instruction takes a pointer: `unsafe` says no more than that
+//! the target has the instruction, and that 16 bytes are a vector.
+
+// Each is built where its target is; plain Rust also for the tests, which compare it with the others.
+#[cfg(all(
+    target_arch = "aarch64",
+    target_endian = "little",
+    target_feature = "neon"
+))]
+mod neon;
+#[cfg(any(
+    test,
+    not(any(
+        all(target_arch = "x86_64", target_feature = "sse2"),
+        all(
+            target_arch = "aarch64",
+            target_endian = "little",
+            target_feature = "neon"
+        ),
+        all(target_arch = "wasm32", target_feature = "simd128")
+    ))
+))]
+mod plain;
+#[cfg(test)]
+mod tests;
+#[cfg(all(target_arch = "wasm32", target_feature = "simd128"))]
+mod wasm;
+#[cfg(all(target_arch = "x86_64", target_feature = "sse2"))]
+mod x86;
+
+pub mod prelude {
+    #[cfg(all(
+        target_arch = "aarch64",
+        target_endian = "little",
+        target_feature = "neon"
+    ))]
+    pub use super::neon::{Mask, u8x16};
+    #[cfg(not(any(
+        all(target_arch = "x86_64", target_feature = "sse2"),
+        all(
+            target_arch = "aarch64",
+            target_endian = "little",
+            target_feature = "neon"
+        ),
+        all(target_arch = "wasm32", target_feature = "simd128")
+    )))]
+    pub use super::plain::{Mask, u8x16};
+    #[cfg(all(target_arch = "wasm32", target_feature = "simd128"))]
+    pub use super::wasm::{Mask, u8x16};
+    #[cfg(all(target_arch = "x86_64", target_feature = "sse2"))]
+    pub use super::x86::{Mask, u8x16};
+}
+
+/// What a block has by the operations that its target gives it.
+macro_rules! common {
+    () => {
+        impl u8x16 {
+            /// The first 16 bytes of a slice, which has as many.
+            #[inline(always)]
+            pub fn from_slice(bytes: &[u8]) -> u8x16 {
+                match bytes.first_chunk::<16>() {
+                    Some(first) => u8x16::from_array(*first),
+                    None => panic!("a block of fewer than 16 bytes"),
+                }
+            }
+
+            #[inline(always)]
+            pub fn simd_ne(self, other: u8x16) -> Mask {
+                !self.simd_eq(other)
+            }
+
+            #[inline(always)]
+            pub fn simd_lt(self, other: u8x16) -> Mask {
+                !self.simd_ge(other)
+            }
+
+            #[inline(always)]
+            pub fn simd_le(self, other: u8x16) -> Mask {
+                other.simd_ge(self)
+            }
+
+            #[inline(always)]
+            pub fn simd_gt(self, other: u8x16) -> Mask {
+                other.simd_lt(self)
+            }
+        }
+
+        impl Mask {
+            #[inline(always)]
+            pub fn any(self) -> bool {
+                self.to_bitmask() != 0
+            }
+        }
+    };
+}
+use common;

@@ -1,0 +1,142 @@
+//! Texts.
+use crate::shim::alloc::{AllocError, Global};
+use crate::shim::vec::Vec;
+use core::borrow::Borrow;
+use core::fmt;
+use core::ops::Deref;
+
+/// A text that answers a refused request for memory, and is then as it was.
+#[derive(PartialEq, Eq, PartialOrd, Ord, Hash)]
+pub struct String(alloc::string::String);
+
+/// Bytes that are no UTF-8.
+#[derive(Debug, PartialEq, Eq)]
+pub struct FromUtf8Error {
+    pub bytes: Vec<u8>,
+}
+
+impl String {
+    #[inline]
+    pub const fn new(_: Global) -> String {
+        String(alloc::string::String::new())
+    }
+
+    pub fn with_capacity(alloc: Global, count: usize) -> Result<String, AllocError> {
+        let mut new = String::new(alloc);
+        new.0.try_reserve_exact(count).map_err(|_| AllocError)?;
+        Ok(new)
+    }
+
+    /// A copy of a text.
+    // Fallible, and of an allocator: so it is not the trait's function.
+    #[allow(clippy::should_implement_trait)]
+    pub fn from_str(alloc: Global, text: &str) -> Result<String, AllocError> {
+        let mut new = String::with_capacity(alloc, text.len())?;
+        new.0.push_str(text);
+        Ok(new)
+    }
+
+    /// The text that bytes are. It takes no memory.
+    pub fn from_utf8(bytes: Vec<u8>) -> Result<String, FromUtf8Error> {
+        match alloc::string::String::from_utf8(bytes.into_inner()) {
+            Ok(text) => Ok(String(text)),
+            Err(error) => Err(FromUtf8Error {
+                bytes: error.into_bytes().into(),
+            }),
+        }
+    }
+
+    /// A copy.
+    // Fallible, so it is not the trait's function.
+    #[allow(clippy::should_implement_trait)]
+    pub fn clone(&self) -> Result<String, AllocError> {
+        String::from_str(Global, self)
+    }
+
+    #[inline]
+    pub fn push(&mut self, c: char) -> Result<(), AllocError> {
+        self.push_str(c.encode_utf8(&mut [0; 4]))
+    }
+
+    #[inline]
+    pub fn push_str(&mut self, text: &str) -> Result<(), AllocError> {
+        self.0.try_reserve(text.len()).map_err(|_| AllocError)?;
+        self.0.push_str(text);
+        Ok(())
+    }
+
+    /// Appends what is printed, by `write!`. Where that is refused, what was printed before the refusal stays.
+    pub fn write_fmt(&mut self, printed: fmt::Arguments<'_>) -> Result<(), AllocError> {
+        fmt::Write::write_fmt(self, printed).map_err(|_| AllocError)
+    }
+
+    #[inline]
+    pub fn as_str(&self) -> &str {
+        &self.0
+    }
+}
+
+impl Deref for String {
+    type Target = str;
+
+    #[inline]
+    fn deref(&self) -> &str {
+        &self.0
+    }
+}
+
+impl Borrow<str> for String {
+    fn borrow(&self) -> &str {
+        &self.0
+    }
+}
+
+impl fmt::Debug for String {
+    fn fmt(&self, f: &mut fmt::Formatter<'_>) -> fmt::Result {
+        fmt::Debug::fmt(self.as_str(), f)
+    }
+}
+
+impl fmt::Display for String {
+    fn fmt(&self, f: &mut fmt::Formatter<'_>) -> fmt::Result {
+        fmt::Display::fmt(self.as_str(), f)
+    }
+}
+
+impl fmt::Write for String {
+    fn write_str(&mut self, text: &str) -> fmt::Result {
+        self.push_str(text).map_err(fmt::Error::from)
+    }
+}
+
+/// Texts that are joined into one.
+pub trait JoinIn {
+    /// The texts with another one between each two.
+    fn join_in(&self, alloc: Global, between: &str) -> Result<String, AllocError>;
+}
+
+impl JoinIn for [&str] {
+    fn join_in(&self, alloc: Global, between: &str) -> Result<String, AllocError> {
+        let mut all = String::new(alloc);
+        for (i, text) in self.iter().enumerate() {
+            if i > 0 {
+                all.push_str(between)?;
+            }
+            all.push_str(text)?;
+        }
+        Ok(all)
+    }
+}
+
+/// What is printed, as a text.
+pub trait ToStringIn {
+    fn to_string_in(&self, alloc: Global) -> Result<String, AllocError>;
+}
+
+impl<T: fmt::Display + ?Sized> ToStringIn for T {
+    fn to_string_in(&self, alloc: Global) -> Result<String, AllocError> {
+        let mut text = String::new(alloc);
+        text.write_fmt(format_args!("{self}"))?;
+        Ok(text)
+    }
+}

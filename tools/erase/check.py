@@ -1,0 +1,528 @@
+#!/usr/bin/env python3
+"""Checks what tools/erase/erase.py makes, by other means: it walks over the tokens of a source and of what was made of it side by side, and
+explains each difference by a rule of docs/ERASURE.md. What no rule explains is a fault. It has a scanner and a list of its own, and takes from
+the tool only what is checked and the names of the files.
+
+usage: tools/erase/check.py               what the tool makes today of each source
+       tools/erase/check.py --committed   the committed files too: they are what the tool makes today, and each is explained
+       tools/erase/check.py --self-test   bugs that are planted into what the tool makes, and into the tool, are each seen
+"""
+import collections
+import pathlib
+import re
+import shutil
+import sys
+
+import erase
+
+Token = collections.namedtuple("Token", "kind text line")
+CLOSERS = {"(": ")", "[": "]", "{": "}"}
+# Before each of these a comma is a matter of layout.
+CLOSING = (")", "]", "}", ">")
+# After these a parenthesis begins no call.
+NO_CALLS = ("as", "break", "else", "if", "in", "let", "match", "mut", "ref", "return", "while")
+SAME_IN_CORE = ("fmt", "hash", "marker", "mem", "result", "str", "{")
+
+# What is written otherwise, wherever it is found: the tokens of the source, and those that have to be in their place.
+WRITTEN = [
+    *((f"std::{name}", f"crate::shim::{name}") for name in ("alloc", "borrow", "collections", "simd")),
+    *((f"std::{name}", f"core::{name}") for name in SAME_IN_CORE),
+    ("wat_lex::", "crate::lex::"),
+    ("wat_words::", "crate::words::"),
+    ("wat_lexer_parser::", "crate::parser::"),
+    ("wat_lex_answers::", "crate::lex_answers::"),
+    ("smallvec::", "crate::shim::smallvec::"),
+    ("unicode_width::", "crate::shim::unicode_width::"),
+    ("vec![in", "try_vec!["),
+    ("format!(in", "try_format!("),
+    ("<W: fmt::Write>", ""),
+    ("fmt::Formatter<W>", "fmt::Formatter<'_>"),
+    (".join(alloc,", ".join_in(alloc,"),
+    (".to_string(alloc)", ".to_string_in(alloc)"),
+    (".kind.clone()?", ".kind.clone()"),
+    # What is taken away.
+    ("use std::marker::Model;", ""),
+    ("+ Drop", ""),
+    (": Drop,", ","),
+    (": Drop>", ">"),
+]
+
+
+class Fault(Exception):
+    pass
+
+
+def scan(text):
+    """The tokens of a text. Each sign is one of its own."""
+    tokens, at, line = [], 0, 1
+    while at < len(text):
+        end = end_of_token(text, at)
+        piece = text[at:end]
+        if not piece.isspace():
+            tokens.append(Token(kind_of(piece), " ".join(piece.split()) if piece.startswith("//") else piece, line))
+        line += piece.count("\n")
+        at = end
+    return tokens
+
+
+def kind_of(piece):
+    if piece.startswith(("///", "//!")):
+        return "doc"
+    if piece.startswith("//"):
+        return "comment"
+    return "word" if piece[0].isalpha() or piece[0] == "_" else "other"
+
+
+def end_of_token(text, at):
+    first = text[at]
+    if first.isspace():
+        return at + 1
+    if text.startswith("//", at):
+        return (text + "\n").index("\n", at)
+    if first == '"' or text.startswith('b"', at):
+        return end_of_quoted(text, text.index('"', at) + 1, '"')
+    if first == "'" or text.startswith("b'", at):
+        inner = text.index("'", at) + 1
+        if text[inner] == "\\" or text[inner + 1 : inner + 2] == "'":
+            return end_of_quoted(text, inner, "'")
+        at = inner
+    end = at
+    while end < len(text) and (text[end].isalnum() or text[end] == "_"):
+        end += 1
+    return max(end, at + 1)
+
+
+def end_of_quoted(text, at, quote):
+    while text[at] != quote:
+        at += 2 if text[at] == "\\" else 1
+    return at + 1
+
+
+def contract_lines(text):
+    """A contract by its lines, in which spaces don't count."""
+    return [" ".join(line.split()) for line in text.split("\n")]
+
+
+class Walk:
+    """A walk over a source and over what was made of it."""
+
+    def __init__(self, source, made, module, name):
+        self.source, self.made = scan(source), scan(made)
+        self.lines = source.split("\n")
+        self.written = collections.defaultdict(list)
+        for before, after in [*WRITTEN, ("crate::", f"crate::{module}::")]:
+            before = scan(before)
+            self.written[before[0].text].append((before, scan(after)))
+        self.name, self.module = name, module
+        self.contracts = {}
+        self.at = self.there = 0
+        self.function = None
+        self.unwrapped, self.wrapped = set(), set()
+        # Of each group that is open in the source: whether a comma at its end is a matter of layout.
+        self.groups = []
+
+    def fault(self, what):
+        here = self.source[min(self.at, len(self.source) - 1)]
+        there = self.made[min(self.there, len(self.made) - 1)]
+        raise Fault(f"{self.name}:{here.line}: {what}: `{here.text}` in the source, `{there.text}` in line {there.line} of what was made")
+
+    def check(self):
+        self.take_mark()
+        self.take_contracts()
+        while self.at < len(self.source) and self.source[self.at].text.startswith("//!"):
+            self.equal()
+        while self.is_taken_away():
+            pass
+        self.take_prelude()
+        while self.at < len(self.source):
+            if not self.is_taken_away() and not self.is_laid_out() and not self.is_written_otherwise():
+                self.equal()
+        while self.there < len(self.made) and self.made[self.there].text == ",":
+            self.fault("a sign too many")
+        if self.there != len(self.made):
+            self.fault("what was made goes on")
+        if self.contracts:
+            self.fault("documentation of a contract that is no function's")
+
+    # What was made has more, at three places.
+
+    def take_mark(self):
+        if self.made[:1] != [Token("comment", f"// Made by tools/erase from {self.name}; do not edit.", 1)]:
+            self.fault("no mark in the first line")
+        self.made = self.made[1:]
+
+    def take_prelude(self):
+        wanted = [token.text for token in scan("use crate::shim::prelude::*;")]
+        if [token.text for token in self.made[self.there : self.there + len(wanted)]] != wanted:
+            self.fault("no import of the shim's prelude")
+        self.there += len(wanted)
+
+    def take_contracts(self):
+        """Takes each contract out of the documentation, by the place of its function."""
+        kept, contract = [], None
+        for place, token in enumerate(self.made):
+            if contract is not None and token.kind != "doc":
+                self.fault("documentation of a contract has no end")
+            if token.text == "/// # Proved":
+                contract = []
+                if kept and kept[-1].text == "///":
+                    kept.pop()
+            elif contract is None:
+                kept.append(token)
+            elif token.text == "/// ```":
+                self.contracts[self.next_function(len(kept), place)] = contract[2:]
+                contract = None
+            else:
+                contract.append(token.text[3:].strip())
+        self.made = kept
+
+    def next_function(self, kept, place):
+        for more, token in enumerate(self.made[place + 1 :]):
+            if token.text == "fn":
+                return kept + more
+            if token.text in ("{", ";", "}") or token.text == "/// # Proved":
+                break
+        self.fault("documentation of a contract before no function")
+
+    # Rules.
+
+    def equal(self):
+        here, there = self.source[self.at], self.made[self.there] if self.there < len(self.made) else None
+        wanted = here.text
+        if here.kind == "doc":
+            # The path of a link begins at the crate's root.
+            wanted = wanted.replace("](crate::", f"](crate::{self.module}::")
+        if there is None or (here.kind, wanted) != (there.kind, there.text):
+            self.fault("no rule explains the difference")
+        if here.text == "fn":
+            self.function = self.there
+        elif here.text == "{":
+            self.function = None
+        self.note(self.at)
+        self.at += 1
+        self.there += 1
+
+    def note(self, at):
+        """Keeps account of groups. In parentheses that are no call's, one comma makes a tuple."""
+        text = self.text(at)
+        if text in CLOSERS:
+            before, last = self.source[max(at - 2, 0)].text, self.source[max(at - 1, 0)]
+            is_call = last.kind == "word" and last.text not in NO_CALLS or last.text in (")", "]", "!") or last.text == ">" and before not in "-="
+            self.groups.append(text != "(" or is_call)
+        elif text in CLOSERS.values():
+            self.groups.pop()
+        elif text == "," and self.groups:
+            self.groups[-1] = True
+
+    def begins(self, tokens, at, wanted):
+        return [token.text for token in tokens[at : at + len(wanted)]] == [token.text for token in wanted]
+
+    def text(self, at):
+        return self.source[at].text if at < len(self.source) else ""
+
+    def after_group(self, at, tokens=None):
+        """The place after a group, in the source where no tokens are named."""
+        tokens = self.source if tokens is None else tokens
+        open_groups = []
+        while True:
+            text = tokens[at].text
+            if text in CLOSERS:
+                open_groups.append(CLOSERS[text])
+            elif open_groups and text == open_groups[-1]:
+                open_groups.pop()
+            elif text in CLOSERS.values():
+                self.fault("a bracket that closes none")
+            at += 1
+            if not open_groups:
+                return at
+
+    def is_taken_away(self):
+        """Whether what the source has here is for the prover alone; then it is passed over."""
+        if self.at >= len(self.source):
+            return False
+        rules = (self.documented, self.ghost, self.contract, self.model, self.tactic, self.derive)
+        return any(rule() for rule in rules)
+
+    def documented(self):
+        """The documentation of a ghost item or a model, in the lines directly before it."""
+        at = self.at
+        while at < len(self.source) and self.source[at].text.startswith("///"):
+            at += 1
+            if at < len(self.source) and self.source[at].line != self.source[at - 1].line + 1:
+                return False
+        if at == self.at or at == len(self.source) or not (self.text(at) == "ghost" or self.is_model(at)):
+            return False
+        self.at = at
+        return True
+
+    def ghost(self):
+        if self.source[self.at].text != "ghost":
+            return False
+        while self.text(self.at) not in (";", ","):
+            if self.text(self.at)[:1] == '"':
+                self.fault("a quote in a ghost item")
+            self.at = self.after_group(self.at)
+        self.at += 1
+        return True
+
+    def clause_end(self, at):
+        if self.text(at) not in ("requires", "ensures"):
+            return None
+        at += 1 + (self.source[at + 1].kind == "word")
+        return self.after_group(at) if self.text(at) == "{" else None
+
+    def contract(self):
+        """A contract, which has to be the documentation of its function; that of a closure, in a function's body, is not shown."""
+        begin, end, at = self.at, None, self.at
+        while (after := self.clause_end(at)) is not None:
+            at = end = after
+            while at < len(self.source) and self.source[at].kind == "comment":
+                at += 1
+        if end is None:
+            return False
+        lines = self.lines[self.source[begin].line - 1 : self.source[end - 1].line]
+        lines[-1] = lines[-1].rstrip().removesuffix(";")
+        if self.function is not None and self.contracts.pop(self.function, None) != contract_lines("\n".join(lines)):
+            self.fault("the documentation is not the function's contract")
+        self.at = end
+        return True
+
+    def is_model(self, at):
+        if self.text(at) != "impl":
+            return False
+        at += 1
+        if self.text(at) == "<":
+            while self.text(at) != ">":
+                at += 1
+            at += 1
+        return self.text(at) == "Model" and self.text(at + 1) == "for"
+
+    def model(self):
+        if not self.is_model(self.at):
+            return False
+        while self.text(self.at) != "{":
+            self.at += 1
+        self.at = self.after_group(self.at)
+        return True
+
+    def attribute(self, name):
+        """The places of the bracket and of the end of an attribute of this name, where one is here."""
+        bracket = self.at + 1 + (self.text(self.at + 1) == "!")
+        if self.text(self.at) == "#" and self.text(bracket) == "[" and self.text(bracket + 1) == name:
+            return bracket, self.after_group(bracket)
+        return None
+
+    def tactic(self):
+        found = self.attribute("tactic")
+        if found:
+            self.at = found[1]
+        return bool(found)
+
+    def derive(self):
+        """A derive has the same names in the same order but `Drop`, and is there where any is left."""
+        found = self.attribute("derive")
+        if not found:
+            return False
+        names = [token.text for token in self.source[found[0] + 3 : found[1]] if token.kind == "word" and token.text != "Drop"]
+        wanted = scan(f"#[derive({', '.join(names)})]") if names else []
+        if not self.begins(self.made, self.there, wanted):
+            self.fault("not the same names in a derive")
+        self.at = found[1]
+        self.there += len(wanted)
+        return True
+
+    def is_written_otherwise(self):
+        """Whether what the source has here is of the closed list; then its other form has to be there."""
+        rooted = self.at == 0 or self.source[self.at - 1].text != ":"
+        for before, after in self.written.get(self.text(self.at), ()):
+            if not self.begins(self.source, self.at, before) or before[0].kind == "word" and not rooted:
+                continue
+            if not self.begins(self.made, self.there, after):
+                self.fault("not written as the closed list has it")
+            for at in range(self.at, self.at + len(before)):
+                self.note(at)
+            self.at += len(before)
+            self.there += len(after)
+            return True
+        return False
+
+    def is_laid_out(self):
+        """Whether the layout makes a difference here: by a comma before a closing bracket, or by an arm's braces around one expression."""
+        here, there = self.source[self.at].text, self.made[self.there].text if self.there < len(self.made) else ""
+        is_layout = not self.groups or self.groups[-1]
+        if here == "," and there in CLOSING and self.text(self.at + 1) == there and is_layout:
+            self.at += 1
+        elif there == "," and here in CLOSING and is_layout and self.there + 1 < len(self.made) and self.made[self.there + 1].text == here:
+            self.there += 1
+        elif here == "{" != there and self.is_arm(self.source, self.at):
+            self.unwrapped.add(self.after_group(self.at) - 1)
+            self.at += 1
+        elif self.at in self.unwrapped and there == ",":
+            self.at += 1 + (self.text(self.at + 1) == ",")
+            self.there += 1
+        elif there == "{" != here and self.is_arm(self.made, self.there):
+            self.wrapped.add(self.after_group(self.there, self.made) - 1)
+            self.there += 1
+        elif there == ";" and self.there + 1 in self.wrapped:
+            self.there += 1
+        elif self.there in self.wrapped and here == ",":
+            self.at += 1
+            self.there += 1
+        else:
+            return False
+        return True
+
+    def is_arm(self, tokens, at):
+        """Whether an arm's braces are here, around one expression: with no statement in them, but for the `;` that ends a `return`."""
+        if [token.text for token in tokens[at - 2 : at]] != ["=", ">"]:
+            return False
+        end = self.after_group(at, tokens) - 1
+        at += 1
+        is_return = tokens[at].text == "return"
+        while at < end and tokens[at].text != ";":
+            at = self.after_group(at, tokens)
+        return at == end - (is_return and tokens[end - 1].text == ";")
+
+
+def faults_of(source, made, module, name):
+    try:
+        Walk(source, made, module, name).check()
+    except Fault as fault:
+        return [str(fault)]
+    except IndexError:
+        return [f"{name}: a text ends too early"]
+    return []
+
+
+def made_today():
+    """Of each source its text, its module, its name, the file that is committed and what the tool makes."""
+    for source, module, target in erase.sources():
+        yield source.read_text(encoding="utf-8"), module, str(source.relative_to(erase.PROJECT)), target, erase.made(source, module)
+
+
+def committed_faults():
+    """The committed files are what the tool makes today, by their bytes where rustfmt is here, and there are no others."""
+    wanted, has_rustfmt = set(), shutil.which("rustfmt") is not None
+    for source, module, name, target, made in made_today():
+        wanted.add(target)
+        if not target.exists():
+            yield f"{name}: {target.name} is not committed"
+            continue
+        committed = target.read_text(encoding="utf-8")
+        yield from faults_of(source, committed, module, name)
+        if has_rustfmt and committed != erase.laid_out(made):
+            yield f"{name}: what is committed is not what the tool makes"
+    for module in erase.MODULES.values():
+        for path in (erase.CRATE / module).rglob("*"):
+            if path.is_file() and path not in wanted:
+                yield f"{path}: made of no source"
+    if not has_rustfmt:
+        print("check.py: the layout is not compared, as no rustfmt is here")
+
+
+def made_faults():
+    """What the tool makes today, without a layout."""
+    for source, module, name, _, made in made_today():
+        yield from faults_of(source, made, module, name)
+
+
+# Bugs of an eraser, planted into what it makes: a file, what is there, and what is there instead.
+PLANTED = [
+    ("a statement is dropped", "wat_lex/src/lexer.rt", "*pos = start + token.len as usize;", ""),
+    ("an attribute is dropped", "wat_lex/src/lexer.rt", "#[cold]", ""),
+    (
+        "a name of a derive is dropped",
+        "wat_lex/src/gensym.rt",
+        "#[derive(Clone, Copy, Debug, PartialEq, Eq)]",
+        "#[derive(Clone, Copy, Debug, PartialEq)]",
+    ),
+    ("a mut is dropped", "wat_lex/src/lexer/scan/plain.rt", "let mut i = 0;", "let i = 0;"),
+    (
+        "a ghost item is kept",
+        "wat_lex/src/lexer/scan/starts.rt",
+        "use crate::lex::lexer::kinds::Sign;",
+        "use crate::lex::lexer::kinds::Sign;\nghost use Rattle.wat_lex;",
+    ),
+    ("a clause is kept", "wat_lex/src/token.rt", "pub fn offset(&self) -> usize", "pub fn offset(&self) -> usize ensures { result ≡ self.now }"),
+    (
+        "a clause is another function's",
+        "wat_lex/src/token.rt",
+        "/// ensures { result.now ≡ self.now.name }",
+        "/// ensures { result ≡ self.now.span }",
+    ),
+    ("a requires is left out of the documentation", "wat_lex/src/lexer.rt", "/// requires { length input.now < 2 ^ 32 }\n", ""),
+    ("a contract is not shown", "wat_words/src/lib.rt", "/// # Proved\n///\n/// ```text\n/// ensures { result.now ≡ text }\n/// ```\n", ""),
+    ("a literal is another one", "wat_lex/src/lexer/scan/classes.rt", "const WHITESPACE: u8 = 8;", "const WHITESPACE: u8 = 9;"),
+    ("a text has another space", "wat_lex/src/error/text.rt", 'Piece::Text(" | ")', 'Piece::Text(" |  ")'),
+    ("arguments are swapped", "wat_lex/src/error/text.rt", "columns(source, column)", "columns(column, source)"),
+    ("a ? is lost", "wat_lex/src/token.rt", "id.clone(alloc)?", "id.clone(alloc)"),
+    ("an unsafe is lost", None, "pub unsafe fn of(x: u8)", "pub fn of(x: u8)"),
+    ("a tuple of one is no tuple", None, "(1,)", "(1)"),
+    ("a value is a tuple", None, "= (2)", "= (2,)"),
+    ("an unsafe is gained", "wat_lex/src/token.rt", "pub fn offset(", "pub unsafe fn offset("),
+    ("an arm is dropped", "wat_lex/src/lexer/scan/starts.rt", "b'$' => Start::Id,", ""),
+    ("a function is public", "wat_lex/src/token.rt", "pub(crate) fn gensym", "pub fn gensym"),
+    ("a bound is lost", "wat_lex/src/encode.rt", "pub fn slice_fits<T: Encode>", "pub fn slice_fits<T>"),
+    ("a path has another root", "wat_lex/src/token.rt", "use core::hash::", "use crate::shim::hash::"),
+    ("a link leads elsewhere", "wat_lex/src/token.rt", "](crate::lex::gensym::Gensym)", "](crate::gensym::Gensym)"),
+    ("an operator is another one", "wat_lex/src/token.rt", "self.name() == other.name() && self", "self.name() == other.name() || self"),
+    ("a function is there twice", "wat_words/src/table.rt", "fn entry_at", "fn entry_at() {}\nfn entry_at"),
+    ("a comment is dropped", "wat_lex/src/lexer/scan/starts.rt", "// Bytes that are neighbours stand", "// Bytes"),
+    ("the end is lost", "wat_lex/src/gensym.rt", "Ok(Id::gensym(span, self.generation))\n    }\n}", ""),
+]
+# What the sources do not have.
+OTHERS = "/// It is.\npub unsafe fn of(x: u8)\n    ensures { ⊤ }\n{\n    let one = (1,);\n    let two = (2);\n}\n"
+
+
+def planted_faults(name, file, before, after):
+    """The faults of what is made of a source into which a bug is planted."""
+    source, module = OTHERS, "lex"
+    path = f"crates/{file}"
+    if file is not None:
+        source, module = (erase.PROJECT / path).read_text(encoding="utf-8"), erase.MODULES[file.split("/")[0]].removeprefix("src/")
+    made = f"// Made by tools/erase from {path}; do not edit.\n" + erase.Eraser(source, module).erased()
+    if faults_of(source, made, module, path):
+        return None
+    planted = made.replace(before, after, 1)
+    return None if planted == made else faults_of(source, planted, module, path)
+
+
+def bugs_of_eraser():
+    """Bugs that are planted into the tool itself: a rule of it does nothing, or an entry of the closed list is not there."""
+    for rule in ("ghost", "contract", "attribute", "model", "drop_docs"):
+        kept = getattr(erase.Eraser, rule)
+        setattr(erase.Eraser, rule, lambda self, at=None: None)
+        yield f"the tool has no rule {rule}", next(made_faults(), None)
+        setattr(erase.Eraser, rule, kept)
+    for entry in list(erase.WRITTEN):
+        kept = dict(erase.WRITTEN)
+        del erase.WRITTEN[entry]
+        yield f"the tool's list has no {entry}", next(made_faults(), None)
+        erase.WRITTEN.clear()
+        erase.WRITTEN.update(kept)
+
+
+def self_test():
+    bugs = [(name, planted_faults(name, *rest)) for name, *rest in PLANTED]
+    bugs += bugs_of_eraser()
+    unseen = [name for name, faults in bugs if not faults]
+    for name in unseen:
+        print(f"check.py: not seen: {name}")
+    print(f"check.py: {len(bugs) - len(unseen)} of {len(bugs)} planted bugs are seen")
+    return bool(unseen)
+
+
+def main():
+    if "--self-test" in sys.argv:
+        return self_test()
+    faults = list(made_faults())
+    if "--committed" in sys.argv:
+        faults += committed_faults()
+    for fault in faults:
+        print(fault)
+    print(f"check.py: {len(list(erase.sources()))} sources, {len(faults)} faults")
+    return bool(faults)
+
+
+if __name__ == "__main__":
+    sys.exit(main())

@@ -1,0 +1,309 @@
+#!/usr/bin/env python3
+"""Makes Rust of the proved sources: takes away what is for the prover alone, and writes a closed list of tokens otherwise. docs/ERASURE.md says
+what goes, what is written otherwise, and what is trusted.
+
+It writes the modules of rust/wat-proved that MODULES names, in the layout of rustfmt.
+
+usage: tools/erase/erase.py
+"""
+import pathlib
+import re
+import subprocess
+
+PROJECT = pathlib.Path(__file__).resolve().parents[2]
+CRATE = PROJECT / "rust/wat-proved"
+# The module of the Rust crate that holds each crate's sources; the last two are for its tests.
+MODULES = {
+    "wat_lex": "src/lex",
+    "wat_words": "src/words",
+    "wat_lexer_parser": "src/parser",
+    "wat_lex_answers": "tests/answers/lex_answers",
+    "wat_answers": "tests/answers/answers",
+}
+# What takes Rattle's streams is written in Rust.
+LEFT_OUT = {"wat_answers/src/main.rt"}
+# What is written otherwise: the closed list. The first entry that fits counts. SELF is the module of the source.
+WRITTEN = {
+    # Rust has no models, and drops each value.
+    "use std::marker::Model;": "",
+    "+ Drop": "",
+    ": Drop,": ",",
+    ": Drop>": ">",
+    # What takes memory from an allocator, and may be refused, is the shim's.
+    "std::alloc": "crate::shim::alloc",
+    "std::borrow": "crate::shim::borrow",
+    "std::collections": "crate::shim::collections",
+    "std::simd": "crate::shim::simd",
+    "smallvec::": "crate::shim::smallvec::",
+    "unicode_width::": "crate::shim::unicode_width::",
+    "format!(in": "try_format!(",
+    "vec![in": "try_vec![",
+    ".join(alloc,": ".join_in(alloc,",
+    ".to_string(alloc)": ".to_string_in(alloc)",
+    # A clone of any type can't be refused in Rust.
+    ".kind.clone()?": ".kind.clone()",
+    # A formatter has its writer as a parameter in Rattle, and none in Rust.
+    "<W: fmt::Write>": "",
+    "fmt::Formatter<W>": "fmt::Formatter<'_>",
+    # The roots of all other paths.
+    "std::": "core::",
+    "crate::": "crate::SELF::",
+    "wat_lex::": "crate::lex::",
+    "wat_words::": "crate::words::",
+    "wat_lexer_parser::": "crate::parser::",
+    "wat_lex_answers::": "crate::lex_answers::",
+}
+PRELUDE = "use crate::shim::prelude::*;\n"
+
+TOKEN = re.compile(
+    r"""
+    (?P<doc>//[/!][^\n]*)
+  | (?P<comment>//[^\n]*)
+  | (?P<string>b?"(?:\\.|[^"\\])*")
+  | (?P<char>b?'(?:\\(?:u\{[^}]*\}|x..|.)|[^'\\\n])')
+  | (?P<life>'[A-Za-z_]\w*)
+  | (?P<word>[^\W\d]\w*)
+  | (?P<number>\d\w*)
+  | (?P<space>\s+)
+  | (?P<sign>::|.)
+    """,
+    re.X | re.S,
+)
+CLOSING = {"(": ")", "[": "]", "{": "}"}
+
+
+class Refused(Exception):
+    """The source has something that the tool does not know."""
+
+
+def tokens_of(text):
+    return [(found.lastgroup, found.group()) for found in TOKEN.finditer(text)]
+
+
+def solid_of(text):
+    """The tokens of a text but for space."""
+    return [token for kind, token in tokens_of(text) if kind != "space"]
+
+
+class Source:
+    """The tokens of a source. What finds the end of something answers the place after it, or None where it is not there."""
+
+    def __init__(self, text):
+        # At the end there are tokens of nothing, so that a look ahead needs no bounds.
+        self.tokens = tokens_of(text) + [("end", "")] * 2
+
+    def is_token(self, at, text):
+        return self.tokens[at][1] == text
+
+    def solid(self, at):
+        """The first place from here on that has neither space nor comment."""
+        while self.tokens[at][0] in ("space", "comment", "doc"):
+            at += 1
+        return at
+
+    def next(self, at):
+        return self.solid(at + 1)
+
+    def are(self, at, texts):
+        """The end of these tokens."""
+        for text in texts:
+            at = self.solid(at)
+            if not self.is_token(at, text):
+                return None
+            at += 1
+        return at
+
+    def group(self, at):
+        """The end of the group that an opening bracket begins."""
+        wanted = []
+        for place in range(at, len(self.tokens)):
+            text = self.tokens[place][1]
+            if text in CLOSING:
+                wanted.append(CLOSING[text])
+            elif text in CLOSING.values() and wanted.pop() != text:
+                break
+            if not wanted:
+                return place + 1
+        raise Refused(f"brackets that do not fit: {self.tokens[at:at + 20]}")
+
+    def ghost(self, at):
+        """The end of a ghost item: its `;` or `,`."""
+        while not (self.is_token(at, ";") or self.is_token(at, ",")):
+            kind, text = self.tokens[at]
+            if kind in ("string", "char", "end"):
+                raise Refused(f"a ghost item with a quote or without an end: {text}")
+            at = self.group(at) if text in CLOSING else at + 1
+        return at + 1
+
+    def clause(self, at):
+        """The end of a clause of a contract."""
+        if not (self.is_token(at, "requires") or self.is_token(at, "ensures")):
+            return None
+        at = self.next(at)
+        at = self.next(at) if self.tokens[at][0] == "word" else at
+        return self.group(at) if self.is_token(at, "{") else None
+
+    def contract(self, at):
+        """The end of all the clauses of a contract, with the comments between them."""
+        end = None
+        while (after := self.clause(at)) is not None:
+            end, at = after, self.solid(after)
+        return end
+
+    def model(self, at):
+        """The end of an `impl Model for`."""
+        at = self.next(at)
+        if self.is_token(at, "<"):
+            while not self.is_token(at, ">"):
+                at += 1
+            at = self.next(at)
+        if self.are(at, ["Model", "for"]) is None:
+            return None
+        while not self.is_token(at, "{"):
+            at += 1
+        return self.group(at)
+
+
+def contract_docs(text):
+    """A contract as documentation, as far to the left as it goes."""
+    first, *others = text.split("\n")
+    margin = min((len(line) - len(line.lstrip()) for line in others if line.strip()), default=0)
+    lines = [f"/// {line}".rstrip() for line in [first] + [line[margin:] for line in others]]
+    return "\n".join(["/// # Proved", "///", "/// ```text", *lines, "/// ```", ""])
+
+
+class Eraser:
+    """Writes what is left of a source."""
+
+    def __init__(self, text, module):
+        self.source = Source(text)
+        self.out = []
+        self.module = module
+        self.written = [(solid_of(before), after.replace("SELF", module)) for before, after in WRITTEN.items()]
+        self.rules = {"ghost": self.ghost, "requires": self.contract, "ensures": self.contract, "#": self.attribute, "impl": self.model}
+
+    def erased(self):
+        at = 0
+        while self.source.tokens[at][0] != "end":
+            at = self.step(at)
+        text = "".join(text for _, text in self.out)
+        head = re.match(r"(//![^\n]*\n|\s)*", text).end()
+        return text[:head] + PRELUDE + text[head:]
+
+    def step(self, at):
+        """Writes what the token here becomes, and answers where the next one is."""
+        kind, text = self.source.tokens[at]
+        if kind in ("word", "sign"):
+            after = self.rules[text](at) if text in self.rules else None
+            after = self.otherwise(at) if after is None else after
+            if after is not None:
+                return after
+        if kind == "doc":
+            # A link has a path too.
+            text = text.replace("](crate::", f"](crate::{self.module}::")
+        self.out.append((kind, text))
+        return at + 1
+
+    def otherwise(self, at):
+        """Writes an entry of the closed list. A word is none within a path."""
+        kind, text = self.source.tokens[at]
+        if kind == "word" and self.out and self.out[-1][1] in ("::", "."):
+            return None
+        for before, after in self.written:
+            if before[0] == text and (end := self.source.are(at, before)) is not None:
+                self.out += tokens_of(after)
+                return end + (after.endswith(("(", "[")) and self.source.tokens[end][0] == "space")
+        return None
+
+    def ghost(self, at):
+        self.drop_docs()
+        return self.source.ghost(at)
+
+    def model(self, at):
+        end = self.source.model(at)
+        if end is not None:
+            self.drop_docs()
+        return end
+
+    def drop_docs(self):
+        """Takes back the documentation of an item that goes, which is in the lines directly before it."""
+        while self.out and (self.out[-1][0] == "space" and self.out[-1][1].count("\n") < 2 or self.out[-1][1].startswith("///")):
+            self.out.pop()
+        self.out.append(("space", "\n"))
+
+    def attribute(self, at):
+        inner = self.source.next(at)
+        inner = self.source.next(inner) if self.source.is_token(inner, "!") else inner
+        if not self.source.is_token(inner, "["):
+            return None
+        end, name = self.source.group(inner), self.source.next(inner)
+        line = end + (self.source.tokens[end][0] == "space")
+        if self.source.is_token(name, "tactic"):
+            return line
+        if self.source.is_token(name, "derive"):
+            kept = [text for kind, text in self.source.tokens[name + 1 : end] if kind == "word" and text != "Drop"]
+            self.out += tokens_of(f"#[derive({', '.join(kept)})]" if kept else "")
+            return end if kept else line
+        return None
+
+    def contract(self, at):
+        end = self.source.contract(at)
+        # A closure's contract, which is in a function's body, has no documentation to be in.
+        if end is not None and ("sign", "{") not in self.out[self.last("fn", len(self.out)) :]:
+            place = self.start_of_function()
+            documented = any(kind == "doc" for kind, _ in self.out[max(place - 2, 0) : place])
+            text = "".join(text for _, text in self.source.tokens[at:end])
+            self.out[place:place] = tokens_of("///\n" * documented + contract_docs(text))
+        return end
+
+    def last(self, text, at):
+        """The last place before this one where the token was written."""
+        while self.out[at - 1][1] != text:
+            at -= 1
+        return at - 1
+
+    def start_of_function(self):
+        """Where the function whose signature was just written begins: at its attributes and comments, after its documentation."""
+        at = begins = self.last("fn", len(self.out))
+        while at > 0:
+            at -= 1
+            kind, text = self.out[at]
+            if text == "]":
+                at = begins = self.last("#", at)
+            elif text in ("pub", "const", "unsafe", "extern", '"C"', "crate", "(", ")"):
+                begins = at
+            elif kind not in ("space", "comment"):
+                break
+        return begins
+
+
+def sources():
+    """Each source, its module and the file that it becomes."""
+    for crate, module in MODULES.items():
+        folder = PROJECT / "crates" / crate / "src"
+        for source in sorted(folder.rglob("*.rt")):
+            inside = source.relative_to(folder).with_suffix(".rs")
+            if f"{crate}/src/{source.relative_to(folder)}" not in LEFT_OUT:
+                target = CRATE / (f"{module}.rs" if str(inside) == "lib.rs" else f"{module}/{inside}")
+                yield source, module.split("/")[-1], target
+
+
+def made(source, module):
+    """What the tool makes of a source, without a layout."""
+    mark = f"// Made by tools/erase from {source.relative_to(PROJECT)}; do not edit.\n"
+    return mark + Eraser(source.read_text(encoding="utf-8"), module).erased()
+
+
+def laid_out(text):
+    """The text in the layout of rustfmt, by the settings of the crate."""
+    return subprocess.run(["rustfmt", "--edition", "2024"], input=text, cwd=CRATE, check=True, capture_output=True, encoding="utf-8").stdout
+
+
+def main():
+    for source, module, target in sources():
+        target.parent.mkdir(parents=True, exist_ok=True)
+        target.write_text(laid_out(made(source, module)), encoding="utf-8")
+
+
+if __name__ == "__main__":
+    main()
