@@ -28,12 +28,13 @@ is_whole() {
     cmp -s "$room/output" "$room/whole_output" && cmp -s "$room/errors" "$room/whole_errors" && cmp -s "$room/status" "$room/whole_status"
 }
 
-# says MESSAGE: whether the report is this line; that of `fmt` has the input's name, and may have a cause
+# says MESSAGE: whether the report is this line; that of `fmt` has the input's name, but for want of memory while the words are read, and may have
+# a cause
 says() {
     local line
     line=$(cat "$room/errors")
     if [ "${words[0]-}" = fmt ]; then
-        [[ $line == "wat_tokens: <stdin>: $1"* && $line != *$'\n'* ]]
+        [[ $line == "wat_tokens: <stdin>: $1"* && $line != *$'\n'* ]] || [ "$1: $line" = 'out of memory: wat_tokens: out of memory' ]
     else
         [ "$line" = "wat_tokens: $1" ]
     fi
