@@ -18,14 +18,14 @@ ghost use Rattle.wat_lexer_parser.specs.shown.Showing.{shown};
 mod buffer;
 mod calls;
 mod cursor;
-mod fault;
+pub(crate) mod fault;
 mod lists;
 mod lookahead;
-mod names;
+pub(crate) mod names;
 mod peek;
 mod reads;
 mod table;
-mod table_ref;
+pub(crate) mod table_ref;
 mod typed;
 mod whole;
 
@@ -49,12 +49,12 @@ pub use whole::parse;
 /// A parser over a buffer: a place in its text, and the names of annotations that are registered.
 #[derive(Drop)]
 pub struct Parser<'a> {
-    table: TableRef<'a>,
-    place: usize,
-    depth: usize,
-    names: Names,
+    pub(crate) table: TableRef<'a>,
+    pub(crate) place: usize,
+    pub(crate) depth: usize,
+    pub(crate) names: Names,
     /// The number of the token that is shown at the place, where that is known.
-    next: Option<usize>,
+    pub(crate) next: Option<usize>,
 }
 
 impl<'a> Model for Parser<'a> {

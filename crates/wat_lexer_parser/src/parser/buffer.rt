@@ -142,7 +142,7 @@ impl<'a> ParseBuffer<'a> {
     }
 
     /// The buffer as its parsers read it.
-    fn table_ref(&self) -> TableRef<'_>
+    pub(crate) fn table_ref(&self) -> TableRef<'_>
         ensures same { result ≡ self.now }
         ensures read { IsRead self.now }
     {
