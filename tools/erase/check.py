@@ -25,14 +25,10 @@ SAME_IN_CORE = ("fmt", "hash", "marker", "mem", "result", "str", "{")
 
 # What is written otherwise, wherever it is found: the tokens of the source, and those that have to be in their place.
 WRITTEN = [
-    *((f"std::{name}", f"crate::shim::{name}") for name in ("alloc", "borrow", "collections", "simd")),
+    *((f"std::{name}", f"SHIM::{name}") for name in ("alloc", "borrow", "collections", "simd")),
     *((f"std::{name}", f"core::{name}") for name in SAME_IN_CORE),
-    ("wat_lex::", "crate::lex::"),
-    ("wat_words::", "crate::words::"),
-    ("wat_lexer_parser::", "crate::parser::"),
-    ("wat_lex_answers::", "crate::lex_answers::"),
-    ("smallvec::", "crate::shim::smallvec::"),
-    ("unicode_width::", "crate::shim::unicode_width::"),
+    ("smallvec::", "SHIM::smallvec::"),
+    ("unicode_width::", "SHIM::unicode_width::"),
     ("vec![in", "try_vec!["),
     ("format!(in", "try_format!("),
     ("<W: fmt::Write>", ""),
@@ -46,6 +42,25 @@ WRITTEN = [
     (": Drop,", ","),
     (": Drop>", ">"),
 ]
+# Where each crate is found by the others, and by itself.
+PLACES = {
+    "wat_lex": ("wat_lex::proved", "crate::proved"),
+    "wat_words": ("wat_parser::words", "crate::words"),
+    "wat_lexer_parser": ("wat_parser::proved", "crate::proved"),
+    "wat_lex_answers": ("", "crate::lex_answers"),
+    "wat_answers": ("", "crate::answers"),
+}
+# Crates that are compiled together see each other as they see themselves.
+TOGETHER = [{"wat_words", "wat_lexer_parser"}, {"wat_lex_answers", "wat_answers"}]
+
+
+def place(crate, seen_from):
+    own = crate == seen_from or any({crate, seen_from} <= some for some in TOGETHER)
+    return PLACES[crate][own]
+
+
+def shim_place(crate):
+    return "crate::shim" if crate == "wat_lex" else "wat_lex::shim"
 
 
 class Fault(Exception):
@@ -106,14 +121,16 @@ def contract_lines(text):
 class Walk:
     """A walk over a source and over what was made of it."""
 
-    def __init__(self, source, made, module, name):
+    def __init__(self, source, made, crate, name):
         self.source, self.made = scan(source), scan(made)
         self.lines = source.split("\n")
+        self.root, self.shim = place(crate, crate), shim_place(crate)
         self.written = collections.defaultdict(list)
-        for before, after in [*WRITTEN, ("crate::", f"crate::{module}::")]:
+        others = [(f"{other}::", f"{place(other, crate)}::") for other in PLACES]
+        for before, after in [*WRITTEN, ("crate::", f"{self.root}::"), *others]:
             before = scan(before)
-            self.written[before[0].text].append((before, scan(after)))
-        self.name, self.module = name, module
+            self.written[before[0].text].append((before, scan(after.replace("SHIM", self.shim))))
+        self.name = name
         self.contracts = {}
         self.at = self.there = 0
         self.function = None
@@ -152,7 +169,7 @@ class Walk:
         self.made = self.made[1:]
 
     def take_prelude(self):
-        wanted = [token.text for token in scan("use crate::shim::prelude::*;")]
+        wanted = [token.text for token in scan(f"use {self.shim}::prelude::*;")]
         if [token.text for token in self.made[self.there : self.there + len(wanted)]] != wanted:
             self.fault("no import of the shim's prelude")
         self.there += len(wanted)
@@ -191,7 +208,7 @@ class Walk:
         wanted = here.text
         if here.kind == "doc":
             # The path of a link begins at the crate's root.
-            wanted = wanted.replace("](crate::", f"](crate::{self.module}::")
+            wanted = wanted.replace("](crate::", f"]({self.root}::")
         if there is None or (here.kind, wanted) != (there.kind, there.text):
             self.fault("no rule explains the difference")
         if here.text == "fn":
@@ -384,9 +401,9 @@ class Walk:
         return at == end - (is_return and tokens[end - 1].text == ";")
 
 
-def faults_of(source, made, module, name):
+def faults_of(source, made, crate, name):
     try:
-        Walk(source, made, module, name).check()
+        Walk(source, made, crate, name).check()
     except Fault as fault:
         return [str(fault)]
     except IndexError:
@@ -395,25 +412,25 @@ def faults_of(source, made, module, name):
 
 
 def made_today():
-    """Of each source its text, its module, its name, the file that is committed and what the tool makes."""
-    for source, module, target in erase.sources():
-        yield source.read_text(encoding="utf-8"), module, str(source.relative_to(erase.PROJECT)), target, erase.made(source, module)
+    """Of each source its text, its crate, its name, the file that is committed and what the tool makes."""
+    for source, crate, target in erase.sources():
+        yield source.read_text(encoding="utf-8"), crate, str(source.relative_to(erase.PROJECT)), target, erase.made(source, crate)
 
 
 def committed_faults():
     """The committed files are what the tool makes today, by their bytes where rustfmt is here, and there are no others."""
     wanted, has_rustfmt = set(), shutil.which("rustfmt") is not None
-    for source, module, name, target, made in made_today():
+    for source, crate, name, target, made in made_today():
         wanted.add(target)
         if not target.exists():
             yield f"{name}: {target.name} is not committed"
             continue
         committed = target.read_text(encoding="utf-8")
-        yield from faults_of(source, committed, module, name)
+        yield from faults_of(source, committed, crate, name)
         if has_rustfmt and committed != erase.laid_out(made):
             yield f"{name}: what is committed is not what the tool makes"
     for module in erase.MODULES.values():
-        for path in (erase.CRATE / module).rglob("*"):
+        for path in (erase.RUST / module).rglob("*"):
             if path.is_file() and path not in wanted:
                 yield f"{path}: made of no source"
     if not has_rustfmt:
@@ -422,8 +439,8 @@ def committed_faults():
 
 def made_faults():
     """What the tool makes today, without a layout."""
-    for source, module, name, _, made in made_today():
-        yield from faults_of(source, made, module, name)
+    for source, crate, name, _, made in made_today():
+        yield from faults_of(source, made, crate, name)
 
 
 # Bugs of an eraser, planted into what it makes: a file, what is there, and what is there instead.
@@ -440,8 +457,8 @@ PLANTED = [
     (
         "a ghost item is kept",
         "wat_lex/src/lexer/scan/starts.rt",
-        "use crate::lex::lexer::kinds::Sign;",
-        "use crate::lex::lexer::kinds::Sign;\nghost use Rattle.wat_lex;",
+        "use crate::proved::lexer::kinds::Sign;",
+        "use crate::proved::lexer::kinds::Sign;\nghost use Rattle.wat_lex;",
     ),
     ("a clause is kept", "wat_lex/src/token.rt", "pub fn offset(&self) -> usize", "pub fn offset(&self) -> usize ensures { result ≡ self.now }"),
     (
@@ -464,7 +481,7 @@ PLANTED = [
     ("a function is public", "wat_lex/src/token.rt", "pub(crate) fn gensym", "pub fn gensym"),
     ("a bound is lost", "wat_lex/src/encode.rt", "pub fn slice_fits<T: Encode>", "pub fn slice_fits<T>"),
     ("a path has another root", "wat_lex/src/token.rt", "use core::hash::", "use crate::shim::hash::"),
-    ("a link leads elsewhere", "wat_lex/src/token.rt", "](crate::lex::gensym::Gensym)", "](crate::gensym::Gensym)"),
+    ("a link leads elsewhere", "wat_lex/src/token.rt", "](crate::proved::gensym::Gensym)", "](crate::gensym::Gensym)"),
     ("an operator is another one", "wat_lex/src/token.rt", "self.name() == other.name() && self", "self.name() == other.name() || self"),
     ("a function is there twice", "wat_words/src/table.rt", "fn entry_at", "fn entry_at() {}\nfn entry_at"),
     ("a comment is dropped", "wat_lex/src/lexer/scan/starts.rt", "// Bytes that are neighbours stand", "// Bytes"),
@@ -476,15 +493,15 @@ OTHERS = "/// It is.\npub unsafe fn of(x: u8)\n    ensures { ⊤ }\n{\n    let o
 
 def planted_faults(name, file, before, after):
     """The faults of what is made of a source into which a bug is planted."""
-    source, module = OTHERS, "lex"
+    source, crate = OTHERS, "wat_lex"
     path = f"crates/{file}"
     if file is not None:
-        source, module = (erase.PROJECT / path).read_text(encoding="utf-8"), erase.MODULES[file.split("/")[0]].removeprefix("src/")
-    made = f"// Made by tools/erase from {path}; do not edit.\n" + erase.Eraser(source, module).erased()
-    if faults_of(source, made, module, path):
+        source, crate = (erase.PROJECT / path).read_text(encoding="utf-8"), file.split("/")[0]
+    made = f"// Made by tools/erase from {path}; do not edit.\n" + erase.Eraser(source, crate).erased()
+    if faults_of(source, made, crate, path):
         return None
     planted = made.replace(before, after, 1)
-    return None if planted == made else faults_of(source, planted, module, path)
+    return None if planted == made else faults_of(source, planted, crate, path)
 
 
 def bugs_of_eraser():

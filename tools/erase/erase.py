@@ -2,7 +2,7 @@
 """Makes Rust of the proved sources: takes away what is for the prover alone, and writes a closed list of tokens otherwise. docs/ERASURE.md says
 what goes, what is written otherwise, and what is trusted.
 
-It writes the modules of rust/wat-proved that MODULES names, in the layout of rustfmt.
+It writes the modules of the packages below rust/ that MODULES names, in the layout of rustfmt.
 
 usage: tools/erase/erase.py
 """
@@ -11,18 +11,18 @@ import re
 import subprocess
 
 PROJECT = pathlib.Path(__file__).resolve().parents[2]
-CRATE = PROJECT / "rust/wat-proved"
-# The module of the Rust crate that holds each crate's sources; the last two are for its tests.
+RUST = PROJECT / "rust"
+# The module that holds each crate's sources, by its file without an ending: a package, and a place in it.
 MODULES = {
-    "wat_lex": "src/lex",
-    "wat_words": "src/words",
-    "wat_lexer_parser": "src/parser",
-    "wat_lex_answers": "tests/answers/lex_answers",
-    "wat_answers": "tests/answers/answers",
+    "wat_lex": "wat-lex/src/proved",
+    "wat_words": "wat-parser/src/words",
+    "wat_lexer_parser": "wat-parser/src/proved",
+    "wat_lex_answers": "wat-parser/tests/table_of_answers/lex_answers",
+    "wat_answers": "wat-parser/tests/table_of_answers/answers",
 }
 # What takes Rattle's streams is written in Rust.
 LEFT_OUT = {"wat_answers/src/main.rt"}
-# What is written otherwise: the closed list. The first entry that fits counts. SELF is the module of the source.
+# What is written otherwise: the closed list. The first entry that fits counts. SHIM is the path of the shim, SELF that of the source's crate.
 WRITTEN = {
     # Rust has no models, and drops each value.
     "use std::marker::Model;": "",
@@ -30,12 +30,12 @@ WRITTEN = {
     ": Drop,": ",",
     ": Drop>": ">",
     # What takes memory from an allocator, and may be refused, is the shim's.
-    "std::alloc": "crate::shim::alloc",
-    "std::borrow": "crate::shim::borrow",
-    "std::collections": "crate::shim::collections",
-    "std::simd": "crate::shim::simd",
-    "smallvec::": "crate::shim::smallvec::",
-    "unicode_width::": "crate::shim::unicode_width::",
+    "std::alloc": "SHIM::alloc",
+    "std::borrow": "SHIM::borrow",
+    "std::collections": "SHIM::collections",
+    "std::simd": "SHIM::simd",
+    "smallvec::": "SHIM::smallvec::",
+    "unicode_width::": "SHIM::unicode_width::",
     "format!(in": "try_format!(",
     "vec![in": "try_vec![",
     ".join(alloc,": ".join_in(alloc,",
@@ -45,15 +45,29 @@ WRITTEN = {
     # A formatter has its writer as a parameter in Rattle, and none in Rust.
     "<W: fmt::Write>": "",
     "fmt::Formatter<W>": "fmt::Formatter<'_>",
-    # The roots of all other paths.
+    # The roots of all other paths; those of the other crates are `path_of`.
     "std::": "core::",
-    "crate::": "crate::SELF::",
-    "wat_lex::": "crate::lex::",
-    "wat_words::": "crate::words::",
-    "wat_lexer_parser::": "crate::parser::",
-    "wat_lex_answers::": "crate::lex_answers::",
+    "crate::": "SELF::",
 }
-PRELUDE = "use crate::shim::prelude::*;\n"
+PRELUDE = "use SHIM::prelude::*;\n"
+
+
+def target_of(crate):
+    """What is compiled at once: the package's library, or one of its tests."""
+    package, kind, *inside = MODULES[crate].split("/")
+    return package, inside[0] if kind == "tests" else kind
+
+
+def path_of(crate, seen_from):
+    """The path of a crate's module, seen from another's."""
+    package, kind = target_of(crate)
+    root = "crate" if target_of(seen_from) == (package, kind) else package.replace("-", "_")
+    return f"{root}::{MODULES[crate].split('/')[-1]}"
+
+
+def shim_of(crate):
+    return "crate::shim" if target_of(crate) == ("wat-lex", "src") else "wat_lex::shim"
+
 
 TOKEN = re.compile(
     r"""
@@ -175,12 +189,16 @@ def contract_docs(text):
 class Eraser:
     """Writes what is left of a source."""
 
-    def __init__(self, text, module):
+    def __init__(self, text, crate):
         self.source = Source(text)
         self.out = []
-        self.module = module
-        self.written = [(solid_of(before), after.replace("SELF", module)) for before, after in WRITTEN.items()]
+        self.root, self.shim = path_of(crate, crate), shim_of(crate)
+        others = {f"{other}::": f"{path_of(other, crate)}::" for other in MODULES}
+        self.written = [(solid_of(before), self.rooted(after)) for before, after in (WRITTEN | others).items()]
         self.rules = {"ghost": self.ghost, "requires": self.contract, "ensures": self.contract, "#": self.attribute, "impl": self.model}
+
+    def rooted(self, text):
+        return text.replace("SELF", self.root).replace("SHIM", self.shim)
 
     def erased(self):
         at = 0
@@ -188,7 +206,7 @@ class Eraser:
             at = self.step(at)
         text = "".join(text for _, text in self.out)
         head = re.match(r"(//![^\n]*\n|\s)*", text).end()
-        return text[:head] + PRELUDE + text[head:]
+        return text[:head] + self.rooted(PRELUDE) + text[head:]
 
     def step(self, at):
         """Writes what the token here becomes, and answers where the next one is."""
@@ -200,7 +218,7 @@ class Eraser:
                 return after
         if kind == "doc":
             # A link has a path too.
-            text = text.replace("](crate::", f"](crate::{self.module}::")
+            text = text.replace("](crate::", f"]({self.root}::")
         self.out.append((kind, text))
         return at + 1
 
@@ -278,31 +296,30 @@ class Eraser:
 
 
 def sources():
-    """Each source, its module and the file that it becomes."""
+    """Each source, its crate and the file that it becomes."""
     for crate, module in MODULES.items():
         folder = PROJECT / "crates" / crate / "src"
         for source in sorted(folder.rglob("*.rt")):
             inside = source.relative_to(folder).with_suffix(".rs")
             if f"{crate}/src/{source.relative_to(folder)}" not in LEFT_OUT:
-                target = CRATE / (f"{module}.rs" if str(inside) == "lib.rs" else f"{module}/{inside}")
-                yield source, module.split("/")[-1], target
+                yield source, crate, RUST / (f"{module}.rs" if str(inside) == "lib.rs" else f"{module}/{inside}")
 
 
-def made(source, module):
+def made(source, crate):
     """What the tool makes of a source, without a layout."""
     mark = f"// Made by tools/erase from {source.relative_to(PROJECT)}; do not edit.\n"
-    return mark + Eraser(source.read_text(encoding="utf-8"), module).erased()
+    return mark + Eraser(source.read_text(encoding="utf-8"), crate).erased()
 
 
 def laid_out(text):
-    """The text in the layout of rustfmt, by the settings of the crate."""
-    return subprocess.run(["rustfmt", "--edition", "2024"], input=text, cwd=CRATE, check=True, capture_output=True, encoding="utf-8").stdout
+    """The text in the layout of rustfmt, by the settings of the packages."""
+    return subprocess.run(["rustfmt", "--edition", "2024"], input=text, cwd=RUST, check=True, capture_output=True, encoding="utf-8").stdout
 
 
 def main():
-    for source, module, target in sources():
+    for source, crate, target in sources():
         target.parent.mkdir(parents=True, exist_ok=True)
-        target.write_text(laid_out(made(source, module)), encoding="utf-8")
+        target.write_text(laid_out(made(source, crate)), encoding="utf-8")
 
 
 if __name__ == "__main__":

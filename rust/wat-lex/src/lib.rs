@@ -25,6 +25,8 @@
 #![warn(missing_docs)]
 #![deny(unsafe_code)]
 
+extern crate alloc;
+
 mod error;
 mod lexer;
 mod library;
@@ -32,6 +34,18 @@ mod number;
 mod one_byte;
 #[doc(hidden)]
 pub mod rows;
+// Proofs name loops, contracts speak of parameters and fields that the code leaves alone, and each file imports the shim's names, of which it
+// may need none. Clippy's advice on style is for text that is written in Rust.
+#[allow(missing_docs, unused_imports, unused_labels, unused_variables)]
+#[allow(
+    clippy::style,
+    clippy::complexity,
+    clippy::manual_unwrap_or_default,
+    clippy::sliced_string_as_bytes
+)]
+pub mod proved;
+#[allow(missing_docs)]
+pub mod shim;
 mod token;
 
 pub use error::{Error, LexError, Span};

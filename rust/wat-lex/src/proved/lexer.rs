@@ -1,0 +1,346 @@
+// Made by tools/erase from crates/wat_lex/src/lexer.rt; do not edit.
+//! The lexer of the WebAssembly text format.
+
+use crate::shim::prelude::*;
+use crate::proved::error::Error;
+use crate::proved::token::Span;
+use crate::shim::alloc::Global;
+
+mod faults;
+mod kinds;
+mod read;
+mod scan;
+mod settings;
+
+pub use faults::{LexError, LexFault};
+pub use kinds::{FloatKind, IntegerKind, SignToken, Token, TokenKind};
+use kinds::{Found, Lexeme, Stride};
+pub use read::numbers::{Float, Integer, magnitude};
+pub(crate) use scan::blocks::block_at;
+pub(crate) use scan::classes::is_confusing;
+pub(crate) use scan::comments::first_confusing;
+use scan::{first_fault, first_found};
+pub use settings::Settings;
+
+/// A lexer over a text: it cuts the text into tokens, whitespace and comments, and accounts for
+/// every byte of it.
+#[derive(Clone)]
+pub struct Lexer<'a> {
+    input: &'a str,
+    settings: Settings,
+}
+
+impl<'a> Lexer<'a> {
+    /// A lexer over a text of at most `u32::MAX` bytes, with both settings off.
+    ///
+    /// # Proved
+    ///
+    /// ```text
+    /// requires { length input.now < 2 ^ 32 }
+    /// ensures setting { result ≡ record {
+    ///   text = input.now;
+    ///   flags = record { allow = false; strict = false };
+    /// } }
+    /// ensures start { IsCharBoundary input.now 0 }
+    /// ```
+    pub fn new(input: &'a str) -> Lexer<'a> {
+        Lexer {
+            input,
+            settings: Settings {
+                allow: false,
+                strict: false,
+            },
+        }
+    }
+
+    /// The text.
+    ///
+    /// # Proved
+    ///
+    /// ```text
+    /// ensures text { result.now ≡ self.now.text }
+    /// ensures utf8 { IsUtf8 self.now.text }
+    /// ensures short { length self.now.text < 2 ^ 32 }
+    /// ```
+    pub fn input(&self) -> &'a str {
+        self.input
+    }
+
+    /// The two settings.
+    ///
+    /// # Proved
+    ///
+    /// ```text
+    /// ensures { result ≡ self.now.flags }
+    /// ```
+    pub fn settings(&self) -> Settings {
+        self.settings
+    }
+
+    /// Sets whether the nine characters that can make a text look other than it is
+    /// may stand in comments and strings.
+    ///
+    /// # Proved
+    ///
+    /// ```text
+    /// ensures same { result.ghost_name ≡ self.entry.ghost_name }
+    /// ensures setting { result.now ≡ record self.old {
+    ///   flags = record self.old.flags { allow = allow };
+    /// } }
+    /// ```
+    pub fn allow_confusing_unicode(&mut self, allow: bool) -> &mut Self {
+        self.settings.allow = allow;
+        self
+    }
+
+    /// Sets whether an underscore directly after another is a fault inside `\u{..}`.
+    ///
+    /// # Proved
+    ///
+    /// ```text
+    /// ensures same { result.ghost_name ≡ self.entry.ghost_name }
+    /// ensures setting { result.now ≡ record self.old {
+    ///   flags = record self.old.flags { strict = strict };
+    /// } }
+    /// ```
+    pub fn strict_underscores(&mut self, strict: bool) -> &mut Self {
+        self.settings.strict = strict;
+        self
+    }
+
+    /// The token at a byte of the text, None at its end, or the fault there.
+    // What it answers is large, and need not be built in memory where it is looked at at once.
+    /// # Proved
+    ///
+    /// ```text
+    /// requires { IsCharBoundary self.now.text pos }
+    /// ensures token { IfOk result (λ found. IfSome found (TokenAt self.now pos)) }
+    /// ensures end { IfOk result (λ found. IfNone found (pos ≡ length self.now.text)) }
+    /// ensures fault { IfErr result (FaultAt self.now pos) }
+    /// ensures one { (r : Result (Option Token) LexFault) → AnswerAt self.now pos r → r ≡ result }
+    ///
+    /// // The token may be read. What follows it is nearer the text's end,
+    /// // and may be scanned in turn.
+    /// ensures reader { IfOk result (λ found. IfSome found (IsTokenOf self.now.text)) }
+    /// ensures some { IfOk result (λ found. IfSome found (λ t. 0 < t.len)) }
+    /// ensures boundary { IfOk result (λ found. IfSome found (λ t.
+    ///     IsCharBoundary self.now.text (pos + t.len))) }
+    /// ensures short { IfOk result (λ found. IfSome found (λ t. t.offset + t.len < 2 ^ 32)) }
+    /// ```
+    #[inline(always)]
+    pub fn scan(&self, pos: usize) -> Result<Option<Token>, LexFault> {
+        match self.found(pos, Stride::Block) {
+            Found::Lexeme(lexeme) => Ok(Some(self.token(pos, lexeme))),
+            Found::End => Ok(None),
+            Found::Fault => Err(self.fault(pos)),
+        }
+    }
+
+    /// What [`Lexer::scan`] answers, found a byte at a time: for a target that has no vectors.
+    ///
+    /// # Proved
+    ///
+    /// ```text
+    /// requires { IsCharBoundary self.now.text pos }
+    /// ensures answer { AnswerAt self.now pos result }
+    /// ensures some { IfOk result (λ found. IfSome found (λ t. 0 < t.len)) }
+    /// ensures boundary { IfOk result (λ found. IfSome found (λ t.
+    ///     IsCharBoundary self.now.text (pos + t.len))) }
+    /// ensures short { IfOk result (λ found. IfSome found (λ t. t.offset + t.len < 2 ^ 32)) }
+    /// ```
+    #[inline(always)]
+    pub fn scan_by_byte(&self, pos: usize) -> Result<Option<Token>, LexFault> {
+        match self.found(pos, Stride::Byte) {
+            Found::Lexeme(lexeme) => Ok(Some(self.token(pos, lexeme))),
+            Found::End => Ok(None),
+            Found::Fault => Err(self.fault(pos)),
+        }
+    }
+
+    /// The token at `pos`, which moves to the token's end, or None at the text's end,
+    /// or the error of the fault there.
+    // A program with two loops would else call it, at 2.5 times the instructions for short tokens.
+    /// # Proved
+    ///
+    /// ```text
+    /// requires { IsCharBoundary self.now.text pos.old }
+    /// ensures token { IfOk result (λ found. IfSome found (λ t.
+    ///     TokenAt self.now pos.old t × (pos.new ≡ t.offset + t.len))) }
+    /// ensures end { IfOk result (λ found. IfNone found (
+    ///     (pos.old ≡ length self.now.text) × (pos.new ≡ pos.old))) }
+    /// ensures fault { IfErr result (ErrorAt self.now pos.old) }
+    /// ensures reader { IfOk result (λ found. IfSome found (IsTokenOf self.now.text)) }
+    /// ensures progress { IfOk result (λ found. IfSome found (λ t. pos.old < pos.new)) }
+    /// ensures kept { OnErr result (pos.new ≡ pos.old) }
+    /// ensures boundary { IsCharBoundary self.now.text pos.new }
+    /// ```
+    #[inline(always)]
+    pub fn parse(&self, alloc: Global, pos: &mut usize) -> Result<Option<Token>, Error> {
+        let start = *pos;
+        match self.found(start, Stride::Block) {
+            Found::Lexeme(lexeme) => {
+                let token = self.token(start, lexeme);
+                *pos = start + token.len as usize;
+                Ok(Some(token))
+            }
+            Found::End => Ok(None),
+            Found::Fault => Err(self.error_at(alloc, start)),
+        }
+    }
+
+    /// What stands at a byte of the text.
+    ///
+    /// # Proved
+    ///
+    /// ```text
+    /// requires { IsCharBoundary self.now.text pos }
+    /// ensures { FoundIn self.now.flags (drop pos self.now.text) result }
+    /// ```
+    #[inline(always)]
+    fn found(&self, pos: usize, stride: Stride) -> Found {
+        first_found(&self.input[pos..], &self.settings, stride)
+    }
+
+    /// The token that was found at a byte of the text.
+    ///
+    /// # Proved
+    ///
+    /// ```text
+    /// requires start { IsCharBoundary self.now.text pos }
+    /// requires found { LexemeFound self.now.flags (drop pos self.now.text) lexeme }
+    /// ensures token { TokenAt self.now pos result }
+    /// ensures len { result.len ≡ lexeme.len }
+    /// ensures reader { IsTokenOf self.now.text result }
+    /// ensures some { 0 < result.len }
+    /// ensures boundary { IsCharBoundary self.now.text (pos + result.len) }
+    /// ensures short { result.offset + result.len < 2 ^ 32 }
+    /// ```
+    #[inline(always)]
+    fn token(&self, pos: usize, lexeme: Lexeme) -> Token {
+        // The proof takes from here that the text is UTF-8.
+        let _ = self.input();
+        Token {
+            kind: lexeme.kind,
+            offset: pos,
+            len: lexeme.len as u32,
+        }
+    }
+
+    /// The fault at a byte of the text.
+    ///
+    /// # Proved
+    ///
+    /// ```text
+    /// requires start { IsCharBoundary self.now.text pos }
+    /// requires refused { IsRefused self.now.flags (drop pos self.now.text) }
+    /// ensures { FaultAt self.now pos result }
+    /// ```
+    #[cold]
+    #[inline(never)]
+    fn fault(&self, pos: usize) -> LexFault {
+        let fault = first_fault(&self.input[pos..], self.settings);
+        LexFault {
+            offset: pos + fault.offset,
+            error: fault.error,
+        }
+    }
+
+    /// The annotation's token at any position, or the error of the fault there, where the byte
+    /// there is `@`; None where it is not, and where a token of another kind stands there.
+    ///
+    /// # Proved
+    ///
+    /// ```text
+    /// ensures found { AnnotationAt self.now pos result }
+    /// ensures reader { IfOk result (λ found. IfSome found (IsTokenOf self.now.text)) }
+    /// ```
+    pub fn annotation(&self, alloc: Global, pos: usize) -> Result<Option<Token>, Error> {
+        if self.input().as_bytes().get(pos) != Some(&b'@') {
+            return Ok(None);
+        }
+        let token = self.parse(alloc, &mut { pos })?;
+        Ok(token.filter(|token| token.kind == TokenKind::Annotation))
+    }
+
+    /// The error of the fault at a byte of the text.
+    ///
+    /// # Proved
+    ///
+    /// ```text
+    /// requires start { IsCharBoundary self.now.text pos }
+    /// requires refused { IsRefused self.now.flags (drop pos self.now.text) }
+    /// ensures { ErrorAt self.now pos result }
+    /// ```
+    #[cold]
+    #[inline(never)]
+    fn error_at(&self, alloc: Global, pos: usize) -> Error {
+        let fault = self.fault(pos);
+        let span = Span::from_offset(fault.offset);
+        Error::lex(alloc, span, self.input(), fault.error)
+    }
+
+    /// The tokens from a byte of the text on, up to its end or its first fault.
+    ///
+    /// # Proved
+    ///
+    /// ```text
+    /// requires { IsCharBoundary self.now.text pos }
+    /// ensures start { result ≡ record { setting = self.now; at = pos; done = false } }
+    /// ensures raw { (items : List Item) →
+    ///     Drains token_steps result items → Raw self.now pos items }
+    /// ensures laws { (items : List Item) →
+    ///     Drains token_steps result items → Laws self.now pos items }
+    /// ensures runs { EachRunFrom token_steps result (λ p.
+    ///     p.whole ≡ true → Raw self.now pos p.items) }
+    /// ensures some { SomeTiling self.now pos }
+    /// ensures one { OneTiling self.now pos }
+    /// ensures cuts { Cuts self.now pos }
+    /// ensures moves { Moves self.now pos }
+    /// ```
+    pub fn iter<'l>(&'l self, alloc: Global, pos: usize) -> Tokens<'l, 'a> {
+        // The proof of the laws takes from here that the text is UTF-8.
+        let _ = self.input();
+        Tokens {
+            lexer: self,
+            alloc,
+            pos,
+            done: false,
+        }
+    }
+}
+
+/// The tokens from a place on. It ends for good after the first fault, or at the text's end.
+pub struct Tokens<'l, 'a> {
+    lexer: &'l Lexer<'a>,
+    alloc: Global,
+    pos: usize,
+    done: bool,
+}
+
+impl<'l, 'a> Iterator for Tokens<'l, 'a> {
+    type Item = Result<Token, Error>;
+
+    // A program with two loops would else call it, at 2.5 times the instructions for short tokens.
+    #[inline(always)]
+    fn next(&mut self) -> Option<Result<Token, Error>> {
+        if self.done {
+            return None;
+        }
+        let start = self.pos;
+        match self.lexer.found(start, Stride::Block) {
+            Found::Lexeme(lexeme) => {
+                let token = self.lexer.token(start, lexeme);
+                self.pos = start + token.len as usize;
+                Some(Ok(token))
+            }
+            Found::End => {
+                self.done = true;
+                None
+            }
+            Found::Fault => {
+                self.done = true;
+                Some(Err(self.lexer.error_at(self.alloc, start)))
+            }
+        }
+    }
+}

@@ -1,0 +1,394 @@
+// Made by tools/erase from crates/wat_lex/src/lexer/read/numbers.rt; do not edit.
+//! What the words of numbers read as.
+
+use crate::shim::prelude::*;
+use crate::proved::lexer::kinds::{FloatKind, IntegerKind, SignToken};
+use crate::proved::lexer::scan::numbers::{after_digits, is_negative, unsigned};
+use crate::shim::alloc::{AllocError, Global};
+use crate::shim::borrow::CowStr;
+
+/// An integer of a text, with its sign, its digits and their base.
+#[derive(Debug, PartialEq)]
+pub struct Integer<'a> {
+    sign: Option<SignToken>,
+    digits: CowStr<'a>,
+    hex: bool,
+}
+
+impl<'a> Integer<'a> {
+    /// The sign that stands before the digits.
+    ///
+    /// # Proved
+    ///
+    /// ```text
+    /// ensures { result ≡ integer_sign self.now }
+    /// ```
+    pub fn sign(&self) -> Option<SignToken> {
+        self.sign
+    }
+
+    /// The digits, behind a `-` where the integer is negative, and their base.
+    ///
+    /// # Proved
+    ///
+    /// ```text
+    /// ensures digits { result.0.now ≡ integer_digits self.now }
+    /// ensures base { result.1 ≡ integer_base self.now }
+    /// ```
+    pub fn val(&self) -> (&str, u32) {
+        let base = if self.hex { 16 } else { 10 };
+        (self.digits.as_str(), base)
+    }
+
+    /// # Proved
+    ///
+    /// ```text
+    /// requires ascii { IsAscii word.now }
+    /// requires number { Number word.now (token_kind.Integer kind) }
+    /// ensures value { IfOk result (IsIntegerOf kind word.now) }
+    /// ensures free { is_integer_rewritten kind ≡ false → IsOk result }
+    /// ```
+    pub(crate) fn from_word(
+        alloc: Global,
+        word: &'a str,
+        kind: IntegerKind,
+    ) -> Result<Integer<'a>, AllocError> {
+        let digits = number_text(alloc, word, kind.hex, kind.has_underscores)?;
+        Ok(Integer {
+            sign: kind.sign.token(),
+            digits,
+            hex: kind.hex,
+        })
+    }
+}
+
+/// What a digit stands for.
+///
+/// # Proved
+///
+/// ```text
+/// ensures { result ≡ digit_value byte }
+/// ```
+fn digit(byte: u8) -> u64 {
+    match byte {
+        b'0'..=b'9' => u64::from(byte - b'0'),
+        b'A'..=b'Z' => u64::from(byte - b'A') + 10,
+        b'a'..=b'z' => u64::from(byte - b'a') + 10,
+        _ => 36,
+    }
+}
+
+/// The number with a digit behind it.
+///
+/// # Proved
+///
+/// ```text
+/// ensures { MatchOption result (2 ^ 64 ≤ value * base + digit_value byte)
+/// (λ n. n ≡ value * base + digit_value byte) }
+/// ```
+fn with_digit(value: u64, base: u64, byte: u8) -> Option<u64> {
+    value.checked_mul(base)?.checked_add(digit(byte))
+}
+
+/// The number that the digits of an integer write, as they stand in a text behind its sign and its
+/// `0x`: underscores among them do not count. None where it is 2^64 at least.
+///
+/// # Proved
+///
+/// ```text
+/// ensures { MatchOption result (2 ^ 64 ≤ digits_value (base hex) (joined digits.now))
+/// (λ n. n ≡ digits_value (base hex) (joined digits.now)) }
+/// ```
+pub fn magnitude(digits: &[u8], hex: bool) -> Option<u64> {
+    let base = if hex { 16 } else { 10 };
+    let mut value = 0;
+    for byte in digits {
+        if *byte != b'_' {
+            value = with_digit(value, base, *byte)?;
+        }
+    }
+    Some(value)
+}
+
+/// The number that an integer's word writes, its sign left out; None where it is 2^64 at least.
+///
+/// # Proved
+///
+/// ```text
+/// requires { Number word.now (token_kind.Integer kind) }
+/// ensures { MatchOption result (2 ^ 64 ≤ integer_value kind.hex word.now)
+///     (λ n. n ≡ integer_value kind.hex word.now) }
+/// ```
+pub(crate) fn magnitude_of(word: &str, kind: IntegerKind) -> Option<u64> {
+    let digits = behind_prefix(unsigned(word.as_bytes()), kind.hex);
+    magnitude(digits, kind.hex)
+}
+
+/// A floating-point number of a text, cut into its parts.
+#[derive(Debug, PartialEq, Eq)]
+pub enum Float<'a> {
+    /// `nan`, with the digits of its payload.
+    Nan {
+        /// The payload's hexadecimal digits behind `nan:0x`, without underscores.
+        val: Option<CowStr<'a>>,
+        /// Whether it begins with `-`.
+        negative: bool,
+    },
+    /// `inf`
+    Inf {
+        /// Whether it begins with `-`.
+        negative: bool,
+    },
+    /// Digits before the dot, behind it, and of the exponent, each without `+` and underscores.
+    Val {
+        /// Whether the digits are hexadecimal. Those of the exponent never are.
+        hex: bool,
+        /// The digits before the dot, without `0x`; a `-` is kept.
+        integral: CowStr<'a>,
+        /// The digits behind the dot, None where there are none.
+        fractional: Option<CowStr<'a>>,
+        /// The digits of the exponent, None where there is none; a `-` is kept.
+        exponent: Option<CowStr<'a>>,
+    },
+}
+
+impl<'a> Float<'a> {
+    /// # Proved
+    ///
+    /// ```text
+    /// requires ascii { IsAscii word.now }
+    /// requires number { Number word.now (token_kind.Float kind) }
+    /// ensures value { IfOk result (IsFloatOf kind word.now) }
+    /// ensures free { is_float_rewritten kind ≡ false → IsOk result }
+    /// ```
+    pub(crate) fn from_word(
+        alloc: Global,
+        word: &'a str,
+        kind: FloatKind,
+    ) -> Result<Float<'a>, AllocError> {
+        match kind {
+            FloatKind::Inf { negative } => Ok(Float::Inf { negative }),
+            FloatKind::Nan { negative } => Ok(Float::Nan {
+                val: None,
+                negative,
+            }),
+            FloatKind::NanVal {
+                negative,
+                has_underscores,
+            } => {
+                let val = payload(alloc, word, has_underscores)?;
+                Ok(Float::Nan {
+                    val: Some(val),
+                    negative,
+                })
+            }
+            FloatKind::Normal {
+                has_underscores,
+                hex,
+            } => decimals(alloc, word, hex, has_underscores),
+        }
+    }
+}
+
+/// # Proved
+///
+/// ```text
+/// ensures { result.now ≡ without_plus word.now }
+/// ```
+fn without_plus(word: &str) -> &str {
+    let bytes = word.as_bytes();
+    if bytes.is_empty() || bytes[0] != b'+' {
+        return word;
+    }
+    &word[1..]
+}
+
+/// What stands behind `0x`, where a number is hexadecimal.
+///
+/// # Proved
+///
+/// ```text
+/// requires long { hex ≡ true → 2 ≤ length number.now }
+/// ensures { result.now ≡ behind_prefix hex number.now }
+/// ```
+fn behind_prefix(number: &[u8], hex: bool) -> &[u8] {
+    if hex { &number[2..] } else { number }
+}
+
+/// Writes the digits behind a text, without underscores.
+///
+/// # Proved
+///
+/// ```text
+/// requires ascii { IsAscii digits.now }
+/// ensures { OnOk result (string_bytes text.new ≡ string_bytes text.old ++ joined digits.now) }
+/// ```
+fn push_joined(text: &mut String, digits: &[u8]) -> Result<(), AllocError> {
+    for b in digits {
+        if *b != b'_' {
+            text.push(*b as char)?;
+        }
+    }
+    Ok(())
+}
+
+/// A number's digits without `+`, underscores and `0x`, a `-` kept.
+///
+/// # Proved
+///
+/// ```text
+/// requires ascii { IsAscii word.now }
+/// requires long { hex ≡ true → 2 ≤ length (unsigned word.now) }
+/// requires plain { underscores ≡ false → has_underscores word.now ≡ false }
+/// ensures value { IfOk result (IsText (hex || underscores) (number_text hex word.now)) }
+/// ensures free { (hex || underscores) ≡ false → IsOk result }
+/// ```
+fn number_text<'a>(
+    alloc: Global,
+    word: &'a str,
+    hex: bool,
+    underscores: bool,
+) -> Result<CowStr<'a>, AllocError> {
+    if !hex && !underscores {
+        return Ok(CowStr::Borrowed(without_plus(word)));
+    }
+    let bytes = word.as_bytes();
+    let mut text = String::new(alloc);
+    if is_negative(bytes) {
+        text.push('-')?;
+    }
+    push_joined(&mut text, behind_prefix(unsigned(bytes), hex))?;
+    Ok(CowStr::Owned(text))
+}
+
+/// The digits behind `nan:0x`, without underscores.
+///
+/// # Proved
+///
+/// ```text
+/// requires ascii { IsAscii word.now }
+/// requires payload { Payload (unsigned word.now) }
+/// requires plain { underscores ≡ false → has_underscores word.now ≡ false }
+/// ensures value { IfOk result (IsText underscores (payload_text word.now)) }
+/// ensures free { underscores ≡ false → IsOk result }
+/// ```
+fn payload<'a>(alloc: Global, word: &'a str, underscores: bool) -> Result<CowStr<'a>, AllocError> {
+    let number = unsigned(word.as_bytes());
+    let start = word.len() - number.len() + "nan:0x".len();
+    number_text(alloc, &word[start..], false, underscores)
+}
+
+/// Cuts a float's word behind its first digits.
+///
+/// # Proved
+///
+/// ```text
+/// requires ascii { IsAscii word.now }
+/// requires decimals { Decimals hex (unsigned word.now) }
+/// ensures cut { word.now ≡ result.0.now ++ result.1.now }
+/// ensures integral { IntegralPart hex (unsigned result.0.now) [] }
+/// ensures tail { Tail hex result.1.now }
+/// ```
+fn split_integral(word: &str, hex: bool) -> (&str, &str) {
+    let number = unsigned(word.as_bytes());
+    match after_digits(behind_prefix(number, hex), hex) {
+        Some(tail) => word.split_at(word.len() - tail.len()),
+        None => unreachable!(),
+    }
+}
+
+/// The digits behind a dot, and what follows them.
+///
+/// # Proved
+///
+/// ```text
+/// requires ascii { IsAscii tail.now }
+/// requires tail { Tail hex tail.now }
+/// ensures point { Point hex tail.now (option_map (λ r. r.now) result.0) result.1.now }
+/// ensures rest { EndsFloat hex result.1.now }
+/// ```
+fn split_fraction(tail: &str, hex: bool) -> (Option<&str>, &str) {
+    if tail.as_bytes()[0] != b'.' {
+        return (None, tail);
+    }
+    let behind = &tail[1..];
+    match after_digits(behind.as_bytes(), hex) {
+        Some(rest) => {
+            let (digits, rest) = behind.split_at(behind.len() - rest.len());
+            (Some(digits), rest)
+        }
+        None => (None, behind),
+    }
+}
+
+/// What stands behind an exponent's letter.
+///
+/// # Proved
+///
+/// ```text
+/// requires ascii { IsAscii rest.now }
+/// ensures { (hex : Bool) → EndsFloat hex rest.now →
+///     Power hex rest.now (option_map (λ r. r.now) result) }
+/// ```
+fn behind_letter(rest: &str) -> Option<&str> {
+    if rest.is_empty() {
+        None
+    } else {
+        Some(&rest[1..])
+    }
+}
+
+/// A decimal part of a number, where there is one.
+///
+/// # Proved
+///
+/// ```text
+/// requires ascii { IfSome part (λ p. IsAscii p.now) }
+/// requires plain { underscores ≡ false → IfSome part (λ p. has_underscores p.now ≡ false) }
+/// ensures value { IfOk result (IsOptionalText underscores (
+///     option_map (λ p. number_text false p.now) part.entry)) }
+/// ensures free { underscores ≡ false → IsOk result }
+/// ```
+fn optional_text<'a>(
+    alloc: Global,
+    part: Option<&'a str>,
+    underscores: bool,
+) -> Result<Option<CowStr<'a>>, AllocError> {
+    match part {
+        Some(part) => {
+            let text = number_text(alloc, part, false, underscores)?;
+            Ok(Some(text))
+        }
+        None => Ok(None),
+    }
+}
+
+/// The parts of a float's word.
+///
+/// # Proved
+///
+/// ```text
+/// requires ascii { IsAscii word.now }
+/// requires decimals { Decimals hex (unsigned word.now) }
+/// requires plain { underscores ≡ false → has_underscores word.now ≡ false }
+/// ensures value { IfOk result (IsFloatOf (Normal underscores hex) word.now) }
+/// ensures free { (hex || underscores) ≡ false → IsOk result }
+/// ```
+fn decimals<'a>(
+    alloc: Global,
+    word: &'a str,
+    hex: bool,
+    underscores: bool,
+) -> Result<Float<'a>, AllocError> {
+    let (leading, tail) = split_integral(word, hex);
+    let (fraction, rest) = split_fraction(tail, hex);
+    let integral = number_text(alloc, leading, hex, underscores)?;
+    let fractional = optional_text(alloc, fraction, underscores)?;
+    let exponent = optional_text(alloc, behind_letter(rest), underscores)?;
+    Ok(Float::Val {
+        hex,
+        integral,
+        fractional,
+        exponent,
+    })
+}

@@ -1,0 +1,101 @@
+// Made by tools/erase from crates/wat_lex/src/lexer/read/strings.rt; do not edit.
+//! The values of strings and names.
+
+use crate::shim::prelude::*;
+use crate::proved::lexer::scan::strings::{EscapeValue, escape};
+use crate::proved::lexer::settings::Settings;
+use memchr::memchr;
+use crate::shim::alloc::{AllocError, Global};
+use crate::shim::borrow::CowStr;
+
+/// The flags with which each string that any flags take is a string.
+const LENIENT: Settings = Settings {
+    allow: true,
+    strict: false,
+};
+
+/// The value of the elements that a closing quote ends, if no escape is among them.
+///
+/// # Proved
+///
+/// ```text
+/// requires { IsQuoted (chars elements.now) }
+/// ensures value { IfSome result (λ value. Quoted lenient (chars elements.now) value.now []) }
+/// ensures some { IfSome result (λ _. HasNone backslash (chars elements.now)) }
+/// ensures none { IfNone result (HasNone backslash (chars elements.now) → ⊥) }
+/// ```
+pub fn plain(elements: &str) -> Option<&str> {
+    match memchr(b'\\', elements.as_bytes()) {
+        Some(_) => None,
+        None => Some(&elements[..elements.len() - 1]),
+    }
+}
+
+/// Appends what an escape stands for.
+///
+/// # Proved
+///
+/// ```text
+/// ensures { OnOk result (value.new.items ≡ value.old.items ++ escape_bytes read) }
+/// ```
+fn append(value: &mut Vec<u8>, read: EscapeValue) -> Result<(), AllocError> {
+    match read {
+        EscapeValue::Byte(byte) => value.push(byte)?,
+        EscapeValue::Scalar(c) => {
+            let mut buffer = [0u8; 4];
+            value.extend_from_slice(c.encode_utf8(&mut buffer).as_bytes())?;
+        }
+    }
+    Ok(())
+}
+
+/// The value of the elements that a closing quote ends.
+///
+/// # Proved
+///
+/// ```text
+/// requires { IsQuoted (chars elements.now) }
+/// ensures { IfOk result (λ value. Quoted lenient (chars elements.now) value.items []) }
+/// ```
+pub fn unescaped(alloc: Global, elements: &str) -> Result<Vec<u8>, AllocError> {
+    let mut value = Vec::new(alloc);
+    let mut rest = elements;
+    'escapes: while let Some(before) = memchr(b'\\', rest.as_bytes()) {
+        value.extend_from_slice(&rest.as_bytes()[..before])?;
+        let mut it = rest[before + 1..].chars();
+        let Ok(read) = escape(&mut it, LENIENT) else {
+            unreachable!()
+        };
+        append(&mut value, read)?;
+        rest = it.as_str();
+    }
+    value.extend_from_slice(&rest.as_bytes()[..rest.len() - 1])?;
+    Ok(value)
+}
+
+/// The name that a text is, None where its bytes are not UTF-8.
+///
+/// # Proved
+///
+/// ```text
+/// requires { IsNamed (chars text.now) }
+/// ensures some { IfOk result (λ found. IfSome found (λ name.
+///     Named (chars text.now) (cow_str_bytes name))) }
+/// ensures none { IfOk result (λ found. IfNone found (
+///     (bytes : List ℕ) × Named (chars text.now) bytes × (IsUtf8 bytes → ⊥))) }
+/// ensures borrowed { IfOk result (λ found. IfSome found (λ name.
+///     IsBorrowedStr name ↔ HasNoEscape (chars text.now))) }
+/// ensures free { HasNoEscape (chars text.now) → IsOk result }
+/// ```
+pub fn name<'a>(alloc: Global, text: &'a str) -> Result<Option<CowStr<'a>>, AllocError> {
+    let Some(elements) = text.strip_prefix('"') else {
+        return Ok(Some(CowStr::Borrowed(text)));
+    };
+    if let Some(value) = plain(elements) {
+        return Ok(Some(CowStr::Borrowed(value)));
+    }
+    match String::from_utf8(unescaped(alloc, elements)?) {
+        Ok(value) => Ok(Some(CowStr::Owned(value))),
+        Err(_) => Ok(None),
+    }
+}

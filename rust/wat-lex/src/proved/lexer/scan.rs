@@ -1,0 +1,346 @@
+// Made by tools/erase from crates/wat_lex/src/lexer/scan.rt; do not edit.
+//! Scanning: what stands at the start of a text, by its first bytes.
+
+use crate::shim::prelude::*;
+use crate::proved::lexer::faults::{LexError, LexFault};
+use crate::proved::lexer::kinds::{Found, Lexeme, Outline, Shape, Sign, Stride, TokenKind};
+use crate::proved::lexer::scan::blocks::{block_at, other_than_idchars};
+use crate::proved::lexer::scan::classes::{
+    idchar_len_by_block, idchar_len_of_word, is_run_char, whitespace_len,
+};
+use crate::proved::lexer::scan::comments::{
+    block_comment, block_comment_len, line_comment, line_comment_len,
+};
+use crate::proved::lexer::scan::runs::{
+    decimal_kind, letters_kind, long_number_kind, other_kind, run, run_outline, short_number_kind,
+};
+use crate::proved::lexer::scan::starts::{Start, start_of};
+use crate::proved::lexer::settings::Settings;
+
+pub(super) mod blocks;
+pub(super) mod classes;
+pub(super) mod comments;
+pub(super) mod numbers;
+mod plain;
+mod runs;
+mod short;
+mod starts;
+pub(super) mod strings;
+
+/// The byte at a place, and 0 past the end.
+///
+/// # Proved
+///
+/// ```text
+/// ensures { result ≡ slice_index text.now i }
+/// ```
+#[inline(always)]
+fn byte_at(text: &[u8], i: usize) -> u8 {
+    if i < text.len() { text[i] } else { 0 }
+}
+
+/// Whether a string follows so many bytes, so that they are not all of a run.
+///
+/// # Proved
+///
+/// ```text
+/// ensures { IsTrue result ↔ slice_index text.now len ≡ 34 }
+/// ```
+#[inline(always)]
+fn string_follows(text: &[u8], len: usize) -> bool {
+    byte_at(text, len) == b'"'
+}
+
+/// A token of this kind and length.
+///
+/// # Proved
+///
+/// ```text
+/// ensures { result ≡ found.Lexeme (record { kind = kind; len = len }) }
+/// ```
+#[inline(always)]
+fn lexeme(kind: TokenKind, len: usize) -> Found {
+    Found::Lexeme(Lexeme { kind, len })
+}
+
+/// The token of idchars that no string follows; a word that begins so has this kind.
+///
+/// # Proved
+///
+/// ```text
+/// requires some { 0 < length text.now }
+/// requires first { BeginsWord (slice_index text.now 0) kind }
+/// ensures { IfSome result (IdcharsOnly text.now) }
+/// ```
+#[inline(always)]
+fn idchars(text: &[u8], kind: TokenKind, stride: Stride) -> Option<Lexeme> {
+    let len = idchar_len_of_word(text, stride);
+    if string_follows(text, len) {
+        return None;
+    }
+    Some(Lexeme { kind, len })
+}
+
+/// The token of idchars that no string follows, the first of which is a small letter.
+///
+/// # Proved
+///
+/// ```text
+/// requires { (97 ≤ slice_index text.now 0) × (slice_index text.now 0 ≤ 122) }
+/// ensures { IfSome result (IdcharsOnly text.now) }
+/// ```
+#[inline(always)]
+fn letters(text: &[u8], stride: Stride) -> Option<Lexeme> {
+    let len = idchar_len_of_word(text, stride);
+    if string_follows(text, len) {
+        return None;
+    }
+    let kind = letters_kind(text, len, stride);
+    Some(Lexeme { kind, len })
+}
+
+/// The token of idchars that no string follows, found a byte at a time; it may be a number.
+///
+/// # Proved
+///
+/// ```text
+/// ensures { IfSome result (IdcharsOnly text.now) }
+/// ```
+#[inline(always)]
+fn number_by_byte(text: &[u8]) -> Option<Lexeme> {
+    let len = idchar_len_of_word(text, Stride::Byte);
+    if string_follows(text, len) {
+        return None;
+    }
+    let kind = decimal_kind(text, len, Stride::Byte);
+    Some(Lexeme { kind, len })
+}
+
+/// The token of so many idchars that no string follows. They are all that one block holds and some
+/// behind it, and may be a number.
+///
+/// # Proved
+///
+/// ```text
+/// requires { len ≡ prefix_len is_idchar text.now }
+/// ensures { IfSome result (IdcharsOnly text.now) }
+/// ```
+#[inline(always)]
+fn long_number(text: &[u8], len: usize) -> Option<Lexeme> {
+    if string_follows(text, len) {
+        return None;
+    }
+    let kind = long_number_kind(text, len);
+    Some(Lexeme { kind, len })
+}
+
+/// The token of idchars that no string follows, the first of which is a digit or this sign.
+///
+/// # Proved
+///
+/// ```text
+/// requires some { 0 < length text.now }
+/// requires first { is_idchar (slice_index text.now 0) ≡ true }
+/// requires sign { sign ≡ sign_of (slice_index text.now 0 ∷ []) }
+/// ensures { IfSome result (IdcharsOnly text.now) }
+/// ```
+#[inline(always)]
+fn number(text: &[u8], sign: Sign, stride: Stride) -> Option<Lexeme> {
+    if stride == Stride::Byte || text.len() < 16 {
+        return number_by_byte(text);
+    }
+    let others = other_than_idchars(block_at(text, 0));
+    if others == 0 {
+        return long_number(text, 16 + idchar_len_by_block(&text[16..]));
+    }
+    let len = others.trailing_zeros() as usize;
+    if string_follows(text, len) {
+        return None;
+    }
+    let kind = short_number_kind(text, len, sign);
+    Some(Lexeme { kind, len })
+}
+
+/// The token of idchars that no string follows, where the text begins so.
+///
+/// # Proved
+///
+/// ```text
+/// requires some { 0 < length text.now }
+/// requires start { Begun (slice_index text.now 0) start }
+/// ensures { IfSome result (IdcharsOnly text.now) }
+/// ```
+#[inline(always)]
+fn word(text: &[u8], start: Start, stride: Stride) -> Option<Lexeme> {
+    match start {
+        Start::Number(sign) => number(text, sign, stride),
+        Start::Letter => letters(text, stride),
+        Start::Keyword => idchars(text, TokenKind::Keyword, stride),
+        Start::Id => idchars(text, TokenKind::Id, stride),
+        Start::Annotation => idchars(text, TokenKind::Annotation, stride),
+        Start::Reserved => idchars(text, TokenKind::Reserved, stride),
+        _ => None,
+    }
+}
+
+/// What the outline of a run at the start tells of the text.
+///
+/// # Proved
+///
+/// ```text
+/// requires { outline.len ≤ length text.now }
+/// ensures { (flags : Settings) → Outlined flags text.now outline → FoundIn flags text.now result }
+/// ```
+#[inline(always)]
+fn told(text: &str, outline: Outline) -> Found {
+    let kind = match outline.shape {
+        Shape::String => TokenKind::String,
+        Shape::Id => TokenKind::Id,
+        Shape::Annotation => TokenKind::Annotation,
+        Shape::Reserved => TokenKind::Reserved,
+        Shape::Word => other_kind(text.as_bytes(), outline.len, Stride::Byte),
+        Shape::Fault => return Found::Fault,
+    };
+    lexeme(kind, outline.len)
+}
+
+/// What stands at the start of a text that begins with an idchar or a string.
+// The settings are passed by reference, so that they are read only where they are needed.
+/// # Proved
+///
+/// ```text
+/// requires some { 0 < length text.now }
+/// requires run { is_run_char (slice_index text.now 0) ≡ true }
+/// requires start { Begun (slice_index text.now 0) start }
+/// ensures { FoundIn flags.now text.now result }
+/// ```
+#[inline(always)]
+fn run_found(text: &str, start: Start, flags: &Settings, stride: Stride) -> Found {
+    match word(text.as_bytes(), start, stride) {
+        Some(lexeme) => Found::Lexeme(lexeme),
+        None => told(text, run_outline(text, *flags)),
+    }
+}
+
+/// What stands at the start of a text that begins with `(`.
+///
+/// # Proved
+///
+/// ```text
+/// requires some { 0 < length text.now }
+/// requires first { slice_index text.now 0 ≡ 40 }
+/// ensures { FoundIn flags.now text.now result }
+/// ```
+#[inline(always)]
+fn opened(text: &str, flags: &Settings) -> Found {
+    if byte_at(text.as_bytes(), 1) != b';' {
+        return lexeme(TokenKind::LParen, 1);
+    }
+    match block_comment_len(text, *flags) {
+        Some(len) => lexeme(TokenKind::BlockComment, len),
+        None => Found::Fault,
+    }
+}
+
+/// What stands at the start of a text that begins with `;`.
+///
+/// # Proved
+///
+/// ```text
+/// requires some { 0 < length text.now }
+/// requires first { slice_index text.now 0 ≡ 59 }
+/// ensures { FoundIn flags.now text.now result }
+/// ```
+#[inline(always)]
+fn semicolon(text: &str, flags: &Settings) -> Found {
+    if byte_at(text.as_bytes(), 1) != b';' {
+        return lexeme(TokenKind::Reserved, 1);
+    }
+    match line_comment_len(text, *flags) {
+        Some(len) => lexeme(TokenKind::LineComment, len),
+        None => Found::Fault,
+    }
+}
+
+/// What stands at the start.
+///
+/// # Proved
+///
+/// ```text
+/// ensures { FoundIn flags.now text.now result }
+/// ```
+#[inline(always)]
+pub fn first_found(text: &str, flags: &Settings, stride: Stride) -> Found {
+    let bytes = text.as_bytes();
+    if bytes.is_empty() {
+        return Found::End;
+    }
+    let start = start_of(byte_at(bytes, 0));
+    match start {
+        Start::Whitespace => lexeme(
+            TokenKind::Whitespace,
+            1 + whitespace_len(&bytes[1..], stride),
+        ),
+        Start::OpenParen => opened(text, flags),
+        Start::CloseParen => lexeme(TokenKind::RParen, 1),
+        Start::Semicolon => semicolon(text, flags),
+        Start::Punctuation => lexeme(TokenKind::Reserved, 1),
+        Start::Other => Found::Fault,
+        _ => run_found(text, start, flags, stride),
+    }
+}
+
+/// The fault of a text whose first character begins no word.
+///
+/// # Proved
+///
+/// ```text
+/// requires first { 0 < length text.now }
+/// requires no_word { begins_word (slice_index text.now 0) ≡ false }
+/// ensures { (flags : Settings) → Refused flags text.now result }
+/// ```
+fn unexpected(text: &str) -> LexFault {
+    match text.chars().next() {
+        Some(c) => LexFault {
+            offset: 0,
+            error: LexError::Unexpected(c),
+        },
+        None => unreachable!(),
+    }
+}
+
+/// The fault of a text that begins with no token. What goes wrong is looked for once more, so that
+/// no token pays for it.
+///
+/// # Proved
+///
+/// ```text
+/// requires { IsRefused flags text.now }
+/// ensures { Refused flags text.now result }
+/// ```
+#[cold]
+#[inline(never)]
+pub fn first_fault(text: &str, flags: Settings) -> LexFault {
+    let bytes = text.as_bytes();
+    let first = byte_at(bytes, 0);
+    if is_run_char(first) {
+        return match run(text, flags) {
+            Err(fault) => fault,
+            Ok(_) => unreachable!(),
+        };
+    }
+    let second = byte_at(bytes, 1);
+    if first == b'(' && second == b';' {
+        return match block_comment(text, flags) {
+            Err(fault) => fault,
+            Ok(_) => unreachable!(),
+        };
+    }
+    if first == b';' && second == b';' {
+        return match line_comment(text, flags) {
+            Err(fault) => fault,
+            Ok(_) => unreachable!(),
+        };
+    }
+    unexpected(text)
+}

@@ -1,0 +1,299 @@
+// Made by tools/erase from crates/wat_lex/src/lexer/scan/classes.rt; do not edit.
+//! Classes of bytes and characters.
+
+use crate::shim::prelude::*;
+use crate::proved::lexer::kinds::Stride;
+use crate::proved::lexer::scan::blocks::{
+    block_at, other_than_digits, other_than_hex_digits, other_than_idchars, other_than_whitespace,
+};
+
+const RUN_CHAR: u8 = 1;
+
+const IDCHAR: u8 = 2;
+
+const HEX_DIGIT: u8 = 4;
+
+const WHITESPACE: u8 = 8;
+
+/// The classes of each byte, a bit each, in rows of 32 bytes.
+const CLASSES: [u8; 256] = [
+    0, 0, 0, 0, 0, 0, 0, 0, 0, 8, 8, 0, 0, 8, 0, 0, 0, 0, 0, 0, 0, 0, 0, 0, 0, 0, 0, 0, 0, 0, 0, 0,
+    8, 3, 1, 3, 3, 3, 3, 3, 0, 0, 3, 3, 0, 3, 3, 3, 7, 7, 7, 7, 7, 7, 7, 7, 7, 7, 3, 0, 3, 3, 3, 3,
+    3, 7, 7, 7, 7, 7, 7, 3, 3, 3, 3, 3, 3, 3, 3, 3, 3, 3, 3, 3, 3, 3, 3, 3, 3, 3, 3, 0, 3, 0, 3, 3,
+    3, 7, 7, 7, 7, 7, 7, 3, 3, 3, 3, 3, 3, 3, 3, 3, 3, 3, 3, 3, 3, 3, 3, 3, 3, 3, 3, 0, 3, 0, 3, 0,
+    0, 0, 0, 0, 0, 0, 0, 0, 0, 0, 0, 0, 0, 0, 0, 0, 0, 0, 0, 0, 0, 0, 0, 0, 0, 0, 0, 0, 0, 0, 0, 0,
+    0, 0, 0, 0, 0, 0, 0, 0, 0, 0, 0, 0, 0, 0, 0, 0, 0, 0, 0, 0, 0, 0, 0, 0, 0, 0, 0, 0, 0, 0, 0, 0,
+    0, 0, 0, 0, 0, 0, 0, 0, 0, 0, 0, 0, 0, 0, 0, 0, 0, 0, 0, 0, 0, 0, 0, 0, 0, 0, 0, 0, 0, 0, 0, 0,
+    0, 0, 0, 0, 0, 0, 0, 0, 0, 0, 0, 0, 0, 0, 0, 0, 0, 0, 0, 0, 0, 0, 0, 0, 0, 0, 0, 0, 0, 0, 0, 0,
+];
+
+/// # Proved
+///
+/// ```text
+/// ensures { result ≡ is_whitespace b }
+/// ```
+pub fn is_whitespace(b: u8) -> bool {
+    CLASSES[b as usize] & WHITESPACE != 0
+}
+
+/// # Proved
+///
+/// ```text
+/// ensures { result ≡ is_idchar b }
+/// ```
+pub fn is_idchar(b: u8) -> bool {
+    CLASSES[b as usize] & IDCHAR != 0
+}
+
+/// # Proved
+///
+/// ```text
+/// ensures { result ≡ is_run_char b }
+/// ```
+pub fn is_run_char(b: u8) -> bool {
+    CLASSES[b as usize] & RUN_CHAR != 0
+}
+
+/// # Proved
+///
+/// ```text
+/// ensures { result ≡ is_hex b }
+/// ```
+pub fn is_hex_digit(b: u8) -> bool {
+    CLASSES[b as usize] & HEX_DIGIT != 0
+}
+
+/// # Proved
+///
+/// ```text
+/// ensures { result ≡ is_hex c }
+/// ```
+pub fn is_hex(c: char) -> bool {
+    matches!(c, '0'..='9' | 'A'..='F' | 'a'..='f')
+}
+
+/// # Proved
+///
+/// ```text
+/// ensures { result ≡ is_confusing c }
+/// ```
+pub fn is_confusing(c: char) -> bool {
+    matches!(
+        c,
+        '\u{202a}'
+            | '\u{202b}'
+            | '\u{202d}'
+            | '\u{202e}'
+            | '\u{2066}'
+            | '\u{2067}'
+            | '\u{2068}'
+            | '\u{2069}'
+            | '\u{206c}'
+    )
+}
+
+/// # Proved
+///
+/// ```text
+/// ensures { result ≡ prefix_len is_whitespace text.now }
+/// ```
+fn whitespace_len_by_byte(text: &[u8]) -> usize {
+    let mut i = 0;
+    while i < text.len() && is_whitespace(text[i]) {
+        i += 1;
+    }
+    i
+}
+
+/// # Proved
+///
+/// ```text
+/// ensures { result ≡ prefix_len is_whitespace text.now }
+/// ```
+fn whitespace_len_by_block(text: &[u8]) -> usize {
+    let mut i = 0;
+    while text.len() - i >= 16 {
+        let others = other_than_whitespace(block_at(text, i));
+        if others != 0 {
+            return i + others.trailing_zeros() as usize;
+        }
+        i += 16;
+    }
+    i + whitespace_len_by_byte(&text[i..])
+}
+
+/// How many bytes of whitespace stand at the start of what follows a first one. Mostly there are
+/// none.
+///
+/// # Proved
+///
+/// ```text
+/// ensures { result ≡ prefix_len is_whitespace text.now }
+/// ```
+#[inline(always)]
+pub fn whitespace_len(text: &[u8], stride: Stride) -> usize {
+    match text {
+        [next, ..] if !is_whitespace(*next) => 0,
+        _ => match stride {
+            Stride::Byte => whitespace_len_by_byte(text),
+            Stride::Block => whitespace_len_by_block(text),
+        },
+    }
+}
+
+// Where there are blocks, only the last word of a text is looked at so.
+/// # Proved
+///
+/// ```text
+/// ensures { result ≡ prefix_len is_idchar text.now }
+/// ```
+#[inline(never)]
+fn idchar_len_by_byte(text: &[u8]) -> usize {
+    let mut i = 0;
+    while i < text.len() && is_idchar(text[i]) {
+        i += 1;
+    }
+    i
+}
+
+/// How many idchars stand at the start, found a block at a time.
+///
+/// # Proved
+///
+/// ```text
+/// ensures { result ≡ prefix_len is_idchar text.now }
+/// ```
+#[inline]
+pub fn idchar_len_by_block(text: &[u8]) -> usize {
+    let mut i = 0;
+    while text.len() - i >= 16 {
+        let others = other_than_idchars(block_at(text, i));
+        if others != 0 {
+            return i + others.trailing_zeros() as usize;
+        }
+        i += 16;
+    }
+    i + idchar_len_by_byte(&text[i..])
+}
+
+/// How many idchars stand at the start. Mostly there are some.
+///
+/// # Proved
+///
+/// ```text
+/// ensures { result ≡ prefix_len is_idchar text.now }
+/// ```
+#[inline(always)]
+pub fn idchar_len_of_word(text: &[u8], stride: Stride) -> usize {
+    match stride {
+        Stride::Byte => idchar_len_by_byte(text),
+        Stride::Block => idchar_len_by_block(text),
+    }
+}
+
+/// How many idchars stand at the start. Around a string it is mostly none.
+///
+/// # Proved
+///
+/// ```text
+/// ensures { result ≡ prefix_len is_idchar text.now }
+/// ```
+#[inline]
+pub fn idchar_len(text: &[u8]) -> usize {
+    match text {
+        [first, ..] if !is_idchar(*first) => 0,
+        _ => idchar_len_by_block(text),
+    }
+}
+
+/// # Proved
+///
+/// ```text
+/// ensures { result ≡ prefix_len is_ascii_digit text.now }
+/// ```
+fn digit_len_by_byte(text: &[u8]) -> usize {
+    let mut i = 0;
+    while i < text.len() && text[i].is_ascii_digit() {
+        i += 1;
+    }
+    i
+}
+
+/// # Proved
+///
+/// ```text
+/// ensures { result ≡ prefix_len is_ascii_digit text.now }
+/// ```
+#[inline]
+fn digit_len_by_block(text: &[u8]) -> usize {
+    let mut i = 0;
+    while text.len() - i >= 16 {
+        let others = other_than_digits(block_at(text, i));
+        if others != 0 {
+            return i + others.trailing_zeros() as usize;
+        }
+        i += 16;
+    }
+    i + digit_len_by_byte(&text[i..])
+}
+
+/// How many decimal digits stand at the start.
+///
+/// # Proved
+///
+/// ```text
+/// ensures { result ≡ prefix_len is_ascii_digit text.now }
+/// ```
+#[inline(always)]
+pub fn digit_len(text: &[u8], stride: Stride) -> usize {
+    match stride {
+        Stride::Byte => digit_len_by_byte(text),
+        Stride::Block => digit_len_by_block(text),
+    }
+}
+
+/// # Proved
+///
+/// ```text
+/// ensures { result ≡ prefix_len is_hex text.now }
+/// ```
+fn hex_digit_len_by_byte(text: &[u8]) -> usize {
+    let mut i = 0;
+    while i < text.len() && is_hex_digit(text[i]) {
+        i += 1;
+    }
+    i
+}
+
+/// # Proved
+///
+/// ```text
+/// ensures { result ≡ prefix_len is_hex text.now }
+/// ```
+#[inline]
+fn hex_digit_len_by_block(text: &[u8]) -> usize {
+    let mut i = 0;
+    while text.len() - i >= 16 {
+        let others = other_than_hex_digits(block_at(text, i));
+        if others != 0 {
+            return i + others.trailing_zeros() as usize;
+        }
+        i += 16;
+    }
+    i + hex_digit_len_by_byte(&text[i..])
+}
+
+/// How many hexadecimal digits stand at the start.
+///
+/// # Proved
+///
+/// ```text
+/// ensures { result ≡ prefix_len is_hex text.now }
+/// ```
+#[inline(always)]
+pub fn hex_digit_len(text: &[u8], stride: Stride) -> usize {
+    match stride {
+        Stride::Byte => hex_digit_len_by_byte(text),
+        Stride::Block => hex_digit_len_by_block(text),
+    }
+}

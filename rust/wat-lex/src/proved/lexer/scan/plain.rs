@@ -1,0 +1,67 @@
+// Made by tools/erase from crates/wat_lex/src/lexer/scan/plain.rt; do not edit.
+//! Bytes of strings that stand for themselves.
+
+use crate::shim::prelude::*;
+use crate::proved::lexer::scan::blocks::block_at;
+use crate::shim::simd::prelude::*;
+
+/// Whether a byte ends no string, begins no escape, can begin no confusing character, whose first
+/// byte is 0xE2, and is no control character.
+///
+/// # Proved
+///
+/// ```text
+/// ensures { result ≡ is_plain b }
+/// ```
+pub fn is_plain(b: u8) -> bool {
+    b >= 0x20 && !matches!(b, b'"' | b'\\' | 0x7f | 0xe2)
+}
+
+/// A bit for each byte that is not plain, the lowest for the first.
+///
+/// # Proved
+///
+/// ```text
+/// ensures { result ≡ failures is_plain block }
+/// ```
+#[inline(always)]
+fn other_than_plain(block: u8x16) -> u64 {
+    (block.simd_lt(u8x16::splat(0x20))
+        | block.simd_eq(u8x16::splat(b'"'))
+        | block.simd_eq(u8x16::splat(b'\\'))
+        | block.simd_eq(u8x16::splat(0x7f))
+        | block.simd_eq(u8x16::splat(0xe2)))
+    .to_bitmask()
+}
+
+/// # Proved
+///
+/// ```text
+/// ensures { result ≡ prefix_len is_plain text.now }
+/// ```
+fn plain_len_by_byte(text: &[u8]) -> usize {
+    let mut i = 0;
+    while i < text.len() && is_plain(text[i]) {
+        i += 1;
+    }
+    i
+}
+
+/// How many plain bytes stand at the start.
+///
+/// # Proved
+///
+/// ```text
+/// ensures { result ≡ prefix_len is_plain text.now }
+/// ```
+pub fn plain_len(text: &[u8]) -> usize {
+    let mut i = 0;
+    while text.len() - i >= 16 {
+        let others = other_than_plain(block_at(text, i));
+        if others != 0 {
+            return i + others.trailing_zeros() as usize;
+        }
+        i += 16;
+    }
+    i + plain_len_by_byte(&text[i..])
+}

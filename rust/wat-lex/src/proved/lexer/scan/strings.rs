@@ -1,0 +1,343 @@
+// Made by tools/erase from crates/wat_lex/src/lexer/scan/strings.rt; do not edit.
+//! Strings.
+
+use crate::shim::prelude::*;
+use crate::proved::lexer::faults::{LexError, LexFault};
+use crate::proved::lexer::scan::classes::{is_confusing, is_hex, is_hex_digit};
+use crate::proved::lexer::scan::plain::{is_plain, plain_len};
+use crate::proved::lexer::settings::Settings;
+use core::str::Chars;
+
+/// What is wrong with a string, and how many bytes are left from the place where it is reported.
+#[derive(Clone, Copy)]
+pub struct Broken {
+    pub left: usize,
+    pub error: LexError,
+}
+
+/// What an escape stands for.
+#[derive(Clone, Copy)]
+pub enum EscapeValue {
+    Byte(u8),
+    Scalar(char),
+}
+
+/// # Proved
+///
+/// ```text
+/// ensures { result ≡ is_control c }
+/// ```
+fn is_control(c: char) -> bool {
+    (c as u32) < 0x20 || c as u32 == 0x7f
+}
+
+/// What a letter stands for behind a backslash.
+///
+/// # Proved
+///
+/// ```text
+/// ensures { result ≡ letter_value c }
+/// ```
+fn letter(c: char) -> Option<u8> {
+    match c {
+        '"' => Some(b'"'),
+        '\'' => Some(b'\''),
+        '\\' => Some(b'\\'),
+        't' => Some(b'\t'),
+        'n' => Some(b'\n'),
+        'r' => Some(b'\r'),
+        _ => None,
+    }
+}
+
+/// # Proved
+///
+/// ```text
+/// requires { is_hex c ≡ true }
+/// ensures value { result ≡ digit_value c }
+/// ensures small { result < 16 }
+/// ```
+fn hex_digit(c: char) -> u32 {
+    match c {
+        'a'..='f' => c as u32 - 87,
+        'A'..='F' => c as u32 - 55,
+        _ => c as u32 - 48,
+    }
+}
+
+/// A refusal.
+///
+/// # Proved
+///
+/// ```text
+/// ensures { result ≡ Err (record { left = left; error = error }) }
+/// ```
+fn refuse<T>(left: usize, error: LexError) -> Result<T, Broken> {
+    Err(Broken { left, error })
+}
+
+/// The second hexadecimal digit of an escape.
+///
+/// # Proved
+///
+/// ```text
+/// requires utf8 { IsUtf8 (chars_rest it.old) }
+/// requires hex { is_hex first ≡ true }
+/// ensures ok { IfOk result (λ e.
+///     Escaped flags (92 ∷ first ∷ [])
+///     (chars_rest it.old) (chars_rest it.new) (escape_bytes e)) }
+/// ensures err { IfErr result (Breaks flags (92 ∷ first ∷ []) (chars_rest it.old)) }
+/// ```
+fn second(it: &mut Chars<'_>, first: char, flags: Settings) -> Result<EscapeValue, Broken> {
+    let left = it.as_str().len();
+    let Some(c) = it.next() else {
+        return refuse(0, LexError::UnexpectedEof);
+    };
+    if !is_hex(c) {
+        return refuse(left, LexError::InvalidHexDigit(c));
+    }
+    let value = 16 * hex_digit(first) + hex_digit(c);
+    Ok(EscapeValue::Byte(value as u8))
+}
+
+/// The character of a number, from its digits and underscores by themselves,
+/// unless they end in an underscore.
+///
+/// # Proved
+///
+/// ```text
+/// ensures { IsRowValue n underscore last result }
+/// ```
+fn row_value(n: u32, underscore: bool, last: usize) -> Result<char, Broken> {
+    if underscore {
+        return refuse(last, LexError::LoneUnderscore);
+    }
+    match char::from_u32(n) {
+        Some(c) => Ok(c),
+        None => refuse(last, LexError::InvalidUnicodeValue(n)),
+    }
+}
+
+/// The escape of a number's character, unless another character than a brace follows the digits.
+///
+/// # Proved
+///
+/// ```text
+/// ensures { Ends c left value result }
+/// ```
+fn ended(c: char, left: usize, value: char) -> Result<EscapeValue, Broken> {
+    if c != '}' {
+        let error = LexError::Expected {
+            wanted: '}',
+            found: c,
+        };
+        return refuse(left, error);
+    }
+    Ok(EscapeValue::Scalar(value))
+}
+
+/// A number with one hexadecimal digit more, unless it takes more than 32 bits.
+///
+/// # Proved
+///
+/// ```text
+/// requires { is_hex digit ≡ true }
+/// ensures ok { IfOk result (λ m. m ≡ n * 16 + digit_value digit) }
+/// ensures err { IfErr result (λ broken.
+///     (2 ^ 32 ≤ n * 16 + digit_value digit)
+///     × (broken ≡ record { left = left; error = NumberTooBig })) }
+/// ```
+fn with_digit(n: u32, digit: char, left: usize) -> Result<u32, Broken> {
+    let wide = n as u64 * 16 + hex_digit(digit) as u64;
+    if wide >= 0x1_0000_0000 {
+        return refuse(left, LexError::NumberTooBig);
+    }
+    Ok(wide as u32)
+}
+
+/// What follows the first digit of a number behind `\u{`.
+///
+/// # Proved
+///
+/// ```text
+/// requires utf8 { IsUtf8 (chars_rest it.old) }
+/// requires hex { is_hex first ≡ true }
+/// ensures ok { IfOk result (λ e.
+///     Escaped flags (92 ∷ 117 ∷ 123 ∷ first ∷ [])
+///     (chars_rest it.old) (chars_rest it.new) (escape_bytes e)) }
+/// ensures err { IfErr result (Breaks flags (92 ∷ 117 ∷ 123 ∷ first ∷ []) (chars_rest it.old)) }
+/// ```
+fn number(it: &mut Chars<'_>, first: char, flags: Settings) -> Result<EscapeValue, Broken> {
+    let mut n = hex_digit(first);
+    let mut underscore = false;
+    let mut last = 0usize;
+    'row: loop {
+        let left = it.as_str().len();
+        let Some(c) = it.next() else {
+            row_value(n, underscore, last)?;
+            return refuse(0, LexError::UnexpectedEof);
+        };
+        if c == '_' && underscore && flags.strict {
+            return refuse(left, LexError::LoneUnderscore);
+        }
+        if is_hex(c) {
+            n = with_digit(n, c, left)?;
+        } else if c != '_' {
+            return ended(c, left, row_value(n, underscore, last)?);
+        }
+        underscore = c == '_';
+        last = left;
+    }
+}
+
+/// What follows `\u{`.
+///
+/// # Proved
+///
+/// ```text
+/// requires utf8 { IsUtf8 (chars_rest it.old) }
+/// ensures ok { IfOk result (λ e.
+///     Escaped flags (92 ∷ 117 ∷ 123 ∷ [])
+///     (chars_rest it.old) (chars_rest it.new) (escape_bytes e)) }
+/// ensures err { IfErr result (Breaks flags (92 ∷ 117 ∷ 123 ∷ []) (chars_rest it.old)) }
+/// ```
+fn digits(it: &mut Chars<'_>, flags: Settings) -> Result<EscapeValue, Broken> {
+    let left = it.as_str().len();
+    let Some(c) = it.next() else {
+        return refuse(0, LexError::UnexpectedEof);
+    };
+    if !is_hex(c) {
+        return refuse(left, LexError::InvalidHexDigit(c));
+    }
+    number(it, c, flags)
+}
+
+/// What follows `\u`.
+///
+/// # Proved
+///
+/// ```text
+/// requires utf8 { IsUtf8 (chars_rest it.old) }
+/// ensures ok { IfOk result (λ e.
+///     Escaped flags (92 ∷ 117 ∷ [])
+///     (chars_rest it.old) (chars_rest it.new) (escape_bytes e)) }
+/// ensures err { IfErr result (Breaks flags (92 ∷ 117 ∷ []) (chars_rest it.old)) }
+/// ```
+fn braced(it: &mut Chars<'_>, flags: Settings) -> Result<EscapeValue, Broken> {
+    let left = it.as_str().len();
+    let Some(c) = it.next() else {
+        return refuse(0, LexError::UnexpectedEof);
+    };
+    if c != '{' {
+        let error = LexError::Expected {
+            wanted: '{',
+            found: c,
+        };
+        return refuse(left, error);
+    }
+    digits(it, flags)
+}
+
+/// What follows a backslash.
+///
+/// # Proved
+///
+/// ```text
+/// requires utf8 { IsUtf8 (chars_rest it.old) }
+/// ensures ok { IfOk result (λ e.
+///     Escaped flags (92 ∷ [])
+///     (chars_rest it.old) (chars_rest it.new) (escape_bytes e)) }
+/// ensures err { IfErr result (Breaks flags (92 ∷ []) (chars_rest it.old)) }
+/// ```
+pub fn escape(it: &mut Chars<'_>, flags: Settings) -> Result<EscapeValue, Broken> {
+    let left = it.as_str().len();
+    let Some(c) = it.next() else {
+        return refuse(0, LexError::UnexpectedEof);
+    };
+    if let Some(byte) = letter(c) {
+        return Ok(EscapeValue::Byte(byte));
+    }
+    if is_hex(c) {
+        return second(it, c, flags);
+    }
+    if c != 'u' {
+        return refuse(left, LexError::InvalidStringEscape(c));
+    }
+    braced(it, flags)
+}
+
+/// Whether an escape of two hexadecimal digits stands at the start.
+///
+/// # Proved
+///
+/// ```text
+/// ensures { MatchBool result (BeginsByteEscape text.now) (BeginsByteEscape text.now → ⊥) }
+/// ```
+fn is_byte_escape(text: &[u8]) -> bool {
+    match text {
+        // `&`, since a branch between digits that may be any is often guessed wrong
+        [b'\\', first, second, ..] => is_hex_digit(*first) & is_hex_digit(*second),
+        _ => false,
+    }
+}
+
+/// A fault so many bytes from the start of what is read.
+///
+/// # Proved
+///
+/// ```text
+/// ensures { result ≡ Err (record { offset = offset; error = error }) }
+/// ```
+fn fault_at(offset: usize, error: LexError) -> Result<usize, LexFault> {
+    Err(LexFault { offset, error })
+}
+
+/// How many bytes the element of a string takes that stands at the start.
+///
+/// # Proved
+///
+/// ```text
+/// requires open { slice_index text.now 0 ≢ 34 }
+/// ensures ok { IfOk result (ElementTaken flags text.now) }
+/// ensures err { IfErr result (StringRefused flags text.now) }
+/// ```
+fn element_len(text: &str, flags: Settings) -> Result<usize, LexFault> {
+    let mut it = text.chars();
+    let Some(c) = it.next() else {
+        return fault_at(0, LexError::UnexpectedEof);
+    };
+    if c == '\\' {
+        if let Err(broken) = escape(&mut it, flags) {
+            return fault_at(text.len() - broken.left, broken.error);
+        }
+    } else if is_control(c) {
+        return fault_at(0, LexError::InvalidStringElement(c));
+    } else if !flags.allow && is_confusing(c) {
+        return fault_at(0, LexError::ConfusingUnicode(c));
+    }
+    Ok(text.len() - it.as_str().len())
+}
+
+/// How many bytes the elements of a string and its closing quote take, behind its opening quote.
+///
+/// # Proved
+///
+/// ```text
+/// ensures ok { IfOk result (StringTaken flags text.now) }
+/// ensures err { IfErr result (StringRefused flags text.now) }
+/// ```
+pub fn string_len(text: &str, flags: Settings) -> Result<usize, LexFault> {
+    let bytes = text.as_bytes();
+    let mut at = 0;
+    'elements: loop {
+        match &bytes[at..] {
+            [b'"', ..] => return Ok(at + 1),
+            [first, ..] if is_plain(*first) => at += plain_len(&bytes[at..]),
+            rest if is_byte_escape(rest) => at += 3,
+            _ => match element_len(&text[at..], flags) {
+                Ok(len) => at += len,
+                Err(fault) => return fault_at(at + fault.offset, fault.error),
+            },
+        }
+    }
+}

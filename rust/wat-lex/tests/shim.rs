@@ -1,0 +1,407 @@
+//! What the shim answers, and what it leaves where a request for memory is refused: each request in turn.
+
+use std::alloc::{GlobalAlloc, Layout, System};
+use std::cell::Cell;
+use std::collections::BTreeMap as StdMap;
+use std::ptr::null_mut;
+use wat_lex::proved::lexer::{Lexer, TokenKind};
+use wat_lex::shim::alloc::{AllocError, AllocFailed, Global};
+use wat_lex::shim::borrow::{CowSlice, CowStr};
+use wat_lex::shim::boxed::Box;
+use wat_lex::shim::collections::BTreeMap;
+use wat_lex::shim::smallvec::SmallVec;
+use wat_lex::shim::string::{JoinIn, String};
+use wat_lex::shim::unicode_width::{UnicodeWidthStr, char_iter_width};
+use wat_lex::shim::vec::Vec;
+
+/// An allocator that refuses each request of a thread after those that are granted.
+struct Refusing;
+
+thread_local! {
+    static GRANTED: Cell<usize> = const { Cell::new(usize::MAX) };
+    static ASKED: Cell<usize> = const { Cell::new(0) };
+}
+
+fn is_refused() -> bool {
+    ASKED.set(ASKED.get() + 1);
+    ASKED.get() > GRANTED.get()
+}
+
+// SAFETY: each block is the system's.
+unsafe impl GlobalAlloc for Refusing {
+    unsafe fn alloc(&self, layout: Layout) -> *mut u8 {
+        if is_refused() {
+            return null_mut();
+        }
+        unsafe { System.alloc(layout) }
+    }
+
+    unsafe fn dealloc(&self, block: *mut u8, layout: Layout) {
+        unsafe { System.dealloc(block, layout) }
+    }
+
+    unsafe fn realloc(&self, block: *mut u8, layout: Layout, size: usize) -> *mut u8 {
+        if is_refused() {
+            return null_mut();
+        }
+        unsafe { System.realloc(block, layout, size) }
+    }
+}
+
+#[global_allocator]
+static ALLOCATOR: Refusing = Refusing;
+
+/// What a call answers where so many requests are granted, and how many it makes.
+fn granting<T>(granted: usize, call: impl FnOnce() -> T) -> (T, usize) {
+    ASKED.set(0);
+    GRANTED.set(granted);
+    let answer = call();
+    GRANTED.set(usize::MAX);
+    (answer, ASKED.get())
+}
+
+fn refusing<T>(call: impl FnOnce() -> T) -> T {
+    let (answer, asked) = granting(0, call);
+    assert!(asked > 0, "no request was made");
+    answer
+}
+
+/// What a call answers that makes no request.
+fn without_memory<T>(call: impl FnOnce() -> T) -> T {
+    let (answer, asked) = granting(0, call);
+    assert_eq!(asked, 0, "a request was made");
+    answer
+}
+
+fn vec_of(items: &[u32]) -> Vec<u32> {
+    let mut all = Vec::with_capacity(Global, items.len()).unwrap();
+    without_memory(|| all.extend_from_slice(items)).unwrap();
+    all
+}
+
+#[test]
+fn a_vector_is_as_it_was_where_a_push_is_refused() {
+    let mut items = without_memory(|| Vec::new(Global));
+    assert_eq!(refusing(|| items.push(7)), Err(AllocFailed { value: 7 }));
+    assert_eq!(items.as_slice(), []);
+    items.push(7).unwrap();
+    let mut items = vec_of(&[1, 2, 3]);
+    assert_eq!(refusing(|| items.push(4)), Err(AllocFailed { value: 4 }));
+    assert_eq!(items.as_slice(), [1, 2, 3]);
+    items.push(4).unwrap();
+    assert_eq!(items.as_slice(), [1, 2, 3, 4]);
+    assert_eq!(AllocError::from(AllocFailed { value: 4 }), AllocError);
+}
+
+#[test]
+fn a_vector_takes_its_room_at_once() {
+    assert_eq!(
+        refusing(|| Vec::<u32>::with_capacity(Global, 3)),
+        Err(AllocError)
+    );
+    assert_eq!(
+        without_memory(|| Vec::<u32>::with_capacity(Global, 0)),
+        Ok(Vec::new(Global))
+    );
+    assert_eq!(
+        Vec::<u32>::with_capacity(Global, usize::MAX),
+        Err(AllocError)
+    );
+    let mut items = vec_of(&[1]);
+    assert_eq!(refusing(|| items.reserve(5)), Err(AllocError));
+    assert_eq!(items.as_slice(), [1]);
+    assert_eq!(items.reserve(usize::MAX), Err(AllocError));
+    items.reserve(5).unwrap();
+    without_memory(|| items.extend_from_slice(&[2, 3, 4, 5, 6])).unwrap();
+    assert_eq!(items.as_slice(), [1, 2, 3, 4, 5, 6]);
+}
+
+#[test]
+fn a_vector_is_as_it_was_where_items_are_refused() {
+    let mut items = vec_of(&[1, 2]);
+    assert_eq!(
+        refusing(|| items.extend_from_slice(&[3, 4])),
+        Err(AllocError)
+    );
+    assert_eq!(items.as_slice(), [1, 2]);
+    assert_eq!(refusing(|| Vec::repeated(Global, 9, 3)), Err(AllocError));
+    assert_eq!(Vec::repeated(Global, 9, 3).unwrap().as_slice(), [9, 9, 9]);
+    without_memory(|| items.extend_from_slice(&[])).unwrap();
+    assert_eq!(without_memory(|| items.pop()), Some(2));
+    without_memory(|| items.truncate(5));
+    assert_eq!(items.as_slice(), [1]);
+    without_memory(|| items.clear());
+    assert_eq!(without_memory(|| items.pop()), None);
+}
+
+#[test]
+fn a_text_is_as_it_was_where_more_is_refused() {
+    let mut text = without_memory(|| String::new(Global));
+    assert_eq!(refusing(|| text.push('é')), Err(AllocError));
+    assert_eq!(text.as_str(), "");
+    let mut text = String::from_str(Global, "ab").unwrap();
+    assert_eq!(
+        refusing(|| text.push_str("cdefghijklmnopqrstuvwxyz")),
+        Err(AllocError)
+    );
+    assert_eq!(text.as_str(), "ab");
+    text.push_str("cd").unwrap();
+    text.push('é').unwrap();
+    assert_eq!(text.as_str(), "abcdé");
+    assert_eq!(refusing(|| text.clone()), Err(AllocError));
+    assert_eq!(text.clone().unwrap(), text);
+    assert_eq!(refusing(|| String::from_str(Global, "a")), Err(AllocError));
+    assert_eq!(
+        refusing(|| String::with_capacity(Global, 8)),
+        Err(AllocError)
+    );
+    let mut text = String::with_capacity(Global, 8).unwrap();
+    without_memory(|| text.push_str("12345678")).unwrap();
+    assert_eq!(format!("{text} {text:?}"), "12345678 \"12345678\"");
+}
+
+#[test]
+fn what_is_printed_into_a_text_stays_up_to_the_refusal() {
+    let mut text = String::from_str(Global, "a").unwrap();
+    let long = "b".repeat(100);
+    let (answer, _) = granting(1, || write!(text, "{}{long}", 1));
+    assert!(answer.is_err());
+    assert_eq!(text.as_str(), "a1");
+    write!(text, "{long}").unwrap();
+    assert_eq!(text.len(), 102);
+}
+
+#[test]
+fn bytes_become_a_text_without_memory() {
+    let mut bytes = Vec::new(Global);
+    bytes.extend_from_slice("é".as_bytes()).unwrap();
+    assert_eq!(
+        without_memory(|| String::from_utf8(bytes))
+            .unwrap()
+            .as_str(),
+        "é"
+    );
+    let mut bytes = Vec::new(Global);
+    bytes.extend_from_slice(&[b'a', 0xff]).unwrap();
+    let error = without_memory(|| String::from_utf8(bytes)).unwrap_err();
+    assert_eq!(error.bytes.as_slice(), [b'a', 0xff]);
+}
+
+#[test]
+fn texts_are_joined_or_refused() {
+    let texts = ["one", "two", "three"];
+    let (joined, asked) = granting(usize::MAX, || texts.join_in(Global, ", "));
+    assert_eq!(joined.unwrap().as_str(), "one, two, three");
+    for granted in 0..asked {
+        assert_eq!(
+            granting(granted, || texts.join_in(Global, ", ")).0,
+            Err(AllocError)
+        );
+    }
+    assert_eq!(
+        without_memory(|| [""; 0].join_in(Global, ", "))
+            .unwrap()
+            .as_str(),
+        ""
+    );
+}
+
+/// Counts itself where it is dropped.
+#[derive(Debug)]
+struct Counted<'a>(&'a Cell<usize>);
+
+impl Drop for Counted<'_> {
+    fn drop(&mut self) {
+        self.0.set(self.0.get() + 1);
+    }
+}
+
+#[test]
+fn a_value_comes_back_where_its_box_is_refused() {
+    let dropped = Cell::new(0);
+    let failed = refusing(|| Box::new(Global, Counted(&dropped))).unwrap_err();
+    assert_eq!(dropped.get(), 0);
+    let (boxed, asked) = granting(usize::MAX, || Box::new(Global, failed.value));
+    assert_eq!((dropped.get(), asked), (0, 1));
+    drop(boxed.unwrap());
+    assert_eq!(dropped.get(), 1);
+    let mut number = Box::new(Global, 5).unwrap();
+    *number += 1;
+    assert_eq!((*number, format!("{number:?}")), (6, "6".to_owned()));
+    without_memory(|| Box::new(Global, ())).unwrap();
+}
+
+#[test]
+fn what_is_borrowed_takes_memory_to_be_owned() {
+    assert_eq!(
+        refusing(|| CowStr::Borrowed("a").into_owned(Global)),
+        Err(AllocError)
+    );
+    let owned = CowStr::Owned(CowStr::Borrowed("a").into_owned(Global).unwrap());
+    assert_eq!((owned.as_str(), &owned), ("a", &CowStr::Borrowed("a")));
+    assert_eq!(
+        without_memory(|| owned.into_owned(Global))
+            .unwrap()
+            .as_str(),
+        "a"
+    );
+    let items = CowSlice::Owned(vec_of(&[1, 2]));
+    assert_eq!(
+        (items.as_slice(), &items),
+        (&[1, 2][..], &CowSlice::Borrowed(&[1, 2]))
+    );
+}
+
+#[test]
+fn a_small_vector_takes_memory_past_its_own_room() {
+    let mut items = without_memory(|| SmallVec::<u32, 4>::new(Global));
+    for item in 0..4 {
+        without_memory(|| items.push(item)).unwrap();
+    }
+    assert_eq!(refusing(|| items.push(4)), Err(AllocFailed { value: 4 }));
+    assert_eq!(items.as_slice(), [0, 1, 2, 3]);
+    items.push(4).unwrap();
+    assert_eq!(items.as_slice(), [0, 1, 2, 3, 4]);
+}
+
+#[test]
+fn a_map_is_as_it_was_where_a_pair_is_refused() {
+    let mut map = without_memory(|| BTreeMap::new(Global));
+    for (key, value) in [(2, "two"), (1, "one"), (3, "three"), (5, "five")] {
+        assert_eq!(map.insert(key, value), Ok(None));
+    }
+    assert_eq!(without_memory(|| map.insert(2, "zwei")), Ok(Some("two")));
+    assert_eq!(refusing(|| map.insert(4, "four")), Err(AllocError));
+    assert_eq!(
+        (map.len(), map.get(&4), map.get(&5)),
+        (4, None, Some(&"five"))
+    );
+    assert_eq!(without_memory(|| map.remove(&1)), Some("one"));
+    assert_eq!(
+        (map.remove(&1), map.len(), map.is_empty()),
+        (None, 3, false)
+    );
+}
+
+#[test]
+fn a_map_answers_as_that_of_rust() {
+    let (mut ours, mut theirs) = (BTreeMap::new(Global), StdMap::new());
+    let mut random = 1u64;
+    for step in 0..20_000u64 {
+        random = random
+            .wrapping_mul(6_364_136_223_846_793_005)
+            .wrapping_add(1);
+        let key = (random >> 40) % 200;
+        match random >> 33 & 3 {
+            0 => assert_eq!(ours.remove(&key), theirs.remove(&key)),
+            1 => assert_eq!(ours.get_mut(&key), theirs.get_mut(&key)),
+            _ => assert_eq!(ours.insert(key, step).unwrap(), theirs.insert(key, step)),
+        }
+        assert_eq!(
+            (ours.len(), ours.get(&key)),
+            (theirs.len(), theirs.get(&key))
+        );
+    }
+}
+
+/// Texts of characters that are measured together, among those that are not.
+fn measured_text(random: &mut u64, count: usize) -> std::string::String {
+    const PIECES: [&str; 14] = [
+        "a",
+        "Z",
+        " ",
+        "1",
+        "1\u{fe0f}\u{20e3}",
+        "é",
+        "世",
+        "\u{1f600}",
+        "\u{1f468}\u{200d}\u{1f469}",
+        "\u{fe0f}",
+        "\u{200d}",
+        "\u{17d2}\u{1780}",
+        "\u{644}\u{627}",
+        "\r",
+    ];
+    let mut text = std::string::String::new();
+    for _ in 0..count {
+        *random = random
+            .wrapping_mul(6_364_136_223_846_793_005)
+            .wrapping_add(1);
+        text += PIECES[(*random >> 33) as usize % PIECES.len()];
+    }
+    text
+}
+
+#[test]
+fn characters_have_the_width_of_their_text() {
+    let mut random = 3;
+    for count in (0..40).cycle().take(20_000) {
+        let text = measured_text(&mut random, count);
+        assert_eq!(
+            without_memory(|| char_iter_width(text.chars())),
+            text.width(),
+            "{text:?}"
+        );
+    }
+    for text in [
+        "世\u{1f468}\u{200d}\u{1f469}".repeat(700),
+        "\u{1f468}\u{200d}".repeat(5_000),
+        "é ".repeat(5_000),
+    ] {
+        assert_eq!(char_iter_width(text.chars()), text.width());
+    }
+    let wide = "世".repeat(5_000);
+    assert_eq!(
+        granting(0, || char_iter_width(wide.chars())).0,
+        wide.width()
+    );
+}
+
+/// What is read of a text, from the lexer up to the printed error; `None` where memory was refused.
+fn read_all(text: &str) -> Option<std::vec::Vec<std::string::String>> {
+    let lexer = Lexer::new(text);
+    let (mut pos, mut found) = (0, [0usize; 4]);
+    let error = loop {
+        let token = match lexer.parse(Global, &mut pos) {
+            Ok(None) => break None,
+            Ok(Some(token)) => token,
+            Err(error) => break Some(error),
+        };
+        match token.kind {
+            TokenKind::String => found[0] += token.string(Global, text).ok()?.len(),
+            TokenKind::Id => match token.name(Global, text).ok()? {
+                Ok(name) => found[1] += name.len(),
+                Err(_) => found[1] += 1000,
+            },
+            TokenKind::Integer(kind) => {
+                found[2] += token.integer(Global, text, kind).ok()?.val().0.len()
+            }
+            TokenKind::Float(kind) => drop(token.float(Global, text, kind).ok()?),
+            _ => found[3] += 1,
+        }
+    };
+    let message = match &error {
+        Some(error) if error.is_out_of_memory() => return None,
+        Some(error) => Some(error.message(Global).ok()?),
+        None => None,
+    };
+    // What the test itself takes is granted.
+    GRANTED.set(usize::MAX);
+    let (printed, message) = (
+        error.map(|error| error.to_string()),
+        message.map(|text| text.as_str().to_owned()),
+    );
+    Some(std::vec![format!("{found:?} {printed:?} {message:?}")])
+}
+
+#[test]
+fn the_lexer_answers_each_refused_request() {
+    let text = "(module $\"a\\62\" 1_000 0x1_0 \"x\\79\" 0x1.8p3 1_0.5 $b)\t\"é\u{1f600} \\q\"";
+    let wanted = read_all(text).unwrap();
+    assert!(wanted[0].contains("escape"), "{wanted:?}");
+    let refused = (0..)
+        .take_while(|granted| granting(*granted, || read_all(text)).0.is_none())
+        .count();
+    assert!(refused >= 8, "{refused}");
+    assert_eq!(granting(refused, || read_all(text)).0, Some(wanted));
+}

@@ -1,0 +1,638 @@
+// Made by tools/erase from crates/wat_lexer_parser/src/parser/table_ref.rt; do not edit.
+//! A text and its table, as parsers read them.
+
+use wat_lex::shim::prelude::*;
+use crate::proved::parser::fault::{Fault, FaultKind, Step};
+use crate::proved::parser::names::Names;
+use crate::proved::parser::table::{Table, find, is_annotation, is_quoted};
+use wat_lex::shim::alloc::Global;
+
+use wat_lex::proved::error::Error;
+use wat_lex::proved::lexer::{LexError, LexFault, Settings, Token, TokenKind};
+use wat_lex::proved::token::Span;
+
+/// The text and the table of a buffer, lent to a parser.
+///
+/// It holds references at one lifetime, that of the loan, and no buffer: so a buffer that is a
+/// local variable can be lent to its parsers.
+pub struct TableRef<'a> {
+    text: &'a str,
+    settings: Settings,
+    track: bool,
+    table: &'a Table,
+    alloc: Global,
+}
+
+impl<'a> TableRef<'a> {
+    /// # Proved
+    ///
+    /// ```text
+    /// requires short { length text.now < 2 ^ 32 }
+    /// requires table { IsTable
+    ///     (record {
+    ///       setting = record { text = text.now; flags = settings };
+    ///       track = track;
+    ///       tokens = table.now.tokens.items;
+    ///       ending = table.now.fault;
+    ///     })
+    ///     table.now.opens.items (map name_view table.now.names.items) table.now.starts.items
+    ///     table.now.closes.items }
+    /// ensures { result ≡ record {
+    ///   setting = record { text = text.now; flags = settings };
+    ///   track = track;
+    ///   tokens = table.now.tokens.items;
+    ///   ending = table.now.fault;
+    /// } }
+    /// ```
+    pub fn new(
+        text: &'a str,
+        settings: Settings,
+        track: bool,
+        table: &'a Table,
+        alloc: Global,
+    ) -> TableRef<'a> {
+        TableRef {
+            text,
+            settings,
+            track,
+            table,
+            alloc,
+        }
+    }
+
+    /// The tokens are those of the text, and so many at most.
+    ///
+    /// # Proved
+    ///
+    /// ```text
+    /// ensures read { IsRead self.now }
+    /// ensures small { length self.now.tokens < 2 ^ 63 }
+    /// ```
+    pub fn is_read(&self) {
+        let _count = self.table.tokens.len();
+    }
+
+    /// # Proved
+    ///
+    /// ```text
+    /// ensures { result ≡ self.now.track }
+    /// ```
+    pub fn tracks(&self) -> bool {
+        self.track
+    }
+
+    /// # Proved
+    ///
+    /// ```text
+    /// ensures text { result.now ≡ self.now.setting.text }
+    /// ensures utf8 { IsUtf8 self.now.setting.text }
+    /// ensures short { length self.now.setting.text < 2 ^ 32 }
+    /// ```
+    pub fn text(&self) -> &'a str {
+        self.text
+    }
+
+    pub fn alloc(&self) -> Global {
+        self.alloc
+    }
+}
+
+/// The fault that is shown where the text has one.
+///
+/// # Proved
+///
+/// ```text
+/// ensures { result ≡ record { offset = fault.offset; kind = Lex fault.error } }
+/// ```
+fn lexical(fault: LexFault) -> Fault {
+    Fault {
+        offset: fault.offset,
+        kind: FaultKind::Lex(fault.error),
+    }
+}
+
+/// Whether tokens of the kind are never shown.
+///
+/// # Proved
+///
+/// ```text
+/// ensures { result ≡ is_blank kind }
+/// ```
+fn is_blank(kind: TokenKind) -> bool {
+    match kind {
+        TokenKind::Whitespace | TokenKind::LineComment | TokenKind::BlockComment => true,
+        _ => false,
+    }
+}
+
+/// Whether a token is neither white space nor a comment.
+///
+/// # Proved
+///
+/// ```text
+/// ensures { result ≡ list_any (λ t. not (is_blank t.kind)) tokens.now }
+/// ```
+fn any_counts(tokens: &[Token]) -> bool {
+    tokens.iter().any(|token| !is_blank(token.kind))
+}
+
+/// # Proved
+///
+/// ```text
+/// ensures { result ≡ is_space kind }
+/// ```
+fn is_space(kind: TokenKind) -> bool {
+    matches!(kind, TokenKind::Whitespace)
+}
+
+/// # Proved
+///
+/// ```text
+/// ensures { result ≡ is_comment kind }
+/// ```
+fn is_comment(kind: TokenKind) -> bool {
+    matches!(kind, TokenKind::LineComment | TokenKind::BlockComment)
+}
+
+/// What an annotation of this name means for the parenthesis before it.
+///
+/// # Proved
+///
+/// ```text
+/// ensures { result ≡ step_named names.now token (Some (Ok name.now)) }
+/// ```
+fn step_by(name: &str, token: Token, names: &Names) -> Step {
+    if names.is_registered(name) {
+        Step::Take
+    } else {
+        Step::Skip
+    }
+}
+
+/// What an annotation means whose name is at fault.
+///
+/// # Proved
+///
+/// ```text
+/// ensures { result ≡ Refuse (record { offset = token.offset; kind = Lex error }) }
+/// ```
+fn step_refused(error: LexError, token: Token) -> Step {
+    Step::Refuse(Fault {
+        offset: token.offset,
+        kind: FaultKind::Lex(error),
+    })
+}
+
+/// What an annotation means whose name is noted.
+///
+/// # Proved
+///
+/// ```text
+/// ensures { result ≡ step_named names.now token (Some (written_view name.now)) }
+/// ```
+fn step_written(name: &Result<String, LexError>, token: Token, names: &Names) -> Step {
+    match name {
+        Ok(name) => step_by(name.as_str(), token, names),
+        Err(error) => step_refused(*error, token),
+    }
+}
+
+// A look, which takes no memory.
+impl<'a> TableRef<'a> {
+    /// The raw token at a place.
+    ///
+    /// # Proved
+    ///
+    /// ```text
+    /// ensures value { result ≡ slice_get self.now.tokens place }
+    /// ensures within { IfSome result (λ t. place < length self.now.tokens) }
+    /// ensures small { length self.now.tokens < 2 ^ 63 }
+    /// ```
+    pub fn token_at(&self, place: usize) -> Option<Token> {
+        self.table.tokens.get(place).copied()
+    }
+
+    /// The token at a place is one for the readers.
+    ///
+    /// # Proved
+    ///
+    /// ```text
+    /// requires { slice_get self.now.tokens place ≡ Some token }
+    /// ensures token { IsTokenOf self.now.setting.text token }
+    /// ensures short { token.offset + token.len < 2 ^ 32 }
+    /// ```
+    pub fn is_readable(&self, place: usize, token: Token) {
+        let _count = self.table.tokens.len();
+    }
+
+    /// Whether the byte behind the token's first is `@`.
+    ///
+    /// # Proved
+    ///
+    /// ```text
+    /// requires { token.offset < 2 ^ 32 }
+    /// ensures { result ≡ is_marked self.now.setting.text token }
+    /// ```
+    fn is_marked(&self, token: Token) -> bool {
+        match self.text().as_bytes().get(token.offset + 1) {
+            Some(byte) => *byte == b'@',
+            None => false,
+        }
+    }
+
+    /// What the name of an annotation means that is a part of the text.
+    ///
+    /// # Proved
+    ///
+    /// ```text
+    /// requires token { IsTokenOf self.now.setting.text token }
+    /// requires kind { token.kind ≡ Annotation }
+    /// requires plain { HasNoEscape (word_of self.now.setting.text token) }
+    /// ensures { result ≡ step_named names.now token (name_at self.now.setting.text token) }
+    /// ```
+    fn step_in_text(&self, token: Token, names: &Names) -> Step {
+        match token.name(self.alloc, self.text()) {
+            Ok(Ok(name)) => step_by(name.as_str(), token, names),
+            Ok(Err(error)) => step_refused(error, token),
+            Err(_) => unreachable!(),
+        }
+    }
+
+    /// What the name of the annotation means whose parenthesis stands at a place.
+    // It stays a call, so that a look at any other token is small.
+    /// # Proved
+    ///
+    /// ```text
+    /// requires within { place < 2 ^ 63 }
+    /// requires head { (u : Token) × HeadsAnnotation self.now.tokens place u }
+    /// ensures { result ≡ step_next self.now.setting.text names.now
+    ///     (slice_get self.now.tokens (place + 1)) }
+    /// ```
+    #[inline(never)]
+    fn step_named(&self, place: usize, names: &Names) -> Step {
+        let Some(token) = self.token_at(place + 1) else {
+            return Step::Finish;
+        };
+        self.is_readable(place + 1, token);
+        match find(&self.table.opens, &self.table.starts, place) {
+            Some(i) => match &self.table.names[i] {
+                Some(name) => step_written(name, token, names),
+                None => self.step_in_text(token, names),
+            },
+            None => Step::Take,
+        }
+    }
+
+    /// Whether the annotation at a place is skipped since no name is registered and it has one. It is
+    /// told without its name, and false tells nothing.
+    ///
+    /// # Proved
+    ///
+    /// ```text
+    /// requires token { slice_get self.now.tokens place ≡ Some token }
+    /// requires kind { token.kind ≡ Annotation }
+    /// ensures { IsTrue result →
+    ///     step_named names.now token (name_at self.now.setting.text token) ≡ Skip }
+    /// ```
+    fn is_unregistered(&self, place: usize, token: Token, names: &Names) -> bool {
+        wat_lex::proved::laws::names();
+        wat_lex::proved::laws::tokens();
+        self.is_readable(place, token);
+        if token.len < 2 {
+            return false;
+        }
+        names.are_none() && !is_quoted(self.text(), token)
+    }
+
+    /// Where the group of the annotation is closed whose parenthesis stands at a place.
+    ///
+    /// # Proved
+    ///
+    /// ```text
+    /// requires { (u : Token) × HeadsAnnotation self.now.tokens place u }
+    /// ensures { Pair self.now.tokens place result }
+    /// ```
+    fn close_of(&self, place: usize) -> Option<usize> {
+        match find(&self.table.opens, &self.table.starts, place) {
+            Some(i) => self.table.closes[i],
+            None => None,
+        }
+    }
+
+    /// What a parenthesis means by the token directly behind it.
+    ///
+    /// # Proved
+    ///
+    /// ```text
+    /// requires within { place < 2 ^ 63 }
+    /// requires short { token.offset < 2 ^ 32 }
+    /// requires token { slice_get self.now.tokens place ≡ Some token }
+    /// requires kind { token.kind ≡ LParen }
+    /// ensures { result ≡ step_kind self.now.setting.text names.now token LParen
+    ///     (slice_get self.now.tokens (place + 1)) }
+    /// ```
+    fn step_open(&self, place: usize, token: Token, names: &Names) -> Step {
+        match self.token_at(place + 1) {
+            Some(next) => match next.kind {
+                TokenKind::Annotation => {
+                    if !self.is_marked(token) {
+                        Step::Take
+                    } else if self.is_unregistered(place + 1, next, names) {
+                        Step::Skip
+                    } else {
+                        self.step_named(place, names)
+                    }
+                }
+                _ => Step::Take,
+            },
+            None => {
+                if self.is_marked(token) {
+                    Step::Finish
+                } else {
+                    Step::Take
+                }
+            }
+        }
+    }
+
+    /// What the token at a place means for a look there.
+    ///
+    /// # Proved
+    ///
+    /// ```text
+    /// requires within { place < 2 ^ 63 }
+    /// requires short { token.offset < 2 ^ 32 }
+    /// requires token { slice_get self.now.tokens place ≡ Some token }
+    /// ensures { result ≡ step_of self.now.setting.text names.now token
+    ///     (slice_get self.now.tokens (place + 1)) }
+    /// ```
+    fn step(&self, place: usize, token: Token, names: &Names) -> Step {
+        match token.kind {
+            TokenKind::Whitespace | TokenKind::LineComment | TokenKind::BlockComment => Step::Pass,
+            TokenKind::LParen => self.step_open(place, token, names),
+            _ => Step::Take,
+        }
+    }
+
+    /// # Proved
+    ///
+    /// ```text
+    /// ensures { result ≡ placed self.now.tokens (ended self.now.ending) }
+    /// ```
+    fn ending(&self) -> Result<Option<(Token, usize)>, Fault> {
+        match self.table.fault {
+            None => Ok(None),
+            Some(fault) => Err(lexical(fault)),
+        }
+    }
+
+    /// # Proved
+    ///
+    /// ```text
+    /// requires { token.offset < 2 ^ 32 }
+    /// ensures { result ≡ placed self.now.tokens (left_open self.now.ending token) }
+    /// ```
+    fn left_open(&self, token: Token) -> Result<Option<(Token, usize)>, Fault> {
+        match self.table.fault {
+            None => Err(Fault {
+                offset: token.offset + 1,
+                kind: FaultKind::Unclosed,
+            }),
+            Some(fault) => Err(lexical(fault)),
+        }
+    }
+
+    /// What is shown at a place, with the place behind it. It takes no memory.
+    ///
+    /// # Proved
+    ///
+    /// ```text
+    /// ensures value { result ≡ shown self.now place names.now }
+    /// ensures on { IfOk result (λ found. IfSome found (λ v.
+    ///     (place < v.1) × (v.1 ≤ length self.now.tokens))) }
+    /// ensures reader { IfOk result (λ found. IfSome found (λ v.
+    ///     IsTokenOf self.now.setting.text v.0)) }
+    /// ensures last { IfOk result (λ found. IfSome found (λ v.
+    ///     slice_get self.now.tokens (v.1 - 1) ≡ Some v.0)) }
+    /// ```
+    pub fn look(&self, place: usize, names: &Names) -> Result<Option<(Token, usize)>, Fault> {
+        let mut i = place;
+        while i < self.table.tokens.len() {
+            let token = self.table.tokens[i];
+            self.is_readable(i, token);
+            match self.step(i, token, names) {
+                Step::Pass => i += 1,
+                Step::Take => return Ok(Some((token, i + 1))),
+                Step::Finish => return self.ending(),
+                Step::Refuse(fault) => return Err(fault),
+                Step::Skip => match self.close_of(i) {
+                    Some(close) => i = close + 1,
+                    None => return self.left_open(token),
+                },
+            }
+        }
+        self.ending()
+    }
+
+    /// The first place from this one on at which neither white space nor a comment stands.
+    ///
+    /// # Proved
+    ///
+    /// ```text
+    /// ensures on { place ≤ result }
+    /// ensures same { (names : NamesOf) →
+    ///     shown self.now place names ≡ shown self.now result names }
+    /// ```
+    fn past_blanks(&self, place: usize) -> usize {
+        let mut i = place;
+        while i < self.table.tokens.len() && is_blank(self.table.tokens[i].kind) {
+            i += 1;
+        }
+        i
+    }
+
+    /// Whether the token at a place is shown whatever names are registered, by its kind and the next
+    /// one's.
+    ///
+    /// # Proved
+    ///
+    /// ```text
+    /// requires within { place < 2 ^ 63 }
+    /// requires token { slice_get self.now.tokens place ≡ Some token }
+    /// ensures { IsTrue result → (names : NamesOf) →
+    ///     step_of self.now.setting.text names token (slice_get self.now.tokens (place + 1))
+    ///     ≡ Take }
+    /// ```
+    fn is_plain(&self, place: usize, token: Token) -> bool {
+        match token.kind {
+            TokenKind::Whitespace | TokenKind::LineComment | TokenKind::BlockComment => false,
+            TokenKind::LParen => match self.token_at(place + 1) {
+                Some(next) => !is_annotation(next.kind),
+                None => false,
+            },
+            _ => true,
+        }
+    }
+
+    /// The number of the token that is shown at a place, where one is. It takes no memory.
+    // What it answers needs no memory, and a look that may have to read a name stays a call.
+    /// # Proved
+    ///
+    /// ```text
+    /// ensures { IfSome result (IsNext self.now place names.now) }
+    /// ```
+    #[inline(always)]
+    pub fn shown_at(&self, place: usize, names: &Names) -> Option<usize> {
+        let i = self.past_blanks(place);
+        match self.token_at(i) {
+            Some(token) => {
+                if self.is_plain(i, token) {
+                    Some(i)
+                } else {
+                    self.number_by_look(place, names)
+                }
+            }
+            None => None,
+        }
+    }
+
+    /// The same, by a look.
+    ///
+    /// # Proved
+    ///
+    /// ```text
+    /// ensures { IfSome result (IsNext self.now place names.now) }
+    /// ```
+    #[inline(never)]
+    fn number_by_look(&self, place: usize, names: &Names) -> Option<usize> {
+        match self.look(place, names) {
+            Ok(Some((_, behind))) => Some(behind - 1),
+            _ => None,
+        }
+    }
+
+    /// The token that was shown at a place, with the place behind it.
+    ///
+    /// # Proved
+    ///
+    /// ```text
+    /// requires { number < length self.now.tokens }
+    /// ensures token { slice_get self.now.tokens number ≡ Some result.0 }
+    /// ensures behind { result.1 ≡ number + 1 }
+    /// ensures reader { IsTokenOf self.now.setting.text result.0 }
+    /// ```
+    pub fn numbered(&self, number: usize) -> (Token, usize) {
+        let token = self.table.tokens[number];
+        self.is_readable(number, token);
+        (token, number + 1)
+    }
+
+    /// The place behind the whitespace token at a place, if one is there.
+    ///
+    /// # Proved
+    ///
+    /// ```text
+    /// requires { place ≤ length self.now.tokens }
+    /// ensures past { past_space (drop place self.now.tokens) ≡ drop result self.now.tokens }
+    /// ensures on { place ≤ result }
+    /// ```
+    fn past_space(&self, place: usize) -> usize {
+        match self.token_at(place) {
+            Some(token) if is_space(token.kind) => place + 1,
+            Some(_) => place,
+            None => place,
+        }
+    }
+
+    /// The comment at a place, with the place behind it. It takes no memory.
+    ///
+    /// # Proved
+    ///
+    /// ```text
+    /// requires { place ≤ length self.now.tokens }
+    /// ensures value { result ≡ comment_at self.now place }
+    /// ensures on { IfOk result (λ found. IfSome found (λ v.
+    ///     (place < v.1) × (v.1 ≤ length self.now.tokens))) }
+    /// ensures reader { IfOk result (λ found. IfSome found (λ v.
+    ///     IsTokenOf self.now.setting.text v.0)) }
+    /// ```
+    pub fn comment_at(&self, place: usize) -> Result<Option<(Token, usize)>, Fault> {
+        let at = self.past_space(place);
+        match self.token_at(at) {
+            Some(token) if is_comment(token.kind) => {
+                self.is_readable(at, token);
+                Ok(Some((token, at + 1)))
+            }
+            Some(_) => Ok(None),
+            None => self.ending(),
+        }
+    }
+
+    /// Whether the text has a token that counts, or a fault.
+    ///
+    /// # Proved
+    ///
+    /// ```text
+    /// ensures { result ≡ is_meaningful self.now }
+    /// ```
+    pub fn is_meaningful(&self) -> bool {
+        any_counts(&self.table.tokens) || self.table.fault.is_some()
+    }
+
+    /// The byte of a place.
+    ///
+    /// # Proved
+    ///
+    /// ```text
+    /// ensures { result ≡ offset_at self.now.tokens place }
+    /// ```
+    pub fn offset_at(&self, place: usize) -> usize {
+        if place == 0 {
+            return 0;
+        }
+        match self.token_at(place - 1) {
+            Some(token) => {
+                self.is_readable(place - 1, token);
+                token.offset + token.len as usize
+            }
+            None => 0,
+        }
+    }
+}
+
+// Errors about the text.
+impl<'a> TableRef<'a> {
+    /// The error of a fault that is shown.
+    ///
+    /// # Proved
+    ///
+    /// ```text
+    /// ensures { IsUnlessMemory result (report_of self.now.setting.text fault) }
+    /// ```
+    #[cold]
+    pub fn error_of(&self, fault: Fault) -> Error {
+        let span = Span::from_offset(fault.offset);
+        match fault.kind {
+            FaultKind::Lex(error) => Error::lex(self.alloc, span, self.text(), error),
+            FaultKind::Unclosed => match String::from_str(self.alloc, "unclosed annotation") {
+                Ok(message) => Error::new(span, message),
+                Err(refused) => Error::from(refused),
+            },
+        }
+    }
+
+    /// The error of a message at a byte of the text.
+    ///
+    /// # Proved
+    ///
+    /// ```text
+    /// ensures { IsUnlessMemory result (message_at self.now span message.now) }
+    /// ```
+    #[cold]
+    pub fn error_at(&self, span: Span, message: &str) -> Error {
+        match String::from_str(self.alloc, message) {
+            Ok(message) => Error::parse(self.alloc, span, self.text(), message),
+            Err(refused) => Error::from(refused),
+        }
+    }
+}

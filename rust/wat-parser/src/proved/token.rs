@@ -1,0 +1,20 @@
+// Made by tools/erase from crates/wat_lexer_parser/src/token.rt; do not edit.
+//! What tokens read as: places, identifiers and indices, numbers, strings and words, as types that a
+//! parser reads and peeks at.
+
+use wat_lex::shim::prelude::*;
+mod containers;
+mod integers;
+mod names;
+mod parens;
+mod references;
+mod strings;
+mod words;
+
+pub use containers::Parens;
+pub use names::NameAnnotation;
+pub use parens::{LParen, RParen};
+pub use references::ItemRef;
+pub use wat_lex::proved::token::{Id, Index, Span};
+pub use crate::words::{Std, StdAnnotation, Word};
+pub use words::{AnnotationWord, Keyword, ReservedSymbol};

@@ -1,0 +1,455 @@
+// Made by tools/erase from crates/wat_lexer_parser/src/token/integers.rt; do not edit.
+//! Integers. Those with a sign take the words of all bits too, as `0xff` for -1 in eight bits.
+
+use wat_lex::shim::prelude::*;
+use crate::proved::parser::{Cursor, Parse, Parser, Peek};
+use wat_lex::proved::error::Error;
+use wat_lex::proved::lexer::{IntegerKind, SignToken, Token, TokenKind};
+use wat_lex::proved::token::Span;
+
+/// Whether an integer begins with `-`.
+///
+/// # Proved
+///
+/// ```text
+/// ensures { result ≡ is_minus (sign_token kind.sign) }
+/// ```
+fn is_negative(kind: IntegerKind) -> bool {
+    kind.sign() == Some(SignToken::Minus)
+}
+
+/// The value of an integer token in a type without a sign, which a word with a minus never has.
+///
+/// # Proved
+///
+/// ```text
+/// requires token { IsTokenOf text.now token.now }
+/// requires kind { token.now.kind ≡ variant.Integer kind }
+/// ensures value { result ≡ unsigned_below (most + 1)
+///     (is_minus (sign_token kind.sign), integer_value kind.hex (word_of text.now token.now)) }
+/// ensures fits { IfSome result (λ n. n ≤ most) }
+/// ```
+fn unsigned_value(text: &str, token: &Token, kind: IntegerKind, most: u64) -> Option<u64> {
+    if is_negative(kind) {
+        return None;
+    }
+    match token.magnitude(text, kind) {
+        Some(n) if n <= most => Some(n),
+        _ => None,
+    }
+}
+
+/// Takes the integer that is shown, with its kind. The message is for where none is.
+///
+/// # Proved
+///
+/// ```text
+/// ensures value { CursorReads (number_told cursor.entry.parser.now.source.setting.text)
+///     (an_integer_word expected.now)
+///     (at_place cursor.entry.parser.now cursor.entry.at) (λ next. next.at) result }
+/// ensures seen { IfOk result (λ v. seen_at (at_place cursor.entry.parser.now cursor.entry.at)
+///     ≡ Ok (Some (v.0.0, v.1.at))) }
+/// ensures token { IfOk result (λ v.
+///     IsTokenOf cursor.entry.parser.now.source.setting.text v.0.0) }
+/// ensures kind { IfOk result (λ v. v.0.0.kind ≡ variant.Integer v.0.1) }
+/// ensures parser { IfOk result (λ v. v.1.parser ≡ cursor.entry.parser) }
+/// ensures on { IfOk result (λ v. cursor.entry.at < v.1.at) }
+/// ```
+#[inline(always)]
+fn shown_integer<'p, 'a>(
+    cursor: Cursor<'p, 'a>,
+    expected: &str,
+) -> Result<((Token, IntegerKind), Cursor<'p, 'a>), Error> {
+    let Some((token, next)) = cursor.any()? else {
+        return Err(cursor.error(expected));
+    };
+    match token.kind {
+        TokenKind::Integer(kind) => Ok(((token, kind), next)),
+        _ => Err(cursor.error(expected)),
+    }
+}
+
+/// Takes an integer of a type without a sign, with the place where it stands. The messages are for
+/// where none is shown, and where it is out of range.
+///
+/// # Proved
+///
+/// ```text
+/// ensures value { CursorReads (λ v. v)
+///     (unsigned_integer (most + 1) expected.now out_of_range.now)
+///     (at_place cursor.entry.parser.now cursor.entry.at) (λ next. next.at) result }
+/// ensures fits { IfOk result (λ v. v.0.0 ≤ most) }
+/// ensures parser { IfOk result (λ v. v.1.parser ≡ cursor.entry.parser) }
+/// ensures on { IfOk result (λ v. cursor.entry.at < v.1.at) }
+/// ```
+fn unsigned<'p, 'a>(
+    cursor: Cursor<'p, 'a>,
+    most: u64,
+    expected: &str,
+    out_of_range: &str,
+) -> Result<((u64, Span), Cursor<'p, 'a>), Error> {
+    let ((token, kind), next) = shown_integer(cursor, expected)?;
+    match unsigned_value(cursor.text(), &token, kind, most) {
+        Some(value) => Ok(((value, cursor.span_of(token)), next)),
+        None => Err(cursor.error(out_of_range)),
+    }
+}
+
+/// Parses an integer of a type without a sign, with the place where it stands.
+///
+/// # Proved
+///
+/// ```text
+/// ensures kept { IsKept parser.old parser.new }
+/// ensures on { parser.old.place ≤ parser.new.place }
+/// ensures reads { Reads (λ v. v) (unsigned_integer (most + 1) expected.now out_of_range.now)
+///     parser.old result parser.new.place }
+/// ensures fits { IfOk result (λ v. v.0 ≤ most) }
+/// ```
+fn parse_unsigned(
+    parser: &mut Parser<'_>,
+    most: u64,
+    expected: &str,
+    out_of_range: &str,
+) -> Result<(u64, Span), Error> {
+    parser.step(|c| unsigned(c, most, expected, out_of_range))
+}
+
+/// The value of an integer token in a type with a sign, which goes from `-half` up to `half - 1`.
+///
+/// # Proved
+///
+/// ```text
+/// requires token { IsTokenOf text.now token.now }
+/// requires kind { token.now.kind ≡ variant.Integer kind }
+/// requires least { 0 < half }
+/// requires most { half ≤ 2 ^ 63 }
+/// ensures value { result ≡ signed_number half
+///     (is_minus (sign_token kind.sign), integer_value kind.hex (word_of text.now token.now)) }
+/// ensures low { IfSome result (λ n. neg_ℤ (pos half) ≤ℤ n) }
+/// ensures high { IfSome result (λ n. n <ℤ pos half) }
+/// ```
+fn signed_value(text: &str, token: &Token, kind: IntegerKind, half: u64) -> Option<i64> {
+    let magnitude = token.magnitude(text, kind)?;
+    if is_negative(kind) {
+        return negative(magnitude, half);
+    }
+    plain(magnitude, half)
+}
+
+/// The number of this magnitude without a minus. From `half` on it stands for a negative one.
+///
+/// # Proved
+///
+/// ```text
+/// requires least { 0 < half }
+/// requires most { half ≤ 2 ^ 63 }
+/// ensures value { result ≡ signed_within half (false, magnitude) }
+/// ensures low { IfSome result (λ n. neg_ℤ (pos half) ≤ℤ n) }
+/// ensures high { IfSome result (λ n. n <ℤ pos half) }
+/// ```
+fn plain(magnitude: u64, half: u64) -> Option<i64> {
+    if magnitude < half {
+        return Some(magnitude as i64);
+    }
+    let rest = magnitude - half;
+    if rest < half {
+        return Some(rest as i64 - (half - 1) as i64 - 1);
+    }
+    None
+}
+
+/// The number of this magnitude with a minus.
+///
+/// # Proved
+///
+/// ```text
+/// requires least { 0 < half }
+/// requires most { half ≤ 2 ^ 63 }
+/// ensures value { result ≡ signed_within half (true, magnitude) }
+/// ensures low { IfSome result (λ n. neg_ℤ (pos half) ≤ℤ n) }
+/// ensures high { IfSome result (λ n. n <ℤ pos half) }
+/// ```
+fn negative(magnitude: u64, half: u64) -> Option<i64> {
+    if magnitude == 0 {
+        return Some(0);
+    }
+    let less = magnitude - 1;
+    if less < half {
+        return Some(-(less as i64) - 1);
+    }
+    None
+}
+
+/// Takes an integer of a type with a sign, as [`unsigned`] does.
+///
+/// # Proved
+///
+/// ```text
+/// requires least { 0 < half }
+/// requires most { half ≤ 2 ^ 63 }
+/// ensures value { CursorReads (λ v. v)
+///     (signed_integer half expected.now out_of_range.now)
+///     (at_place cursor.entry.parser.now cursor.entry.at) (λ next. next.at) result }
+/// ensures low { IfOk result (λ v. neg_ℤ (pos half) ≤ℤ v.0.0) }
+/// ensures high { IfOk result (λ v. v.0.0 <ℤ pos half) }
+/// ensures parser { IfOk result (λ v. v.1.parser ≡ cursor.entry.parser) }
+/// ensures on { IfOk result (λ v. cursor.entry.at < v.1.at) }
+/// ```
+fn signed<'p, 'a>(
+    cursor: Cursor<'p, 'a>,
+    half: u64,
+    expected: &str,
+    out_of_range: &str,
+) -> Result<((i64, Span), Cursor<'p, 'a>), Error> {
+    let ((token, kind), next) = shown_integer(cursor, expected)?;
+    match signed_value(cursor.text(), &token, kind, half) {
+        Some(value) => Ok(((value, cursor.span_of(token)), next)),
+        None => Err(cursor.error(out_of_range)),
+    }
+}
+
+/// Parses an integer of a type with a sign, with the place where it stands.
+///
+/// # Proved
+///
+/// ```text
+/// requires least { 0 < half }
+/// requires most { half ≤ 2 ^ 63 }
+/// ensures kept { IsKept parser.old parser.new }
+/// ensures on { parser.old.place ≤ parser.new.place }
+/// ensures reads { Reads (λ v. v) (signed_integer half expected.now out_of_range.now)
+///     parser.old result parser.new.place }
+/// ensures low { IfOk result (λ v. neg_ℤ (pos half) ≤ℤ v.0) }
+/// ensures high { IfOk result (λ v. v.0 <ℤ pos half) }
+/// ```
+fn parse_signed(
+    parser: &mut Parser<'_>,
+    half: u64,
+    expected: &str,
+    out_of_range: &str,
+) -> Result<(i64, Span), Error> {
+    parser.step(|c| signed(c, half, expected, out_of_range))
+}
+
+impl<'a> Parse<'a> for (u8, Span) {
+    fn parse(parser: &mut Parser<'a>) -> Result<(u8, Span), Error> {
+        let (value, span) = parse_unsigned(
+            parser,
+            u8::MAX as u64,
+            "expected a u8",
+            "invalid u8 number: constant out of range",
+        )?;
+        Ok((value as u8, span))
+    }
+}
+
+impl<'a> Parse<'a> for u8 {
+    fn parse(parser: &mut Parser<'a>) -> Result<u8, Error> {
+        Ok(parser.parse::<(u8, Span)>()?.0)
+    }
+}
+
+impl Peek for u8 {
+    fn peek(cursor: Cursor<'_, '_>) -> Result<bool, Error> {
+        cursor.peek_integer()
+    }
+
+    fn display() -> &'static str {
+        "u8"
+    }
+}
+
+impl<'a> Parse<'a> for (u16, Span) {
+    fn parse(parser: &mut Parser<'a>) -> Result<(u16, Span), Error> {
+        let (value, span) = parse_unsigned(
+            parser,
+            u16::MAX as u64,
+            "expected a u16",
+            "invalid u16 number: constant out of range",
+        )?;
+        Ok((value as u16, span))
+    }
+}
+
+impl<'a> Parse<'a> for u16 {
+    fn parse(parser: &mut Parser<'a>) -> Result<u16, Error> {
+        Ok(parser.parse::<(u16, Span)>()?.0)
+    }
+}
+
+impl Peek for u16 {
+    fn peek(cursor: Cursor<'_, '_>) -> Result<bool, Error> {
+        cursor.peek_integer()
+    }
+
+    fn display() -> &'static str {
+        "u16"
+    }
+}
+
+impl<'a> Parse<'a> for (u32, Span) {
+    fn parse(parser: &mut Parser<'a>) -> Result<(u32, Span), Error> {
+        let (value, span) = parse_unsigned(
+            parser,
+            u32::MAX as u64,
+            "expected a u32",
+            "invalid u32 number: constant out of range",
+        )?;
+        Ok((value as u32, span))
+    }
+}
+
+impl<'a> Parse<'a> for u32 {
+    fn parse(parser: &mut Parser<'a>) -> Result<u32, Error> {
+        Ok(parser.parse::<(u32, Span)>()?.0)
+    }
+}
+
+impl Peek for u32 {
+    fn peek(cursor: Cursor<'_, '_>) -> Result<bool, Error> {
+        cursor.peek_integer()
+    }
+
+    fn display() -> &'static str {
+        "u32"
+    }
+}
+
+impl<'a> Parse<'a> for (u64, Span) {
+    fn parse(parser: &mut Parser<'a>) -> Result<(u64, Span), Error> {
+        parse_unsigned(
+            parser,
+            u64::MAX,
+            "expected a u64",
+            "invalid u64 number: constant out of range",
+        )
+    }
+}
+
+impl<'a> Parse<'a> for u64 {
+    fn parse(parser: &mut Parser<'a>) -> Result<u64, Error> {
+        Ok(parser.parse::<(u64, Span)>()?.0)
+    }
+}
+
+impl Peek for u64 {
+    fn peek(cursor: Cursor<'_, '_>) -> Result<bool, Error> {
+        cursor.peek_integer()
+    }
+
+    fn display() -> &'static str {
+        "u64"
+    }
+}
+
+impl<'a> Parse<'a> for (i8, Span) {
+    fn parse(parser: &mut Parser<'a>) -> Result<(i8, Span), Error> {
+        let (value, span) = parse_signed(
+            parser,
+            0x80,
+            "expected a i8",
+            "invalid i8 number: constant out of range",
+        )?;
+        Ok((value as i8, span))
+    }
+}
+
+impl<'a> Parse<'a> for i8 {
+    fn parse(parser: &mut Parser<'a>) -> Result<i8, Error> {
+        Ok(parser.parse::<(i8, Span)>()?.0)
+    }
+}
+
+impl Peek for i8 {
+    fn peek(cursor: Cursor<'_, '_>) -> Result<bool, Error> {
+        cursor.peek_integer()
+    }
+
+    fn display() -> &'static str {
+        "i8"
+    }
+}
+
+impl<'a> Parse<'a> for (i16, Span) {
+    fn parse(parser: &mut Parser<'a>) -> Result<(i16, Span), Error> {
+        let (value, span) = parse_signed(
+            parser,
+            0x8000,
+            "expected a i16",
+            "invalid i16 number: constant out of range",
+        )?;
+        Ok((value as i16, span))
+    }
+}
+
+impl<'a> Parse<'a> for i16 {
+    fn parse(parser: &mut Parser<'a>) -> Result<i16, Error> {
+        Ok(parser.parse::<(i16, Span)>()?.0)
+    }
+}
+
+impl Peek for i16 {
+    fn peek(cursor: Cursor<'_, '_>) -> Result<bool, Error> {
+        cursor.peek_integer()
+    }
+
+    fn display() -> &'static str {
+        "i16"
+    }
+}
+
+impl<'a> Parse<'a> for (i32, Span) {
+    fn parse(parser: &mut Parser<'a>) -> Result<(i32, Span), Error> {
+        let (value, span) = parse_signed(
+            parser,
+            0x8000_0000,
+            "expected a i32",
+            "invalid i32 number: constant out of range",
+        )?;
+        Ok((value as i32, span))
+    }
+}
+
+impl<'a> Parse<'a> for i32 {
+    fn parse(parser: &mut Parser<'a>) -> Result<i32, Error> {
+        Ok(parser.parse::<(i32, Span)>()?.0)
+    }
+}
+
+impl Peek for i32 {
+    fn peek(cursor: Cursor<'_, '_>) -> Result<bool, Error> {
+        cursor.peek_integer()
+    }
+
+    fn display() -> &'static str {
+        "i32"
+    }
+}
+
+impl<'a> Parse<'a> for (i64, Span) {
+    fn parse(parser: &mut Parser<'a>) -> Result<(i64, Span), Error> {
+        parse_signed(
+            parser,
+            0x8000_0000_0000_0000,
+            "expected a i64",
+            "invalid i64 number: constant out of range",
+        )
+    }
+}
+
+impl<'a> Parse<'a> for i64 {
+    fn parse(parser: &mut Parser<'a>) -> Result<i64, Error> {
+        Ok(parser.parse::<(i64, Span)>()?.0)
+    }
+}
+
+impl Peek for i64 {
+    fn peek(cursor: Cursor<'_, '_>) -> Result<bool, Error> {
+        cursor.peek_integer()
+    }
+
+    fn display() -> &'static str {
+        "i64"
+    }
+}

@@ -1,0 +1,145 @@
+// Made by tools/erase from crates/wat_words/src/table.rt; do not edit.
+//! The tables of the words, each of which stands here once.
+
+use wat_lex::shim::prelude::*;
+/// The standard words in the order of their places, each as `words` or `displays` has it.
+/// Ten stand in a row, which goes on indented where it is long.
+macro_rules! standard {
+    ($entries:ident) => {
+        $entries! {
+            ""
+            "after" "alias" "any" "anyref" "arg" "array" "arrayref" "assert_exception"
+                "assert_exhaustion" "assert_invalid"
+            "assert_invalid_custom" "assert_malformed" "assert_malformed_custom" "assert_return"
+                "assert_trap" "assert_unlinkable" "assert_suspension" "before" "binary" "block"
+            "borrow" "catch" "catch_ref" "catch_all" "catch_all_ref" "code" "cont" "contref"
+                "component" "data"
+            "declare" "delegate" "descriptor" "describes" "do" "dtor" "elem" "end" "entry" "exact"
+            "tag" "exn" "exnref" "export" "extern" "externref" "eq" "eqref" "f32" "f32x4"
+            "f64" "f64x2" "field" "first" "func" "funcref" "get" "global" "i16" "i16x8"
+            "i31" "i31ref" "i32" "i32x4" "i64" "i64x2" "i8" "i8x16" "import" "implements"
+            "instance" "instantiate" "interface" "invoke" "item" "last" "local" "memory" "module"
+                "modulecode"
+            "nan:arithmetic" "nan:canonical" "nocont" "nofunc" "noextern" "noexn" "none" "null"
+                "nullcontref" "nullfuncref"
+            "nullexternref" "nullexnref" "nullref" "offset" "on" "outer" "own" "pagesize" "param"
+                "parent"
+            "passive" "quote" "else" "if" "loop" "mut" "type" "ref" "ref.func" "ref.null"
+            "register" "rec" "acqrel" "rep" "resource" "resource.new" "resource.drop" "resource.rep"
+                "result" "seqcst"
+            "shared" "start" "sub" "switch" "final" "table" "then" "try" "v128" "value"
+            "s8" "s16" "s32" "s64" "u8" "u16" "u32" "u64" "char" "case"
+            "record" "string" "bool" "float32" "float64" "variant" "flags" "option" "tuple" "list"
+            "map" "error" "canon" "lift" "lower" "enum" "string-encoding=utf8"
+                "string-encoding=utf16" "string-encoding=latin1+utf16" "struct"
+            "structref" "realloc" "post-return" "with" "core" "core-type" "gc" "true" "false"
+                "language"
+            "sdk" "processed-by" "mem-info" "needed" "export-info" "import-info" "runtime-path"
+                "target-arch" "thread" "thread.spawn-ref"
+            "thread.spawn-indirect" "thread.available_parallelism" "backpressure.inc"
+                "backpressure.dec" "task.return" "task.cancel" "subtask.drop" "subtask.cancel"
+                "stream.new" "stream.read"
+            "stream.write" "stream.forward" "stream.cancel-read" "stream.cancel-write"
+                "stream.drop-readable" "stream.drop-writable" "future.new" "future.read"
+                "future.write" "future.forward"
+            "future.cancel-read" "future.cancel-write" "future.drop-readable" "future.drop-writable"
+                "error-context.new" "error-context.debug-message" "error-context.drop" "wait"
+                "definition" "async"
+            "callback" "stream" "future" "error-context" "waitable-set.new" "waitable-set.wait"
+                "waitable-set.poll" "waitable-set.drop" "waitable.join" "context.get"
+            "context.set" "thread.index" "thread.new-indirect" "thread.resume-later"
+                "thread.suspend" "thread.yield" "thread.suspend-then-resume"
+                "thread.yield-then-resume" "thread.suspend-then-promote" "thread.yield-then-promote"
+            "cancellable" "version-suffix" "external-id"
+        }
+    };
+}
+
+/// The standard annotation names in the order of their places,
+/// each as `words` or `displays` has it.
+macro_rules! annotations {
+    ($entries:ident) => {
+        $entries! {
+            "@"
+            "custom" "name" "producers" "dylink.0" "metadata.code.branch_hint"
+        }
+    };
+}
+
+/// The words behind the first text, which is the sign that displays have before them.
+macro_rules! words {
+    ($sign:literal $($word:literal)*) => {
+        [$($word),*]
+    };
+}
+
+/// The displays of the words behind the first text, which is the sign that each has before it.
+macro_rules! displays {
+    ($sign:literal $($word:literal)*) => {
+        [$(concat!("`", $sign, $word, "`")),*]
+    };
+}
+
+const STANDARD: [&str; 233] = standard!(words);
+
+const STANDARD_DISPLAYS: [&str; 233] = standard!(displays);
+
+const ANNOTATIONS: [&str; 5] = annotations!(words);
+
+const ANNOTATION_DISPLAYS: [&str; 5] = annotations!(displays);
+
+/// The standard word at a place, or the empty word past the last one.
+///
+/// # Proved
+///
+/// ```text
+/// ensures { result.now ≡ standard_word place }
+/// ```
+pub(crate) fn standard(place: usize) -> &'static str {
+    entry_at(&STANDARD, place, "")
+}
+
+/// The display of the standard word at a place.
+///
+/// # Proved
+///
+/// ```text
+/// ensures { result.now ≡ quoted false (standard_word place) }
+/// ```
+pub(crate) fn standard_display(place: usize) -> &'static str {
+    entry_at(&STANDARD_DISPLAYS, place, "``")
+}
+
+/// The standard annotation name at a place, or the empty word past the last one.
+///
+/// # Proved
+///
+/// ```text
+/// ensures { result.now ≡ annotation_word place }
+/// ```
+pub(crate) fn annotation(place: usize) -> &'static str {
+    entry_at(&ANNOTATIONS, place, "")
+}
+
+/// The display of the standard annotation name at a place.
+///
+/// # Proved
+///
+/// ```text
+/// ensures { result.now ≡ quoted true (annotation_word place) }
+/// ```
+pub(crate) fn annotation_display(place: usize) -> &'static str {
+    entry_at(&ANNOTATION_DISPLAYS, place, "`@`")
+}
+
+/// # Proved
+///
+/// ```text
+/// ensures { result.now ≡ slice_index_or (map (λ e. e.now) entries.now) place past.now }
+/// ```
+fn entry_at(entries: &[&'static str], place: usize, past: &'static str) -> &'static str {
+    match entries.get(place) {
+        Some(entry) => *entry,
+        None => past,
+    }
+}
