@@ -46,6 +46,11 @@ impl String {
         }
     }
 
+    /// The bytes of the text. It takes no memory.
+    pub fn into_bytes(self) -> Vec<u8> {
+        self.0.into_bytes().into()
+    }
+
     /// A copy.
     // Fallible, so it is not the trait's function.
     #[allow(clippy::should_implement_trait)]
@@ -68,6 +73,11 @@ impl String {
     /// Appends what is printed, by `write!`. Where that is refused, what was printed before the refusal stays.
     pub fn write_fmt(&mut self, printed: fmt::Arguments<'_>) -> Result<(), AllocError> {
         fmt::Write::write_fmt(self, printed).map_err(|_| AllocError)
+    }
+
+    #[inline]
+    pub fn clear(&mut self) {
+        self.0.clear();
     }
 
     #[inline]

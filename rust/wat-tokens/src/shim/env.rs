@@ -1,0 +1,17 @@
+//! The words of the command line.
+use crate::shim::io::{Error, ErrorKind, Result};
+use crate::shim::prelude::{HostRuntime, String, Vec};
+use std::ffi::OsString;
+
+/// The words of the command line, the program's name first. They are read whole: where one is no UTF-8 there are none, and the error is
+/// `InvalidData`.
+pub fn args(_: &HostRuntime) -> Result<std::vec::IntoIter<String>> {
+    let words: Result<std::vec::Vec<String>> = std::env::args_os().map(word_of).collect();
+    Ok(words?.into_iter())
+}
+
+/// A word, which keeps its memory.
+fn word_of(word: OsString) -> Result<String> {
+    let bytes = Vec::from(word.into_encoded_bytes());
+    String::from_utf8(bytes).map_err(|_| Error::from(ErrorKind::InvalidData))
+}
