@@ -1,9 +1,8 @@
 //! The lexer of the WebAssembly text format, with the names of the crate `wast`.
 //!
 //! A [`Lexer`] cuts a text into tokens and accounts for every byte of it, white space and comments
-//! included. What it answers is proved: this crate is safe Rust over a static library whose functions
-//! are proved to meet their contracts, and its own code is small, tested, and not proved. For tokens
-//! of one byte it keeps what the library answered of two bytes, as a call takes longer.
+//! included. What it answers is proved: [`proved`] is the text of a program that is proved to meet its
+//! contracts, and this crate is a thin layer over it, small, tested, and not proved.
 //!
 //! ```
 //! use wat_lex::{Lexer, TokenKind};
@@ -22,18 +21,17 @@
 //!     ]
 //! );
 //! ```
+#![no_std]
 #![warn(missing_docs)]
 #![deny(unsafe_code)]
 
 extern crate alloc;
+#[cfg(feature = "std")]
+extern crate std;
 
 mod error;
 mod lexer;
-mod library;
 mod number;
-mod one_byte;
-#[doc(hidden)]
-pub mod rows;
 // Proofs name loops, contracts speak of parameters and fields that the code leaves alone, and each file imports the shim's names, of which it
 // may need none. Clippy's advice on style is for text that is written in Rust.
 #[allow(missing_docs, unused_imports, unused_labels, unused_variables)]
@@ -48,10 +46,12 @@ pub mod proved;
 pub mod shim;
 mod token;
 
-pub use error::{Error, LexError, Span};
+pub use error::Error;
 pub use lexer::{Lexer, Tokens};
-pub use number::{Float, Integer};
-pub use token::{FloatKind, IntegerKind, SignToken, Token, TokenKind};
+pub use number::Float;
+pub use proved::lexer::{FloatKind, Integer, IntegerKind, LexError, SignToken, TokenKind};
+pub use proved::token::Span;
+pub use token::Token;
 
 /// The examples of the README, as tests.
 #[cfg(doctest)]

@@ -37,11 +37,11 @@ fn names() {
     assert!(
         matches!(first("@\"\\61\"").annotation("@\"\\61\""), Ok(Cow::Owned(name)) if name == "a")
     );
-    let not_utf8 = String::from_utf8(vec![0xff]).unwrap_err().utf8_error();
+
     for (text, error) in [
         (" $", LexError::EmptyId),
         (" $\"\"", LexError::EmptyId),
-        (" $\"\\ff\"", LexError::InvalidUtf8Id(not_utf8)),
+        (" $\"\\ff\"", LexError::InvalidUtf8Id),
     ] {
         let token = Lexer::new(text).parse(&mut 1).unwrap().unwrap();
         let wrong = token.id(text).unwrap_err();

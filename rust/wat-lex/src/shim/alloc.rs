@@ -1,4 +1,5 @@
 //! Refused requests for memory, and the handle of the allocator.
+use alloc::alloc::{Layout, handle_alloc_error};
 use core::fmt;
 
 /// A request for memory was refused.
@@ -49,3 +50,8 @@ impl<T> From<AllocFailed<T>> for std::io::Error {
 /// The handle of Rust's global allocator.
 #[derive(Clone, Copy, Debug, PartialEq, Eq)]
 pub struct Global;
+
+/// What was asked for. Where memory was refused, the program ends as it does by Rust's own collections.
+pub fn granted<T>(asked: Result<T, AllocError>) -> T {
+    asked.unwrap_or_else(|_| handle_alloc_error(Layout::new::<u8>()))
+}

@@ -2,6 +2,7 @@
 use crate::shim::alloc::{AllocError, Global};
 use crate::shim::string::String;
 use crate::shim::vec::Vec;
+use alloc::borrow::Cow;
 use core::fmt;
 use core::ops::Deref;
 
@@ -24,6 +25,15 @@ impl CowStr<'_> {
         match self {
             CowStr::Borrowed(text) => String::from_str(alloc, text),
             CowStr::Owned(text) => Ok(text),
+        }
+    }
+}
+
+impl<'a> From<CowStr<'a>> for Cow<'a, str> {
+    fn from(text: CowStr<'a>) -> Cow<'a, str> {
+        match text {
+            CowStr::Borrowed(text) => Cow::Borrowed(text),
+            CowStr::Owned(text) => Cow::Owned(text.into()),
         }
     }
 }
@@ -68,6 +78,15 @@ impl<T> CowSlice<'_, T> {
         match self {
             CowSlice::Borrowed(items) => items,
             CowSlice::Owned(items) => items.as_slice(),
+        }
+    }
+}
+
+impl<'a, T: Clone> From<CowSlice<'a, T>> for Cow<'a, [T]> {
+    fn from(items: CowSlice<'a, T>) -> Cow<'a, [T]> {
+        match items {
+            CowSlice::Borrowed(items) => Cow::Borrowed(items),
+            CowSlice::Owned(items) => Cow::Owned(items.into_inner()),
         }
     }
 }

@@ -86,6 +86,18 @@ impl String {
     }
 }
 
+impl From<alloc::string::String> for String {
+    fn from(text: alloc::string::String) -> String {
+        String(text)
+    }
+}
+
+impl From<String> for alloc::string::String {
+    fn from(text: String) -> alloc::string::String {
+        text.0
+    }
+}
+
 impl Deref for String {
     type Target = str;
 
