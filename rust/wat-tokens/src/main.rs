@@ -6,5 +6,5 @@ use wat_tokens::program;
 use wat_tokens::shim::rt::HostRuntime;
 
 fn main() -> ExitCode {
-    program::main(HostRuntime)
+    program::main(HostRuntime::of_process())
 }

@@ -5,9 +5,12 @@ use std::ffi::OsString;
 
 /// The words of the command line, the program's name first. They are read whole: where one is no UTF-8 there are none, and the error is
 /// `InvalidData`.
-pub fn args(_: &HostRuntime) -> Result<std::vec::IntoIter<String>> {
-    let words: Result<std::vec::Vec<String>> = std::env::args_os().map(word_of).collect();
-    Ok(words?.into_iter())
+pub fn args(rt: &HostRuntime) -> Result<std::vec::IntoIter<String>> {
+    let mut words = Vec::new(rt.alloc());
+    for word in std::env::args_os() {
+        words.push(word_of(word)?)?;
+    }
+    Ok(words.into_iter())
 }
 
 /// A word, which keeps its memory.

@@ -7,9 +7,16 @@ pub use std::io::Stderr;
 
 /// The process: what reaches outside of it takes this.
 #[derive(Clone, Copy, Debug)]
-pub struct HostRuntime;
+pub struct HostRuntime(());
 
 impl HostRuntime {
+    /// The handle of this process. Rust's library asks here for the buffers of its standard streams, a request that ends the process where it is
+    /// refused: so nothing is read or written yet.
+    pub fn of_process() -> HostRuntime {
+        streams::open();
+        HostRuntime(())
+    }
+
     pub fn alloc(&self) -> Global {
         Global
     }
@@ -77,14 +84,17 @@ mod streams {
         Ok(File::from(stream.as_fd().try_clone_to_owned()?))
     }
 
-    /// The file, or its error once more.
+    pub fn open() {
+        LazyLock::force(&INPUT);
+        LazyLock::force(&OUTPUT);
+    }
+
+    /// The file, or the error of its opening once more.
     fn opened(file: &'static Result<File>) -> Result<&'static File> {
-        match file {
-            Ok(file) => Ok(file),
-            Err(error) => Err(error
-                .raw_os_error()
-                .map_or(Error::from(ErrorKind::Other), Error::from_raw_os_error)),
-        }
+        file.as_ref().map_err(|error| match error.raw_os_error() {
+            Some(code) => Error::from_raw_os_error(code),
+            None => Error::from(ErrorKind::Other),
+        })
     }
 
     pub fn input() -> Result<&'static File> {
@@ -99,6 +109,10 @@ mod streams {
 #[cfg(not(unix))]
 mod streams {
     use std::io::{Result, Stdin, Stdout, stdin, stdout};
+
+    pub fn open() {
+        (stdin(), stdout());
+    }
 
     pub fn input() -> Result<Stdin> {
         Ok(stdin())
