@@ -66,8 +66,8 @@ fn a_vector_is_as_it_was_where_items_are_refused() {
         Err(AllocError)
     );
     assert_eq!(items.as_slice(), [1, 2]);
-    assert_eq!(refusing(|| Vec::repeated(Global, 9, 3)), Err(AllocError));
-    assert_eq!(Vec::repeated(Global, 9, 3).unwrap().as_slice(), [9, 9, 9]);
+    assert_eq!(refusing(|| Vec::from_elem(Global, 9, 3)), Err(AllocError));
+    assert_eq!(Vec::from_elem(Global, 9, 3).unwrap().as_slice(), [9, 9, 9]);
     without_memory(|| items.extend_from_slice(&[])).unwrap();
     assert_eq!(without_memory(|| items.pop()), Some(2));
     without_memory(|| items.truncate(5));

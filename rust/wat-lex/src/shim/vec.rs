@@ -20,8 +20,8 @@ impl<T> Vec<T> {
         Ok(new)
     }
 
-    /// `count` copies of an item, as `vec![in alloc; item; count]` makes them.
-    pub fn repeated(alloc: Global, item: T, count: usize) -> Result<Vec<T>, AllocError>
+    /// `count` copies of an item: `vec![in alloc; item; count]`.
+    pub fn from_elem(alloc: Global, item: T, count: usize) -> Result<Vec<T>, AllocError>
     where
         T: Clone,
     {
