@@ -27,6 +27,7 @@ SAME_IN_CORE = ("fmt", "hash", "marker", "mem", "result", "str", "{")
 WRITTEN = [
     *((f"std::{name}", f"SHIM::{name}") for name in ("alloc", "borrow", "collections", "simd")),
     *((f"std::{name}", f"core::{name}") for name in SAME_IN_CORE),
+    ("BY_SHUFFLE: bool = true", "BY_SHUFFLE: bool = SHIM::simd::HAS_SHUFFLE"),
     ("smallvec::", "SHIM::smallvec::"),
     ("unicode_width::", "SHIM::unicode_width::"),
     ("vec![in", "try_vec!["),

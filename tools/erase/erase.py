@@ -36,6 +36,7 @@ WRITTEN = {
     "std::borrow": "SHIM::borrow",
     "std::collections": "SHIM::collections",
     "std::simd": "SHIM::simd",
+    "BY_SHUFFLE: bool = true": "BY_SHUFFLE: bool = SHIM::simd::HAS_SHUFFLE",
     "smallvec::": "SHIM::smallvec::",
     "unicode_width::": "SHIM::unicode_width::",
     "format!(in": "try_format!(",

@@ -125,6 +125,20 @@ impl fmt::Display for Located {
     }
 }
 
+// What is let go is passed as a value to a function of its own. By its address, a loop over tokens would keep all that `parse` answers in memory.
+impl Drop for Error {
+    #[inline]
+    fn drop(&mut self) {
+        if let Some(located) = self.0.take() {
+            let_go(located);
+        }
+    }
+}
+
+#[cold]
+#[inline(never)]
+fn let_go(_: Box<Located>) {}
+
 impl PartialEq for Error {
     fn eq(&self, other: &Error) -> bool {
         self.span() == other.span()
