@@ -105,8 +105,16 @@ impl<'a> Lexer<'a> {
     ///
     /// # Errors
     ///
-    /// The error of the fault there, where the byte is `@`; or that the text has more than `u32::MAX` bytes.
+    /// Where the byte is `@`, the error of the fault there, or that the text has more than `u32::MAX` bytes.
+    #[inline]
     pub fn annotation(&self, pos: usize) -> Result<Option<Token>, Error> {
+        match self.input.as_bytes().get(pos) {
+            Some(b'@') => self.annotation_at(pos),
+            _ => Ok(None),
+        }
+    }
+
+    fn annotation_at(&self, pos: usize) -> Result<Option<Token>, Error> {
         let token = self.proved()?.annotation(Global, pos)?;
         Ok(token.map(Token::from))
     }
