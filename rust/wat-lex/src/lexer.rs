@@ -93,6 +93,7 @@ impl<'a> Lexer<'a> {
     #[inline(never)]
     fn ending(&self, mut pos: usize) -> Result<(), Error> {
         let lexer = self.proved()?;
+        // `requires` of `proved::lexer::Lexer::parse`.
         assert!(
             self.input.is_char_boundary(pos),
             "no character begins at the byte"
