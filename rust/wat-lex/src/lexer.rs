@@ -63,16 +63,17 @@ impl<'a> Lexer<'a> {
     /// # Panics
     ///
     /// Where no character begins at the byte, and the text does not end there.
-    #[inline]
+    // A program with two loops would else call it, at more instructions for each token.
+    #[inline(always)]
     pub fn parse(&self, pos: &mut usize) -> Result<Option<Token>, Error> {
-        let lexer = self.proved()?;
-        // `requires` of `proved::lexer::Lexer::parse`.
-        assert!(
-            self.input.is_char_boundary(*pos),
-            "no character begins at the byte"
-        );
-        let token = lexer.parse(Global, pos)?;
-        Ok(token.map(Token::from))
+        // `requires` of `proved::lexer::Lexer::scan`. A text that is too long has no other place than 0, and nothing there.
+        if self.proved.input().is_char_boundary(*pos) {
+            if let Ok(Some(token)) = self.proved.scan(*pos) {
+                *pos += token.len as usize;
+                return Ok(Some(token.into()));
+            }
+        }
+        self.ending(*pos).map(|()| None)
     }
 
     /// The tokens from a byte of the text on, up to its end or its first fault. Of a text of more than `u32::MAX` bytes it gives that error.
@@ -87,12 +88,34 @@ impl<'a> Lexer<'a> {
         }
     }
 
+    /// What is answered where no token of this text begins.
+    #[cold]
+    #[inline(never)]
+    fn ending(&self, mut pos: usize) -> Result<(), Error> {
+        let lexer = self.proved()?;
+        // `requires` of `proved::lexer::Lexer::parse`.
+        assert!(
+            self.input.is_char_boundary(pos),
+            "no character begins at the byte"
+        );
+        lexer.parse(Global, &mut pos)?;
+        Ok(())
+    }
+
     /// The annotation's token at any byte, where the byte there is `@`; None where it is not, and where a token of another kind is there.
     ///
     /// # Errors
     ///
-    /// The error of the fault there, where the byte is `@`; or that the text has more than `u32::MAX` bytes.
+    /// Where the byte is `@`, the error of the fault there, or that the text has more than `u32::MAX` bytes.
+    #[inline]
     pub fn annotation(&self, pos: usize) -> Result<Option<Token>, Error> {
+        match self.input.as_bytes().get(pos) {
+            Some(b'@') => self.annotation_at(pos),
+            _ => Ok(None),
+        }
+    }
+
+    fn annotation_at(&self, pos: usize) -> Result<Option<Token>, Error> {
         let token = self.proved()?.annotation(Global, pos)?;
         Ok(token.map(Token::from))
     }
@@ -129,7 +152,7 @@ pub struct Tokens<'l, 'a> {
 impl Iterator for Tokens<'_, '_> {
     type Item = Result<Token, Error>;
 
-    #[inline]
+    #[inline(always)]
     fn next(&mut self) -> Option<Result<Token, Error>> {
         let token = self.lexer?.parse(&mut self.pos);
         if token.is_err() {

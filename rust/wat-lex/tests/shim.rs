@@ -1,9 +1,10 @@
 //! What the shim answers, and what it leaves where a request for memory is refused: each request in turn.
 
-use std::alloc::{GlobalAlloc, Layout, System};
+mod refusing;
+
+use refusing::{granting, refusing, without_memory};
 use std::cell::Cell;
 use std::collections::BTreeMap as StdMap;
-use std::ptr::null_mut;
 use wat_lex::proved::lexer::{Lexer, TokenKind};
 use wat_lex::shim::alloc::{AllocError, AllocFailed, Global};
 use wat_lex::shim::borrow::{CowSlice, CowStr};
@@ -13,65 +14,6 @@ use wat_lex::shim::smallvec::SmallVec;
 use wat_lex::shim::string::{JoinIn, String};
 use wat_lex::shim::unicode_width::{UnicodeWidthStr, char_iter_width};
 use wat_lex::shim::vec::Vec;
-
-/// An allocator that refuses each request of a thread after those that are granted.
-struct Refusing;
-
-thread_local! {
-    static GRANTED: Cell<usize> = const { Cell::new(usize::MAX) };
-    static ASKED: Cell<usize> = const { Cell::new(0) };
-}
-
-fn is_refused() -> bool {
-    ASKED.set(ASKED.get() + 1);
-    ASKED.get() > GRANTED.get()
-}
-
-// SAFETY: each block is the system's.
-unsafe impl GlobalAlloc for Refusing {
-    unsafe fn alloc(&self, layout: Layout) -> *mut u8 {
-        if is_refused() {
-            return null_mut();
-        }
-        unsafe { System.alloc(layout) }
-    }
-
-    unsafe fn dealloc(&self, block: *mut u8, layout: Layout) {
-        unsafe { System.dealloc(block, layout) }
-    }
-
-    unsafe fn realloc(&self, block: *mut u8, layout: Layout, size: usize) -> *mut u8 {
-        if is_refused() {
-            return null_mut();
-        }
-        unsafe { System.realloc(block, layout, size) }
-    }
-}
-
-#[global_allocator]
-static ALLOCATOR: Refusing = Refusing;
-
-/// What a call answers where so many requests are granted, and how many it makes.
-fn granting<T>(granted: usize, call: impl FnOnce() -> T) -> (T, usize) {
-    ASKED.set(0);
-    GRANTED.set(granted);
-    let answer = call();
-    GRANTED.set(usize::MAX);
-    (answer, ASKED.get())
-}
-
-fn refusing<T>(call: impl FnOnce() -> T) -> T {
-    let (answer, asked) = granting(0, call);
-    assert!(asked > 0, "no request was made");
-    answer
-}
-
-/// What a call answers that makes no request.
-fn without_memory<T>(call: impl FnOnce() -> T) -> T {
-    let (answer, asked) = granting(0, call);
-    assert_eq!(asked, 0, "a request was made");
-    answer
-}
 
 fn vec_of(items: &[u32]) -> Vec<u32> {
     let mut all = Vec::with_capacity(Global, items.len()).unwrap();
@@ -124,8 +66,8 @@ fn a_vector_is_as_it_was_where_items_are_refused() {
         Err(AllocError)
     );
     assert_eq!(items.as_slice(), [1, 2]);
-    assert_eq!(refusing(|| Vec::repeated(Global, 9, 3)), Err(AllocError));
-    assert_eq!(Vec::repeated(Global, 9, 3).unwrap().as_slice(), [9, 9, 9]);
+    assert_eq!(refusing(|| Vec::from_elem(Global, 9, 3)), Err(AllocError));
+    assert_eq!(Vec::from_elem(Global, 9, 3).unwrap().as_slice(), [9, 9, 9]);
     without_memory(|| items.extend_from_slice(&[])).unwrap();
     assert_eq!(without_memory(|| items.pop()), Some(2));
     without_memory(|| items.truncate(5));
@@ -386,7 +328,7 @@ fn read_all(text: &str) -> Option<std::vec::Vec<std::string::String>> {
         None => None,
     };
     // What the test itself takes is granted.
-    GRANTED.set(usize::MAX);
+    refusing::grant_all();
     let (printed, message) = (
         error.map(|error| error.to_string()),
         message.map(|text| text.as_str().to_owned()),
