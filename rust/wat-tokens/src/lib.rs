@@ -38,5 +38,4 @@ macro_rules! made {
 
 made! { commands format lines lists program types }
 
-#[allow(missing_docs)]
 pub mod shim;

@@ -80,12 +80,13 @@ impl String {
         fmt::Write::write_fmt(self, printed).map_err(|_| AllocError)
     }
 
-    /// The text as one of `str`.
+    /// Removes all characters.
     #[inline]
     pub fn clear(&mut self) {
         self.0.clear();
     }
 
+    /// The text as one of `str`.
     #[inline]
     pub fn as_str(&self) -> &str {
         &self.0

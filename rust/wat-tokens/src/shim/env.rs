@@ -15,6 +15,8 @@ pub fn args(rt: &HostRuntime) -> Result<std::vec::IntoIter<String>> {
 
 /// A word, which keeps its memory.
 fn word_of(word: OsString) -> Result<String> {
-    let bytes = Vec::from(word.into_encoded_bytes());
-    String::from_utf8(bytes).map_err(|_| Error::from(ErrorKind::InvalidData))
+    match word.into_string() {
+        Ok(text) => Ok(String::from(text)),
+        Err(_) => Err(Error::from(ErrorKind::InvalidData)),
+    }
 }

@@ -72,6 +72,7 @@ pub fn rename(_: &HostRuntime, from: &str, to: &str) -> Result<()> {
     fs::rename(from, to)
 }
 
+/// Removes a file, or a link.
 pub fn remove_file(_: &HostRuntime, path: &str) -> Result<()> {
     fs::remove_file(path)
 }

@@ -7,10 +7,12 @@ use crate::shim::prelude::String;
 pub struct Path<'a>(&'a str);
 
 impl<'a> Path<'a> {
+    /// The path that a text is.
     pub fn new(text: &'a str) -> Path<'a> {
         Path(text)
     }
 
+    /// The text.
     pub fn as_str(&self) -> &'a str {
         self.0
     }
@@ -28,6 +30,7 @@ impl PathBuf {
         Ok(PathBuf(String::from_str(alloc, path)?))
     }
 
+    /// The text.
     pub fn as_str(&self) -> &str {
         self.0.as_str()
     }

@@ -2,6 +2,9 @@
 use crate::shim::io::{Error, Result, Write};
 use core::fmt;
 
+#[cfg(test)]
+mod tests;
+
 /// How many bytes are gathered before they are written, so that a short line takes one call.
 const ROOM: usize = 1024;
 
@@ -55,6 +58,8 @@ pub fn println<W: Write>(output: W, value: impl fmt::Display) -> Result<()> {
     let flushed = printer.flush();
     match printer.error {
         Some(error) => Err(error),
-        None => printed.and(flushed).map_err(|_| Error::other("formatter error")),
+        None => printed
+            .and(flushed)
+            .map_err(|_| Error::other("formatter error")),
     }
 }

@@ -17,18 +17,22 @@ impl HostRuntime {
         HostRuntime(())
     }
 
+    /// The allocator.
     pub fn alloc(&self) -> Global {
         Global
     }
 
+    /// Standard input.
     pub fn stdin(&self) -> Stdin {
         Stdin
     }
 
+    /// Standard output.
     pub fn stdout(&self) -> Stdout {
         Stdout
     }
 
+    /// Standard error, which has no buffer.
     pub fn stderr(&self) -> Stderr {
         io::stderr()
     }
