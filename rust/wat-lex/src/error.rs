@@ -125,19 +125,19 @@ impl fmt::Display for Located {
     }
 }
 
-// What is let go is passed as a value to a function of its own. By its address, a loop over tokens would keep all that `parse` answers in memory.
+// What is dropped is passed by value to a function of its own. By its address, a loop over tokens would keep all that `parse` answers in memory.
 impl Drop for Error {
     #[inline]
     fn drop(&mut self) {
         if let Some(located) = self.0.take() {
-            let_go(located);
+            drop_located(located);
         }
     }
 }
 
 #[cold]
 #[inline(never)]
-fn let_go(_: Box<Located>) {}
+fn drop_located(_: Box<Located>) {}
 
 impl PartialEq for Error {
     fn eq(&self, other: &Error) -> bool {

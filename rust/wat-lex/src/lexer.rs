@@ -93,6 +93,7 @@ impl<'a> Lexer<'a> {
     #[inline(never)]
     fn ending(&self, mut pos: usize) -> Result<(), Error> {
         let lexer = self.proved()?;
+        // `requires` of `proved::lexer::Lexer::parse`.
         assert!(
             self.input.is_char_boundary(pos),
             "no character begins at the byte"
@@ -105,8 +106,16 @@ impl<'a> Lexer<'a> {
     ///
     /// # Errors
     ///
-    /// The error of the fault there, where the byte is `@`; or that the text has more than `u32::MAX` bytes.
+    /// Where the byte is `@`, the error of the fault there, or that the text has more than `u32::MAX` bytes.
+    #[inline]
     pub fn annotation(&self, pos: usize) -> Result<Option<Token>, Error> {
+        match self.input.as_bytes().get(pos) {
+            Some(b'@') => self.annotation_at(pos),
+            _ => Ok(None),
+        }
+    }
+
+    fn annotation_at(&self, pos: usize) -> Result<Option<Token>, Error> {
         let token = self.proved()?.annotation(Global, pos)?;
         Ok(token.map(Token::from))
     }

@@ -24,6 +24,7 @@ impl From<AllocError> for fmt::Error {
 /// A value that was not stored, as a request for memory was refused.
 #[derive(Clone, Copy, Debug, PartialEq, Eq)]
 pub struct AllocFailed<T> {
+    /// What was to be stored.
     pub value: T,
 }
 
