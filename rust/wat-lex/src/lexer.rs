@@ -1,8 +1,8 @@
+use crate::Span;
 use crate::error::Error;
 use crate::proved;
 use crate::shim::alloc::Global;
 use crate::token::Token;
-use crate::Span;
 use alloc::format;
 use core::fmt;
 use core::iter::FusedIterator;
