@@ -56,6 +56,18 @@ impl<'a> Lexer<'a> {
 
     /// The token at a byte of the text, and then the byte is that of the token's end; or None at the text's end.
     ///
+    /// ```
+    /// use wat_lex::{Lexer, TokenKind};
+    ///
+    /// let (lexer, mut pos) = (Lexer::new("(;one;)$x"), 0);
+    /// let comment = lexer.parse(&mut pos)?.unwrap();
+    /// assert_eq!((comment.kind, pos), (TokenKind::BlockComment, 7));
+    /// let name = lexer.parse(&mut pos)?.unwrap();
+    /// assert_eq!((name.kind, pos), (TokenKind::Id, 9));
+    /// assert_eq!(lexer.parse(&mut pos)?, None);
+    /// # Ok::<(), wat_lex::Error>(())
+    /// ```
+    ///
     /// # Errors
     ///
     /// The error of the fault there, or that the text has more than `u32::MAX` bytes. The byte stays.
