@@ -1,8 +1,8 @@
+use crate::Span;
 use crate::error::Error;
 use crate::proved;
 use crate::shim::alloc::Global;
 use crate::token::Token;
-use crate::Span;
 use alloc::format;
 use core::fmt;
 use core::iter::FusedIterator;
@@ -55,6 +55,18 @@ impl<'a> Lexer<'a> {
     }
 
     /// The token at a byte of the text, and then the byte is that of the token's end; or None at the text's end.
+    ///
+    /// ```
+    /// use wat_lex::{Lexer, TokenKind};
+    ///
+    /// let (lexer, mut pos) = (Lexer::new("(;one;)$x"), 0);
+    /// let comment = lexer.parse(&mut pos)?.unwrap();
+    /// assert_eq!((comment.kind, pos), (TokenKind::BlockComment, 7));
+    /// let name = lexer.parse(&mut pos)?.unwrap();
+    /// assert_eq!((name.kind, pos), (TokenKind::Id, 9));
+    /// assert_eq!(lexer.parse(&mut pos)?, None);
+    /// # Ok::<(), wat_lex::Error>(())
+    /// ```
     ///
     /// # Errors
     ///

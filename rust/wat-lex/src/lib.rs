@@ -57,9 +57,9 @@ mod number;
 /// the text ends there. Rust does not check it. Who calls without it gets any answer, or a panic, but nothing that is unsafe.
 ///
 /// Each `ensures`, with its name, is what is proved of the answer. These two say: where the result is `Ok(Some(token))`, that token is the one
-/// that the grammar has at `pos`; and where it is an `Err`, that is the fault there. Of a `&mut`, `x.old` and `x.new` are what it refers to before
-/// and after the call; of all else `x.now` is the value that is seen. `≡` is equality, `→` is "then", `×` is "and", `⊎` is "or", and `λ t. ..` is
-/// a function of `t`.
+/// that the grammar has at `pos`; and where it is an `Err`, that is the fault there. Of a `&`, `x.now` is what it refers to; of a `&mut`, `x.old`
+/// and `x.new` are that before and after the call; a name alone is a value. `≡` is equality, `→` is "then", `×` is "and", `⊎` is "or", and
+/// `λ t. ..` is a function of `t`.
 ///
 /// The words, as `TokenAt`, are defined in the folder `crates/wat_lex/specs` of the repository: the grammar in `grammar`, tokens in `tokens`,
 /// what they read as in `values`, what an error prints in `errors`.
@@ -79,7 +79,9 @@ mod token;
 pub use error::Error;
 pub use lexer::{Lexer, Tokens};
 pub use number::Float;
+#[doc(inline)]
 pub use proved::lexer::{FloatKind, Integer, IntegerKind, LexError, SignToken, TokenKind};
+#[doc(inline)]
 pub use proved::token::Span;
 pub use token::Token;
 
