@@ -1,21 +1,64 @@
-# The static library for C and C++, with its header and a file for pkg-config. `make` proves and builds the archives once; while they are there,
-# `make install` and cargo take them as they are. They are for x86-64 Linux, where alone Rattle's kit makes them.
+# The C library, with its header and a file for pkg-config. cargo builds it, as a static and a shared library, on each system that Rust has; with
+# BY=rattle it is the static library that Rattle's own compilers make, once, for x86-64 Linux: while it is there it is taken as it is.
 #
 #   make install PREFIX=/usr/local
 #   cc program.c $(pkg-config --cflags --libs wat)
+#
+# Without a registry CARGO names cargo with its options: CARGO='cargo --offline --config ..'.
 
 PREFIX ?= /usr/local
+CARGO ?= cargo
+CARGO_TARGET_DIR ?= rust/target
+override CARGO_TARGET_DIR := $(abspath $(CARGO_TARGET_DIR))
+export CARGO_TARGET_DIR
+version := $(shell sed -n 's/^\#define WAT_VERSION_TEXT "\(.*\)"/\1/p' include/wat.h)
+major := $(firstword $(subst ., ,$(version)))
+includes := $(DESTDIR)$(PREFIX)/include
+libraries := $(DESTDIR)$(PREFIX)/lib
+
+.PHONY: all install install-shared
+ifeq ($(BY),rattle)
+
 folder := crates/wat_parser_c/out
 archives := $(folder)/libwat_parser_c.a $(folder)/liblibc_c.a
-
-.PHONY: all install
+libs := -llibc_c
 all: $(archives)
 
 $(archives) &:
 	tools/build_c.sh
 
-install: $(archives)
-	install -d $(DESTDIR)$(PREFIX)/include $(DESTDIR)$(PREFIX)/lib/pkgconfig
-	install -m 644 include/wat.h $(DESTDIR)$(PREFIX)/include/
-	install -m 644 $(archives) $(DESTDIR)$(PREFIX)/lib/
-	sed 's|@PREFIX@|$(PREFIX)|' include/wat.pc.in > $(DESTDIR)$(PREFIX)/lib/pkgconfig/wat.pc
+install-shared:
+
+else
+
+folder := $(CARGO_TARGET_DIR)/release
+archives := $(folder)/libwat_parser_c.a
+# What the archive takes of the system, as rustc writes when it makes it.
+private = $(shell cat $(folder)/libwat_parser_c.libs)
+ifeq ($(shell uname -s),Darwin)
+shared := libwat_parser_c.dylib
+named := libwat_parser_c.$(major).dylib
+name_flag = -Wl,-install_name,$(PREFIX)/lib/$(named)
+else
+shared := libwat_parser_c.so
+named := $(shared).$(major)
+name_flag = -Wl,-soname,$(named)
+endif
+
+all:
+	cd rust && $(CARGO) rustc --locked --release --package wat-c -- \
+	    -C link-arg=$(name_flag) --print native-static-libs=$(folder)/libwat_parser_c.libs
+
+install-shared: all
+	install -d $(libraries)
+	install -m 755 $(folder)/$(shared) $(libraries)/$(named)
+	ln -sf $(named) $(libraries)/$(shared)
+
+endif
+
+install: all install-shared
+	install -d $(includes) $(libraries)/pkgconfig
+	install -m 644 include/wat.h $(includes)/
+	install -m 644 $(archives) $(libraries)/
+	sed 's|@PREFIX@|$(PREFIX)|; s|@VERSION@|$(version)|; s|@LIBS@|$(libs)|; s|@PRIVATE@|$(private)|' include/wat.pc.in \
+	    > $(libraries)/pkgconfig/wat.pc

@@ -1,21 +1,29 @@
 #!/usr/bin/env bash
-# What stands over the static library: the header as C99 and as C++, each function with answers from outside, C programs that list the stored
-# texts and their identifiers, all functions on the stored texts and on mutants of them under the address and undefined-behaviour sanitizers,
-# and the Rust crates with their tests, their examples on the stored texts, and numbers as C reads them. A step whose compiler is not on the
-# machine is left out, and says so.
+# The C library, by both of its compilers: as cargo builds it of the text that tools/erase makes, static and shared, and as Rattle's own compilers
+# make it. Over each, by each C compiler that is here: each function with answers from outside, C programs that list the stored texts and their
+# identifiers, all functions on the stored texts and on mutants of them under the address and undefined-behaviour sanitizers and under valgrind, and
+# each request for memory refused; the header as C99 and as C++; and the declarations of both. Each answers the same. Last numbers as wat-parser
+# reads them, beside `strtof` and `strtod`. What can't be run here is left out, and says so.
 #
-# usage: tools/check_c_and_rust.sh [MUTANTS]
+#   CRATES_FOLDER=FOLDER  the crates that cargo takes, each in a folder of its own, where no registry is at hand
+#
+# usage: [CRATES_FOLDER=FOLDER] tools/check_c_and_rust.sh [MUTANTS]
 set -eu -o pipefail
 cd "$(dirname "$0")/.."
 mutants=${1:-1000}
 room=$(mktemp -d)
 trap 'rm -rf "$room"' EXIT
 texts=crates/wat_tokens/agreement
-c=${CC:-cc}
 cpp=${CXX:-c++}
+strict=(-Wall -Wextra -Werror -pedantic -Iinclude)
 
 say() {
     echo "check_c_and_rust.sh: $*"
+}
+
+fail() {
+    say "$*"
+    exit 1
 }
 
 has() {
@@ -43,102 +51,196 @@ identifiers() {
     done
 }
 
-# compare NAME PROGRAM WANTED..: the program prints of each stored text what the command WANTED.. prints of its name
-compare() {
-    local compared=0 text name=$1 program=$2
-    shift 2
-    for text in $(stored); do
-        "$program" < "$text" > "$room/output" 2> "$room/errors" || true
-        "$@" "$text" | cmp - "$room/output"
-        compared=$((compared + 1))
-    done
-    say "$name prints what is wanted of $compared stored texts"
-}
-
 # list TEXT: the stored list
 list() {
     cat "$1.stdout"
 }
 
-# sanitizes: whether a program can be built and run under the sanitizers
-sanitizes() {
-    printf 'int main(void) { return 0; }\n' > "$room/empty.c"
-    "$c" -fsanitize=address,undefined -o "$room/empty" "$room/empty.c" 2> /dev/null && "$room/empty" 2> /dev/null
+# compare NAME PROGRAM WANTED: the program prints of each stored text what the function WANTED prints of its name
+compare() {
+    local compared=0 text
+    for text in $(stored); do
+        "$2" < "$text" > "$room/output" 2> "$room/errors" || true
+        "$3" "$text" | cmp - "$room/output"
+        compared=$((compared + 1))
+    done
+    say "$1 prints what is wanted of $compared stored texts"
 }
 
-if ! has "$c"; then
-    say "all is left out, as no C compiler $c is here"
-    exit 0
-fi
-folder=$(tools/build_c.sh)
-cp "$folder/libwat_parser_c.a" "$folder/liblibc_c.a" "$room/"
-archives=("$room/libwat_parser_c.a" "$room/liblibc_c.a")
-strict=(-Wall -Wextra -Werror -pedantic -Iinclude)
+# sanitizes COMPILER: whether a program can be built and run under its sanitizers
+sanitizes() {
+    printf 'int main(void) { return 0; }\n' > "$room/empty.c"
+    "$1" -fsanitize=address,undefined -o "$room/empty" "$room/empty.c" 2> /dev/null && "$room/empty" 2> /dev/null
+}
 
-printf '#include "wat.h"\n' > "$room/alone.c"
-"$c" -std=c99 "${strict[@]}" -c -o "$room/alone.o" "$room/alone.c"
-"$c" -std=c99 -O2 "${strict[@]}" -o "$room/list" tools/c/list.c "${archives[@]}"
-compare tools/c/list.c "$room/list" list
-"$c" -std=c99 -O2 "${strict[@]}" -o "$room/identifiers" tools/c/identifiers.c "${archives[@]}"
-compare tools/c/identifiers.c "$room/identifiers" identifiers
+# read_all NAME COMPILER LIBRARY..: all functions on texts and mutants, under the sanitizers
+read_all() {
+    local name=$1 compiler=$2 said
+    shift 2
+    "$compiler" -std=c99 -g -O1 -fsanitize=address,undefined -fno-sanitize-recover=all "${strict[@]}" -o "$room/readers" tools/c/readers.c "$@"
+    said=$(find "$texts" -type f ! -name '*.stdout' ! -name '*.args' -print0 | sort -z | xargs -0 "$room/readers" "$mutants") || fail "$name: $said"
+    say "$name, $compiler with sanitizers: $said"
+}
 
-if has make && has pkg-config; then
-    make -s install PREFIX="$room/installed"
-    flags=$(PKG_CONFIG_PATH="$room/installed/lib/pkgconfig" pkg-config --cflags --libs wat)
-    # (each flag is a word)
-    # shellcheck disable=SC2086
-    "$c" -std=c99 -O2 -o "$room/list" tools/c/list.c $flags
-    compare 'tools/c/list.c over the installed library' "$room/list" list
-else
-    say 'the installed library is left out, as no make or no pkg-config is here'
-fi
+# watch NAME LIBRARY..: the functions under valgrind: each byte that is read has a value, and may be read
+watch() {
+    local name=$1 said
+    shift
+    "$c" -std=c99 -g -O1 "${strict[@]}" -o "$room/readers" tools/c/readers.c "$@"
+    said=$(stored | xargs valgrind --quiet --error-exitcode=9 "$room/readers" 0 2> "$room/errors") || { cat "$room/errors"; fail "$name, valgrind: $said"; }
+    say "$name, valgrind: $said"
+}
 
-"$c" -std=c99 -O2 "${strict[@]}" -o "$room/answers" tools/c/answers.c "${archives[@]}"
-say "each function of the header: $("$room/answers")"
-if sanitizes; then
-    "$c" -std=c99 -g -O1 -fsanitize=address,undefined -fno-sanitize-recover=all "${strict[@]}" -o "$room/readers" tools/c/readers.c "${archives[@]}"
-    find "$texts" -type f ! -name '*.stdout' ! -name '*.args' -print0 | sort -z | xargs -0 "$room/readers" "$mutants"
-else
-    say "the functions on mutants are left out, as $c has no sanitizers here"
-fi
+# call_refused NAME NUMBER: a call with each of its requests for memory refused in turn
+call_refused() {
+    local n asks=0 requests=0 held=0
+    LD_PRELOAD="$room/refuse.so" TELL=9 "$room/refusals" "$2" > "$room/answer" 9> "$room/counts"
+    # shellcheck disable=SC1091
+    . "$room/counts"
+    : > "$room/refused"
+    for ((n = 1; n <= requests; n++)); do
+        LD_PRELOAD="$room/refuse.so" REFUSE_AT=$n "$room/refusals" "$2" >> "$room/refused"
+    done
+    grep -q '^asks' "$room/answer" && asks=1
+    [ "$asks" = "$((requests > 0))" ] || fail "$1: $requests requests: $(cat "$room/answer")"
+    [ "$held" = 0 ] || fail "$1: $held bytes are held: $(cat "$room/answer")"
+    ! grep -v 'status 2, 0 bytes written$' "$room/refused" || fail "$1: no want of memory where a request is refused"
+    sort -u "$room/answer" "$room/refused" >> "$room/answers of $1"
+    refused=$((refused + requests))
+}
 
-if has "$cpp"; then
-    printf '#include "wat.h"\nint main() { return wat_is_text(reinterpret_cast<const uint8_t *>("("), 1) ? 0 : 1; }\n' > "$room/alone.cc"
-    "$cpp" -std=c++11 "${strict[@]}" -o "$room/alone" "$room/alone.cc" "${archives[@]}"
-    "$room/alone"
-    say 'the header is C99 and C++11'
-else
-    say "the header as C++ is left out, as no C++ compiler $cpp is here"
-fi
+# refuse NAME LIBRARY..: each request for memory of a library refused
+refuse() {
+    local name=$1 number calls refused=0
+    shift
+    "$c" -std=c99 -O2 "${strict[@]}" -o "$room/refusals" tools/c/refusals.c "$@"
+    calls=$("$room/refusals")
+    : > "$room/answers of $name"
+    for ((number = 0; number < calls; number++)); do
+        call_refused "$name" "$number"
+    done
+    say "$name: $calls calls, each of their $refused requests for memory refused, which each answers"
+}
+
+# suite NAME LIBRARY..: all of tools/c over a library
+suite() {
+    local name=$1 compiler level said
+    shift
+    libraries+=("$name")
+    for compiler in "${compilers[@]}"; do
+        for level in -O0 -O2; do
+            "$compiler" -std=c99 "$level" "${strict[@]}" -o "$room/answers" tools/c/answers.c "$@"
+            said=$("$room/answers") || fail "$name, $compiler $level: $said"
+            say "$name, $compiler $level: $said"
+        done
+        if sanitizes "$compiler"; then
+            read_all "$name" "$compiler" "$@"
+        else
+            say "$name: the functions on mutants are left out, as $compiler has no sanitizers here"
+        fi
+    done
+    "$c" -std=c99 -O2 "${strict[@]}" -o "$room/list" tools/c/list.c "$@"
+    compare "$name: list.c" "$room/list" list
+    "$c" -std=c99 -O2 "${strict[@]}" -o "$room/identifiers" tools/c/identifiers.c "$@"
+    compare "$name: identifiers.c" "$room/identifiers" identifiers
+    refuse "$name" "$@"
+    if has valgrind; then
+        watch "$name" "$@"
+    else
+        say "$name: valgrind is left out, as it is not here"
+    fi
+    if has "$cpp"; then
+        "$cpp" -std=c++11 "${strict[@]}" -o "$room/alone" "$room/alone.cc" "$@"
+        "$room/alone"
+    fi
+}
+
+# with_crates: the options by which cargo finds the crates, one a line; fails where they are not at hand
+with_crates() {
+    if [ -n "${CRATES_FOLDER:-}" ]; then
+        printf '%s\n' --offline --config 'source.crates-io.replace-with="local"' --config "source.local.directory=\"$(realpath "$CRATES_FOLDER")\""
+    else
+        (cd rust && CARGO_NET_RETRY=0 timeout 60 cargo fetch --locked --quiet 2> /dev/null)
+    fi
+}
+
+# by_cargo: the suite over what cargo builds and `make` installs
+by_cargo() {
+    local options installed=$room/installed words
+    mapfile -t options < "$room/options"
+    words=$(printf "'%s' " "${options[@]}")
+    make -s install PREFIX="$installed" CARGO="cargo --quiet $words" CARGO_TARGET_DIR="$room/target"
+    read -ra private <<< "$(cat "$room/target/release/libwat_parser_c.libs")"
+    suite 'cargo, static' "$installed/lib/libwat_parser_c.a" "${private[@]}"
+    suite 'cargo, shared' -L"$installed/lib" -lwat_parser_c -Wl,-rpath,"$installed/lib"
+    if has pkg-config; then
+        read -ra options < <(PKG_CONFIG_PATH="$installed/lib/pkgconfig" pkg-config --cflags --libs wat)
+        "$c" -std=c99 -o "$room/list" tools/c/list.c "${options[@]}"
+        LD_LIBRARY_PATH=$installed/lib compare 'cargo, by pkg-config: list.c' "$room/list" list
+    fi
+}
+
+# by_cargo_with_sanitizer: all functions over an archive whose own code looks at each address
+by_cargo_with_sanitizer() {
+    local options target
+    mapfile -t options < "$room/options"
+    target=$(rustc -vV | sed -n 's/^host: //p')
+    if ! (cd rust && RUSTC_BOOTSTRAP=1 RUSTFLAGS=-Zsanitizer=address CARGO_TARGET_DIR=$room/checked cargo --quiet "${options[@]}" \
+        rustc --locked --release --package wat-c --target "$target" --crate-type staticlib 2> "$room/errors"); then
+        say 'an archive with the address sanitizer is left out, as this rustc does not build it'
+        return
+    fi
+    for compiler in "${compilers[@]}"; do
+        if sanitizes "$compiler"; then
+            read_all 'cargo, with the address sanitizer' "$compiler" "$room/checked/$target/release/libwat_parser_c.a" "${private[@]}"
+        fi
+    done
+}
+
+# floats: numbers as wat-parser reads them and as C does
+floats() {
+    local options said
+    mapfile -t options < "$room/options"
+    (cd rust && CARGO_TARGET_DIR=$room/target cargo --quiet "${options[@]}" build --locked --release --package wat-parser --example floats)
+    "$c" -std=c99 -O2 "${strict[@]}" -o "$room/floats" tools/c/floats.c
+    said=$("$room/floats" 200000 | "$room/target/release/examples/floats") || fail "floats: $said"
+    say "as strtof and strtod: $said"
+}
 
 tools/compare_declarations.py
-if ! has cargo || ! has rustc; then
-    say 'the Rust crates are left out, as no cargo or no rustc is here'
+compilers=() libraries=()
+for compiler in "${CC:-cc}" gcc clang; do
+    # (each once, whatever names it has)
+    found=$(realpath "$(command -v "$compiler")" 2> /dev/null) || continue
+    [[ " ${compilers[*]} " == *" $found "* ]] || compilers+=("$found")
+done
+if [ "${#compilers[@]}" = 0 ]; then
+    say 'all else is left out, as no C compiler is here'
     exit 0
 fi
-export CARGO_TARGET_DIR="$room/target" WAT_C_FOLDER="$room"
-cd rust
-cargo test --offline --release --quiet
-cargo test --offline --release --quiet --package wat-parser --features kept
-cargo test --offline --release --quiet --package wat-parser --test tables -- --ignored a_text_of_4_gib
-(ulimit -v 1200000 && cargo test --offline --release --quiet --package wat-parser --test tables -- --ignored refused_memory)
-cargo build --offline --release --quiet --examples
-cd ..
-if has valgrind; then
-    # Both crates over the library: each byte that is read has a value, and is one that may be read.
-    find "$room/target/release/deps" -type f -perm -u+x \( -name 'rows-*' -o -name 'tables-*' -o -name 'values-*' \) -print0 \
-        | xargs -0 -n 1 valgrind --quiet --error-exitcode=9 > "$room/valgrind" 2>&1 || { cat "$room/valgrind"; exit 1; }
-    say 'valgrind finds nothing in the tests of the Rust crates'
+c=${compilers[0]}
+printf '#include "wat.h"\n' > "$room/alone.c"
+"$c" -std=c99 "${strict[@]}" -c -o "$room/alone.o" "$room/alone.c"
+printf '#include "wat.h"\nint main() { return wat_is_text(reinterpret_cast<const uint8_t *>("("), 1) ? 0 : 1; }\n' > "$room/alone.cc"
+has "$cpp" || say "the header as C++ is left out, as no C++ compiler $cpp is here"
+"$c" -O1 -fPIC -shared -nostdlib -o "$room/refuse.so" tools/refuse_requests.c
+
+if ! has cargo || ! has make; then
+    say 'the library by cargo is left out, as no cargo or no make is here'
+elif ! with_crates > "$room/options"; then
+    say 'the library by cargo is left out, as CRATES_FOLDER names no folder and no registry is at hand'
 else
-    say 'valgrind over the tests of the Rust crates is left out, as it is not here'
+    by_cargo
+    by_cargo_with_sanitizer
+    floats
 fi
-compare 'list of the Rust crate' "$room/target/release/examples/list" list
-compare 'identifiers of the Rust crate' "$room/target/release/examples/identifiers" identifiers
-"$c" -std=c99 -O2 -Wall -Wextra -Werror -pedantic -o "$room/floats" tools/c/floats.c
-say "as strtof and strtod: $("$room/floats" 200000 | "$room/target/release/examples/floats")"
-# Neither archive is needed to check and to document the crates.
-WAT_C_FOLDER=$room/none cargo doc --offline --quiet --no-deps --manifest-path rust/Cargo.toml 2> "$room/warnings"
-if grep -v '^warning: wat-lex@.*: no .*make it by tools/build_c.sh' "$room/warnings" | grep .; then
-    say 'the documentation of the Rust crates has warnings'
-    exit 1
+if has rt; then
+    folder=$(tools/build_c.sh)
+    suite "Rattle's compilers" "$folder/libwat_parser_c.a" "$folder/liblibc_c.a"
+else
+    say "the library by Rattle's compilers is left out, as no rt is here"
 fi
+for library in "${libraries[@]}"; do
+    cmp "$room/answers of ${libraries[0]}" "$room/answers of $library"
+done
+say "${#libraries[@]} libraries answer alike: $(printf '%s; ' "${libraries[@]}")"

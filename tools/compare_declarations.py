@@ -1,7 +1,7 @@
 #!/usr/bin/env python3
-"""Compares the declarations of the static library's functions: those of the Rust crate with the C header, and those of the header with the
-library's own, in Rattle. Compared are the names and types of arguments and of the fields of structs, in their order, the types of answers, and
-the numbers to which both Rust and C give a name. A slice of Rattle is a pointer and a length there, and its allocator no argument.
+"""Compares the declarations of the C header with those of the library, in Rattle and in the Rust that tools/erase makes of it. Compared are the
+names and types of arguments and of the fields of structs, in their order, the types of answers, the numbers of faults and of kinds of tokens, and
+the version. A slice of Rattle is a pointer and a length in C and in Rust, and its allocator no argument.
 
 usage: compare_declarations.py
 """
@@ -11,13 +11,13 @@ from pathlib import Path
 
 PROJECT = Path(__file__).resolve().parent.parent
 HEADER = PROJECT / "include/wat.h"
-RUST = [PROJECT / "rust/wat-lex/src/library.rs", PROJECT / "rust/wat-lex/src/library/rows.rs"]
+PACKAGE = PROJECT / "rust/Cargo.toml"
+RUST = sorted((PROJECT / "rust/wat-c/src").rglob("*.rs"))
 RATTLE = sorted(path for name in ("wat_parser_c", "wat_rows") for path in (PROJECT / "crates" / name / "src").rglob("*.rt"))
 NUMBERS = {"uint8_t": "u8", "uint32_t": "u32", "uint64_t": "u64", "size_t": "usize", "bool": "bool"}
-# Structs whose name in Rust is not that in C without `wat_`, and those of which it is not that in Rattle.
-IN_C = {"wat_token": "Raw"}
-IN_RATTLE = {"TokenRow": "Raw", "KindRow": "Kind"}
-# What the length of a slice is called, where it is not the slice's name and `_len`.
+# Structs of which the library's name is not that in C without `wat_`.
+STRUCTS = {"wat_token": "TokenRow", "wat_kind": "KindRow"}
+# What C calls the length of a slice, where it is not the slice's name and `_len`.
 LENGTHS = {"text": "len", "out": "room", "rows": "count", "ends": "names_count"}
 
 
@@ -25,7 +25,7 @@ def in_rust(c_type):
     """A type of C as Rust writes it."""
     words = c_type.replace("*", " * ").split()
     name = [word for word in words if word not in ("const", "struct", "*")][0]
-    name = NUMBERS.get(name) or IN_C.get(name) or name.removeprefix("wat_").capitalize()
+    name = NUMBERS.get(name) or STRUCTS.get(name) or name.removeprefix("wat_").capitalize()
     if "*" not in words:
         return name
     return ("*const " if "const" in words else "*mut ") + name
@@ -38,85 +38,86 @@ def of_c(declared):
 
 
 def read_header(text):
+    numbers = {name.replace("_", ""): int(number) for name, number in re.findall(r"\bWAT_(\w+)(?: =)? (\d+)\b", text)}
     text = re.sub(r"/\*.*?\*/", "", text, flags=re.S)
     functions = {}
     for answer, name, parameters in re.findall(r"^((?:struct )?\w+) (wat_\w+)\(([^)]*)\);", text, re.M):
-        answer = None if answer == "void" else in_rust(answer)
-        functions[name] = ([of_c(parameter) for parameter in parameters.split(",") if parameter != "void"], answer)
+        passed = [of_c(parameter) for parameter in parameters.split(",") if parameter != "void"]
+        functions[name] = (passed, None if answer == "void" else in_rust(answer))
     structs = {}
     for name, fields in re.findall(r"^struct (wat_\w+) \{([^}]*)\}", text, re.M):
         structs[in_rust(name)] = [of_c(field) for field in fields.split(";") if field.strip()]
-    return functions, structs, dict(re.findall(r"\bWAT_(\w+) = (\d+)", text))
+    return functions, structs, numbers
+
+
+def of_slice(declared):
+    """A parameter of Rattle as Rust has it, with the name that C has for its length."""
+    name, declared_type = declared.split(": ")
+    reference, slice_of, bare = re.fullmatch(r"(&mut |&|\*const |\*mut )?(\[)?(\w+)\]?", declared_type).groups()
+    if bare == "Global":
+        return []
+    pointer = {None: "", "&": "*const ", "&mut ": "*mut "}.get(reference, reference)
+    length = [f"{LENGTHS.get(name, name + '_len')}: usize"] if slice_of else []
+    owner = name.removesuffix("_len")
+    return [f"{LENGTHS.get(owner, name) if owner != name else name}: {pointer}{bare}"] + length
 
 
 def listed(text):
-    """Parameters or fields of Rust or Rattle."""
     return [item.strip().removeprefix("pub ") for item in text.split(",") if item.strip()]
 
 
-def read_structs(text):
-    found = re.findall(r"#\[repr\(C\)\]\n(?:#.*\n)*(?:pub )?struct (\w+) \{([^}]*)\}", text)
-    return {name: listed(fields) for name, fields in found}
-
-
-def read_rust(text):
+def read_library(text):
+    """What the library declares, in Rattle or in Rust."""
     text = re.sub(r"//.*", "", text)
     functions = {}
-    for block in re.findall(r'unsafe extern "C" \{(.*?)^\}', text, re.M | re.S):
-        for name, parameters, answer in re.findall(r"fn (\w+)\((.*?)\)(?: -> (\w+))?;", block, re.S):
-            functions[name] = (listed(parameters), answer or None)
-    return functions, read_structs(text), dict(re.findall(r"const (\w+): u(?:8|32) = (\d+);", text))
-
-
-def of_rattle(declared):
-    """A parameter or field of Rattle, as Rust hands it over."""
-    name, rattle_type = declared.split(": ")
-    reference, slice_of, bare = re.fullmatch(r"(&mut |&)?(\[)?(\w+)\]?", rattle_type).groups()
-    bare = IN_RATTLE.get(bare, bare)
-    if bare == "Global":
-        return []
-    pointer = {None: "", "&": "*const ", "&mut ": "*mut "}[reference]
-    length = [f"{LENGTHS.get(name, name + '_len')}: usize"] if slice_of else []
-    return [f"{name}: {pointer}{bare}"] + length
-
-
-def read_rattle(text):
-    text = re.sub(r"//.*", "", text)
-    functions = {}
-    exported = re.findall(r'#\[unsafe\(no_mangle\)\]\npub extern "C" fn (\w+)\((.*?)\)(?: -> (\w+))?\s', text, re.S)
+    exported = re.findall(r'#\[unsafe\(no_mangle\)\]\npub (?:unsafe )?extern "C" fn (\w+)\((.*?)\)(?: -> (\w+))?\s', text, re.S)
     for name, parameters, answer in exported:
-        functions[name] = ([part for item in listed(parameters) for part in of_rattle(item)], IN_RATTLE.get(answer, answer) or None)
-    structs = {IN_RATTLE.get(name, name): [of_rattle(field)[0] for field in fields] for name, fields in read_structs(text).items()}
-    return functions, structs, {}
+        functions[name] = ([part for item in listed(parameters) for part in of_slice(item)], answer or None)
+    structs = re.findall(r"#\[repr\(C\)\]\n(?:#.*\n)*pub struct (\w+) \{([^}]*)\}", text)
+    numbers = {name.upper(): int(code) for name, code in re.findall(r"LexError::(\w+).* => (\d+),", text)}
+    tags = re.findall(r"TokenKind::(\w+) => (\d),", text)
+    return functions, {name: listed(fields) for name, fields in structs}, numbers | {name.upper(): int(tag) + 1 for name, tag in tags}
 
 
-def compare(language, declared, header, whole):
-    """How many declarations differ from the header's; where these are to be all of the header's, one that is missing does too."""
+def compare(language, library, header):
+    """How many declarations differ from the header's."""
     differ = 0
-    for kind, of_header in zip(declared[:2], header[:2]):
-        for name in sorted(of_header.keys() | kind.keys() if whole else kind.keys()):
+    for kind, of_header in zip(library[:2], header[:2]):
+        for name in sorted(of_header.keys() | kind.keys()):
             if kind.get(name) != of_header.get(name):
                 differ += 1
                 print(f"{name}: {kind.get(name)} in {language}, {of_header.get(name)} in C")
-    for name in declared[2].keys() & header[2].keys():
-        if declared[2][name] != header[2][name]:
+    for name, number in library[2].items():
+        if number != header[2].get(name):
             differ += 1
-            print(f"{name}: {declared[2][name]} in {language}, {header[2][name]} in C")
-    counts = [len(kind) for kind in declared[:2]]
+            print(f"{name}: {number} in {language}, {header[2].get(name)} in C")
+    counts = [len(kind) for kind in library]
     if 0 in counts:
         sys.exit(f"compare_declarations.py: nothing was found in {language} to compare")
-    print(f"compare_declarations.py: {counts[0]} functions and {counts[1]} structs of {language} compared with wat.h, {differ} differ")
+    print("compare_declarations.py: {} functions, {} structs and {} numbers of".format(*counts), f"{language} compared with wat.h, {differ} differ")
     return differ
 
 
+def versions(header_text, header):
+    """The version in each of its places, as a number."""
+    yield header[2]["VERSION"]
+    for text in (re.search(r'WAT_VERSION_TEXT "(.*)"', header_text)[1], re.search(r'^version = "(.*)"', PACKAGE.read_text(), re.M)[1]):
+        first, second, third = map(int, text.split("."))
+        yield 10000 * first + 100 * second + third
+    for path in (RUST[0].parent / "proved/version.rs", PROJECT / "crates/wat_parser_c/src/version.rt"):
+        yield int(re.search(r"^    (\d+)$", path.read_text(), re.M)[1])
+
+
 def main():
-    header = read_header(HEADER.read_text())
-    rust = read_rust("\n".join(path.read_text() for path in RUST))
-    rattle = read_rattle("\n".join(path.read_text() for path in RATTLE))
-    differ = compare("Rust", rust, header, False) + compare("Rattle", rattle, header, True)
-    numbers = len(rust[2].keys() & header[2].keys())
-    print(f"compare_declarations.py: {numbers} numbers are in both Rust and C")
-    sys.exit(1 if differ or not numbers else 0)
+    text = HEADER.read_text()
+    header = read_header(text)
+    libraries = {language: read_library("\n".join(path.read_text() for path in paths)) for language, paths in (("Rust", RUST), ("Rattle", RATTLE))}
+    differ = sum(compare(language, library, header) for language, library in libraries.items())
+    found = list(versions(text, header))
+    if len(set(found)) > 1:
+        differ += 1
+        print(f"compare_declarations.py: the versions are {found}")
+    sys.exit(1 if differ else 0)
 
 
 main()

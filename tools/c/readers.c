@@ -9,7 +9,8 @@
 #include <stdlib.h>
 #include <string.h>
 
-enum { ROOM = 7, READERS = 9, UNTOUCHED = 0xA5 };
+/* A byte of a buffer before a call, which is a `bool` too. */
+enum { ROOM = 7, READERS = 9, UNTOUCHED = 1 };
 
 static unsigned long long texts, tokens_seen, faults_seen, values_seen, wrong;
 static uint64_t seed = 88172645463325252u;

@@ -21,12 +21,16 @@ CLOSERS = {"(": ")", "[": "]", "{": "}"}
 CLOSING = (")", "]", "}", ">")
 # After these a parenthesis begins no call.
 NO_CALLS = ("as", "break", "else", "if", "in", "let", "match", "mut", "ref", "return", "while")
-SAME_IN_CORE = ("fmt", "hash", "marker", "mem", "result", "str", "{")
+SAME_IN_CORE = ("cmp", "fmt", "hash", "marker", "mem", "result", "str", "{")
+# Only the program's sources use these, which `core` has not.
+STREAMS = ("env", "fs", "io", "path", "process", "rt")
 
 # What is written otherwise, wherever it is found: the tokens of the source, and those that have to be in their place.
 WRITTEN = [
     *((f"std::{name}", f"SHIM::{name}") for name in ("alloc", "borrow", "collections", "simd")),
-    *((f"std::{name}", f"core::{name}") for name in SAME_IN_CORE),
+    *((f"std::{name}", f"STD::{name}") for name in SAME_IN_CORE + STREAMS),
+    ("itoa::", "SHIM::itoa::"),
+    ("BY_SHUFFLE: bool = true", "BY_SHUFFLE: bool = SHIM::simd::HAS_SHUFFLE"),
     ("smallvec::", "SHIM::smallvec::"),
     ("unicode_width::", "SHIM::unicode_width::"),
     ("vec![in", "try_vec!["),
@@ -36,11 +40,16 @@ WRITTEN = [
     (".join(alloc,", ".join_in(alloc,"),
     (".to_string(alloc)", ".to_string_in(alloc)"),
     (".kind.clone()?", ".kind.clone()"),
+    ("println!(rt;", "try_println!(rt;"),
+    ("eprintln!(rt;", "try_eprintln!(rt;"),
+    ("fn main(rt:", "pub fn main(rt:"),
+    ("let text = unsafe { str::from_utf8_unchecked(text) };", "// SAFETY: rule 2 of wat.h.\nlet text = unsafe { str::from_utf8_unchecked(text) };"),
     # What is taken away.
     ("use std::marker::Model;", ""),
     ("+ Drop", ""),
     (": Drop,", ","),
     (": Drop>", ">"),
+    (": Drop;", ";"),
 ]
 # Where each crate is found by the others, and by itself.
 PLACES = {
@@ -49,9 +58,24 @@ PLACES = {
     "wat_lexer_parser": ("wat_parser::proved", "crate::proved"),
     "wat_lex_answers": ("", "crate::lex_answers"),
     "wat_answers": ("", "crate::answers"),
+    "wat_rows": ("", "crate::rows"),
+    "wat_parser_c": ("", "crate::proved"),
+    "wat_format": ("wat_tokens::format", "crate::format"),
+    "wat_lines": ("wat_tokens::lines", "crate::lines"),
+    "wat_lists": ("wat_tokens::lists", "crate::lists"),
+    "wat_types": ("wat_tokens::types", "crate::types"),
+    "wat_commands": ("wat_tokens::commands", "crate::commands"),
+    "wat_tokens": ("wat_tokens::program", "crate::program"),
 }
 # Crates that are compiled together see each other as they see themselves.
-TOGETHER = [{"wat_words", "wat_lexer_parser"}, {"wat_lex_answers", "wat_answers"}]
+PROGRAM = {"wat_format", "wat_lines", "wat_lists", "wat_types", "wat_commands", "wat_tokens"}
+TOGETHER = [{"wat_words", "wat_lexer_parser"}, {"wat_lex_answers", "wat_answers"}, {"wat_rows", "wat_parser_c"}, PROGRAM]
+# Of a function that C calls, with a space between tokens: what C passes of a slice, and the statements that its body begins with.
+PASSED = re.compile(r"(\w+) : \* (const|mut) (\w+) , \1_len : usize")
+MADE = re.compile(
+    r"// SAFETY: `(?P<slice>\w+)` points to `(?P=slice)_len` values, by rules? 1(?P<buffer> and 5)? of wat\.h\. let (?P=slice) = unsafe "
+    r"{ core : : slice : : from_raw_parts(?P<mut>_mut)? \( (?P=slice) , (?P=slice)_len \) } ;|let (?P<handle>\w+) = Global ;"
+)
 
 
 def place(crate, seen_from):
@@ -60,7 +84,12 @@ def place(crate, seen_from):
 
 
 def shim_place(crate):
-    return "crate::shim" if crate == "wat_lex" else "wat_lex::shim"
+    return "crate::shim" if crate == "wat_lex" or crate in PROGRAM else "wat_lex::shim"
+
+
+def std_place(crate):
+    """Where the rest of Rattle's `std` is. The program's shim has all of it."""
+    return "crate::shim" if crate in PROGRAM else "core"
 
 
 class Fault(Exception):
@@ -129,11 +158,13 @@ class Walk:
         others = [(f"{other}::", f"{place(other, crate)}::") for other in PLACES]
         for before, after in [*WRITTEN, ("crate::", f"{self.root}::"), *others]:
             before = scan(before)
-            self.written[before[0].text].append((before, scan(after.replace("SHIM", self.shim))))
+            self.written[before[0].text].append((before, scan(after.replace("SHIM", self.shim).replace("STD", std_place(crate)))))
         self.name = name
         self.contracts = {}
         self.at = self.there = 0
         self.function = None
+        # The place after what the body of a function that C calls begins with, by the place of the body.
+        self.bodies = {}
         self.unwrapped, self.wrapped = set(), set()
         # Of each group that is open in the source: whether a comma at its end is a matter of layout.
         self.groups = []
@@ -152,7 +183,7 @@ class Walk:
             pass
         self.take_prelude()
         while self.at < len(self.source):
-            if not self.is_taken_away() and not self.is_laid_out() and not self.is_written_otherwise():
+            if not self.is_taken_away() and not self.is_laid_out() and not self.is_written_otherwise() and not self.is_called_by_c():
                 self.equal()
         while self.there < len(self.made) and self.made[self.there].text == ",":
             self.fault("a sign too many")
@@ -217,7 +248,7 @@ class Walk:
             self.function = None
         self.note(self.at)
         self.at += 1
-        self.there += 1
+        self.there = self.bodies.pop(self.there + 1, self.there + 1)
 
     def note(self, at):
         """Keeps account of groups. In parentheses that are no call's, one comma makes a tuple."""
@@ -363,6 +394,44 @@ class Walk:
             return True
         return False
 
+    def is_called_by_c(self):
+        """Whether a function is here that C calls. With what its body begins with, what C passes has to read as its parameters."""
+        if [token.text for token in self.source[self.at : self.at + 3]] != ["extern", '"C"', "fn"]:
+            return False
+        end, wanted = self.parameters(self.source, self.at + 4)
+        if "[" in wanted:
+            if self.made[self.there].text != "unsafe":
+                self.fault("who passes a pointer is not warned")
+            self.there += 1
+        for _ in range(4):
+            self.equal()
+        self.there, passed = self.parameters(self.made, self.there)
+        self.at = end
+        read = PASSED.sub(lambda part: f"{part[1]} : & {'mut ' * (part[2] == 'mut')}[ {part[3]} ]", passed)
+        if read != re.sub(r"\w+ : Global( , )?", "", wanted):
+            self.fault("what C passes are other parameters")
+        if self.read_body() != re.findall(r"(\w+) : (Global|& \[|& mut \[)", wanted):
+            self.fault("the body begins with other parameters")
+        return True
+
+    def parameters(self, tokens, at):
+        """The place after a function's parameters, and their tokens."""
+        end = self.after_group(at, tokens)
+        return end, " ".join(token.text for token in tokens[at + 1 : end - 1]).removesuffix(" ,")
+
+    def read_body(self):
+        """The parameters that are made where the body begins of the function whose parameters end here, in the order of the statements."""
+        texts = [*(token.text for token in self.made), "{", ";"]
+        body = at = texts.index("{", self.there) + 1
+        read = []
+        while found := MADE.fullmatch(" ".join(texts[at : (end := texts.index(";", at) + 1)])):
+            if (found["buffer"] is None) != (found["mut"] is None):
+                self.fault("a rule that is not the buffer's")
+            read.append((found["handle"], "Global") if found["handle"] else (found["slice"], "& mut [" if found["mut"] else "& ["))
+            at = end
+        self.bodies[body] = at
+        return read
+
     def is_laid_out(self):
         """Whether the layout makes a difference here: by a comma before a closing bracket, or by an arm's braces around one expression."""
         here, there = self.source[self.at].text, self.made[self.there].text if self.there < len(self.made) else ""
@@ -485,7 +554,29 @@ PLANTED = [
     ("an operator is another one", "wat_lex/src/token.rt", "self.name() == other.name() && self", "self.name() == other.name() || self"),
     ("a function is there twice", "wat_words/src/table.rt", "fn entry_at", "fn entry_at() {}\nfn entry_at"),
     ("a comment is dropped", "wat_lex/src/lexer/scan/starts.rt", "// Bytes that are neighbours stand", "// Bytes"),
+    ("a line goes out by Rust's macro", "wat_tokens/src/report.rt", "match try_println!(rt;", "match println!(rt;"),
+    ("files are Rust's own", "wat_tokens/src/replace.rt", "use crate::shim::fs::{File", "use std::fs::{File"),
+    ("a bound is gained", "wat_format/src/sink.rt", "type Failure;", "type Failure: Copy;"),
+    ("a block is smaller", "wat_lines/src/block.rt", "const BLOCK: usize = 65_536;", "const BLOCK: usize = 65_535;"),
     ("the end is lost", "wat_lex/src/gensym.rt", "Ok(Id::gensym(span, self.generation))\n    }\n}", ""),
+    ("C passes the length first", "wat_parser_c/src/lib.rt", "(text: *const u8, text_len: usize)", "(text_len: usize, text: *const u8)"),
+    ("C passes no length", "wat_parser_c/src/lib.rt", "out: *mut TokenRow, out_len: usize)", "out: *mut TokenRow)"),
+    ("C passes a length of another type", "wat_parser_c/src/lib.rt", "text_len: usize, pos", "text_len: u32, pos"),
+    ("C passes an allocator", "wat_parser_c/src/lib.rt", "wat_string(text: *const u8", "wat_string(alloc: Global, text: *const u8"),
+    ("C passes values of another type", "wat_parser_c/src/looks.rt", "out: *mut Row", "out: *mut Kind"),
+    ("C passes what is constant for a buffer", "wat_parser_c/src/looks.rt", "wat_links(rows: *mut Row", "wat_links(rows: *const Row"),
+    ("C passes a buffer for what is constant", "wat_parser_c/src/looks.rt", "wat_behind(rows: *const Row", "wat_behind(rows: *mut Row"),
+    ("a parameter is not made", "wat_parser_c/src/looks.rt", "let names = unsafe { core::slice::from_raw_parts(names, names_len) };", ""),
+    ("a buffer is made with another's length", "wat_parser_c/src/words.rt", "from_raw_parts(text, text_len)", "from_raw_parts(text, row_len)"),
+    ("a buffer is made of what is constant", "wat_parser_c/src/looks.rt", "from_raw_parts_mut(rows, rows_len)", "from_raw_parts(rows, rows_len)"),
+    ("a parameter is made twice", "wat_parser_c/src/looks.rt", "let alloc = Global;", "let alloc = Global;\nlet alloc = Global;"),
+    ("the allocator is not made", "wat_parser_c/src/by_row.rt", "let alloc = Global;", ""),
+    ("a parameter is made after the first statement", "wat_parser_c/src/version.rt", "100\n", "let alloc = Global;\n100\n"),
+    ("no rule is named", "wat_parser_c/src/words.rt", "// SAFETY: `text` points to `text_len` values, by rule 1 of wat.h.\n", ""),
+    ("another rule is named", "wat_parser_c/src/messages.rt", "by rules 1 and 5 of", "by rule 1 of"),
+    ("who passes a pointer is not warned", "wat_parser_c/src/words.rt", "pub unsafe extern", "pub extern"),
+    ("a function of no pointer is unsafe", "wat_parser_c/src/version.rt", "pub extern", "pub unsafe extern"),
+    ("a function has no C convention", "wat_parser_c/src/version.rt", 'extern "C" ', ""),
 ]
 # What the sources do not have.
 OTHERS = "/// It is.\npub unsafe fn of(x: u8)\n    ensures { ⊤ }\n{\n    let one = (1,);\n    let two = (2);\n}\n"
@@ -506,7 +597,7 @@ def planted_faults(name, file, before, after):
 
 def bugs_of_eraser():
     """Bugs that are planted into the tool itself: a rule of it does nothing, or an entry of the closed list is not there."""
-    for rule in ("ghost", "contract", "attribute", "model", "drop_docs"):
+    for rule in ("ghost", "contract", "attribute", "model", "drop_docs", "exported", "body"):
         kept = getattr(erase.Eraser, rule)
         setattr(erase.Eraser, rule, lambda self, at=None: None)
         yield f"the tool has no rule {rule}", next(made_faults(), None)
@@ -517,6 +608,11 @@ def bugs_of_eraser():
         yield f"the tool's list has no {entry}", next(made_faults(), None)
         erase.WRITTEN.clear()
         erase.WRITTEN.update(kept)
+    for form in list(erase.PASSED):
+        place = erase.PASSED.index(form)
+        del erase.PASSED[place]
+        yield f"the tool passes to C as it is {form[0]}", next(made_faults(), None)
+        erase.PASSED.insert(place, form)
 
 
 def self_test():

@@ -19,21 +19,33 @@ MODULES = {
     "wat_lexer_parser": "wat-parser/src/proved",
     "wat_lex_answers": "wat-parser/tests/table_of_answers/lex_answers",
     "wat_answers": "wat-parser/tests/table_of_answers/answers",
+    "wat_rows": "wat-c/src/rows",
+    "wat_parser_c": "wat-c/src/proved",
+    "wat_format": "wat-tokens/src/format",
+    "wat_lines": "wat-tokens/src/lines",
+    "wat_lists": "wat-tokens/src/lists",
+    "wat_types": "wat-tokens/src/types",
+    "wat_commands": "wat-tokens/src/commands",
+    "wat_tokens": "wat-tokens/src/program",
 }
 # What takes Rattle's streams is written in Rust.
 LEFT_OUT = {"wat_answers/src/main.rt"}
-# What is written otherwise: the closed list. The first entry that fits counts. SHIM is the path of the shim, SELF that of the source's crate.
+# What is written otherwise: the closed list. The first entry that fits counts. SHIM is the path of the shim, STD that of what it leaves to Rust,
+# SELF that of the source's crate.
 WRITTEN = {
     # Rust has no models, and drops each value.
     "use std::marker::Model;": "",
     "+ Drop": "",
     ": Drop,": ",",
     ": Drop>": ">",
+    ": Drop;": ";",
     # What takes memory from an allocator, and may be refused, is the shim's.
     "std::alloc": "SHIM::alloc",
     "std::borrow": "SHIM::borrow",
     "std::collections": "SHIM::collections",
     "std::simd": "SHIM::simd",
+    "itoa::": "SHIM::itoa::",
+    "BY_SHUFFLE: bool = true": "BY_SHUFFLE: bool = SHIM::simd::HAS_SHUFFLE",
     "smallvec::": "SHIM::smallvec::",
     "unicode_width::": "SHIM::unicode_width::",
     "format!(in": "try_format!(",
@@ -45,10 +57,30 @@ WRITTEN = {
     # A formatter has its writer as a parameter in Rattle, and none in Rust.
     "<W: fmt::Write>": "",
     "fmt::Formatter<W>": "fmt::Formatter<'_>",
+    # What reaches outside of the process takes a handle of it, which a program is given.
+    "println!(rt;": "try_println!(rt;",
+    "eprintln!(rt;": "try_eprintln!(rt;",
+    "fn main(rt:": "pub fn main(rt:",
+    # Who calls from C owes what Rattle's compiler has as proved.
+    "let text = unsafe { str::from_utf8_unchecked(text) };": "// SAFETY: rule 2 of wat.h.\nlet text = unsafe { str::from_utf8_unchecked(text) };",
     # The roots of all other paths; those of the other crates are `path_of`.
-    "std::": "core::",
+    "std::": "STD::",
     "crate::": "SELF::",
 }
+# The parameters of a function that C calls: a form of the source, what C passes, and the statement that makes the first of it.
+PASSED = [
+    (
+        r"(\w+): &\[(\w+)\]",
+        r"\1: *const \2, \1_len: usize",
+        "// SAFETY: `\\1` points to `\\1_len` values, by rule 1 of wat.h.\nlet \\1 = unsafe { core::slice::from_raw_parts(\\1, \\1_len) };\n",
+    ),
+    (
+        r"(\w+): &mut \[(\w+)\]",
+        r"\1: *mut \2, \1_len: usize",
+        "// SAFETY: `\\1` points to `\\1_len` values, by rules 1 and 5 of wat.h.\nlet \\1 = unsafe { core::slice::from_raw_parts_mut(\\1, \\1_len) };\n",
+    ),
+    (r"(\w+): Global", "", "let \\1 = Global;\n"),
+]
 PRELUDE = "use SHIM::prelude::*;\n"
 
 
@@ -66,7 +98,13 @@ def path_of(crate, seen_from):
 
 
 def shim_of(crate):
-    return "crate::shim" if target_of(crate) == ("wat-lex", "src") else "wat_lex::shim"
+    package = "wat-tokens" if target_of(crate)[0] == "wat-tokens" else "wat-lex"
+    return "crate::shim" if target_of(crate) == (package, "src") else f"{package.replace('-', '_')}::shim"
+
+
+def std_of(crate):
+    """What has the rest of `std`. The shim of wat-tokens has all of it: files and streams are no part of Rust's `core`."""
+    return shim_of(crate) if target_of(crate)[0] == "wat-tokens" else "core"
 
 
 TOKEN = re.compile(
@@ -192,13 +230,16 @@ class Eraser:
     def __init__(self, text, crate):
         self.source = Source(text)
         self.out = []
-        self.root, self.shim = path_of(crate, crate), shim_of(crate)
+        self.root, self.shim, self.std = path_of(crate, crate), shim_of(crate), std_of(crate)
         others = {f"{other}::": f"{path_of(other, crate)}::" for other in MODULES}
         self.written = [(solid_of(before), self.rooted(after)) for before, after in (WRITTEN | others).items()]
+        # What the body begins with of a function that C calls.
+        self.beginning = ""
         self.rules = {"ghost": self.ghost, "requires": self.contract, "ensures": self.contract, "#": self.attribute, "impl": self.model}
+        self.rules |= {"extern": self.exported, "{": self.body}
 
     def rooted(self, text):
-        return text.replace("SELF", self.root).replace("SHIM", self.shim)
+        return text.replace("SELF", self.root).replace("SHIM", self.shim).replace("STD", self.std)
 
     def erased(self):
         at = 0
@@ -270,9 +311,39 @@ class Eraser:
         if end is not None and ("sign", "{") not in self.out[self.last("fn", len(self.out)) :]:
             place = self.start_of_function()
             documented = any(kind == "doc" for kind, _ in self.out[max(place - 2, 0) : place])
-            text = "".join(text for _, text in self.source.tokens[at:end])
-            self.out[place:place] = tokens_of("///\n" * documented + contract_docs(text))
+            self.out[place:place] = tokens_of("///\n" * documented + contract_docs(self.text(at, end)))
         return end
+
+    def exported(self, at):
+        """Writes the signature of a function that C calls, with what C passes. That a pointer is one is the caller's to see to: it is `unsafe`."""
+        name = self.source.are(at, ["extern", '"C"', "fn"])
+        if name is None:
+            return None
+        opening = self.source.next(self.source.solid(name))
+        end = self.source.group(opening)
+        parameters = " ".join(self.text(opening + 1, end - 1).split()).split(", ")
+        passed = ", ".join(filter(None, map(self.passed, parameters)))
+        self.out += tokens_of("unsafe " * ("unsafe" in self.beginning) + f"{self.text(at, opening)}({passed})")
+        return end
+
+    def text(self, at, end):
+        return "".join(text for _, text in self.source.tokens[at:end])
+
+    def passed(self, parameter):
+        """What C passes for a parameter of the source."""
+        for form, passed, statement in PASSED:
+            if found := re.fullmatch(form, parameter.rstrip(",")):
+                self.beginning += found.expand(statement)
+                return found.expand(passed)
+        return parameter.rstrip(",")
+
+    def body(self, at):
+        """Begins the body of a function that C calls."""
+        if not self.beginning:
+            return None
+        self.out += [("sign", "{"), ("space", "\n"), *tokens_of(self.beginning)]
+        self.beginning = ""
+        return at + 1
 
     def last(self, text, at):
         """The last place before this one where the token was written."""
@@ -302,7 +373,7 @@ def sources():
         for source in sorted(folder.rglob("*.rt")):
             inside = source.relative_to(folder).with_suffix(".rs")
             if f"{crate}/src/{source.relative_to(folder)}" not in LEFT_OUT:
-                yield source, crate, RUST / (f"{module}.rs" if str(inside) == "lib.rs" else f"{module}/{inside}")
+                yield source, crate, RUST / (f"{module}.rs" if str(inside) in ("lib.rs", "main.rs") else f"{module}/{inside}")
 
 
 def made(source, crate):

@@ -1,8 +1,8 @@
+use crate::Span;
 use crate::error::Error;
 use crate::proved;
 use crate::shim::alloc::Global;
 use crate::token::Token;
-use crate::Span;
 use alloc::format;
 use core::fmt;
 use core::iter::FusedIterator;
@@ -56,6 +56,18 @@ impl<'a> Lexer<'a> {
 
     /// The token at a byte of the text, and then the byte is that of the token's end; or None at the text's end.
     ///
+    /// ```
+    /// use wat_lex::{Lexer, TokenKind};
+    ///
+    /// let (lexer, mut pos) = (Lexer::new("(;one;)$x"), 0);
+    /// let comment = lexer.parse(&mut pos)?.unwrap();
+    /// assert_eq!((comment.kind, pos), (TokenKind::BlockComment, 7));
+    /// let name = lexer.parse(&mut pos)?.unwrap();
+    /// assert_eq!((name.kind, pos), (TokenKind::Id, 9));
+    /// assert_eq!(lexer.parse(&mut pos)?, None);
+    /// # Ok::<(), wat_lex::Error>(())
+    /// ```
+    ///
     /// # Errors
     ///
     /// The error of the fault there, or that the text has more than `u32::MAX` bytes. The byte stays.
@@ -63,16 +75,17 @@ impl<'a> Lexer<'a> {
     /// # Panics
     ///
     /// Where no character begins at the byte, and the text does not end there.
-    #[inline]
+    // A program with two loops would else call it, at more instructions for each token.
+    #[inline(always)]
     pub fn parse(&self, pos: &mut usize) -> Result<Option<Token>, Error> {
-        let lexer = self.proved()?;
-        // `requires` of `proved::lexer::Lexer::parse`.
-        assert!(
-            self.input.is_char_boundary(*pos),
-            "no character begins at the byte"
-        );
-        let token = lexer.parse(Global, pos)?;
-        Ok(token.map(Token::from))
+        // `requires` of `proved::lexer::Lexer::scan`. A text that is too long has no other place than 0, and nothing there.
+        if self.proved.input().is_char_boundary(*pos) {
+            if let Ok(Some(token)) = self.proved.scan(*pos) {
+                *pos += token.len as usize;
+                return Ok(Some(token.into()));
+            }
+        }
+        self.ending(*pos).map(|()| None)
     }
 
     /// The tokens from a byte of the text on, up to its end or its first fault. Of a text of more than `u32::MAX` bytes it gives that error.
@@ -87,12 +100,34 @@ impl<'a> Lexer<'a> {
         }
     }
 
+    /// What is answered where no token of this text begins.
+    #[cold]
+    #[inline(never)]
+    fn ending(&self, mut pos: usize) -> Result<(), Error> {
+        let lexer = self.proved()?;
+        // `requires` of `proved::lexer::Lexer::parse`.
+        assert!(
+            self.input.is_char_boundary(pos),
+            "no character begins at the byte"
+        );
+        lexer.parse(Global, &mut pos)?;
+        Ok(())
+    }
+
     /// The annotation's token at any byte, where the byte there is `@`; None where it is not, and where a token of another kind is there.
     ///
     /// # Errors
     ///
-    /// The error of the fault there, where the byte is `@`; or that the text has more than `u32::MAX` bytes.
+    /// Where the byte is `@`, the error of the fault there, or that the text has more than `u32::MAX` bytes.
+    #[inline]
     pub fn annotation(&self, pos: usize) -> Result<Option<Token>, Error> {
+        match self.input.as_bytes().get(pos) {
+            Some(b'@') => self.annotation_at(pos),
+            _ => Ok(None),
+        }
+    }
+
+    fn annotation_at(&self, pos: usize) -> Result<Option<Token>, Error> {
         let token = self.proved()?.annotation(Global, pos)?;
         Ok(token.map(Token::from))
     }
@@ -129,7 +164,7 @@ pub struct Tokens<'l, 'a> {
 impl Iterator for Tokens<'_, '_> {
     type Item = Result<Token, Error>;
 
-    #[inline]
+    #[inline(always)]
     fn next(&mut self) -> Option<Result<Token, Error>> {
         let token = self.lexer?.parse(&mut self.pos);
         if token.is_err() {

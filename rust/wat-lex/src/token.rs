@@ -29,6 +29,7 @@ impl Token {
     /// # Panics
     ///
     /// Where the text is too short for the token, or a character begins neither or not at its ends.
+    #[inline]
     pub fn src<'a>(&self, s: &'a str) -> &'a str {
         &s[self.offset..][..self.len as usize]
     }
@@ -38,6 +39,7 @@ impl Token {
     /// # Panics
     ///
     /// As [`src`](Token::src).
+    #[inline]
     pub fn keyword<'a>(&self, s: &'a str) -> &'a str {
         self.src(s)
     }
@@ -47,6 +49,7 @@ impl Token {
     /// # Panics
     ///
     /// As [`src`](Token::src).
+    #[inline]
     pub fn reserved<'a>(&self, s: &'a str) -> &'a str {
         self.src(s)
     }

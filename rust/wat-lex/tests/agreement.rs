@@ -14,7 +14,7 @@ fn list(lexer: &Lexer<'_>) -> String {
     lines
 }
 
-/// `iter` and `parse` give the same, and the readers read each token, none of them a text of another kind.
+/// `iter` and `parse` give what the proved lexer finds, and the readers read each token.
 fn read_each(lexer: &Lexer<'_>) {
     let (text, mut pos) = (lexer.input(), 0);
     for item in lexer.iter(0) {
@@ -28,6 +28,9 @@ fn read_each(lexer: &Lexer<'_>) {
                 .filter(is_annotation)
         );
         let before = pos;
+        let found = lexer.proved().unwrap().scan(pos);
+        let found = found.map(|found| Token::from(found.expect("a token")));
+        assert_eq!(item.as_ref().ok(), found.as_ref().ok());
         assert_eq!(
             item,
             lexer.parse(&mut pos).map(|token| token.expect("a token"))
@@ -116,20 +119,16 @@ fn stored_texts_are_listed_as_they_are_stored() {
 }
 
 #[test]
-fn rows_end_at_any_count() {
-    for tokens in [0, 1, 1023, 1024, 1025, 2047, 2048, 2049, 5000] {
+fn what_iter_gives_ends_after_its_first_fault() {
+    for tokens in [0, 1, 2, 1000] {
         let text = "(".repeat(tokens);
         assert_eq!(Lexer::new(&text).iter(0).count(), tokens);
-        let text = text + "\"";
-        let items: Vec<_> = Lexer::new(&text).iter(0).collect();
-        assert_eq!(items.len(), tokens + 1);
-        assert_eq!(
-            items[tokens].as_ref().unwrap_err().span().offset(),
-            text.len()
-        );
+        let text = text + "\"\\q\" ( (";
+        let lexer = Lexer::new(&text);
+        let mut items = lexer.iter(0);
+        assert!(items.by_ref().take(tokens).all(|item| item.is_ok()));
+        let fault = items.next().unwrap().unwrap_err();
+        assert_eq!(fault.span().offset(), tokens + 2);
+        assert!(items.next().is_none() && items.next().is_none());
     }
-    let lexer = Lexer::new("\"");
-    let mut ended = lexer.iter(0);
-    assert!(ended.next().is_some_and(|item| item.is_err()));
-    assert!(ended.next().is_none() && ended.next().is_none());
 }

@@ -1,9 +1,10 @@
 //! What the shim answers, and what it leaves where a request for memory is refused: each request in turn.
 
-use std::alloc::{GlobalAlloc, Layout, System};
+mod refusing;
+
+use refusing::{granting, refusing, without_memory};
 use std::cell::Cell;
 use std::collections::BTreeMap as StdMap;
-use std::ptr::null_mut;
 use wat_lex::proved::lexer::{Lexer, TokenKind};
 use wat_lex::shim::alloc::{AllocError, AllocFailed, Global};
 use wat_lex::shim::borrow::{CowSlice, CowStr};
@@ -13,65 +14,6 @@ use wat_lex::shim::smallvec::SmallVec;
 use wat_lex::shim::string::{JoinIn, String};
 use wat_lex::shim::unicode_width::{UnicodeWidthStr, char_iter_width};
 use wat_lex::shim::vec::Vec;
-
-/// An allocator that refuses each request of a thread after those that are granted.
-struct Refusing;
-
-thread_local! {
-    static GRANTED: Cell<usize> = const { Cell::new(usize::MAX) };
-    static ASKED: Cell<usize> = const { Cell::new(0) };
-}
-
-fn is_refused() -> bool {
-    ASKED.set(ASKED.get() + 1);
-    ASKED.get() > GRANTED.get()
-}
-
-// SAFETY: each block is the system's.
-unsafe impl GlobalAlloc for Refusing {
-    unsafe fn alloc(&self, layout: Layout) -> *mut u8 {
-        if is_refused() {
-            return null_mut();
-        }
-        unsafe { System.alloc(layout) }
-    }
-
-    unsafe fn dealloc(&self, block: *mut u8, layout: Layout) {
-        unsafe { System.dealloc(block, layout) }
-    }
-
-    unsafe fn realloc(&self, block: *mut u8, layout: Layout, size: usize) -> *mut u8 {
-        if is_refused() {
-            return null_mut();
-        }
-        unsafe { System.realloc(block, layout, size) }
-    }
-}
-
-#[global_allocator]
-static ALLOCATOR: Refusing = Refusing;
-
-/// What a call answers where so many requests are granted, and how many it makes.
-fn granting<T>(granted: usize, call: impl FnOnce() -> T) -> (T, usize) {
-    ASKED.set(0);
-    GRANTED.set(granted);
-    let answer = call();
-    GRANTED.set(usize::MAX);
-    (answer, ASKED.get())
-}
-
-fn refusing<T>(call: impl FnOnce() -> T) -> T {
-    let (answer, asked) = granting(0, call);
-    assert!(asked > 0, "no request was made");
-    answer
-}
-
-/// What a call answers that makes no request.
-fn without_memory<T>(call: impl FnOnce() -> T) -> T {
-    let (answer, asked) = granting(0, call);
-    assert_eq!(asked, 0, "a request was made");
-    answer
-}
 
 fn vec_of(items: &[u32]) -> Vec<u32> {
     let mut all = Vec::with_capacity(Global, items.len()).unwrap();
@@ -124,8 +66,8 @@ fn a_vector_is_as_it_was_where_items_are_refused() {
         Err(AllocError)
     );
     assert_eq!(items.as_slice(), [1, 2]);
-    assert_eq!(refusing(|| Vec::repeated(Global, 9, 3)), Err(AllocError));
-    assert_eq!(Vec::repeated(Global, 9, 3).unwrap().as_slice(), [9, 9, 9]);
+    assert_eq!(refusing(|| Vec::from_elem(Global, 9, 3)), Err(AllocError));
+    assert_eq!(Vec::from_elem(Global, 9, 3).unwrap().as_slice(), [9, 9, 9]);
     without_memory(|| items.extend_from_slice(&[])).unwrap();
     assert_eq!(without_memory(|| items.pop()), Some(2));
     without_memory(|| items.truncate(5));
@@ -185,6 +127,41 @@ fn bytes_become_a_text_without_memory() {
     bytes.extend_from_slice(&[b'a', 0xff]).unwrap();
     let error = without_memory(|| String::from_utf8(bytes)).unwrap_err();
     assert_eq!(error.bytes.as_slice(), [b'a', 0xff]);
+}
+
+#[test]
+fn a_text_keeps_its_memory_where_it_is_cleared_or_becomes_bytes() {
+    let mut text = String::from_str(Global, "abcd").unwrap();
+    without_memory(|| text.clear());
+    assert_eq!(text.as_str(), "");
+    without_memory(|| text.push_str("efgh")).unwrap();
+    assert_eq!(without_memory(|| text.into_bytes()).as_slice(), b"efgh");
+}
+
+#[test]
+fn the_items_of_a_vector_come_in_order_without_memory() {
+    let items = vec_of(&[1, 2, 3]);
+    let mut found = items.into_iter();
+    assert_eq!(
+        without_memory(|| [found.next(), found.next(), found.next(), found.next()]),
+        [Some(1), Some(2), Some(3), None]
+    );
+}
+
+#[cfg(feature = "std")]
+#[test]
+fn a_refused_request_is_an_error_of_a_stream() {
+    use std::io::{Error, ErrorKind};
+    let of_request = without_memory(|| Error::from(AllocError));
+    let of_value = without_memory(|| Error::from(AllocFailed { value: 1 }));
+    assert_eq!(
+        (of_request.kind(), of_value.kind()),
+        (ErrorKind::OutOfMemory, ErrorKind::OutOfMemory)
+    );
+    assert_eq!(
+        (of_request.raw_os_error(), of_value.raw_os_error()),
+        (None, None)
+    );
 }
 
 #[test]
@@ -386,7 +363,7 @@ fn read_all(text: &str) -> Option<std::vec::Vec<std::string::String>> {
         None => None,
     };
     // What the test itself takes is granted.
-    GRANTED.set(usize::MAX);
+    refusing::grant_all();
     let (printed, message) = (
         error.map(|error| error.to_string()),
         message.map(|text| text.as_str().to_owned()),

@@ -3,6 +3,7 @@
 use std::borrow::Cow;
 use std::ffi::OsStr;
 use std::os::unix::ffi::OsStrExt;
+use std::panic::{AssertUnwindSafe, catch_unwind};
 use std::path::Path;
 use wat_lex::{Error, Float, FloatKind, LexError, Lexer, SignToken, Span, Token, TokenKind};
 
@@ -294,4 +295,125 @@ fn places() {
     assert!(std::panic::catch_unwind(|| first("\"\\n\"").string("abcd")).is_err());
     assert!(std::panic::catch_unwind(|| first("(").string("(")).is_err());
     assert_eq!(Span::from_offset(9).linecol_in("a\nb"), (2, 0));
+}
+
+/// A token that is none of its text: its kind, its bytes or its text are others than those that the lexer finds.
+#[test]
+fn a_token_that_is_none_of_the_text_is_not_read() {
+    let panics = |read: &dyn Fn()| catch_unwind(AssertUnwindSafe(read)).is_err();
+    let string = first("\"ab\"");
+    for (offset, len) in [
+        (0, 3),
+        (0, 5),
+        (1, 2),
+        (5, 0),
+        (0, u32::MAX),
+        (usize::MAX, 1),
+    ] {
+        let other = Token {
+            offset,
+            len,
+            ..string
+        };
+        assert!(panics(&|| drop(other.string("\"ab\""))), "{offset} {len}");
+    }
+    for text in ["", "\"a", "\"\u{e9}", "$\"a\"", "\"\\q\"", "\"\"\"\""] {
+        assert!(panics(&|| drop(string.string(text))), "{text}");
+    }
+    let kinds = ["\"a\"", "$a", "@a", "a", "(", ",", "1", "1.5"].map(|text| (first(text), text));
+    for (token, text) in kinds {
+        let is = |kind: TokenKind| token.kind == kind;
+        assert_eq!(
+            panics(&|| drop(token.string(text))),
+            !is(TokenKind::String),
+            "{text}"
+        );
+        assert_eq!(
+            panics(&|| drop(token.id(text))),
+            !is(TokenKind::Id),
+            "{text}"
+        );
+        assert_eq!(
+            panics(&|| drop(token.annotation(text))),
+            !is(TokenKind::Annotation),
+            "{text}"
+        );
+    }
+    let (TokenKind::Integer(kind), TokenKind::Integer(signed)) =
+        (first("1").kind, first("+1").kind)
+    else {
+        panic!("integers")
+    };
+    assert!(panics(&|| drop(first("1").integer("1", signed))));
+    assert!(panics(&|| drop(first("+1").integer("+1", kind))));
+    assert!(panics(&|| drop(
+        Token {
+            kind: TokenKind::Integer(signed),
+            ..first("1")
+        }
+        .integer("1", signed)
+    )));
+    let kind = FloatKind::Inf { negative: true };
+    assert!(panics(&|| drop(first("inf").float("inf", kind))));
+}
+
+/// A token of a text that only some settings take is read, as readers take most.
+#[test]
+fn a_token_of_any_settings_is_read() {
+    let text = "\"\u{202e}\"";
+    let token = Lexer::new(text)
+        .allow_confusing_unicode(true)
+        .parse(&mut 0)
+        .unwrap()
+        .unwrap();
+    assert_eq!(*token.string(text), *"\u{202e}".as_bytes());
+}
+
+#[test]
+fn errors_are_equal_where_they_print_the_same() {
+    let new = |offset, message: &str| Error::new(Span::from_offset(offset), message.to_string());
+    assert_eq!(new(1, "a"), new(1, "a"));
+    assert_ne!(new(1, "a"), new(2, "a"));
+    assert_ne!(new(1, "a"), new(1, "b"));
+    assert_eq!(fault("\""), fault("\""));
+    assert_ne!(fault("\""), new(1, "unexpected end-of-file"));
+    let (mut named, mut told) = (new(1, "a"), new(1, "a"));
+    told.set_text("b");
+    assert_ne!(told, new(1, "a"));
+    named.set_text("b");
+    named.set_path(Path::new("f"));
+    assert_ne!(named, told);
+}
+
+/// A text of more than `u32::MAX` bytes, most of which are never written.
+#[cfg(target_pointer_width = "64")]
+#[test]
+fn a_text_that_is_too_long_is_refused() {
+    let mut bytes = vec![0; 1 << 32];
+    (bytes[0], bytes[1]) = (b'@', b'@');
+    let text = String::from_utf8(bytes).unwrap();
+    let lexer = Lexer::new(&text);
+    let message = "the text has more than 4294967295 bytes";
+    for pos in [0, 1, text.len(), usize::MAX] {
+        let error = lexer.parse(&mut { pos }).unwrap_err();
+        assert_eq!(
+            (error.message().as_str(), error.span().offset()),
+            (message, 0)
+        );
+        let mut tokens = lexer.iter(pos);
+        assert_eq!(tokens.next(), Some(Err(error)));
+        assert_eq!(tokens.next(), None);
+        let annotation = lexer.annotation(pos).map_err(|error| error.message());
+        assert_eq!(
+            annotation,
+            if pos < 2 {
+                Err(message.to_string())
+            } else {
+                Ok(None)
+            }
+        );
+    }
+    assert_eq!(lexer.proved().err().unwrap().message(), message);
+    assert_eq!(lexer.input().len(), text.len());
+    assert!(Lexer::new(&text[1..]).proved().is_ok());
 }

@@ -10,7 +10,7 @@ use Rattle.std.proofs.lemmas.Bool.{agree_below, agree_below_at, lt-leb, eq-eqb, 
 use Rattle.std.proofs.lemmas.List.{drop-take, length-map, take-append-drop}
 use Rattle.std.proofs.lemmas.List.Folds.{prefix_len-append}
 use Rattle.std.proofs.lemmas.List.Sums.{prefix_len-le-length, prefix_len_is, prefix_len_passes}
-use Rattle.std.proofs.lemmas.Simd.{Each1-all, Each1-weaker, Each1-zip2, Each2-splat, below_from_Fits, length-zip2, map-map, mask_l-mod, chunk-drop, length-chunk, leading_from_mask_l, mask_l-lt, trailing_mask_l, swz_l, SwzOk, SwzOk-from_below, zip2_of_maps, zip2_splat, zip2_splat_left}
+use Rattle.std.proofs.lemmas.Simd.{Each1-all, Each1-weaker, Each1-zip2, Each2-splat, below_from_Fits, length-zip2, map-map, mask_l-mod, chunk-drop, length-chunk, leading_from_mask_l, mask_l-lt, trailing_mask_l, swz_l, SwzOk, SwzOk-from_below, zip2_of_maps, zip2_splat, zip2_splat_left, splat_is_map}
 use Rattle.std.proofs.Math.Bool.{not-not}
 use Rattle.wat_lex.specs.inside.Blocks.{failures, FirstFailures, GoesOn}
 
@@ -60,6 +60,10 @@ looked_up table f v js h e =
 pub itself : (v : List ℕ) → v ≡ map (λ x. x) v
 itself [] = refl
 itself (x ∷ xs) = ap (λ rest. x ∷ rest) (itself xs)
+
+-- lanes that were computed from the bytes v, each beside the same number
+pub beside_splat : (op : ℕ → ℕ → ℕ) (f : ℕ → ℕ) (v : List ℕ) (n : ℕ) {z : List ℕ} → length v ≡ 16 → z ≡ map f v → zip2 op z (replicate 16 n) ≡ map (λ x. op (f x) n) v
+beside_splat op f v n long e = zip2_of_maps op f (λ x. n) v e (splat_is_map v 16 n long)
 
 -- ---- masks
 
@@ -183,6 +187,11 @@ ends_within p text n stops =
 -- below a first number or above a second
 pub outside : (f : ℕ → ℕ → ℕ) (v : List ℕ) (a b : ℕ) → length v ≡ 16 → zip2 bit_or (zip2 f v (replicate 16 a)) (zip2 f (replicate 16 b) v) ≡ map (λ x. bit_or (f x a) (f b x)) v
 outside f v a b long = zip2_of_maps bit_or _ _ v (zip2_splat f v 16 a long) (zip2_splat_left f b 16 v long)
+
+-- the same of lanes that were computed from the bytes
+pub outside_of : (f : ℕ → ℕ → ℕ) (g : ℕ → ℕ) (v z : List ℕ) (a b : ℕ) → length v ≡ 16 → z ≡ map g v → zip2 bit_or (zip2 f z (replicate 16 a)) (zip2 f (replicate 16 b) z) ≡ map (λ x. bit_or (f (g x) a) (f b (g x))) v
+outside_of f g v z a b long e =
+    zip2_of_maps bit_or _ _ v (beside_splat f g v a long e) (zip2_of_maps f _ g v (splat_is_map v 16 b long) e)
 
 -- ---- bits from a place on
 

@@ -18,7 +18,7 @@ macro_rules! try_format {
 /// `vec![in alloc; item; count]` of Rattle.
 macro_rules! try_vec {
     [$alloc:expr; $item:expr; $count:expr] => {
-        $crate::shim::vec::Vec::repeated($alloc, $item, $count)
+        $crate::shim::vec::Vec::from_elem($alloc, $item, $count)
     };
 }
 

@@ -30,6 +30,17 @@ mod wasm;
 #[cfg(all(target_arch = "x86_64", target_feature = "sse2"))]
 mod x86;
 
+/// Whether a look-up in a table is one instruction. Where it is none, comparisons are faster.
+pub const HAS_SHUFFLE: bool = cfg!(any(
+    all(target_arch = "x86_64", target_feature = "ssse3"),
+    all(
+        target_arch = "aarch64",
+        target_endian = "little",
+        target_feature = "neon"
+    ),
+    all(target_arch = "wasm32", target_feature = "simd128")
+));
+
 pub mod prelude {
     #[cfg(all(
         target_arch = "aarch64",

@@ -77,6 +77,7 @@ pub fn is_confusing(c: char) -> bool
     )
 }
 
+#[inline(never)]
 fn whitespace_len_by_byte(text: &[u8]) -> usize
     ensures { result ≡ prefix_len is_whitespace text.now }
 {
@@ -87,6 +88,7 @@ fn whitespace_len_by_byte(text: &[u8]) -> usize
     i
 }
 
+#[inline]
 fn whitespace_len_by_block(text: &[u8]) -> usize
     ensures { result ≡ prefix_len is_whitespace text.now }
 {

@@ -4,6 +4,11 @@
 use crate::shim::prelude::*;
 use crate::shim::simd::prelude::*;
 
+mod compared;
+
+/// Whether bytes are looked up in tables, which takes a shuffle; comparisons answer the same.
+const BY_SHUFFLE: bool = crate::shim::simd::HAS_SHUFFLE;
+
 /// By a byte's low four bits. An idchar has a bit in common with `IDCHARS_BY_HIGH`.
 const IDCHARS_BY_LOW: [u8; 16] = [30, 31, 30, 31, 31, 31, 31, 31, 30, 30, 31, 5, 30, 7, 31, 15];
 
@@ -45,6 +50,9 @@ pub fn block_at(text: &[u8], i: usize) -> u8x16 {
 /// ```
 #[inline(always)]
 pub fn other_than_idchars(block: u8x16) -> u64 {
+    if !BY_SHUFFLE {
+        return compared::other_than_idchars(block);
+    }
     let low = u8x16::from_array(IDCHARS_BY_LOW).swizzle_dyn(block & u8x16::splat(15));
     let high = u8x16::from_array(IDCHARS_BY_HIGH).swizzle_dyn(block >> u8x16::splat(4));
     (low & high).simd_eq(u8x16::splat(0)).to_bitmask()
@@ -71,6 +79,9 @@ pub fn other_than_digits(block: u8x16) -> u64 {
 /// ```
 #[inline(always)]
 pub fn other_than_hex_digits(block: u8x16) -> u64 {
+    if !BY_SHUFFLE {
+        return compared::other_than_hex_digits(block);
+    }
     let low = u8x16::from_array(HEX_DIGITS_BY_LOW).swizzle_dyn(block & u8x16::splat(15));
     let high = u8x16::from_array(HEX_DIGITS_BY_HIGH).swizzle_dyn(block >> u8x16::splat(4));
     (low & high).simd_eq(u8x16::splat(0)).to_bitmask()
@@ -85,6 +96,9 @@ pub fn other_than_hex_digits(block: u8x16) -> u64 {
 /// ```
 #[inline(always)]
 pub fn other_than_whitespace(block: u8x16) -> u64 {
+    if !BY_SHUFFLE {
+        return compared::other_than_whitespace(block);
+    }
     let wanted = u8x16::from_array(WHITESPACE_BY_LOW).swizzle_dyn(block & u8x16::splat(15));
     wanted.simd_ne(block).to_bitmask()
 }
@@ -123,6 +137,9 @@ pub fn equal_to(block: u8x16, byte: u8) -> u64 {
 /// ```
 #[inline(always)]
 pub fn other_than_plain_in_line(block: u8x16) -> u64 {
+    if !BY_SHUFFLE {
+        return compared::other_than_plain_in_line(block);
+    }
     let stop = u8x16::from_array(NOT_PLAIN_IN_LINE_BY_LOW).swizzle_dyn(block & u8x16::splat(15));
     stop.simd_eq(block).to_bitmask()
 }

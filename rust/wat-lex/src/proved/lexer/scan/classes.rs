@@ -97,6 +97,7 @@ pub fn is_confusing(c: char) -> bool {
 /// ```text
 /// ensures { result ≡ prefix_len is_whitespace text.now }
 /// ```
+#[inline(never)]
 fn whitespace_len_by_byte(text: &[u8]) -> usize {
     let mut i = 0;
     while i < text.len() && is_whitespace(text[i]) {
@@ -110,6 +111,7 @@ fn whitespace_len_by_byte(text: &[u8]) -> usize {
 /// ```text
 /// ensures { result ≡ prefix_len is_whitespace text.now }
 /// ```
+#[inline]
 fn whitespace_len_by_block(text: &[u8]) -> usize {
     let mut i = 0;
     while text.len() - i >= 16 {

@@ -1,0 +1,92 @@
+// Made by tools/erase from crates/wat_parser_c/src/answers.rt; do not edit.
+//! What readers answer, and bytes into a caller's buffer. The fields of an answer are private, so that
+//! each is made here, and tells want of memory only of a refusal in hand.
+
+use wat_lex::shim::prelude::*;
+use wat_lex::shim::alloc::AllocError;
+use wat_lex::proved::lexer::LexError;
+use crate::rows::rows::fault_code;
+
+/// Whether there was something to read, and how many bytes it has.
+#[repr(C)]
+#[derive(Clone, Copy, Debug, PartialEq)]
+pub struct Answer {
+    /// How many bytes it has. They were written where the buffer has room for all of them.
+    needed: usize,
+    /// 0 where there was something, otherwise why not: 1 where no such token or fault stands there, 2
+    /// for want of memory, 3 where the number has no such part or the name no fault, or else
+    /// the number of what is wrong with the name.
+    status: u32,
+}
+
+impl Answer {
+    /// The answer that there are so many bytes.
+    ///
+    /// # Proved
+    ///
+    /// ```text
+    /// ensures { result ≡ record { needed = needed; status = 0 } }
+    /// ```
+    pub(crate) fn given(needed: usize) -> Answer {
+        Answer { needed, status: 0 }
+    }
+}
+
+/// Why there is nothing to give.
+#[derive(Clone, Copy, Debug, PartialEq)]
+pub enum Refusal {
+    /// No such token or fault stands there.
+    Other,
+    /// A request for memory was refused, by this refusal.
+    Memory(AllocError),
+    /// The number has no such part, or the name no fault.
+    Absent,
+    /// What is wrong with the name.
+    Fault(LexError),
+}
+
+impl Refusal {
+    /// # Proved
+    ///
+    /// ```text
+    /// ensures { result ≡ status_of self }
+    /// ```
+    fn status(self) -> u32 {
+        match self {
+            Refusal::Other => 1,
+            Refusal::Memory(_) => 2,
+            Refusal::Absent => 3,
+            Refusal::Fault(error) => fault_code(error),
+        }
+    }
+
+    /// The answer that there is nothing.
+    ///
+    /// # Proved
+    ///
+    /// ```text
+    /// ensures { result ≡ answer_of (Err self) }
+    /// ```
+    pub fn answer(self) -> Answer {
+        Answer {
+            needed: 0,
+            status: self.status(),
+        }
+    }
+}
+
+/// Copies the bytes to the buffer's front where they fit, and answers how many they are.
+///
+/// # Proved
+///
+/// ```text
+/// ensures told { result ≡ answer_of (Ok bytes.now) }
+/// ensures left { out.new ≡ left_of out.old (Ok bytes.now) }
+/// ```
+pub fn give(bytes: &[u8], out: &mut [u8]) -> Answer {
+    let needed = bytes.len();
+    if needed <= out.len() {
+        out[..needed].copy_from_slice(bytes);
+    }
+    Answer::given(needed)
+}

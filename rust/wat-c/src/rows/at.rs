@@ -1,0 +1,28 @@
+// Made by tools/erase from crates/wat_rows/src/at.rt; do not edit.
+//! The token at a place.
+
+use wat_lex::shim::prelude::*;
+use crate::rows::one_byte::alone;
+use crate::rows::rows::{TokenRow, found_row, lexer_of};
+use wat_lex::proved::laws::one_answer;
+use wat_lex::proved::lexer::Settings;
+
+/// The token of what stands at a place. Its length is 0 where the text ends or has a fault.
+// Neither way is a call, as a row that a call writes would be read back from memory.
+/// # Proved
+///
+/// ```text
+/// requires short { length text.now < 2 ^ 32 }
+/// requires boundary { IsCharBoundary text.now pos }
+/// ensures found { TokenFoundAt (record { text = text.now; flags = settings }) pos result }
+/// ensures one { (row : FoundRow) →
+///     FoundAt (record { text = text.now; flags = settings }) pos row → row.token ≡ result }
+/// ```
+#[inline(always)]
+pub fn token_at(text: &str, pos: usize, settings: Settings) -> TokenRow {
+    one_answer();
+    match alone(text, pos) {
+        Some(row) => row,
+        None => found_row(pos, lexer_of(text, settings).scan(pos)).token,
+    }
+}

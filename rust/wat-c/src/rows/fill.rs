@@ -1,0 +1,47 @@
+// Made by tools/erase from crates/wat_rows/src/fill.rt; do not edit.
+//! Many tokens at once.
+
+use wat_lex::shim::prelude::*;
+use crate::rows::one_byte::alone;
+use crate::rows::rows::{Filled, TokenRow, fault_code, lexer_of, token_row};
+use wat_lex::proved::lexer::Settings;
+
+/// Writes the tokens from a byte of the text on, as many as there are or as there is room for.
+///
+/// # Proved
+///
+/// ```text
+/// requires short { length text.now < 2 ^ 32 }
+/// requires boundary { IsCharBoundary text.now pos }
+/// ensures rows { Fills (record { text = text.now; flags = settings }) pos
+///     (length out.old) (take result.count out.new) result }
+/// ensures boundary { IsCharBoundary text.now result.at }
+/// ensures count { result.count ≤ length out.old }
+/// ensures rest { drop result.count out.new ≡ drop result.count out.old }
+/// ```
+pub fn fill(text: &str, pos: usize, settings: Settings, out: &mut [TokenRow]) -> Filled {
+    let lexer = lexer_of(text, settings);
+    let mut at = pos;
+    let mut count = 0;
+    'rows: while count < out.len() {
+        if let Some(row) = alone(text, at) {
+            out[count] = row;
+            count += 1;
+            at += 1;
+            continue 'rows;
+        }
+        match lexer.scan(at) {
+            Ok(Some(token)) => {
+                out[count] = token_row(token);
+                count += 1;
+                at = token.offset + token.len as usize;
+            }
+            Ok(None) => return Filled { count, at, why: 0 },
+            Err(fault) => {
+                let why = fault_code(fault.error);
+                return Filled { count, at, why };
+            }
+        }
+    }
+    Filled { count, at, why: 1 }
+}

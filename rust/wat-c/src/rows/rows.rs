@@ -1,0 +1,333 @@
+// Made by tools/erase from crates/wat_rows/src/rows.rt; do not edit.
+//! What C sees of a token, of the text's end and of a fault.
+
+use wat_lex::shim::prelude::*;
+use wat_lex::proved::lexer::{
+    FloatKind, LexError, LexFault, Lexer, Settings, SignToken, Token, TokenKind,
+};
+
+/// A token's kind, and what it says of a number token.
+#[repr(C)]
+#[derive(Clone, Copy, Debug, PartialEq)]
+pub struct KindRow {
+    /// 1 to 15 for the kinds of tokens, 0 where there is no token.
+    pub code: u8,
+    /// 1 for `+` and 2 for `-`, otherwise 0. Of floats only that of `inf` and `nan` is told, where it
+    /// is `-`.
+    pub sign: u8,
+    /// Whether underscores stand between its digits.
+    pub has_underscores: bool,
+    /// Whether its digits stand behind `0x`.
+    pub hex: bool,
+}
+
+/// A token.
+#[repr(C)]
+#[derive(Clone, Copy, Debug, PartialEq)]
+pub struct TokenRow {
+    /// Where the token begins, in bytes from the text's start.
+    pub offset: usize,
+    /// How many bytes the token has.
+    pub len: u32,
+    /// What kind of token this is.
+    pub kind: KindRow,
+}
+
+/// What stands at a place: a token, the text's end, or a fault.
+#[repr(C)]
+#[derive(Clone, Copy, Debug, PartialEq)]
+pub struct Found {
+    /// The token; otherwise its kind and length are 0, and its offset is that of the end or of the
+    /// fault.
+    pub token: TokenRow,
+    /// 101 to 115 for a fault, otherwise 0.
+    pub fault: u32,
+    /// The character that the fault found, or the number that is no character, otherwise 0.
+    pub found: u32,
+    /// The character that the fault wanted, otherwise 0.
+    pub wanted: u32,
+}
+
+/// How many rows were filled, and why no more.
+#[repr(C)]
+#[derive(Clone, Copy, Debug, PartialEq)]
+pub struct Filled {
+    /// How many rows were written.
+    pub count: usize,
+    /// Where the last of them ends.
+    pub at: usize,
+    /// 0 where the text ends there, 1 where there was room for no more, otherwise the number of the
+    /// fault there.
+    pub why: u32,
+}
+
+/// A kind of which no more is known.
+///
+/// # Proved
+///
+/// ```text
+/// ensures { result ≡ plain code }
+/// ```
+pub fn plain(code: u8) -> KindRow {
+    KindRow {
+        code,
+        sign: 0,
+        has_underscores: false,
+        hex: false,
+    }
+}
+
+/// # Proved
+///
+/// ```text
+/// ensures { result ≡ sign_code sign }
+/// ```
+fn sign_code(sign: Option<SignToken>) -> u8 {
+    match sign {
+        None => 0,
+        Some(SignToken::Plus) => 1,
+        Some(SignToken::Minus) => 2,
+    }
+}
+
+/// # Proved
+///
+/// ```text
+/// ensures { result ≡ minus_code negative }
+/// ```
+fn minus_code(negative: bool) -> u8 {
+    if negative { 2 } else { 0 }
+}
+
+/// # Proved
+///
+/// ```text
+/// ensures { result ≡ float_row kind }
+/// ```
+fn float_row(kind: FloatKind) -> KindRow {
+    match kind {
+        FloatKind::Inf { negative } => KindRow {
+            sign: minus_code(negative),
+            ..plain(12)
+        },
+        FloatKind::Nan { negative } => KindRow {
+            sign: minus_code(negative),
+            ..plain(13)
+        },
+        FloatKind::NanVal {
+            negative,
+            has_underscores,
+        } => KindRow {
+            sign: minus_code(negative),
+            has_underscores,
+            ..plain(14)
+        },
+        FloatKind::Normal {
+            has_underscores,
+            hex,
+        } => KindRow {
+            has_underscores,
+            hex,
+            ..plain(15)
+        },
+    }
+}
+
+/// A kind's place in the order of the kinds: its tag, so that a compiler needs no table.
+///
+/// # Proved
+///
+/// ```text
+/// ensures plain { result < 10 → kind_row kind ≡ plain (1 + result) }
+/// ensures number { 10 ≤ result → 10 < (kind_row kind).code }
+/// ```
+fn kind_tag(kind: TokenKind) -> u8 {
+    match kind {
+        TokenKind::LineComment => 0,
+        TokenKind::BlockComment => 1,
+        TokenKind::Whitespace => 2,
+        TokenKind::LParen => 3,
+        TokenKind::RParen => 4,
+        TokenKind::String => 5,
+        TokenKind::Id => 6,
+        TokenKind::Keyword => 7,
+        TokenKind::Annotation => 8,
+        TokenKind::Reserved => 9,
+        TokenKind::Integer(_) => 10,
+        TokenKind::Float(_) => 11,
+    }
+}
+
+/// The row of a number's kind.
+///
+/// # Proved
+///
+/// ```text
+/// requires { 10 < (kind_row kind).code }
+/// ensures { result ≡ kind_row kind }
+/// ```
+fn number_row(kind: TokenKind) -> KindRow {
+    match kind {
+        TokenKind::Integer(kind) => KindRow {
+            code: 11,
+            sign: sign_code(kind.sign()),
+            has_underscores: kind.has_underscores(),
+            hex: kind.hex(),
+        },
+        TokenKind::Float(kind) => float_row(kind),
+        _ => unreachable!(),
+    }
+}
+
+/// A kind, and what it says of a number token.
+///
+/// # Proved
+///
+/// ```text
+/// ensures { result ≡ kind_row kind }
+/// ```
+pub fn kind_row(kind: TokenKind) -> KindRow {
+    let tag = kind_tag(kind);
+    if tag < 10 {
+        plain(1 + tag)
+    } else {
+        number_row(kind)
+    }
+}
+
+/// The row of a token.
+///
+/// # Proved
+///
+/// ```text
+/// ensures { result ≡ token_row token }
+/// ```
+pub fn token_row(token: Token) -> TokenRow {
+    TokenRow {
+        offset: token.offset,
+        len: token.len,
+        kind: kind_row(token.kind),
+    }
+}
+
+/// A place, in the form of a token that is not there.
+///
+/// # Proved
+///
+/// ```text
+/// ensures { result ≡ place_row offset }
+/// ```
+fn place_row(offset: usize) -> TokenRow {
+    TokenRow {
+        offset,
+        len: 0,
+        kind: plain(0),
+    }
+}
+
+/// A fault's number.
+///
+/// # Proved
+///
+/// ```text
+/// ensures { result ≡ fault_code error }
+/// ```
+pub fn fault_code(error: LexError) -> u32 {
+    match error {
+        LexError::DanglingBlockComment => 101,
+        LexError::Unexpected(_) => 102,
+        LexError::InvalidStringElement(_) => 103,
+        LexError::InvalidStringEscape(_) => 104,
+        LexError::InvalidHexDigit(_) => 105,
+        LexError::InvalidDigit(_) => 106,
+        LexError::Expected { .. } => 107,
+        LexError::UnexpectedEof => 108,
+        LexError::NumberTooBig => 109,
+        LexError::InvalidUnicodeValue(_) => 110,
+        LexError::LoneUnderscore => 111,
+        LexError::ConfusingUnicode(_) => 112,
+        LexError::InvalidUtf8Id => 113,
+        LexError::EmptyId => 114,
+        LexError::EmptyAnnotation => 115,
+    }
+}
+
+/// The character that a fault found, or the number that is no character.
+///
+/// # Proved
+///
+/// ```text
+/// ensures { result ≡ fault_found error }
+/// ```
+fn fault_found(error: LexError) -> u32 {
+    match error {
+        LexError::Unexpected(c)
+        | LexError::InvalidStringElement(c)
+        | LexError::InvalidStringEscape(c)
+        | LexError::InvalidHexDigit(c)
+        | LexError::InvalidDigit(c)
+        | LexError::ConfusingUnicode(c) => u32::from(c),
+        LexError::Expected { found, .. } => u32::from(found),
+        LexError::InvalidUnicodeValue(n) => n,
+        _ => 0,
+    }
+}
+
+/// The character that a fault wanted.
+///
+/// # Proved
+///
+/// ```text
+/// ensures { result ≡ fault_wanted error }
+/// ```
+fn fault_wanted(error: LexError) -> u32 {
+    match error {
+        LexError::Expected { wanted, .. } => u32::from(wanted),
+        _ => 0,
+    }
+}
+
+/// What stands at a place, in numbers.
+///
+/// # Proved
+///
+/// ```text
+/// ensures { result ≡ found_row pos answer }
+/// ```
+pub fn found_row(pos: usize, answer: Result<Option<Token>, LexFault>) -> Found {
+    let (token, fault) = match answer {
+        Ok(Some(token)) => (token_row(token), None),
+        Ok(None) => (place_row(pos), None),
+        Err(fault) => (place_row(fault.offset), Some(fault.error)),
+    };
+    match fault {
+        Some(error) => Found {
+            token,
+            fault: fault_code(error),
+            found: fault_found(error),
+            wanted: fault_wanted(error),
+        },
+        None => Found {
+            token,
+            fault: 0,
+            found: 0,
+            wanted: 0,
+        },
+    }
+}
+
+/// The lexer over a text with these settings.
+///
+/// # Proved
+///
+/// ```text
+/// requires { length text.now < 2 ^ 32 }
+/// ensures { result ≡ record { text = text.now; flags = settings } }
+/// ```
+pub fn lexer_of<'a>(text: &'a str, settings: Settings) -> Lexer<'a> {
+    let mut lexer = Lexer::new(text);
+    lexer
+        .allow_confusing_unicode(settings.allow)
+        .strict_underscores(settings.strict);
+    lexer
+}

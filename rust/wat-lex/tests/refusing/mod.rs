@@ -1,0 +1,71 @@
+//! Requests for memory that are refused.
+// Each of the tests uses a part of it.
+#![allow(dead_code)]
+
+use std::alloc::{GlobalAlloc, Layout, System};
+use std::cell::Cell;
+use std::ptr::null_mut;
+
+/// An allocator that refuses each request of a thread after those that are granted.
+struct Refusing;
+
+thread_local! {
+    static GRANTED: Cell<usize> = const { Cell::new(usize::MAX) };
+    static ASKED: Cell<usize> = const { Cell::new(0) };
+}
+
+fn is_refused() -> bool {
+    ASKED.set(ASKED.get() + 1);
+    ASKED.get() > GRANTED.get()
+}
+
+// SAFETY: each block is the system's.
+unsafe impl GlobalAlloc for Refusing {
+    unsafe fn alloc(&self, layout: Layout) -> *mut u8 {
+        if is_refused() {
+            return null_mut();
+        }
+        unsafe { System.alloc(layout) }
+    }
+
+    unsafe fn dealloc(&self, block: *mut u8, layout: Layout) {
+        unsafe { System.dealloc(block, layout) }
+    }
+
+    unsafe fn realloc(&self, block: *mut u8, layout: Layout, size: usize) -> *mut u8 {
+        if is_refused() {
+            return null_mut();
+        }
+        unsafe { System.realloc(block, layout, size) }
+    }
+}
+
+#[global_allocator]
+static ALLOCATOR: Refusing = Refusing;
+
+/// What a call answers where so many requests are granted, and how many it makes.
+pub fn granting<T>(granted: usize, call: impl FnOnce() -> T) -> (T, usize) {
+    ASKED.set(0);
+    GRANTED.set(granted);
+    let answer = call();
+    GRANTED.set(usize::MAX);
+    (answer, ASKED.get())
+}
+
+pub fn refusing<T>(call: impl FnOnce() -> T) -> T {
+    let (answer, asked) = granting(0, call);
+    assert!(asked > 0, "no request was made");
+    answer
+}
+
+/// What a call answers that makes no request.
+pub fn without_memory<T>(call: impl FnOnce() -> T) -> T {
+    let (answer, asked) = granting(0, call);
+    assert_eq!(asked, 0, "a request was made");
+    answer
+}
+
+/// Grants the requests from here on, within a call of [`granting`].
+pub fn grant_all() {
+    GRANTED.set(usize::MAX);
+}
