@@ -159,33 +159,30 @@ pub struct ParseBuffer<'a> {
     strings: Strings,
 }
 
-/// How far a parser or a cursor has come.
+/// How far a parser or a cursor has come: in the low half how many raw tokens are before it, white space and comments among them; in the high
+/// half the number of the token that is shown there, or [`UNKNOWN`].
+// One word: of two halves that were written apart a processor can't read the whole at once.
 #[derive(Clone, Copy)]
-struct Position {
-    /// How many raw tokens are before it, white space and comments among them.
-    place: u32,
-    /// One more than the number of the token that is shown there, or 0 where that is not known.
-    next: u32,
-}
+struct Position(u64);
+
+/// No token's number, as a text has fewer than 2^32 bytes.
+const UNKNOWN: u64 = u32::MAX as u64;
 
 impl Position {
-    /// A text has fewer than 2^32 bytes, and so tokens.
     #[inline(always)]
     fn new(place: usize, next: Option<usize>) -> Position {
-        Position {
-            place: place as u32,
-            next: next.map_or(0, |next| next as u32 + 1),
-        }
+        let next = next.map_or(UNKNOWN, |next| next as u64);
+        Position(place as u64 | next << 32)
     }
 
     #[inline(always)]
     fn place(self) -> usize {
-        self.place as usize
+        self.0 as u32 as usize
     }
 
     #[inline(always)]
-    fn next(self) -> Option<usize> {
-        (self.next as usize).checked_sub(1)
+    fn next(self) -> usize {
+        (self.0 >> 32) as usize
     }
 }
 

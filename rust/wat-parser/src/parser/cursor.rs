@@ -46,17 +46,16 @@ impl<'a> Cursor<'a> {
         self.table().text()
     }
 
-    /// The token that is shown, and the place after it.
+    /// The token that is shown, and its number.
     #[inline(always)]
     pub(super) fn shown(&self) -> Result<Option<(Token, usize)>> {
-        let next = match self.position.next() {
-            Some(next) => next,
-            None => match self.look()? {
-                Some(next) => next,
-                None => return Ok(None),
-            },
-        };
-        Ok(Some(self.table().numbered(next)))
+        let table = self.table();
+        let number = self.position.next();
+        if let Some(token) = table.token_at(number) {
+            return Ok(Some((token, number)));
+        }
+        let shown = self.look()?;
+        Ok(shown.and_then(|number| Some((table.token_at(number)?, number))))
     }
 
     /// The number of the token that is shown.
@@ -79,10 +78,10 @@ impl<'a> Cursor<'a> {
     /// What the function makes of the token that is shown, with the cursor after it; None where it makes nothing of it.
     #[inline(always)]
     fn take<T>(self, of: impl FnOnce(Token) -> Option<T>) -> Result<Option<(T, Self)>> {
-        let Some((token, place)) = self.shown()? else {
+        let Some((token, number)) = self.shown()? else {
             return Ok(None);
         };
-        Ok(of(token).map(|taken| (taken, self.moved(place))))
+        Ok(of(token).map(|taken| (taken, self.moved(number + 1))))
     }
 
     #[inline(always)]
@@ -130,8 +129,14 @@ impl<'a> Cursor<'a> {
 
     /// Whether an annotation of this name is shown.
     #[doc(hidden)]
+    #[inline]
     pub fn is_annotation(self, name: &str) -> Result<bool> {
-        Ok(self.annotation()?.is_some_and(|(shown, _)| shown == name))
+        match self.shown()? {
+            Some((token, _)) if matches!(token.kind, TokenKind::Annotation) => {
+                Ok(self.name(token)? == name)
+            }
+            _ => Ok(false),
+        }
     }
 
     /// Where the token that is shown begins: the text's end where none is left, and the end of what was taken where a fault is shown.
@@ -249,13 +254,9 @@ impl<'a> Cursor<'a> {
     /// # Errors
     ///
     /// Where a fault is shown, or the identifier's name is empty or not UTF-8.
+    #[inline]
     pub fn id(self) -> Result<Option<(&'a str, Self)>> {
-        let taken = self.take(|token| matches!(token.kind, TokenKind::Id).then_some(token))?;
-        let Some((token, rest)) = taken else {
-            return Ok(None);
-        };
-        let name = token.id(Global, self.text())?;
-        Ok(Some((self.parser.keep_text(name.into()), rest)))
+        self.take_name(|kind| matches!(kind, TokenKind::Id))
     }
 
     /// Takes a keyword.
@@ -274,14 +275,27 @@ impl<'a> Cursor<'a> {
     /// # Errors
     ///
     /// Where a fault is shown, or the annotation's name is empty or not UTF-8.
+    #[inline]
     pub fn annotation(self) -> Result<Option<(&'a str, Self)>> {
-        let taken =
-            self.take(|token| matches!(token.kind, TokenKind::Annotation).then_some(token))?;
-        let Some((token, rest)) = taken else {
-            return Ok(None);
+        self.take_name(|kind| matches!(kind, TokenKind::Annotation))
+    }
+
+    #[inline(always)]
+    fn take_name(self, is: impl FnOnce(TokenKind) -> bool) -> Result<Option<(&'a str, Self)>> {
+        match self.take(|token| is(token.kind).then_some(token))? {
+            Some((token, rest)) => Ok(Some((self.name(token)?, rest))),
+            None => Ok(None),
+        }
+    }
+
+    /// The name of an identifier or an annotation.
+    #[inline(never)]
+    fn name(&self, token: Token) -> Result<&'a str> {
+        let name = match token.kind {
+            TokenKind::Id => token.id(Global, self.text())?,
+            _ => token.annotation(Global, self.text())?,
         };
-        let name = token.annotation(Global, self.text())?;
-        Ok(Some((self.parser.keep_text(name.into()), rest)))
+        Ok(self.parser.keep_text(name.into()))
     }
 
     /// Takes a reserved token.
