@@ -2,7 +2,8 @@
 # The C library, by both of its compilers: as cargo builds it of the text that tools/erase makes, static and shared, and as Rattle's own compilers
 # make it. Over each, by each C compiler that is here: each function with answers from outside, C programs that list the stored texts and their
 # identifiers, all functions on the stored texts and on mutants of them under the address and undefined-behaviour sanitizers and under valgrind, and
-# each request for memory refused; the header as C99 and as C++; and the declarations of both. Each answers the same. What can't be run here is left out, and says so.
+# each request for memory refused; the header as C99 and as C++; and the declarations of both. Each answers the same. Last numbers as wat-parser
+# reads them, beside `strtof` and `strtod`. What can't be run here is left out, and says so.
 #
 #   CRATES_FOLDER=FOLDER  the crates that cargo takes, each in a folder of its own, where no registry is at hand
 #
@@ -196,6 +197,16 @@ by_cargo_with_sanitizer() {
     done
 }
 
+# floats: numbers as wat-parser reads them and as C does
+floats() {
+    local options said
+    mapfile -t options < "$room/options"
+    (cd rust && CARGO_TARGET_DIR=$room/target cargo --quiet "${options[@]}" build --locked --release --package wat-parser --example floats)
+    "$c" -std=c99 -O2 "${strict[@]}" -o "$room/floats" tools/c/floats.c
+    said=$("$room/floats" 200000 | "$room/target/release/examples/floats") || fail "floats: $said"
+    say "as strtof and strtod: $said"
+}
+
 tools/compare_declarations.py
 compilers=() libraries=()
 for compiler in "${CC:-cc}" gcc clang; do
@@ -221,6 +232,7 @@ elif ! with_crates > "$room/options"; then
 else
     by_cargo
     by_cargo_with_sanitizer
+    floats
 fi
 if has rt; then
     folder=$(tools/build_c.sh)
