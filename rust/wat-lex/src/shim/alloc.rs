@@ -34,6 +34,20 @@ impl<T> From<AllocFailed<T>> for AllocError {
     }
 }
 
+#[cfg(feature = "std")]
+impl From<AllocError> for std::io::Error {
+    fn from(_: AllocError) -> std::io::Error {
+        std::io::Error::from(std::io::ErrorKind::OutOfMemory)
+    }
+}
+
+#[cfg(feature = "std")]
+impl<T> From<AllocFailed<T>> for std::io::Error {
+    fn from(_: AllocFailed<T>) -> std::io::Error {
+        std::io::Error::from(std::io::ErrorKind::OutOfMemory)
+    }
+}
+
 /// The handle of Rust's global allocator.
 #[derive(Clone, Copy, Debug, PartialEq, Eq)]
 pub struct Global;

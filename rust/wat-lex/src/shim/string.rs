@@ -49,6 +49,11 @@ impl String {
         }
     }
 
+    /// The bytes of the text. It takes no memory.
+    pub fn into_bytes(self) -> Vec<u8> {
+        self.0.into_bytes().into()
+    }
+
     /// A copy.
     // Fallible, so it is not the trait's function.
     #[allow(clippy::should_implement_trait)]
@@ -73,6 +78,12 @@ impl String {
     /// Appends what is printed, by `write!`. Where that is refused, what was printed before the refusal stays.
     pub fn write_fmt(&mut self, printed: fmt::Arguments<'_>) -> Result<(), AllocError> {
         fmt::Write::write_fmt(self, printed).map_err(|_| AllocError)
+    }
+
+    /// Removes all characters.
+    #[inline]
+    pub fn clear(&mut self) {
+        self.0.clear();
     }
 
     /// The text as one of `str`.

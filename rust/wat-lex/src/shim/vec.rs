@@ -117,6 +117,15 @@ impl<T> DerefMut for Vec<T> {
     }
 }
 
+impl<T> IntoIterator for Vec<T> {
+    type Item = T;
+    type IntoIter = alloc::vec::IntoIter<T>;
+
+    fn into_iter(self) -> alloc::vec::IntoIter<T> {
+        self.0.into_iter()
+    }
+}
+
 impl<T: fmt::Debug> fmt::Debug for Vec<T> {
     fn fmt(&self, f: &mut fmt::Formatter<'_>) -> fmt::Result {
         self.0.fmt(f)
@@ -126,5 +135,11 @@ impl<T: fmt::Debug> fmt::Debug for Vec<T> {
 impl<T> From<alloc::vec::Vec<T>> for Vec<T> {
     fn from(items: alloc::vec::Vec<T>) -> Vec<T> {
         Vec(items)
+    }
+}
+
+impl<T> From<Vec<T>> for alloc::vec::Vec<T> {
+    fn from(items: Vec<T>) -> alloc::vec::Vec<T> {
+        items.0
     }
 }
