@@ -169,7 +169,7 @@ by_cargo() {
     local options installed=$room/installed words
     mapfile -t options < "$room/options"
     words=$(printf "'%s' " "${options[@]}")
-    make -s install PREFIX="$installed" CARGO="cargo --quiet $words" CARGO_TARGET_DIR="$room/target"
+    make -s install PREFIX="$installed" CARGO="cargo --quiet $words" CARGO_TARGET_DIR="$room/target" 2> "$room/errors" || fail "$(cat "$room/errors")"
     read -ra private <<< "$(cat "$room/target/release/libwat_parser_c.libs")"
     suite 'cargo, static' "$installed/lib/libwat_parser_c.a" "${private[@]}"
     suite 'cargo, shared' -L"$installed/lib" -lwat_parser_c -Wl,-rpath,"$installed/lib"
