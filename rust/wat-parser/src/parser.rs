@@ -233,33 +233,14 @@ impl<'a> ParseBuffer<'a> {
         self.proved.table_ref()
     }
 
-    /// The position at a place, with the token that is shown there where that goes by no name.
+    /// The position at a place, with the token that is shown there whatever names are registered, where there is one.
     #[inline(always)]
     fn position_at(&self, place: usize) -> Position {
-        Position::new(place, self.plain_at(place).or_else(|| self.kept_at(place)))
+        let plain = self.table().plain_at(place);
+        Position::new(place, plain.or_else(|| self.kept_at(place)))
     }
 
-    /// The number of the token that is shown at a place, where it is the same whatever names are registered.
-    #[inline(always)]
-    fn plain_at(&self, place: usize) -> Option<usize> {
-        let table = self.table();
-        let mut number = place;
-        while let Some(token) = table.token_at(number) {
-            match token.kind {
-                TokenKind::Whitespace | TokenKind::LineComment | TokenKind::BlockComment => {
-                    number += 1;
-                }
-                TokenKind::LParen => {
-                    let next = table.token_at(number + 1)?;
-                    return (!matches!(next.kind, TokenKind::Annotation)).then_some(number);
-                }
-                _ => return Some(number),
-            }
-        }
-        None
-    }
-
-    /// The number of the token that is shown at a place, where that is kept.
+    /// The number of the token that is shown at a place by the names that are registered, where that is to stay so.
     #[cold]
     #[inline(never)]
     fn kept_at(&self, place: usize) -> Option<usize> {

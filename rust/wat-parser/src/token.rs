@@ -7,11 +7,11 @@ pub use wat_lex::Span;
 
 use crate::annotation;
 use crate::parser::{Cursor, Parse, Parser, Peek, Result};
+use crate::proved::token::integers::{signed_value, unsigned_value};
 use alloc::borrow::ToOwned;
 use alloc::string::String;
 use core::fmt;
 use core::hash::{Hash, Hasher};
-use wat_lex::{IntegerKind, SignToken};
 
 /// An identifier: `$` and a name in a text, or one that [`gensym`](crate::gensym) made.
 ///
@@ -232,16 +232,15 @@ impl<'a> Parse<'a> for Option<NameAnnotation<'a>> {
 }
 
 macro_rules! integers {
-    ($($integer:ident is_signed: $is_signed:literal,)*) => {
-        $(
+    ($($value:ident: $($integer:ident $bound:expr),*;)*) => {
+        $($(
             impl<'a> Parse<'a> for ($integer, Span) {
                 fn parse(parser: Parser<'a>) -> Result<Self> {
                     parser.step(|cursor| {
                         let Some(((token, kind), rest)) = cursor.integer_token()? else {
                             return Err(cursor.error(concat!("expected a ", stringify!($integer))));
                         };
-                        let magnitude = token.magnitude(cursor.text(), kind);
-                        match value_of(magnitude, kind, $integer::BITS, $is_signed) {
+                        match $value(cursor.text(), &token, kind, $bound) {
                             Some(value) => {
                                 let span = Span::from_offset(token.offset);
                                 Ok(((value as $integer, span), rest))
@@ -272,31 +271,14 @@ macro_rules! integers {
                     stringify!($integer)
                 }
             }
-        )*
+        )*)*
     };
 }
 
+// Each with its greatest value, or for one with a sign with how many values of each sign it has.
 integers! {
-    u8 is_signed: false,
-    u16 is_signed: false,
-    u32 is_signed: false,
-    u64 is_signed: false,
-    i8 is_signed: true,
-    i16 is_signed: true,
-    i32 is_signed: true,
-    i64 is_signed: true,
-}
-
-/// An integer as two's complement of so many bits, or None where it is out of range. A signed type takes what fits the unsigned one too; an
-/// unsigned type takes no `-`, not even that of `-0`.
-#[inline(always)]
-fn value_of(magnitude: Option<u64>, kind: IntegerKind, bits: u32, is_signed: bool) -> Option<u64> {
-    let (magnitude, most) = (magnitude?, u64::MAX >> (64 - bits));
-    if kind.sign() == Some(SignToken::Minus) {
-        let fits = is_signed && magnitude <= most / 2 + 1;
-        return fits.then_some(magnitude.wrapping_neg());
-    }
-    (magnitude <= most).then_some(magnitude)
+    unsigned_value: u8 u8::MAX.into(), u16 u16::MAX.into(), u32 u32::MAX.into(), u64 u64::MAX;
+    signed_value: i8 1 << 7, i16 1 << 15, i32 1 << 31, i64 1 << 63;
 }
 
 /// A string of any bytes.
