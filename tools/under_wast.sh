@@ -47,6 +47,8 @@ ours() {
         rm "$wast/src/$module.rs"
     done
     cp -r rust/wat-parser/src/. tools/under_wast/lib.rs "$wast/src/"
+    # The examples of the documentation.
+    sed -i 's/^\( *\/\/\/ .*\)wat_parser::/\1wast::/' "$wast/src/parser.rs"
     # The keywords that 222.0.0 has and 263.0.0 dropped.
     sed -n 's/^+ *\(custom_keyword!.*\)/\1/p' "$folder/lib-263-to-222.diff" >> "$wast/src/kw.rs"
     sed -i "s|^\[features\]|[dependencies.wat-lex]\npath = \"$project/rust/wat-lex\"\n\n[features]|" "$wast/Cargo.toml"

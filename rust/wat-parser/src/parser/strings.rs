@@ -2,6 +2,7 @@ use alloc::boxed::Box;
 use alloc::string::String;
 use alloc::vec::Vec;
 use core::cell::{Cell, OnceCell};
+use core::{iter, str};
 
 /// Bytes that live as long as this does, added one after the other through a shared reference.
 ///
@@ -27,11 +28,8 @@ impl Strings {
         let number = self.count.get() + 1;
         self.count.set(number);
         let block = number.ilog2() as usize;
-        let slots = self.blocks[block].get_or_init(|| {
-            core::iter::repeat_with(Slot::new)
-                .take(1 << block)
-                .collect()
-        });
+        let slots = self.blocks[block]
+            .get_or_init(|| iter::repeat_with(Slot::new).take(1 << block).collect());
         slots[number - (1 << block)].get_or_init(|| bytes.into_boxed_slice())
     }
 
