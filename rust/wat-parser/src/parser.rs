@@ -266,6 +266,7 @@ pub struct Parser<'a> {
 
 impl<'a> Parser<'a> {
     /// Whether the group that the parser is in, or the text, has no more tokens. False where a fault is shown.
+    #[inline]
     pub fn is_empty(self) -> bool {
         match self.cursor().shown() {
             Ok(Some((token, _))) => matches!(token.kind, TokenKind::RParen),

@@ -87,6 +87,7 @@ impl<'a> Parse<'a> for Id<'a> {
 }
 
 impl Peek for Id<'_> {
+    #[inline]
     fn peek(cursor: Cursor<'_>) -> Result<bool> {
         cursor.peek_id()
     }
@@ -163,6 +164,7 @@ impl<'a> Parse<'a> for Index<'a> {
 }
 
 impl Peek for Index<'_> {
+    #[inline]
     fn peek(cursor: Cursor<'_>) -> Result<bool> {
         Ok(cursor.peek_integer()? || cursor.peek_id()?)
     }
@@ -194,6 +196,7 @@ impl<'a, K: Parse<'a>> Parse<'a> for ItemRef<'a, K> {
 
 /// Seen by its `(` and the keyword.
 impl<K: Peek> Peek for ItemRef<'_, K> {
+    #[inline]
     fn peek(cursor: Cursor<'_>) -> Result<bool> {
         match cursor.lparen()? {
             Some(inside) => K::peek(inside),
@@ -257,6 +260,7 @@ macro_rules! integers {
             }
 
             impl<'a> Parse<'a> for $integer {
+                #[inline]
                 fn parse(parser: Parser<'a>) -> Result<Self> {
                     let (value, _) = parser.parse::<($integer, Span)>()?;
                     Ok(value)
@@ -264,7 +268,8 @@ macro_rules! integers {
             }
 
             impl Peek for $integer {
-                fn peek(cursor: Cursor<'_>) -> Result<bool> {
+                #[inline]
+    fn peek(cursor: Cursor<'_>) -> Result<bool> {
                     cursor.peek_integer()
                 }
 
@@ -293,6 +298,7 @@ impl<'a> Parse<'a> for &'a [u8] {
 }
 
 impl Peek for &[u8] {
+    #[inline]
     fn peek(cursor: Cursor<'_>) -> Result<bool> {
         cursor.peek_string()
     }
@@ -312,6 +318,7 @@ impl<'a> Parse<'a> for &'a str {
 }
 
 impl Peek for &str {
+    #[inline]
     fn peek(cursor: Cursor<'_>) -> Result<bool> {
         cursor.peek_string()
     }
@@ -334,6 +341,7 @@ pub struct LParen {
 }
 
 impl Peek for LParen {
+    #[inline]
     fn peek(cursor: Cursor<'_>) -> Result<bool> {
         cursor.peek_lparen()
     }
@@ -350,6 +358,7 @@ pub struct RParen {
 }
 
 impl Peek for RParen {
+    #[inline]
     fn peek(cursor: Cursor<'_>) -> Result<bool> {
         cursor.peek_rparen()
     }

@@ -115,7 +115,7 @@ impl<'a> Cursor<'a> {
 
     /// Whether this keyword is shown.
     #[doc(hidden)]
-    #[inline]
+    #[inline(always)]
     pub fn is_keyword(self, word: &str) -> Result<bool> {
         let shown = self.shown()?;
         Ok(shown.is_some_and(|(token, _)| is_keyword(self.text(), token, word)))
@@ -133,10 +133,16 @@ impl<'a> Cursor<'a> {
     pub fn is_annotation(self, name: &str) -> Result<bool> {
         match self.shown()? {
             Some((token, _)) if matches!(token.kind, TokenKind::Annotation) => {
-                Ok(self.name(token)? == name)
+                self.is_named(token, name)
             }
             _ => Ok(false),
         }
+    }
+
+    // It stays a call, as `name`, so that what most callers find is found at once.
+    #[inline(never)]
+    fn is_named(&self, token: Token, name: &str) -> Result<bool> {
+        Ok(self.name(token)? == name)
     }
 
     /// Where the token that is shown begins: the text's end where none is left, and the end of what was taken where a fault is shown.
@@ -160,6 +166,7 @@ impl<'a> Cursor<'a> {
     /// # Errors
     ///
     /// Where a fault is shown, as for each look and each taking.
+    #[inline]
     pub fn peek_lparen(self) -> Result<bool> {
         self.sees(|kind| matches!(kind, TokenKind::LParen))
     }
@@ -169,6 +176,7 @@ impl<'a> Cursor<'a> {
     /// # Errors
     ///
     /// Where a fault is shown.
+    #[inline]
     pub fn peek_rparen(self) -> Result<bool> {
         self.sees(|kind| matches!(kind, TokenKind::RParen))
     }
@@ -178,6 +186,7 @@ impl<'a> Cursor<'a> {
     /// # Errors
     ///
     /// Where a fault is shown.
+    #[inline]
     pub fn peek_id(self) -> Result<bool> {
         self.sees(|kind| matches!(kind, TokenKind::Id))
     }
@@ -187,6 +196,7 @@ impl<'a> Cursor<'a> {
     /// # Errors
     ///
     /// Where a fault is shown.
+    #[inline]
     pub fn peek_reserved(self) -> Result<bool> {
         self.sees(|kind| matches!(kind, TokenKind::Reserved))
     }
@@ -196,6 +206,7 @@ impl<'a> Cursor<'a> {
     /// # Errors
     ///
     /// Where a fault is shown.
+    #[inline]
     pub fn peek_keyword(self) -> Result<bool> {
         self.sees(|kind| matches!(kind, TokenKind::Keyword))
     }
@@ -205,6 +216,7 @@ impl<'a> Cursor<'a> {
     /// # Errors
     ///
     /// Where a fault is shown.
+    #[inline]
     pub fn peek_integer(self) -> Result<bool> {
         self.sees(|kind| matches!(kind, TokenKind::Integer(_)))
     }
@@ -214,6 +226,7 @@ impl<'a> Cursor<'a> {
     /// # Errors
     ///
     /// Where a fault is shown.
+    #[inline]
     pub fn peek_float(self) -> Result<bool> {
         self.sees(|kind| matches!(kind, TokenKind::Float(_)))
     }
@@ -223,6 +236,7 @@ impl<'a> Cursor<'a> {
     /// # Errors
     ///
     /// Where a fault is shown.
+    #[inline]
     pub fn peek_string(self) -> Result<bool> {
         self.sees(|kind| matches!(kind, TokenKind::String))
     }
