@@ -20,11 +20,18 @@ macro_rules! sse2 {
 }
 
 /// The byte of a table at each index, with one instruction.
+///
+/// # Safety
+///
+/// The processor has SSSE3.
 #[cfg(any(test, target_feature = "ssse3"))]
 #[inline]
 #[target_feature(enable = "ssse3")]
-fn shuffled(table: __m128i, indices: __m128i) -> __m128i {
-    _mm_shuffle_epi8(table, indices)
+// Before rustc 1.87 the instruction is unsafe here too.
+#[allow(unused_unsafe)]
+unsafe fn shuffled(table: __m128i, indices: __m128i) -> __m128i {
+    // SAFETY: the caller's.
+    unsafe { _mm_shuffle_epi8(table, indices) }
 }
 
 /// The same without a shuffle: each index is compared with each place of the table.
