@@ -60,5 +60,5 @@ install: all install-shared
 	install -d $(includes) $(libraries)/pkgconfig
 	install -m 644 include/wat.h $(includes)/
 	install -m 644 $(archives) $(libraries)/
-	sed 's|@PREFIX@|$(PREFIX)|; s|@VERSION@|$(version)|; s|@LIBS@|$(addprefix  ,$(libs))|; s|@PRIVATE@| $(private)|' include/wat.pc.in \
+	sed 's|@PREFIX@|$(PREFIX)|; s|@VERSION@|$(version)|; s|@LIBS@|$(libs)|; s|@PRIVATE@|$(private)|' include/wat.pc.in \
 	    > $(libraries)/pkgconfig/wat.pc

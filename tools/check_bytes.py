@@ -3,6 +3,8 @@
 
 usage: tools/check_bytes.py PROGRAM
 
+Where BY_CARGO is set the program is the one that cargo builds, and Rust's library still holds the buffer of standard input at the end.
+
 Each run has a bound of the bytes for each byte of its text, and of the writes; it ends in time; and what it writes is compared with what is put
 together here, or with a run that has to answer the same. Nothing may be held at the end. The counts are those of tools/refuse_requests.c, which is
 loaded in front of the C library. Of the rows of crates/wat_requests, tools/check_requests.sh counts the same.
@@ -20,6 +22,8 @@ TOOLS = pathlib.Path(__file__).resolve().parent
 SECONDS = 20
 # What a run asks for beside what goes by the text: the words, a report, one block of output.
 BESIDE = 200_000
+# What the library of the program's compiler holds to the end.
+KEPT = 9_000 if os.environ.get("BY_CARGO") else 0
 # How much of standard input is read at once.
 PIECE = 65_536
 WHITE = ("Whitespace", "LineComment", "BlockComment")
@@ -75,7 +79,7 @@ class Room:
             say(f"wrote {len(written)} bytes in place of {len(wanted)}, or others")
         if counted.get("asked", 0) > times * size + BESIDE or not counted.get("requests"):
             say(f"asked for {counted.get('asked')} bytes of memory for {size} of text, where {times} for each is the bound")
-        if counted.get("held"):
+        if counted.get("held", 0) > KEPT:
             say(f"still holds {counted['held']} bytes at its end")
         if text and counted.get("reads", 0) > -(-len(text) // PIECE) + 1:
             say(f"{counted['reads']} reads of {len(text)} bytes, by pieces of {PIECE}")

@@ -1,8 +1,9 @@
 #!/usr/bin/env bash
 # The C library, by both of its compilers: as cargo builds it of the text that tools/erase makes, static and shared, and as Rattle's own compilers
 # make it. Over each, by each C compiler that is here: each function with answers from outside, C programs that list the stored texts and their
-# identifiers, all functions on the stored texts and on mutants of them under the address and undefined-behaviour sanitizers, and each request for
-# memory refused; the header as C99 and as C++; and the declarations of both. Each answers the same. What can't be run here is left out, and says so.
+# identifiers, all functions on the stored texts and on mutants of them under the address and undefined-behaviour sanitizers and under valgrind, and
+# each request for memory refused; the header as C99 and as C++; and the declarations of both. Each answers the same. Last numbers as wat-parser
+# reads them, beside `strtof` and `strtod`. What can't be run here is left out, and says so.
 #
 #   CRATES_FOLDER=FOLDER  the crates that cargo takes, each in a folder of its own, where no registry is at hand
 #
@@ -81,6 +82,15 @@ read_all() {
     say "$name, $compiler with sanitizers: $said"
 }
 
+# watch NAME LIBRARY..: the functions under valgrind: each byte that is read has a value, and may be read
+watch() {
+    local name=$1 said
+    shift
+    "$c" -std=c99 -g -O1 "${strict[@]}" -o "$room/readers" tools/c/readers.c "$@"
+    said=$(stored | xargs valgrind --quiet --error-exitcode=9 "$room/readers" 0 2> "$room/errors") || { cat "$room/errors"; fail "$name, valgrind: $said"; }
+    say "$name, valgrind: $said"
+}
+
 # call_refused NAME NUMBER: a call with each of its requests for memory refused in turn
 call_refused() {
     local n asks=0 requests=0 held=0
@@ -134,6 +144,11 @@ suite() {
     "$c" -std=c99 -O2 "${strict[@]}" -o "$room/identifiers" tools/c/identifiers.c "$@"
     compare "$name: identifiers.c" "$room/identifiers" identifiers
     refuse "$name" "$@"
+    if has valgrind; then
+        watch "$name" "$@"
+    else
+        say "$name: valgrind is left out, as it is not here"
+    fi
     if has "$cpp"; then
         "$cpp" -std=c++11 "${strict[@]}" -o "$room/alone" "$room/alone.cc" "$@"
         "$room/alone"
@@ -182,6 +197,16 @@ by_cargo_with_sanitizer() {
     done
 }
 
+# floats: numbers as wat-parser reads them and as C does
+floats() {
+    local options said
+    mapfile -t options < "$room/options"
+    (cd rust && CARGO_TARGET_DIR=$room/target cargo --quiet "${options[@]}" build --locked --release --package wat-parser --example floats)
+    "$c" -std=c99 -O2 "${strict[@]}" -o "$room/floats" tools/c/floats.c
+    said=$("$room/floats" 200000 | "$room/target/release/examples/floats") || fail "floats: $said"
+    say "as strtof and strtod: $said"
+}
+
 tools/compare_declarations.py
 compilers=() libraries=()
 for compiler in "${CC:-cc}" gcc clang; do
@@ -207,6 +232,7 @@ elif ! with_crates > "$room/options"; then
 else
     by_cargo
     by_cargo_with_sanitizer
+    floats
 fi
 if has rt; then
     folder=$(tools/build_c.sh)

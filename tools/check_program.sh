@@ -5,6 +5,8 @@
 # has its line and status.
 #
 # usage: tools/check_program.sh [PROGRAM]
+# Where BY_CARGO is set the program is the one that cargo builds, and a standard input that is closed is an empty one: Rust's library opens
+# /dev/null in its place.
 set -eu
 cd "$(dirname "$0")/.."
 program=$(realpath "${1:-$(tools/build.sh wat_tokens)}")
@@ -94,6 +96,18 @@ os.close(reader)
 sys.exit(subprocess.run(sys.argv[1:], stdout=writer, check=False).returncode % 256)' "$@"
 }
 
+# expect_closed NAME ERRORS COMMAND..: runs the command with a standard input that is closed
+expect_closed() {
+    local name=$1 errors=$2 empty
+    shift 2
+    if [ -z "${BY_CARGO:-}" ]; then
+        expect "$name" 2 '' "$errors" "$@" <&-
+    else
+        empty=$("$@" < /dev/null)
+        expect "$name" 0 "${empty:+$empty\n}" '' "$@" <&-
+    fi
+}
+
 usage='usage: wat_tokens [--allow-confusing] [--strict-underscores] [sig NAME.. | play CALL..]\n'
 more='wat_tokens --help lists the commands and their options\n'
 confusing=$';;\u202e'
@@ -146,7 +160,7 @@ expect 'play, nine digits' 0 'not closed 10\nnot closed 1\n' '' "$program" play 
 failures() {
     expect "no UTF-8: $*" 2 '' 'wat_tokens: input is not UTF-8\n' "$program" "$@" < <(printf 'a \377')
     expect "a folder: $*" 2 '' 'wat_tokens: read failed\n' "$program" "$@" < /
-    expect "no input: $*" 2 '' 'wat_tokens: read failed\n' "$program" "$@" <&-
+    expect_closed "no input: $*" 'wat_tokens: read failed\n' "$program" "$@"
     output=/dev/full expect "no room: $*" 2 '' 'wat_tokens: write failed\n' "$program" "$@" < <(printf x)
     unread "the words $*" 2 'wat_tokens: write failed\n' "$program" "$@" < <(printf x)
     # shellcheck disable=SC2016
@@ -381,7 +395,7 @@ expect 'standard input, named' 0 "$word" '' "$program" - < <(printf x)
 expect 'standard input, named, a fault' 1 "$word" "$(fault_in 'unterminated block comment' '<stdin>' 2 'x(;' ' ')" "$program" - < <(printf 'x(;')
 expect 'standard input, named, no UTF-8' 2 '' 'wat_tokens: <stdin>: input is not UTF-8 at byte 2\n' "$program" list - < <(printf 'a \377')
 expect 'standard input, named, a folder' 2 '' 'wat_tokens: <stdin>: read failed: is a directory\n' "$program" - < /
-expect 'standard input, named, none' 2 '' 'wat_tokens: <stdin>: read failed: bad file descriptor\n' "$program" - <&-
+expect_closed 'standard input, named, none' 'wat_tokens: <stdin>: read failed: bad file descriptor\n' "$program" -
 output=/dev/full expect 'standard input, named, no room' 2 '' 'wat_tokens: <stdin>: write failed: no space left on device\n' "$program" - < <(printf x)
 unread 'standard input, named' 0 '' "$program" - < <(printf x)
 expect 'sig, standard input, named' 0 "$word" '' "$program" --file - sig < <(printf x)

@@ -4,6 +4,8 @@
 # for the bytes before a failed write.
 #
 # usage: tools/check_runs.sh [PROGRAM]
+# Where BY_CARGO is set the program is the one that cargo builds. Its first requests are Rust's library's, which ends the program where one is
+# refused: they are not refused here, and how many they are is found by `--version`, whose last such request is for its one word.
 set -eu
 cd "$(dirname "$0")/.."
 program=${1:-$(tools/build.sh wat_tokens)}
@@ -12,7 +14,7 @@ trap 'rm -rf "$room"' EXIT
 compiler=${CC:-cc}
 command -v "$compiler" > /dev/null || compiler=$(dirname "$(rt doc)")/toolchain/bin/clang
 "$compiler" -O1 -fPIC -shared -nostdlib -o "$room/refuse.so" tools/refuse_requests.c
-runs=0 faults=0 requests=0 reads=0 writes=0
+runs=0 faults=0 requests=0 reads=0 writes=0 library=0
 
 # run VARIABLE=N..: a run of the words on the text, in the files output, errors and status of the room, and what was counted in counts
 run() {
@@ -60,10 +62,15 @@ count() {
     fi
 }
 
+# first: the first request of the words that is refused
+first() {
+    echo $((library ? library + ${#words[@]} + 1 : 1))
+}
+
 # refuse_each VARIABLE=N..: refuses each request for memory alone, and each with all behind it, in such a run
 refuse_each() {
     local n
-    for ((n = 1; n <= requests; n++)); do
+    for ((n = $(first); n <= requests; n++)); do
         run "$@" "REFUSE_AT=$n"
         is_whole || failed_with 'out of memory' 0 || fault "${words[*]}, $*, request $n refused"
         run "$@" "REFUSE_FROM=$n"
@@ -77,7 +84,7 @@ fail_each() {
     for ((n = 1; n <= $2; n++)); do
         run MOST=1 "$1=$n"
         failed_with "$3" $(($4 * (n - 1))) || fault "${words[*]}, $1=$n"
-        for ((m = 1; m <= requests; m++)); do
+        for ((m = $(first); m <= requests; m++)); do
             run MOST=1 "$1=$n" "REFUSE_AT=$m"
             failed_with "$3" $(($4 * (n - 1))) || failed_with 'out of memory' 0 || fault "${words[*]}, $1=$n, request $m refused"
         done
@@ -121,6 +128,22 @@ check() {
     tell "$reads" "$writes"
 }
 
+# find_library: finds how many requests the library makes before those for the words
+find_library() {
+    local n
+    words=(--version)
+    : > "$room/text"
+    run MOST=0
+    # shellcheck disable=SC1091
+    . "$room/counts"
+    for ((n = 1; n <= requests; n++)); do
+        run "REFUSE_AT=$n"
+        [ "$(cat "$room/status")" -lt 128 ] || library=$((n - 1))
+    done
+    echo "check_runs.sh: the library's own requests: $library, and one for each word"
+}
+
+[ -z "${BY_CARGO:-}" ] || find_library 2> /dev/null
 printf '%-28s %8s %6s %6s\n' words requests reads writes
 check 0 '(@a "x") b'
 check 1 'x (;'

@@ -1,6 +1,6 @@
 #!/usr/bin/env python3
 """Writes the files of crates/wat_sums, and the laws of the words of readings, into docs/A-TYPE-OF-ONES-OWN.md, and lines of the examples
-from C and Rust into README.md.
+from C and Rust into README.md and the README of wat-c.
 
 usage: tools/make_quick_start.py [--check | --self-test]
 
@@ -16,7 +16,7 @@ import sys
 import textwrap
 
 ROOT = pathlib.Path(__file__).resolve().parent.parent
-PAGES = ["README.md", "docs/A-TYPE-OF-ONES-OWN.md"]
+PAGES = ["README.md", "docs/A-TYPE-OF-ONES-OWN.md", "rust/wat-c/README.md"]
 CRATE, ITS_PAGE = "crates/wat_sums", "docs/A-TYPE-OF-ONES-OWN.md"
 LAWS = ROOT / "crates/wat_lexer_parser/specs/lemmas"
 PART = re.compile(r"<!-- (file (?P<path>\S+)( (?P<first>\d+)-(?P<last>\d+))?|files (?P<folder>\S+)|laws) -->\n(?P<body>.*?)<!-- end -->\n", re.S)

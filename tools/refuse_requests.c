@@ -13,6 +13,7 @@ extern void *__libc_realloc(void *block, size bytes);
 extern void __libc_free(void *block);
 extern void *__libc_memalign(size alignment, size bytes);
 extern int __open(const char *name, int flags, int mode);
+extern int __fcntl(int file, int command, long argument);
 extern long __read(int file, void *bytes, size count);
 extern long __write(int file, const void *bytes, size count);
 extern int *__errno_location(void);
@@ -147,9 +148,28 @@ int open(const char *name, int flags, int mode)
     return __open(name, flags, mode);
 }
 
+/* By this name Rust's library opens files; on 64 bits it is the same call. */
+int open64(const char *name, int flags, int mode)
+{
+    return open(name, flags, mode);
+}
+
+/* Standard input and output, or the last copy of each, which a program by cargo reads and writes. */
+static int copies[2] = {0, 1};
+
+int fcntl(int file, int command, long argument)
+{
+    int copy_to_close_on_exec = 1030;
+    int made = __fcntl(file, command, argument);
+    if (command == copy_to_close_on_exec && made > 0 && (file == 0 || file == 1)) {
+        copies[file] = made;
+    }
+    return made;
+}
+
 long read(int file, void *bytes, size count)
 {
-    if (file != 0) {
+    if (file != 0 && file != copies[0]) {
         return __read(file, bytes, count);
     }
     reads += 1;
@@ -158,7 +178,7 @@ long read(int file, void *bytes, size count)
 
 long write(int file, const void *bytes, size count)
 {
-    if (file != 1) {
+    if (file != 1 && file != copies[1]) {
         return __write(file, bytes, count);
     }
     writes += 1;

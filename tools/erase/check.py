@@ -21,12 +21,15 @@ CLOSERS = {"(": ")", "[": "]", "{": "}"}
 CLOSING = (")", "]", "}", ">")
 # After these a parenthesis begins no call.
 NO_CALLS = ("as", "break", "else", "if", "in", "let", "match", "mut", "ref", "return", "while")
-SAME_IN_CORE = ("fmt", "hash", "marker", "mem", "result", "str", "{")
+SAME_IN_CORE = ("cmp", "fmt", "hash", "marker", "mem", "result", "str", "{")
+# Only the program's sources use these, which `core` has not.
+STREAMS = ("env", "fs", "io", "path", "process", "rt")
 
 # What is written otherwise, wherever it is found: the tokens of the source, and those that have to be in their place.
 WRITTEN = [
     *((f"std::{name}", f"SHIM::{name}") for name in ("alloc", "borrow", "collections", "simd")),
-    *((f"std::{name}", f"core::{name}") for name in SAME_IN_CORE),
+    *((f"std::{name}", f"STD::{name}") for name in SAME_IN_CORE + STREAMS),
+    ("itoa::", "SHIM::itoa::"),
     ("BY_SHUFFLE: bool = true", "BY_SHUFFLE: bool = SHIM::simd::HAS_SHUFFLE"),
     ("smallvec::", "SHIM::smallvec::"),
     ("unicode_width::", "SHIM::unicode_width::"),
@@ -37,12 +40,16 @@ WRITTEN = [
     (".join(alloc,", ".join_in(alloc,"),
     (".to_string(alloc)", ".to_string_in(alloc)"),
     (".kind.clone()?", ".kind.clone()"),
+    ("println!(rt;", "try_println!(rt;"),
+    ("eprintln!(rt;", "try_eprintln!(rt;"),
+    ("fn main(rt:", "pub fn main(rt:"),
     ("let text = unsafe { str::from_utf8_unchecked(text) };", "// SAFETY: rule 2 of wat.h.\nlet text = unsafe { str::from_utf8_unchecked(text) };"),
     # What is taken away.
     ("use std::marker::Model;", ""),
     ("+ Drop", ""),
     (": Drop,", ","),
     (": Drop>", ">"),
+    (": Drop;", ";"),
 ]
 # Where each crate is found by the others, and by itself.
 PLACES = {
@@ -53,9 +60,16 @@ PLACES = {
     "wat_answers": ("", "crate::answers"),
     "wat_rows": ("", "crate::rows"),
     "wat_parser_c": ("", "crate::proved"),
+    "wat_format": ("wat_tokens::format", "crate::format"),
+    "wat_lines": ("wat_tokens::lines", "crate::lines"),
+    "wat_lists": ("wat_tokens::lists", "crate::lists"),
+    "wat_types": ("wat_tokens::types", "crate::types"),
+    "wat_commands": ("wat_tokens::commands", "crate::commands"),
+    "wat_tokens": ("wat_tokens::program", "crate::program"),
 }
 # Crates that are compiled together see each other as they see themselves.
-TOGETHER = [{"wat_words", "wat_lexer_parser"}, {"wat_lex_answers", "wat_answers"}, {"wat_rows", "wat_parser_c"}]
+PROGRAM = {"wat_format", "wat_lines", "wat_lists", "wat_types", "wat_commands", "wat_tokens"}
+TOGETHER = [{"wat_words", "wat_lexer_parser"}, {"wat_lex_answers", "wat_answers"}, {"wat_rows", "wat_parser_c"}, PROGRAM]
 # Of a function that C calls, with a space between tokens: what C passes of a slice, and the statements that its body begins with.
 PASSED = re.compile(r"(\w+) : \* (const|mut) (\w+) , \1_len : usize")
 MADE = re.compile(
@@ -70,7 +84,12 @@ def place(crate, seen_from):
 
 
 def shim_place(crate):
-    return "crate::shim" if crate == "wat_lex" else "wat_lex::shim"
+    return "crate::shim" if crate == "wat_lex" or crate in PROGRAM else "wat_lex::shim"
+
+
+def std_place(crate):
+    """Where the rest of Rattle's `std` is. The program's shim has all of it."""
+    return "crate::shim" if crate in PROGRAM else "core"
 
 
 class Fault(Exception):
@@ -139,7 +158,7 @@ class Walk:
         others = [(f"{other}::", f"{place(other, crate)}::") for other in PLACES]
         for before, after in [*WRITTEN, ("crate::", f"{self.root}::"), *others]:
             before = scan(before)
-            self.written[before[0].text].append((before, scan(after.replace("SHIM", self.shim))))
+            self.written[before[0].text].append((before, scan(after.replace("SHIM", self.shim).replace("STD", std_place(crate)))))
         self.name = name
         self.contracts = {}
         self.at = self.there = 0
@@ -535,6 +554,10 @@ PLANTED = [
     ("an operator is another one", "wat_lex/src/token.rt", "self.name() == other.name() && self", "self.name() == other.name() || self"),
     ("a function is there twice", "wat_words/src/table.rt", "fn entry_at", "fn entry_at() {}\nfn entry_at"),
     ("a comment is dropped", "wat_lex/src/lexer/scan/starts.rt", "// Bytes that are neighbours stand", "// Bytes"),
+    ("a line goes out by Rust's macro", "wat_tokens/src/report.rt", "match try_println!(rt;", "match println!(rt;"),
+    ("files are Rust's own", "wat_tokens/src/replace.rt", "use crate::shim::fs::{File", "use std::fs::{File"),
+    ("a bound is gained", "wat_format/src/sink.rt", "type Failure;", "type Failure: Copy;"),
+    ("a block is smaller", "wat_lines/src/block.rt", "const BLOCK: usize = 65_536;", "const BLOCK: usize = 65_535;"),
     ("the end is lost", "wat_lex/src/gensym.rt", "Ok(Id::gensym(span, self.generation))\n    }\n}", ""),
     ("C passes the length first", "wat_parser_c/src/lib.rt", "(text: *const u8, text_len: usize)", "(text_len: usize, text: *const u8)"),
     ("C passes no length", "wat_parser_c/src/lib.rt", "out: *mut TokenRow, out_len: usize)", "out: *mut TokenRow)"),

@@ -21,21 +21,30 @@ MODULES = {
     "wat_answers": "wat-parser/tests/table_of_answers/answers",
     "wat_rows": "wat-c/src/rows",
     "wat_parser_c": "wat-c/src/proved",
+    "wat_format": "wat-tokens/src/format",
+    "wat_lines": "wat-tokens/src/lines",
+    "wat_lists": "wat-tokens/src/lists",
+    "wat_types": "wat-tokens/src/types",
+    "wat_commands": "wat-tokens/src/commands",
+    "wat_tokens": "wat-tokens/src/program",
 }
 # What takes Rattle's streams is written in Rust.
 LEFT_OUT = {"wat_answers/src/main.rt"}
-# What is written otherwise: the closed list. The first entry that fits counts. SHIM is the path of the shim, SELF that of the source's crate.
+# What is written otherwise: the closed list. The first entry that fits counts. SHIM is the path of the shim, STD that of what it leaves to Rust,
+# SELF that of the source's crate.
 WRITTEN = {
     # Rust has no models, and drops each value.
     "use std::marker::Model;": "",
     "+ Drop": "",
     ": Drop,": ",",
     ": Drop>": ">",
+    ": Drop;": ";",
     # What takes memory from an allocator, and may be refused, is the shim's.
     "std::alloc": "SHIM::alloc",
     "std::borrow": "SHIM::borrow",
     "std::collections": "SHIM::collections",
     "std::simd": "SHIM::simd",
+    "itoa::": "SHIM::itoa::",
     "BY_SHUFFLE: bool = true": "BY_SHUFFLE: bool = SHIM::simd::HAS_SHUFFLE",
     "smallvec::": "SHIM::smallvec::",
     "unicode_width::": "SHIM::unicode_width::",
@@ -48,10 +57,14 @@ WRITTEN = {
     # A formatter has its writer as a parameter in Rattle, and none in Rust.
     "<W: fmt::Write>": "",
     "fmt::Formatter<W>": "fmt::Formatter<'_>",
+    # What reaches outside of the process takes a handle of it, which a program is given.
+    "println!(rt;": "try_println!(rt;",
+    "eprintln!(rt;": "try_eprintln!(rt;",
+    "fn main(rt:": "pub fn main(rt:",
     # Who calls from C owes what Rattle's compiler has as proved.
     "let text = unsafe { str::from_utf8_unchecked(text) };": "// SAFETY: rule 2 of wat.h.\nlet text = unsafe { str::from_utf8_unchecked(text) };",
     # The roots of all other paths; those of the other crates are `path_of`.
-    "std::": "core::",
+    "std::": "STD::",
     "crate::": "SELF::",
 }
 # The parameters of a function that C calls: a form of the source, what C passes, and the statement that makes the first of it.
@@ -85,7 +98,13 @@ def path_of(crate, seen_from):
 
 
 def shim_of(crate):
-    return "crate::shim" if target_of(crate) == ("wat-lex", "src") else "wat_lex::shim"
+    package = "wat-tokens" if target_of(crate)[0] == "wat-tokens" else "wat-lex"
+    return "crate::shim" if target_of(crate) == (package, "src") else f"{package.replace('-', '_')}::shim"
+
+
+def std_of(crate):
+    """What has the rest of `std`. The shim of wat-tokens has all of it: files and streams are no part of Rust's `core`."""
+    return shim_of(crate) if target_of(crate)[0] == "wat-tokens" else "core"
 
 
 TOKEN = re.compile(
@@ -211,7 +230,7 @@ class Eraser:
     def __init__(self, text, crate):
         self.source = Source(text)
         self.out = []
-        self.root, self.shim = path_of(crate, crate), shim_of(crate)
+        self.root, self.shim, self.std = path_of(crate, crate), shim_of(crate), std_of(crate)
         others = {f"{other}::": f"{path_of(other, crate)}::" for other in MODULES}
         self.written = [(solid_of(before), self.rooted(after)) for before, after in (WRITTEN | others).items()]
         # What the body begins with of a function that C calls.
@@ -220,7 +239,7 @@ class Eraser:
         self.rules |= {"extern": self.exported, "{": self.body}
 
     def rooted(self, text):
-        return text.replace("SELF", self.root).replace("SHIM", self.shim)
+        return text.replace("SELF", self.root).replace("SHIM", self.shim).replace("STD", self.std)
 
     def erased(self):
         at = 0
@@ -354,7 +373,7 @@ def sources():
         for source in sorted(folder.rglob("*.rt")):
             inside = source.relative_to(folder).with_suffix(".rs")
             if f"{crate}/src/{source.relative_to(folder)}" not in LEFT_OUT:
-                yield source, crate, RUST / (f"{module}.rs" if str(inside) == "lib.rs" else f"{module}/{inside}")
+                yield source, crate, RUST / (f"{module}.rs" if str(inside) in ("lib.rs", "main.rs") else f"{module}/{inside}")
 
 
 def made(source, crate):

@@ -13,6 +13,18 @@ use std::path::{Path, PathBuf};
 /// the column. That column counts columns of a terminal, of which a character may take none, one or two; [`linecol_in`](Span::linecol_in) of
 /// its span counts bytes.
 ///
+/// ```
+/// use wat_lex::{Error, Span};
+///
+/// let mut error = Error::new(Span::from_offset(6), "a name is missing".to_string());
+/// assert_eq!(error.to_string(), "a name is missing at byte offset 6");
+/// error.set_text("(one)\n(two)");
+/// assert_eq!(
+///     error.to_string(),
+///     "a name is missing\n     --> <anon>:2:1\n      |\n    2 | (two)\n      | ^"
+/// );
+/// ```
+///
 /// Two errors are equal where they are at the same place, of the same fault, and print the same.
 // An error is one word, as it is beside the token in what `parse` and `iter` give. None is an out-of-memory error, which so needs no memory.
 #[derive(Debug)]
@@ -125,19 +137,19 @@ impl fmt::Display for Located {
     }
 }
 
-// What is let go is passed as a value to a function of its own. By its address, a loop over tokens would keep all that `parse` answers in memory.
+// What is dropped is passed by value to a function of its own. By its address, a loop over tokens would keep all that `parse` answers in memory.
 impl Drop for Error {
     #[inline]
     fn drop(&mut self) {
         if let Some(located) = self.0.take() {
-            let_go(located);
+            drop_located(located);
         }
     }
 }
 
 #[cold]
 #[inline(never)]
-fn let_go(_: Box<Located>) {}
+fn drop_located(_: Box<Located>) {}
 
 impl PartialEq for Error {
     fn eq(&self, other: &Error) -> bool {

@@ -1,8 +1,8 @@
+use crate::Span;
 use crate::error::Error;
 use crate::proved;
 use crate::shim::alloc::Global;
 use crate::token::Token;
-use crate::Span;
 use alloc::format;
 use core::fmt;
 use core::iter::FusedIterator;
@@ -56,6 +56,18 @@ impl<'a> Lexer<'a> {
 
     /// The token at a byte of the text, and then the byte is that of the token's end; or None at the text's end.
     ///
+    /// ```
+    /// use wat_lex::{Lexer, TokenKind};
+    ///
+    /// let (lexer, mut pos) = (Lexer::new("(;one;)$x"), 0);
+    /// let comment = lexer.parse(&mut pos)?.unwrap();
+    /// assert_eq!((comment.kind, pos), (TokenKind::BlockComment, 7));
+    /// let name = lexer.parse(&mut pos)?.unwrap();
+    /// assert_eq!((name.kind, pos), (TokenKind::Id, 9));
+    /// assert_eq!(lexer.parse(&mut pos)?, None);
+    /// # Ok::<(), wat_lex::Error>(())
+    /// ```
+    ///
     /// # Errors
     ///
     /// The error of the fault there, or that the text has more than `u32::MAX` bytes. The byte stays.
@@ -93,6 +105,7 @@ impl<'a> Lexer<'a> {
     #[inline(never)]
     fn ending(&self, mut pos: usize) -> Result<(), Error> {
         let lexer = self.proved()?;
+        // `requires` of `proved::lexer::Lexer::parse`.
         assert!(
             self.input.is_char_boundary(pos),
             "no character begins at the byte"
@@ -105,8 +118,16 @@ impl<'a> Lexer<'a> {
     ///
     /// # Errors
     ///
-    /// The error of the fault there, where the byte is `@`; or that the text has more than `u32::MAX` bytes.
+    /// Where the byte is `@`, the error of the fault there, or that the text has more than `u32::MAX` bytes.
+    #[inline]
     pub fn annotation(&self, pos: usize) -> Result<Option<Token>, Error> {
+        match self.input.as_bytes().get(pos) {
+            Some(b'@') => self.annotation_at(pos),
+            _ => Ok(None),
+        }
+    }
+
+    fn annotation_at(&self, pos: usize) -> Result<Option<Token>, Error> {
         let token = self.proved()?.annotation(Global, pos)?;
         Ok(token.map(Token::from))
     }

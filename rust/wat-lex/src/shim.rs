@@ -6,8 +6,8 @@ pub mod borrow;
 pub mod boxed;
 pub mod collections;
 mod macros;
-// The calls of the target's instructions.
-#[allow(unsafe_code)]
+// The calls of the target's instructions. What a block has is named as in the library of Rattle and of Rust.
+#[allow(missing_docs, unsafe_code)]
 pub mod simd;
 pub mod smallvec;
 pub mod string;

@@ -130,6 +130,41 @@ fn bytes_become_a_text_without_memory() {
 }
 
 #[test]
+fn a_text_keeps_its_memory_where_it_is_cleared_or_becomes_bytes() {
+    let mut text = String::from_str(Global, "abcd").unwrap();
+    without_memory(|| text.clear());
+    assert_eq!(text.as_str(), "");
+    without_memory(|| text.push_str("efgh")).unwrap();
+    assert_eq!(without_memory(|| text.into_bytes()).as_slice(), b"efgh");
+}
+
+#[test]
+fn the_items_of_a_vector_come_in_order_without_memory() {
+    let items = vec_of(&[1, 2, 3]);
+    let mut found = items.into_iter();
+    assert_eq!(
+        without_memory(|| [found.next(), found.next(), found.next(), found.next()]),
+        [Some(1), Some(2), Some(3), None]
+    );
+}
+
+#[cfg(feature = "std")]
+#[test]
+fn a_refused_request_is_an_error_of_a_stream() {
+    use std::io::{Error, ErrorKind};
+    let of_request = without_memory(|| Error::from(AllocError));
+    let of_value = without_memory(|| Error::from(AllocFailed { value: 1 }));
+    assert_eq!(
+        (of_request.kind(), of_value.kind()),
+        (ErrorKind::OutOfMemory, ErrorKind::OutOfMemory)
+    );
+    assert_eq!(
+        (of_request.raw_os_error(), of_value.raw_os_error()),
+        (None, None)
+    );
+}
+
+#[test]
 fn texts_are_joined_or_refused() {
     let texts = ["one", "two", "three"];
     let (joined, asked) = granting(usize::MAX, || texts.join_in(Global, ", "));

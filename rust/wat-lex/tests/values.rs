@@ -385,11 +385,13 @@ fn errors_are_equal_where_they_print_the_same() {
     assert_ne!(named, told);
 }
 
-/// A text of more than `u32::MAX` bytes, none of which was written.
+/// A text of more than `u32::MAX` bytes, most of which are never written.
 #[cfg(target_pointer_width = "64")]
 #[test]
 fn a_text_that_is_too_long_is_refused() {
-    let text = String::from_utf8(vec![0; 1 << 32]).unwrap();
+    let mut bytes = vec![0; 1 << 32];
+    (bytes[0], bytes[1]) = (b'@', b'@');
+    let text = String::from_utf8(bytes).unwrap();
     let lexer = Lexer::new(&text);
     let message = "the text has more than 4294967295 bytes";
     for pos in [0, 1, text.len(), usize::MAX] {
@@ -401,7 +403,15 @@ fn a_text_that_is_too_long_is_refused() {
         let mut tokens = lexer.iter(pos);
         assert_eq!(tokens.next(), Some(Err(error)));
         assert_eq!(tokens.next(), None);
-        assert_eq!(lexer.annotation(pos).unwrap_err().message(), message);
+        let annotation = lexer.annotation(pos).map_err(|error| error.message());
+        assert_eq!(
+            annotation,
+            if pos < 2 {
+                Err(message.to_string())
+            } else {
+                Ok(None)
+            }
+        );
     }
     assert_eq!(lexer.proved().err().unwrap().message(), message);
     assert_eq!(lexer.input().len(), text.len());

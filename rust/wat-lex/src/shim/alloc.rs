@@ -24,12 +24,27 @@ impl From<AllocError> for fmt::Error {
 /// A value that was not stored, as a request for memory was refused.
 #[derive(Clone, Copy, Debug, PartialEq, Eq)]
 pub struct AllocFailed<T> {
+    /// What was to be stored.
     pub value: T,
 }
 
 impl<T> From<AllocFailed<T>> for AllocError {
     fn from(_: AllocFailed<T>) -> AllocError {
         AllocError
+    }
+}
+
+#[cfg(feature = "std")]
+impl From<AllocError> for std::io::Error {
+    fn from(_: AllocError) -> std::io::Error {
+        std::io::Error::from(std::io::ErrorKind::OutOfMemory)
+    }
+}
+
+#[cfg(feature = "std")]
+impl<T> From<AllocFailed<T>> for std::io::Error {
+    fn from(_: AllocFailed<T>) -> std::io::Error {
+        std::io::Error::from(std::io::ErrorKind::OutOfMemory)
     }
 }
 

@@ -6,12 +6,16 @@ use alloc::borrow::Cow;
 use core::fmt;
 use core::ops::Deref;
 
+/// A text that is borrowed or owned.
 pub enum CowStr<'a> {
+    /// A text of another.
     Borrowed(&'a str),
+    /// A text of its own.
     Owned(String),
 }
 
 impl CowStr<'_> {
+    /// The text.
     #[inline]
     pub fn as_str(&self) -> &str {
         match self {
@@ -67,12 +71,16 @@ impl fmt::Display for CowStr<'_> {
     }
 }
 
+/// Items that are borrowed or owned.
 pub enum CowSlice<'a, T> {
+    /// Items of another.
     Borrowed(&'a [T]),
+    /// Items of its own.
     Owned(Vec<T>),
 }
 
 impl<T> CowSlice<'_, T> {
+    /// The items.
     #[inline]
     pub fn as_slice(&self) -> &[T] {
         match self {

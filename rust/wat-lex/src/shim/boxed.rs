@@ -8,6 +8,7 @@ use core::ops::{Deref, DerefMut};
 pub struct Box<T>(alloc::boxed::Box<[T; 1]>);
 
 impl<T> Box<T> {
+    /// A box of a value, which comes back where memory is refused.
     pub fn new(_: Global, value: T) -> Result<Box<T>, AllocFailed<T>> {
         let mut block = alloc::vec::Vec::new();
         if block.try_reserve_exact(1).is_err() {

@@ -11,16 +11,19 @@ pub struct BTreeMap<K, V> {
 }
 
 impl<K: Ord, V> BTreeMap<K, V> {
+    /// A map of no pairs. It takes no memory.
     pub const fn new(alloc: Global) -> BTreeMap<K, V> {
         BTreeMap {
             pairs: Vec::new(alloc),
         }
     }
 
+    /// How many pairs there are.
     pub fn len(&self) -> usize {
         self.pairs.len()
     }
 
+    /// Whether there are none.
     pub fn is_empty(&self) -> bool {
         self.pairs.is_empty()
     }
@@ -33,6 +36,7 @@ impl<K: Ord, V> BTreeMap<K, V> {
             .binary_search_by(|(other, _)| other.borrow().cmp(key))
     }
 
+    /// The value of a key.
     pub fn get<Q: Ord + ?Sized>(&self, key: &Q) -> Option<&V>
     where
         K: Borrow<Q>,
@@ -41,6 +45,7 @@ impl<K: Ord, V> BTreeMap<K, V> {
         Some(&self.pairs[place].1)
     }
 
+    /// The value of a key, to be changed.
     pub fn get_mut<Q: Ord + ?Sized>(&mut self, key: &Q) -> Option<&mut V>
     where
         K: Borrow<Q>,
@@ -60,6 +65,7 @@ impl<K: Ord, V> BTreeMap<K, V> {
         }
     }
 
+    /// Takes a key away, and answers the value that it had.
     pub fn remove<Q: Ord + ?Sized>(&mut self, key: &Q) -> Option<V>
     where
         K: Borrow<Q>,

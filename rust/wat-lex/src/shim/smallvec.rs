@@ -12,10 +12,12 @@ impl<T, const N: usize> SmallVec<T, N>
 where
     [T; N]: smallvec::Array<Item = T>,
 {
+    /// A vector of no items. It takes no memory.
     pub fn new(_: Global) -> SmallVec<T, N> {
         SmallVec(smallvec::SmallVec::new())
     }
 
+    /// Appends an item, which comes back where memory is refused.
     pub fn push(&mut self, item: T) -> Result<(), AllocFailed<T>> {
         if self.0.try_reserve(1).is_err() {
             return Err(AllocFailed { value: item });
@@ -24,6 +26,7 @@ where
         Ok(())
     }
 
+    /// The items.
     pub fn as_slice(&self) -> &[T] {
         &self.0
     }

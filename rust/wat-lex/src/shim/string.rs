@@ -12,15 +12,18 @@ pub struct String(alloc::string::String);
 /// Bytes that are no UTF-8.
 #[derive(Debug, PartialEq, Eq)]
 pub struct FromUtf8Error {
+    /// The bytes.
     pub bytes: Vec<u8>,
 }
 
 impl String {
+    /// An empty text. It takes no memory.
     #[inline]
     pub const fn new(_: Global) -> String {
         String(alloc::string::String::new())
     }
 
+    /// An empty text with room for so many bytes.
     pub fn with_capacity(alloc: Global, count: usize) -> Result<String, AllocError> {
         let mut new = String::new(alloc);
         new.0.try_reserve_exact(count).map_err(|_| AllocError)?;
@@ -46,6 +49,11 @@ impl String {
         }
     }
 
+    /// The bytes of the text. It takes no memory.
+    pub fn into_bytes(self) -> Vec<u8> {
+        self.0.into_bytes().into()
+    }
+
     /// A copy.
     // Fallible, so it is not the trait's function.
     #[allow(clippy::should_implement_trait)]
@@ -53,11 +61,13 @@ impl String {
         String::from_str(Global, self)
     }
 
+    /// Appends a character.
     #[inline]
     pub fn push(&mut self, c: char) -> Result<(), AllocError> {
         self.push_str(c.encode_utf8(&mut [0; 4]))
     }
 
+    /// Appends a text.
     #[inline]
     pub fn push_str(&mut self, text: &str) -> Result<(), AllocError> {
         self.0.try_reserve(text.len()).map_err(|_| AllocError)?;
@@ -70,6 +80,13 @@ impl String {
         fmt::Write::write_fmt(self, printed).map_err(|_| AllocError)
     }
 
+    /// Removes all characters.
+    #[inline]
+    pub fn clear(&mut self) {
+        self.0.clear();
+    }
+
+    /// The text as one of `str`.
     #[inline]
     pub fn as_str(&self) -> &str {
         &self.0
@@ -142,6 +159,7 @@ impl JoinIn for [&str] {
 
 /// What is printed, as a text.
 pub trait ToStringIn {
+    /// The text that is printed.
     fn to_string_in(&self, alloc: Global) -> Result<String, AllocError>;
 }
 

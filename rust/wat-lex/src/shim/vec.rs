@@ -8,11 +8,13 @@ use core::ops::{Deref, DerefMut};
 pub struct Vec<T>(alloc::vec::Vec<T>);
 
 impl<T> Vec<T> {
+    /// A vector of no items. It takes no memory.
     #[inline]
     pub const fn new(_: Global) -> Vec<T> {
         Vec(alloc::vec::Vec::new())
     }
 
+    /// A vector of no items with room for so many.
     #[inline]
     pub fn with_capacity(alloc: Global, count: usize) -> Result<Vec<T>, AllocError> {
         let mut new = Vec::new(alloc);
@@ -30,6 +32,7 @@ impl<T> Vec<T> {
         Ok(new)
     }
 
+    /// Appends an item, which comes back where memory is refused.
     #[inline]
     pub fn push(&mut self, item: T) -> Result<(), AllocFailed<T>> {
         if self.0.len() == self.0.capacity() && self.reserve(1).is_err() {
@@ -45,6 +48,7 @@ impl<T> Vec<T> {
         self.0.try_reserve(more).map_err(|_| AllocError)
     }
 
+    /// Appends copies of items.
     #[inline]
     pub fn extend_from_slice(&mut self, items: &[T]) -> Result<(), AllocError>
     where
@@ -68,21 +72,25 @@ impl<T> Vec<T> {
         self.0.remove(place)
     }
 
+    /// Takes the last item.
     #[inline]
     pub fn pop(&mut self) -> Option<T> {
         self.0.pop()
     }
 
+    /// Keeps so many of the first items.
     #[inline]
     pub fn truncate(&mut self, count: usize) {
         self.0.truncate(count);
     }
 
+    /// Keeps none of the items.
     #[inline]
     pub fn clear(&mut self) {
         self.0.clear();
     }
 
+    /// The items.
     #[inline]
     pub fn as_slice(&self) -> &[T] {
         &self.0
@@ -106,6 +114,15 @@ impl<T> DerefMut for Vec<T> {
     #[inline]
     fn deref_mut(&mut self) -> &mut [T] {
         &mut self.0
+    }
+}
+
+impl<T> IntoIterator for Vec<T> {
+    type Item = T;
+    type IntoIter = alloc::vec::IntoIter<T>;
+
+    fn into_iter(self) -> alloc::vec::IntoIter<T> {
+        self.0.into_iter()
     }
 }
 

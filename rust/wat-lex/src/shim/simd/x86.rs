@@ -24,13 +24,13 @@ macro_rules! sse2 {
 /// # Safety
 ///
 /// The processor has SSSE3.
+// Before Rust 1.87 the instruction is unsafe in itself.
 #[cfg(any(test, target_feature = "ssse3"))]
 #[inline]
 #[target_feature(enable = "ssse3")]
-// Before rustc 1.87 the instruction is unsafe here too.
 #[allow(unused_unsafe)]
 unsafe fn shuffled(table: __m128i, indices: __m128i) -> __m128i {
-    // SAFETY: the caller's.
+    // SAFETY: the processor has SSSE3.
     unsafe { _mm_shuffle_epi8(table, indices) }
 }
 

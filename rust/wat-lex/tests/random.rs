@@ -1,0 +1,139 @@
+//! Random texts, of which the layer answers what the proved lexer and its readers do.
+
+use std::borrow::Cow;
+use wat_lex::proved::error::Error as ProvedError;
+use wat_lex::proved::lexer as proved;
+use wat_lex::shim::alloc::Global;
+use wat_lex::shim::borrow::CowStr;
+use wat_lex::{Error, Float, Lexer, Token, TokenKind};
+
+const PIECES: [&str; 40] = [
+    "(", ")", ";", ";;", "(;", ";)", "\"", "\\", "a", "$", "@", "1", "_", "\n", " ", "\t", "}",
+    "\\u{", "\u{202e}", "é", "漢", "0x", "1.5", "e+", "p-3", "nan:0x", "inf", "-", "+", "f",
+    "module", "$x", "@name", "\"ab\"", "$\"", "@\"", "\\ff", "\\61", ",", "\u{0}",
+];
+
+/// Random numbers below a count.
+struct Random(u64);
+
+impl Random {
+    fn below(&mut self, count: usize) -> usize {
+        self.0 = self
+            .0
+            .wrapping_mul(6_364_136_223_846_793_005)
+            .wrapping_add(1);
+        (self.0 >> 33) as usize % count
+    }
+
+    fn text(&mut self) -> String {
+        let pieces = 1 + self.below(12);
+        (0..pieces)
+            .map(|_| PIECES[self.below(PIECES.len())])
+            .collect()
+    }
+}
+
+/// A text, and whether it is borrowed.
+fn shown(text: Cow<'_, str>) -> (bool, String) {
+    (matches!(text, Cow::Borrowed(_)), text.into_owned())
+}
+
+fn proved_shown(text: CowStr<'_>) -> (bool, String) {
+    (matches!(text, CowStr::Borrowed(_)), text.to_string())
+}
+
+fn compare_names(ours: Result<Cow<'_, str>, Error>, theirs: Result<CowStr<'_>, ProvedError>) {
+    assert_eq!(
+        ours.map(shown).map_err(|error| error.to_string()),
+        theirs.map(proved_shown).map_err(|error| error.to_string())
+    );
+}
+
+fn compare_floats(ours: Float<'_>, theirs: proved::Float<'_>) {
+    assert_eq!(format!("{ours:?}"), format!("{theirs:?}"));
+    if let (
+        Float::Val {
+            integral,
+            fractional,
+            exponent,
+            ..
+        },
+        proved::Float::Val {
+            integral: i,
+            fractional: f,
+            exponent: e,
+            ..
+        },
+    ) = (ours, theirs)
+    {
+        assert_eq!(shown(integral), proved_shown(i));
+        assert_eq!(fractional.map(shown), f.map(proved_shown));
+        assert_eq!(exponent.map(shown), e.map(proved_shown));
+    }
+}
+
+fn compare_values(token: Token, found: proved::Token, text: &str) {
+    assert_eq!(token, Token::from(found));
+    match token.kind {
+        TokenKind::String => {
+            let value = token.string(text);
+            let is_borrowed = matches!(value, Cow::Borrowed(_));
+            assert_eq!(*value, **found.string(Global, text).as_ref().unwrap());
+            assert_eq!(is_borrowed, !token.src(text).contains('\\'));
+        }
+        TokenKind::Id => compare_names(token.id(text), found.id(Global, text)),
+        TokenKind::Annotation => {
+            compare_names(token.annotation(text), found.annotation(Global, text))
+        }
+        TokenKind::Integer(kind) => {
+            assert_eq!(
+                token.integer(text, kind),
+                found.integer(Global, text, kind).unwrap()
+            )
+        }
+        TokenKind::Float(kind) => compare_floats(
+            token.float(text, kind),
+            found.float(Global, text, kind).unwrap(),
+        ),
+        _ => assert_eq!(token.keyword(text), found.src(text)),
+    }
+}
+
+/// How many tokens a text has, and whether a fault.
+fn compare(lexer: &Lexer<'_>) -> (usize, bool) {
+    let (text, proved) = (lexer.input(), lexer.proved().unwrap());
+    let (mut tokens, mut pos, mut count) = (lexer.iter(0), 0, 0);
+    for item in proved.iter(Global, 0) {
+        let (start, next) = (pos, tokens.next().unwrap());
+        assert_eq!(next, lexer.parse(&mut pos).map(Option::unwrap));
+        match (next, item) {
+            (Ok(token), Ok(found)) => compare_values(token, found, text),
+            (Err(error), Err(proved)) => {
+                assert_eq!(error, Error::from(proved));
+                assert_eq!((pos, tokens.next()), (start, None));
+                return (count, true);
+            }
+            (next, item) => panic!("{next:?} and {item:?} of {text:?}"),
+        }
+        count += 1;
+    }
+    assert_eq!((tokens.next(), lexer.parse(&mut pos)), (None, Ok(None)));
+    assert_eq!(pos, text.len());
+    (count, false)
+}
+
+#[test]
+fn the_layer_answers_as_what_it_is_over() {
+    let (mut random, mut tokens, mut faults) = (Random(11), 0, 0);
+    for _ in 0..30_000 {
+        let text = random.text();
+        let mut lexer = Lexer::new(&text);
+        lexer.allow_confusing_unicode(random.below(2) == 0);
+        lexer.strict_underscores(random.below(2) == 0);
+        let (count, is_fault) = compare(&lexer);
+        tokens += count;
+        faults += usize::from(is_fault);
+    }
+    println!("{tokens} tokens, {faults} faults");
+    assert!(tokens > 50_000 && faults > 10_000, "{tokens} {faults}");
+}

@@ -1,0 +1,17 @@
+// Made by tools/erase from crates/wat_commands/src/lib.rt; do not edit.
+//! The commands of `wat_tokens`, over any source and sink: what they read, write and end in. They
+//! list the raw tokens of a WebAssembly text, or those that count, or what a parser replies to calls;
+//! or write the text with its comments blanked, or laid out, or the bytes of the module that the text
+//! spells.
+use crate::shim::prelude::*;
+pub mod complaint;
+pub mod help;
+pub mod options;
+pub mod outcome;
+mod print;
+pub mod respond;
+pub mod run;
+
+pub use wat_lex::proved::lexer::Settings;
+pub use crate::lines::ends;
+pub use crate::lists::{blank, calls, fmt, json, list, named, play, show};

@@ -1,0 +1,302 @@
+// Made by tools/erase from crates/wat_commands/src/print.rt; do not edit.
+//! What is printed of bytes that may be no text.
+
+use crate::shim::prelude::*;
+use crate::commands::run::RunFailure;
+use crate::shim::alloc::{AllocError, Global};
+use wat_lex::proved::error::Error;
+use wat_lex::proved::lexer::{Lexer, Settings};
+use wat_lex::proved::token::Span;
+use wat_parser::proved::laws;
+use wat_parser::proved::parser::Call;
+use crate::lines::ends::{Failed, Sink};
+use crate::lines::row::object_open;
+use crate::lists::blank::write_blanked;
+use crate::lists::input::text_of;
+use crate::lists::json::{push_report, show_json, write_json};
+use crate::lists::list::{fault_of, lexer_of, write_lines};
+use crate::lists::play::play;
+use crate::lists::show::{Showing, show};
+use crate::types::compile_types;
+
+/// What to print of a text.
+#[derive(Clone, Copy)]
+pub enum Printing<'a> {
+    /// Its raw tokens.
+    Raw,
+    /// The tokens that are shown where these names are registered.
+    Shown(&'a [String]),
+    /// Its raw tokens as JSON, with the name of its file, if there is one.
+    JsonRaw(Option<&'a str>),
+    /// The tokens that are shown where these names are registered, as JSON, with the name of its
+    /// file, if there is one.
+    JsonShown(&'a [String], Option<&'a str>),
+    /// The replies to these calls.
+    Replies(&'a [Call]),
+    /// The text with its comments blanked.
+    Blank,
+    /// The bytes of the module that it spells.
+    Types,
+}
+
+/// The error of what was written, or that the write failed.
+///
+/// # Proved
+///
+/// ```text
+/// ensures { result ≡ answered written error }
+/// ```
+fn answer(written: Result<(), Failed>, error: Option<Error>) -> Result<Option<Error>, RunFailure> {
+    match written {
+        Ok(()) => Ok(error),
+        Err(failed) => Err(RunFailure::Write(failed)),
+    }
+}
+
+/// The error of the fault of a lexer's text, where it has one.
+///
+/// # Proved
+///
+/// ```text
+/// ensures error { IfOk result (ReportsEnd lexer.now) }
+/// ensures refused { IfErr result (λ e. e ≡ RunFailure.Memory alloc_error) }
+/// ```
+fn error_of(alloc: Global, lexer: &Lexer<'_>) -> Result<Option<Error>, RunFailure> {
+    let Some(fault) = fault_of(lexer) else {
+        return Ok(None);
+    };
+    let span = Span::from_offset(fault.offset);
+    let error = Error::lex(alloc, span, lexer.input(), fault.error);
+    match error.alloc_error() {
+        Some(refused) => Err(RunFailure::from(refused)),
+        None => Ok(Some(error)),
+    }
+}
+
+/// Writes the lines of the raw tokens of a text, and answers the error of its fault. All memory is
+/// asked for before the first line is written: the text is read twice.
+///
+/// # Proved
+///
+/// ```text
+/// requires text { length text.now < 2 ^ 32 }
+/// requires output { W.failure output.old ≡ None }
+/// ensures printed { Writes W.held W.failure (Lists settings text.now) output.old output.new result }
+/// ensures refused { IfErr result (λ e. IsWrite e ⊎ (e ≡ RunFailure.Memory alloc_error)) }
+/// ```
+fn print_raw<W: Sink>(
+    alloc: Global,
+    text: &str,
+    settings: Settings,
+    output: &mut W,
+) -> Result<Option<Error>, RunFailure> {
+    wat_lex::proved::laws::one_tiling();
+    let lexer = lexer_of(text, settings);
+    let error = error_of(alloc, &lexer)?;
+    answer(write_lines(&lexer, output), error)
+}
+
+/// The line of JSON of a fault, where there is one.
+///
+/// # Proved
+///
+/// ```text
+/// requires { length text.now < 2 ^ 32 }
+/// ensures { IfOk result (λ line. line.items ≡ json_report begin.now text.now error.now) }
+/// ```
+fn json_end(
+    alloc: Global,
+    text: &str,
+    begin: &[u8],
+    error: &Option<Error>,
+) -> Result<Vec<u8>, AllocError> {
+    let mut line = Vec::new(alloc);
+    if let Some(error) = error {
+        push_report(alloc, &mut line, text, begin, error)?;
+    }
+    Ok(line)
+}
+
+/// Writes the lines of JSON of the raw tokens of a text, and then a line that is given.
+///
+/// # Proved
+///
+/// ```text
+/// ensures written { OnOk result (AppendsRows begin.now last.now lexer.now
+///     (W.held output.old) (W.held output.new)) }
+/// ensures cut { OnErr result (AppendsRowsCut begin.now last.now lexer.now
+///     (W.held output.old) (W.held output.new)) }
+/// ensures failed { W.failure output.new ≡ failure_after (W.failure output.old) result }
+/// ```
+fn write_rows<W: Sink>(
+    lexer: &Lexer<'_>,
+    begin: &[u8],
+    last: &[u8],
+    output: &mut W,
+) -> Result<(), Failed> {
+    write_json(lexer, begin, output)?;
+    if last.is_empty() {
+        return Ok(());
+    }
+    output.write_all(last)
+}
+
+/// Writes the lines of JSON of the raw tokens of a text and of its fault, and answers the error of
+/// that. All memory is asked for before the first line is written: the text is read twice.
+///
+/// # Proved
+///
+/// ```text
+/// requires text { length text.now < 2 ^ 32 }
+/// requires output { W.failure output.old ≡ None }
+/// ensures printed { Writes W.held W.failure
+///     (JsonLists settings (option_map (λ f. f.now) file.entry) text.now) output.old output.new result }
+/// ensures refused { IfErr result (λ e. IsWrite e ⊎ (e ≡ RunFailure.Memory alloc_error)) }
+/// ```
+fn print_json<W: Sink>(
+    alloc: Global,
+    text: &str,
+    settings: Settings,
+    file: Option<&str>,
+    output: &mut W,
+) -> Result<Option<Error>, RunFailure> {
+    wat_lex::proved::laws::one_tiling();
+    let lexer = lexer_of(text, settings);
+    let begin = object_open(alloc, file)?;
+    let error = error_of(alloc, &lexer)?;
+    let last = json_end(alloc, text, &begin, &error)?;
+    answer(write_rows(&lexer, &begin, &last, output), error)
+}
+
+/// Writes a text with its comments blanked, or answers the error of its fault.
+///
+/// # Proved
+///
+/// ```text
+/// requires text { length text.now < 2 ^ 32 }
+/// requires output { W.failure output.old ≡ None }
+/// ensures printed { Writes W.held W.failure (Blanks settings text.now) output.old output.new result }
+/// ensures refused { IfErr result (λ e. IsWrite e ⊎ (e ≡ RunFailure.Memory alloc_error)) }
+/// ```
+fn print_blank<W: Sink>(
+    alloc: Global,
+    text: &str,
+    settings: Settings,
+    output: &mut W,
+) -> Result<Option<Error>, RunFailure> {
+    wat_lex::proved::laws::one_tiling();
+    laws::blank_texts();
+    let lexer = lexer_of(text, settings);
+    if let Some(error) = error_of(alloc, &lexer)? {
+        return Ok(Some(error));
+    }
+    answer(write_blanked(&lexer, output), None)
+}
+
+/// Writes a text that was gathered, and answers its error.
+///
+/// # Proved
+///
+/// ```text
+/// requires { W.failure output.old ≡ None }
+/// ensures printed { Writes W.held W.failure
+///     (λ bytes e. (bytes ≡ text.now) × (e ≡ error)) output.old output.new result }
+/// ensures refused { IfErr result IsWrite }
+/// ```
+fn print_text<W: Sink>(
+    text: &[u8],
+    error: Option<Error>,
+    output: &mut W,
+) -> Result<Option<Error>, RunFailure> {
+    answer(output.write_all(text), error)
+}
+
+/// Writes the bytes of the module that a text spells, or answers the error of its refusal.
+///
+/// # Proved
+///
+/// ```text
+/// requires text { length text.now < 2 ^ 32 }
+/// requires output { W.failure output.old ≡ None }
+/// ensures printed { Writes W.held W.failure (Compiles text.now) output.old output.new result }
+/// ensures refused { IfErr result (λ e. IsWrite e ⊎ (e ≡ RunFailure.Memory alloc_error)) }
+/// ```
+fn print_types<W: Sink>(
+    alloc: Global,
+    text: &str,
+    output: &mut W,
+) -> Result<Option<Error>, RunFailure> {
+    wat_lex::proved::laws::one_tiling();
+    match compile_types(alloc, text) {
+        Ok(module) => print_text(&module, None, output),
+        Err(error) => match error.alloc_error() {
+            Some(refused) => Err(RunFailure::from(refused)),
+            None => print_text(b"", Some(error), output),
+        },
+    }
+}
+
+/// Writes what is printed of a text, and answers the error of its fault or refusal.
+///
+/// # Proved
+///
+/// ```text
+/// requires text { length text.now < 2 ^ 32 }
+/// requires output { W.failure output.old ≡ None }
+/// ensures printed { Writes W.held W.failure (prints settings printing.entry text.now)
+///     output.old output.new result }
+/// ensures refused { IfErr result (λ e. IsWrite e ⊎ (e ≡ RunFailure.Memory alloc_error)) }
+/// ```
+fn print_of<W: Sink>(
+    alloc: Global,
+    text: &str,
+    settings: Settings,
+    printing: Printing<'_>,
+    output: &mut W,
+) -> Result<Option<Error>, RunFailure> {
+    match printing {
+        Printing::Raw => print_raw(alloc, text, settings, output),
+        Printing::Shown(names) => {
+            let Showing { lines, error } = show(alloc, text, settings, names)?;
+            print_text(&lines, error, output)
+        }
+        Printing::JsonRaw(file) => print_json(alloc, text, settings, file, output),
+        Printing::JsonShown(names, file) => {
+            let Showing { lines: rows, error } = show_json(alloc, text, settings, file, names)?;
+            print_text(&rows, error, output)
+        }
+        Printing::Replies(calls) => {
+            let replies = play(alloc, text, settings, calls)?;
+            print_text(&replies, None, output)
+        }
+        Printing::Blank => print_blank(alloc, text, settings, output),
+        Printing::Types => print_types(alloc, text, output),
+    }
+}
+
+/// Writes what is printed of bytes, and answers the error of the fault or refusal of the text.
+///
+/// # Proved
+///
+/// ```text
+/// requires bytes { length bytes.now < 2 ^ 32 }
+/// requires output { W.failure output.old ≡ None }
+/// ensures printed { Writes W.held W.failure (prints settings printing.entry bytes.now)
+///     output.old output.new result }
+/// ensures not_utf8 { (offset : ℕ) →
+///     IsErrOf result (RunFailure.NotUtf8 offset) ↔ IsValidUpTo bytes.now offset }
+/// ensures refused { IfErr result (λ e. IsNotUtf8 e ⊎
+///     (IsWrite e ⊎ (e ≡ RunFailure.Memory alloc_error))) }
+/// ```
+pub fn print<W: Sink>(
+    alloc: Global,
+    bytes: &[u8],
+    settings: Settings,
+    printing: Printing<'_>,
+    output: &mut W,
+) -> Result<Option<Error>, RunFailure> {
+    match text_of(bytes) {
+        Ok(text) => print_of(alloc, text, settings, printing, output),
+        Err(error) => Err(error),
+    }
+}

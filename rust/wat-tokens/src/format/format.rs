@@ -1,0 +1,97 @@
+// Made by tools/erase from crates/wat_format/src/format.rt; do not edit.
+//! Formatting a whole text.
+
+use crate::shim::prelude::*;
+use crate::format::error::Error;
+use crate::format::formatter::Formatter;
+use crate::shim::alloc::Global;
+use wat_lex::proved::lexer::{LexFault, Lexer, Settings};
+
+/// The most bytes that an answer has, since places in it are to be `u32`.
+const MOST: usize = 4_294_967_295;
+
+/// The lexer of a text that is read with these settings.
+///
+/// # Proved
+///
+/// ```text
+/// requires { length text.now < 2 ^ 32 }
+/// ensures { result ≡ record { text = text.now; flags = settings } }
+/// ```
+pub(crate) fn lexer_of<'a>(text: &'a str, settings: Settings) -> Lexer<'a> {
+    let mut lexer = Lexer::new(text);
+    lexer
+        .allow_confusing_unicode(settings.allow)
+        .strict_underscores(settings.strict);
+    lexer
+}
+
+/// The fault of a lexer's text from a place on, where it has one there.
+///
+/// # Proved
+///
+/// ```text
+/// requires { IsCharBoundary lexer.now.text start }
+/// ensures { EndsFrom lexer.now start result }
+/// ```
+pub(crate) fn fault_from(lexer: &Lexer<'_>, start: usize) -> Option<LexFault> {
+    let mut pos = start;
+    'tokens: loop {
+        match lexer.scan(pos) {
+            Ok(Some(token)) => pos = token.offset + token.len as usize,
+            Ok(None) => return None,
+            Err(fault) => return Some(fault),
+        }
+    }
+}
+
+/// The text laid out.
+///
+/// # Proved
+///
+/// ```text
+/// requires { length text.now < 2 ^ 32 }
+/// ensures formatted { IfOk result (λ answer.
+///     Formatted (record { text = text.now; flags = settings }) (string_bytes answer)) }
+/// ensures short { IfOk result (λ answer. length (string_bytes answer) < 2 ^ 32) }
+/// ensures refused { IfErr result (Refuses (record { text = text.now; flags = settings })) }
+/// ```
+pub fn format(alloc: Global, text: &str, settings: Settings) -> Result<String, Error> {
+    let lexer = lexer_of(text, settings);
+    let mut formatter = Formatter::new(alloc);
+    let mut out = String::with_capacity(alloc, text.len())?;
+    let mut pos = 0;
+    'tokens: loop {
+        match lexer.scan(pos) {
+            Ok(Some(token)) => {
+                formatter.take(&mut out, text, &token)?;
+                pos = token.offset + token.len as usize;
+                if out.len() > MOST {
+                    return Err(too_long(&lexer, pos));
+                }
+            }
+            Ok(None) => break 'tokens,
+            Err(fault) => return Err(Error::Fault(fault)),
+        }
+    }
+    formatter.finish(&mut out, text)?;
+    if out.len() > MOST {
+        return Err(Error::TooLong);
+    }
+    Ok(out)
+}
+
+/// The refusal of a text whose layout up to a place is too long.
+///
+/// # Proved
+///
+/// ```text
+/// requires { IsCharBoundary lexer.now.text pos }
+/// ensures { EndsSo lexer.now pos result }
+/// ```
+fn too_long(lexer: &Lexer<'_>, pos: usize) -> Error {
+    match fault_from(lexer, pos) {
+        Some(fault) => Error::Fault(fault),
+        None => Error::TooLong,
+    }
+}

@@ -1,0 +1,118 @@
+// Made by tools/erase from crates/wat_format/src/gap.rt; do not edit.
+//! What stands between two tokens.
+
+use crate::shim::prelude::*;
+use crate::format::sort::Sort;
+
+/// What stands between two tokens.
+#[derive(Clone, Copy)]
+pub enum Gap {
+    /// Nothing.
+    Touching,
+    /// So many blanks.
+    Blanks(usize),
+    /// A line end, and the indentation of the next line.
+    LineEnd,
+    /// An empty line before that.
+    EmptyLine,
+}
+
+/// The gap of the white space between two tokens.
+///
+/// # Proved
+///
+/// ```text
+/// ensures { result ≡ gap_of white.now }
+/// ```
+pub fn gap_of(white: &[u8]) -> Gap {
+    let mut ends: usize = 0;
+    let mut last = 0;
+    for byte in white {
+        if *byte == b'\r' || (*byte == b'\n' && last != b'\r') {
+            ends += 1;
+        }
+        last = *byte;
+    }
+    if ends > 1 {
+        Gap::EmptyLine
+    } else if ends == 1 {
+        Gap::LineEnd
+    } else if white.is_empty() {
+        Gap::Touching
+    } else {
+        Gap::Blanks(white.len())
+    }
+}
+
+impl Gap {
+    /// Whether a line ends in it.
+    ///
+    /// # Proved
+    ///
+    /// ```text
+    /// ensures { result ≡ is_break self }
+    /// ```
+    pub fn is_break(self) -> bool {
+        match self {
+            Gap::Touching | Gap::Blanks(_) => false,
+            Gap::LineEnd | Gap::EmptyLine => true,
+        }
+    }
+
+    /// Nothing, where it is nothing, and else a blank.
+    ///
+    /// # Proved
+    ///
+    /// ```text
+    /// ensures { result ≡ kept self }
+    /// ```
+    fn kept(self) -> Gap {
+        match self {
+            Gap::Touching => Gap::Touching,
+            Gap::Blanks(_) | Gap::LineEnd | Gap::EmptyLine => Gap::Blanks(1),
+        }
+    }
+
+    /// What is written in its place between tokens of these sorts.
+    ///
+    /// # Proved
+    ///
+    /// ```text
+    /// ensures { result ≡ settled before behind self }
+    /// ```
+    pub fn settled(self, before: Sort, behind: Sort) -> Gap {
+        if before.is_comment() {
+            return if behind.is_close() {
+                Gap::LineEnd
+            } else {
+                self
+            };
+        }
+        if behind.is_comment() {
+            let is_off = matches!(self, Gap::Touching) || (before.is_open() && self.is_break());
+            return if is_off { Gap::Blanks(1) } else { self };
+        }
+        if before.is_open() {
+            return if behind.may_part() {
+                self.kept()
+            } else {
+                Gap::Touching
+            };
+        }
+        if self.is_break() {
+            return if behind.is_close() {
+                Gap::LineEnd
+            } else {
+                self
+            };
+        }
+        if before.is_mark() || behind.is_mark() {
+            return self.kept();
+        }
+        if behind.is_close() {
+            Gap::Touching
+        } else {
+            Gap::Blanks(1)
+        }
+    }
+}

@@ -1,0 +1,41 @@
+//! What the program `wat_tokens` does, as a library: lists of the tokens of WebAssembly text, plain or as JSON, a parser's replies, the text
+//! with its comments blanked or laid out, and the bytes of a module of types.
+//!
+//! All modules but [`shim`] are made of proved sources, and documented by their contracts. A call that takes memory takes a handle of the
+//! allocator, [`Global`](shim::alloc::Global), and answers where it is refused.
+//!
+//! ```
+//! use wat_lex::proved::lexer::Settings;
+//! use wat_tokens::format::format::format;
+//! use wat_tokens::shim::alloc::Global;
+//!
+//! let settings = Settings { allow: false, strict: false };
+//! let laid_out = format(Global, "( module\n( func ) )", settings);
+//! assert_eq!(laid_out.unwrap().as_str(), "(module\n  (func))\n");
+//! ```
+//!
+//! The bytes of a module that holds nothing but types:
+//!
+//! ```
+//! use wat_tokens::shim::alloc::Global;
+//! use wat_tokens::types::compile_types;
+//!
+//! let bytes = compile_types(Global, "(module (type (func (param i32))))").unwrap();
+//! assert_eq!(bytes.as_slice(), b"\0asm\x01\0\0\0\x01\x05\x01\x60\x01\x7f\0");
+//! ```
+#![warn(missing_docs)]
+#![forbid(unsafe_code)]
+
+// Proofs name loops, contracts speak of parameters and fields that the code leaves alone, and each file imports the shim's names, of which it
+// may need none. Clippy's advice on style is for text that is written in Rust.
+macro_rules! made {
+    ($($module:ident)*) => {$(
+        #[allow(missing_docs, unused_imports, unused_labels, unused_variables)]
+        #[allow(clippy::style, clippy::complexity)]
+        pub mod $module;
+    )*};
+}
+
+made! { commands format lines lists program types }
+
+pub mod shim;

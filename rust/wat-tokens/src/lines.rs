@@ -1,0 +1,10 @@
+// Made by tools/erase from crates/wat_lines/src/lib.rt; do not edit.
+//! The lines in which tokens are listed, plain or as JSON, and the blocks, sources and sinks by which
+//! they go out.
+use crate::shim::prelude::*;
+pub mod block;
+pub mod ends;
+pub mod failed;
+pub mod line;
+pub mod position;
+pub mod row;

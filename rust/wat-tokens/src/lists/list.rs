@@ -1,0 +1,121 @@
+// Made by tools/erase from crates/wat_lists/src/list.rt; do not edit.
+//! The list of a text's raw tokens.
+
+use crate::shim::prelude::*;
+use crate::shim::alloc::{AllocError, Global};
+use wat_lex::proved::error::Error;
+use wat_lex::proved::lexer::{LexFault, Lexer, Settings, Token};
+use wat_parser::proved::parser::ParseBuffer;
+use crate::lines::block::Block;
+use crate::lines::ends::{Failed, Sink};
+use crate::lines::line::{Place, ROOM, put_line};
+
+/// Writes a token's line behind the others.
+///
+/// # Proved
+///
+/// ```text
+/// requires { token.now.offset + token.now.len < 2 ^ 32 }
+/// ensures { OnOk result (lines.new.items ≡ lines.old.items ++ line token.now) }
+/// ```
+pub(crate) fn push_line(lines: &mut Vec<u8>, token: &Token) -> Result<(), AllocError> {
+    let mut room = [0; ROOM];
+    let end = put_line(&mut room, &mut Place::start(), token);
+    lines.extend_from_slice(&room[..end])
+}
+
+/// The refused request for memory that an error stands for which is no fault of the text.
+///
+/// # Proved
+///
+/// ```text
+/// requires { IsNone error.now }
+/// ```
+pub(crate) fn refusal_of(error: &Error) -> AllocError {
+    error.alloc_error().unwrap()
+}
+
+/// The lexer of a text that is read with these settings.
+///
+/// # Proved
+///
+/// ```text
+/// requires { length text.now < 2 ^ 32 }
+/// ensures { result ≡ record { text = text.now; flags = settings } }
+/// ```
+pub fn lexer_of<'a>(text: &'a str, settings: Settings) -> Lexer<'a> {
+    let mut lexer = Lexer::new(text);
+    lexer
+        .allow_confusing_unicode(settings.allow)
+        .strict_underscores(settings.strict);
+    lexer
+}
+
+/// The buffer of a text that is read with these settings.
+///
+/// # Proved
+///
+/// ```text
+/// requires { length text.now < 2 ^ 32 }
+/// ensures setting { IfOk result (λ b.
+///     b.setting ≡ record { text = text.now; flags = settings }) }
+/// ensures read { IfOk result IsRead }
+/// ```
+pub(crate) fn buffer_of<'a>(
+    alloc: Global,
+    text: &'a str,
+    settings: Settings,
+) -> Result<ParseBuffer<'a>, AllocError> {
+    match ParseBuffer::new_with_lexer(alloc, lexer_of(text, settings)) {
+        Ok(buffer) => Ok(buffer),
+        Err(error) => Err(refusal_of(&error)),
+    }
+}
+
+/// The fault of a lexer's text, where it has one. It takes no memory.
+///
+/// # Proved
+///
+/// ```text
+/// ensures { EndsIn lexer.now result }
+/// ```
+pub fn fault_of(lexer: &Lexer<'_>) -> Option<LexFault> {
+    let _ = lexer.input();
+    let mut pos = 0;
+    'tokens: loop {
+        match lexer.scan(pos) {
+            Ok(Some(token)) => pos = token.offset + token.len as usize,
+            Ok(None) => return None,
+            Err(fault) => return Some(fault),
+        }
+    }
+}
+
+/// Writes a line for each raw token of a lexer's text. It takes no memory.
+///
+/// # Proved
+///
+/// ```text
+/// ensures written { OnOk result
+///     (AppendsEach line lexer.now (W.held output.old) (W.held output.new)) }
+/// ensures cut { OnErr result
+///     (AppendsEachCut line lexer.now (W.held output.old) (W.held output.new)) }
+/// ensures failed { W.failure output.new ≡ failure_after (W.failure output.old) result }
+/// ```
+pub fn write_lines<W: Sink>(lexer: &Lexer<'_>, output: &mut W) -> Result<(), Failed> {
+    wat_lex::proved::laws::one_tiling();
+    let _ = lexer.input();
+    let mut block = Block::new();
+    let mut place = Place::start();
+    let mut pos = 0;
+    'tokens: loop {
+        match lexer.scan(pos) {
+            Ok(Some(token)) => {
+                block.put_line(output, &mut place, &token)?;
+                pos = token.offset + token.len as usize;
+            }
+            Ok(None) => return block.write(output),
+            Err(_) => return block.write(output),
+        }
+    }
+}

@@ -1,0 +1,112 @@
+// Made by tools/erase from crates/wat_lists/src/show.rt; do not edit.
+//! The list of the tokens that count: what a parser shows of a text.
+
+use crate::shim::prelude::*;
+use crate::lists::list::{buffer_of, push_line, refusal_of};
+use crate::shim::alloc::{AllocError, Global};
+use wat_lex::proved::error::Error;
+use wat_lex::proved::lexer::Settings;
+use wat_parser::proved::laws;
+use wat_parser::proved::parser::{Cursor, Parser};
+
+/// The lines of the tokens that are shown, and the error of the fault behind them.
+pub struct Showing {
+    /// A line for each token, in order.
+    pub lines: Vec<u8>,
+    /// Where nothing more is shown, and why.
+    pub error: Option<Error>,
+}
+
+/// Registers a name, if it is not yet.
+///
+/// # Proved
+///
+/// ```text
+/// ensures names { OnOk result
+///     (parser.new ≡ record parser.old { names = with_name parser.old.names name.now }) }
+/// ensures refused { IfErr result (λ e. e ≡ None) }
+/// ```
+fn register(parser: &mut Parser<'_>, name: &str) -> Result<(), Error> {
+    if parser.is_registered(name) {
+        return Ok(());
+    }
+    parser.register_annotation(name)
+}
+
+/// Registers each name.
+///
+/// # Proved
+///
+/// ```text
+/// ensures names { OnOk result
+///     (parser.new ≡ record parser.old { names = with_names parser.old.names names.now }) }
+/// ensures refused { IfErr result (λ e. e ≡ None) }
+/// ```
+pub(crate) fn register_all(parser: &mut Parser<'_>, names: &[String]) -> Result<(), Error> {
+    for name in names {
+        register(parser, name)?;
+    }
+    Ok(())
+}
+
+/// Lists what is shown from a cursor on. The cursor that it answers stands behind it.
+///
+/// # Proved
+///
+/// ```text
+/// ensures shown { IfOk result (λ r.
+///     ShownFrom from.entry.parser.now.source from.entry.parser.now.names from.entry.at
+///     r.0.lines.items r.0.error) }
+/// ensures parser { IfOk result (λ r. r.1.parser ≡ from.entry.parser) }
+/// ensures on { IfOk result (λ r. from.entry.at ≤ r.1.at) }
+/// ensures refused { IfErr result (λ e. e ≡ None) }
+/// ```
+fn lines_from<'p, 'a>(
+    alloc: Global,
+    from: Cursor<'p, 'a>,
+) -> Result<(Showing, Cursor<'p, 'a>), Error> {
+    laws::all_shown();
+    from.is_sound();
+    let mut lines = Vec::new(alloc);
+    let mut cursor = from;
+    'tokens: loop {
+        match cursor.any() {
+            Ok(Some((token, next))) => {
+                push_line(&mut lines, &token)?;
+                cursor = next;
+            }
+            Ok(None) => return Ok((Showing { lines, error: None }, cursor)),
+            Err(error) if error.is_out_of_memory() => return Err(error),
+            Err(error) => {
+                let error = Some(error);
+                return Ok((Showing { lines, error }, cursor));
+            }
+        }
+    }
+}
+
+/// Lists what is shown of a text of at most `u32::MAX` bytes where these names are registered.
+///
+/// # Proved
+///
+/// ```text
+/// requires { length text.now < 2 ^ 32 }
+/// ensures { IfOk result (λ s. ShownText (record { text = text.now; flags = settings })
+///     names.now s.lines.items s.error) }
+/// ```
+pub fn show(
+    alloc: Global,
+    text: &str,
+    settings: Settings,
+    names: &[String],
+) -> Result<Showing, AllocError> {
+    let buffer = buffer_of(alloc, text, settings)?;
+    let mut parser = buffer.parser();
+    if let Err(error) = register_all(&mut parser, names) {
+        return Err(refusal_of(&error));
+    }
+    match parser.step(|cursor| lines_from(alloc, cursor)) {
+        Ok(showing) => Ok(showing),
+        Err(error) => Err(refusal_of(&error)),
+    }
+}

@@ -1,0 +1,85 @@
+// Made by tools/erase from crates/wat_tokens/src/main.rt; do not edit.
+//! Writes the tokens of WebAssembly texts, from files or standard input, or what its command line
+//! asks for beside them.
+use crate::shim::prelude::*;
+mod diff;
+mod folders;
+mod input;
+mod layout;
+mod patch;
+mod replace;
+mod report;
+
+use input::{Input, open};
+use layout::lay_out;
+use crate::shim::alloc::AllocError;
+use crate::shim::process::ExitCode;
+use crate::shim::{env, fs, io};
+use crate::commands::Settings;
+use crate::commands::complaint::Complaint;
+use crate::commands::ends::{Failed, Plain};
+use crate::commands::options::Mode;
+use crate::commands::outcome::{Exit, Outcome};
+use crate::commands::respond::{Inputs, respond};
+use crate::commands::run::RunFailure;
+
+/// The files of the machine.
+struct Files<'a>(&'a HostRuntime);
+
+impl Inputs for Files<'_> {
+    type Input = Plain<Input>;
+
+    fn is_there(&self, file: &str) -> bool {
+        fs::metadata(self.0, file).is_ok()
+    }
+
+    fn open(&mut self, file: &str) -> Result<Plain<Input>, Failed> {
+        open(self.0, file)
+    }
+
+    fn lay_out(&mut self, settings: Settings, mode: Mode, file: &str) -> Exit {
+        lay_out(self.0, settings, mode, file)
+    }
+}
+
+/// The words after the program's name.
+fn words(rt: &HostRuntime) -> io::Result<Vec<String>> {
+    let mut words = Vec::new(rt.alloc());
+    for word in env::args(rt)?.skip(1) {
+        words.push(word)?;
+    }
+    Ok(words)
+}
+
+/// What a run ends in whose words can't be read. The standard library keeps only the kind of an
+/// error, so a refused request for memory is known by that.
+fn not_read(error: &io::Error) -> Outcome<'static> {
+    match error.kind() {
+        io::ErrorKind::OutOfMemory => Outcome::Refused(RunFailure::from(AllocError)),
+        _ => Outcome::Wrong(Complaint::Usage),
+    }
+}
+
+/// Writes on standard output what the words ask for, and answers the exit status.
+fn answer(rt: &HostRuntime) -> Exit {
+    let words = match words(rt) {
+        Ok(words) => words,
+        Err(error) => {
+            let outcome = not_read(&error);
+            let _ = outcome.report(rt.alloc(), None, &mut rt.stderr());
+            return outcome.exit(false);
+        }
+    };
+    let mut output = Plain::new(rt.stdout());
+    respond(
+        rt.alloc(),
+        &words,
+        &mut Files(rt),
+        &mut output,
+        &mut rt.stderr(),
+    )
+}
+
+pub fn main(rt: HostRuntime) -> ExitCode {
+    ExitCode::from(answer(&rt).code())
+}

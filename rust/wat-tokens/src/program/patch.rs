@@ -1,0 +1,197 @@
+// Made by tools/erase from crates/wat_tokens/src/patch.rt; do not edit.
+//! The lines in which a text and its layout differ, as a unified diff.
+use crate::shim::prelude::*;
+use crate::program::diff::{Change, Place, Stretch, changes};
+use crate::program::report::Named;
+use crate::shim::alloc::{AllocError, Global};
+use crate::shim::fmt;
+use crate::commands::ends::{Failed, Sink};
+use crate::lines::block::Block;
+
+/// How many lines are shown in front of a change and after it.
+const CONTEXT: usize = 3;
+
+/// What comes after a last line without an end.
+const NO_END: &[u8] = b"\n\\ No newline at end of file\n";
+
+/// Why a diff is not whole.
+#[derive(Clone, Copy, Debug, PartialEq, Eq)]
+pub enum Unwritten {
+    /// A write failed.
+    Failed(Failed),
+    /// A request for memory was refused, by this refusal.
+    Memory(AllocError),
+}
+
+impl From<Failed> for Unwritten {
+    fn from(failed: Failed) -> Unwritten {
+        Unwritten::Failed(failed)
+    }
+}
+
+impl From<AllocError> for Unwritten {
+    fn from(refused: AllocError) -> Unwritten {
+        Unwritten::Memory(refused)
+    }
+}
+
+impl Stretch {
+    fn len(&self) -> usize {
+        self.to.lines.saturating_sub(self.from.lines)
+    }
+
+    /// Its part of a text.
+    fn of<'a>(&self, text: &'a [u8]) -> &'a [u8] {
+        text.get(self.from.bytes..self.to.bytes).unwrap_or(&[])
+    }
+
+    /// With the lines around it that are shown.
+    fn with_context(&self, text: &[u8]) -> Stretch {
+        Stretch {
+            from: lines_up(text, self.from, CONTEXT),
+            to: lines_down(text, self.to, CONTEXT),
+        }
+    }
+}
+
+/// The first line and the number of lines; of no lines the line in front of them.
+impl fmt::Display for Stretch {
+    fn fmt(&self, f: &mut fmt::Formatter<'_>) -> fmt::Result {
+        let first = self.from.lines.saturating_add(1);
+        match self.len() {
+            0 => write!(f, "{},0", self.from.lines),
+            1 => write!(f, "{first}"),
+            len => write!(f, "{first},{len}"),
+        }
+    }
+}
+
+/// The place one line up.
+fn line_up(text: &[u8], place: Place) -> Place {
+    let end = place.bytes.saturating_sub(1);
+    let above = text.get(..end).unwrap_or(&[]);
+    let bytes = match above.iter().rposition(|byte| *byte == b'\n') {
+        Some(end) => end + 1,
+        None => 0,
+    };
+    let lines = place.lines.saturating_sub(1);
+    Place { bytes, lines }
+}
+
+/// The place so many lines up, or the text's begin.
+fn lines_up(text: &[u8], place: Place, count: usize) -> Place {
+    let mut place = place;
+    for _ in 0..count {
+        place = line_up(text, place);
+    }
+    place
+}
+
+/// The place so many lines down, or the text's end.
+fn lines_down(text: &[u8], place: Place, count: usize) -> Place {
+    let rest = text.get(place.bytes..).unwrap_or(&[]);
+    let mut place = place;
+    for line in rest.split_inclusive(|byte| *byte == b'\n').take(count) {
+        place.bytes = place.bytes.saturating_add(line.len());
+        place.lines = place.lines.saturating_add(1);
+    }
+    place
+}
+
+/// Whether the lines between two changes are shown with them.
+fn are_near(change: &Change, next: &Change) -> bool {
+    Stretch::new(change.old.to, next.old.from).len() <= 2 * CONTEXT
+}
+
+/// A diff on its way to a sink.
+struct Patch<'a> {
+    text: &'a [u8],
+    layout: &'a [u8],
+    block: Block,
+}
+
+impl Patch<'_> {
+    /// Puts lines, each with a mark in front.
+    fn put_lines<W: Sink>(
+        &mut self,
+        output: &mut W,
+        mark: &[u8],
+        lines: &[u8],
+    ) -> Result<(), Failed> {
+        for line in lines.split_inclusive(|byte| *byte == b'\n') {
+            self.block.put(output, mark)?;
+            self.block.put(output, line)?;
+            if !line.ends_with(b"\n") {
+                self.block.put(output, NO_END)?;
+            }
+        }
+        Ok(())
+    }
+
+    /// Puts a change after the lines that are shown in front of it.
+    fn put_change<W: Sink>(
+        &mut self,
+        output: &mut W,
+        above: Stretch,
+        change: &Change,
+    ) -> Result<(), Failed> {
+        self.put_lines(output, b" ", above.of(self.text))?;
+        self.put_lines(output, b"-", change.old.of(self.text))?;
+        self.put_lines(output, b"+", change.new.of(self.layout))
+    }
+
+    /// Puts changes that are near to each other, with the lines around them.
+    fn put_hunk<W: Sink>(
+        &mut self,
+        alloc: Global,
+        output: &mut W,
+        changes: &[Change],
+    ) -> Result<(), Unwritten> {
+        let (Some(first), Some(last)) = (changes.first(), changes.last()) else {
+            return Ok(());
+        };
+        let old = Stretch::new(first.old.from, last.old.to).with_context(self.text);
+        let new = Stretch::new(first.new.from, last.new.to).with_context(self.layout);
+        let head = try_format!(alloc; "@@ -{old} +{new} @@\n")?;
+        self.block.put(output, head.as_bytes())?;
+        let mut at = old.from;
+        for change in changes {
+            self.put_change(output, Stretch::new(at, change.old.from), change)?;
+            at = change.old.to;
+        }
+        self.put_lines(output, b" ", Stretch::new(at, old.to).of(self.text))?;
+        Ok(())
+    }
+}
+
+/// The lines that name the two texts.
+fn names(alloc: Global, file: &str) -> Result<String, AllocError> {
+    // Readers of diffs take a name with a blank in it only where a tab ends it.
+    let end = if file.contains(' ') { "\t" } else { "" };
+    let name = Named(file);
+    try_format!(alloc; "--- {name}{end}\n+++ {name}{end}\n")
+}
+
+/// Writes the lines in which the text of a file and its layout differ. Where they are the same only
+/// the file is named.
+pub fn write_patch<'a, W: Sink>(
+    alloc: Global,
+    file: &str,
+    text: &'a [u8],
+    layout: &'a [u8],
+    output: &mut W,
+) -> Result<(), Unwritten> {
+    let changes = changes(alloc, text, layout)?;
+    let names = names(alloc, file)?;
+    let mut patch = Patch {
+        text,
+        layout,
+        block: Block::new(),
+    };
+    patch.block.put(output, names.as_bytes())?;
+    for hunk in changes.chunk_by(|change, next| are_near(change, next)) {
+        patch.put_hunk(alloc, output, hunk)?;
+    }
+    patch.block.write(output)?;
+    Ok(())
+}

@@ -1,0 +1,22 @@
+//! The part of Rattle's library that the commands use, over Rust's own: what the lexer's shim has, and beside it the words of the command line,
+//! files, streams, and numbers as text.
+
+pub mod env;
+pub mod fs;
+pub mod itoa;
+mod macros;
+pub mod path;
+mod print;
+pub mod rt;
+
+pub use std::{cmp, fmt, io, marker, process, str};
+pub use wat_lex::shim::alloc;
+
+/// The names that a Rattle source has without an import, and the traits whose methods it has so.
+pub mod prelude {
+    pub use crate::shim::macros::{try_eprintln, try_println};
+    pub use crate::shim::rt::HostRuntime;
+    pub use core::fmt::Write as _;
+    pub use std::io::Read as _;
+    pub use wat_lex::shim::prelude::*;
+}

@@ -1,0 +1,21 @@
+//! The macros that print.
+
+#[macro_export]
+#[doc(hidden)]
+/// `println!(rt; ..)` of Rattle.
+macro_rules! try_println {
+    ($rt:expr; $($rest:tt)*) => {
+        $rt.println(format_args!($($rest)*))
+    };
+}
+
+#[macro_export]
+#[doc(hidden)]
+/// `eprintln!(rt; ..)` of Rattle.
+macro_rules! try_eprintln {
+    ($rt:expr; $($rest:tt)*) => {
+        $rt.eprintln(format_args!($($rest)*))
+    };
+}
+
+pub use {try_eprintln, try_println};

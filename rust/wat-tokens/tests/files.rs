@@ -1,0 +1,254 @@
+//! What the shim's calls on files and folders answer, and that of a refused request for memory they answer so.
+
+#[path = "../../wat-lex/tests/refusing/mod.rs"]
+mod refusing;
+
+use refusing::granting;
+use std::fs as system;
+use std::io::{Error, ErrorKind, Read, Result, Write};
+use std::path::{Path, PathBuf};
+use wat_tokens::shim::fs::{self, File};
+use wat_tokens::shim::rt::HostRuntime;
+
+/// A folder of a test, which goes where it is dropped.
+struct Folder(PathBuf);
+
+impl Folder {
+    fn new(name: &str) -> Folder {
+        let folder = std::env::temp_dir().join(format!("wat_tokens-{}-{name}", std::process::id()));
+        system::create_dir(&folder).unwrap();
+        Folder(folder)
+    }
+
+    fn path(&self, name: &str) -> String {
+        self.0.join(name).to_str().unwrap().to_owned()
+    }
+
+    fn file(&self, name: &str, text: &str) -> String {
+        system::write(self.0.join(name), text).unwrap();
+        self.path(name)
+    }
+}
+
+impl Drop for Folder {
+    fn drop(&mut self) {
+        let _ = system::remove_dir_all(&self.0);
+    }
+}
+
+fn rt() -> HostRuntime {
+    HostRuntime::of_process()
+}
+
+fn kind<T>(answer: Result<T>) -> ErrorKind {
+    answer.err().expect("the call fails").kind()
+}
+
+fn code<T>(answer: Result<T>) -> Option<i32> {
+    answer.err().expect("the call fails").raw_os_error()
+}
+
+#[test]
+fn a_file_is_read_in_order_up_to_its_end() {
+    let folder = Folder::new("read");
+    let mut file = File::open(&rt(), &folder.file("a", "abcde")).unwrap();
+    let mut buffer = [0; 3];
+    assert_eq!(file.read(&mut buffer).unwrap(), 3);
+    assert_eq!(&buffer, b"abc");
+    assert_eq!(file.read(&mut []).unwrap(), 0);
+    assert_eq!(file.read(&mut buffer).unwrap(), 2);
+    assert_eq!(&buffer[..2], b"de");
+    assert_eq!(file.read(&mut buffer).unwrap(), 0);
+    assert!(
+        file.write(b"x").is_err(),
+        "it is open to be read, and no more"
+    );
+}
+
+#[test]
+fn a_path_that_leads_nowhere_is_an_error_of_the_system() {
+    let folder = Folder::new("nowhere");
+    let (missing, beyond) = (
+        folder.path("missing"),
+        format!("{}/x", folder.file("a", "")),
+    );
+    assert_eq!(kind(File::open(&rt(), &missing)), ErrorKind::NotFound);
+    assert_eq!(code(File::open(&rt(), &missing)), Some(2));
+    assert_eq!(code(fs::metadata(&rt(), &missing)), Some(2));
+    assert_eq!(code(fs::symlink_metadata(&rt(), &missing)), Some(2));
+    assert_eq!(code(fs::canonicalize(&rt(), &missing)), Some(2));
+    assert_eq!(code(fs::remove_file(&rt(), &missing)), Some(2));
+    assert_eq!(code(fs::rename(&rt(), &missing, &missing)), Some(2));
+    assert_eq!(code(fs::read_dir(&rt(), &missing)), Some(2));
+    assert_eq!(code(File::create_new(&rt(), &beyond)), Some(20));
+    assert_eq!(
+        kind(File::open(&rt(), "a\0b")),
+        ErrorKind::InvalidInput,
+        "no path has a NUL"
+    );
+}
+
+#[test]
+fn a_folder_is_no_text() {
+    let folder = Folder::new("folder");
+    let mut opened = File::open(&rt(), &folder.path("")).unwrap();
+    assert_eq!(code(opened.read(&mut [0; 8])), Some(21));
+}
+
+#[test]
+fn a_new_file_takes_no_place_of_another() {
+    let folder = Folder::new("new");
+    let old = folder.file("old", "kept");
+    assert_eq!(
+        kind(File::create_new(&rt(), &old)),
+        ErrorKind::AlreadyExists
+    );
+    assert_eq!(system::read_to_string(&old).unwrap(), "kept");
+
+    let new = folder.path("new");
+    let mut file = File::create_new(&rt(), &new).unwrap();
+    file.write_all(b"abc").unwrap();
+    file.write_all(b"").unwrap();
+    file.flush().unwrap();
+    file.sync_all().unwrap();
+    assert_eq!(system::read_to_string(&new).unwrap(), "abc");
+
+    fs::rename(&rt(), &new, &old).unwrap();
+    assert_eq!(system::read_to_string(&old).unwrap(), "abc");
+    assert!(!Path::new(&new).exists());
+    fs::remove_file(&rt(), &old).unwrap();
+    assert!(!Path::new(&old).exists());
+}
+
+#[cfg(unix)]
+mod of_unix {
+    use super::*;
+    use std::collections::BTreeSet;
+    use std::ffi::OsStr;
+    use std::os::unix::ffi::OsStrExt;
+    use std::os::unix::fs::{PermissionsExt, symlink};
+
+    #[test]
+    fn permissions_are_those_of_the_file_that_they_are_of() {
+        let folder = Folder::new("permissions");
+        let (old, new) = (folder.file("old", ""), folder.path("new"));
+        system::set_permissions(&old, system::Permissions::from_mode(0o440)).unwrap();
+        let permissions = fs::metadata(&rt(), &old).unwrap().permissions();
+        assert!(permissions.readonly());
+        let file = File::create_new(&rt(), &new).unwrap();
+        file.set_permissions(permissions).unwrap();
+        assert_eq!(
+            system::metadata(&new).unwrap().permissions().mode() & 0o7777,
+            0o440
+        );
+        system::set_permissions(&old, system::Permissions::from_mode(0o424)).unwrap();
+        let permissions = fs::metadata(&rt(), &old).unwrap().permissions();
+        assert!(!permissions.readonly(), "some may write it");
+    }
+
+    #[test]
+    fn a_link_is_followed_where_that_is_asked() {
+        let folder = Folder::new("link");
+        let (file, link, around) = (
+            folder.file("a", ""),
+            folder.path("link"),
+            folder.path("around"),
+        );
+        symlink("a", &link).unwrap();
+        symlink(".", &around).unwrap();
+        assert!(fs::metadata(&rt(), &link).unwrap().is_file());
+        assert!(fs::symlink_metadata(&rt(), &link).unwrap().is_symlink());
+        assert!(fs::metadata(&rt(), &around).unwrap().is_dir());
+        assert!(!fs::symlink_metadata(&rt(), &around).unwrap().is_dir());
+        let found = fs::canonicalize(&rt(), &format!("{around}/./link")).unwrap();
+        assert_eq!(
+            Path::new(found.as_str()),
+            system::canonicalize(&file).unwrap()
+        );
+    }
+
+    /// The paths of a folder's entries, and the errors of the others.
+    fn entries(path: &str) -> (BTreeSet<String>, Vec<Error>) {
+        let (mut paths, mut errors) = (BTreeSet::new(), Vec::new());
+        for entry in fs::read_dir(&rt(), path).unwrap() {
+            match entry {
+                Ok(entry) => assert!(paths.insert(entry.path().as_str().to_owned())),
+                Err(error) => errors.push(error),
+            }
+        }
+        (paths, errors)
+    }
+
+    #[test]
+    fn the_entries_of_a_folder_have_its_path_before_their_names() {
+        let folder = Folder::new("entries");
+        let wanted = BTreeSet::from([folder.file(".a", ""), folder.file("b.wat", "")]);
+        let (paths, errors) = entries(&folder.path(""));
+        assert_eq!((&paths, errors.len()), (&wanted, 0));
+        let without_slash = folder.0.to_str().unwrap();
+        assert_eq!(entries(without_slash).0, wanted);
+        symlink(".", folder.path("around")).unwrap();
+        let (paths, _) = entries(&folder.path("around"));
+        assert!(paths.contains(&format!("{without_slash}/around/b.wat")));
+        assert_eq!(paths.len(), 3);
+        assert_eq!(code(fs::read_dir(&rt(), &folder.path(".a"))), Some(20));
+    }
+
+    #[test]
+    fn a_name_that_is_no_utf_8_is_an_error_and_the_others_come() {
+        let folder = Folder::new("bytes");
+        let bytes = folder.0.join(OsStr::from_bytes(b"\xe9.wat"));
+        if system::write(&bytes, "").is_err() {
+            println!("left out, as names are UTF-8 here");
+            return;
+        }
+        let wanted = BTreeSet::from([folder.file("a", ""), folder.file("b", "")]);
+        let (paths, errors) = entries(&folder.path(""));
+        assert_eq!(paths, wanted);
+        assert_eq!(errors.len(), 1);
+        assert_eq!(
+            (errors[0].kind(), errors[0].raw_os_error()),
+            (ErrorKind::InvalidFilename, None)
+        );
+        symlink(&bytes, folder.path("link")).unwrap();
+        assert_eq!(
+            kind(fs::canonicalize(&rt(), &folder.path("link"))),
+            ErrorKind::InvalidFilename
+        );
+    }
+}
+
+/// How many requests a call makes, and how it fails where the last is refused. Those before it are Rust's own library's, which can't be.
+fn without_the_last<T>(call: impl Fn() -> Result<T>) -> (usize, ErrorKind) {
+    let (answer, asked) = granting(usize::MAX, &call);
+    assert!(answer.is_ok());
+    let (answer, _) = granting(asked - 1, &call);
+    (asked, kind(answer))
+}
+
+#[test]
+fn a_path_that_gets_no_memory_is_an_error() {
+    let folder = Folder::new("refused");
+    folder.file(
+        "a-name-that-is-longer-than-its-folder-and-so-does-not-fit",
+        "",
+    );
+    let rt = rt();
+    assert_eq!(
+        without_the_last(|| fs::canonicalize(&rt, "/")).1,
+        ErrorKind::OutOfMemory
+    );
+    // The first request is for the folder's name, which comes before each entry's.
+    let path = folder.path("");
+    let (answer, _) = granting(0, || fs::read_dir(&rt, &path));
+    assert_eq!(kind(answer), ErrorKind::OutOfMemory);
+    let next = || {
+        let mut entries = fs::read_dir(&rt, &path)?;
+        // Two requests for the path: one for the folder, and one that makes room for the name.
+        entries.next().unwrap().map(|_| ())
+    };
+    let (asked, failure) = without_the_last(next);
+    assert_eq!(failure, ErrorKind::OutOfMemory);
+    let (answer, _) = granting(asked - 2, next);
+    assert_eq!(kind(answer), ErrorKind::OutOfMemory);
+}
