@@ -1,25 +1,25 @@
 #!/usr/bin/env bash
 # Builds the crate wast 222.0.0 whole over its own lowest layer, that of 263.0.0, and over this project's, without changing a line above, and
-# compares what the two answer of the same texts: bytes, trees with spans, errors as they are printed. Both are built once more: ours with the
-# feature `kept`, which keeps what was shown as wast does, and theirs so that it keeps nothing. Ours has to answer as theirs that keeps
-# nothing, and ours that keeps as theirs; the counts of what differs between ours and theirs are printed. Then calls at random are made of both
-# lowest layers alone (tools/under_wast/plays), under the same rule.
+# compares what the two answer of the same texts: bytes, trees with spans, errors as they are printed. Both are built once more: ours so that each
+# buffer keeps what was shown as wast does (`ParseBuffer::keep_shown`), and theirs so that it keeps nothing. Ours has to answer as theirs that
+# keeps nothing, and ours that keeps as theirs; the counts of what differs between ours and theirs are printed. Then calls at random are made of
+# both lowest layers alone (tools/under_wast/plays), under the same rule.
 #
 # The drivers are left as WORK/ours/target/release/driver and WORK/theirs/target/release/driver, and in WORK/kept and WORK/fresh.
 # FOLDER is one with workspace.sh, which unpacks wast 222.0.0 over the layer of 263.0.0, and with edge.sh, which writes texts at the edges.
+# CRATES is a folder with the crates that rust/wat-lex takes (memchr, smallvec, unicode-width), each in a folder of its own.
 #
 # MUTANTS, 20,000 where it is not given, is the count of mutants and of plays.
 #
-# usage: [WAT_C_FOLDER=ARCHIVES] tools/under_wast.sh FOLDER WORK [MUTANTS]
+# usage: CRATES_FOLDER=CRATES tools/under_wast.sh FOLDER WORK [MUTANTS]
 set -eu -o pipefail
 folder=$(cd "$1" && pwd)
 mkdir -p "$2"
 work=$(cd "$2" && pwd)
+crates=$(cd "${CRATES_FOLDER:?a folder with the crates memchr, smallvec and unicode-width}" && pwd)
 mutants=${3:-20000}
 cd "$(dirname "$0")/.."
 project=$PWD
-WAT_C_FOLDER=$(cd "${WAT_C_FOLDER:-$(tools/build_c.sh)}" && pwd)
-export WAT_C_FOLDER
 layer=(encode error gensym lexer lib parser token)
 
 say() {
@@ -32,10 +32,14 @@ unpack() {
     [ ! -d "$target" ] || mv "$target" "$work/$1.target"
     rm -rf "${work:?}/$1"
     bash "$folder/workspace.sh" "$work/$1"
+    local crate vendor=$work/$1/upper/vendor
+    for crate in "$crates"/*/; do
+        [ -d "$vendor/$(basename "$crate")" ] || cp -r "$crate" "$vendor/"
+    done
     [ ! -d "$work/$1.target" ] || mv "$work/$1.target" "$target"
 }
 
-# ours NAME FEATURES: a workspace of wast over this project's lowest layer, with these features beside wast's own
+# ours NAME: a workspace of wast over this project's lowest layer
 ours() {
     unpack "$1"
     local wast=$work/$1/wast module
@@ -45,8 +49,7 @@ ours() {
     cp -r rust/wat-parser/src/. tools/under_wast/lib.rs "$wast/src/"
     # The keywords that 222.0.0 has and 263.0.0 dropped.
     sed -n 's/^+ *\(custom_keyword!.*\)/\1/p' "$folder/lib-263-to-222.diff" >> "$wast/src/kw.rs"
-    sed -i "s|^\[features\]|[dependencies.wat-lex]\npath = \"$project/rust/wat-lex\"\n\n[features]\nkept = []|" "$wast/Cargo.toml"
-    sed -i "s|^default = \[|default = [$2|" "$wast/Cargo.toml"
+    sed -i "s|^\[features\]|[dependencies.wat-lex]\npath = \"$project/rust/wat-lex\"\n\n[features]|" "$wast/Cargo.toml"
 }
 
 # unchanged NAME: fails where a file above the lowest layer is another than wast's
@@ -81,23 +84,26 @@ different() {
     diff -a <(grep -a "^$3" "$work/$1.answers") <(grep -a "^$3" "$work/$2.answers") | grep -ac '^<' || true
 }
 
-# plays NAME FEATURES..: calls at random of this wast's lowest layer and of ours with these features
+# plays NAME [keep]: calls at random of this wast's lowest layer and of ours, which keeps what was shown where that is asked for
 plays() {
     local at=$work/$1/plays
     rm -rf "$at/src"
     mkdir -p "$at"
     cp -r tools/under_wast/plays/. "$at/"
     sed -i "s|\"WAST\"|\"$work/$1/wast\"|; s|\"WAT_PARSER\"|\"$project/rust/wat-parser\"|" "$at/Cargo.toml"
-    (cd "$at" && cargo build --offline --release --quiet "${@:2}")
-    say "$1 ${*:2}: $("$at/target/release/plays" "$mutants")"
+    (cd "$at" && cargo build --offline --release --quiet)
+    say "$*: $("$at/target/release/plays" "$mutants" "${@:2}")"
 }
 
 unpack theirs
 unpack fresh
 # The token that a look found before is looked for again.
 sed -i 's/^\( *\)Some(token) => Ok(Some(token)),$/\1Some(_) => self.parser.buf.advance_token(self.pos.offset),/' "$work/fresh/wast/src/parser.rs"
-ours ours ''
-ours kept '"kept", '
+ours ours
+ours kept
+# Buffers that wast makes above keep what was shown too.
+sed -i 's/^\( *\)keep_shown: false,$/\1keep_shown: true,/' "$work/kept/wast/src/parser.rs"
+! cmp -s "$work/ours/wast/src/parser.rs" "$work/kept/wast/src/parser.rs"
 unchanged ours
 unchanged kept
 for name in theirs fresh ours kept; do
@@ -134,7 +140,7 @@ done
 cmp "$work/ours.answers" "$work/fresh.answers"
 cmp "$work/kept.answers" "$work/theirs.answers"
 plays fresh
-plays theirs --features kept
+plays theirs keep
 if cmp -s "$work/ours.answers" "$work/theirs.answers"; then
     say 'no answer shows that theirs keeps what was shown: the texts are not those that they should be'
     exit 1

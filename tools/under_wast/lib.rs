@@ -1,6 +1,8 @@
 //! The crate `wast` with this project's lowest layer: the modules of `wat-parser` in the place of its own.
 #![allow(missing_docs)]
 
+extern crate alloc;
+
 #[macro_use]
 mod macros;
 
@@ -12,7 +14,13 @@ pub mod kw;
 pub mod lexer;
 mod names;
 pub mod parser;
+// As in `wat-parser`.
+#[allow(dead_code, non_camel_case_types)]
+#[allow(unused_imports, unused_labels, unused_variables)]
+pub mod proved;
 pub mod token;
+#[allow(unused_imports)]
+pub mod words;
 
 pub mod core;
 mod wast;

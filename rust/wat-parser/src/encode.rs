@@ -1,59 +1,68 @@
 //! Values in the binary format.
 
+use crate::proved::encode::{self as proved, EncodeError};
+use alloc::boxed::Box;
+use alloc::vec::Vec;
+use core::mem;
+use wat_lex::shim;
+use wat_lex::shim::alloc::{AllocError, granted};
+
 /// A value that has bytes in the binary format.
 pub trait Encode {
     /// Appends the value's bytes.
     fn encode(&self, bytes: &mut Vec<u8>);
 }
 
-impl Encode for u8 {
-    fn encode(&self, bytes: &mut Vec<u8>) {
-        bytes.push(*self);
-    }
-}
-
-impl Encode for u32 {
-    fn encode(&self, bytes: &mut Vec<u8>) {
-        unsigned(u64::from(*self), bytes);
-    }
-}
-
-impl Encode for u64 {
-    fn encode(&self, bytes: &mut Vec<u8>) {
-        unsigned(*self, bytes);
-    }
-}
-
-impl Encode for i32 {
-    fn encode(&self, bytes: &mut Vec<u8>) {
-        signed(i64::from(*self), bytes);
-    }
-}
-
-impl Encode for i64 {
-    fn encode(&self, bytes: &mut Vec<u8>) {
-        signed(*self, bytes);
-    }
-}
-
-/// A length or an index, which the format gives 32 bits.
+/// Appends what a proved encoder appends.
 ///
 /// # Panics
 ///
-/// Where the number is more than `u32::MAX`.
-impl Encode for usize {
-    fn encode(&self, bytes: &mut Vec<u8>) {
-        u32::try_from(*self)
-            .expect("a length of at most u32::MAX")
-            .encode(bytes);
+/// Where a length is more than `u32::MAX`.
+fn append(
+    bytes: &mut Vec<u8>,
+    encode: impl FnOnce(&mut shim::vec::Vec<u8>) -> Result<(), EncodeError>,
+) {
+    let mut all = shim::vec::Vec::from(mem::take(bytes));
+    let encoded = encode(&mut all);
+    *bytes = all.into();
+    match encoded {
+        Ok(()) => {}
+        Err(EncodeError::Memory) => granted(Err(AllocError)),
+        Err(EncodeError::TooLong) => panic!("a length of more than u32::MAX"),
     }
+}
+
+macro_rules! numbers {
+    ($($(#[$doc:meta])* $number:ident)*) => {
+        $(
+            $(#[$doc])*
+            impl Encode for $number {
+                fn encode(&self, bytes: &mut Vec<u8>) {
+                    append(bytes, |all| proved::Encode::encode(self, all));
+                }
+            }
+        )*
+    };
+}
+
+numbers! {
+    u8
+    u32
+    u64
+    i32
+    i64
+    /// A length or an index, which the format gives 32 bits.
+    ///
+    /// # Panics
+    ///
+    /// Where the number is more than `u32::MAX`.
+    usize
 }
 
 /// The count of bytes, and the bytes.
 impl Encode for str {
     fn encode(&self, bytes: &mut Vec<u8>) {
-        self.len().encode(bytes);
-        bytes.extend_from_slice(self.as_bytes());
+        append(bytes, |all| proved::encode_str(self, all));
     }
 }
 
@@ -100,22 +109,4 @@ impl<A: Encode, B: Encode, C: Encode> Encode for (A, B, C) {
         second.encode(bytes);
         third.encode(bytes);
     }
-}
-
-/// The shortest unsigned LEB128 of a number.
-fn unsigned(mut value: u64, bytes: &mut Vec<u8>) {
-    while value > 0x7f {
-        bytes.push(value as u8 | 0x80);
-        value >>= 7;
-    }
-    bytes.push(value as u8);
-}
-
-/// The shortest signed LEB128 of a number: the last byte has the number's sign in its bit 6.
-fn signed(mut value: i64, bytes: &mut Vec<u8>) {
-    while !(-0x40..0x40).contains(&value) {
-        bytes.push(value as u8 | 0x80);
-        value >>= 7;
-    }
-    bytes.push(value as u8 & 0x7f);
 }

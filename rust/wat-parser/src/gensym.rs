@@ -2,13 +2,14 @@
 
 use crate::token::{Id, Span};
 use std::cell::Cell;
+use std::thread_local;
 
 thread_local! {
     /// The generation of the identifier that was made last on this thread.
     static LAST: Cell<u32> = const { Cell::new(0) };
 }
 
-/// Begins anew: identifiers that are made from now on may equal ones that were made before.
+/// Begins again: identifiers that are made from now on may equal ones that were made before.
 pub fn reset() {
     LAST.set(0);
 }
@@ -24,7 +25,9 @@ pub fn generate(span: Span) -> Id<'static> {
         .checked_add(1)
         .expect("fewer than u32::MAX new identifiers");
     LAST.set(generation);
-    Id::gensym(span, generation)
+    let mut id = Id::new("gensym", span);
+    id.generation = generation;
+    id
 }
 
 /// The identifier in a slot, which is a new one where the slot was empty.

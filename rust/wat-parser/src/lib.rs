@@ -1,7 +1,8 @@
 //! Parsers for formats that look like the WebAssembly text format, with the names of the lowest layer of the crate `wast`.
 //!
-//! The tokens, what a parser shows next, what words read as, and what errors print are answered by a static library whose functions are
-//! proved to meet their contracts; this crate is safe Rust over it, small, tested, and not proved.
+//! What answers is a program that is proved to meet its contracts: the module [`proved`], whose text a tool made of the program's. This crate
+//! is a thin layer over it, small, tested, and not proved. It gives the proved parser the calls of `wast`, which are never refused memory and
+//! share one parser among all copies of it. Who can do without them can use [`proved`] itself.
 //!
 //! ```
 //! use wat_parser::parser::{self, Parse, ParseBuffer, Parser, Result};
@@ -72,10 +73,15 @@
 //! # }
 //! ```
 //!
-//! With the feature `kept` a token that was shown when the parser last moved stays shown, as in `wast`, whatever names are registered or taken
-//! back since. Without it what is shown goes by the names that are registered at the look.
+//! What is shown goes by the names that are registered at the look. In `wast` a token that was shown when the parser last moved stays shown;
+//! [`ParseBuffer::keep_shown`](parser::ParseBuffer::keep_shown) sets that for a buffer.
+#![no_std]
 #![warn(missing_docs)]
 #![forbid(unsafe_code)]
+
+extern crate alloc;
+#[cfg(feature = "std")]
+extern crate std;
 
 #[macro_use]
 mod macros;
@@ -83,6 +89,7 @@ mod macros;
 pub mod annotation;
 pub mod encode;
 mod error;
+#[cfg(feature = "std")]
 pub mod gensym;
 pub mod kw;
 pub mod lexer;

@@ -1,6 +1,6 @@
 // A type's name may be that of any variable, so the names of parameters here begin with underscores.
 
-/// Defines the type of a word, which the three macros behind have in common: its name and what it derives, the word, the call that parses it
+/// Defines the type of a word, which the three macros below have in common: its name and what it derives, the word, the call that parses it
 /// with the message where it is not there, and the call that sees it with the name in messages.
 #[doc(hidden)]
 #[macro_export]

@@ -1,8 +1,8 @@
-//! Parsers of one's own: what a type reads as is its [`Parse`], what it is told by is its [`Peek`].
+//! Parsers of one's own: a type is read by its [`Parse`], and seen by its [`Peek`].
 //!
-//! A [`ParseBuffer`] holds a text and its tokens, [`parse`] reads a whole text as a value of a type, and a [`Parser`] is handed to the
-//! [`Parse`] of each type on the way. What a parser shows next is the first token behind what was taken that is neither white space, nor a
-//! comment, nor part of an annotation whose name is not registered.
+//! A [`ParseBuffer`] holds a text and its tokens, [`parse`] reads a whole text as a value of a type, and the [`Parse`] of each type on the way
+//! is given a [`Parser`]. What a parser shows is the first token after what was taken that is neither white space, nor a comment, nor part of
+//! an annotation whose name is not registered.
 
 mod cursor;
 mod lookahead;
@@ -13,23 +13,47 @@ pub use lookahead::Lookahead1;
 
 use crate::Error;
 use crate::lexer::Lexer;
+use crate::proved;
+use crate::proved::parser::names::{Names, RegisterError};
+use crate::proved::parser::table_ref::TableRef;
 use crate::token::Span;
-use std::cell::{Cell, RefCell};
-use std::fmt;
+use alloc::borrow::Cow;
+use alloc::boxed::Box;
+use alloc::string::ToString;
+use core::cell::{Cell, RefCell};
+use core::fmt;
 use strings::Strings;
-use wat_lex::rows::{Names, Row, Rows};
+use wat_lex::TokenKind;
+use wat_lex::shim::alloc::{Global, granted};
 
 /// How many groups may be open where [`Parser::depth_check`] is called.
-pub const MAX_PARENS_DEPTH: usize = 100;
+pub const MAX_PARENS_DEPTH: usize = proved::parser::MAX_PARENS_DEPTH;
 
 /// The result of what parses.
-pub type Result<T, E = Error> = std::result::Result<T, E>;
+pub type Result<T, E = Error> = core::result::Result<T, E>;
 
 /// Reads a whole text as a value.
 ///
 /// # Errors
 ///
-/// Where the text does not begin with a value of the type, a token is left behind it, or the text has a fault.
+/// Where the text does not begin with a value of the type, a token is left after it, or the text has a fault.
+///
+/// # Examples
+///
+/// ```
+/// use wat_parser::parser::{self, ParseBuffer, Result};
+///
+/// # fn main() -> Result<()> {
+/// let buffer = ParseBuffer::new("0x10 ;; sixteen")?;
+/// assert_eq!(parser::parse::<u32>(&buffer)?, 16);
+///
+/// let buffer = ParseBuffer::new("16 17")?;
+/// let error = parser::parse::<u32>(&buffer).unwrap_err();
+/// assert_eq!(error.message(), "extra tokens remaining after parse");
+/// assert_eq!(error.span().offset(), 3);
+/// # Ok(())
+/// # }
+/// ```
 pub fn parse<'a, T: Parse<'a>>(buffer: &'a ParseBuffer<'a>) -> Result<T> {
     let parser = Parser { buffer };
     let value = parser.parse()?;
@@ -41,15 +65,44 @@ pub fn parse<'a, T: Parse<'a>>(buffer: &'a ParseBuffer<'a>) -> Result<T> {
 
 /// A type that can be read from tokens.
 ///
-/// By convention a type reads what stands between its parentheses, and whoever reads the type takes the parentheses, by
-/// [`Parser::parens`].
+/// By convention a type reads what is between its parentheses, and whoever reads the type takes the parentheses, by [`Parser::parens`].
+///
+/// # Examples
+///
+/// ```
+/// use wat_parser::custom_keyword;
+/// use wat_parser::parser::{self, Parse, ParseBuffer, Parser, Result};
+///
+/// custom_keyword!(point);
+///
+/// struct Point {
+///     x: i32,
+///     y: i32,
+/// }
+///
+/// impl<'a> Parse<'a> for Point {
+///     fn parse(parser: Parser<'a>) -> Result<Self> {
+///         parser.parse::<point>()?;
+///         Ok(Point {
+///             x: parser.parse()?,
+///             y: parser.parse()?,
+///         })
+///     }
+/// }
+///
+/// # fn main() -> Result<()> {
+/// let buffer = ParseBuffer::new("point 3 -4")?;
+/// let Point { x, y } = parser::parse(&buffer)?;
+/// assert_eq!((x, y), (3, -4));
+/// # Ok(())
+/// # }
+/// ```
 pub trait Parse<'a>: Sized {
-    /// Reads a value, and moves the parser behind it.
+    /// Reads a value, and moves the parser past it.
     ///
     /// # Errors
     ///
-    /// Where no such value stands there, with a message for a user and the place of the token that does not fit. The parser may have
-    /// moved then.
+    /// Where no such value comes next, with a message for a user and the place of the token that does not fit. The parser may have moved then.
     fn parse(parser: Parser<'a>) -> Result<Self>;
 }
 
@@ -70,7 +123,7 @@ impl<'a, T: Parse<'a> + Peek> Parse<'a> for Option<T> {
     }
 }
 
-/// A type that is told by its first token.
+/// A type that is recognized by its first token.
 pub trait Peek {
     /// Whether the token that is shown is one with which the type begins.
     ///
@@ -79,7 +132,7 @@ pub trait Peek {
     /// Where a fault is shown.
     fn peek(cursor: Cursor<'_>) -> Result<bool>;
 
-    /// Whether the token behind the one that is shown is one with which the type begins.
+    /// Whether the token after the one that is shown is one with which the type begins.
     ///
     /// # Errors
     ///
@@ -97,37 +150,47 @@ pub trait Peek {
 
 /// A text with its tokens, for one parser over it.
 pub struct ParseBuffer<'a> {
-    rows: Rows<'a>,
-    names: RefCell<Names>,
-    strings: Strings,
+    proved: proved::parser::ParseBuffer<'a>,
+    // What else the proved parser is of, in cells, so that the copies of a `Parser` are one parser.
     position: Cell<Position>,
     depth: Cell<usize>,
-    track_instr_spans: bool,
+    names: RefCell<Names>,
+    keep_shown: bool,
+    strings: Strings,
 }
 
 /// How far a parser or a cursor has come.
 #[derive(Clone, Copy)]
 struct Position {
-    /// Where the last token or comment that was taken ends, in bytes.
-    offset: u32,
-    /// The first row behind it.
+    /// How many raw tokens are before it, white space and comments among them.
     place: u32,
-    /// The row that was shown there when the position was made, where one was.
-    #[cfg(feature = "kept")]
-    kept: Option<u32>,
+    /// One more than the number of the token that is shown there, or 0 where that is not known.
+    next: u32,
 }
 
 impl Position {
-    const START: Position = Position {
-        offset: 0,
-        place: 0,
-        #[cfg(feature = "kept")]
-        kept: None,
-    };
+    /// A text has fewer than 2^32 bytes, and so tokens.
+    #[inline(always)]
+    fn new(place: usize, next: Option<usize>) -> Position {
+        Position {
+            place: place as u32,
+            next: next.map_or(0, |next| next as u32 + 1),
+        }
+    }
+
+    #[inline(always)]
+    fn place(self) -> usize {
+        self.place as usize
+    }
+
+    #[inline(always)]
+    fn next(self) -> Option<usize> {
+        (self.next as usize).checked_sub(1)
+    }
 }
 
 impl<'a> ParseBuffer<'a> {
-    /// Cuts a text into tokens. A fault of the text is no error here: it is one where a look meets it.
+    /// Cuts a text into tokens. A fault of the text is no error here: it is one where a look reaches it.
     ///
     /// # Errors
     ///
@@ -142,46 +205,72 @@ impl<'a> ParseBuffer<'a> {
     ///
     /// As [`new`](ParseBuffer::new).
     pub fn new_with_lexer(lexer: Lexer<'a>) -> Result<ParseBuffer<'a>> {
+        let lexer = lexer.proved()?.clone();
         Ok(ParseBuffer {
-            rows: Rows::new(&lexer)?,
-            names: RefCell::default(),
-            strings: Strings::default(),
-            position: Cell::new(Position::START),
+            proved: proved::parser::ParseBuffer::new_with_lexer(Global, lexer)?,
+            position: Cell::new(Position::new(0, None)),
             depth: Cell::new(0),
-            track_instr_spans: false,
+            names: RefCell::new(Names::new(Global)),
+            keep_shown: false,
+            strings: Strings::default(),
         })
     }
 
     /// Sets what [`Parser::track_instr_spans`] answers, for types that keep the places of instructions only where it is asked for.
     pub fn track_instr_spans(&mut self, track: bool) -> &mut Self {
-        self.track_instr_spans = track;
+        self.proved.track_instr_spans(track);
         self
     }
 
-    /// The row that is shown from a place on.
-    #[inline(always)]
-    fn shown(&self, place: u32) -> Result<Option<u32>> {
-        match self.rows.plain(place) {
-            Some(_) => Ok(Some(place)),
-            None => self.shown_by_names(place),
-        }
+    /// Sets whether a token that was shown when the parser last moved stays shown, as in `wast`, whatever names are registered or taken back
+    /// since. Where it is off, as at first, what is shown goes by the names that are registered at the look.
+    ///
+    /// It is a setting of this buffer alone, for who needs each answer of `wast`.
+    pub fn keep_shown(&mut self, keep: bool) -> &mut Self {
+        self.keep_shown = keep;
+        self
     }
 
+    #[inline(always)]
+    fn table(&self) -> TableRef<'_> {
+        self.proved.table_ref()
+    }
+
+    /// The position at a place, with the token that is shown there where that goes by no name.
+    #[inline(always)]
+    fn position_at(&self, place: usize) -> Position {
+        Position::new(place, self.plain_at(place).or_else(|| self.kept_at(place)))
+    }
+
+    /// The number of the token that is shown at a place, where it is the same whatever names are registered.
+    #[inline(always)]
+    fn plain_at(&self, place: usize) -> Option<usize> {
+        let table = self.table();
+        let mut number = place;
+        while let Some(token) = table.token_at(number) {
+            match token.kind {
+                TokenKind::Whitespace | TokenKind::LineComment | TokenKind::BlockComment => {
+                    number += 1;
+                }
+                TokenKind::LParen => {
+                    let next = table.token_at(number + 1)?;
+                    return (!matches!(next.kind, TokenKind::Annotation)).then_some(number);
+                }
+                _ => return Some(number),
+            }
+        }
+        None
+    }
+
+    /// The number of the token that is shown at a place, where that is kept.
+    #[cold]
     #[inline(never)]
-    fn shown_by_names(&self, place: u32) -> Result<Option<u32>> {
-        self.rows.shown(place, &self.names.borrow())
-    }
-
-    /// The position behind a row.
-    #[inline(always)]
-    fn past(&self, row: u32) -> Position {
-        let place = row + 1;
-        Position {
-            offset: self.rows.get(row).map_or(0, Row::end),
-            place,
-            #[cfg(feature = "kept")]
-            kept: self.shown(place).unwrap_or(None),
+    fn kept_at(&self, place: usize) -> Option<usize> {
+        if !self.keep_shown {
+            return None;
         }
+        let shown = self.table().look(place, &self.names.borrow());
+        shown.ok()?.map(|(_, after)| after - 1)
     }
 }
 
@@ -191,7 +280,7 @@ impl fmt::Debug for ParseBuffer<'_> {
     }
 }
 
-/// A parser of a [`ParseBuffer`], which each [`Parse`] is handed. Copies of it are the same parser: where one moves, all move.
+/// A parser of a [`ParseBuffer`], which each [`Parse`] is given. Copies of it are the same parser: where one moves, all move.
 #[derive(Clone, Copy, Debug)]
 pub struct Parser<'a> {
     buffer: &'a ParseBuffer<'a>,
@@ -201,19 +290,15 @@ impl<'a> Parser<'a> {
     /// Whether the group that the parser is in, or the text, has no more tokens. False where a fault is shown.
     pub fn is_empty(self) -> bool {
         match self.cursor().shown() {
-            Ok(Some(row)) => self.code(row) == Row::RPAREN,
+            Ok(Some((token, _))) => matches!(token.kind, TokenKind::RParen),
             Ok(None) => true,
             Err(_) => false,
         }
     }
 
-    fn code(self, row: u32) -> u8 {
-        self.buffer.rows.get(row).map_or(0, Row::code)
-    }
-
     /// Whether the text has a fault or any token that is neither white space nor a comment.
     pub fn has_meaningful_tokens(self) -> bool {
-        !self.buffer.rows.is_blank()
+        self.buffer.table().is_meaningful()
     }
 
     /// Reads a value, by its [`Parse`].
@@ -230,6 +315,36 @@ impl<'a> Parser<'a> {
     /// # Errors
     ///
     /// Where a fault is shown.
+    ///
+    /// # Examples
+    ///
+    /// ```
+    /// use wat_parser::parser::{self, Parse, ParseBuffer, Parser, Result};
+    ///
+    /// struct Limits {
+    ///     min: u32,
+    ///     max: Option<u32>,
+    /// }
+    ///
+    /// impl<'a> Parse<'a> for Limits {
+    ///     fn parse(parser: Parser<'a>) -> Result<Self> {
+    ///         let min = parser.parse()?;
+    ///         let max = if parser.peek::<u32>()? {
+    ///             Some(parser.parse()?)
+    ///         } else {
+    ///             None
+    ///         };
+    ///         Ok(Limits { min, max })
+    ///     }
+    /// }
+    ///
+    /// # fn main() -> Result<()> {
+    /// let buffer = ParseBuffer::new("1 16")?;
+    /// let limits: Limits = parser::parse(&buffer)?;
+    /// assert_eq!((limits.min, limits.max), (1, Some(16)));
+    /// # Ok(())
+    /// # }
+    /// ```
     pub fn peek<T: Peek>(self) -> Result<bool> {
         T::peek(self.cursor())
     }
@@ -259,6 +374,39 @@ impl<'a> Parser<'a> {
     }
 
     /// A series of looks whose error names each type that was looked for.
+    ///
+    /// # Examples
+    ///
+    /// ```
+    /// use wat_parser::parser::{self, Parse, ParseBuffer, Parser, Result};
+    /// use wat_parser::token::Id;
+    ///
+    /// #[derive(Debug)]
+    /// enum Target<'a> {
+    ///     Number(u32),
+    ///     Name(Id<'a>),
+    /// }
+    ///
+    /// impl<'a> Parse<'a> for Target<'a> {
+    ///     fn parse(parser: Parser<'a>) -> Result<Self> {
+    ///         let mut look = parser.lookahead1();
+    ///         if look.peek::<u32>()? {
+    ///             parser.parse().map(Target::Number)
+    ///         } else if look.peek::<Id>()? {
+    ///             parser.parse().map(Target::Name)
+    ///         } else {
+    ///             Err(look.error())
+    ///         }
+    ///     }
+    /// }
+    ///
+    /// # fn main() -> Result<()> {
+    /// let buffer = ParseBuffer::new("\"seven\"")?;
+    /// let error = parser::parse::<Target>(&buffer).unwrap_err();
+    /// assert_eq!(error.message(), "unexpected token, expected u32 or an identifier");
+    /// # Ok(())
+    /// # }
+    /// ```
     pub fn lookahead1(self) -> Lookahead1<'a> {
         Lookahead1::new(self)
     }
@@ -267,7 +415,32 @@ impl<'a> Parser<'a> {
     ///
     /// # Errors
     ///
-    /// Where one of the three does not stand there. The parser is as before then.
+    /// Where one of the three does not come next. The parser is as before then.
+    ///
+    /// # Examples
+    ///
+    /// ```
+    /// use wat_parser::parser::{self, Parse, ParseBuffer, Parser, Result};
+    ///
+    /// // Any number of groups, each of two numbers.
+    /// struct Pairs(Vec<(u8, u8)>);
+    ///
+    /// impl<'a> Parse<'a> for Pairs {
+    ///     fn parse(parser: Parser<'a>) -> Result<Self> {
+    ///         let mut pairs = Vec::new();
+    ///         while !parser.is_empty() {
+    ///             pairs.push(parser.parens(|group| Ok((group.parse()?, group.parse()?)))?);
+    ///         }
+    ///         Ok(Pairs(pairs))
+    ///     }
+    /// }
+    ///
+    /// # fn main() -> Result<()> {
+    /// let buffer = ParseBuffer::new("(1 2) (3 4)")?;
+    /// assert_eq!(parser::parse::<Pairs>(&buffer)?.0, [(1, 2), (3, 4)]);
+    /// # Ok(())
+    /// # }
+    /// ```
     pub fn parens<T>(self, inside: impl FnOnce(Parser<'a>) -> Result<T>) -> Result<T> {
         let ParseBuffer {
             depth, position, ..
@@ -317,11 +490,35 @@ impl<'a> Parser<'a> {
         Cursor::new(self, self.buffer.position.get())
     }
 
-    /// Moves the parser to the cursor that the function answers.
+    /// Calls the function with a cursor at the parser's place, and moves the parser to the cursor that it answers.
     ///
     /// # Errors
     ///
     /// As those of the function. The parser stays then.
+    ///
+    /// # Examples
+    ///
+    /// ```
+    /// use wat_parser::parser::{self, Parse, ParseBuffer, Parser, Result};
+    ///
+    /// // Any keyword.
+    /// struct Word<'a>(&'a str);
+    ///
+    /// impl<'a> Parse<'a> for Word<'a> {
+    ///     fn parse(parser: Parser<'a>) -> Result<Self> {
+    ///         parser.step(|cursor| match cursor.keyword()? {
+    ///             Some((word, rest)) => Ok((Word(word), rest)),
+    ///             None => Err(cursor.error("expected a word")),
+    ///         })
+    ///     }
+    /// }
+    ///
+    /// # fn main() -> Result<()> {
+    /// let buffer = ParseBuffer::new(" in-line ")?;
+    /// assert_eq!(parser::parse::<Word>(&buffer)?.0, "in-line");
+    /// # Ok(())
+    /// # }
+    /// ```
     #[inline(always)]
     pub fn step<F, T>(self, take: F) -> Result<T>
     where
@@ -332,12 +529,30 @@ impl<'a> Parser<'a> {
         Ok(value)
     }
 
+    /// What was read, kept as long as the buffer where it is owned.
+    #[inline]
+    pub(crate) fn keep(self, bytes: Cow<'a, [u8]>) -> &'a [u8] {
+        match bytes {
+            Cow::Borrowed(bytes) => bytes,
+            Cow::Owned(bytes) => self.buffer.strings.keep(bytes),
+        }
+    }
+
+    /// [`keep`](Parser::keep) of a text.
+    #[inline]
+    pub(crate) fn keep_text(self, text: Cow<'a, str>) -> &'a str {
+        match text {
+            Cow::Borrowed(text) => text,
+            Cow::Owned(text) => self.buffer.strings.keep_text(text),
+        }
+    }
+
     /// Takes this keyword, and answers where it begins.
     #[doc(hidden)]
     #[inline]
     pub fn this_keyword(self, word: &str, expected: &'static str) -> Result<Span> {
-        self.step(|cursor| match cursor.past_keyword(word)? {
-            Some(rest) => Ok((cursor.span(), rest)),
+        self.step(|cursor| match cursor.this_keyword(word)? {
+            Some(taken) => Ok(taken),
             None => Err(cursor.error(expected)),
         })
     }
@@ -346,7 +561,7 @@ impl<'a> Parser<'a> {
     #[doc(hidden)]
     pub fn this_reserved(self, word: &str, expected: &'static str) -> Result<Span> {
         self.step(|cursor| match cursor.reserved()? {
-            Some((taken, rest)) if taken == word => Ok((cursor.span(), rest)),
+            Some((shown, rest)) if shown == word => Ok((cursor.cur_span(), rest)),
             _ => Err(cursor.error(expected)),
         })
     }
@@ -355,7 +570,7 @@ impl<'a> Parser<'a> {
     #[doc(hidden)]
     pub fn this_annotation(self, name: &str, expected: &'static str) -> Result<Span> {
         self.step(|cursor| match cursor.annotation()? {
-            Some((taken, rest)) if taken == name => Ok((cursor.span(), rest)),
+            Some((shown, rest)) if shown == name => Ok((cursor.cur_span(), rest)),
             _ => Err(cursor.error(expected)),
         })
     }
@@ -363,15 +578,14 @@ impl<'a> Parser<'a> {
     /// An error at the token that is shown.
     #[cold]
     pub fn error(self, message: impl fmt::Display) -> Error {
-        self.error_at(self.cur_span(), message)
+        self.cursor().error(message)
     }
 
     /// An error at a place of the text.
     #[cold]
     pub fn error_at(self, span: Span, message: impl fmt::Display) -> Error {
-        let mut error = Error::new(span, message.to_string());
-        error.set_text(self.buffer.rows.text());
-        error
+        let table = self.buffer.table();
+        table.error_at(span, &message.to_string()).into()
     }
 
     /// Where the token that is shown begins: the text's end where none is left, and the end of what was taken where a fault is shown.
@@ -381,27 +595,73 @@ impl<'a> Parser<'a> {
 
     /// Where what was taken ends.
     pub fn prev_span(&self) -> Span {
-        Span::from_offset(self.buffer.position.get().offset as usize)
+        let place = self.buffer.position.get().place();
+        Span::from_offset(self.buffer.table().offset_at(place))
     }
 
     /// Registers an annotation's name until what this answers is dropped: groups `(@name ..)` are shown, and not passed over.
     ///
-    /// A name that is registered twice is registered until both are dropped. What is shown goes by the names that are registered at the look, also
-    /// where another token was shown there before.
+    /// A name that is registered twice is registered until both are dropped. What is shown goes by the names that are registered at the look,
+    /// also where another token was shown there before; [`ParseBuffer::keep_shown`] changes that.
+    ///
+    /// # Panics
+    ///
+    /// Where the name is registered `usize::MAX` times.
+    ///
+    /// # Examples
+    ///
+    /// ```
+    /// use wat_parser::annotation;
+    /// use wat_parser::parser::{self, Parse, ParseBuffer, Parser, Result};
+    ///
+    /// annotation!(note);
+    ///
+    /// // A number, with a note before it or none.
+    /// struct Noted<'a>(Option<&'a str>, u32);
+    ///
+    /// impl<'a> Parse<'a> for Noted<'a> {
+    ///     fn parse(parser: Parser<'a>) -> Result<Self> {
+    ///         // `note` has to be registered before the group's `(` is looked at.
+    ///         let registered = parser.register_annotation("note");
+    ///         let text = if parser.peek2::<note>()? {
+    ///             Some(parser.parens(|group| {
+    ///                 group.parse::<note>()?;
+    ///                 group.parse()
+    ///             })?)
+    ///         } else {
+    ///             None
+    ///         };
+    ///         drop(registered);
+    ///         Ok(Noted(text, parser.parse()?))
+    ///     }
+    /// }
+    ///
+    /// # fn main() -> Result<()> {
+    /// let buffer = ParseBuffer::new("(@note \"a lot\") (@other (one)) 9 (@note)")?;
+    /// let Noted(text, number) = parser::parse(&buffer)?;
+    /// assert_eq!((text, number), (Some("a lot"), 9));
+    /// # Ok(())
+    /// # }
+    /// ```
     pub fn register_annotation<'b>(self, annotation: &'b str) -> impl Drop + 'b
     where
         'a: 'b,
     {
-        self.buffer.names.borrow_mut().add(annotation);
+        let ParseBuffer { names, .. } = self.buffer;
+        match names.borrow_mut().register(Global, annotation) {
+            Ok(()) => {}
+            Err(RegisterError::OutOfMemory(refused)) => granted(Err(refused)),
+            Err(RegisterError::TooOften) => panic!("annotation registered too often"),
+        }
         Registered {
-            names: &self.buffer.names,
+            names,
             name: annotation,
         }
     }
 
     /// What [`ParseBuffer::track_instr_spans`] set.
     pub fn track_instr_spans(&self) -> bool {
-        self.buffer.track_instr_spans
+        self.buffer.table().tracks()
     }
 
     /// Calls the function with the names of [`annotation`](mod@crate::annotation) registered.
@@ -433,6 +693,6 @@ struct Registered<'b> {
 
 impl Drop for Registered<'_> {
     fn drop(&mut self) {
-        self.names.borrow_mut().remove(self.name);
+        self.names.borrow_mut().unregister(self.name);
     }
 }

@@ -7,17 +7,20 @@ pub use wat_lex::Span;
 
 use crate::annotation;
 use crate::parser::{Cursor, Parse, Parser, Peek, Result};
-use std::fmt;
-use std::hash::{Hash, Hasher};
+use alloc::borrow::ToOwned;
+use alloc::string::String;
+use core::fmt;
+use core::hash::{Hash, Hasher};
+use wat_lex::{IntegerKind, SignToken};
 
 /// An identifier: `$` and a name in a text, or one that [`gensym`](crate::gensym) made.
 ///
-/// Two of them are equal where their names are, and both or neither are the same made one. Where they stand does not count.
+/// Two of them are equal where their names are, and both or neither are the same made one. Where they are does not count.
 #[derive(Clone, Copy)]
 pub struct Id<'a> {
     name: &'a str,
     /// Which of the made ones it is, or 0 for one of a text.
-    generation: u32,
+    pub(crate) generation: u32,
     span: Span,
 }
 
@@ -27,14 +30,6 @@ impl<'a> Id<'a> {
         Id {
             name,
             generation: 0,
-            span,
-        }
-    }
-
-    pub(crate) fn gensym(span: Span, generation: u32) -> Id<'a> {
-        Id {
-            name: "gensym",
-            generation,
             span,
         }
     }
@@ -49,7 +44,7 @@ impl<'a> Id<'a> {
         self.span
     }
 
-    /// Whether it was made and stands in no text.
+    /// Whether it was made and is of no text.
     pub fn is_gensym(&self) -> bool {
         self.generation != 0
     }
@@ -84,7 +79,7 @@ impl fmt::Debug for Id<'_> {
 impl<'a> Parse<'a> for Id<'a> {
     fn parse(parser: Parser<'a>) -> Result<Self> {
         parser.step(|cursor| match cursor.id()? {
-            Some((name, rest)) => Ok((Id::new(name, cursor.span()), rest)),
+            Some((name, rest)) => Ok((Id::new(name, cursor.cur_span()), rest)),
             None => Err(cursor.error("expected an identifier")),
         })
     }
@@ -102,10 +97,10 @@ impl Peek for Id<'_> {
 
 /// What refers to an item: its number, or its identifier.
 ///
-/// Two of them are equal where their numbers or identifiers are. Where they stand does not count.
+/// Two of them are equal where their numbers or identifiers are. Where they are does not count.
 #[derive(Clone, Copy, Debug)]
 pub enum Index<'a> {
-    /// The number of the item among those of its kind, and where it stands.
+    /// The number of the item among those of its kind, and where it begins.
     Num(u32, Span),
     /// The item's identifier.
     Id(Id<'a>),
@@ -241,14 +236,22 @@ macro_rules! integers {
         $(
             impl<'a> Parse<'a> for ($integer, Span) {
                 fn parse(parser: Parser<'a>) -> Result<Self> {
-                    parser.step(|cursor| match cursor.number($integer::BITS, $is_signed)? {
-                        Some((Some(value), rest)) => Ok(((value as $integer, cursor.span()), rest)),
-                        Some((None, _)) => Err(cursor.error(concat!(
-                            "invalid ",
-                            stringify!($integer),
-                            " number: constant out of range",
-                        ))),
-                        None => Err(cursor.error(concat!("expected a ", stringify!($integer)))),
+                    parser.step(|cursor| {
+                        let Some(((token, kind), rest)) = cursor.integer_token()? else {
+                            return Err(cursor.error(concat!("expected a ", stringify!($integer))));
+                        };
+                        let magnitude = token.magnitude(cursor.text(), kind);
+                        match value_of(magnitude, kind, $integer::BITS, $is_signed) {
+                            Some(value) => {
+                                let span = Span::from_offset(token.offset);
+                                Ok(((value as $integer, span), rest))
+                            }
+                            None => Err(cursor.error(concat!(
+                                "invalid ",
+                                stringify!($integer),
+                                " number: constant out of range",
+                            ))),
+                        }
                     })
                 }
             }
@@ -273,7 +276,6 @@ macro_rules! integers {
     };
 }
 
-// A signed type takes what fits the unsigned one too, as its two's complement; an unsigned type takes no `-`, not even that of `-0`.
 integers! {
     u8 is_signed: false,
     u16 is_signed: false,
@@ -283,6 +285,18 @@ integers! {
     i16 is_signed: true,
     i32 is_signed: true,
     i64 is_signed: true,
+}
+
+/// An integer as two's complement of so many bits, or None where it is out of range. A signed type takes what fits the unsigned one too; an
+/// unsigned type takes no `-`, not even that of `-0`.
+#[inline(always)]
+fn value_of(magnitude: Option<u64>, kind: IntegerKind, bits: u32, is_signed: bool) -> Option<u64> {
+    let (magnitude, most) = (magnitude?, u64::MAX >> (64 - bits));
+    if kind.sign() == Some(SignToken::Minus) {
+        let fits = is_signed && magnitude <= most / 2 + 1;
+        return fits.then_some(magnitude.wrapping_neg());
+    }
+    (magnitude <= most).then_some(magnitude)
 }
 
 /// A string of any bytes.
@@ -309,7 +323,7 @@ impl Peek for &[u8] {
 impl<'a> Parse<'a> for &'a str {
     fn parse(parser: Parser<'a>) -> Result<Self> {
         let bytes: &[u8] = parser.parse()?;
-        std::str::from_utf8(bytes)
+        str::from_utf8(bytes)
             .map_err(|_| parser.error_at(parser.prev_span(), "malformed UTF-8 encoding"))
     }
 }

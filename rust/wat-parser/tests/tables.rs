@@ -271,7 +271,7 @@ fn groups() {
     assert_eq!(deep(101), "item nesting too deep at 101");
 }
 
-/// What is shown goes by the names registered at the look, and with the feature `kept` by those when the parser last moved.
+/// What is shown goes by the names that are registered at the look.
 #[test]
 fn names() {
     let shown = |text: &str| {
@@ -291,18 +291,59 @@ fn names() {
     assert_eq!(shown("(@note 1) 2"), "(10, 0, 0, 10)");
     assert_eq!(shown(r#"(@"n\6fte" 1) 2"#), "(14, 0, 0, 14)");
     assert_eq!(shown("(@other (@note)) 2"), "(17, 17, 17, 17)");
-    let behind = run!("1 (@note 1) 2", |parser| {
+    let noted = run!("1 (@note 1) 2", |parser| {
         parser.parse::<u32>()?;
         let _registered = parser.register_annotation("note");
-        let shown = parser.cur_span().offset();
-        parser.parse::<Option<u32>>()?;
-        if parser.peek::<LParen>()? {
+        let number =
             parser.parens(|group| group.parse::<note>().and_then(|_| group.parse::<u32>()))?;
-            parser.parse::<u32>()?;
-        }
-        shown
+        (number, parser.parse::<u32>()?)
     });
-    assert_eq!(behind, if cfg!(feature = "kept") { "12" } else { "2" });
+    assert_eq!(noted, "(1, 2)");
+}
+
+/// Where what is shown begins, while a name is registered and taken back.
+struct Shown(Vec<usize>);
+
+impl<'a> Parse<'a> for Shown {
+    fn parse(parser: Parser<'a>) -> Result<Self> {
+        parser.parse::<u32>()?;
+        let shown = || parser.cur_span().offset();
+        let mut places = vec![shown()];
+        let registered = parser.register_annotation("note");
+        places.push(shown());
+        // A refused group steps back.
+        let refused = parser.parens(|group| Err::<(), _>(group.error("refused")));
+        places.push(refused.unwrap_err().span().offset());
+        places.push(shown());
+        drop(registered);
+        places.push(shown());
+        // The cursor was made before the name is registered.
+        parser.step(|cursor| {
+            let _registered = parser.register_annotation("note");
+            places.push(cursor.cur_span().offset());
+            Ok(((), cursor))
+        })?;
+        parser.parens(|group| group.parse::<u32>())?;
+        // At the text's end nothing is shown that could stay so.
+        let _registered = parser.register_annotation("note");
+        places.push(shown());
+        parser.parens(|group| group.parse::<note>())?;
+        Ok(Shown(places))
+    }
+}
+
+#[test]
+fn what_is_shown_stays_shown_where_that_is_set() {
+    let mut buffer = ParseBuffer::new("0 (@note 1) (2) (@note)").unwrap();
+    let Shown(places) = parser::parse(&buffer).unwrap();
+    assert_eq!(places, [12, 2, 3, 2, 12, 2, 16]);
+    buffer = ParseBuffer::new("0 (@note 1) (2) (@note)").unwrap();
+    buffer.keep_shown(true);
+    let Shown(places) = parser::parse(&buffer).unwrap();
+    assert_eq!(places, [12, 12, 13, 12, 12, 12, 16]);
+    buffer = ParseBuffer::new("0 (@note 1) (2) (@note)").unwrap();
+    buffer.keep_shown(true).keep_shown(false);
+    assert_eq!(parser::parse::<Shown>(&buffer).unwrap().0[1], 2);
 }
 
 #[test]

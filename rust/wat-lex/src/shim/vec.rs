@@ -137,3 +137,9 @@ impl<T> From<alloc::vec::Vec<T>> for Vec<T> {
         Vec(items)
     }
 }
+
+impl<T> From<Vec<T>> for alloc::vec::Vec<T> {
+    fn from(items: Vec<T>) -> alloc::vec::Vec<T> {
+        items.0
+    }
+}

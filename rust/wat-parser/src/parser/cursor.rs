@@ -1,14 +1,16 @@
 use super::{Parser, Position, Result};
 use crate::Error;
 use crate::lexer::{Float, Integer};
+use crate::proved::lexer::Token;
+use crate::proved::parser::table_ref::TableRef;
 use crate::token::Span;
-use std::borrow::Cow;
-use std::fmt;
-use wat_lex::rows::{Row, Rows};
+use core::fmt;
+use wat_lex::shim::alloc::{Global, granted};
+use wat_lex::{IntegerKind, TokenKind};
 
-/// A place of a parser that moves without it. [`Parser::step`] hands one out, and moves the parser to the one that it is answered.
+/// A place of a parser that moves without it. [`Parser::step`] gives one, and moves the parser to the one that it is answered.
 ///
-/// What takes a token answers it with the cursor behind it, or None where another token, or none, is shown.
+/// What takes a token answers it with the cursor after it, or None where another token, or none, is shown.
 #[derive(Clone, Copy)]
 pub struct Cursor<'a> {
     parser: Parser<'a>,
@@ -18,7 +20,7 @@ pub struct Cursor<'a> {
 impl fmt::Debug for Cursor<'_> {
     fn fmt(&self, f: &mut fmt::Formatter<'_>) -> fmt::Result {
         f.debug_struct("Cursor")
-            .field("offset", &self.position.offset)
+            .field("offset", &self.table().offset_at(self.position.place()))
             .finish_non_exhaustive()
     }
 }
@@ -34,73 +36,96 @@ impl<'a> Cursor<'a> {
         self.position
     }
 
-    /// The row that is shown.
     #[inline(always)]
-    pub(super) fn shown(&self) -> Result<Option<u32>> {
-        #[cfg(feature = "kept")]
-        if self.position.kept.is_some() {
-            return Ok(self.position.kept);
+    fn table(&self) -> TableRef<'a> {
+        self.parser.buffer.table()
+    }
+
+    #[inline(always)]
+    pub(crate) fn text(&self) -> &'a str {
+        self.table().text()
+    }
+
+    /// The token that is shown, and the place after it.
+    #[inline(always)]
+    pub(super) fn shown(&self) -> Result<Option<(Token, usize)>> {
+        let next = match self.position.next() {
+            Some(next) => next,
+            None => match self.look()? {
+                Some(next) => next,
+                None => return Ok(None),
+            },
+        };
+        Ok(Some(self.table().numbered(next)))
+    }
+
+    /// The number of the token that is shown.
+    #[cold]
+    #[inline(never)]
+    fn look(&self) -> Result<Option<usize>> {
+        let (table, names) = (self.table(), self.parser.buffer.names.borrow());
+        match table.look(self.position.place(), &names) {
+            Ok(shown) => Ok(shown.map(|(_, after)| after - 1)),
+            Err(fault) => Err(table.error_of(fault).into()),
         }
-        self.parser.buffer.shown(self.position.place)
+    }
+
+    /// Whether a token of such a kind is shown.
+    #[inline(always)]
+    fn sees(self, is: impl FnOnce(TokenKind) -> bool) -> Result<bool> {
+        Ok(self.shown()?.is_some_and(|(token, _)| is(token.kind)))
+    }
+
+    /// What the function makes of the token that is shown, with the cursor after it; None where it makes nothing of it.
+    #[inline(always)]
+    fn take<T>(self, of: impl FnOnce(Token) -> Option<T>) -> Result<Option<(T, Self)>> {
+        let Some((token, place)) = self.shown()? else {
+            return Ok(None);
+        };
+        Ok(of(token).map(|taken| (taken, self.moved(place))))
     }
 
     #[inline(always)]
-    fn rows(&self) -> &'a Rows<'a> {
-        &self.parser.buffer.rows
-    }
-
-    /// Whether the row that is shown is such a one.
-    #[inline(always)]
-    fn peek_row(&self, is: impl Fn(&Row) -> bool) -> Result<bool> {
-        Ok(match self.shown()? {
-            Some(row) => self.rows().get(row).is_some_and(is),
-            None => false,
-        })
-    }
-
-    /// The row that is shown and the cursor behind it, where it is such a one.
-    #[inline(always)]
-    fn take(self, is: impl Fn(&Row) -> bool) -> Result<Option<(u32, Self)>> {
-        Ok(match self.shown()? {
-            Some(row) if self.rows().get(row).is_some_and(is) => Some((row, self.past(row))),
-            _ => None,
-        })
-    }
-
-    #[inline(always)]
-    fn past(self, row: u32) -> Self {
+    fn moved(self, place: usize) -> Self {
         Cursor {
-            position: self.parser.buffer.past(row),
+            position: self.parser.buffer.position_at(place),
             ..self
         }
     }
 
-    /// The cursor behind the token that is shown.
+    /// The cursor after the token that is shown.
     pub(super) fn past_any(self) -> Result<Option<Self>> {
-        Ok(self.take(|_| true)?.map(|(_, rest)| rest))
+        Ok(self.take(|_| Some(()))?.map(|((), rest)| rest))
     }
 
-    /// The cursor behind a keyword, where it is this one.
+    /// Takes this keyword, and answers where it begins.
     #[inline(always)]
-    pub(super) fn past_keyword(self, word: &str) -> Result<Option<Self>> {
-        let rows = self.rows();
-        let taken = self.take(|row| row.code() == Row::KEYWORD && rows.is_word(row, word))?;
-        Ok(taken.map(|(_, rest)| rest))
+    pub(super) fn this_keyword(self, word: &str) -> Result<Option<(Span, Self)>> {
+        let text = self.text();
+        self.take(|token| is_keyword(text, token, word).then(|| Span::from_offset(token.offset)))
+    }
+
+    /// Takes an integer, as its token.
+    #[inline(always)]
+    pub(crate) fn integer_token(self) -> Result<Option<((Token, IntegerKind), Self)>> {
+        self.take(|token| match token.kind {
+            TokenKind::Integer(kind) => Some((token, kind)),
+            _ => None,
+        })
     }
 
     /// Whether this keyword is shown.
     #[doc(hidden)]
     #[inline]
     pub fn is_keyword(self, word: &str) -> Result<bool> {
-        let rows = self.rows();
-        self.peek_row(|row| row.code() == Row::KEYWORD && rows.is_word(row, word))
+        let shown = self.shown()?;
+        Ok(shown.is_some_and(|(token, _)| is_keyword(self.text(), token, word)))
     }
 
     /// Whether this reserved token is shown.
     #[doc(hidden)]
     pub fn is_reserved(self, word: &str) -> Result<bool> {
-        let rows = self.rows();
-        self.peek_row(|row| row.code() == Row::RESERVED && rows.is_word(row, word))
+        Ok(self.reserved()?.is_some_and(|(shown, _)| shown == word))
     }
 
     /// Whether an annotation of this name is shown.
@@ -110,17 +135,12 @@ impl<'a> Cursor<'a> {
     }
 
     /// Where the token that is shown begins: the text's end where none is left, and the end of what was taken where a fault is shown.
+    #[inline]
     pub fn cur_span(&self) -> Span {
-        self.span()
-    }
-
-    /// [`cur_span`](Cursor::cur_span), for where each token counts.
-    #[inline(always)]
-    pub(crate) fn span(&self) -> Span {
         Span::from_offset(match self.shown() {
-            Ok(Some(row)) => self.rows().get(row).map_or(0, Row::offset),
-            Ok(None) => self.rows().text().len(),
-            Err(_) => self.position.offset as usize,
+            Ok(Some((token, _))) => token.offset,
+            Ok(None) => self.table().text().len(),
+            Err(_) => self.table().offset_at(self.position.place()),
         })
     }
 
@@ -136,7 +156,7 @@ impl<'a> Cursor<'a> {
     ///
     /// Where a fault is shown, as for each look and each taking.
     pub fn peek_lparen(self) -> Result<bool> {
-        self.peek_row(Row::is_lparen)
+        self.sees(|kind| matches!(kind, TokenKind::LParen))
     }
 
     /// Whether a `)` is shown.
@@ -145,7 +165,7 @@ impl<'a> Cursor<'a> {
     ///
     /// Where a fault is shown.
     pub fn peek_rparen(self) -> Result<bool> {
-        self.peek_row(|row| row.code() == Row::RPAREN)
+        self.sees(|kind| matches!(kind, TokenKind::RParen))
     }
 
     /// Whether an identifier is shown, also one whose name is at fault.
@@ -154,7 +174,7 @@ impl<'a> Cursor<'a> {
     ///
     /// Where a fault is shown.
     pub fn peek_id(self) -> Result<bool> {
-        self.peek_row(|row| row.code() == Row::ID)
+        self.sees(|kind| matches!(kind, TokenKind::Id))
     }
 
     /// Whether a reserved token is shown.
@@ -163,7 +183,7 @@ impl<'a> Cursor<'a> {
     ///
     /// Where a fault is shown.
     pub fn peek_reserved(self) -> Result<bool> {
-        self.peek_row(|row| row.code() == Row::RESERVED)
+        self.sees(|kind| matches!(kind, TokenKind::Reserved))
     }
 
     /// Whether a keyword is shown.
@@ -172,7 +192,7 @@ impl<'a> Cursor<'a> {
     ///
     /// Where a fault is shown.
     pub fn peek_keyword(self) -> Result<bool> {
-        self.peek_row(|row| row.code() == Row::KEYWORD)
+        self.sees(|kind| matches!(kind, TokenKind::Keyword))
     }
 
     /// Whether an integer is shown.
@@ -181,7 +201,7 @@ impl<'a> Cursor<'a> {
     ///
     /// Where a fault is shown.
     pub fn peek_integer(self) -> Result<bool> {
-        self.peek_row(|row| row.code() == Row::INTEGER)
+        self.sees(|kind| matches!(kind, TokenKind::Integer(_)))
     }
 
     /// Whether a floating-point number is shown, which an integer is not.
@@ -190,7 +210,7 @@ impl<'a> Cursor<'a> {
     ///
     /// Where a fault is shown.
     pub fn peek_float(self) -> Result<bool> {
-        self.peek_row(Row::is_float)
+        self.sees(|kind| matches!(kind, TokenKind::Float(_)))
     }
 
     /// Whether a string is shown.
@@ -199,7 +219,7 @@ impl<'a> Cursor<'a> {
     ///
     /// Where a fault is shown.
     pub fn peek_string(self) -> Result<bool> {
-        self.peek_row(|row| row.code() == Row::STRING)
+        self.sees(|kind| matches!(kind, TokenKind::String))
     }
 
     /// Takes a `(`.
@@ -209,7 +229,8 @@ impl<'a> Cursor<'a> {
     /// Where a fault is shown.
     #[inline]
     pub fn lparen(self) -> Result<Option<Self>> {
-        Ok(self.take(Row::is_lparen)?.map(|(_, rest)| rest))
+        let taken = self.take(|token| matches!(token.kind, TokenKind::LParen).then_some(()))?;
+        Ok(taken.map(|((), rest)| rest))
     }
 
     /// Takes a `)`.
@@ -219,8 +240,8 @@ impl<'a> Cursor<'a> {
     /// Where a fault is shown.
     #[inline]
     pub fn rparen(self) -> Result<Option<Self>> {
-        let taken = self.take(|row| row.code() == Row::RPAREN)?;
-        Ok(taken.map(|(_, rest)| rest))
+        let taken = self.take(|token| matches!(token.kind, TokenKind::RParen).then_some(()))?;
+        Ok(taken.map(|((), rest)| rest))
     }
 
     /// Takes an identifier, without its `$`.
@@ -228,9 +249,13 @@ impl<'a> Cursor<'a> {
     /// # Errors
     ///
     /// Where a fault is shown, or the identifier's name is empty or not UTF-8.
-    #[inline]
     pub fn id(self) -> Result<Option<(&'a str, Self)>> {
-        self.take_name(Row::ID)
+        let taken = self.take(|token| matches!(token.kind, TokenKind::Id).then_some(token))?;
+        let Some((token, rest)) = taken else {
+            return Ok(None);
+        };
+        let name = token.id(Global, self.text())?;
+        Ok(Some((self.parser.keep_text(name.into()), rest)))
     }
 
     /// Takes a keyword.
@@ -240,8 +265,8 @@ impl<'a> Cursor<'a> {
     /// Where a fault is shown.
     #[inline]
     pub fn keyword(self) -> Result<Option<(&'a str, Self)>> {
-        let taken = self.take(|row| row.code() == Row::KEYWORD)?;
-        Ok(taken.map(|(row, rest)| (self.rows().source(row), rest)))
+        let text = self.text();
+        self.take(|token| matches!(token.kind, TokenKind::Keyword).then(|| token.keyword(text)))
     }
 
     /// Takes an annotation's name, without its `@`.
@@ -249,21 +274,14 @@ impl<'a> Cursor<'a> {
     /// # Errors
     ///
     /// Where a fault is shown, or the annotation's name is empty or not UTF-8.
-    #[inline]
     pub fn annotation(self) -> Result<Option<(&'a str, Self)>> {
-        self.take_name(Row::ANNOTATION)
-    }
-
-    #[inline]
-    fn take_name(self, code: u8) -> Result<Option<(&'a str, Self)>> {
-        let Some((row, rest)) = self.take(|row| row.code() == code)? else {
+        let taken =
+            self.take(|token| matches!(token.kind, TokenKind::Annotation).then_some(token))?;
+        let Some((token, rest)) = taken else {
             return Ok(None);
         };
-        let name = match self.rows().name(row)? {
-            Cow::Borrowed(name) => name,
-            Cow::Owned(name) => self.parser.buffer.strings.keep_text(name),
-        };
-        Ok(Some((name, rest)))
+        let name = token.annotation(Global, self.text())?;
+        Ok(Some((self.parser.keep_text(name.into()), rest)))
     }
 
     /// Takes a reserved token.
@@ -272,8 +290,8 @@ impl<'a> Cursor<'a> {
     ///
     /// Where a fault is shown.
     pub fn reserved(self) -> Result<Option<(&'a str, Self)>> {
-        let taken = self.take(|row| row.code() == Row::RESERVED)?;
-        Ok(taken.map(|(row, rest)| (self.rows().source(row), rest)))
+        let text = self.text();
+        self.take(|token| matches!(token.kind, TokenKind::Reserved).then(|| token.reserved(text)))
     }
 
     /// Takes an integer, in its digits.
@@ -282,15 +300,9 @@ impl<'a> Cursor<'a> {
     ///
     /// Where a fault is shown.
     pub fn integer(self) -> Result<Option<(Integer<'a>, Self)>> {
-        let taken = self.take(|row| row.code() == Row::INTEGER)?;
-        Ok(taken.map(|(row, rest)| (self.rows().integer(row), rest)))
-    }
-
-    /// Takes an integer, as two's complement of so many bits; None for its value where it is out of range.
-    #[inline]
-    pub(crate) fn number(self, bits: u32, is_signed: bool) -> Result<Option<(Option<u64>, Self)>> {
-        let taken = self.take(|row| row.code() == Row::INTEGER)?;
-        Ok(taken.map(|(row, rest)| (self.rows().number(row, bits, is_signed), rest)))
+        let taken = self.integer_token()?;
+        Ok(taken
+            .map(|((token, kind), rest)| (granted(token.integer(Global, self.text(), kind)), rest)))
     }
 
     /// Takes a floating-point number, in its parts.
@@ -299,8 +311,11 @@ impl<'a> Cursor<'a> {
     ///
     /// Where a fault is shown.
     pub fn float(self) -> Result<Option<(Float<'a>, Self)>> {
-        let taken = self.take(Row::is_float)?;
-        Ok(taken.map(|(row, rest)| (self.rows().float(row), rest)))
+        let text = self.text();
+        self.take(|token| match token.kind {
+            TokenKind::Float(kind) => Some(granted(token.float(Global, text, kind)).into()),
+            _ => None,
+        })
     }
 
     /// Takes a string, as its bytes.
@@ -308,33 +323,40 @@ impl<'a> Cursor<'a> {
     /// # Errors
     ///
     /// Where a fault is shown.
-    #[inline]
     pub fn string(self) -> Result<Option<(&'a [u8], Self)>> {
-        let Some((row, rest)) = self.take(|row| row.code() == Row::STRING)? else {
-            return Ok(None);
-        };
-        let bytes = match self.rows().string(row) {
-            Cow::Borrowed(bytes) => bytes,
-            Cow::Owned(bytes) => self.parser.buffer.strings.keep(bytes),
-        };
-        Ok(Some((bytes, rest)))
+        let text = self.text();
+        self.take(|token| match token.kind {
+            TokenKind::String => {
+                let bytes = granted(token.string(Global, text));
+                Some(self.parser.keep(bytes.into()))
+            }
+            _ => None,
+        })
     }
 
-    /// Takes a comment that stands directly behind what was taken, or behind white space there.
+    /// Takes a comment that comes directly after what was taken, or after white space there.
     ///
     /// # Errors
     ///
     /// Where the text is at fault there.
     pub fn comment(self) -> Result<Option<(&'a str, Self)>> {
-        let found = self.rows().comment(self.position.offset as usize)?;
-        Ok(found.map(|(comment, end)| {
-            let position = Position {
-                offset: end as u32,
-                #[cfg(feature = "kept")]
-                kept: None,
-                ..self.position
-            };
-            (comment, Cursor { position, ..self })
-        }))
+        let table = self.table();
+        match table.comment_at(self.position.place()) {
+            Ok(Some((token, place))) => {
+                // What is shown after a comment is not kept.
+                let position = Position::new(place, None);
+                Ok(Some((token.src(table.text()), Cursor { position, ..self })))
+            }
+            Ok(None) => Ok(None),
+            Err(fault) => Err(table.error_of(fault).into()),
+        }
     }
+}
+
+/// Whether a token is this keyword.
+#[inline(always)]
+fn is_keyword(text: &str, token: Token, word: &str) -> bool {
+    matches!(token.kind, TokenKind::Keyword)
+        && token.len as usize == word.len()
+        && token.keyword(text) == word
 }

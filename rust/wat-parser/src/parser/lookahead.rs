@@ -1,5 +1,8 @@
 use super::{Parser, Peek, Result};
 use crate::Error;
+use alloc::format;
+use alloc::string::ToString;
+use alloc::vec::Vec;
 
 /// A series of looks at one token, with an error that names each type that was looked for and not seen.
 #[derive(Debug)]
@@ -34,7 +37,7 @@ impl<'a> Lookahead1<'a> {
         self.parser
     }
 
-    /// The error that none of the types stands there.
+    /// The error that none of the types is there.
     pub fn error(self) -> Error {
         let found = match self.attempts[..] {
             [] if self.parser.is_empty() => "unexpected end of input".to_string(),

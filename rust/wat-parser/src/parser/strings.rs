@@ -1,8 +1,11 @@
-use std::cell::{Cell, OnceCell};
+use alloc::boxed::Box;
+use alloc::string::String;
+use alloc::vec::Vec;
+use core::cell::{Cell, OnceCell};
 
 /// Bytes that live as long as this does, added one after the other through a shared reference.
 ///
-/// They stand in blocks, each twice as long as the one before, so that none of them ever moves.
+/// They are in blocks, each twice as long as the one before, so that none of them ever moves.
 #[derive(Default)]
 pub struct Strings {
     count: Cell<usize>,
@@ -24,8 +27,11 @@ impl Strings {
         let number = self.count.get() + 1;
         self.count.set(number);
         let block = number.ilog2() as usize;
-        let slots = self.blocks[block]
-            .get_or_init(|| std::iter::repeat_with(Slot::new).take(1 << block).collect());
+        let slots = self.blocks[block].get_or_init(|| {
+            core::iter::repeat_with(Slot::new)
+                .take(1 << block)
+                .collect()
+        });
         slots[number - (1 << block)].get_or_init(|| bytes.into_boxed_slice())
     }
 

@@ -1,5 +1,7 @@
 use crate::lexer::Float;
 use crate::parser::{Parse, Parser, Result};
+use alloc::borrow::ToOwned;
+use alloc::format;
 
 /// The bits of a 32-bit floating-point number.
 #[derive(Clone, Copy, Debug)]
@@ -177,7 +179,7 @@ impl Scaled {
         number
     }
 
-    /// Adds a digit behind the others, where it stands before the point.
+    /// Adds a digit after the others, as one before the point.
     fn add(&mut self, digit: char) {
         let digit = u64::from(digit.to_digit(16).unwrap_or(0));
         if self.count >> 60 == 0 {
@@ -196,7 +198,7 @@ impl Scaled {
         }
         let shift = self.count.leading_zeros();
         let count = self.count << shift;
-        // The highest bit of the count stands for 2 to this.
+        // The highest bit of the count is worth 2 to this.
         let exponent = self.exponent - i64::from(shift) + 63;
         if exponent > bias {
             return format.infinity();

@@ -9,7 +9,7 @@ mod spaceship;
 mod typed;
 mod types;
 
-use crate::lex::error::Error;
+use wat_lex::proved::error::Error;
 use crate::lex_answers::pictures::drawn;
 use crate::lex_answers::row::Row;
 use crate::shim::alloc::{AllocError, Global};

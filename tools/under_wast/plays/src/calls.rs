@@ -25,10 +25,11 @@ impl<'a> Parse<'a> for Play {
     }
 }
 
-pub fn play(text: &str, allow: bool) {
+pub fn play(text: &str, allow: bool, set: impl Fn(&mut ParseBuffer<'_>)) {
     let mut lexer = Lexer::new(text);
     lexer.allow_confusing_unicode(allow);
-    let buffer = ParseBuffer::new_with_lexer(lexer).unwrap();
+    let mut buffer = ParseBuffer::new_with_lexer(lexer).unwrap();
+    set(&mut buffer);
     tell(parser::parse::<Play>(&buffer).map(|_| ()));
 }
 

@@ -1,7 +1,7 @@
 //! Makes the same calls at random of wast's lowest layer and of this project's, on texts of pieces at random, and compares what they answer:
 //! values, places, and errors as they are printed.
 //!
-//! usage: plays COUNT
+//! usage: plays COUNT [keep]      keep: this project's buffers keep what was shown, as wast's do
 
 use std::cell::{Cell, RefCell};
 use std::fmt::{Debug, Display};
@@ -94,16 +94,22 @@ fn show(text: &str, theirs: &str, ours: &str) {
 }
 
 fn main() -> ExitCode {
-    let count = std::env::args().nth(1).and_then(|count| count.parse().ok());
+    let mut arguments = std::env::args().skip(1);
+    let count = arguments.next().and_then(|count| count.parse().ok());
     let count: u64 = count.unwrap_or(10_000);
+    let keep = arguments.next().is_some_and(|word| word == "keep");
     panic::set_hook(Box::new(|_| {}));
     let (mut all, mut differ) = (0, 0);
     for play in 1..=count {
         STATE.set(play.wrapping_mul(0x9e37_79b9_7f4a_7c15));
         let (text, allow) = (text(), below(4) == 0);
         let state = STATE.get();
-        let theirs = answers(state, || theirs::play(&text, allow));
-        let ours = answers(state, || ours::play(&text, allow));
+        let theirs = answers(state, || theirs::play(&text, allow, |_| ()));
+        let ours = answers(state, || {
+            ours::play(&text, allow, |buffer| {
+                buffer.keep_shown(keep);
+            });
+        });
         all += theirs.lines().count();
         if theirs != ours {
             differ += 1;
