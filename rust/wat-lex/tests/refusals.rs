@@ -5,7 +5,7 @@ mod refusing;
 use refusing::{granting, refusing, without_memory};
 use std::env;
 use std::process::Command;
-use wat_lex::{Error, Lexer, Span, Token, TokenKind};
+use wat_lex::{Error, Lexer, Span, Token, TokenKind, proved};
 
 fn first(text: &str) -> Token {
     Lexer::new(text).parse(&mut 0).unwrap().unwrap()
@@ -69,6 +69,7 @@ fn an_error_is_out_of_memory_where_its_box_is_refused() {
     error.set_path("a.wat".as_ref());
     assert_eq!(error.to_string(), "out of memory");
     assert!(!Error::new(Span::from_offset(3), String::new()).is_out_of_memory());
+    assert!(Error::from(proved::error::Error::out_of_memory()).is_out_of_memory());
 }
 
 #[test]

@@ -317,6 +317,9 @@ fn a_token_that_is_none_of_the_text_is_not_read() {
         };
         assert!(panics(&|| drop(other.string("\"ab\""))), "{offset} {len}");
     }
+    assert!(panics(&|| drop(
+        Token { len: 6, ..string }.string("\"ab\" a")
+    )));
     for text in ["", "\"a", "\"\u{e9}", "$\"a\"", "\"\\q\"", "\"\"\"\""] {
         assert!(panics(&|| drop(string.string(text))), "{text}");
     }
@@ -353,6 +356,11 @@ fn a_token_that_is_none_of_the_text_is_not_read() {
         }
         .integer("1", signed)
     )));
+    let word = Token {
+        kind: TokenKind::Keyword,
+        ..first("1")
+    };
+    assert!(panics(&|| drop(word.integer("1", kind))));
     let kind = FloatKind::Inf { negative: true };
     assert!(panics(&|| drop(first("inf").float("inf", kind))));
 }
@@ -383,6 +391,17 @@ fn errors_are_equal_where_they_print_the_same() {
     named.set_text("b");
     named.set_path(Path::new("f"));
     assert_ne!(named, told);
+    let in_text = |offset, message, text| {
+        let mut error = new(offset, message);
+        error.set_text(text);
+        error
+    };
+    let (past, further) = (in_text(5, "a", "b"), in_text(6, "a", "b"));
+    assert_eq!(past.to_string(), further.to_string());
+    assert_ne!(past, further);
+    let custom = in_text(1, "unexpected end-of-file", "\"");
+    assert_eq!(fault("\"").to_string(), custom.to_string());
+    assert_ne!(fault("\""), custom);
 }
 
 /// A text of more than `u32::MAX` bytes, most of which are never written.
@@ -394,7 +413,7 @@ fn a_text_that_is_too_long_is_refused() {
     let text = String::from_utf8(bytes).unwrap();
     let lexer = Lexer::new(&text);
     let message = "the text has more than 4294967295 bytes";
-    for pos in [0, 1, text.len(), usize::MAX] {
+    for pos in [0, 1, 2, text.len(), usize::MAX] {
         let error = lexer.parse(&mut { pos }).unwrap_err();
         assert_eq!(
             (error.message().as_str(), error.span().offset()),
