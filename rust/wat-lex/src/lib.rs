@@ -1,7 +1,7 @@
 //! The lexer of the WebAssembly text format, with the names of the lexer of the crate `wast`.
 //!
 //! A [`Lexer`] cuts a text into tokens and accounts for every byte of it, white space and comments included. A [`Token`] is read with its text:
-//! what a string, a name or a number stands for. An [`Error`] says what is wrong with a text, and prints the line.
+//! what a string, a name or a number reads as. An [`Error`] says what is wrong with a text, and prints the line.
 //!
 //! What they answer is proved: this crate is a thin layer over the module [`proved`], whose text is proved to meet its contracts. The layer is
 //! tested, and not proved; so is [`shim`], the part of the proved text's library.

@@ -385,12 +385,12 @@ fn errors_are_equal_where_they_print_the_same() {
     assert_ne!(new(1, "a"), new(1, "b"));
     assert_eq!(fault("\""), fault("\""));
     assert_ne!(fault("\""), new(1, "unexpected end-of-file"));
-    let (mut named, mut told) = (new(1, "a"), new(1, "a"));
-    told.set_text("b");
-    assert_ne!(told, new(1, "a"));
+    let (mut named, mut unnamed) = (new(1, "a"), new(1, "a"));
+    unnamed.set_text("b");
+    assert_ne!(unnamed, new(1, "a"));
     named.set_text("b");
     named.set_path(Path::new("f"));
-    assert_ne!(named, told);
+    assert_ne!(named, unnamed);
     let in_text = |offset, message, text| {
         let mut error = new(offset, message);
         error.set_text(text);
