@@ -90,7 +90,7 @@ pub fn typed(text: &str, allow: bool, number: usize, answers: &mut Answers) {
         10 => outcome(parse::<String>(&buffer)),
         11 => outcome(parse::<Id>(&buffer)),
         12 => outcome(parse::<Index>(&buffer)),
-        13 => outcome(parse::<ItemRef<kw::func>>(&buffer)),
+        13 => outcome(parse::<ItemRef<kw::func>>(&buffer).map(|item| (item.kind.0, item.idx))),
         14 => outcome(parse::<Option<u32>>(&buffer)),
         15 => outcome(parse::<Box<u32>>(&buffer)),
         16 => outcome(parse::<Option<Id>>(&buffer)),
@@ -106,9 +106,9 @@ fn without_proved_form<'a>(buffer: &'a ParseBuffer<'a>, number: usize) -> String
         18 => outcome(parse::<kw::func>(buffer)),
         19 => outcome(parse::<NameAnnotation>(buffer)),
         20 => outcome(parse::<Option<NameAnnotation>>(buffer)),
-        21 => outcome(parse::<F32>(buffer)),
-        22 => outcome(parse::<F64>(buffer)),
-        _ => outcome(parse::<annotation::name>(buffer)),
+        21 => outcome(parse::<annotation::name>(buffer)),
+        22 => outcome(parse::<F32>(buffer)),
+        _ => outcome(parse::<F64>(buffer)),
     }
 }
 
@@ -167,6 +167,10 @@ impl Play {
     }
 
     fn call(&mut self, parser: Parser<'_>, depth: usize) {
+        let is_group = depth < 4 && matches!(parser.peek::<LParen>(), Ok(true));
+        if is_group && self.random.is_one_in(2) {
+            return self.group(parser, depth);
+        }
         match self.random.below(12) {
             0 => self.places(parser),
             1 => self.peek(parser),

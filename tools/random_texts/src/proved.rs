@@ -113,7 +113,7 @@ pub fn typed(text: &str, allow: bool, number: usize, answers: &mut Answers) {
         10 => read::<ProvedString>(&buffer),
         11 => read::<Id>(&buffer),
         12 => read::<Index>(&buffer),
-        13 => read::<ItemRef<kw::func>>(&buffer),
+        13 => outcome(parse::<ItemRef<kw::func>>(&buffer).map(|item| (item.kind.span, item.idx))),
         14 => read::<Option<u32>>(&buffer),
         15 => read::<Box<u32>>(&buffer),
         _ => read::<Option<Id>>(&buffer),
