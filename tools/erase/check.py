@@ -40,6 +40,7 @@ WRITTEN = [
     (".join(alloc,", ".join_in(alloc,"),
     (".to_string(alloc)", ".to_string_in(alloc)"),
     (".kind.clone()?", ".kind.clone()"),
+    ("pub(crate) offset: usize", "pub offset: usize"),
     ("println!(rt;", "try_println!(rt;"),
     ("eprintln!(rt;", "try_eprintln!(rt;"),
     ("fn main(rt:", "pub fn main(rt:"),

@@ -63,6 +63,8 @@ WRITTEN = {
     "fn main(rt:": "pub fn main(rt:",
     # Who calls from C owes what Rattle's compiler has as proved.
     "let text = unsafe { str::from_utf8_unchecked(text) };": "// SAFETY: rule 2 of wat.h.\nlet text = unsafe { str::from_utf8_unchecked(text) };",
+    # The syntax trees of `wast` write a `Span` by its field.
+    "pub(crate) offset: usize": "pub offset: usize",
     # The roots of all other paths; those of the other crates are `path_of`.
     "std::": "STD::",
     "crate::": "SELF::",
