@@ -13,16 +13,16 @@
 set -eu -o pipefail
 mkdir -p "${1:?usage: WAST=FOLDER TEXTS=FOLDER tools/measure_rust.sh WORK}"
 work=$(cd "$1" && pwd)
-wast=$(cd "$WAST" && pwd)
-texts=$(cd "$TEXTS" && pwd)
+crate=$(cd "$WAST" && pwd)
+folder=$(cd "$TEXTS" && pwd)
 cd "$(dirname "$0")/.."
 cpu=${CPU:-$(($(nproc --all) - 1))}
-kinds=("$texts"/{real,generated,annotated,dense}.wat "$texts"/kinds/{parens,marks,keywords,ids_short,integers,hex,floats,blanks_single}.wat)
-kinds+=("$texts"/kinds/{line_comments,line_long,block_comments,strings_short,strings_escapes}.wat)
+kinds=("$folder"/{real,generated,annotated,dense}.wat "$folder"/kinds/{parens,marks,keywords,ids_short,integers,hex,floats,blanks_single}.wat)
+kinds+=("$folder"/kinds/{line_comments,line_long,block_comments,strings_short,strings_escapes}.wat)
 
 rm -rf "$work/measure" "$work/measure_rust"
 cp -r tools/measure tools/measure_rust "$work/"
-sed -i "s|^wast = .*|wast = { path = \"$wast\", default-features = false }|; s|\"\.\./\.\./rust|\"$PWD/rust|" "$work/measure_rust/Cargo.toml"
+sed -i "s|^wast = .*|wast = { path = \"$crate\", default-features = false }|; s|\"\.\./\.\./rust|\"$PWD/rust|" "$work/measure_rust/Cargo.toml"
 
 # times PROGRAM SUITE TEXT..: the rows of a suite
 times() {
@@ -56,11 +56,11 @@ for flags in '' '-C target-cpu=native'; do
     echo '| text | the crate, MB/s | `scan` | `parse` | `iter` | `scan`, whole | `parse`, whole | `iter`, whole |'
     times "$program" lexing "${kinds[@]}"
     printf '\n| text | what | ours, ms | the crate, ms | ratio |\n'
-    times "$program" numbers "$texts"/u32_*.wat "$texts/fronts"/u32_*.wat
-    times "$program" groups "$texts/groups.wat" "$texts/fronts"/groups*.wat
+    times "$program" numbers "$folder"/u32_*.wat "$folder/fronts"/u32_*.wat
+    times "$program" groups "$folder/groups.wat" "$folder/fronts"/groups*.wat
 done
 printf '\nInstructions a byte, cargo build --release:\n\n| the first megabyte of | what | ours | the crate | ratio |\n'
 program=$work/target/release/measure_rust
-counts "$program" lexing "$texts"/{real,generated}.wat "$texts"/kinds/{parens,marks}.wat
-counts "$program" numbers "$texts"/u32_*.wat
-counts "$program" groups "$texts/groups.wat"
+counts "$program" lexing "$folder"/{real,generated}.wat "$folder"/kinds/{parens,marks}.wat
+counts "$program" numbers "$folder"/u32_*.wat
+counts "$program" groups "$folder/groups.wat"
