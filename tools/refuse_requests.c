@@ -35,8 +35,13 @@ static int is_refused(void)
 {
     long at = number("REFUSE_AT");
     long from = number("REFUSE_FROM");
+    int out_of_memory = 12;
     requests += 1;
-    return requests == at || (from > 0 && requests >= from);
+    if (requests != at && (from == 0 || requests < from)) {
+        return 0;
+    }
+    *__errno_location() = out_of_memory;
+    return 1;
 }
 
 /* The blocks that are held, by their address. */

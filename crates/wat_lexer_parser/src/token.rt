@@ -2,7 +2,7 @@
 //! parser reads and peeks at.
 
 mod containers;
-mod integers;
+pub(crate) mod integers;
 mod names;
 mod parens;
 mod references;

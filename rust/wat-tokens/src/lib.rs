@@ -39,3 +39,8 @@ macro_rules! made {
 made! { commands format lines lists program types }
 
 pub mod shim;
+
+/// The examples of the README, as tests.
+#[cfg(doctest)]
+#[doc = include_str!("../README.md")]
+struct Readme;

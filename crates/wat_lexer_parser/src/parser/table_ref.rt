@@ -433,22 +433,29 @@ impl<'a> TableRef<'a> {
         }
     }
 
+    /// The number of the token that is shown at a place, where it is the same whatever names are
+    /// registered.
+    #[inline(always)]
+    pub fn plain_at(&self, place: usize) -> Option<usize>
+        ensures { IfSome result (λ number. (names : NamesOf) →
+            IsNext self.now place names number) }
+    {
+        let i = self.past_blanks(place);
+        match self.token_at(i) {
+            Some(token) if self.is_plain(i, token) => Some(i),
+            _ => None,
+        }
+    }
+
     /// The number of the token that is shown at a place, where one is. It takes no memory.
     // What it answers needs no memory, and a look that may have to read a name stays a call.
     #[inline(always)]
     pub fn shown_at(&self, place: usize, names: &Names) -> Option<usize>
         ensures { IfSome result (IsNext self.now place names.now) }
     {
-        let i = self.past_blanks(place);
-        match self.token_at(i) {
-            Some(token) => {
-                if self.is_plain(i, token) {
-                    Some(i)
-                } else {
-                    self.number_by_look(place, names)
-                }
-            }
-            None => None,
+        match self.plain_at(place) {
+            Some(number) => Some(number),
+            None => self.number_by_look(place, names),
         }
     }
 

@@ -27,7 +27,7 @@ fn is_negative(kind: IntegerKind) -> bool
 }
 
 /// The value of an integer token in a type without a sign, which a word with a minus never has.
-fn unsigned_value(text: &str, token: &Token, kind: IntegerKind, most: u64) -> Option<u64>
+pub(crate) fn unsigned_value(text: &str, token: &Token, kind: IntegerKind, most: u64) -> Option<u64>
     requires token { IsTokenOf text.now token.now }
     requires kind { token.now.kind ≡ variant.Integer kind }
     ensures value { result ≡ unsigned_below (most + 1)
@@ -111,7 +111,7 @@ fn parse_unsigned(
 
 /// The value of an integer token in a type with a sign, which goes from `-half` up to `half - 1`.
 #[tactic(auto, unfolding(crate::specs::readings::Types::signed_number))]
-fn signed_value(text: &str, token: &Token, kind: IntegerKind, half: u64) -> Option<i64>
+pub(crate) fn signed_value(text: &str, token: &Token, kind: IntegerKind, half: u64) -> Option<i64>
     requires token { IsTokenOf text.now token.now }
     requires kind { token.now.kind ≡ variant.Integer kind }
     requires least { 0 < half }

@@ -4,7 +4,7 @@
 
 use wat_lex::shim::prelude::*;
 mod containers;
-mod integers;
+pub(crate) mod integers;
 mod names;
 mod parens;
 mod references;

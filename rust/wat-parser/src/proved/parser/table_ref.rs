@@ -474,6 +474,24 @@ impl<'a> TableRef<'a> {
         }
     }
 
+    /// The number of the token that is shown at a place, where it is the same whatever names are
+    /// registered.
+    ///
+    /// # Proved
+    ///
+    /// ```text
+    /// ensures { IfSome result (λ number. (names : NamesOf) →
+    /// IsNext self.now place names number) }
+    /// ```
+    #[inline(always)]
+    pub fn plain_at(&self, place: usize) -> Option<usize> {
+        let i = self.past_blanks(place);
+        match self.token_at(i) {
+            Some(token) if self.is_plain(i, token) => Some(i),
+            _ => None,
+        }
+    }
+
     /// The number of the token that is shown at a place, where one is. It takes no memory.
     // What it answers needs no memory, and a look that may have to read a name stays a call.
     /// # Proved
@@ -483,16 +501,9 @@ impl<'a> TableRef<'a> {
     /// ```
     #[inline(always)]
     pub fn shown_at(&self, place: usize, names: &Names) -> Option<usize> {
-        let i = self.past_blanks(place);
-        match self.token_at(i) {
-            Some(token) => {
-                if self.is_plain(i, token) {
-                    Some(i)
-                } else {
-                    self.number_by_look(place, names)
-                }
-            }
-            None => None,
+        match self.plain_at(place) {
+            Some(number) => Some(number),
+            None => self.number_by_look(place, names),
         }
     }
 

@@ -29,7 +29,12 @@ fn is_negative(kind: IntegerKind) -> bool {
 ///     (is_minus (sign_token kind.sign), integer_value kind.hex (word_of text.now token.now)) }
 /// ensures fits { IfSome result (λ n. n ≤ most) }
 /// ```
-fn unsigned_value(text: &str, token: &Token, kind: IntegerKind, most: u64) -> Option<u64> {
+pub(crate) fn unsigned_value(
+    text: &str,
+    token: &Token,
+    kind: IntegerKind,
+    most: u64,
+) -> Option<u64> {
     if is_negative(kind) {
         return None;
     }
@@ -129,7 +134,7 @@ fn parse_unsigned(
 /// ensures low { IfSome result (λ n. neg_ℤ (pos half) ≤ℤ n) }
 /// ensures high { IfSome result (λ n. n <ℤ pos half) }
 /// ```
-fn signed_value(text: &str, token: &Token, kind: IntegerKind, half: u64) -> Option<i64> {
+pub(crate) fn signed_value(text: &str, token: &Token, kind: IntegerKind, half: u64) -> Option<i64> {
     let magnitude = token.magnitude(text, kind)?;
     if is_negative(kind) {
         return negative(magnitude, half);

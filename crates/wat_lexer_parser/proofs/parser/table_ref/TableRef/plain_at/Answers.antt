@@ -2,10 +2,10 @@ use Rattle.std.proofs.Common.{◌≡◌, ◌<◌, ◌∙◌, sym, rules, get_or,
 use Rattle.std.specs.Prelude.{slice_get}
 use Rattle.std.proofs.lemmas.Option.{get_or_from_slice_get}
 use Rattle.wat_lexer_parser.proofs.shown.Looks.{shown_take}
-use Rattle.wat_lexer_parser.proofs.parser.table_ref.TableRef.shown_at.Goals as goal
+use Rattle.wat_lexer_parser.proofs.parser.table_ref.TableRef.plain_at.Goals as goal
 
-pub returns-then-is_plain : goal.returns-then-is_plain
-returns-then-is_plain c =
+pub returns-in-Some : goal.returns-in-Some
+returns-in-Some c names =
     let t = c.in-Some.token in
     let s = c.args.self.now in
     let i = c.past_blanks-i.result in
@@ -15,7 +15,7 @@ returns-then-is_plain c =
     record {
       token = t;
       there = there;
-      value = c.past_blanks-i.ensures.same c.args.names.now ∙ shown_take s c.args.names.now i t h e (c.is_plain.ensures c.if-is_plain.true c.args.names.now);
+      value = c.past_blanks-i.ensures.same names ∙ shown_take s names i t h e (c.is_plain.ensures c.if-is_plain.true names);
       on = c.past_blanks-i.ensures.on;
       within = h;
     }
