@@ -20,4 +20,6 @@ pub mod prelude {
     pub use crate::shim::macros::{try_format, try_vec};
     pub use crate::shim::string::{JoinIn, String, ToStringIn};
     pub use crate::shim::vec::Vec;
+    // Before Rust 1.87 the type alone has no `from_utf8`.
+    pub use core::str;
 }

@@ -11,6 +11,7 @@ use alloc::borrow::ToOwned;
 use alloc::string::String;
 use core::fmt;
 use core::hash::{Hash, Hasher};
+use core::str;
 use wat_lex::{IntegerKind, SignToken};
 
 /// An identifier: `$` and a name in a text, or one that [`gensym`](crate::gensym) made.

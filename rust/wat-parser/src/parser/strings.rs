@@ -2,6 +2,7 @@ use alloc::boxed::Box;
 use alloc::string::String;
 use alloc::vec::Vec;
 use core::cell::{Cell, OnceCell};
+use core::str;
 
 /// Bytes that live as long as this does, added one after the other through a shared reference.
 ///
