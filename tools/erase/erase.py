@@ -27,9 +27,14 @@ MODULES = {
     "wat_types": "wat-tokens/src/types",
     "wat_commands": "wat-tokens/src/commands",
     "wat_tokens": "wat-tokens/src/program",
+    "wat_lex_requests": "wat-tokens/tests/table_of_requests/lex_requests",
+    "wat_imports": "wat-tokens/tests/table_of_requests/imports",
+    "wat_requests": "wat-tokens/tests/table_of_requests/requests",
 }
-# What takes Rattle's streams is written in Rust.
-LEFT_OUT = {"wat_answers/src/main.rt"}
+# What is compiled with a shim of its own.
+WITH_SHIM = [("wat-lex", "src"), ("wat-tokens", "src"), ("wat-tokens", "table_of_requests")]
+# What takes Rattle's streams is written in Rust, and so are rows in which a name of a type is printed.
+LEFT_OUT = {"wat_answers/src/main.rt", "wat_requests/src/rows.rt"}
 # What is written otherwise: the closed list. The first entry that fits counts. SHIM is the path of the shim, STD that of what it leaves to Rust,
 # SELF that of the source's crate.
 WRITTEN = {
@@ -52,6 +57,7 @@ WRITTEN = {
     "vec![in": "try_vec![",
     ".join(alloc,": ".join_in(alloc,",
     ".to_string(alloc)": ".to_string_in(alloc)",
+    ".repeat(run.alloc(),": ".repeat_in(run.alloc(),",
     # A clone of any type can't be refused in Rust.
     ".kind.clone()?": ".kind.clone()",
     # A formatter has its writer as a parameter in Rattle, and none in Rust.
@@ -64,7 +70,7 @@ WRITTEN = {
     # Who calls from C owes what Rattle's compiler has as proved.
     "let text = unsafe { str::from_utf8_unchecked(text) };": "// SAFETY: rule 2 of wat.h.\nlet text = unsafe { str::from_utf8_unchecked(text) };",
     # The syntax trees of `wast` write a `Span` by its field.
-    "pub(crate) offset: usize": "pub offset: usize",
+    "pub(crate) offset: usize": "#[doc(hidden)]\npub offset: usize",
     # The roots of all other paths; those of the other crates are `path_of`.
     "std::": "STD::",
     "crate::": "SELF::",
@@ -100,12 +106,11 @@ def path_of(crate, seen_from):
 
 
 def shim_of(crate):
-    package = "wat-tokens" if target_of(crate)[0] == "wat-tokens" else "wat-lex"
-    return "crate::shim" if target_of(crate) == (package, "src") else f"{package.replace('-', '_')}::shim"
+    return "crate::shim" if target_of(crate) in WITH_SHIM else "wat_lex::shim"
 
 
 def std_of(crate):
-    """What has the rest of `std`. The shim of wat-tokens has all of it: files and streams are no part of Rust's `core`."""
+    """What has the rest of `std`. The shims of wat-tokens have all of it: files and streams are no part of Rust's `core`."""
     return shim_of(crate) if target_of(crate)[0] == "wat-tokens" else "core"
 
 

@@ -20,6 +20,6 @@ pub mod prelude {
     pub use crate::shim::macros::{try_format, try_vec};
     pub use crate::shim::string::{JoinIn, String, ToStringIn};
     pub use crate::shim::vec::Vec;
-    // As a function of the type, `str::from_utf8` is there since Rust 1.87.
+    // Before Rust 1.87 the type alone has no `from_utf8`.
     pub use core::str;
 }

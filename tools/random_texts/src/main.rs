@@ -1,0 +1,226 @@
+//! Compares the crates here with the crate `wast` on random texts: tokens with their values, printed faults, typed readings, and calls of a
+//! parser. A text that is answered otherwise is printed, with both answers; the first eight are enough. Without the feature `wast` the layer
+//! and the proved calls below it are compared with each other. At the end there is a sum over all answers, which is the same on every machine.
+//!
+//! usage: random_texts SEED COUNT [FILE or FOLDER]..
+//!        random_texts --program PROGRAM SEED COUNT [FILE or FOLDER]..
+//!
+//! The second form compares with the lists and printed faults of `wat_tokens`, as Rattle's compiler made it.
+
+mod program;
+mod proved;
+mod random;
+mod report;
+mod texts;
+
+/// The calls of the crates here.
+mod ours {
+    use wat_parser as layer;
+
+    fn keep_shown(buffer: &mut ParseBuffer<'_>, keep: bool) {
+        buffer.keep_shown(keep);
+    }
+
+    include!("answers.rs");
+}
+
+/// The calls of the original.
+#[cfg(feature = "wast")]
+mod theirs {
+    use wast as layer;
+
+    /// It always keeps what was shown.
+    fn keep_shown(_: &mut ParseBuffer<'_>, _: bool) {}
+
+    include!("answers.rs");
+}
+
+use random::Random;
+use report::Answers;
+use std::error::Error;
+use std::path::Path;
+use std::process::ExitCode;
+use std::{env, fs};
+use texts::Texts;
+
+/// After so many texts that are answered otherwise the run ends.
+const MOST_DIFFERENCES: u64 = 8;
+
+/// The types that `answers.rs` reads, of which the last two are floating-point numbers.
+const TYPES: usize = 24;
+
+/// A text is read as so many types, or fewer.
+const TYPES_OF_A_TEXT: usize = 8;
+
+/// What was asked and answered so far.
+#[derive(Default)]
+struct Totals {
+    texts: u64,
+    tokens: u64,
+    faults: u64,
+    others: u64,
+    different: u64,
+    sum: u64,
+}
+
+impl Totals {
+    fn add(&mut self, answers: &Answers) {
+        self.texts += 1;
+        self.tokens += answers.tokens;
+        self.faults += answers.faults;
+        self.others += answers.others;
+        self.sum = answers.text.bytes().fold(self.sum, |sum, byte| {
+            (sum ^ u64::from(byte)).wrapping_mul(0x100_0000_01b3)
+        });
+    }
+
+    fn compare(&mut self, text: &str, name: &str, ours: &Answers, other: &Answers) {
+        if ours.text == other.text {
+            return;
+        }
+        self.different += 1;
+        println!("DIFFERENT: {text:?}");
+        let lines = ours.text.lines().zip(other.text.lines());
+        match lines.into_iter().find(|(ours, other)| ours != other) {
+            Some((ours, other)) => println!("  layer: {ours}\n  {name}: {other}"),
+            None => println!("  one of layer and {name} ends first"),
+        }
+    }
+
+    fn print(&self) {
+        println!(
+            "{} texts, {} tokens, {} faults, {} answers of readings and parsers, {} differ, sum {:016x}",
+            self.texts, self.tokens, self.faults, self.others, self.different, self.sum
+        );
+    }
+}
+
+/// What is asked of a text beside its tokens.
+enum Question {
+    /// Types, by their numbers from this one on.
+    Types(usize),
+    /// Calls of a parser.
+    Play(u64),
+}
+
+impl Question {
+    fn new(random: &mut Random) -> Question {
+        if random.is_one_in(2) {
+            Question::Types(random.below(TYPES))
+        } else {
+            Question::Play(random.next())
+        }
+    }
+}
+
+/// The types that a text is read as. Floating-point numbers are left out where `wast` may round otherwise, as docs/DIFFERENCES.md has it: of
+/// more than 8 hexadecimal digits, or of an exponent that may have no 32 bits.
+fn types_for(text: &str) -> usize {
+    let is_rounded_otherwise = text.split("0x").skip(1).any(|number| {
+        let digits = number.trim_start_matches(|c: char| c.is_ascii_hexdigit() || "._".contains(c));
+        let exponent = digits.trim_start_matches(['p', 'P', '+', '-']);
+        let after = exponent.trim_start_matches(|c: char| c.is_ascii_digit() || c == '_');
+        number.len() - digits.len() > 8 || exponent.len() - after.len() > 8
+    });
+    if is_rounded_otherwise {
+        TYPES - 2
+    } else {
+        TYPES
+    }
+}
+
+macro_rules! ask {
+    ($layer:ident, $text:expr, $allow:expr, $question:expr) => {{
+        let mut answers = Answers::default();
+        $layer::tokens($text, $allow, &mut answers);
+        match $question {
+            Question::Types(first) => {
+                for number in (first..types_for($text)).take(TYPES_OF_A_TEXT) {
+                    $layer::typed($text, $allow, number, &mut answers);
+                }
+            }
+            Question::Play(seed) => $layer::play($text, $allow, seed, &mut answers),
+        }
+        answers
+    }};
+}
+
+/// The tokens, and each type that has a proved form, of the proved calls and of the layer.
+fn compare_with_proved(totals: &mut Totals, text: &str, allow: bool, question: &Question) {
+    let (mut ours, mut proved) = (Answers::default(), Answers::default());
+    ours::tokens(text, allow, &mut ours);
+    proved::tokens(text, allow, &mut proved);
+    if let Question::Types(first) = *question {
+        for number in (first..proved::TYPES).take(TYPES_OF_A_TEXT) {
+            ours::typed(text, allow, number, &mut ours);
+            proved::typed(text, allow, number, &mut proved);
+        }
+    }
+    totals.compare(text, "proved", &ours, &proved);
+}
+
+fn compare_texts(seed: u64, count: u64, files: Vec<String>) -> Totals {
+    let mut totals = Totals::default();
+    let mut random = Random::new(seed);
+    let mut texts = Texts::new(Random::new(random.next()), files);
+    while totals.texts < count && totals.different < MOST_DIFFERENCES {
+        let text = texts.next();
+        let (allow, question) = (random.is_one_in(2), Question::new(&mut random));
+        compare_with_proved(&mut totals, &text, allow, &question);
+        let ours = ask!(ours, &text, allow, question);
+        #[cfg(feature = "wast")]
+        totals.compare(&text, "wast", &ours, &ask!(theirs, &text, allow, question));
+        totals.add(&ours);
+    }
+    totals
+}
+
+/// The texts of a file, or of the files in a folder; those that are not UTF-8 are left out.
+fn texts_of(path: &Path) -> Result<Vec<String>, Box<dyn Error>> {
+    if !path.is_dir() {
+        return Ok(fs::read_to_string(path).into_iter().collect());
+    }
+    let mut paths = fs::read_dir(path)?
+        .map(|entry| Ok(entry?.path()))
+        .collect::<Result<Vec<_>, std::io::Error>>()?;
+    paths.sort();
+    let texts = paths
+        .iter()
+        .map(|path| texts_of(path))
+        .collect::<Result<Vec<_>, _>>()?;
+    Ok(texts.concat())
+}
+
+fn run(arguments: &[String]) -> Result<bool, Box<dyn Error>> {
+    let (program, arguments) = match arguments {
+        [option, program, rest @ ..] if option == "--program" => (Some(program), rest),
+        all => (None, all),
+    };
+    let [seed, count, paths @ ..] = arguments else {
+        return Err("usage: random_texts [--program PROGRAM] SEED COUNT [FILE or FOLDER]..".into());
+    };
+    let (seed, count) = (seed.parse()?, count.parse()?);
+    let files = paths
+        .iter()
+        .map(|path| texts_of(Path::new(path)))
+        .collect::<Result<Vec<_>, _>>()?
+        .concat();
+    let totals = match program {
+        Some(program) => program::compare_texts(Path::new(program), seed, count, files)?,
+        None => compare_texts(seed, count, files),
+    };
+    totals.print();
+    Ok(totals.different == 0)
+}
+
+fn main() -> ExitCode {
+    let arguments: Vec<String> = env::args().skip(1).collect();
+    match run(&arguments) {
+        Ok(true) => ExitCode::SUCCESS,
+        Ok(false) => ExitCode::FAILURE,
+        Err(error) => {
+            eprintln!("random_texts: {error}");
+            ExitCode::from(2)
+        }
+    }
+}
