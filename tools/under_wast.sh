@@ -94,7 +94,10 @@ plays() {
     cp -r tools/under_wast/plays/. "$at/"
     sed -i "s|\"WAST\"|\"$work/$1/wast\"|; s|\"WAT_PARSER\"|\"$project/rust/wat-parser\"|" "$at/Cargo.toml"
     (cd "$at" && cargo build --offline --release --quiet)
-    say "$*: $("$at/target/release/plays" "$mutants" "${@:2}")"
+    local answer status=0
+    answer=$("$at/target/release/plays" "$mutants" "${@:2}") || status=$?
+    say "$*: $answer"
+    return "$status"
 }
 
 unpack theirs
