@@ -17,14 +17,14 @@ use crate::proved;
 use crate::proved::parser::names::{Names, RegisterError};
 use crate::proved::parser::table_ref::TableRef;
 use crate::token::Span;
-use alloc::borrow::Cow;
 use alloc::boxed::Box;
-use alloc::string::ToString;
 use core::cell::{Cell, RefCell};
 use core::fmt;
 use strings::Strings;
 use wat_lex::TokenKind;
-use wat_lex::shim::alloc::{Global, granted};
+use wat_lex::shim::alloc::{AllocError, Global, granted};
+use wat_lex::shim::borrow::{CowSlice, CowStr};
+use wat_lex::shim::string::ToStringIn;
 
 /// How many groups may be open where [`Parser::depth_check`] is called.
 pub const MAX_PARENS_DEPTH: usize = proved::parser::MAX_PARENS_DEPTH;
@@ -510,19 +510,19 @@ impl<'a> Parser<'a> {
 
     /// What was read, kept as long as the buffer where it is owned.
     #[inline]
-    pub(crate) fn keep(self, bytes: Cow<'a, [u8]>) -> &'a [u8] {
+    pub(crate) fn keep(self, bytes: CowSlice<'a, u8>) -> Result<&'a [u8]> {
         match bytes {
-            Cow::Borrowed(bytes) => bytes,
-            Cow::Owned(bytes) => self.buffer.strings.keep(bytes),
+            CowSlice::Borrowed(bytes) => Ok(bytes),
+            CowSlice::Owned(bytes) => unless_refused(self.buffer.strings.keep(bytes)),
         }
     }
 
     /// [`keep`](Parser::keep) of a text.
     #[inline]
-    pub(crate) fn keep_text(self, text: Cow<'a, str>) -> &'a str {
+    pub(crate) fn keep_text(self, text: CowStr<'a>) -> Result<&'a str> {
         match text {
-            Cow::Borrowed(text) => text,
-            Cow::Owned(text) => self.buffer.strings.keep_text(text),
+            CowStr::Borrowed(text) => Ok(text),
+            CowStr::Owned(text) => unless_refused(self.buffer.strings.keep_text(text)),
         }
     }
 
@@ -563,8 +563,10 @@ impl<'a> Parser<'a> {
     /// An error at a place of the text.
     #[cold]
     pub fn error_at(self, span: Span, message: impl fmt::Display) -> Error {
-        let table = self.buffer.table();
-        table.error_at(span, &message.to_string()).into()
+        match message.to_string_in(Global) {
+            Ok(message) => self.buffer.table().error_at(span, &message).into(),
+            Err(refused) => proved::Error::from(refused).into(),
+        }
     }
 
     /// Where the token that is shown begins: the text's end where none is left, and the end of what was taken where a fault is shown.
@@ -662,6 +664,12 @@ impl<'a> Parser<'a> {
         .map(|name| self.register_annotation(name));
         inside(self)
     }
+}
+
+/// What was asked for, or an out-of-memory error.
+#[inline(always)]
+pub(crate) fn unless_refused<T>(asked: Result<T, AllocError>) -> Result<T> {
+    asked.map_err(|refused| proved::Error::from(refused).into())
 }
 
 /// A name that is registered until this is dropped.

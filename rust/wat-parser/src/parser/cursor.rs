@@ -1,11 +1,11 @@
-use super::{Parser, Position, Result};
+use super::{Parser, Position, Result, unless_refused};
 use crate::Error;
 use crate::lexer::{Float, Integer};
 use crate::proved::lexer::Token;
 use crate::proved::parser::table_ref::TableRef;
 use crate::token::Span;
 use core::fmt;
-use wat_lex::shim::alloc::{Global, granted};
+use wat_lex::shim::alloc::Global;
 use wat_lex::{IntegerKind, TokenKind};
 
 /// A place of a parser that moves without it. [`Parser::step`] gives one, and moves the parser to the one that it is answered.
@@ -309,7 +309,7 @@ impl<'a> Cursor<'a> {
             TokenKind::Id => token.id(Global, self.text())?,
             _ => token.annotation(Global, self.text())?,
         };
-        Ok(self.parser.keep_text(name.into()))
+        self.parser.keep_text(name)
     }
 
     /// Takes a reserved token.
@@ -328,9 +328,11 @@ impl<'a> Cursor<'a> {
     ///
     /// Where a fault is shown.
     pub fn integer(self) -> Result<Option<(Integer<'a>, Self)>> {
-        let taken = self.integer_token()?;
-        Ok(taken
-            .map(|((token, kind), rest)| (granted(token.integer(Global, self.text(), kind)), rest)))
+        let Some(((token, kind), rest)) = self.integer_token()? else {
+            return Ok(None);
+        };
+        let integer = unless_refused(token.integer(Global, self.text(), kind))?;
+        Ok(Some((integer, rest)))
     }
 
     /// Takes a floating-point number, in its parts.
@@ -339,11 +341,15 @@ impl<'a> Cursor<'a> {
     ///
     /// Where a fault is shown.
     pub fn float(self) -> Result<Option<(Float<'a>, Self)>> {
-        let text = self.text();
-        self.take(|token| match token.kind {
-            TokenKind::Float(kind) => Some(granted(token.float(Global, text, kind)).into()),
+        let taken = self.take(|token| match token.kind {
+            TokenKind::Float(kind) => Some((token, kind)),
             _ => None,
-        })
+        })?;
+        let Some(((token, kind), rest)) = taken else {
+            return Ok(None);
+        };
+        let float = unless_refused(token.float(Global, self.text(), kind))?;
+        Ok(Some((float.into(), rest)))
     }
 
     /// Takes a string, as its bytes.
@@ -352,14 +358,12 @@ impl<'a> Cursor<'a> {
     ///
     /// Where a fault is shown.
     pub fn string(self) -> Result<Option<(&'a [u8], Self)>> {
-        let text = self.text();
-        self.take(|token| match token.kind {
-            TokenKind::String => {
-                let bytes = granted(token.string(Global, text));
-                Some(self.parser.keep(bytes.into()))
-            }
-            _ => None,
-        })
+        let taken = self.take(|token| matches!(token.kind, TokenKind::String).then_some(token))?;
+        let Some((token, rest)) = taken else {
+            return Ok(None);
+        };
+        let bytes = unless_refused(token.string(Global, self.text()))?;
+        Ok(Some((self.parser.keep(bytes)?, rest)))
     }
 
     /// Takes a comment that comes directly after what was taken, or after white space there.
