@@ -1,16 +1,16 @@
 #!/usr/bin/env python3
-"""Lists, checks and tries the wrong bodies of edits/CRATE.txt. docs/PROOF.md says what they are, and the head of each table how a record is written.
+"""Lists, checks and tries the wrong bodies of edits/CRATE.txt. docs/PROOF.md says what they are, the head of each table how a record is written.
 
   list        prints crate, name, functions, clause and input of each record, with tabs between them
-  check       checks in a second that each record is complete, that its names are those of the sources, and that it can be applied
+  check       checks that each record is complete, that its names are those of the sources, and that it can be applied
   try         has the prover refuse each: first by a check of the functions of the record alone, and of those that they call; where
               it takes these, by a check of the whole crate, since a function that only a caller's contract pins is refused there
   self-test   shows that `check` finds faults that are put into a record
 
 A WORD is a crate, a record's name, CRATE/NAME, or the end of a function's path, as TableRef::look.
 
-`try` takes the libraries below a crate from crates/NAME/out, where `rt ci` without names leaves them. The first edit of a crate takes it half a minute
-to one and a half, each further one half of that, as it keeps what they share.
+`try` takes the libraries below a crate from crates/NAME/out, where `rt ci` without names leaves them. The first edit of a crate takes it
+half a minute to one and a half, each further one half of that, as it keeps what they share.
 """
 import argparse
 import collections
@@ -38,6 +38,7 @@ CLAUSE = re.compile(r"(?P<clause>the clause|the invariant|\w+) of (?P<of>[\w:]+)
 ITEM = re.compile(r"\s*(?:pub(?:\(\w+\))? )?(?:(?:const )?(?:unsafe )?(?:extern \"C\" )?fn|const|struct|enum|macro_rules!) (\w+)")
 DECLARED = re.compile(r"\b(?:fn|struct|trait) (\w+)")
 STATED = re.compile(r"\b(?:ensures\*?(?: (\w+))? \{|ghost (?!use\b)(\w+))")
+QUIET = {"stdin": subprocess.DEVNULL, "stdout": subprocess.PIPE, "check": False}
 LOST = re.compile(r"error: `\w+` has no function|fits more than one|several functions")
 ENDED = re.compile(r"only=(\d+) proved=(\d+)")
 ERROR = re.compile(r"\S+:\d+:\d+: error")
@@ -90,7 +91,8 @@ def record_of(crate, lines):
         raise Fault(f"{values['name']}: {', '.join(empty)} is empty, or `family` or `must-fail` is not yes")
     texts = [value for key, value in pairs if key in ("old", "new")]
     plain = {key: values[key] for key in ("name", "file", "fn", "clause", "breaks")}
-    return Record(crate=crate, pairs=tuple(zip(texts[::2], texts[1::2])), family="family" in values, must_fail="must-fail" in values, **plain)
+    marks = {"family": "family" in values, "must_fail": "must-fail" in values}
+    return Record(crate=crate, pairs=tuple(zip(texts[::2], texts[1::2])), **plain, **marks)
 
 
 def records_of(crate, text):
@@ -160,7 +162,7 @@ def check_functions(record):
 
 
 def clauses():
-    """For each function, type and trait the names of the clauses in the files that declare one of this name; `the clause` has none of its own."""
+    """For each function, type and trait the clauses in the files that declare one of this name; one without a name is `the clause`."""
     found = collections.defaultdict(set)
     for path in ROOT.glob("crates/*/src/**/*.rt"):
         text = path.read_text(encoding="utf-8")
@@ -196,7 +198,8 @@ def check_record(record, stated):
 def faults_of(records):
     """What is wrong with records that can be read."""
     stated = clauses()
-    faults = [f"{crate}/{name}: two records have this name" for (crate, name), n in collections.Counter((it.crate, it.name) for it in records).items() if n > 1]
+    names = collections.Counter(f"{it.crate}/{it.name}" for it in records)
+    faults = [f"{name}: two records have this name" for name, count in names.items() if count > 1]
     for record in records:
         try:
             check_record(record, stated)
@@ -253,11 +256,12 @@ def prove(record, paths, kept):
                 shutil.copytree(ROOT / "crates" / record.crate / part, f"{room}/{part}")
         pathlib.Path(room, record.file).write_text(applied(record), encoding="utf-8")
         top = "src/main.rt" if pathlib.Path(room, "src/main.rt").is_file() else "src/lib.rt"
-        words = [KIT / "bin/rattle", "check", "--crate-name", record.crate, top, "--extern", f"std={KIT / 'rlibs/std.rlib'}", *libraries(record.crate)]
-        words += ["-L", f"dependency={KIT / 'rlibs'}", "--antt-project", KIT / "rattle/logic/antt-project.json"]
+        words = [KIT / "bin/rattle", "check", "--crate-name", record.crate, top, *libraries(record.crate)]
+        words += ["--extern", f"std={KIT / 'rlibs/std.rlib'}", "-L", f"dependency={KIT / 'rlibs'}"]
+        words += ["--antt-project", KIT / "rattle/logic/antt-project.json"]
         words += ["--logic-built", KIT / "logic_built", "--links", f"{record.crate}=", "--jobs", "1", "--incremental", kept]
         words += [word for path in paths for word in ("--only", path)]
-        ran = subprocess.run(words, cwd=room, stdin=subprocess.DEVNULL, stdout=subprocess.PIPE, stderr=subprocess.STDOUT, errors="replace", check=False)
+        ran = subprocess.run(words, cwd=room, **QUIET, stderr=subprocess.STDOUT, errors="replace")
         return ran.returncode, ran.stdout
 
 
@@ -303,7 +307,7 @@ def in_lanes(records, lanes):
 
 
 def by_kit(records):
-    """Tries them by `rt must-fail`, which says more of each and takes longer, from crates/NAME/must-fail; they are removed from there however it ends."""
+    """Tries them by `rt must-fail`, which says more of each and takes longer. They are in crates/NAME/must-fail for that time alone."""
     signal.signal(signal.SIGTERM, lambda *_: sys.exit(143))
     files = [it.must_fail_file() for it in records if not it.must_fail]
     made = sorted({it.parent for it in files if not it.parent.is_dir()})
@@ -311,7 +315,8 @@ def by_kit(records):
         for record in records:
             record.must_fail_file().parent.mkdir(exist_ok=True)
             record.must_fail_file().write_text(record.edit(), encoding="utf-8")
-        return subprocess.run(["rt", "must-fail", *sorted({it.crate for it in records})], cwd=ROOT, stdin=subprocess.DEVNULL, check=False).returncode
+        crates = sorted({it.crate for it in records})
+        return subprocess.run(["rt", "must-fail", *crates], cwd=ROOT, stdin=subprocess.DEVNULL, check=False).returncode
     finally:
         for file in files:
             file.unlink(missing_ok=True)
@@ -321,12 +326,13 @@ def by_kit(records):
 
 def sample(number, seed):
     """So many records of one crate, which the seed chooses, a crate with more records more often; each has its turn as seeds change."""
-    records = sorted(all_records(), key=lambda it: hashlib.sha256(f"{seed} {it.crate}/{it.name}".encode()).hexdigest())
+    hashes = {it: hashlib.sha256(f"{seed} {it.crate}/{it.name}".encode()).hexdigest() for it in all_records()}
+    records = sorted(hashes, key=hashes.get)
     return [it for it in records if it.crate == records[0].crate][:number]
 
 
 def git(*words):
-    return subprocess.run(["git", *words], cwd=ROOT, stdout=subprocess.PIPE, stderr=subprocess.DEVNULL, text=True, check=False).stdout
+    return subprocess.run(["git", *words], cwd=ROOT, **QUIET, stderr=subprocess.DEVNULL, text=True).stdout
 
 
 def changed(base):
@@ -361,7 +367,7 @@ def list_them(asked):
 # Of this tool
 
 WRONG = {
-    "a key is missing": ("breaks: ", "# breaks: ", "its keys are not in order"),
+    "a key is missing": (r"breaks: .*", "# breaks", "its keys are not in order"),
     "a value is missing": (r"breaks: .*", "breaks:", "is empty"),
     "an old text is there twice": (r"old: .*", "old: ensures", "its old text is in"),
     "an old text is not there": (r"old: .*", "old: no such text", "its old text is in"),
@@ -374,14 +380,16 @@ WRONG = {
 
 
 def self_test(_asked):
-    """Each fault of WRONG, put into the first record whose function is declared beside another one in its file."""
-    crate, record = "wat_lex", next(it for it in all_records() if it.crate == "wat_lex" and it.name == "leb128-padded-by-a-byte")
-    text = next(part for part in tables()[crate].split("\n\n") if part.startswith(f"name: {record.name}\n"))
-    words = {"old": record.pairs[0][0], "fn": "push_unsigned", "other": "encode::push_signed"}
+    """Puts each fault of WRONG into a record of a plain function, the first that there is."""
+    record = next(it for it in all_records() if it.entries()[0][0] is None)
+    text = next(part for part in tables()[record.crate].split("\n\n") if part.startswith(f"name: {record.name}\n"))
+    name = record.entries()[0][1].rpartition("::")[2]
+    others = set(re.findall(r"\bfn (\w+)", record.source().read_text(encoding="utf-8"))) - {name}
+    words = {"old": record.pairs[0][0], "fn": name, "other": min(others)}
     missed = []
     for what, (old, new, wanted) in WRONG.items():
         try:
-            found = faults_of(records_of(crate, re.sub(old, lambda _, new=new: new.format(**words), text, count=1)))
+            found = faults_of(records_of(record.crate, re.sub(old, lambda _, new=new: new.format(**words), text, count=1)))
         except Fault as fault:
             found = [str(fault)]
         missed += [] if any(wanted in it for it in found) else [f"{what}: {found}"]
