@@ -451,21 +451,12 @@ fn buffers() {
 fn a_text_of_4_gib_is_refused() {
     let text = String::from_utf8(vec![0; 1 << 32]).unwrap();
     let message = "the text has more than 4294967295 bytes";
-    let mut error = ParseBuffer::new(&text).unwrap_err();
-    error.set_text(&text);
+    let error = ParseBuffer::new(&text).unwrap_err();
     assert_eq!(error.to_string(), format!("{message} at byte offset 0"));
     let lexer = Lexer::new(&text);
     assert_eq!(lexer.parse(&mut 0).unwrap_err().message(), message);
     assert_eq!(lexer.iter(0).map(Result::unwrap_err).count(), 1);
     assert_eq!(Span::from_offset(1 << 31).linecol_in(&text), (0, 1 << 31));
-}
-
-#[test]
-#[ignore = "needs a limit of about 1 GiB of memory"]
-fn refused_memory_is_an_error() {
-    let text = String::from_utf8(vec![0; 1 << 29]).unwrap();
-    let error = ParseBuffer::new(&text).unwrap_err();
-    assert_eq!(error.to_string(), "out of memory at byte offset 0");
 }
 
 /// A buffer lends a shorter life than its text's.
