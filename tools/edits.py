@@ -81,7 +81,7 @@ class Record:
 
 
 def record_of(crate, lines):
-    """The record that stands in these lines."""
+    """The record in these lines."""
     pairs = [(key, value.removeprefix(" ")) for key, _, value in (line.partition(":") for line in lines)]
     keys, values = " ".join(key for key, _ in pairs), dict(pairs)
     if not ORDER.fullmatch(keys):
