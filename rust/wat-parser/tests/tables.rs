@@ -459,6 +459,14 @@ fn a_text_of_4_gib_is_refused() {
     assert_eq!(Span::from_offset(1 << 31).linecol_in(&text), (0, 1 << 31));
 }
 
+/// A buffer can be made on one thread and read on another.
+#[test]
+fn a_buffer_is_sent() {
+    let buffer = ParseBuffer::new("(@\"\\61\") \"a\\62\"").unwrap();
+    let read = std::thread::spawn(move || parser::parse::<&str>(&buffer).unwrap().to_owned());
+    assert_eq!(read.join().unwrap(), "ab");
+}
+
 /// A buffer lends a shorter life than its text's.
 fn lent(buffer: &ParseBuffer<'static>) -> u32 {
     parser::parse(buffer).unwrap()

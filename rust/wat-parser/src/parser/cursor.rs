@@ -76,6 +76,7 @@ impl<'a> Cursor<'a> {
     }
 
     /// What the function makes of the token that is shown, with the cursor after it; None where it makes nothing of it.
+    // The token is the table's, and the function looks at its kind: that is what the proved readers require.
     #[inline(always)]
     fn take<T>(self, of: impl FnOnce(Token) -> Option<T>) -> Result<Option<(T, Self)>> {
         let Some((token, number)) = self.shown()? else {
