@@ -162,7 +162,7 @@ fn compare_with_proved(totals: &mut Totals, text: &str, allow: bool, question: &
 fn compare_texts(seed: u64, count: u64, files: Vec<String>) -> Totals {
     let mut totals = Totals::default();
     let mut random = Random::new(seed);
-    let mut texts = Texts::new(Random::new(random.next()), files);
+    let mut texts = Texts::new(Random::new(random.next()), files, texts::ALL);
     while totals.texts < count && totals.different < MOST_DIFFERENCES {
         let text = texts.next();
         let (allow, question) = (random.is_one_in(2), Question::new(&mut random));
