@@ -152,6 +152,7 @@ suite() {
     if has "$cpp"; then
         "$cpp" -std=c++11 "${strict[@]}" -o "$room/alone" "$room/alone.cc" "$@"
         "$room/alone"
+        say "$name: a program in C++11"
     fi
 }
 

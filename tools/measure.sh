@@ -1,7 +1,7 @@
 #!/usr/bin/env bash
 # Measures this project's calls beside those of the crate wast 263.0.0, in one program (tools/measure) over the loops of crates/wat_measure: times
-# in turn, pass by pass, by the processor time of a thread that is pinned to one processor, and instructions by callgrind; so too the static library
-# and the Rust crate over it. Writes Markdown
+# in turn, pass by pass, by the processor time of a thread that is pinned to one processor, and instructions by callgrind; so too the static
+# library. Writes Markdown
 # tables for docs/SPEED.md to WORK/table.md, and each contender's quartiles to WORK/times.tsv. Texts that are in WORK already are not made anew.
 #
 # usage: [NAME=VALUE ..] tools/measure.sh WORK
@@ -43,12 +43,11 @@ if [ -z "${ARCHIVES:-}" ]; then
     tools/build_c.sh >&2
     cp crates/wat_measure/out/libwat_measure.a crates/wat_parser_c/out/libwat_parser_c.a crates/wat_parser_c/out/liblibc_c.a "$ARCHIVES/"
 fi
-export ARCHIVES WAT_C_FOLDER=$ARCHIVES
+export ARCHIVES
 
 # The program.
 mkdir -p "$work/program"
 cp -r tools/measure/. "$work/program/"
-sed -i "s|^wat-lex = .*|wat-lex = { path = \"$PWD/rust/wat-lex\" }|" "$work/program/Cargo.toml"
 features=()
 if [ -n "${WAST:-}" ]; then
     sed -i "s|^wast = .*|wast = { path = \"$WAST\", default-features = false }|" "$work/program/Cargo.toml"
@@ -172,9 +171,9 @@ measure() {
     lexing
     table '| text | the crate with one caller, MB/s | `scan` | `parse` | `iter` |'
     program=$program_one lexing
-    table '| text | the crate, MB/s | `wat_fill` | `wat_token_at` | Rust `parse` | Rust `iter` |'
+    table '| text | what | ours, ms | the crate, ms | ratio |'
     library
-    table '| text | the crate with one caller, MB/s | `wat_fill` | `wat_token_at` | Rust `parse` | Rust `iter` |'
+    table '| text | what | ours, ms | the crate with one caller, ms | ratio |'
     program=$program_one library
     table '| text | what | ours, ms | the crate, ms | ratio |'
     each parser "${all[@]}"

@@ -1,10 +1,9 @@
-//! Loops over the static library as programs in C call it, and over the Rust crate above it. Their names stay as they are, for callgrind.
+//! Loops over the static library as programs in C call it. Their names stay as they are, for callgrind.
 
 use crate::measure::{Loop, Pair, pair};
-use wat_lex::{Lexer, TokenKind};
 
 /// The suite of these loops, beside one of the crate's.
-pub const fn library(theirs: Option<Loop>) -> [Pair; 4] {
+pub const fn library(theirs: Option<Loop>) -> [Pair; 2] {
     [
         pair("`wat_fill`", ("library_fill", library_fill), theirs),
         pair(
@@ -12,8 +11,6 @@ pub const fn library(theirs: Option<Loop>) -> [Pair; 4] {
             ("library_token_at", library_token_at),
             theirs,
         ),
-        pair("Rust `parse`", ("library_parse", library_parse), theirs),
-        pair("Rust `iter`", ("library_iter", library_iter), theirs),
     ]
 }
 
@@ -101,40 +98,4 @@ pub fn library_token_at(text: &str) -> u64 {
         sum = sum.wrapping_add(of_code(token.kind.code));
         at += token.len as usize;
     }
-}
-
-fn weight(kind: TokenKind) -> u64 {
-    match kind {
-        TokenKind::LineComment => 1,
-        TokenKind::BlockComment => 2,
-        TokenKind::Whitespace => 3,
-        TokenKind::LParen => 5,
-        TokenKind::RParen => 7,
-        TokenKind::String => 11,
-        TokenKind::Id => 13,
-        TokenKind::Keyword => 17,
-        TokenKind::Annotation => 19,
-        TokenKind::Reserved => 23,
-        TokenKind::Integer(_) => 29,
-        TokenKind::Float(_) => 31,
-    }
-}
-
-#[inline(never)]
-#[unsafe(no_mangle)]
-pub fn library_parse(text: &str) -> u64 {
-    let lexer = Lexer::new(text);
-    let (mut pos, mut sum) = (0, 0u64);
-    while let Ok(Some(token)) = lexer.parse(&mut pos) {
-        sum = sum.wrapping_add(weight(token.kind));
-    }
-    sum
-}
-
-#[inline(never)]
-#[unsafe(no_mangle)]
-pub fn library_iter(text: &str) -> u64 {
-    let lexer = Lexer::new(text);
-    let tokens = lexer.iter(0).map_while(Result::ok);
-    tokens.fold(0, |sum, token| sum.wrapping_add(weight(token.kind)))
 }
