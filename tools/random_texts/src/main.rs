@@ -117,10 +117,10 @@ impl Question {
 /// more than 8 hexadecimal digits, or of an exponent that may have no 32 bits.
 fn types_for(text: &str) -> usize {
     let is_rounded_otherwise = text.split("0x").skip(1).any(|number| {
-        let digits = number.trim_start_matches(|c: char| c.is_ascii_hexdigit() || "._".contains(c));
-        let exponent = digits.trim_start_matches(['p', 'P', '+', '-']);
-        let after = exponent.trim_start_matches(|c: char| c.is_ascii_digit() || c == '_');
-        number.len() - digits.len() > 8 || exponent.len() - after.len() > 8
+        let after = number.trim_start_matches(|c: char| c.is_ascii_hexdigit() || "._".contains(c));
+        let exponent = after.trim_start_matches(['p', 'P', '+', '-']);
+        let rest = exponent.trim_start_matches(|c: char| c.is_ascii_digit() || c == '_');
+        number.len() - after.len() > 8 || exponent.len() - rest.len() > 8
     });
     if is_rounded_otherwise {
         TYPES - 2
@@ -178,7 +178,7 @@ fn compare_texts(seed: u64, count: u64, files: Vec<String>) -> Totals {
 /// The texts of a file, or of the files in a folder; those that are not UTF-8 are left out.
 fn texts_of(path: &Path) -> Result<Vec<String>, Box<dyn Error>> {
     if !path.is_dir() {
-        return Ok(fs::read_to_string(path).into_iter().collect());
+        return Ok(String::from_utf8(fs::read(path)?).into_iter().collect());
     }
     let mut paths = fs::read_dir(path)?
         .map(|entry| Ok(entry?.path()))
