@@ -47,6 +47,8 @@ ours() {
         rm "$wast/src/$module.rs"
     done
     cp -r rust/wat-parser/src/. tools/under_wast/lib.rs "$wast/src/"
+    # The examples of the documentation.
+    sed -i 's/^\( *\/\/\/ .*\)wat_parser::/\1wast::/' "$wast/src/parser.rs"
     # The keywords that 222.0.0 has and 263.0.0 dropped.
     sed -n 's/^+ *\(custom_keyword!.*\)/\1/p' "$folder/lib-263-to-222.diff" >> "$wast/src/kw.rs"
     sed -i "s|^\[features\]|[dependencies.wat-lex]\npath = \"$project/rust/wat-lex\"\n\n[features]|" "$wast/Cargo.toml"
@@ -92,7 +94,10 @@ plays() {
     cp -r tools/under_wast/plays/. "$at/"
     sed -i "s|\"WAST\"|\"$work/$1/wast\"|; s|\"WAT_PARSER\"|\"$project/rust/wat-parser\"|" "$at/Cargo.toml"
     (cd "$at" && cargo build --offline --release --quiet)
-    say "$*: $("$at/target/release/plays" "$mutants" "${@:2}")"
+    local answer status=0
+    answer=$("$at/target/release/plays" "$mutants" "${@:2}") || status=$?
+    say "$*: $answer"
+    return "$status"
 }
 
 unpack theirs

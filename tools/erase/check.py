@@ -41,7 +41,7 @@ WRITTEN = [
     (".to_string(alloc)", ".to_string_in(alloc)"),
     (".repeat(run.alloc(),", ".repeat_in(run.alloc(),"),
     (".kind.clone()?", ".kind.clone()"),
-    ("pub(crate) offset: usize", "pub offset: usize"),
+    ("pub(crate) offset: usize", "#[doc(hidden)] pub offset: usize"),
     ("println!(rt;", "try_println!(rt;"),
     ("eprintln!(rt;", "try_eprintln!(rt;"),
     ("fn main(rt:", "pub fn main(rt:"),

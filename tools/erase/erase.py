@@ -70,7 +70,7 @@ WRITTEN = {
     # Who calls from C owes what Rattle's compiler has as proved.
     "let text = unsafe { str::from_utf8_unchecked(text) };": "// SAFETY: rule 2 of wat.h.\nlet text = unsafe { str::from_utf8_unchecked(text) };",
     # The syntax trees of `wast` write a `Span` by its field.
-    "pub(crate) offset: usize": "pub offset: usize",
+    "pub(crate) offset: usize": "#[doc(hidden)]\npub offset: usize",
     # The roots of all other paths; those of the other crates are `path_of`.
     "std::": "STD::",
     "crate::": "SELF::",

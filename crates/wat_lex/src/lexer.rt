@@ -229,6 +229,7 @@ impl<'a> Lexer<'a> {
 
     /// The annotation's token at any position, or the error of the fault there, where the byte
     /// there is `@`; None where it is not, and where a token of another kind stands there.
+    #[inline]
     pub fn annotation(&self, alloc: Global, pos: usize) -> Result<Option<Token>, Error>
         ensures found { AnnotationAt self.now pos result }
         ensures reader { IfOk result (λ found. IfSome found (IsTokenOf self.now.text)) }

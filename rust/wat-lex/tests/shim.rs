@@ -262,13 +262,20 @@ fn a_map_is_as_it_was_where_a_pair_is_refused() {
 
 #[test]
 fn a_map_answers_as_that_of_rust() {
+    for keys in [3, 12, 200] {
+        compare_maps(keys);
+    }
+}
+
+/// Changes maps at random, by so many keys.
+fn compare_maps(keys: u64) {
     let (mut ours, mut theirs) = (BTreeMap::new(Global), StdMap::new());
     let mut random = 1u64;
     for step in 0..20_000u64 {
         random = random
             .wrapping_mul(6_364_136_223_846_793_005)
             .wrapping_add(1);
-        let key = (random >> 40) % 200;
+        let key = (random >> 40) % keys;
         match random >> 33 & 3 {
             0 => assert_eq!(ours.remove(&key), theirs.remove(&key)),
             1 => assert_eq!(ours.get_mut(&key), theirs.get_mut(&key)),

@@ -1,8 +1,11 @@
 //! Parsers for formats that look like the WebAssembly text format, with the names of the lowest layer of the crate `wast`.
 //!
-//! What answers is a program that is proved to meet its contracts: the module [`proved`], whose text a tool made of the program's. This crate
-//! is a thin layer over it, small, tested, and not proved. It gives the proved parser the calls of `wast`, which are never refused memory and
-//! share one parser among all copies of it. Who can do without them can use [`proved`] itself.
+//! A type of one's own implements [`Parse`](parser::Parse), and [`Peek`](parser::Peek) where it is told from others by its first token;
+//! [`parser::parse`] reads a text as a value of it. The types of [`token`] and the macros [`custom_keyword!`], [`custom_reserved!`] and
+//! [`annotation!`](macro@annotation) are what they are made of.
+//!
+//! What they answer is proved: this crate is a thin layer over the module [`proved`], whose text is proved to meet its contracts. The layer is
+//! tested, and not proved. Who implements [`proved::parser::Parse`] does without it.
 //!
 //! ```
 //! use wat_parser::parser::{self, Parse, ParseBuffer, Parser, Result};
@@ -75,6 +78,8 @@
 //!
 //! What is shown goes by the names that are registered at the look. In `wast` a token that was shown when the parser last moved stays shown;
 //! [`ParseBuffer::keep_shown`](parser::ParseBuffer::keep_shown) sets that for a buffer.
+//!
+//! The crate is `no_std` with `alloc`. The feature `std`, which is on unless it is turned off, has the module [`gensym`] and `Error::set_path`.
 #![no_std]
 #![warn(missing_docs)]
 #![forbid(unsafe_code)]
@@ -94,18 +99,75 @@ pub mod gensym;
 pub mod kw;
 pub mod lexer;
 pub mod parser;
+/// The proved text, and its contracts.
+///
+/// It is made of a program in Rattle, which is Rust with contracts: what is for the prover is taken away, and the contract of each function is
+/// kept as a section *Proved* of its documentation. [`wat_lex::proved`] says how one is read. The words, as `shown`, are defined in the folder
+/// `crates/wat_lexer_parser/specs` of the repository.
+///
+/// Its [`Parse`](proved::parser::Parse) takes a parser that is not copied, and a refused request for memory is an error. Who implements it runs
+/// proved text down to the bytes, and the type may be proved too, by Rattle:
+///
+/// ```
+/// use wat_parser::proved::Error;
+/// use wat_parser::proved::parser::{self, Parse, ParseBuffer, Parser};
+/// use wat_parser::proved::token::{Id, Keyword, Parens, Word};
+/// use wat_parser::shim::alloc::Global;
+/// use wat_parser::shim::vec::Vec;
+///
+/// /// The word of a keyword.
+/// struct RoadWord;
+///
+/// impl Word for RoadWord {
+///     const AT: bool = false;
+///
+///     fn word() -> &'static str {
+///         "road"
+///     }
+///
+///     fn display() -> &'static str {
+///         "`road`"
+///     }
+/// }
+///
+/// // road $name length..
+/// struct Road<'a> {
+///     name: Id<'a>,
+///     lengths: Vec<u32>,
+/// }
+///
+/// impl<'a> Parse<'a> for Road<'a> {
+///     fn parse(parser: &mut Parser<'a>) -> Result<Self, Error> {
+///         parser.parse::<Keyword<RoadWord>>()?;
+///         let name = parser.parse()?;
+///         let mut lengths = Vec::new(parser.alloc());
+///         while !parser.is_empty() {
+///             lengths.push(parser.parse()?)?;
+///         }
+///         Ok(Road { name, lengths })
+///     }
+/// }
+///
+/// let buffer = ParseBuffer::new(Global, "(road $a1 0x10 (; and ;) 17)")?;
+/// let road = parser::parse::<Parens<Road>>(&buffer)?.inner;
+/// assert_eq!(road.name.name(), "a1");
+/// assert_eq!(*road.lengths, [16, 17]);
+/// # Ok::<(), Error>(())
+/// ```
 // Proofs name loops, contracts speak of parameters and fields that the code leaves alone, and each file imports the shim's names, of which it
 // may need none. Types of words are named as the words are. Clippy's advice on style is for text that is written in Rust.
-#[allow(dead_code, missing_docs, non_camel_case_types)]
+#[allow(dead_code, non_camel_case_types)]
 #[allow(unused_imports, unused_labels, unused_variables)]
 #[allow(clippy::style, clippy::complexity)]
 pub mod proved;
 pub mod token;
-#[allow(missing_docs, unused_imports)]
+#[allow(unused_imports)]
 #[allow(clippy::style, clippy::complexity)]
 pub mod words;
 
 pub use error::Error;
+#[doc(no_inline)]
+pub use wat_lex::shim;
 
 /// The examples of the README, as tests.
 #[cfg(doctest)]

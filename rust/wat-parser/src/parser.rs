@@ -17,14 +17,14 @@ use crate::proved;
 use crate::proved::parser::names::{Names, RegisterError};
 use crate::proved::parser::table_ref::TableRef;
 use crate::token::Span;
-use alloc::borrow::Cow;
 use alloc::boxed::Box;
-use alloc::string::ToString;
 use core::cell::{Cell, RefCell};
 use core::fmt;
 use strings::Strings;
 use wat_lex::TokenKind;
-use wat_lex::shim::alloc::{Global, granted};
+use wat_lex::shim::alloc::{AllocError, Global, granted};
+use wat_lex::shim::borrow::{CowSlice, CowStr};
+use wat_lex::shim::string::ToStringIn;
 
 /// How many groups may be open where [`Parser::depth_check`] is called.
 pub const MAX_PARENS_DEPTH: usize = proved::parser::MAX_PARENS_DEPTH;
@@ -159,33 +159,30 @@ pub struct ParseBuffer<'a> {
     strings: Strings,
 }
 
-/// How far a parser or a cursor has come.
+/// How far a parser or a cursor has come: in the low half how many raw tokens are before it, white space and comments among them; in the high
+/// half the number of the token that is shown there, or [`UNKNOWN`].
+// One word: of two halves that were written apart a processor can't read the whole at once.
 #[derive(Clone, Copy)]
-struct Position {
-    /// How many raw tokens are before it, white space and comments among them.
-    place: u32,
-    /// One more than the number of the token that is shown there, or 0 where that is not known.
-    next: u32,
-}
+struct Position(u64);
+
+/// No token's number, as a text has fewer than 2^32 bytes.
+const UNKNOWN: u64 = u32::MAX as u64;
 
 impl Position {
-    /// A text has fewer than 2^32 bytes, and so tokens.
     #[inline(always)]
     fn new(place: usize, next: Option<usize>) -> Position {
-        Position {
-            place: place as u32,
-            next: next.map_or(0, |next| next as u32 + 1),
-        }
+        let next = next.map_or(UNKNOWN, |next| next as u64);
+        Position(place as u64 | next << 32)
     }
 
     #[inline(always)]
     fn place(self) -> usize {
-        self.place as usize
+        self.0 as u32 as usize
     }
 
     #[inline(always)]
-    fn next(self) -> Option<usize> {
-        (self.next as usize).checked_sub(1)
+    fn next(self) -> usize {
+        (self.0 >> 32) as usize
     }
 }
 
@@ -236,33 +233,14 @@ impl<'a> ParseBuffer<'a> {
         self.proved.table_ref()
     }
 
-    /// The position at a place, with the token that is shown there where that goes by no name.
+    /// The position at a place, with the token that is shown there whatever names are registered, where there is one.
     #[inline(always)]
     fn position_at(&self, place: usize) -> Position {
-        Position::new(place, self.plain_at(place).or_else(|| self.kept_at(place)))
+        let plain = self.table().plain_at(place);
+        Position::new(place, plain.or_else(|| self.kept_at(place)))
     }
 
-    /// The number of the token that is shown at a place, where it is the same whatever names are registered.
-    #[inline(always)]
-    fn plain_at(&self, place: usize) -> Option<usize> {
-        let table = self.table();
-        let mut number = place;
-        while let Some(token) = table.token_at(number) {
-            match token.kind {
-                TokenKind::Whitespace | TokenKind::LineComment | TokenKind::BlockComment => {
-                    number += 1;
-                }
-                TokenKind::LParen => {
-                    let next = table.token_at(number + 1)?;
-                    return (!matches!(next.kind, TokenKind::Annotation)).then_some(number);
-                }
-                _ => return Some(number),
-            }
-        }
-        None
-    }
-
-    /// The number of the token that is shown at a place, where that is kept.
+    /// The number of the token that is shown at a place by the names that are registered, where that is to stay so.
     #[cold]
     #[inline(never)]
     fn kept_at(&self, place: usize) -> Option<usize> {
@@ -288,6 +266,7 @@ pub struct Parser<'a> {
 
 impl<'a> Parser<'a> {
     /// Whether the group that the parser is in, or the text, has no more tokens. False where a fault is shown.
+    #[inline]
     pub fn is_empty(self) -> bool {
         match self.cursor().shown() {
             Ok(Some((token, _))) => matches!(token.kind, TokenKind::RParen),
@@ -531,19 +510,19 @@ impl<'a> Parser<'a> {
 
     /// What was read, kept as long as the buffer where it is owned.
     #[inline]
-    pub(crate) fn keep(self, bytes: Cow<'a, [u8]>) -> &'a [u8] {
+    pub(crate) fn keep(self, bytes: CowSlice<'a, u8>) -> Result<&'a [u8]> {
         match bytes {
-            Cow::Borrowed(bytes) => bytes,
-            Cow::Owned(bytes) => self.buffer.strings.keep(bytes),
+            CowSlice::Borrowed(bytes) => Ok(bytes),
+            CowSlice::Owned(bytes) => unless_refused(self.buffer.strings.keep(bytes)),
         }
     }
 
     /// [`keep`](Parser::keep) of a text.
     #[inline]
-    pub(crate) fn keep_text(self, text: Cow<'a, str>) -> &'a str {
+    pub(crate) fn keep_text(self, text: CowStr<'a>) -> Result<&'a str> {
         match text {
-            Cow::Borrowed(text) => text,
-            Cow::Owned(text) => self.buffer.strings.keep_text(text),
+            CowStr::Borrowed(text) => Ok(text),
+            CowStr::Owned(text) => unless_refused(self.buffer.strings.keep_text(text)),
         }
     }
 
@@ -584,8 +563,10 @@ impl<'a> Parser<'a> {
     /// An error at a place of the text.
     #[cold]
     pub fn error_at(self, span: Span, message: impl fmt::Display) -> Error {
-        let table = self.buffer.table();
-        table.error_at(span, &message.to_string()).into()
+        match message.to_string_in(Global) {
+            Ok(message) => self.buffer.table().error_at(span, &message).into(),
+            Err(refused) => proved::Error::from(refused).into(),
+        }
     }
 
     /// Where the token that is shown begins: the text's end where none is left, and the end of what was taken where a fault is shown.
@@ -683,6 +664,12 @@ impl<'a> Parser<'a> {
         .map(|name| self.register_annotation(name));
         inside(self)
     }
+}
+
+/// What was asked for, or an out-of-memory error.
+#[inline(always)]
+pub(crate) fn unless_refused<T>(asked: Result<T, AllocError>) -> Result<T> {
+    asked.map_err(|refused| proved::Error::from(refused).into())
 }
 
 /// A name that is registered until this is dropped.

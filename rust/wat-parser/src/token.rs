@@ -7,12 +7,12 @@ pub use wat_lex::Span;
 
 use crate::annotation;
 use crate::parser::{Cursor, Parse, Parser, Peek, Result};
+use crate::proved::token::integers::{signed_value, unsigned_value};
 use alloc::borrow::ToOwned;
 use alloc::string::String;
 use core::fmt;
 use core::hash::{Hash, Hasher};
 use core::str;
-use wat_lex::{IntegerKind, SignToken};
 
 /// An identifier: `$` and a name in a text, or one that [`gensym`](crate::gensym) made.
 ///
@@ -87,6 +87,7 @@ impl<'a> Parse<'a> for Id<'a> {
 }
 
 impl Peek for Id<'_> {
+    #[inline]
     fn peek(cursor: Cursor<'_>) -> Result<bool> {
         cursor.peek_id()
     }
@@ -163,6 +164,7 @@ impl<'a> Parse<'a> for Index<'a> {
 }
 
 impl Peek for Index<'_> {
+    #[inline]
     fn peek(cursor: Cursor<'_>) -> Result<bool> {
         Ok(cursor.peek_integer()? || cursor.peek_id()?)
     }
@@ -194,6 +196,7 @@ impl<'a, K: Parse<'a>> Parse<'a> for ItemRef<'a, K> {
 
 /// Seen by its `(` and the keyword.
 impl<K: Peek> Peek for ItemRef<'_, K> {
+    #[inline]
     fn peek(cursor: Cursor<'_>) -> Result<bool> {
         match cursor.lparen()? {
             Some(inside) => K::peek(inside),
@@ -233,16 +236,15 @@ impl<'a> Parse<'a> for Option<NameAnnotation<'a>> {
 }
 
 macro_rules! integers {
-    ($($integer:ident is_signed: $is_signed:literal,)*) => {
-        $(
+    ($($value:ident: $($integer:ident $bound:expr),*;)*) => {
+        $($(
             impl<'a> Parse<'a> for ($integer, Span) {
                 fn parse(parser: Parser<'a>) -> Result<Self> {
                     parser.step(|cursor| {
                         let Some(((token, kind), rest)) = cursor.integer_token()? else {
                             return Err(cursor.error(concat!("expected a ", stringify!($integer))));
                         };
-                        let magnitude = token.magnitude(cursor.text(), kind);
-                        match value_of(magnitude, kind, $integer::BITS, $is_signed) {
+                        match $value(cursor.text(), &token, kind, $bound) {
                             Some(value) => {
                                 let span = Span::from_offset(token.offset);
                                 Ok(((value as $integer, span), rest))
@@ -258,6 +260,7 @@ macro_rules! integers {
             }
 
             impl<'a> Parse<'a> for $integer {
+                #[inline]
                 fn parse(parser: Parser<'a>) -> Result<Self> {
                     let (value, _) = parser.parse::<($integer, Span)>()?;
                     Ok(value)
@@ -265,7 +268,8 @@ macro_rules! integers {
             }
 
             impl Peek for $integer {
-                fn peek(cursor: Cursor<'_>) -> Result<bool> {
+                #[inline]
+    fn peek(cursor: Cursor<'_>) -> Result<bool> {
                     cursor.peek_integer()
                 }
 
@@ -273,31 +277,14 @@ macro_rules! integers {
                     stringify!($integer)
                 }
             }
-        )*
+        )*)*
     };
 }
 
+// Each with its greatest value, or for one with a sign with how many values of each sign it has.
 integers! {
-    u8 is_signed: false,
-    u16 is_signed: false,
-    u32 is_signed: false,
-    u64 is_signed: false,
-    i8 is_signed: true,
-    i16 is_signed: true,
-    i32 is_signed: true,
-    i64 is_signed: true,
-}
-
-/// An integer as two's complement of so many bits, or None where it is out of range. A signed type takes what fits the unsigned one too; an
-/// unsigned type takes no `-`, not even that of `-0`.
-#[inline(always)]
-fn value_of(magnitude: Option<u64>, kind: IntegerKind, bits: u32, is_signed: bool) -> Option<u64> {
-    let (magnitude, most) = (magnitude?, u64::MAX >> (64 - bits));
-    if kind.sign() == Some(SignToken::Minus) {
-        let fits = is_signed && magnitude <= most / 2 + 1;
-        return fits.then_some(magnitude.wrapping_neg());
-    }
-    (magnitude <= most).then_some(magnitude)
+    unsigned_value: u8 u8::MAX.into(), u16 u16::MAX.into(), u32 u32::MAX.into(), u64 u64::MAX;
+    signed_value: i8 1 << 7, i16 1 << 15, i32 1 << 31, i64 1 << 63;
 }
 
 /// A string of any bytes.
@@ -311,6 +298,7 @@ impl<'a> Parse<'a> for &'a [u8] {
 }
 
 impl Peek for &[u8] {
+    #[inline]
     fn peek(cursor: Cursor<'_>) -> Result<bool> {
         cursor.peek_string()
     }
@@ -330,6 +318,7 @@ impl<'a> Parse<'a> for &'a str {
 }
 
 impl Peek for &str {
+    #[inline]
     fn peek(cursor: Cursor<'_>) -> Result<bool> {
         cursor.peek_string()
     }
@@ -352,6 +341,7 @@ pub struct LParen {
 }
 
 impl Peek for LParen {
+    #[inline]
     fn peek(cursor: Cursor<'_>) -> Result<bool> {
         cursor.peek_lparen()
     }
@@ -368,6 +358,7 @@ pub struct RParen {
 }
 
 impl Peek for RParen {
+    #[inline]
     fn peek(cursor: Cursor<'_>) -> Result<bool> {
         cursor.peek_rparen()
     }

@@ -451,8 +451,7 @@ fn buffers() {
 fn a_text_of_4_gib_is_refused() {
     let text = String::from_utf8(vec![0; 1 << 32]).unwrap();
     let message = "the text has more than 4294967295 bytes";
-    let mut error = ParseBuffer::new(&text).unwrap_err();
-    error.set_text(&text);
+    let error = ParseBuffer::new(&text).unwrap_err();
     assert_eq!(error.to_string(), format!("{message} at byte offset 0"));
     let lexer = Lexer::new(&text);
     assert_eq!(lexer.parse(&mut 0).unwrap_err().message(), message);
@@ -460,12 +459,12 @@ fn a_text_of_4_gib_is_refused() {
     assert_eq!(Span::from_offset(1 << 31).linecol_in(&text), (0, 1 << 31));
 }
 
+/// A buffer can be made on one thread and read on another.
 #[test]
-#[ignore = "needs a limit of about 1 GiB of memory"]
-fn refused_memory_is_an_error() {
-    let text = String::from_utf8(vec![0; 1 << 29]).unwrap();
-    let error = ParseBuffer::new(&text).unwrap_err();
-    assert_eq!(error.to_string(), "out of memory at byte offset 0");
+fn a_buffer_is_sent() {
+    let buffer = ParseBuffer::new("(@\"\\61\") \"a\\62\"").unwrap();
+    let read = std::thread::spawn(move || parser::parse::<&str>(&buffer).unwrap().to_owned());
+    assert_eq!(read.join().unwrap(), "ab");
 }
 
 /// A buffer lends a shorter life than its text's.

@@ -45,6 +45,7 @@ fn empty_name(kind: TokenKind) -> LexError
 
 impl Token {
     /// The token's text, which is a word of its kind.
+    #[inline]
     pub fn src<'a>(&self, s: &'a str) -> &'a str
         requires { IsTokenOf s.now self.now }
         ensures text { result.now ≡ token_text s.now self.now }
@@ -55,6 +56,7 @@ impl Token {
     }
 
     /// The text of a keyword.
+    #[inline]
     pub fn keyword<'a>(&self, s: &'a str) -> &'a str
         requires token { IsTokenOf s.now self.now }
         requires kind { self.now.kind ≡ Keyword }
@@ -64,6 +66,7 @@ impl Token {
     }
 
     /// The text of a reserved token.
+    #[inline]
     pub fn reserved<'a>(&self, s: &'a str) -> &'a str
         requires token { IsTokenOf s.now self.now }
         requires kind { self.now.kind ≡ Reserved }

@@ -254,6 +254,7 @@ impl<'a> Lexer<'a> {
     /// ensures found { AnnotationAt self.now pos result }
     /// ensures reader { IfOk result (λ found. IfSome found (IsTokenOf self.now.text)) }
     /// ```
+    #[inline]
     pub fn annotation(&self, alloc: Global, pos: usize) -> Result<Option<Token>, Error> {
         if self.input().as_bytes().get(pos) != Some(&b'@') {
             return Ok(None);

@@ -16,6 +16,7 @@ pub use lines::LineIndex;
 /// A place in a text, as an offset in bytes.
 #[derive(Copy, Clone, Debug, PartialOrd, Ord, PartialEq, Eq, Hash)]
 pub struct Span {
+    #[doc(hidden)]
     pub offset: usize,
 }
 

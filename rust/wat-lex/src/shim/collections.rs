@@ -10,6 +10,9 @@ pub struct BTreeMap<K, V> {
     pairs: Vec<(K, V)>,
 }
 
+/// How many pairs are looked through one after the other.
+const FEW: usize = 8;
+
 impl<K: Ord, V> BTreeMap<K, V> {
     /// A map of no pairs. It takes no memory.
     pub const fn new(alloc: Global) -> BTreeMap<K, V> {
@@ -36,12 +39,27 @@ impl<K: Ord, V> BTreeMap<K, V> {
             .binary_search_by(|(other, _)| other.borrow().cmp(key))
     }
 
+    /// The place of a key that is there.
+    fn find<Q: Ord + ?Sized>(&self, key: &Q) -> Option<usize>
+    where
+        K: Borrow<Q>,
+    {
+        // Texts of other lengths differ at once.
+        if self.pairs.len() <= FEW {
+            return self
+                .pairs
+                .iter()
+                .position(|(other, _)| other.borrow() == key);
+        }
+        self.place(key).ok()
+    }
+
     /// The value of a key.
     pub fn get<Q: Ord + ?Sized>(&self, key: &Q) -> Option<&V>
     where
         K: Borrow<Q>,
     {
-        let place = self.place(key).ok()?;
+        let place = self.find(key)?;
         Some(&self.pairs[place].1)
     }
 
@@ -50,7 +68,7 @@ impl<K: Ord, V> BTreeMap<K, V> {
     where
         K: Borrow<Q>,
     {
-        let place = self.place(key).ok()?;
+        let place = self.find(key)?;
         Some(&mut self.pairs[place].1)
     }
 
@@ -70,7 +88,7 @@ impl<K: Ord, V> BTreeMap<K, V> {
     where
         K: Borrow<Q>,
     {
-        let place = self.place(key).ok()?;
+        let place = self.find(key)?;
         Some(self.pairs.remove(place).1)
     }
 }

@@ -1,11 +1,11 @@
-use super::{Parser, Position, Result};
+use super::{Parser, Position, Result, unless_refused};
 use crate::Error;
 use crate::lexer::{Float, Integer};
 use crate::proved::lexer::Token;
 use crate::proved::parser::table_ref::TableRef;
 use crate::token::Span;
 use core::fmt;
-use wat_lex::shim::alloc::{Global, granted};
+use wat_lex::shim::alloc::Global;
 use wat_lex::{IntegerKind, TokenKind};
 
 /// A place of a parser that moves without it. [`Parser::step`] gives one, and moves the parser to the one that it is answered.
@@ -46,17 +46,16 @@ impl<'a> Cursor<'a> {
         self.table().text()
     }
 
-    /// The token that is shown, and the place after it.
+    /// The token that is shown, and its number.
     #[inline(always)]
     pub(super) fn shown(&self) -> Result<Option<(Token, usize)>> {
-        let next = match self.position.next() {
-            Some(next) => next,
-            None => match self.look()? {
-                Some(next) => next,
-                None => return Ok(None),
-            },
-        };
-        Ok(Some(self.table().numbered(next)))
+        let table = self.table();
+        let number = self.position.next();
+        if let Some(token) = table.token_at(number) {
+            return Ok(Some((token, number)));
+        }
+        let shown = self.look()?;
+        Ok(shown.and_then(|number| Some((table.token_at(number)?, number))))
     }
 
     /// The number of the token that is shown.
@@ -77,12 +76,13 @@ impl<'a> Cursor<'a> {
     }
 
     /// What the function makes of the token that is shown, with the cursor after it; None where it makes nothing of it.
+    // The token is the table's, and the function looks at its kind: that is what the proved readers require.
     #[inline(always)]
     fn take<T>(self, of: impl FnOnce(Token) -> Option<T>) -> Result<Option<(T, Self)>> {
-        let Some((token, place)) = self.shown()? else {
+        let Some((token, number)) = self.shown()? else {
             return Ok(None);
         };
-        Ok(of(token).map(|taken| (taken, self.moved(place))))
+        Ok(of(token).map(|taken| (taken, self.moved(number + 1))))
     }
 
     #[inline(always)]
@@ -116,7 +116,7 @@ impl<'a> Cursor<'a> {
 
     /// Whether this keyword is shown.
     #[doc(hidden)]
-    #[inline]
+    #[inline(always)]
     pub fn is_keyword(self, word: &str) -> Result<bool> {
         let shown = self.shown()?;
         Ok(shown.is_some_and(|(token, _)| is_keyword(self.text(), token, word)))
@@ -130,8 +130,20 @@ impl<'a> Cursor<'a> {
 
     /// Whether an annotation of this name is shown.
     #[doc(hidden)]
+    #[inline]
     pub fn is_annotation(self, name: &str) -> Result<bool> {
-        Ok(self.annotation()?.is_some_and(|(shown, _)| shown == name))
+        match self.shown()? {
+            Some((token, _)) if matches!(token.kind, TokenKind::Annotation) => {
+                self.is_named(token, name)
+            }
+            _ => Ok(false),
+        }
+    }
+
+    // It stays a call, as `name`, so that what most callers find is found at once.
+    #[inline(never)]
+    fn is_named(&self, token: Token, name: &str) -> Result<bool> {
+        Ok(self.name(token)? == name)
     }
 
     /// Where the token that is shown begins: the text's end where none is left, and the end of what was taken where a fault is shown.
@@ -155,6 +167,7 @@ impl<'a> Cursor<'a> {
     /// # Errors
     ///
     /// Where a fault is shown, as for each look and each taking.
+    #[inline]
     pub fn peek_lparen(self) -> Result<bool> {
         self.sees(|kind| matches!(kind, TokenKind::LParen))
     }
@@ -164,6 +177,7 @@ impl<'a> Cursor<'a> {
     /// # Errors
     ///
     /// Where a fault is shown.
+    #[inline]
     pub fn peek_rparen(self) -> Result<bool> {
         self.sees(|kind| matches!(kind, TokenKind::RParen))
     }
@@ -173,6 +187,7 @@ impl<'a> Cursor<'a> {
     /// # Errors
     ///
     /// Where a fault is shown.
+    #[inline]
     pub fn peek_id(self) -> Result<bool> {
         self.sees(|kind| matches!(kind, TokenKind::Id))
     }
@@ -182,6 +197,7 @@ impl<'a> Cursor<'a> {
     /// # Errors
     ///
     /// Where a fault is shown.
+    #[inline]
     pub fn peek_reserved(self) -> Result<bool> {
         self.sees(|kind| matches!(kind, TokenKind::Reserved))
     }
@@ -191,6 +207,7 @@ impl<'a> Cursor<'a> {
     /// # Errors
     ///
     /// Where a fault is shown.
+    #[inline]
     pub fn peek_keyword(self) -> Result<bool> {
         self.sees(|kind| matches!(kind, TokenKind::Keyword))
     }
@@ -200,6 +217,7 @@ impl<'a> Cursor<'a> {
     /// # Errors
     ///
     /// Where a fault is shown.
+    #[inline]
     pub fn peek_integer(self) -> Result<bool> {
         self.sees(|kind| matches!(kind, TokenKind::Integer(_)))
     }
@@ -209,6 +227,7 @@ impl<'a> Cursor<'a> {
     /// # Errors
     ///
     /// Where a fault is shown.
+    #[inline]
     pub fn peek_float(self) -> Result<bool> {
         self.sees(|kind| matches!(kind, TokenKind::Float(_)))
     }
@@ -218,6 +237,7 @@ impl<'a> Cursor<'a> {
     /// # Errors
     ///
     /// Where a fault is shown.
+    #[inline]
     pub fn peek_string(self) -> Result<bool> {
         self.sees(|kind| matches!(kind, TokenKind::String))
     }
@@ -249,13 +269,9 @@ impl<'a> Cursor<'a> {
     /// # Errors
     ///
     /// Where a fault is shown, or the identifier's name is empty or not UTF-8.
+    #[inline]
     pub fn id(self) -> Result<Option<(&'a str, Self)>> {
-        let taken = self.take(|token| matches!(token.kind, TokenKind::Id).then_some(token))?;
-        let Some((token, rest)) = taken else {
-            return Ok(None);
-        };
-        let name = token.id(Global, self.text())?;
-        Ok(Some((self.parser.keep_text(name.into()), rest)))
+        self.take_name(|kind| matches!(kind, TokenKind::Id))
     }
 
     /// Takes a keyword.
@@ -274,14 +290,27 @@ impl<'a> Cursor<'a> {
     /// # Errors
     ///
     /// Where a fault is shown, or the annotation's name is empty or not UTF-8.
+    #[inline]
     pub fn annotation(self) -> Result<Option<(&'a str, Self)>> {
-        let taken =
-            self.take(|token| matches!(token.kind, TokenKind::Annotation).then_some(token))?;
-        let Some((token, rest)) = taken else {
-            return Ok(None);
+        self.take_name(|kind| matches!(kind, TokenKind::Annotation))
+    }
+
+    #[inline(always)]
+    fn take_name(self, is: impl FnOnce(TokenKind) -> bool) -> Result<Option<(&'a str, Self)>> {
+        match self.take(|token| is(token.kind).then_some(token))? {
+            Some((token, rest)) => Ok(Some((self.name(token)?, rest))),
+            None => Ok(None),
+        }
+    }
+
+    /// The name of an identifier or an annotation.
+    #[inline(never)]
+    fn name(&self, token: Token) -> Result<&'a str> {
+        let name = match token.kind {
+            TokenKind::Id => token.id(Global, self.text())?,
+            _ => token.annotation(Global, self.text())?,
         };
-        let name = token.annotation(Global, self.text())?;
-        Ok(Some((self.parser.keep_text(name.into()), rest)))
+        self.parser.keep_text(name)
     }
 
     /// Takes a reserved token.
@@ -300,9 +329,11 @@ impl<'a> Cursor<'a> {
     ///
     /// Where a fault is shown.
     pub fn integer(self) -> Result<Option<(Integer<'a>, Self)>> {
-        let taken = self.integer_token()?;
-        Ok(taken
-            .map(|((token, kind), rest)| (granted(token.integer(Global, self.text(), kind)), rest)))
+        let Some(((token, kind), rest)) = self.integer_token()? else {
+            return Ok(None);
+        };
+        let integer = unless_refused(token.integer(Global, self.text(), kind))?;
+        Ok(Some((integer, rest)))
     }
 
     /// Takes a floating-point number, in its parts.
@@ -311,11 +342,15 @@ impl<'a> Cursor<'a> {
     ///
     /// Where a fault is shown.
     pub fn float(self) -> Result<Option<(Float<'a>, Self)>> {
-        let text = self.text();
-        self.take(|token| match token.kind {
-            TokenKind::Float(kind) => Some(granted(token.float(Global, text, kind)).into()),
+        let taken = self.take(|token| match token.kind {
+            TokenKind::Float(kind) => Some((token, kind)),
             _ => None,
-        })
+        })?;
+        let Some(((token, kind), rest)) = taken else {
+            return Ok(None);
+        };
+        let float = unless_refused(token.float(Global, self.text(), kind))?;
+        Ok(Some((float.into(), rest)))
     }
 
     /// Takes a string, as its bytes.
@@ -324,14 +359,12 @@ impl<'a> Cursor<'a> {
     ///
     /// Where a fault is shown.
     pub fn string(self) -> Result<Option<(&'a [u8], Self)>> {
-        let text = self.text();
-        self.take(|token| match token.kind {
-            TokenKind::String => {
-                let bytes = granted(token.string(Global, text));
-                Some(self.parser.keep(bytes.into()))
-            }
-            _ => None,
-        })
+        let taken = self.take(|token| matches!(token.kind, TokenKind::String).then_some(token))?;
+        let Some((token, rest)) = taken else {
+            return Ok(None);
+        };
+        let bytes = unless_refused(token.string(Global, self.text()))?;
+        Ok(Some((self.parser.keep(bytes)?, rest)))
     }
 
     /// Takes a comment that comes directly after what was taken, or after white space there.

@@ -1,21 +1,21 @@
 use super::{Parser, Peek, Result};
-use crate::Error;
-use alloc::format;
-use alloc::string::ToString;
-use alloc::vec::Vec;
+use crate::{Error, proved};
+use core::fmt;
+use wat_lex::shim::alloc::Global;
+use wat_lex::shim::smallvec::SmallVec;
 
 /// A series of looks at one token, with an error that names each type that was looked for and not seen.
 #[derive(Debug)]
 pub struct Lookahead1<'a> {
     parser: Parser<'a>,
-    attempts: Vec<&'static str>,
+    attempts: SmallVec<&'static str, 8>,
 }
 
 impl<'a> Lookahead1<'a> {
     pub(super) fn new(parser: Parser<'a>) -> Lookahead1<'a> {
         Lookahead1 {
             parser,
-            attempts: Vec::new(),
+            attempts: SmallVec::new(Global),
         }
     }
 
@@ -25,11 +25,13 @@ impl<'a> Lookahead1<'a> {
     ///
     /// Where a fault is shown.
     pub fn peek<T: Peek>(&mut self) -> Result<bool> {
-        let seen = self.parser.peek::<T>()?;
-        if !seen {
-            self.attempts.push(T::display());
+        if self.parser.peek::<T>()? {
+            return Ok(true);
         }
-        Ok(seen)
+        match self.attempts.push(T::display()) {
+            Ok(()) => Ok(false),
+            Err(refused) => Err(proved::Error::from(refused).into()),
+        }
     }
 
     /// The parser that is looked at.
@@ -39,13 +41,24 @@ impl<'a> Lookahead1<'a> {
 
     /// The error that none of the types is there.
     pub fn error(self) -> Error {
-        let found = match self.attempts[..] {
-            [] if self.parser.is_empty() => "unexpected end of input".to_string(),
-            [] => "unexpected token".to_string(),
-            [only] => format!("unexpected token, expected {only}"),
-            [first, second] => format!("unexpected token, expected {first} or {second}"),
-            ref all => format!("unexpected token, expected one of: {}", all.join(", ")),
-        };
-        self.parser.error(found)
+        self.parser.error(Expected(&self))
+    }
+}
+
+/// The message of what was looked for.
+struct Expected<'l, 'a>(&'l Lookahead1<'a>);
+
+impl fmt::Display for Expected<'_, '_> {
+    fn fmt(&self, f: &mut fmt::Formatter<'_>) -> fmt::Result {
+        match self.0.attempts.as_slice() {
+            [] if self.0.parser.is_empty() => f.write_str("unexpected end of input"),
+            [] => f.write_str("unexpected token"),
+            [only] => write!(f, "unexpected token, expected {only}"),
+            [first, second] => write!(f, "unexpected token, expected {first} or {second}"),
+            [first, others @ ..] => {
+                write!(f, "unexpected token, expected one of: {first}")?;
+                others.iter().try_for_each(|other| write!(f, ", {other}"))
+            }
+        }
     }
 }

@@ -1,8 +1,9 @@
 use alloc::boxed::Box;
-use alloc::string::String;
 use alloc::vec::Vec;
 use core::cell::{Cell, OnceCell};
-use core::str;
+use core::{iter, str};
+use wat_lex::shim;
+use wat_lex::shim::alloc::AllocError;
 
 /// Bytes that live as long as this does, added one after the other through a shared reference.
 ///
@@ -13,7 +14,7 @@ pub struct Strings {
     blocks: [OnceCell<Box<[Slot]>>; BLOCKS],
 }
 
-type Slot = OnceCell<Box<[u8]>>;
+type Slot = OnceCell<shim::vec::Vec<u8>>;
 
 /// As many blocks as there are bits in the count.
 const BLOCKS: usize = 32;
@@ -24,20 +25,31 @@ impl Strings {
     /// # Panics
     ///
     /// Where there are 4,294,967,295 already.
-    pub fn keep(&self, bytes: Vec<u8>) -> &[u8] {
+    pub fn keep(&self, bytes: shim::vec::Vec<u8>) -> Result<&[u8], AllocError> {
         let number = self.count.get() + 1;
-        self.count.set(number);
         let block = number.ilog2() as usize;
-        let slots = self.blocks[block].get_or_init(|| {
-            core::iter::repeat_with(Slot::new)
-                .take(1 << block)
-                .collect()
-        });
-        slots[number - (1 << block)].get_or_init(|| bytes.into_boxed_slice())
+        let slots = match self.blocks[block].get() {
+            Some(slots) => slots,
+            None => {
+                let slots = empty_slots(1 << block)?;
+                self.blocks[block].get_or_init(|| slots)
+            }
+        };
+        self.count.set(number);
+        Ok(slots[number - (1 << block)].get_or_init(|| bytes))
     }
 
     /// Keeps a text.
-    pub fn keep_text(&self, text: String) -> &str {
-        str::from_utf8(self.keep(text.into_bytes())).expect("a text is UTF-8")
+    pub fn keep_text(&self, text: shim::string::String) -> Result<&str, AllocError> {
+        let bytes = alloc::string::String::from(text).into_bytes();
+        let bytes = self.keep(bytes.into())?;
+        Ok(str::from_utf8(bytes).expect("a text is UTF-8"))
     }
+}
+
+fn empty_slots(count: usize) -> Result<Box<[Slot]>, AllocError> {
+    let mut slots = Vec::new();
+    slots.try_reserve_exact(count).map_err(|_| AllocError)?;
+    slots.extend(iter::repeat_with(Slot::new).take(count));
+    Ok(slots.into_boxed_slice())
 }

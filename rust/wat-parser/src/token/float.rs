@@ -1,7 +1,7 @@
 use crate::lexer::Float;
-use crate::parser::{Parse, Parser, Result};
-use alloc::borrow::ToOwned;
-use alloc::format;
+use crate::parser::{Parse, Parser, Result, unless_refused};
+use wat_lex::shim::alloc::{AllocError, Global};
+use wat_lex::shim::prelude::try_format;
 
 /// The bits of a 32-bit floating-point number.
 #[derive(Clone, Copy, Debug)]
@@ -73,30 +73,33 @@ impl Format {
             0
         }
     }
+
+    /// The payload of a NaN, where its digits are one that fits.
+    fn payload(self, digits: Option<&str>) -> Option<u64> {
+        let quiet = 1 << (self.significand - 1);
+        let payload = digits.map_or(Some(quiet), |digits| u64::from_str_radix(digits, 16).ok());
+        payload.filter(|payload| (1..1 << self.significand).contains(payload))
+    }
 }
 
 /// Reads a number. The function reads decimal digits, which Rust rounds as it must be.
-fn bits_of(
-    parser: Parser<'_>,
-    format: Format,
-    decimal: impl Fn(&str) -> Option<u64>,
-) -> Result<u64> {
+fn bits_of(parser: Parser<'_>, format: Format, decimal: fn(&str) -> Option<u64>) -> Result<u64> {
     parser.step(|cursor| {
-        let (number, rest) = if let Some((float, rest)) = cursor.float()? {
-            (float, rest)
+        let (bits, rest) = if let Some((float, rest)) = cursor.float()? {
+            (bits(&float, format, decimal), rest)
         } else if let Some((integer, rest)) = cursor.integer()? {
             let (digits, base) = integer.val();
             let float = Float::Val {
                 hex: base == 16,
-                integral: digits.to_owned().into(),
+                integral: digits.into(),
                 fractional: None,
                 exponent: None,
             };
-            (float, rest)
+            (bits(&float, format, decimal), rest)
         } else {
             return Err(cursor.error("expected a float"));
         };
-        match bits(&number, format, decimal) {
+        match unless_refused(bits)? {
             Some(bits) => Ok((bits, rest)),
             None => Err(cursor.error("invalid float value: constant out of range")),
         }
@@ -104,17 +107,16 @@ fn bits_of(
 }
 
 /// The bits of a number, or None where it is out of range.
-fn bits(number: &Float<'_>, format: Format, decimal: impl Fn(&str) -> Option<u64>) -> Option<u64> {
-    match number {
+fn bits(
+    number: &Float<'_>,
+    format: Format,
+    decimal: fn(&str) -> Option<u64>,
+) -> Result<Option<u64>, AllocError> {
+    Ok(match number {
         Float::Inf { negative } => Some(format.sign(*negative) | format.infinity()),
-        Float::Nan { negative, val } => {
-            let quiet = 1 << (format.significand - 1);
-            let payload = val
-                .as_ref()
-                .map_or(Some(quiet), |digits| u64::from_str_radix(digits, 16).ok())?;
-            let fits = (1..1 << format.significand).contains(&payload);
-            fits.then(|| format.sign(*negative) | format.infinity() | payload)
-        }
+        Float::Nan { negative, val } => format
+            .payload(val.as_deref())
+            .map(|payload| format.sign(*negative) | format.infinity() | payload),
         Float::Val {
             hex,
             integral,
@@ -124,13 +126,13 @@ fn bits(number: &Float<'_>, format: Format, decimal: impl Fn(&str) -> Option<u64
             let fractional = fractional.as_deref().unwrap_or("");
             let exponent = exponent.as_deref().unwrap_or("0");
             let bits = if *hex {
-                hexadecimal(integral, fractional, exponent, format)
+                Some(hexadecimal(integral, fractional, exponent, format))
             } else {
-                decimal(&format!("{integral}.{fractional}e{exponent}"))?
+                decimal(&try_format!(Global; "{integral}.{fractional}e{exponent}")?)
             };
-            (bits & !format.sign(true) != format.infinity()).then_some(bits)
+            bits.filter(|bits| bits & !format.sign(true) != format.infinity())
         }
-    }
+    })
 }
 
 /// The bits of `integral.fractional`, in hexadecimal digits, times 2 to the exponent.

@@ -1,6 +1,6 @@
 // The calls, once for each layer.
 
-use super::{NAMES, below, note, note_value};
+use super::{NAMES, below, note, note_cause, note_value};
 use layer::kw;
 use layer::lexer::Lexer;
 use layer::parser::{self, Cursor, Parse, ParseBuffer, Parser, Result};
@@ -38,7 +38,7 @@ fn tell<T: std::fmt::Debug>(answer: Result<T>) {
         Ok(value) => note_value(value),
         Err(error) => {
             note(format_args!("{} {}", error.span().offset(), error.message()));
-            note_value(error.lex_error());
+            note_cause(error.lex_error());
             note(error);
         }
     }

@@ -58,6 +58,13 @@ fn note_value(value: impl Debug) {
     note(format_args!("{value:?}"));
 }
 
+/// Notes a fault. Of a name that is not UTF-8 wast's says which bytes are not, and this project's does not.
+fn note_cause(cause: Option<impl Debug>) {
+    const NAME: &str = "InvalidUtf8Id";
+    let cause = format!("{cause:?}");
+    note(if cause.contains(NAME) { NAME } else { &cause });
+}
+
 fn text() -> String {
     let (count, pieces) = (
         1 + below(30),

@@ -37,6 +37,7 @@ impl Token {
     /// ensures text { result.now ≡ token_text s.now self.now }
     /// ensures word { Word self.now.kind (chars result.now) lenient }
     /// ```
+    #[inline]
     pub fn src<'a>(&self, s: &'a str) -> &'a str {
         let rest = &s[self.offset..];
         &rest[..self.len as usize]
@@ -51,6 +52,7 @@ impl Token {
     /// requires kind { self.now.kind ≡ Keyword }
     /// ensures { result.now ≡ token_text s.now self.now }
     /// ```
+    #[inline]
     pub fn keyword<'a>(&self, s: &'a str) -> &'a str {
         self.src(s)
     }
@@ -64,6 +66,7 @@ impl Token {
     /// requires kind { self.now.kind ≡ Reserved }
     /// ensures { result.now ≡ token_text s.now self.now }
     /// ```
+    #[inline]
     pub fn reserved<'a>(&self, s: &'a str) -> &'a str {
         self.src(s)
     }

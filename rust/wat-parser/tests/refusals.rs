@@ -1,0 +1,145 @@
+//! What the layer answers where a request for memory is refused: an error wherever it answers a `Result`.
+
+#[path = "../../wat-lex/tests/refusing/mod.rs"]
+mod refusing;
+
+use refusing::{granting, without_memory};
+use std::cell::RefCell;
+use wat_parser::parser::{self, Cursor, Parse, ParseBuffer, Parser, Result};
+use wat_parser::token::{F64, Id, Index, LParen};
+use wat_parser::{annotation, custom_keyword, custom_reserved, kw};
+
+custom_reserved!(arrow = "=>");
+custom_keyword!(in_line = "in-line");
+annotation!(note);
+
+type Call = for<'a> fn(Parser<'a>) -> Result<()>;
+
+thread_local! {
+    /// What a parser is asked, and what it answered with so many requests granted, of as many as it made.
+    static ASKED: RefCell<Option<(Call, usize)>> = const { RefCell::new(None) };
+    static ANSWERED: RefCell<Option<(Result<()>, usize)>> = const { RefCell::new(None) };
+}
+
+/// A type that asks the parser.
+struct Asking;
+
+impl<'a> Parse<'a> for Asking {
+    fn parse(parser: Parser<'a>) -> Result<Self> {
+        let (call, granted) = ASKED.take().expect("a call");
+        ANSWERED.set(Some(granting(granted, || call(parser))));
+        Ok(Asking)
+    }
+}
+
+/// What a call answers at the start of a text with so many requests granted, and how many it makes.
+fn asked(text: &str, call: Call, granted: usize) -> (Result<()>, usize) {
+    let buffer = ParseBuffer::new(text).unwrap();
+    ASKED.set(Some((call, granted)));
+    // Most calls leave tokens.
+    let _left = parser::parse::<Asking>(&buffer);
+    ANSWERED.take().expect("an answer")
+}
+
+/// Refuses each request of a call in turn, and answers how many there are.
+fn refused_in_turn(text: &str, call: Call) -> usize {
+    let mut granted = 0;
+    loop {
+        let (answer, asked) = asked(text, call, granted);
+        if asked <= granted {
+            return granted;
+        }
+        let error = answer.expect_err("a refused request is an error");
+        assert!(error.is_out_of_memory(), "{text}: {granted}: {error}");
+        granted += 1;
+    }
+}
+
+#[test]
+fn a_buffer_is_refused() {
+    let text = "(@\"n\\6fte\" (@b)) (module \"a\\nb\" 1) \"\\q\"";
+    let mut granted = 0;
+    loop {
+        let (buffer, asked) = granting(granted, || ParseBuffer::new(text));
+        if asked <= granted {
+            break;
+        }
+        assert!(buffer.unwrap_err().is_out_of_memory(), "{granted}");
+        granted += 1;
+    }
+    assert!(granted > 3, "{granted}");
+}
+
+#[test]
+fn a_value_and_an_error_are_refused() {
+    let calls: [(&str, Call); 18] = [
+        ("\"a\\62\"", |parser| parser.parse::<&[u8]>().map(drop)),
+        ("\"a\\62\"", |parser| parser.parse::<&str>().map(drop)),
+        ("$\"a\\62\"", |parser| parser.parse::<Id>().map(drop)),
+        ("$\"a\\62\"", |parser| parser.parse::<Index>().map(drop)),
+        ("1_000", |parser| {
+            parser.step(|cursor| Ok((cursor.integer()?.is_some(), cursor)))?;
+            Ok(())
+        }),
+        ("1_0.5_0e1_0", |parser| {
+            parser.step(|cursor| Ok((cursor.float()?.is_some(), cursor)))?;
+            Ok(())
+        }),
+        ("x", |parser| parser.parse::<u32>().map(drop)),
+        ("256", |parser| parser.parse::<u8>().map(drop)),
+        ("x", |parser| parser.parse::<Id>().map(drop)),
+        ("$", |parser| parser.parse::<Id>().map(drop)),
+        ("x", |parser| parser.parse::<in_line>().map(drop)),
+        ("x", |parser| parser.parse::<arrow>().map(drop)),
+        ("x", |parser| parser.parse::<note>().map(drop)),
+        ("x", |parser| {
+            parser.parens(|group| group.parse::<u32>()).map(drop)
+        }),
+        ("(x)", |parser| {
+            parser.parens(|group| group.parse::<u32>()).map(drop)
+        }),
+        ("\"\\q\"", |parser| parser.peek::<LParen>().map(drop)),
+        ("1.5", |parser| parser.parse::<F64>().map(drop)),
+        ("x", many_looks),
+    ];
+    for (number, (text, call)) in calls.into_iter().enumerate() {
+        assert!(refused_in_turn(text, call) > 0, "{number}");
+    }
+}
+
+/// More looks than fit into the series.
+fn many_looks(parser: Parser<'_>) -> Result<()> {
+    let mut look = parser.lookahead1();
+    for _ in 0..12 {
+        look.peek::<kw::func>()?;
+    }
+    Err(look.error())
+}
+
+#[test]
+fn what_is_plain_takes_no_memory() {
+    let text = "(func $a \"b\" 1_0 -0x2 1.5) (; c ;) => (@note) in-line";
+    let plain: Call = |parser| {
+        parser.parens(|group| {
+            group.parse::<kw::func>()?;
+            group.parse::<Id>()?;
+            group.parse::<&str>()?;
+            let mut look = group.lookahead1();
+            assert!(!look.peek::<Id>()? && look.peek::<u8>()?);
+            group.parse::<u8>()?;
+            group.parse::<i64>()?;
+            assert!(!group.is_empty() && group.peek2::<LParen>().is_ok_and(|seen| !seen));
+            group.step(|cursor| Ok(((), cursor.float()?.expect("a float").1)))
+        })?;
+        parser.step(|cursor: Cursor<'_>| Ok(((), cursor.comment()?.expect("a comment").1)))?;
+        parser.parse::<arrow>()?;
+        parser.parse::<in_line>().map(drop)
+    };
+    let (answer, asked) = asked(text, plain, 0);
+    assert_eq!(
+        (answer.map_err(|error| error.to_string()), asked),
+        (Ok(()), 0)
+    );
+    let buffer = ParseBuffer::new("1").unwrap();
+    assert_eq!(without_memory(|| parser::parse::<u32>(&buffer).unwrap()), 1);
+}
