@@ -1,6 +1,7 @@
 //! Compares the crates here with the crate `wast` on random texts: tokens with their values, printed faults, typed readings, and calls of a
 //! parser. A text that is answered otherwise is printed, with both answers; the first eight are enough. Without the feature `wast` the layer
-//! and the proved calls below it are compared with each other. At the end there is a sum over all answers, which is the same on every machine.
+//! and the proved calls below it are compared with each other. At the end there is a sum over all answers, which is the same on every machine, but
+//! for compilers whose tables of Unicode escape other characters in `{:?}`.
 //!
 //! usage: random_texts SEED COUNT [FILE or FOLDER]..
 //!        random_texts --program PROGRAM SEED COUNT [FILE or FOLDER]..
