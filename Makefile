@@ -5,6 +5,17 @@
 #   cc program.c $(pkg-config --cflags --libs wat)
 #
 # Without a registry CARGO names cargo with its options: CARGO='cargo --offline --config ..'.
+#
+# The other targets are the entries to all that is checked here; `make help` lists them.
+#
+## make                the C library: an archive and a shared library
+## make install        both, header and wat.pc (PREFIX, DESTDIR; BY=rattle: by Rattle's own compilers)
+## make program        the program, rust/target/release/wat_tokens
+## make tests          the tests of the Rust packages
+## make checks         what takes seconds: edits, documents, names, the erased text
+## make gate           rt ci: proves every crate, tries wrong bodies, runs tests and programs
+## make edits OF=NAME  tries the wrong bodies of a function, of a crate, or of this name
+## make readme         runs the commands of README.md and docs/COMMAND-LINE.md
 
 PREFIX ?= /usr/local
 CARGO ?= cargo
@@ -16,7 +27,7 @@ major := $(firstword $(subst ., ,$(version)))
 includes := $(DESTDIR)$(PREFIX)/include
 libraries := $(DESTDIR)$(PREFIX)/lib
 
-.PHONY: all install install-shared
+.PHONY: all install install-shared help program tests checks gate edits readme
 ifeq ($(BY),rattle)
 
 folder := crates/wat_parser_c/out
@@ -62,3 +73,30 @@ install: all install-shared
 	install -m 644 $(archives) $(libraries)/
 	sed 's|@PREFIX@|$(PREFIX)|; s|@VERSION@|$(version)|; s|@LIBS@|$(libs)|; s|@PRIVATE@|$(private)|' include/wat.pc.in \
 	    > $(libraries)/pkgconfig/wat.pc
+
+help:
+	@sed -n 's/^## //p' Makefile
+
+program:
+	cd rust && $(CARGO) build --locked --release --package wat-tokens
+
+tests:
+	cd rust && $(CARGO) test --locked --workspace
+
+checks:
+	tools/edits.py check
+	tools/check_evidence.py
+	tools/check_words.py
+	tools/check_names.py
+	tools/make_quick_start.py --check
+	tools/definitions.py --check
+	tools/erase/check.py --committed
+
+gate:
+	rt ci
+
+edits:
+	tools/edits.py try $(OF)
+
+readme:
+	tools/run_readme.sh --quick

@@ -34,9 +34,9 @@ def fenced(path, first=None, last=None):
 
 
 def files_of(path):
-    """All files of a folder that are not empty, by their names below the root, but what was built."""
+    """All files of a folder that are not empty, by their names below the root, but its README and what was built."""
     files = sorted(file.relative_to(ROOT) for file in (ROOT / path).rglob("*") if file.is_file() and file.stat().st_size)
-    return [file for file in files if "out" not in file.parts and (ROOT / file).read_text().strip()]
+    return [file for file in files if "out" not in file.parts and file.name != "README.md" and (ROOT / file).read_text().strip()]
 
 
 def folder(path):

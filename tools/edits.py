@@ -1,0 +1,429 @@
+#!/usr/bin/env python3
+"""Lists, checks and tries the wrong bodies of edits/CRATE.txt. docs/PROOF.md says what they are, the head of each table how a record is written.
+
+  list        prints crate, name, functions, clause and input of each record, with tabs between them
+  check       checks that each record is complete, that its names are those of the sources, and that it can be applied
+  try         has the prover refuse each: first by a check of the functions of the record alone, and of those that they call; where
+              it takes these, by a check of the whole crate, since a function that only a caller's contract pins is refused there
+  self-test   shows that `check` finds faults that are put into a record
+
+A WORD is a crate, a record's name, CRATE/NAME, or the end of a function's path, as TableRef::look.
+
+`try` takes the libraries below a crate from crates/NAME/out, where `rt ci` without names leaves them. The first edit of a crate takes it
+half a minute to one and a half, each further one half of that, as it keeps what they share.
+"""
+import argparse
+import collections
+import concurrent.futures
+import dataclasses
+import hashlib
+import itertools
+import os
+import pathlib
+import re
+import shutil
+import signal
+import subprocess
+import sys
+import tempfile
+import time
+
+ROOT = pathlib.Path(__file__).resolve().parent.parent
+KIT = pathlib.Path(os.path.realpath(shutil.which("rt") or "rt")).parent.parent
+PARTS = ("src", "specs", "proofs")
+ORDER = re.compile(r"name file fn clause( old new)+ breaks( family)?( must-fail)?( refused-in)?( note)?")
+NAME = re.compile(r"[a-z0-9]+(-[a-z0-9]+)*")
+ENTRY = re.compile(r"((?P<kind>constant|type|macro|definition) )?(?P<path>.+)")
+CLAUSE = re.compile(r"(?P<clause>the clause|the invariant|\w+) of (?P<of>[\w:]+)")
+ITEM = re.compile(r"\s*(?:pub(?:\(\w+\))? )?(?:(?:const )?(?:unsafe )?(?:extern \"C\" )?fn|const|struct|enum|macro_rules!) (\w+)")
+DECLARED = re.compile(r"\b(?:fn|struct|trait) (\w+)")
+STATED = re.compile(r"\b(?:ensures\*?(?: (\w+))? \{|ghost (?!use\b)(\w+))")
+QUIET = {"stdin": subprocess.DEVNULL, "stdout": subprocess.PIPE, "check": False}
+LOST = re.compile(r"error: `\w+` has no function|fits more than one|several functions")
+ENDED = re.compile(r"only=(\d+) proved=(\d+)")
+ERROR = re.compile(r"\S+:\d+:\d+: error")
+
+
+class Fault(Exception):
+    """What is wrong with a record, or with what is asked for."""
+
+
+@dataclasses.dataclass(frozen=True)
+class Record:
+    """One wrong body: the values of its keys, and its pairs of old and new text."""
+
+    crate: str
+    name: str
+    file: str
+    fn: str
+    clause: str
+    pairs: tuple
+    breaks: str
+    family: bool
+    must_fail: bool
+
+    def entries(self):
+        """What is edited: for each, whether it is no function and of what kind, and its path."""
+        return [ENTRY.fullmatch(it).group("kind", "path") for it in self.fn.split(", ")]
+
+    def source(self):
+        return ROOT / "crates" / self.crate / self.file
+
+    def must_fail_file(self):
+        return ROOT / "crates" / self.crate / "must-fail" / f"{self.name}.edit"
+
+    def edit(self):
+        """The record as the kit reads it."""
+        return f"file: {self.file}\n" + "".join(f"old: {old}\nnew: {new}\n" for old, new in self.pairs)
+
+
+# Reading
+
+
+def record_of(crate, lines):
+    """The record in these lines."""
+    pairs = [(key, value.removeprefix(" ")) for key, _, value in (line.partition(":") for line in lines)]
+    keys, values = " ".join(key for key, _ in pairs), dict(pairs)
+    if not ORDER.fullmatch(keys):
+        raise Fault(f"{values.get('name', lines[0])}: its keys are not in order, or not all there: {keys}")
+    empty = [key for key, value in pairs if not value and key != "new"]
+    if empty or {values.get("family", "yes"), values.get("must-fail", "yes")} != {"yes"}:
+        raise Fault(f"{values['name']}: {', '.join(empty)} is empty, or `family` or `must-fail` is not yes")
+    texts = [value for key, value in pairs if key in ("old", "new")]
+    plain = {key: values[key] for key in ("name", "file", "fn", "clause", "breaks")}
+    marks = {"family": "family" in values, "must_fail": "must-fail" in values}
+    return Record(crate=crate, pairs=tuple(zip(texts[::2], texts[1::2])), **plain, **marks)
+
+
+def records_of(crate, text):
+    """The records of a table: stretches of lines between empty ones; a line with a # is a comment."""
+    lines = [line for line in text.splitlines() if not line.startswith("#")]
+    return [record_of(crate, list(part)) for some, part in itertools.groupby(lines, bool) if some]
+
+
+def tables():
+    return {path.stem: path.read_text(encoding="utf-8") for path in sorted(ROOT.glob("edits/*.txt"))}
+
+
+def all_records():
+    return [it for crate, text in tables().items() for it in records_of(crate, text)]
+
+
+def fits(record, word):
+    """Whether a word that names no crate means this record."""
+    named = word in (record.name, f"{record.crate}/{record.name}")
+    return named or any(path == word or path.endswith(f"::{word}") for _, path in record.entries())
+
+
+def meant_by(word, records):
+    found = [it for it in records if it.crate == word] or [it for it in records if fits(it, word)]
+    if not found:
+        raise Fault(f"no crate, record or function is named {word}")
+    return found
+
+
+def chosen_by(words):
+    records = all_records()
+    return [it for word in words for it in meant_by(word, records)]
+
+
+# Checking
+
+
+def applied(record):
+    """The text of the record's file with its pairs in place."""
+    text = record.source().read_text(encoding="utf-8")
+    for old, new in record.pairs:
+        found = text.count(old)
+        if found != 1:
+            raise Fault(f"its old text is in {record.file} {found} times: {old.strip()}")
+        if old == new:
+            raise Fault(f"its old text is its new one: {old.strip()}")
+        text = text.replace(old, new)
+    return text
+
+
+def item_at(text, at):
+    """The name of the nearest item that begins in the line of a place, or above it."""
+    lines = text[:at].splitlines() + [text[at:].partition("\n")[0]]
+    return next((found[1] for found in map(ITEM.match, reversed(lines)) if found), None)
+
+
+def check_functions(record):
+    """That the record's functions are declared in its file, and one of them is what its first pair, or a further one, changes."""
+    text = record.source().read_text(encoding="utf-8")
+    names = [path.rpartition("::")[2] for kind, path in record.entries() if kind != "definition"]
+    missing = [it for it in names if not re.search(rf"\b(fn|const|struct|enum|macro_rules!) {it}\b", text)]
+    if missing:
+        raise Fault(f"{record.file} declares no {', '.join(missing)}")
+    around = {item_at(text, text.index(old)) for old, _ in record.pairs if old in text}
+    if names and not around & set(names):
+        raise Fault(f"it changes {', '.join(map(str, around))}, and not {record.fn}")
+
+
+def clauses():
+    """For each function, type and trait the clauses in the files that declare one of this name; one without a name is `the clause`."""
+    found = collections.defaultdict(set)
+    for path in ROOT.glob("crates/*/src/**/*.rt"):
+        text = path.read_text(encoding="utf-8")
+        named = {clause or ghost or "the clause" for clause, ghost in STATED.findall(text)}
+        for name in DECLARED.findall(text):
+            found[name] |= named
+    return found
+
+
+def check_clauses(record, stated):
+    """That each clause it names is in a file that declares the function."""
+    for part in record.clause.split("; "):
+        found = CLAUSE.fullmatch(part)
+        if not found:
+            raise Fault(f"its clause is not written as `NAME of FUNCTION`: {part}")
+        if found["clause"].replace("the invariant", "invariant") not in stated[found["of"].rpartition("::")[2]]:
+            raise Fault(f"no source has this clause: {part}")
+
+
+def check_record(record, stated):
+    if not NAME.fullmatch(record.name):
+        raise Fault("its name is not words with dashes between them")
+    if not record.file.startswith(tuple(f"{part}/" for part in PARTS)) or not record.source().is_file():
+        raise Fault(f"{record.file} is no source, definition or proof")
+    applied(record)
+    check_functions(record)
+    check_clauses(record, stated)
+    file = record.must_fail_file()
+    if file.is_file() != record.must_fail or record.must_fail and file.read_text(encoding="utf-8") != record.edit():
+        raise Fault(f"{file.relative_to(ROOT)} is not there with its text, or is there without `must-fail: yes`")
+
+
+def faults_of(records):
+    """What is wrong with records that can be read."""
+    stated = clauses()
+    names = collections.Counter(f"{it.crate}/{it.name}" for it in records)
+    faults = [f"{name}: two records have this name" for name, count in names.items() if count > 1]
+    for record in records:
+        try:
+            check_record(record, stated)
+        except Fault as fault:
+            faults.append(f"{record.crate}/{record.name}: {fault}")
+    files = {it.must_fail_file() for it in records}
+    return faults + [f"{file.relative_to(ROOT)}: no record" for file in sorted(ROOT.glob("crates/*/must-fail/*")) if file not in files]
+
+
+def check(_asked):
+    records, faults = [], []
+    for crate, text in tables().items():
+        try:
+            records += records_of(crate, text)
+        except Fault as fault:
+            faults.append(f"edits/{crate}.txt: {fault}")
+    faults += faults_of(records)
+    print("\n".join([*faults, f"edits.py: {len(records)} records, {len(faults)} faults"]))
+    return 1 if faults or not records else 0
+
+
+# Trying
+
+
+def only(record):
+    """The functions and types to check, else the modules of what else is edited; nothing where the whole crate has to be checked."""
+    entries = record.entries()
+    modules = {path.rpartition("::")[0] for kind, path in entries if kind in ("constant", "macro")}
+    return [path for kind, path in entries if kind in (None, "type")] or sorted(modules - {""})
+
+
+def libraries(crate):
+    """The words by which a check of the crate finds the libraries below it, and whether it is a static library."""
+    lines = {}
+    for line in (ROOT / "crates.txt").read_text(encoding="utf-8").splitlines():
+        name, colon, below = line.partition(":")
+        if colon:
+            lines[name.split()[0]] = (name.split()[1:], below.split())
+    kind, below = lines[crate]
+    built = {it: ROOT / "crates" / it / "out" / "rlib" / f"{it}.rlib" if it in lines else KIT / "rlibs" / f"{it}.rlib" for it in below}
+    missing = [str(path) for path in built.values() if not path.exists()]
+    if missing:
+        raise Fault(f"run rt ci without names first, or rt lib in the crate: {missing[0]} is not there")
+    words = ["--crate-type", "staticlib"] if kind else []
+    words += [word for it, path in built.items() for word in ("--extern", f"{it}={path}")]
+    return words + [word for it in lines for word in ("-L", f"dependency={ROOT / 'crates' / it / 'out' / 'rlib'}")]
+
+
+def prove(record, paths, kept):
+    """What a check says of a copy of the crate with the record's edit, over what earlier ones kept: of these functions, or of all."""
+    with tempfile.TemporaryDirectory(prefix="edits-") as room:
+        for part in PARTS:
+            if (record.source().parents[len(pathlib.Path(record.file).parts) - 1] / part).is_dir():
+                shutil.copytree(ROOT / "crates" / record.crate / part, f"{room}/{part}")
+        pathlib.Path(room, record.file).write_text(applied(record), encoding="utf-8")
+        top = "src/main.rt" if pathlib.Path(room, "src/main.rt").is_file() else "src/lib.rt"
+        words = [KIT / "bin/rattle", "check", "--crate-name", record.crate, top, *libraries(record.crate)]
+        words += ["--extern", f"std={KIT / 'rlibs/std.rlib'}", "-L", f"dependency={KIT / 'rlibs'}"]
+        words += ["--antt-project", KIT / "rattle/logic/antt-project.json"]
+        words += ["--logic-built", KIT / "logic_built", "--links", f"{record.crate}=", "--jobs", "1", "--incremental", kept]
+        words += [word for path in paths for word in ("--only", path)]
+        ran = subprocess.run(words, cwd=room, **QUIET, stderr=subprocess.STDOUT, errors="replace")
+        return ran.returncode, ran.stdout
+
+
+def tried(record, kept):
+    """What became of an edit, and what was said of it."""
+    for paths in [only(record), []] if only(record) else [[]]:
+        status, said = prove(record, paths, kept)
+        if paths and LOST.search(said):
+            continue
+        lines = said.rstrip("\n").split("\n")
+        ended = ENDED.match(lines[-1]) or lines[-1].startswith("logic=")
+        if status == 1 and ended:
+            first = next((it for it in lines if ERROR.match(it)), lines[-1])
+            return "refused", f"{' '.join(paths) or 'the whole crate'}: {first[:140]}"
+        if status not in (0, 1) or not ended:
+            return "NOT TRIED", " / ".join(lines[:4])[:300]
+    return "NOT REFUSED", "the crate is proved with it"
+
+
+def lane(records):
+    """Tries records of one crate one after another, over what the ones before kept; answers how many were not refused."""
+    bad = 0
+    with tempfile.TemporaryDirectory(prefix="edits-kept-") as kept:
+        for record in records:
+            begun = time.monotonic()
+            what, why = tried(record, kept)
+            bad += what != "refused"
+            print(f"{record.crate}/{record.name}: {what} ({time.monotonic() - begun:.0f} s): {why}", flush=True)
+    return bad
+
+
+def in_lanes(records, lanes):
+    """Tries them in so many lanes, each crate's in as many as give every lane its share."""
+    crates = collections.defaultdict(list)
+    for record in records:
+        crates[record.crate].append(record)
+    share = max(1, -(-len(records) // lanes))
+    parts = [row[i : i + share] for row in crates.values() for i in range(0, len(row), share)]
+    with concurrent.futures.ThreadPoolExecutor(lanes) as pool:
+        bad = sum(pool.map(lane, sorted(parts, key=len, reverse=True)))
+    print(f"edits.py: {len(records) - bad} of {len(records)} edits were refused")
+    return 1 if bad else 0
+
+
+def by_kit(records):
+    """Tries them by `rt must-fail`, which says more of each and takes longer. They are in crates/NAME/must-fail for that time alone."""
+    signal.signal(signal.SIGTERM, lambda *_: sys.exit(143))
+    files = [it.must_fail_file() for it in records if not it.must_fail]
+    made = sorted({it.parent for it in files if not it.parent.is_dir()})
+    try:
+        for record in records:
+            record.must_fail_file().parent.mkdir(exist_ok=True)
+            record.must_fail_file().write_text(record.edit(), encoding="utf-8")
+        crates = sorted({it.crate for it in records})
+        return subprocess.run(["rt", "must-fail", *crates], cwd=ROOT, stdin=subprocess.DEVNULL, check=False).returncode
+    finally:
+        for file in files:
+            file.unlink(missing_ok=True)
+        for folder in made:
+            folder.rmdir()
+
+
+def sample(number, seed):
+    """So many records of one crate, which the seed chooses, a crate with more records more often; each has its turn as seeds change."""
+    hashes = {it: hashlib.sha256(f"{seed} {it.crate}/{it.name}".encode()).hexdigest() for it in all_records()}
+    records = sorted(hashes, key=hashes.get)
+    return [it for it in records if it.crate == records[0].crate][:number]
+
+
+def git(*words):
+    return subprocess.run(["git", *words], cwd=ROOT, **QUIET, stderr=subprocess.DEVNULL, text=True).stdout
+
+
+def changed(base):
+    """The records that are new or changed since a commit, or whose file is."""
+    if not git("rev-parse", "--verify", f"{base}^{{commit}}"):
+        raise Fault(f"{base} is no commit")
+    files = git("diff", "--name-only", "-M100%", "--diff-filter=AMT", base, "--") + git("ls-files", "--others", "--exclude-standard")
+    before = {it.edit() + it.crate for crate in tables() for it in records_of(crate, git("show", f"{base}:edits/{crate}.txt"))}
+    now = set(files.splitlines())
+    return [it for it in all_records() if it.edit() + it.crate not in before or str(it.source().relative_to(ROOT)) in now]
+
+
+def try_them(asked):
+    records = chosen_by(asked.words)
+    records += [it for it in all_records() if it.family] if asked.families else []
+    records += sample(int(asked.sample[0]), asked.sample[1]) if asked.sample else []
+    records += changed(asked.changed) if asked.changed else []
+    records = list(dict.fromkeys(records))
+    if not records and not asked.changed:
+        raise Fault("nothing is asked for: name records, or give --families, --sample or --changed")
+    if asked.whole:
+        return by_kit(records)
+    return in_lanes(records, asked.lanes)
+
+
+def list_them(asked):
+    for it in chosen_by(asked.words) if asked.words else all_records():
+        print(f"{it.crate}\t{it.name}\t{it.fn}\t{it.clause}\t{it.breaks}")
+    return 0
+
+
+# Of this tool
+
+WRONG = {
+    "a key is missing": (r"breaks: .*", "# breaks", "its keys are not in order"),
+    "a value is missing": (r"breaks: .*", "breaks:", "is empty"),
+    "an old text is there twice": (r"old: .*", "old: ensures", "its old text is in"),
+    "an old text is not there": (r"old: .*", "old: no such text", "its old text is in"),
+    "it changes nothing": (r"new: .*", "new: {old}", "its old text is its new one"),
+    "a function is not there": (r"fn: .*", "fn: no::such_function", "declares no such_function"),
+    "another function is named": (r"fn: .*", "fn: {other}", "it changes"),
+    "a clause is not there": (r"clause: .*", "clause: no_such of {fn}", "no source has this clause"),
+    "the file is not there": (r"file: .*", "file: src/no_such.rt", "is no source"),
+}
+
+
+def self_test(_asked):
+    """Puts each fault of WRONG into a record of a plain function, the first that there is."""
+    record = next(it for it in all_records() if it.entries()[0][0] is None)
+    text = next(part for part in tables()[record.crate].split("\n\n") if part.startswith(f"name: {record.name}\n"))
+    name = record.entries()[0][1].rpartition("::")[2]
+    others = set(re.findall(r"\bfn (\w+)", record.source().read_text(encoding="utf-8"))) - {name}
+    words = {"old": record.pairs[0][0], "fn": name, "other": min(others)}
+    missed = []
+    for what, (old, new, wanted) in WRONG.items():
+        try:
+            found = faults_of(records_of(record.crate, re.sub(old, lambda _, new=new: new.format(**words), text, count=1)))
+        except Fault as fault:
+            found = [str(fault)]
+        missed += [] if any(wanted in it for it in found) else [f"{what}: {found}"]
+    print("\n".join([*missed, f"edits.py: {len(WRONG) - len(missed)} of {len(WRONG)} faults were found"]))
+    return 1 if missed else 0
+
+
+def arguments():
+    parser = argparse.ArgumentParser(description=__doc__, formatter_class=argparse.RawDescriptionHelpFormatter)
+    commands = parser.add_subparsers(required=True, metavar="COMMAND")
+    listing = commands.add_parser("list", help="print the records")
+    listing.set_defaults(run=list_them)
+    listing.add_argument("words", nargs="*", metavar="WORD")
+    commands.add_parser("check", help="check that each can be applied").set_defaults(run=check)
+    commands.add_parser("self-test", help="check the check").set_defaults(run=self_test)
+    trying = commands.add_parser("try", help="have the prover refuse them")
+    trying.set_defaults(run=try_them)
+    trying.add_argument("words", nargs="*", metavar="WORD")
+    trying.add_argument("--families", action="store_true", help="those with `family: yes`")
+    trying.add_argument("--sample", nargs=2, metavar=("N", "SEED"), help="N of one crate, which SEED chooses")
+    trying.add_argument("--changed", metavar="BASE", help="those that changed since the commit BASE, or whose file did")
+    trying.add_argument("--lanes", type=int, default=os.cpu_count() or 1, metavar="N", help="how many are tried at a time")
+    trying.add_argument("--whole", action="store_true", help="by rt must-fail, over a check of the whole crate")
+    return parser
+
+
+def main():
+    asked = arguments().parse_args()
+    try:
+        return asked.run(asked)
+    except Fault as fault:
+        print(f"edits.py: {fault}", file=sys.stderr)
+        return 2
+
+
+if __name__ == "__main__":
+    sys.exit(main())
