@@ -1,11 +1,11 @@
 //! The program `wat_tokens` beside the crates here: its lists of raw tokens and of those that count, and the faults that it prints.
-use crate::Totals;
 use crate::random::Random;
 use crate::report::Answers;
-use crate::texts::Texts;
+use crate::texts::{OF_SAME_WIDTH, Texts};
+use crate::{MOST_DIFFERENCES, Totals};
 use std::error::Error;
-use std::fmt::Write as _;
 use std::io::Write as _;
+use std::ops::Range;
 use std::path::{Path, PathBuf};
 use std::process::{Command, Stdio};
 use std::{env, fs, process};
@@ -19,33 +19,26 @@ const BATCH: usize = 500;
 /// The names that `sig` registers.
 const NAMES: [&str; 3] = ["name", "custom", "b"];
 
-/// What is printed of one or more texts.
-#[derive(Default)]
-struct Printed {
-    lists: String,
-    faults: String,
-    tokens: u64,
-    faulty: u64,
-}
-
 type Outcome<T> = Result<T, Box<dyn Error>>;
 
-/// Whether the program is asked for raw tokens, or for those that count.
+/// What the program is asked for of each text.
 #[derive(Clone, Copy)]
-enum Listing {
-    Raw,
-    Shown,
+struct Question {
+    allow: bool,
+    /// The tokens that count under `NAMES`, or all.
+    is_filtered: bool,
 }
 
+/// Compares what the program prints of random texts.
 pub fn compare_texts(program: &Path, seed: u64, count: u64, files: Vec<String>) -> Outcome<Totals> {
     let folder = env::temp_dir().join(format!("random_texts.{}", process::id()));
     fs::create_dir(&folder)?;
-    let compared = Run {
+    let run = Run {
         program: program.canonicalize()?,
-        folder: folder.clone(),
-    }
-    .compare(seed, count, files);
-    fs::remove_dir_all(folder)?;
+        folder,
+    };
+    let compared = run.compare(seed, count, files);
+    fs::remove_dir_all(&run.folder)?;
     compared
 }
 
@@ -58,88 +51,155 @@ impl Run {
     fn compare(&self, seed: u64, count: u64, files: Vec<String>) -> Outcome<Totals> {
         let mut totals = Totals::default();
         let mut random = Random::new(seed);
-        let mut texts = Texts::new(Random::new(random.next()), files);
-        while totals.texts < count && totals.different < crate::MOST_DIFFERENCES {
+        let mut texts = Texts::new(Random::new(random.next()), files, OF_SAME_WIDTH);
+        while totals.texts < count && totals.different < MOST_DIFFERENCES {
             let size = BATCH.min((count - totals.texts) as usize);
             let batch: Vec<String> = (0..size).map(|_| texts.next()).collect();
-            let allow = random.is_one_in(2);
             for (number, text) in batch.iter().enumerate() {
                 fs::write(self.folder.join(number.to_string()), text)?;
             }
-            for listing in [Listing::Raw, Listing::Shown] {
-                self.compare_files(&mut totals, &batch, allow, listing)?;
-            }
-            self.compare_input(&mut totals, &batch[0], allow)?;
-            totals.texts += batch.len() as u64;
+            let question = Question {
+                allow: random.is_one_in(2),
+                is_filtered: random.is_one_in(2),
+            };
+            self.compare_batch(&mut totals, &batch, question)?;
         }
         Ok(totals)
     }
 
-    /// All texts of a batch, as files.
-    fn compare_files(
+    /// All texts of a batch at once, and each alone where they differ; and the first as standard input too.
+    fn compare_batch(
         &self,
         totals: &mut Totals,
         batch: &[String],
-        allow: bool,
-        listing: Listing,
+        question: Question,
     ) -> Outcome<()> {
-        let names: Vec<String> = (0..batch.len())
-            .map(|number| format!("./{number}"))
+        let each: Vec<Printed> = batch
+            .iter()
+            .enumerate()
+            .map(|(number, text)| Printed::of(text, question, Some(number)))
             .collect();
-        let mut wanted = Printed::default();
-        for (text, name) in batch.iter().zip(&names) {
-            wanted.add(text, allow, listing, Some(name));
+        let is_same = self.printed_of_files(0..batch.len(), question)? == joined(&each);
+        for (number, (text, wanted)) in batch.iter().zip(&each).enumerate() {
+            let wanted = wanted.answers();
+            if !is_same {
+                let given = self.printed_of_files(number..number + 1, question)?;
+                totals.compare(text, "program", &wanted, &given.answers());
+            }
+            totals.add(&wanted);
         }
-        let mut command = self.command(allow);
-        match listing {
-            Listing::Raw => command.arg("list").args(&names),
-            Listing::Shown => command
-                .args(names.iter().flat_map(|name| ["--file", name]))
-                .arg("sig")
-                .args(NAMES),
-        };
-        wanted.check(totals, command, "", &batch.concat())
+        let wanted = Printed::of(&batch[0], question, None).answers();
+        let given = self.printed_of_input(&batch[0], question)?.answers();
+        totals.compare(&batch[0], "program", &wanted, &given);
+        Ok(())
     }
 
-    /// One text, as standard input.
-    fn compare_input(&self, totals: &mut Totals, text: &str, allow: bool) -> Outcome<()> {
-        let mut wanted = Printed::default();
-        wanted.add(text, allow, Listing::Raw, None);
-        wanted.check(totals, self.command(allow), text, text)
+    fn printed_of_files(&self, numbers: Range<usize>, question: Question) -> Outcome<Printed> {
+        let names = numbers.map(name_of);
+        let mut command = self.command(question);
+        if question.is_filtered {
+            command.args(names.flat_map(|name| ["--file".to_owned(), name]));
+            command.arg("sig").args(NAMES);
+        } else {
+            command.arg("list").args(names);
+        }
+        printed(&mut command, "")
     }
 
-    fn command(&self, allow: bool) -> Command {
+    fn printed_of_input(&self, text: &str, question: Question) -> Outcome<Printed> {
+        let mut command = self.command(question);
+        if question.is_filtered {
+            command.arg("sig").args(NAMES);
+        }
+        printed(&mut command, text)
+    }
+
+    fn command(&self, question: Question) -> Command {
         let mut command = Command::new(&self.program);
-        command
-            .current_dir(&self.folder)
-            .args(allow.then_some("--allow-confusing"));
+        command.current_dir(&self.folder);
+        command.args(question.allow.then_some("--allow-confusing"));
         command
     }
 }
 
+fn name_of(number: usize) -> String {
+    format!("./{number}")
+}
+
+/// What the command prints of its input.
+fn printed(command: &mut Command, input: &str) -> Outcome<Printed> {
+    command.stdin(Stdio::piped());
+    command.stdout(Stdio::piped()).stderr(Stdio::piped());
+    let mut child = command.spawn()?;
+    let mut stdin = child.stdin.take().ok_or("no standard input")?;
+    stdin.write_all(input.as_bytes())?;
+    drop(stdin);
+    let ended = child.wait_with_output()?;
+    Ok(Printed {
+        list: String::from_utf8(ended.stdout)?,
+        fault: String::from_utf8(ended.stderr)?,
+        status: ended.status.code(),
+        tokens: 0,
+    })
+}
+
+/// What is printed of one or more texts.
+#[derive(Default)]
+struct Printed {
+    list: String,
+    fault: String,
+    status: Option<i32>,
+    tokens: u64,
+}
+
+impl PartialEq for Printed {
+    fn eq(&self, other: &Printed) -> bool {
+        (&self.list, &self.fault, self.status) == (&other.list, &other.fault, other.status)
+    }
+}
+
+/// What is printed of texts one after the other. The greatest status counts.
+fn joined(each: &[Printed]) -> Printed {
+    Printed {
+        list: each.iter().map(|printed| printed.list.as_str()).collect(),
+        fault: each.iter().map(|printed| printed.fault.as_str()).collect(),
+        status: each.iter().filter_map(|printed| printed.status).max(),
+        tokens: 0,
+    }
+}
+
 impl Printed {
-    fn add(&mut self, text: &str, allow: bool, listing: Listing, name: Option<&str>) {
+    /// What has to be printed of a text: of standard input, or of the file of a number.
+    fn of(text: &str, question: Question, number: Option<usize>) -> Printed {
+        let mut printed = Printed {
+            status: Some(0),
+            ..Printed::default()
+        };
         let mut lexer = Lexer::new(text);
-        lexer.allow_confusing_unicode(allow);
-        let ended = match listing {
-            Listing::Raw => self.raw(&lexer),
-            Listing::Shown => self.shown(lexer),
+        lexer.allow_confusing_unicode(question.allow);
+        let ended = if question.is_filtered {
+            printed.filter(lexer)
+        } else {
+            printed.lex(&lexer)
         };
         if let Err(error) = ended {
-            self.faulty += 1;
-            let printed = name.map_or_else(|| format!("{error}\n"), |name| named(&error, name));
-            self.faults += &printed;
+            printed.status = Some(1);
+            printed.fault = match number {
+                Some(number) => named(&error, &name_of(number)),
+                None => format!("{error}\n"),
+            };
         }
+        printed
     }
 
-    fn raw(&mut self, lexer: &Lexer<'_>) -> Result<(), wat_lex::Error> {
-        lexer.iter(Global, 0).try_for_each(|token| {
+    fn lex(&mut self, lexer: &Lexer<'_>) -> Result<(), wat_lex::Error> {
+        for token in lexer.iter(Global, 0) {
             self.token(token?);
-            Ok(())
-        })
+        }
+        Ok(())
     }
 
-    fn shown(&mut self, lexer: Lexer<'_>) -> Result<(), wat_lex::Error> {
+    fn filter(&mut self, lexer: Lexer<'_>) -> Result<(), wat_lex::Error> {
         let buffer = ParseBuffer::new_with_lexer(Global, lexer)?;
         let mut parser = buffer.parser();
         for name in NAMES {
@@ -154,44 +214,16 @@ impl Printed {
     fn token(&mut self, token: Token) {
         self.tokens += 1;
         let end = token.offset + token.len as usize;
-        writeln!(self.lists, "{}..{end} {}", token.offset, token.kind.name())
-            .expect("a String takes all");
+        self.list += &format!("{}..{end} {}\n", token.offset, token.kind.name());
     }
 
-    /// Compares with what the program prints.
-    fn check(
-        self,
-        totals: &mut Totals,
-        mut command: Command,
-        input: &str,
-        text: &str,
-    ) -> Outcome<()> {
-        let streams = command
-            .stdin(Stdio::piped())
-            .stdout(Stdio::piped())
-            .stderr(Stdio::piped());
-        let mut child = streams.spawn()?;
-        child
-            .stdin
-            .take()
-            .ok_or("no standard input")?
-            .write_all(input.as_bytes())?;
-        let ended = child.wait_with_output()?;
-        let status = i32::from(self.faulty > 0);
-        let wanted = Answers {
-            text: format!("{}{}status {status}\n", self.lists, self.faults),
-            ..Answers::default()
-        };
-        let [lists, faults] = [ended.stdout, ended.stderr].map(String::from_utf8);
-        let status = ended.status.code().ok_or("the program was ended")?;
-        let given = Answers {
-            text: format!("{}{}status {status}\n", lists?, faults?),
-            ..Answers::default()
-        };
-        totals.compare(text, "program", &wanted, &given);
-        totals.tokens += self.tokens;
-        totals.faults += self.faulty;
-        Ok(())
+    fn answers(&self) -> Answers {
+        Answers {
+            text: format!("{}{}status {:?}\n", self.list, self.fault, self.status),
+            tokens: self.tokens,
+            faults: u64::from(self.status != Some(0)),
+            others: 0,
+        }
     }
 }
 
@@ -208,14 +240,14 @@ fn take(parser: &mut Parser<'_>) -> Result<Option<Token>, wat_lex::proved::error
 fn named(error: &wat_lex::Error, name: &str) -> String {
     let (message, printed) = (error.message(), error.to_string());
     let place = &printed[message.len()..];
-    let is_named = place.starts_with("\n     --> <anon>") || place.starts_with(" at <anon>");
-    let placed = if is_named {
-        message + &place.replacen("<anon>", name, 1)
+    let is_placed = place.starts_with("\n     --> <anon>") || place.starts_with(" at <anon>");
+    let placed = if is_placed {
+        message.clone() + &place.replacen("<anon>", name, 1)
     } else {
         format!("{name}: {printed}")
     };
     let mut shown: String = placed.chars().map(visible).collect();
-    if printed.starts_with("unexpected character '\\u{feff}'\n") && error.span().offset() == 0 {
+    if message == "unexpected character '\\u{feff}'" && error.span().offset() == 0 {
         shown += "\nthe text begins with a byte order mark, which has to go";
     }
     shown + "\n"

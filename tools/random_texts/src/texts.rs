@@ -180,15 +180,25 @@ const WORDS: &[&str] = &[
 
 const IDCHARS: &[u8] = b"abcxyzAZ0129!#$%&'*+-./:<=>?@\\^_`|~";
 
+/// Which characters there are outside of files and pieces: below one of these.
+pub const ALL: &[u32] = &[0x80, 0x300, 0x3000, 0x1_0000, 0x11_0000];
+/// Those that have the same width by the library of Rattle's kit as by `unicode-width`.
+pub const OF_SAME_WIDTH: &[u32] = &[0x80, 0x300, 0x5c8];
+
 /// Random texts, of pieces and of cuts of files.
 pub struct Texts {
     random: Random,
     files: Vec<String>,
+    characters: &'static [u32],
 }
 
 impl Texts {
-    pub fn new(random: Random, files: Vec<String>) -> Texts {
-        Texts { random, files }
+    pub fn new(random: Random, files: Vec<String>, characters: &'static [u32]) -> Texts {
+        Texts {
+            random,
+            files,
+            characters,
+        }
     }
 
     pub fn next(&mut self) -> String {
@@ -255,12 +265,10 @@ impl Texts {
         text + self.random.one_of(&["\\q\"", "\"", "\n", ";)", "\"\\q"])
     }
 
-    /// A character of any plane, the smaller ones more often.
+    /// A character; the smaller ones come more often.
     fn character(&mut self) -> char {
-        let bound = self
-            .random
-            .one_of(&[0x80, 0x300, 0x3000, 0x1_0000, 0x11_0000]);
-        char::from_u32(self.random.below(bound) as u32).unwrap_or('\u{fffd}')
+        let bound = self.random.one_of(self.characters);
+        char::from_u32(self.random.below(bound as usize) as u32).unwrap_or('\u{fffd}')
     }
 
     /// A number, a string, a name or a word, for a type that reads it.
