@@ -15,7 +15,7 @@ macro_rules! layer {
             }
 
             /// A number for each kind.
-            fn weight(kind: TokenKind) -> u64 {
+            pub fn weight(kind: TokenKind) -> u64 {
                 match kind {
                     TokenKind::LineComment => 1,
                     TokenKind::BlockComment => 2,
@@ -137,7 +137,9 @@ macro_rules! layer {
                 }
                 if look.peek::<words::word_c>()? {
                     parser.parse::<words::word_c>()?;
-                    return Ok(u64::from(parser.parse::<u32>()?) + u64::from(parser.parse::<u32>()?));
+                    return Ok(
+                        u64::from(parser.parse::<u32>()?) + u64::from(parser.parse::<u32>()?)
+                    );
                 }
                 Err(look.error())
             }

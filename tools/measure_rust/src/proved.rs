@@ -1,29 +1,12 @@
 //! The same loops over the proved modules alone.
 
+use crate::ours::weight;
 use wat_lex::shim::alloc::Global;
 use wat_parser::proved::Error;
-use wat_parser::proved::lexer::{Lexer, Token, TokenKind};
+use wat_parser::proved::lexer::{Lexer, Token};
 use wat_parser::proved::parser::{Parse, ParseBuffer, Parser, parse};
 use wat_parser::proved::token::Keyword;
 use wat_parser::words::Word;
-
-/// A number for each kind.
-fn weight(kind: TokenKind) -> u64 {
-    match kind {
-        TokenKind::LineComment => 1,
-        TokenKind::BlockComment => 2,
-        TokenKind::Whitespace => 3,
-        TokenKind::LParen => 5,
-        TokenKind::RParen => 7,
-        TokenKind::String => 11,
-        TokenKind::Id => 13,
-        TokenKind::Keyword => 17,
-        TokenKind::Annotation => 19,
-        TokenKind::Reserved => 23,
-        TokenKind::Integer(_) => 29,
-        TokenKind::Float(_) => 31,
-    }
-}
 
 fn whole(token: &Token) -> u64 {
     weight(token.kind) + token.offset as u64 + u64::from(token.len)
