@@ -3,7 +3,7 @@
 use wat_lex::shim::prelude::*;
 pub mod answers;
 pub mod at;
-pub mod behind;
+pub mod after;
 pub mod counting;
 pub mod fill;
 pub mod laws;
