@@ -66,11 +66,7 @@ impl Gap {
         ensures { result ≡ settled before after self }
     {
         if before.is_comment() {
-            return if after.is_close() {
-                Gap::LineEnd
-            } else {
-                self
-            };
+            return if after.is_close() { Gap::LineEnd } else { self };
         }
         if after.is_comment() {
             let is_off = matches!(self, Gap::Touching) || (before.is_open() && self.is_break());
@@ -84,11 +80,7 @@ impl Gap {
             };
         }
         if self.is_break() {
-            return if after.is_close() {
-                Gap::LineEnd
-            } else {
-                self
-            };
+            return if after.is_close() { Gap::LineEnd } else { self };
         }
         if before.is_mark() || after.is_mark() {
             return self.kept();
