@@ -100,13 +100,6 @@ json_cut one settings file text begin last error old new u l reports b e h = rec
   appended = h.appended;
 }
 
--- the lines of the tokens, and then the last one
-pub rows_alone : (begin last : List ℕ) (s : Setting) (old new : Option (List ℕ)) → last ≡ [] → AppendsEach (json_line begin s.text) s old new → AppendsRows begin last s old new
-rows_alone begin last s old new e h = record { tokens = h.tokens; ending = h.ending; tiling = h.tiling; appended = subst (λ x. Appends old new x) (sym (ap (λ x. json_lines begin s.text h.tokens ++ x) e ∙ append-nil (json_lines begin s.text h.tokens))) h.appended }
-
-pub rows_and_last : (begin last : List ℕ) (s : Setting) (old mid new : Option (List ℕ)) → AppendsEach (json_line begin s.text) s old mid → Appends mid new last → AppendsRows begin last s old new
-rows_and_last begin last s old mid new h k = record { tokens = h.tokens; ending = h.ending; tiling = h.tiling; appended = appends_more old mid new (json_lines begin s.text h.tokens) last (json_lines begin s.text h.tokens ++ last) h.appended k refl }
-
 pub rows_cut : (begin last : List ℕ) (s : Setting) (old new : Option (List ℕ)) → AppendsEachCut (json_line begin s.text) s old new → AppendsRowsCut begin last s old new
 rows_cut begin last s old new h = record { tokens = h.tokens; ending = h.ending; tiling = h.tiling; appended = cut_longer old new (json_lines begin s.text h.tokens) last (json_lines begin s.text h.tokens ++ last) h.appended refl }
 
@@ -129,23 +122,6 @@ blanks same settings text ts u l tiling = record {
 -- there is no fault
 tiled_whole : TilingsAreOne → (s : Setting) (reports : ReportsEnd s None) (ts : List Token) (f : Option LexFault) → MaximalTiling s 0 ts f → MaximalTiling s 0 ts None
 tiled_whole one s reports ts f tiling = subst (MaximalTiling s 0 ts) (no_ending s.text f (same_ending one s None reports (ts, f, tiling))) tiling
-
-pub blanks_written : TilingsAreOne → BlankTextsShowTheSame → (settings : Settings) (text : List ℕ) (old new : Option (List ℕ)) → IsUtf8 text → length text < 2 ^ 32 → ReportsEnd (setting settings text) None
-    → AppendsEach (blank_text text) (setting settings text) old new → AppendsText (Blanks settings text) None old new
-blanks_written one same settings text old new u l reports each = record {
-  text = flat_map (blank_text text) each.tokens;
-  printed = blanks same settings text each.tokens u l (tiled_whole one (setting settings text) reports each.tokens each.ending each.tiling);
-  appended = each.appended;
-}
-
-pub blanks_cut : TilingsAreOne → BlankTextsShowTheSame → (settings : Settings) (text : List ℕ) (old new : Option (List ℕ)) → IsUtf8 text → length text < 2 ^ 32 → ReportsEnd (setting settings text) None
-    → AppendsEachCut (blank_text text) (setting settings text) old new → AppendsCut (Blanks settings text) old new
-blanks_cut one same settings text old new u l reports each = record {
-  text = flat_map (blank_text text) each.tokens;
-  error = None;
-  printed = blanks same settings text each.tokens u l (tiled_whole one (setting settings text) reports each.tokens each.ending each.tiling);
-  appended = each.appended;
-}
 
 faulty : (settings : Settings) (text : List ℕ) (ending : Option LexFault) (ts : List Token) (e : Option Report) → IsUtf8 text → length text < 2 ^ 32 → MaximalTiling (setting settings text) 0 ts ending → Some e ≡ report_of text ending → Blanks settings text [] (Some e)
 faulty settings text None ts e u l tiling r = absurd (let d : Some e ≡ None = r in cc)

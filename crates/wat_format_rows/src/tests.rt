@@ -1,13 +1,12 @@
 //! Texts as they are laid out, into a string and into sinks, and what is refused.
-ghost use Rattle.std.specs.Prelude.{◌≡◌};
-
-use std::alloc::{AllocError, AllocFailed, Global};
+use std::alloc::{AllocError, Global};
+use std::io;
 use std::test::Fail;
 use wat_format::error::Error;
 use wat_format::format::format;
-use wat_format::sink::Sink;
 use wat_format::stream::{WriteError, format_to};
 use wat_lex::lexer::Settings;
+use wat_lines::ends::Plain;
 
 const PLAIN: Settings = Settings {
     allow: false,
@@ -22,32 +21,12 @@ const ALLOWING: Settings = Settings {
     strict: false,
 };
 
-/// Why a sink took no more.
-#[derive(Clone, Copy, Debug, PartialEq, Eq)]
-enum Refused {
-    Full,
-    Memory,
-}
-
-impl From<AllocError> for Refused {
-    fn from(_: AllocError) -> Refused {
-        Refused::Memory
-    }
-}
-
-impl From<AllocFailed<usize>> for Refused {
-    fn from(_: AllocFailed<usize>) -> Refused {
-        Refused::Memory
-    }
-}
-
-/// A sink with room for so many bytes, which knows how many each call wrote.
+/// A writer with room for so many bytes, which knows how many each call wrote.
 #[derive(Drop)]
 struct Narrow {
     held: Vec<u8>,
     calls: Vec<usize>,
     room: usize,
-    failure: Option<Refused>,
 }
 
 impl Narrow {
@@ -56,39 +35,23 @@ impl Narrow {
             held: Vec::new(alloc),
             calls: Vec::new(alloc),
             room,
-            failure: None,
         }
-    }
-
-    fn take(&mut self, bytes: &[u8]) -> Result<(), Refused>
-        ensures { self.new.failure ≡ self.old.failure }
-    {
-        let count = self.room.min(bytes.len());
-        self.held.extend_from_slice(&bytes[..count])?;
-        self.calls.push(count)?;
-        self.room -= count;
-        if count < bytes.len() {
-            return Err(Refused::Full);
-        }
-        Ok(())
     }
 }
 
-impl Sink for Narrow {
-    ghost use Rattle.std.specs.Prelude.{None};
-
-    type Failure = Refused;
-
-    ghost held = { λ _. None };
-
-    ghost failure = { λ narrow. narrow.failure };
-
-    fn write_all(&mut self, bytes: &[u8]) -> Result<(), Refused> {
-        let taken = self.take(bytes);
-        if let Err(refused) = taken {
-            self.failure = Some(refused);
+impl io::Write for Narrow {
+    fn write(&mut self, bytes: &[u8]) -> io::Result<usize> {
+        let count = self.room.min(bytes.len());
+        if self.held.extend_from_slice(&bytes[..count]).is_err() || self.calls.push(count).is_err()
+        {
+            return Err(io::ErrorKind::OutOfMemory.into());
         }
-        taken
+        self.room -= count;
+        Ok(count)
+    }
+
+    fn flush(&mut self) -> io::Result<()> {
+        Ok(())
     }
 }
 
@@ -104,16 +67,18 @@ fn shown(alloc: Global, text: &str, settings: Settings) -> Result<String, Fail> 
     }
 }
 
-/// Writes the text laid out into a sink, and answers the error as it prints.
-fn written(alloc: Global, text: &str, sink: &mut Narrow) -> Result<String, Fail> {
+/// Writes the text laid out into a writer, and answers the error as it prints.
+fn written(alloc: Global, text: &str, writer: Narrow) -> Result<(Narrow, String), Fail> {
+    let mut sink = Plain::new(writer);
     if text.len() > MOST {
-        return Ok(String::new(alloc));
+        return Ok((sink.into_inner(), String::new(alloc)));
     }
-    match format_to(alloc, text, PLAIN, sink) {
-        Ok(()) => Ok(String::new(alloc)),
-        Err(WriteError::Memory(refused)) => Err(refused.into()),
-        Err(error) => Ok(format!(in alloc; "{error}")?),
-    }
+    let error = match format_to(alloc, text, PLAIN, &mut sink) {
+        Ok(()) => String::new(alloc),
+        Err(WriteError::Memory(refused)) => return Err(refused.into()),
+        Err(error) => format!(in alloc; "{error}")?,
+    };
+    Ok((sink.into_inner(), error))
 }
 
 #[test]
@@ -156,8 +121,7 @@ fn sinks(rt: HostRuntime) -> Result<(), Fail> {
         ),
     ];
     for (text, room, want, error) in rows {
-        let mut sink = Narrow::new(rt.alloc(), room);
-        let got = written(rt.alloc(), text, &mut sink)?;
+        let (sink, got) = written(rt.alloc(), text, Narrow::new(rt.alloc(), room))?;
         assert_eq!(rt; got.as_str(), error, "{text}");
         assert!(rt; sink.held.as_slice() == want.as_bytes(), "{text}");
     }
@@ -196,8 +160,8 @@ fn blocks(rt: HostRuntime) -> Result<(), Fail> {
     ];
     for (groups, letters, string, calls) in rows {
         let text = long_text(rt.alloc(), groups, letters, string)?;
-        let mut sink = Narrow::new(rt.alloc(), 10_000_000);
-        let got = written(rt.alloc(), text.as_str(), &mut sink)?;
+        let narrow = Narrow::new(rt.alloc(), 10_000_000);
+        let (sink, got) = written(rt.alloc(), text.as_str(), narrow)?;
         assert_eq!(rt; got.as_str(), "");
         let want = shown(rt.alloc(), text.as_str(), PLAIN)?;
         assert_eq!(rt; want.len(), (letters + 3) * groups + string + 3);

@@ -68,17 +68,3 @@ module _ (s : Setting) (old rows : List Row) (count pos : ℕ) (t : Token) (h : 
     fits = omega (arith, room, same_length);
     boundary = let o = k.offset in subst (λ p. IsCharBoundary s.text (p + t.len)) (sym o) b;
   }
-
-pub filled_full : (s : Setting) (old rows : List Row) (count pos : ℕ) (t : Token) → Filling s old rows count pos → TokenAt s pos t → count ≡ length rows → Filled s old rows count Full
-filled_full s old rows count pos t h k e = record {
-  tokens = h.tokens;
-  ends = (record { to = pos; tiling = h.tiling; next = t; after = k }, omega (arith, e, h.fits, h.count, rows_length s old rows count pos h));
-  rows = h.rows;
-  count = h.count;
-}
-
-pub filled_whole : (s : Setting) (old rows : List Row) (count pos : ℕ) → Filling s old rows count pos → pos ≡ length s.text → Filled s old rows count Whole
-filled_whole s old rows count pos h e = record { tokens = h.tokens; ends = record { to = pos; tiling = h.tiling; ends = e }; rows = h.rows; count = h.count }
-
-pub filled_faulty : (s : Setting) (old rows : List Row) (count pos : ℕ) (f : LexFault) → Filling s old rows count pos → EndsAt s pos (Some f) → Filled s old rows count (Faulty f)
-filled_faulty s old rows count pos f h e = record { tokens = h.tokens; ends = record { to = pos; tiling = h.tiling; ends = e }; rows = h.rows; count = h.count }

@@ -3,7 +3,8 @@ use crate::tests::{Counted, OFF, counting_writer, list};
 use std::alloc::Global;
 use std::test::Fail;
 use wat_commands::ends::Plain;
-use wat_commands::run::{Printing, RunError, run};
+use wat_commands::options::Task;
+use wat_commands::run::{RunError, run};
 
 /// How many parentheses the text has: their lines fill two blocks and some of a third.
 const PARENS: usize = 9_000;
@@ -86,7 +87,7 @@ fn long_string(alloc: Global, front: &str, behind: &str) -> Result<String, Fail>
 fn blanked(alloc: Global, text: &str) -> Result<Vec<u8>, Fail> {
     let mut input = Plain::new(text.as_bytes());
     let mut output = Plain::new(Vec::new(alloc));
-    match run(alloc, &mut input, &mut output, OFF, Printing::Blank) {
+    match run(alloc, &mut input, &mut output, OFF, &Task::Blank, None) {
         Ok(None) => Ok(output.into_inner()),
         _ => Err(Fail::from("the run is refused, or there is a fault")),
     }

@@ -4,7 +4,8 @@ use crate::tests::{OFF, Pieces, Room};
 use std::alloc::Global;
 use std::process::Abort;
 use std::test::Fail;
-use wat_commands::run::{Printing, RunError, run as run_printing, run_list, run_play, run_sig};
+use wat_commands::options::Task;
+use wat_commands::run::{RunError, run as run_task, run_list, run_play, run_sig};
 use wat_lexer_parser::parser::Call;
 
 const TEXT: &str = "(@a \"x\") b";
@@ -47,11 +48,11 @@ fn printed(
     rt: &impl Abort,
     input: &mut Pieces<'_>,
     output: &mut Room,
-    printing: Printing<'_>,
+    task: Task<'_>,
 ) -> Result<(), RunError> {
     assert!(rt; input.failure.is_none() && output.failure.is_none());
     let alloc = *output.held.allocator();
-    match run_printing(alloc, input, output, OFF, printing) {
+    match run_task(alloc, input, output, OFF, &task, None) {
         Ok(_) => Ok(()),
         Err(failure) => Err(RunError::from(failure)),
     }
@@ -74,8 +75,8 @@ fn run(
             };
             run_sig(alloc, input, output, OFF, &[name]).map(|_| ())
         }
-        Kind::JsonList => printed(rt, input, output, Printing::JsonRaw(None)),
-        Kind::JsonSig => printed(rt, input, output, Printing::JsonShown(&[], None)),
+        Kind::JsonList => printed(rt, input, output, Task::JsonList),
+        Kind::JsonSig => printed(rt, input, output, Task::JsonSig(&[])),
         Kind::Play => run_play(
             alloc,
             input,
@@ -83,8 +84,8 @@ fn run(
             OFF,
             &[Call::Look, Call::Take, Call::Look],
         ),
-        Kind::Blank => printed(rt, input, output, Printing::Blank),
-        Kind::Types => printed(rt, input, output, Printing::Types),
+        Kind::Blank => printed(rt, input, output, Task::Blank),
+        Kind::Types => printed(rt, input, output, Task::Types),
     }
 }
 

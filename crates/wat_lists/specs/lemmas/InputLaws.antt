@@ -5,7 +5,7 @@ use Rattle.std.proofs.lemmas.List.{length-take-le, take_all}
 use Rattle.std.specs.Prelude.{Some, None, Option, IfSome, Result, Ok, Err, IfErr, IsErrOf, alloc_error}
 use Rattle.std.specs.Io.KnownBytes.{Consumes}
 use Rattle.std.specs.Str.{IsUtf8, IsValidUpTo}
-use Rattle.wat_lines.specs.Streams.{Reads}
+use Rattle.wat_lines.specs.Streams.{ReadsInto}
 use Rattle.wat_lines.specs.declared.failed.Failed.{Failed}
 use Rattle.wat_lines.specs.lemmas.KnownBytes.{consumes_all, consumes_more}
 use Rattle.wat_lists.specs.Inputs.{ReadsWhole, ReadsPast, ReadsShort}
@@ -82,7 +82,7 @@ pub as_other : {T U B : Type 0} (e x : RunFailure) → (IsErrOf {T = T} {E = Run
 as_other e x h = (λ k. h.0 (ap (λ y. Err y) (ap error_of k)), λ b. ap (λ y. Err y) (ap error_of (h.1 b)))
 
 -- a read that goes past the longest text, into a buffer that has room for one byte more than it
-pub read_past : (a b c : Option (List ℕ)) (bytes piece : List ℕ) (n : ℕ) → Consumes a b bytes → Reads b c piece n → length bytes ≤ 4294967295 → length piece ≤ 4294967295 - length bytes + 1 → 4294967295 - length bytes < n → ReadsPast a c
+pub read_past : (a b c : Option (List ℕ)) (bytes piece : List ℕ) (n : ℕ) → Consumes a b bytes → ReadsInto b c piece n → length bytes ≤ 4294967295 → length piece ≤ 4294967295 - length bytes + 1 → 4294967295 - length bytes < n → ReadsPast a c
 read_past a b c bytes piece n so_far r fits room past =
     let given = length-take-le n piece r.few in
     record {
@@ -92,7 +92,7 @@ read_past a b c bytes piece n so_far r fits room past =
     }
 
 -- a read that does not
-pub read_short : (a b c : Option (List ℕ)) (bytes piece : List ℕ) (n : ℕ) → Consumes a b bytes → Reads b c piece n → length bytes ≤ 4294967295 → n ≤ 4294967295 - length bytes → ReadsShort a c
+pub read_short : (a b c : Option (List ℕ)) (bytes piece : List ℕ) (n : ℕ) → Consumes a b bytes → ReadsInto b c piece n → length bytes ≤ 4294967295 → n ≤ 4294967295 - length bytes → ReadsShort a c
 read_short a b c bytes piece n so_far r fits few =
     let given = length-take-le n piece r.few in
     let all = length-append bytes (take n piece) in

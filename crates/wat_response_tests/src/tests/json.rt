@@ -4,7 +4,8 @@ use crate::tests::OFF;
 use std::alloc::Global;
 use std::test::Fail;
 use wat_commands::ends::Plain;
-use wat_commands::run::{Printing, run};
+use wat_commands::options::Task;
+use wat_commands::run::run;
 
 /// Words, a text, and what is answered.
 const LINES: &str = "\
@@ -40,7 +41,7 @@ fn lines_of_json(rt: HostRuntime) -> Result<(), Fail> {
 fn list(alloc: Global, text: &str) -> Result<Vec<u8>, Fail> {
     let mut input = Plain::new(text.as_bytes());
     let mut output = Plain::new(Vec::new(alloc));
-    match run(alloc, &mut input, &mut output, OFF, Printing::JsonRaw(None)) {
+    match run(alloc, &mut input, &mut output, OFF, &Task::JsonList, None) {
         Ok(None) => Ok(output.into_inner()),
         _ => Err(Fail::from("the run is refused, or there is a fault")),
     }
@@ -55,7 +56,8 @@ fn sig(alloc: Global, text: &str) -> Result<Vec<u8>, Fail> {
         &mut input,
         &mut output,
         OFF,
-        Printing::JsonShown(&[], None),
+        &Task::JsonSig(&[]),
+        None,
     ) {
         Ok(None) => Ok(output.into_inner()),
         _ => Err(Fail::from("the run is refused, or there is a fault")),
