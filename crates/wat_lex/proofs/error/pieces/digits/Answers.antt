@@ -17,8 +17,8 @@ places-init c = record {
   some = omega arith;
   within = omega arith;
   few = omega (arith, c.ranges.number.fits);
-  long = c.known-room;
-  digits = ap (digits_onto 64 c.args.base false c.args.number) (drop_all 20 c.args.room.now (omega (arith, c.known-room)));
+  long = c.told-room;
+  digits = ap (digits_onto 64 c.args.base false c.args.number) (drop_all 20 c.args.room.now (omega (arith, c.told-room)));
 }
 
 glyph : (c : Else-rest-eq0) → c.if-digit-lt10.room ≡ digit_glyph false (c.places.rest % c.args.base)
