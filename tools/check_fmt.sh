@@ -41,7 +41,7 @@ run() {
 # can_be_plain: whether the program can be run as that user
 can_be_plain() {
     "${plain_user[@]}" "$program" --version > /dev/null 2>&1 || {
-        echo 'check_fmt.sh: the program can not be run as another user here, so what that may not do is left out'
+        echo 'check_fmt.sh: what another user may not do is left out, as the program can not be run as one here'
         return 1
     }
 }
