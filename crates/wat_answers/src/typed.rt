@@ -168,7 +168,7 @@ fn list(alloc: Global, call: &str, parser: &mut Parser<'_>) -> Result<String, Er
     Ok(match call {
         "all-of" => printed(alloc, &parser.all_of::<u32>()?.as_slice())?,
         "all-while" => printed(alloc, &parser.all_while::<u32, u32>()?.as_slice())?,
-        _ => printed(alloc, &parser.all_behind::<u32, Parens<u32>>()?.as_slice())?,
+        _ => printed(alloc, &parser.all_after::<u32, Parens<u32>>()?.as_slice())?,
     })
 }
 

@@ -10,5 +10,5 @@ all_of-requires c = λ k. ((refl, tt), advances_u32)
 pub all_while-requires : goal.all_while-requires
 all_while-requires c = λ k. ((refl, tt), advances_u32)
 
-pub all_behind-requires : goal.all_behind-requires
-all_behind-requires c = λ k. ((refl, tt), advances_group u32)
+pub all_after-requires : goal.all_after-requires
+all_after-requires c = λ k. ((refl, tt), advances_group u32)
