@@ -398,10 +398,7 @@ fn lay_out(text: &str, fails_at: usize, room: usize) -> (RunFailure, Vec<u8>) {
     writer.room = room;
     let mut output = Plain::new(writer);
     let ended = run_fmt(Global, &mut input, &mut output, OFF);
-    (
-        ended.err().expect("the run is refused"),
-        output.into_inner().held,
-    )
+    (ended.unwrap_err(), output.into_inner().held)
 }
 
 #[test]
