@@ -2,7 +2,7 @@
 # Refuses each request for memory of each row of crates/wat_requests in turn, and each from there on, and prints how many there are.
 #
 # A row's line tells where the refused request was: before the call (`set-up`), in the call (`memory`, or `answer` where the call can do
-# without it), or right behind the call (`behind`), where the program makes a request of its own. So the requests of the call are those
+# without it), or right after the call (`behind`), where the program makes a request of its own. So the requests of the call are those
 # between. Each call of a row `free-..` makes none, and each other call answers want of memory at one of its requests at least. A row has its
 # line in tools/request_bounds.txt: how many requests its call makes at most, and how many bytes the row asks for at most where nothing is refused, which
 # is twice what was seen. Nothing may be held at its end.
@@ -52,7 +52,7 @@ refuse_each() {
             *) return ;;
         esac
         if [ "$word" = set-up ] && [ "$before" != "$n" ]; then
-            fault "$row: its call and its set-up are not one behind the other"
+            fault "$row: its call and its set-up are not one after the other"
         fi
     done
     if [ "$n" -gt "$most" ]; then
@@ -71,7 +71,7 @@ refuse_rest() {
         esac
     done
     if [ "$word" != behind ]; then
-        fault "$row with each request behind the call refused: $word"
+        fault "$row with each request after the call refused: $word"
     fi
 }
 
@@ -106,5 +106,5 @@ while read -r row word; do
     esac
     rows=$((rows + 1)) all=$((all + wanting + spared))
 done < "$room/rows"
-echo "check_requests.sh: $rows rows, $all requests of their calls, each refused alone and with all behind it; $faults faults"
+echo "check_requests.sh: $rows rows, $all requests of their calls, each refused alone and with all after it; $faults faults"
 [ "$faults" = 0 ]

@@ -157,8 +157,8 @@ def with_body(text, marker, place, answer):
     """The text with this answer at the start of a function's body."""
     lines = text.split("\n")
     first = [at for at, line in enumerate(lines) if line.startswith(marker)][place - 1]
-    behind = first if lines[first].endswith(" {") else next(at for at in range(first, len(lines)) if lines[at].strip() == "{")
-    lines.insert(behind + 1, f"return {answer};")
+    body = first if lines[first].endswith(" {") else next(at for at in range(first, len(lines)) if lines[at].strip() == "{")
+    lines.insert(body + 1, f"return {answer};")
     return "\n".join(lines)
 
 
