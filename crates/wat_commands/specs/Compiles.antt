@@ -17,7 +17,7 @@ pub record CompiledText (text written : List ℕ) : Type 0 where
   pub fit : Fits types
   pub bytes : written ≡ module_bytes types
 
--- The text spells no function types that fit, nothing is written, and this is the error of its refusal, which its raw tokens tell.
+-- The text spells no function types that fit, nothing is written, and this is the error of its refusal, which follows from its raw tokens.
 pub record RefusedText (text written : List ℕ) (error : Option Report) : Type 0 where
   pub unspelled : (types : List Signature) → SpellsTypes text types → ¬ Fits types
   pub nothing : written ≡ []

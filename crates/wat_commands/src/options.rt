@@ -118,20 +118,20 @@ pub(crate) enum Flag {
 
 /// An option.
 #[derive(Clone, Copy)]
-pub(crate) enum Given<'a> {
+pub(crate) enum GivenOption<'a> {
     Flag(Flag),
     /// The name of a file.
     File(&'a str),
 }
 
-impl Given<'_> {
+impl GivenOption<'_> {
     /// One where it is this flag, and else zero.
     fn once_for(self, flag: Flag) -> usize
         ensures { result ≡ once_for flag self.entry }
     {
         match self {
-            Given::Flag(given) if given == flag => 1,
-            Given::Flag(_) | Given::File(_) => 0,
+            GivenOption::Flag(given) if given == flag => 1,
+            GivenOption::Flag(_) | GivenOption::File(_) => 0,
         }
     }
 }
@@ -156,7 +156,7 @@ fn is_file_option(word: &String) -> bool
 }
 
 /// The option that the words begin with, and the words after it.
-fn next_option(words: &[String]) -> Option<(Given<'_>, &[String])>
+fn next_option(words: &[String]) -> Option<(GivenOption<'_>, &[String])>
     ensures { MatchOption result (front_of words.now ≡ no_options words.now)
         (λ r. IsStep words.now r.0 r.1.now) }
 {
@@ -164,7 +164,7 @@ fn next_option(words: &[String]) -> Option<(Given<'_>, &[String])>
         return None;
     };
     if let Some(flag) = flag_named(word) {
-        return Some((Given::Flag(flag), rest));
+        return Some((GivenOption::Flag(flag), rest));
     }
     if !is_file_option(word) {
         return None;
@@ -172,7 +172,7 @@ fn next_option(words: &[String]) -> Option<(Given<'_>, &[String])>
     let Some((name, after)) = rest.split_first() else {
         return None;
     };
-    Some((Given::File(name.as_str()), after))
+    Some((GivenOption::File(name.as_str()), after))
 }
 
 /// How often a flag is given before the other words.
@@ -226,7 +226,7 @@ impl<'a> FileNames<'a> {
     {
         while let Some((given, rest)) = next_option(self.options) {
             self.options = rest;
-            if let Given::File(name) = given {
+            if let GivenOption::File(name) = given {
                 return Some(name);
             }
         }

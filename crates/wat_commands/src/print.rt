@@ -8,7 +8,7 @@ ghost use Rattle.wat_lists.specs.Blanks.{Blanks};
 ghost use Rattle.wat_lines.specs.Streams.{failure_after};
 ghost use Rattle.wat_lists.specs.JsonLists.{JsonLists, json_report};
 ghost use Rattle.wat_lists.specs.Lists.{Lists};
-ghost use Rattle.wat_lists.specs.Refusals.{IsNotUtf8, IsWrite, answered};
+ghost use Rattle.wat_lists.specs.Refusals.{IsNotUtf8, IsFailedWrite, answered};
 ghost use Rattle.wat_commands.specs.Compiles.{Compiles};
 ghost use Rattle.wat_commands.specs.Printed.{task_prints};
 ghost use Rattle.wat_commands.specs.JsonWrites.{AppendsRows, AppendsRowsCut};
@@ -68,7 +68,7 @@ fn print_raw<W: Sink>(
     requires text { length text.now < 2 ^ 32 }
     requires output { W.failure output.old ≡ None }
     ensures printed { Writes W.held W.failure (Lists settings text.now) output.old output.new result }
-    ensures refused { IfErr result (λ e. IsWrite e ⊎ (e ≡ RunFailure.Memory alloc_error)) }
+    ensures refused { IfErr result (λ e. IsFailedWrite e ⊎ (e ≡ RunFailure.Memory alloc_error)) }
 {
     wat_lex::laws::one_tiling();
     let lexer = lexer_of(text, settings);
@@ -126,7 +126,7 @@ fn print_json<W: Sink>(
     requires output { W.failure output.old ≡ None }
     ensures printed { Writes W.held W.failure
         (JsonLists settings (option_map (λ f. f.now) file.entry) text.now) output.old output.new result }
-    ensures refused { IfErr result (λ e. IsWrite e ⊎ (e ≡ RunFailure.Memory alloc_error)) }
+    ensures refused { IfErr result (λ e. IsFailedWrite e ⊎ (e ≡ RunFailure.Memory alloc_error)) }
 {
     wat_lex::laws::one_tiling();
     let lexer = lexer_of(text, settings);
@@ -146,7 +146,7 @@ fn print_blank<W: Sink>(
     requires text { length text.now < 2 ^ 32 }
     requires output { W.failure output.old ≡ None }
     ensures printed { Writes W.held W.failure (Blanks settings text.now) output.old output.new result }
-    ensures refused { IfErr result (λ e. IsWrite e ⊎ (e ≡ RunFailure.Memory alloc_error)) }
+    ensures refused { IfErr result (λ e. IsFailedWrite e ⊎ (e ≡ RunFailure.Memory alloc_error)) }
 {
     wat_lex::laws::one_tiling();
     laws::blank_texts();
@@ -166,7 +166,7 @@ fn print_text<W: Sink>(
     requires { W.failure output.old ≡ None }
     ensures printed { Writes W.held W.failure
         (λ bytes e. (bytes ≡ text.now) × (e ≡ error)) output.old output.new result }
-    ensures refused { IfErr result IsWrite }
+    ensures refused { IfErr result IsFailedWrite }
 {
     answer(output.write_all(text), error)
 }
@@ -180,7 +180,7 @@ fn print_types<W: Sink>(
     requires text { length text.now < 2 ^ 32 }
     requires output { W.failure output.old ≡ None }
     ensures printed { Writes W.held W.failure (Compiles text.now) output.old output.new result }
-    ensures refused { IfErr result (λ e. IsWrite e ⊎ (e ≡ RunFailure.Memory alloc_error)) }
+    ensures refused { IfErr result (λ e. IsFailedWrite e ⊎ (e ≡ RunFailure.Memory alloc_error)) }
 {
     wat_lex::laws::one_tiling();
     match compile_types(alloc, text) {
@@ -203,10 +203,10 @@ fn print_of<W: Sink>(
 ) -> Result<Option<Error>, RunFailure>
     requires text { length text.now < 2 ^ 32 }
     requires output { W.failure output.old ≡ None }
-    ensures printed { Writes W.held W.failure 
+    ensures printed { Writes W.held W.failure
         (task_prints settings (option_map (λ f. f.now) file.entry) task.now text.now)
         output.old output.new result }
-    ensures refused { IfErr result (λ e. IsWrite e ⊎ (e ≡ RunFailure.Memory alloc_error)) }
+    ensures refused { IfErr result (λ e. IsFailedWrite e ⊎ (e ≡ RunFailure.Memory alloc_error)) }
 {
     match task {
         Task::List => print_raw(alloc, text, settings, output),
@@ -239,13 +239,13 @@ pub fn print<W: Sink>(
 ) -> Result<Option<Error>, RunFailure>
     requires bytes { length bytes.now < 2 ^ 32 }
     requires output { W.failure output.old ≡ None }
-    ensures printed { Writes W.held W.failure 
+    ensures printed { Writes W.held W.failure
         (task_prints settings (option_map (λ f. f.now) file.entry) task.now bytes.now)
         output.old output.new result }
     ensures not_utf8 { (offset : ℕ) →
         IsErrOf result (RunFailure.NotUtf8 offset) ↔ IsValidUpTo bytes.now offset }
     ensures refused { IfErr result (λ e. IsNotUtf8 e ⊎
-        (IsWrite e ⊎ (e ≡ RunFailure.Memory alloc_error))) }
+        (IsFailedWrite e ⊎ (e ≡ RunFailure.Memory alloc_error))) }
 {
     match text_of(bytes) {
         Ok(text) => print_of(alloc, text, settings, task, file, output),

@@ -6,7 +6,7 @@ ghost use Rattle.std.specs.Str.{IsValidUpTo};
 ghost use Rattle.wat_lines.specs.declared.failed.Failed.{Failed};
 ghost use Rattle.wat_lists.specs.Inputs.{ReadsPast, ReadsShort, HasEnded};
 ghost use Rattle.wat_lists.specs.Lists.{Lists};
-ghost use Rattle.wat_lists.specs.Refusals.{IsWrite, read_failure, write_failure};
+ghost use Rattle.wat_lists.specs.Refusals.{IsFailedWrite, read_failure, write_failure};
 ghost use Rattle.wat_lists.specs.Replies.{Plays};
 ghost use Rattle.wat_lists.specs.Shows.{Shows};
 ghost use Rattle.wat_commands.specs.Printed.{task_prints, AppendsText, AppendsCut};
@@ -60,7 +60,7 @@ fn read_and_print<R: Source, W: Sink>(
         IfSome (R.left input.old) (λ bytes.
         AppendsCut (task_prints settings (option_map (λ f. f.now) file.entry) task.now bytes)
         (W.held output.old) (W.held output.new)) }
-    ensures unwritten { IfErr result (λ e. IsWrite e ⊎ (output.new ≡ output.old)) }
+    ensures unwritten { IfErr result (λ e. IsFailedWrite e ⊎ (output.new ≡ output.old)) }
 {
     let bytes = read_whole(alloc, input)?;
     print(alloc, &bytes, settings, task, file, output)
@@ -124,14 +124,7 @@ pub fn run_sig<R: Source, W: Sink>(
     ensures { Runs R.left R.failure R.has_ended W.held W.failure (Shows settings names.now)
         input.old input.new output.old output.new result }
 {
-    without_cause(run(
-        alloc,
-        input,
-        output,
-        settings,
-        &Task::Sig(names),
-        None,
-    ))
+    without_cause(run(alloc, input, output, settings, &Task::Sig(names), None))
 }
 
 /// Writes a parser's replies to calls from the start of the text.

@@ -22,7 +22,7 @@ pub record AppendsPart (s : Setting) (old new : Option (List ℕ)) : Type 0 wher
   pub formatted : Formatted s answer
   pub appended : AppendsPrefix old new answer
 
--- Where the text has this fault nothing is written. Where memory is wanting or a write fails, the text has no fault and a first part of its layout
+-- Where the text has this fault nothing is written. Where memory runs out or a write fails, the text has no fault and a first part of its layout
 -- is written.
 abbrev pub RefusesToWrite : Setting → Option (List ℕ) → Option (List ℕ) → WriteError → Type 0
 RefusesToWrite s old new (Memory refused) = AppendsPart s old new

@@ -84,11 +84,7 @@ pub fn format_to<W: Sink>(
 }
 
 /// Writes the layout of a lexer's text that has no fault.
-fn write_laid<W: Sink>(
-    alloc: Global,
-    lexer: &Lexer<'_>,
-    output: &mut W,
-) -> Result<(), WriteError>
+fn write_laid<W: Sink>(alloc: Global, lexer: &Lexer<'_>, output: &mut W) -> Result<(), WriteError>
     requires { EndsFrom lexer.now 0 None }
     ensures written { OnOk result
         (AppendsLayout lexer.now (W.held output.old) (W.held output.new)) }

@@ -49,7 +49,7 @@ fn line_of(alloc: Global, text: &str) -> Result<String, AllocError> {
     Ok(line)
 }
 
-/// What stands below a line.
+/// What is printed below a line.
 fn answer(alloc: Global, line: &str) -> Result<String, AllocError> {
     let text = text_of(alloc, line)?;
     let settings = Settings {

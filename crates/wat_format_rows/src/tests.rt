@@ -42,7 +42,8 @@ impl Narrow {
 impl io::Write for Narrow {
     fn write(&mut self, bytes: &[u8]) -> io::Result<usize> {
         let count = self.room.min(bytes.len());
-        if self.held.extend_from_slice(&bytes[..count]).is_err() || self.calls.push(count).is_err()
+        if self.held.extend_from_slice(&bytes[..count]).is_err()
+            || self.calls.push(count).is_err()
         {
             return Err(io::ErrorKind::OutOfMemory.into());
         }

@@ -6,7 +6,7 @@ ghost use Rattle.wat_lex.specs.errors.Errors.{lexical};
 ghost use Rattle.wat_lines.specs.declared.failed.Failed.{Failed};
 ghost use Rattle.wat_lists.specs.Inputs.{ReadsPast, ReadsShort, HasEnded};
 ghost use Rattle.wat_lists.specs.Layouts.{Compares, WritesLayout, WritesPart};
-ghost use Rattle.wat_lists.specs.Refusals.{IsNotUtf8, IsWrite, failure_after};
+ghost use Rattle.wat_lists.specs.Refusals.{IsNotUtf8, IsFailedWrite, failure_after};
 ghost use Rattle.wat_lists.specs.Refusals.{read_failure, write_failure};
 
 use crate::input::{RunFailure, read_whole, text_of};
@@ -59,7 +59,7 @@ fn write_text<W: sink::Sink<Failure = Failed>>(
     ensures part { OnErr result
         (WritesPart settings text.now (W.held output.old) (W.held output.new)) }
     ensures write { W.failure output.new ≡ failure_after (W.failure output.old) result }
-    ensures refused { IfErr result (λ e. IsWrite e ⊎ (e ≡ RunFailure.Memory alloc_error)) }
+    ensures refused { IfErr result (λ e. IsFailedWrite e ⊎ (e ≡ RunFailure.Memory alloc_error)) }
 {
     match format_to(alloc, text, settings, output) {
         Ok(()) => Ok(None),
@@ -82,12 +82,12 @@ fn write_bytes<W: sink::Sink<Failure = Failed>>(
     ensures part { OnErr result
         (WritesPart settings bytes.now (W.held output.old) (W.held output.new)) }
     ensures write { W.failure output.new ≡ failure_after (W.failure output.old) result }
-    ensures unwritten { IfErr result (λ e. IsWrite e ⊎
+    ensures unwritten { IfErr result (λ e. IsFailedWrite e ⊎
         ((e ≡ RunFailure.Memory alloc_error) ⊎ (output.new ≡ output.old))) }
     ensures not_utf8 { (offset : ℕ) →
         IsErrOf result (RunFailure.NotUtf8 offset) ↔ IsValidUpTo bytes.now offset }
     ensures refused { IfErr result (λ e. IsNotUtf8 e ⊎
-        (IsWrite e ⊎ (e ≡ RunFailure.Memory alloc_error))) }
+        (IsFailedWrite e ⊎ (e ≡ RunFailure.Memory alloc_error))) }
 {
     match text_of(bytes) {
         Ok(text) => write_text(alloc, text, settings, output),
@@ -112,7 +112,7 @@ pub fn run_fmt<R: Source, W: sink::Sink<Failure = Failed>>(
     // too, and each other refusal nothing.
     ensures part { OnErr result (IfSome (R.left input.old) (λ bytes.
         WritesPart settings bytes (W.held output.old) (W.held output.new))) }
-    ensures unwritten { IfErr result (λ e. IsWrite e ⊎
+    ensures unwritten { IfErr result (λ e. IsFailedWrite e ⊎
         ((e ≡ RunFailure.Memory alloc_error) ⊎ (output.new ≡ output.old))) }
 
     // These come only once the source was read to its end.

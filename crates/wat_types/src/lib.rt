@@ -32,7 +32,7 @@ use wat_lexer_parser::token::Span;
 /// a part of the standard's text format (`specs/Grammar` says which), and these are its bytes by the
 /// standard's binary format. A section
 /// that would hold more than `u32::MAX` bytes is refused as `section too long` at the text's start;
-/// any other text with the error of the parser's call that refuses it. Memory may be wanting.
+/// any other text with the error of the parser's call that refuses it. It may run out of memory.
 pub fn compile_types(alloc: Global, text: &str) -> Result<Vec<u8>, Error>
     requires { length text.now < 2 ^ 32 }
 

@@ -9,7 +9,7 @@ use Rattle.wat_lines.specs.Streams.{ReadsInto}
 use Rattle.wat_lines.specs.declared.failed.Failed.{Failed}
 use Rattle.wat_lines.specs.lemmas.KnownBytes.{consumes_all, consumes_more}
 use Rattle.wat_lists.specs.Inputs.{ReadsWhole, ReadsPast, ReadsShort}
-use Rattle.wat_lists.specs.Refusals.{IsWrite}
+use Rattle.wat_lists.specs.Refusals.{IsFailedWrite}
 use Rattle.wat_lists.specs.declared.input.RunFailure.{RunFailure}
 use Rattle.wat_lists.specs.declared.input.RunFailure.TheVariants.{Read, TooLong, NotUtf8, Write, Memory}
 
@@ -53,12 +53,12 @@ not_memory : {T : Type 0} (n : ℕ) (r : Result T RunFailure) → r ≡ Err (Mem
 not_memory n r h k = let d = sym h ∙ k in cc
 
 -- what is refused for another reason is a text
-pub text_known : {T : Type 0} (r : Result T RunFailure) (bs : List ℕ) (n : ℕ) → IsUtf8 bs → IfErr r (λ e. IsWrite e ⊎ (e ≡ Memory alloc_error)) → IsErrOf r (NotUtf8 n) ↔ IsValidUpTo bs n
+pub text_known : {T : Type 0} (r : Result T RunFailure) (bs : List ℕ) (n : ℕ) → IsUtf8 bs → IfErr r (λ e. IsFailedWrite e ⊎ (e ≡ Memory alloc_error)) → IsErrOf r (NotUtf8 n) ↔ IsValidUpTo bs n
 text_known (Ok t) bs n u h = (λ e. cc, λ v. absurd (valid_is_no_text bs n v u))
 text_known (Err e) bs n u h =
     (λ is. absurd (elim h [ inl w ↦ not_write n w.0 (Err e) (ap (λ x. Err x) w.1) is | inr m ↦ not_memory n (Err e) (ap (λ x. Err x) m) is ]), λ v. absurd (valid_is_no_text bs n v u))
 
-pub or_write : {T : Type 0} (r : Result T RunFailure) → IfErr r (λ e. e ≡ Memory alloc_error) → IfErr r (λ e. IsWrite e ⊎ (e ≡ Memory alloc_error))
+pub or_write : {T : Type 0} (r : Result T RunFailure) → IfErr r (λ e. e ≡ Memory alloc_error) → IfErr r (λ e. IsFailedWrite e ⊎ (e ≡ Memory alloc_error))
 or_write (Ok t) h = tt
 or_write (Err e) h = inr h
 
