@@ -13,12 +13,11 @@ use crate::input::{RunFailure, read_whole, text_of};
 use std::alloc::Global;
 use wat_format::error::Error as FormatError;
 use wat_format::format::format;
-use wat_format::sink;
 use wat_format::stream::{WriteError, format_to};
 use wat_lex::error::Error;
 use wat_lex::lexer::{LexFault, Settings};
 use wat_lex::token::Span;
-use wat_lines::ends::{Failed, Source};
+use wat_lines::ends::{Sink, Source};
 
 /// What comes of comparing a text with its layout.
 #[derive(Drop)]
@@ -47,7 +46,7 @@ fn error_of(alloc: Global, text: &str, fault: LexFault) -> Result<Error, RunFail
 }
 
 /// Writes the layout of a text, or answers the error of its fault.
-fn write_text<W: sink::Sink<Failure = Failed>>(
+fn write_text<W: Sink>(
     alloc: Global,
     text: &str,
     settings: Settings,
@@ -70,7 +69,7 @@ fn write_text<W: sink::Sink<Failure = Failed>>(
 }
 
 /// Writes the layout of the text that bytes are, or answers the error of its fault.
-fn write_bytes<W: sink::Sink<Failure = Failed>>(
+fn write_bytes<W: Sink>(
     alloc: Global,
     bytes: &[u8],
     settings: Settings,
@@ -98,7 +97,7 @@ fn write_bytes<W: sink::Sink<Failure = Failed>>(
 /// Writes all that the source has left laid out, some 64 KiB at a time, however long that is. Where
 /// the text has a fault nothing is written, and the answer is that fault's error. Memory is asked
 /// for while it writes, eight bytes for each open group.
-pub fn run_fmt<R: Source, W: sink::Sink<Failure = Failed>>(
+pub fn run_fmt<R: Source, W: Sink>(
     alloc: Global,
     input: &mut R,
     output: &mut W,

@@ -58,12 +58,12 @@ pub fn push_report(
 
 /// A line of JSON for each token. Each line begins with `begin`.
 #[derive(Drop)]
-struct Rows<'a> {
+struct JsonLines<'a> {
     begin: &'a [u8],
     positions: Positions<'a>,
 }
 
-impl Form for Rows<'_> {
+impl Form for JsonLines<'_> {
     ghost use Rattle.std.specs.Prelude.{Some};
     ghost use Rattle.wat_lines.specs.JsonRows.{json_line};
 
@@ -90,7 +90,7 @@ pub fn show_json(
         (option_map (λ f. f.now) file.entry) names.now s.lines.items s.error) }
 {
     let begin = object_open(alloc, file)?;
-    let rows = Rows {
+    let rows = JsonLines {
         begin: &begin,
         positions: Positions::new(text),
     };

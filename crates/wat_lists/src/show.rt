@@ -41,9 +41,9 @@ pub(crate) trait Form {
 
 /// A line for each token, as the raw tokens have it.
 #[derive(Clone, Copy)]
-struct Plain;
+struct PlainLines;
 
-impl Form for Plain {
+impl Form for PlainLines {
     ghost use Rattle.std.specs.Prelude.{None};
     ghost use Rattle.wat_lines.specs.Lines.{line};
 
@@ -151,5 +151,5 @@ pub fn show(
     ensures { IfOk result (λ s. ShownText line (record { text = text.now; flags = settings })
         names.now s.lines.items s.error) }
 {
-    show_in(alloc, text, settings, names, Plain)
+    show_in(alloc, text, settings, names, PlainLines)
 }
