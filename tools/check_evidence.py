@@ -20,7 +20,7 @@ from rattle_source import OPEN, items_of, past_group, split_at, tokens_of, uses_
 
 # Crates of tests, and the programs that refuse requests from outside. No other crate may use one of them.
 HARNESS = set(
-    "wat_answers wat_command_tests wat_response_tests wat_lex_answers wat_lex_requests wat_lex_tests wat_requests wat_row_tests wat_type_tests".split()
+    "wat_command_tests wat_response_tests wat_lex_requests wat_lex_tests wat_requests wat_row_tests wat_type_tests".split()
 )
 
 # A place is a file, a function of it, and what is there, once. Functions of an `impl` have the type's name in front, and the trait's.

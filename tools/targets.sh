@@ -104,7 +104,7 @@ for feature in -simd128 +simd128; do
     if RUSTFLAGS=$flags part "wasm $feature" wasm32-wasip1 "${WASM:-cargo}"; then
         export RUSTFLAGS=$flags
         try -p wat-lex --lib --test agreement --test stored --test random --test shim --test traits --test refusals "${alone[@]}"
-        try -p wat-parser --test answers --test floats --test table_of_answers
+        try -p wat-parser --test answers --test floats
         try "${requests[@]}"
         sum
         unset RUSTFLAGS

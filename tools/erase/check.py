@@ -58,8 +58,6 @@ PLACES = {
     "wat_lex": ("wat_lex::proved", "crate::proved"),
     "wat_words": ("wat_parser::words", "crate::words"),
     "wat_lexer_parser": ("wat_parser::proved", "crate::proved"),
-    "wat_lex_answers": ("", "crate::lex_answers"),
-    "wat_answers": ("", "crate::answers"),
     "wat_rows": ("", "crate::rows"),
     "wat_parser_c": ("", "crate::proved"),
     "wat_format": ("wat_tokens::format", "crate::format"),
@@ -75,7 +73,7 @@ PLACES = {
 # Crates that are compiled together see each other as they see themselves.
 PROGRAM = {"wat_format", "wat_lines", "wat_lists", "wat_types", "wat_commands", "wat_tokens"}
 REQUESTS = {"wat_lex_requests", "wat_imports", "wat_requests"}
-TOGETHER = [{"wat_words", "wat_lexer_parser"}, {"wat_lex_answers", "wat_answers"}, {"wat_rows", "wat_parser_c"}, PROGRAM, REQUESTS]
+TOGETHER = [{"wat_words", "wat_lexer_parser"}, {"wat_rows", "wat_parser_c"}, PROGRAM, REQUESTS]
 # Of a function that C calls, with a space between tokens: what C passes of a slice, and the statements that its body begins with.
 PASSED = re.compile(r"(\w+) : \* (const|mut) (\w+) , \1_len : usize")
 MADE = re.compile(

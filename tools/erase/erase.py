@@ -17,8 +17,6 @@ MODULES = {
     "wat_lex": "wat-lex/src/proved",
     "wat_words": "wat-parser/src/words",
     "wat_lexer_parser": "wat-parser/src/proved",
-    "wat_lex_answers": "wat-parser/tests/table_of_answers/lex_answers",
-    "wat_answers": "wat-parser/tests/table_of_answers/answers",
     "wat_rows": "wat-c/src/rows",
     "wat_parser_c": "wat-c/src/proved",
     "wat_format": "wat-tokens/src/format",
@@ -34,7 +32,7 @@ MODULES = {
 # What is compiled with a shim of its own.
 WITH_SHIM = [("wat-lex", "src"), ("wat-tokens", "src"), ("wat-tokens", "table_of_requests")]
 # What takes Rattle's streams is written in Rust, and so are rows in which a name of a type is printed.
-LEFT_OUT = {"wat_answers/src/main.rt", "wat_requests/src/rows.rt"}
+LEFT_OUT = {"wat_requests/src/rows.rt"}
 # What is written otherwise: the closed list. The first entry that fits counts. SHIM is the path of the shim, STD that of what it leaves to Rust,
 # SELF that of the source's crate.
 WRITTEN = {
