@@ -138,7 +138,7 @@ TURNS = [
     ],
     [
         (PARSER + "parser/lists.rt", "    pub fn all_of<", 1, ERROR, "list-of"),
-        (PARSER + "parser/lists.rt", "    pub fn all_behind<", 1, ERROR, "list-behind"),
+        (PARSER + "parser/lists.rt", "    pub fn all_after<", 1, ERROR, "list-behind"),
         (PARSER + "parser/lists.rt", "    pub fn all_while<", 1, ERROR, "list-while"),
         (PARSER + "token/references.rt", CLONE, 1, ALLOC, "item-clone"),
     ],

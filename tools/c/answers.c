@@ -151,7 +151,7 @@ static void shown(void) {
     expect(looks(wat_shown(bytes_of(text), strlen(text), rows, 13, filled.why, 2, bytes_of("b"), 1, &end, 1), 2, WAT_SHOWN), "wat_shown", text);
     expect(looks(wat_shown(bytes_of(text), strlen(text), rows, 13, filled.why, 11, bytes_of(""), 0, &end, 0), 12, WAT_MISNAMED), "wat_shown", text);
     expect(looks(wat_shown(bytes_of(text), strlen(text), rows, 13, filled.why, 13, bytes_of(""), 0, &end, 0), 13, WAT_TEXT_END), "wat_shown", text);
-    expect(wat_behind(rows, 13, 0) == 0 && wat_behind(rows, 13, 2) == 2, "wat_behind", text);
+    expect(wat_after(rows, 13, 0) == 0 && wat_after(rows, 13, 2) == 2, "wat_after", text);
 }
 
 static bool is_word(struct wat_word word, uint32_t start, uint32_t len, uint32_t status) {

@@ -363,11 +363,11 @@ static void compare_rows(struct setting s, struct rows all) {
         wanted.link = all.rows[i].link;
         link = wanted.link;
         expect(memcmp(&wanted, &all.rows[i], sizeof wanted) == 0, "a row that counts is another token", all.rows[i].offset);
-        expect(wat_behind(all.rows, all.count, i + 1) == (size_t)wanted.offset + wanted.len, "behind a row", wanted.offset);
+        expect(wat_after(all.rows, all.count, i + 1) == (size_t)wanted.offset + wanted.len, "behind a row", wanted.offset);
         expect(link == 0 || (link > i + 1 && link <= all.count), "a link goes back", wanted.offset);
         expect(link == 0 || all.rows[link - 1].kind.code == WAT_RPAREN, "a link goes to no parenthesis", wanted.offset);
     }
-    expect(wat_behind(all.rows, all.count, 0) == 0, "behind no row", 0);
+    expect(wat_after(all.rows, all.count, 0) == 0, "behind no row", 0);
 }
 
 /* Looks at each row, under these names. */

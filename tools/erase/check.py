@@ -576,7 +576,7 @@ PLANTED = [
     ("C passes an allocator", "wat_parser_c/src/lib.rt", "wat_string(text: *const u8", "wat_string(alloc: Global, text: *const u8"),
     ("C passes values of another type", "wat_parser_c/src/looks.rt", "out: *mut Row", "out: *mut Kind"),
     ("C passes what is constant for a buffer", "wat_parser_c/src/looks.rt", "wat_links(rows: *mut Row", "wat_links(rows: *const Row"),
-    ("C passes a buffer for what is constant", "wat_parser_c/src/looks.rt", "wat_behind(rows: *const Row", "wat_behind(rows: *mut Row"),
+    ("C passes a buffer for what is constant", "wat_parser_c/src/looks.rt", "wat_after(rows: *const Row", "wat_after(rows: *mut Row"),
     ("a parameter is not made", "wat_parser_c/src/looks.rt", "let names = unsafe { core::slice::from_raw_parts(names, names_len) };", ""),
     ("a buffer is made with another's length", "wat_parser_c/src/words.rt", "from_raw_parts(text, text_len)", "from_raw_parts(text, row_len)"),
     ("a buffer is made of what is constant", "wat_parser_c/src/looks.rt", "from_raw_parts_mut(rows, rows_len)", "from_raw_parts(rows, rows_len)"),

@@ -16,7 +16,7 @@ use Rattle.wat_types.specs.Signatures.{Signature}
 compiled_fits : (types : List Signature) → Fits types → compiled types ≡ Ok (module_bytes types)
 compiled_fits types h = ap (λ b. if b then Ok (module_bytes types) else Err too_long) ((Decides-ltb (length (content types)) (2 ^ 32)).1 h)
 
--- an error that is no want of memory is the refusal of the text
+-- an error other than out of memory is the refusal of the text
 pub refused_text : {T E : Type 0} → EachPlaceIsTiled → (text : List ℕ) (f : T → List ℕ) (error : Option Report) (memory : Option E) → IsUtf8 text
     → ((types : List Signature) → Spells text types → Answers {T = T} true f (compiled types) (Err error))
     → ((s : Source) → IsRead s → s.setting ≡ plain text → s.track ≡ false → Answers {T = T} true f (compiled_text s) (Err error))

@@ -18,7 +18,7 @@ use Rattle.wat_lines.specs.JsonRows.{json_line, json_lines, json_open}
 use Rattle.wat_lines.specs.Lines.{line}
 use Rattle.wat_lines.specs.Streams.{AppendsPrefix, failure_after}
 use Rattle.wat_lines.specs.declared.failed.Failed.{Failed}
-use Rattle.wat_lines.specs.lemmas.BlockLaws.{cut_behind, cut_longer}
+use Rattle.wat_lines.specs.lemmas.BlockLaws.{cut_after, cut_longer}
 use Rattle.wat_lines.specs.lemmas.KnownBytes.{appends_more, appends_none}
 use Rattle.wat_lists.specs.Blanks.{Blanks}
 use Rattle.wat_lists.specs.JsonLists.{JsonLists, json_report}
@@ -111,7 +111,7 @@ pub rows_cut : (begin last : List ℕ) (s : Setting) (old new : Option (List ℕ
 rows_cut begin last s old new h = record { tokens = h.tokens; ending = h.ending; tiling = h.tiling; appended = cut_longer old new (json_lines begin s.text h.tokens) last (json_lines begin s.text h.tokens ++ last) h.appended refl }
 
 pub last_cut : (begin last : List ℕ) (s : Setting) (old mid new : Option (List ℕ)) → AppendsEach (json_line begin s.text) s old mid → AppendsPrefix mid new last → AppendsRowsCut begin last s old new
-last_cut begin last s old mid new h k = record { tokens = h.tokens; ending = h.ending; tiling = h.tiling; appended = cut_behind old mid new (json_lines begin s.text h.tokens) last (json_lines begin s.text h.tokens ++ last) h.appended k refl }
+last_cut begin last s old mid new h k = record { tokens = h.tokens; ending = h.ending; tiling = h.tiling; appended = cut_after old mid new (json_lines begin s.text h.tokens) last (json_lines begin s.text h.tokens ++ last) h.appended k refl }
 
 no_ending : (text : List ℕ) (ending : Option LexFault) → None ≡ report_of text ending → ending ≡ None
 no_ending text None e = refl

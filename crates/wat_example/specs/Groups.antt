@@ -6,7 +6,7 @@ use Rattle.wat_lexer_parser.specs.parser.Sights.{sight_of}
 use Rattle.wat_lexer_parser.specs.parser.State.{State, at_place, registered, report_here}
 use Rattle.wat_lexer_parser.specs.parser.Takers.{as_keyword, as_open, taken_at}
 
--- a keyword with the place behind it, or what is wrong
+-- a keyword with the place after it, or what is wrong
 abbrev pub Word : Type 0
 Word = Result (List ℕ × ℕ) Report
 
@@ -23,16 +23,16 @@ keyword_from a p = word_or (report_here a.source p a.names (codes "expected a ke
 abbrev pub keyword_read : State → Word
 keyword_read a = keyword_from a a.place
 
-abbrev pub close_behind : State → Word → Word
-close_behind a (Ok (w, q)) = by (closed a.source q a.names)
+abbrev pub close_after : State → Word → Word
+close_after a (Ok (w, q)) = by (closed a.source q a.names)
   where
     by : Result ℕ Report → Word
     by (Ok r) = Ok (w, r)
     by (Err f) = Err f
-close_behind a (Err f) = Err f
+close_after a (Err f) = Err f
 
 abbrev pub read_inside : State → Result ℕ Report → Word
-read_inside a (Ok p) = close_behind a (keyword_read (inside a p))
+read_inside a (Ok p) = close_after a (keyword_read (inside a p))
 read_inside a (Err f) = Err f
 
 -- a keyword in parentheses
@@ -40,7 +40,7 @@ abbrev pub group_read : State → Word
 group_read a = read_inside a (opened a.source a.place a.names)
 
 abbrev pub sees_open : Result State Report → Result Bool Report
-sees_open (Ok a) = (sight_of as_open a).told
+sees_open (Ok a) = (sight_of as_open a).known
 sees_open (Err f) = Err f
 
 -- whether `(` is shown where a name is registered once more

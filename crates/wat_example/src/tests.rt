@@ -17,7 +17,7 @@ fn shown(alloc: Global, answer: Result<&str, Error>) -> Result<String, Fail> {
     }
 }
 
-/// Texts, what a group reads of them, and the place behind it.
+/// Texts, what a group reads of them, and the place after it.
 const GROUPS: &str = "\
     (a) b -> a, 3\x1e\
     \x20( (@n (b)) a ;;c\n ) -> a, 20\x1e\

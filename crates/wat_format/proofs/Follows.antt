@@ -99,10 +99,10 @@ touches Mark Close g h = absurd cc
 touches x Close g h = Touches.closed tt
 touches x y g h = absurd cc
 
--- what is written behind a line comment whose line ends
-pub breaks_behind : (y : Sort) (g : Gap) → is_break g ≡ true → is_break (settled Comment y g) ≡ true
-breaks_behind Close g h = refl
-breaks_behind y g h = h
+-- what is written after a line comment whose line ends
+pub breaks_after : (y : Sort) (g : Gap) → is_break g ≡ true → is_break (settled Comment y g) ≡ true
+breaks_after Close g h = refl
+breaks_after y g h = h
 
 pub settled_again : (x y : Sort) (g : Gap) → settled x y (settled x y g) ≡ settled x y g
 settled_again Comment Close g = refl

@@ -13,9 +13,9 @@ use Rattle.wat_format.specs.inside.Steps.{Lays, EndsFrom, EndsSo, Formats}
 use Rattle.wat_format.specs.declared.error.Error.{Error}
 use Rattle.wat_format.specs.declared.error.Error.TheVariants.{Memory, Fault, TooLong}
 
--- the places behind a token
-pub boundary_behind : (s : Setting) (pos : ℕ) (t : Token) → TokenAt s pos t → IsCharBoundary s.text (pos + t.len) → IsCharBoundary s.text (t.offset + t.len)
-boundary_behind s pos t k b = subst (λ p. IsCharBoundary s.text (p + t.len)) (sym k.offset) b
+-- the places after a token
+pub boundary_after : (s : Setting) (pos : ℕ) (t : Token) → TokenAt s pos t → IsCharBoundary s.text (pos + t.len) → IsCharBoundary s.text (t.offset + t.len)
+boundary_after s pos t k b = subst (λ p. IsCharBoundary s.text (p + t.len)) (sym k.offset) b
 
 tiled_with : (s : Setting) (pos : ℕ) (t : Token) (ts : List Token) (e : Option LexFault) → TokenAt s pos t → MaximalTiling s (t.offset + t.len) ts e → MaximalTiling s pos (t ∷ ts) e
 tiled_with s pos t ts e k m = record { to = m.to; tiling = (k, m.tiling); ends = m.ends }

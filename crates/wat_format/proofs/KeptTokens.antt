@@ -15,15 +15,15 @@ use Rattle.wat_lex.specs.declared.lexer.kinds.TokenKind.TheVariants.{Whitespace}
 use Rattle.wat_format.specs.Formatting.{Formatted, Refuses}
 use Rattle.wat_format.specs.Gaps.{gap_of, gap_text}
 use Rattle.wat_format.specs.Laws.{EachTextIsAnswered, LayoutsAreOne, LayoutsHaveNoFault, words, EndsClean, Written, WhiteIsWritten, over, Keeps, LayoutsKeepTokens, LayoutsAreUtf8, LayoutsStay}
-use Rattle.wat_format.specs.Layout.{State, start, layout, is_white, gap_before, line_level, behind}
+use Rattle.wat_format.specs.Layout.{State, start, layout, is_white, gap_before, line_level, after}
 use Rattle.wat_format.specs.Sorts.{sort_of}
 use Rattle.wat_format.specs.declared.error.Error.TheVariants.{Fault}
 use Rattle.wat_format.specs.declared.gap.Gap.{Gap}
 use Rattle.wat_format.specs.declared.gap.Gap.TheVariants.{Touching, Blanks, LineEnd, EmptyLine}
 use Rattle.wat_format.specs.declared.sort.Sort.{Sort}
-use Rattle.wat_format.proofs.Pieces.{Piece, pieces, joined, AllStand, utf8_joined, Cut, cut_text, placed, placed_tiling, pieces_placed}
+use Rattle.wat_format.proofs.Pieces.{Piece, pieces, joined, AllLegal, utf8_joined, Cut, cut_text, placed, placed_tiling, pieces_placed}
 use Rattle.wat_format.proofs.LaidPieces.{gapped, laid_pieces, bool_cases, joined_laid, no_white, words_laid, laid_again, laid_white, laid_word}
-use Rattle.wat_format.proofs.LaidStands.{begins}
+use Rattle.wat_format.proofs.LaidIsAt.{begins}
 use Rattle.wat_format.proofs.Marks.{marks_laid, marks_of_text, marks_placed}
 
 -- blanks are no line end
@@ -71,10 +71,10 @@ written_laid s (p ∷ ps) =
     let y : Sort = sort_of s.before p.0 p.1 in
     let g : Gap = gap_before y s in
     let l : ℕ = line_level y g s in
-    let rest : List Piece = laid_pieces (behind y l s) ps in
+    let rest : List Piece = laid_pieces (after y l s) ps in
     elim (bool_cases (is_white p.0)) [
       | inl e ↦ subst AllWritten (sym (laid_white s p ps e)) (written_laid (record s { gap = gap_of p.1 }) ps)
-      | inr e ↦ subst AllWritten (sym (laid_word s p ps e)) (written_gapped g l (gap_text g l) (p ∷ rest) refl ((λ k. absurd (word_is_no_white p.0 e k)), written_laid (behind y l s) ps))
+      | inr e ↦ subst AllWritten (sym (laid_word s p ps e)) (written_gapped g l (gap_text g l) (p ∷ rest) refl ((λ k. absurd (word_is_no_white p.0 e k)), written_laid (after y l s) ps))
     ]
 
 white_of_pieces : (text : List ℕ) (ts : List Token) → AllWritten (pieces text ts) → WhiteIsWritten text ts
@@ -102,14 +102,14 @@ module _ (bounds : TokensEndAtBoundaries) (s : Setting) (ts : List Token) (utf8 
   text_cut : Cut s 0 ts
   text_cut = cut_text s utf8 bounds 0 m.to ts (IsCharBoundary-start s.text utf8) m.tiling m.ends
 
-  stand : AllStand s.flags out
-  stand = begins s.flags start (pieces s.text ts) refl text_cut.stand
+  legal : AllLegal s.flags out
+  legal = begins s.flags start (pieces s.text ts) refl text_cut.legal
 
   pub utf8_answer : IsUtf8 answer
-  utf8_answer = subst IsUtf8 whole (utf8_joined s.flags out stand)
+  utf8_answer = subst IsUtf8 whole (utf8_joined s.flags out legal)
 
   pub tiling : MaximalTiling (over s answer) 0 (placed 0 out) None
-  tiling = record { to = length answer; tiling = placed_tiling (over s answer) 0 out stand (sym whole) (let e = ap length whole in omega arith); ends = refl }
+  tiling = record { to = length answer; tiling = placed_tiling (over s answer) 0 out legal (sym whole) (let e = ap length whole in omega arith); ends = refl }
 
   pieces_of : pieces answer (placed 0 out) ≡ out
   pieces_of = pieces_placed (over s answer) 0 out (sym whole)
@@ -121,7 +121,7 @@ module _ (bounds : TokensEndAtBoundaries) (s : Setting) (ts : List Token) (utf8 
   keeps = record {
     no_fault = refl;
     same = words_of_pieces answer (placed 0 out) ∙ ap no_white pieces_of ∙ words_laid start (pieces s.text ts) ∙ sym (words_of_pieces s.text ts);
-    marked = marks_placed (over s answer) 0 out (sym whole) ∙ marks_laid s.flags start (pieces s.text ts) text_cut.stand
+    marked = marks_placed (over s answer) 0 out (sym whole) ∙ marks_laid s.flags start (pieces s.text ts) text_cut.legal
         ∙ sym (marks_of_text s utf8 bounds 0 m.to ts (IsCharBoundary-start s.text utf8) m.tiling m.ends);
     white = white_of_pieces answer (placed 0 out) (subst AllWritten (sym pieces_of) (written_laid start (pieces s.text ts)));
   }

@@ -1,4 +1,4 @@
--- A layout as pieces: they stand one behind the other, but for white space they are those of the text, and laid out again they are the same.
+-- A layout as pieces: they follow each other, but for white space they are those of the text, and laid out again they are the same.
 use Rattle.std.proofs.Common.{◌≡◌, ◌<◌, ℕ, zero, suc, Bool, true, false, List, [], ◌∷◌, ◌++◌, refl, sym, ap, ◌∙◌, inl, inr, arith, append_assoc}
 use Rattle.std.specs.Prelude.{◌⊎◌, Option, Some, None, is_some, if◌then◌else◌}
 use Rattle.wat_lex.specs.grammar.Classes.{line_feed}
@@ -6,7 +6,7 @@ use Rattle.wat_lex.specs.tokens.ReadableTokens.{token_text}
 use Rattle.wat_lex.specs.declared.lexer.kinds.Token.{Token}
 use Rattle.wat_lex.specs.declared.lexer.kinds.TokenKind.TheVariants.{Whitespace}
 use Rattle.wat_format.specs.Gaps.{gap_of, gap_text}
-use Rattle.wat_format.specs.Layout.{State, laid, gap_before, gap_behind, line_level, behind, is_white}
+use Rattle.wat_format.specs.Layout.{State, laid, gap_before, gap_after, line_level, after, is_white}
 use Rattle.wat_format.specs.Sorts.{sort_of}
 use Rattle.wat_format.specs.declared.gap.Gap.{Gap}
 use Rattle.wat_format.specs.declared.gap.Gap.TheVariants.{Touching, Blanks, LineEnd, EmptyLine}
@@ -15,7 +15,7 @@ use Rattle.wat_format.proofs.Follows.{settled_again}
 use Rattle.wat_format.proofs.Pieces.{Piece, pieces, joined}
 use Rattle.wat_format.proofs.WhiteSpace.{Filled, gap_filled, settled_filled, gap_again}
 
--- pieces behind white space, or behind none
+-- pieces after white space, or after none
 abbrev pub gapped : List ℕ → List Piece → List Piece
 gapped [] ps = ps
 gapped (c ∷ w) ps = (Whitespace, c ∷ w) ∷ ps
@@ -27,7 +27,7 @@ laid_pieces s (p ∷ ps) =
     let g = gap_before y s in
     let l = line_level y g s in
     if is_white p.0 then laid_pieces (record s { gap = gap_of p.1 }) ps
-    else gapped (gap_text g l) (p ∷ laid_pieces (behind y l s) ps)
+    else gapped (gap_text g l) (p ∷ laid_pieces (after y l s) ps)
 
 pub bool_cases : (b : Bool) → (b ≡ true) ⊎ (b ≡ false)
 bool_cases true = inl refl
@@ -46,17 +46,17 @@ joined_laid text s (t ∷ ts) =
     let g : Gap = gap_before y s in
     let l : ℕ = line_level y g s in
     let a = joined_laid text (record s { gap = gap_of w }) ts in
-    let b = joined_laid text (behind y l s) ts in
-    let c : joined (gapped (gap_text g l) ((t.kind, w) ∷ laid_pieces (behind y l s) (pieces text ts))) ≡ (gap_text g l ++ w) ++ laid text (behind y l s) ts =
-    joined_gapped (gap_text g l) ((t.kind, w) ∷ laid_pieces (behind y l s) (pieces text ts)) ∙ ap (λ x. gap_text g l ++ (w ++ x)) b ∙ sym (append_assoc (gap_text g l) w (laid text (behind y l s) ts)) in
-    elim (is_white t.kind) as (λ b. joined (if b then laid_pieces (record s { gap = gap_of w }) (pieces text ts) else gapped (gap_text g l) ((t.kind, w) ∷ laid_pieces (behind y l s) (pieces text ts)))
-    ≡ (if b then laid text (record s { gap = gap_of w }) ts else (gap_text g l ++ w) ++ laid text (behind y l s) ts)) [ true ↦ a | false ↦ c ]
+    let b = joined_laid text (after y l s) ts in
+    let c : joined (gapped (gap_text g l) ((t.kind, w) ∷ laid_pieces (after y l s) (pieces text ts))) ≡ (gap_text g l ++ w) ++ laid text (after y l s) ts =
+    joined_gapped (gap_text g l) ((t.kind, w) ∷ laid_pieces (after y l s) (pieces text ts)) ∙ ap (λ x. gap_text g l ++ (w ++ x)) b ∙ sym (append_assoc (gap_text g l) w (laid text (after y l s) ts)) in
+    elim (is_white t.kind) as (λ b. joined (if b then laid_pieces (record s { gap = gap_of w }) (pieces text ts) else gapped (gap_text g l) ((t.kind, w) ∷ laid_pieces (after y l s) (pieces text ts)))
+    ≡ (if b then laid text (record s { gap = gap_of w }) ts else (gap_text g l ++ w) ++ laid text (after y l s) ts)) [ true ↦ a | false ↦ c ]
 
 pub laid_white : (s : State) (p : Piece) (ps : List Piece) → is_white p.0 ≡ true → laid_pieces s (p ∷ ps) ≡ laid_pieces (record s { gap = gap_of p.1 }) ps
 laid_white s p ps e = rw e refl
 
 pub laid_word : (s : State) (p : Piece) (ps : List Piece) → is_white p.0 ≡ false → laid_pieces s (p ∷ ps) ≡
-    (let y = sort_of s.before p.0 p.1 in let g = gap_before y s in let l = line_level y g s in gapped (gap_text g l) (p ∷ laid_pieces (behind y l s) ps))
+    (let y = sort_of s.before p.0 p.1 in let g = gap_before y s in let l = line_level y g s in gapped (gap_text g l) (p ∷ laid_pieces (after y l s) ps))
 laid_word s p ps e = rw e refl
 
 -- the words alone
@@ -79,10 +79,10 @@ words_laid s [] = elim (is_some s.before) as (λ b. no_white (if b then (Whitesp
 words_laid s (p ∷ ps) =
     let y : Sort = sort_of s.before p.0 p.1 in
     let l : ℕ = line_level y (gap_before y s) s in
-    let rest : List Piece = laid_pieces (behind y l s) ps in
+    let rest : List Piece = laid_pieces (after y l s) ps in
     elim (bool_cases (is_white p.0)) [
       | inl e ↦ ap no_white (laid_white s p ps e) ∙ words_laid (record s { gap = gap_of p.1 }) ps ∙ sym (no_white_white p ps e)
-      | inr e ↦ ap no_white (laid_word s p ps e) ∙ no_white_gapped (gap_text (gap_before y s) l) (p ∷ rest) ∙ no_white_word p rest e ∙ ap (λ x. p ∷ x) (words_laid (behind y l s) ps) ∙ sym (no_white_word p ps e)
+      | inr e ↦ ap no_white (laid_word s p ps e) ∙ no_white_gapped (gap_text (gap_before y s) l) (p ∷ rest) ∙ no_white_word p rest e ∙ ap (λ x. p ∷ x) (words_laid (after y l s) ps) ∙ sym (no_white_word p ps e)
     ]
 
 -- Laid out again.
@@ -94,11 +94,11 @@ gap_read s (Blanks (suc n)) l ps h = ap (λ g. laid_pieces (record s { gap = g }
 gap_read s LineEnd l ps h = ap (λ g. laid_pieces (record s { gap = g }) ps) (gap_again LineEnd l h)
 gap_read s EmptyLine l ps h = ap (λ g. laid_pieces (record s { gap = g }) ps) (gap_again EmptyLine l h)
 
-before_filled : (before : Option Sort) (y : Sort) (g : Gap) → Filled g → Filled (gap_behind before y g)
+before_filled : (before : Option Sort) (y : Sort) (g : Gap) → Filled g → Filled (gap_after before y g)
 before_filled None y g h = tt
 before_filled (Some x) y g h = settled_filled x y g h
 
-before_again : (before : Option Sort) (y : Sort) (g : Gap) → gap_behind before y (gap_behind before y g) ≡ gap_behind before y g
+before_again : (before : Option Sort) (y : Sort) (g : Gap) → gap_after before y (gap_after before y g) ≡ gap_after before y g
 before_again None y g = refl
 before_again (Some x) y g = settled_again x y g
 
@@ -112,14 +112,14 @@ laid_again s (p ∷ ps) h =
     let y : Sort = sort_of s.before p.0 p.1 in
     let g : Gap = gap_before y s in
     let l : ℕ = line_level y g s in
-    let rest : List Piece = laid_pieces (behind y l s) ps in
+    let rest : List Piece = laid_pieces (after y l s) ps in
     let out : List Piece = gapped (gap_text g l) (p ∷ rest) in
     elim (bool_cases (is_white p.0)) [
       | inl e ↦ ap (λ x. laid_pieces (record s { gap = Touching }) x) (laid_white s p ps e) ∙ laid_again (record s { gap = gap_of p.1 }) ps (gap_filled p.1) ∙ sym (laid_white s p ps e)
       | inr e ↦
           let same : gap_before y (record s { gap = g }) ≡ g = before_again s.before y s.gap in
           let step : laid_pieces (record s { gap = g }) (p ∷ rest) ≡ out =
-          laid_word (record s { gap = g }) p rest e ∙ ap (λ x. gapped (gap_text x (line_level y x s)) (p ∷ laid_pieces (behind y (line_level y x s) s) rest)) same
-          ∙ ap (λ x. gapped (gap_text g l) (p ∷ x)) (laid_again (behind y l s) ps tt) in
+          laid_word (record s { gap = g }) p rest e ∙ ap (λ x. gapped (gap_text x (line_level y x s)) (p ∷ laid_pieces (after y (line_level y x s) s) rest)) same
+          ∙ ap (λ x. gapped (gap_text g l) (p ∷ x)) (laid_again (after y l s) ps tt) in
           ap (λ x. laid_pieces (record s { gap = Touching }) x) (laid_word s p ps e) ∙ gap_read s g l (p ∷ rest) (before_filled s.before y s.gap h) ∙ step ∙ sym (laid_word s p ps e)
     ]

@@ -6,7 +6,7 @@ use Rattle.std.specs.List.{All}
 use Rattle.wat_lex.specs.tokens.ReadableTokens.{token_text}
 use Rattle.wat_lex.specs.declared.lexer.kinds.Token.{Token}
 use Rattle.wat_format.specs.Gaps.{gap_of, gap_text}
-use Rattle.wat_format.specs.Layout.{State, Groups, laid, gap_before, line_level, behind, groups_behind, closed, is_white, start}
+use Rattle.wat_format.specs.Layout.{State, Groups, laid, gap_before, line_level, after, groups_after, closed, is_white, start}
 use Rattle.wat_format.specs.Sorts.{sort_of}
 use Rattle.wat_format.specs.inside.Steps.{HasFew, Few, Writes, Lays}
 use Rattle.wat_format.specs.declared.group.Group.{Group}
@@ -33,8 +33,8 @@ lays_token text s s' t out out' w e k h ts =
     let l : ℕ = line_level y g s in
     let h' = subst (λ w. Writes t.kind w s s' out out') k h in
     let piece : List ℕ = gap_text g l ++ token_text text t in
-    let first : laid text s (t ∷ ts) ≡ piece ++ laid text (behind y l s) ts = rw e refl in
-    ap (λ x. out ++ x) first ∙ sym (append_assoc out piece (laid text (behind y l s) ts)) ∙ ap (λ x. x ++ laid text (behind y l s) ts) (sym h'.bytes) ∙ ap (λ x. out' ++ laid text x ts) (sym h'.state)
+    let first : laid text s (t ∷ ts) ≡ piece ++ laid text (after y l s) ts = rw e refl in
+    ap (λ x. out ++ x) first ∙ sym (append_assoc out piece (laid text (after y l s) ts)) ∙ ap (λ x. x ++ laid text (after y l s) ts) (sym h'.bytes) ∙ ap (λ x. out' ++ laid text x ts) (sym h'.state)
 
 few_around : (n m : ℕ) (gs : List Group) → n ≤ m → All (HasFew n) gs → All (HasFew m) gs
 few_around n m gs le h = All-weaker (HasFew n) (HasFew m) (λ g. λ (k : HasFew n g). let l : g.blocks ≤ n = k in omega arith) gs h
@@ -46,7 +46,7 @@ few_closed : (n m : ℕ) (g : Group) (gs : List Group) → n ≤ m → HasFew n 
 few_closed n m g [] le h k = (omega (arith, h), few_around n m [] le k)
 few_closed n m g (o ∷ gs) le h k = (let b : o.blocks ≤ n = All-head (HasFew n) o gs k in omega arith, few_around n m gs le (All-tail (HasFew n) o gs k))
 
-few_groups : (n m l : ℕ) (y : Sort) (s : Groups) → n < m → HasFew n s.open_group → All (HasFew n) s.around → HasFew m (groups_behind y l s).open_group × All (HasFew m) (groups_behind y l s).around
+few_groups : (n m l : ℕ) (y : Sort) (s : Groups) → n < m → HasFew n s.open_group → All (HasFew n) s.around → HasFew m (groups_after y l s).open_group × All (HasFew m) (groups_after y l s).around
 few_groups n m l Open s lt h k = (omega arith, All-cons (HasFew m) s.open_group s.around (omega (arith, h)) (few_around n m s.around (omega arith) k))
 few_groups n m l Close s lt h k = few_closed n m s.open_group s.around (omega arith) h k
 few_groups n m l Begins s lt h k = (omega (arith, h), few_around n m s.around (omega arith) k)
@@ -58,8 +58,8 @@ few_groups n m l At s lt h k = (omega (arith, h), few_around n m s.around (omega
 few_groups n m l Other s lt h k = (omega (arith, h), few_around n m s.around (omega arith) k)
 
 -- a token opens at most one block
-pub few_behind : (n m l : ℕ) (y : Sort) (s s' : State) → n < m → s' ≡ behind y l s → Few n s → Few m s'
-few_behind n m l y s s' lt e h =
+pub few_after : (n m l : ℕ) (y : Sort) (s s' : State) → n < m → s' ≡ after y l s → Few n s → Few m s'
+few_after n m l y s s' lt e h =
     let k = few_groups n m l y s.groups lt h.open_group h.around in
     subst (λ x. Few m x) (sym e) (record { open_group = k.0; around = k.1 })
 

@@ -3,7 +3,7 @@ mod Follows
 mod Formats
 mod KeptTokens
 mod LaidPieces
-mod LaidStands
+mod LaidIsAt
 mod Laying
 mod Marks
 mod Pieces

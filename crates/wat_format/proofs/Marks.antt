@@ -1,4 +1,4 @@
--- What is marked stays marked: `@` stands directly behind a `(` of a layout exactly where it did in the text.
+-- What is marked stays marked: `@` comes directly after a `(` of a layout exactly where it did in the text.
 use Rattle.std.proofs.Common.{◌≡◌, ◌≢◌, ◌+◌, ◌<◌, ℕ, zero, suc, Bool, true, false, eqb, List, [], ◌∷◌, ◌++◌, length, drop, refl, sym, ap, ◌∙◌, subst, inl, inr, arith}
 use Rattle.std.proofs.lemmas.Bool.{false≢true}
 use Rattle.std.proofs.lemmas.Bool.Decides.{nat_tests}
@@ -17,16 +17,16 @@ use Rattle.wat_lex.specs.declared.lexer.kinds.TokenKind.TheVariants.{LineComment
 use Rattle.wat_lex.specs.declared.lexer.settings.Settings.{Settings}
 use Rattle.wat_format.specs.Gaps.{gap_of, gap_text, settled}
 use Rattle.wat_format.specs.Laws.{begins_at, is_opening, marks}
-use Rattle.wat_format.specs.Layout.{State, gap_before, gap_behind, line_level, behind, is_white}
+use Rattle.wat_format.specs.Layout.{State, gap_before, gap_after, line_level, after, is_white}
 use Rattle.wat_format.specs.Sorts.{sort_of, sort_by_first}
 use Rattle.wat_format.specs.declared.gap.Gap.{Gap}
 use Rattle.wat_format.specs.declared.gap.Gap.TheVariants.{Touching, Blanks, LineEnd, EmptyLine}
 use Rattle.wat_format.specs.declared.sort.Sort.{Sort}
 use Rattle.wat_format.specs.declared.sort.Sort.TheVariants.{Open, At}
 use Rattle.wat_format.proofs.FirstCharacters.{first_of_word, white_cases}
-use Rattle.wat_format.proofs.Pieces.{Piece, pieces, joined, Stands, AllStand, cut_text, placed, drop_piece}
+use Rattle.wat_format.proofs.Pieces.{Piece, pieces, joined, IsAt, AllLegal, cut_text, placed, drop_piece}
 use Rattle.wat_format.proofs.LaidPieces.{gapped, laid_pieces, bool_cases, laid_white, laid_word}
-use Rattle.wat_format.proofs.LaidStands.{laid_end}
+use Rattle.wat_format.proofs.LaidIsAt.{laid_end}
 use Rattle.wat_format.proofs.WhiteSpace.{white_bytes, Filled, gap_filled, settled_filled, white_is_apart}
 
 -- no keyword begins with `@`
@@ -102,11 +102,11 @@ white_by : (bytes : List ℕ) → chars bytes ≢ [] → chars bytes ≡ bytes �
 white_by [] n e h = absurd (n e)
 white_by (c ∷ w) n e h = record { apart = white_is_apart c w; no_at = λ r. white_is_no_at c h.0 }
 
-white_of : (flags : Settings) (kind : TokenKind) (bytes rest : List ℕ) → is_white kind ≡ true → Stands flags kind bytes rest → White bytes
+white_of : (flags : Settings) (kind : TokenKind) (bytes rest : List ℕ) → is_white kind ≡ true → IsAt flags kind bytes rest → White bytes
 white_of flags Whitespace bytes rest e h = let i = white_bytes bytes h.utf8 h.word.1 in white_by bytes h.word.0 i (subst (λ z. Each is_whitespace z) i h.word.1)
 white_of flags kind bytes rest e h = absurd (false≢true e)
 
--- what stands behind a `(` and touches it though it did not before is no `@`, and so is what it is parted from
+-- what comes after a `(` and touches it though it did not before is no `@`, and so is what it is parted from
 closed_up : (y : Sort) (g : Gap) → settled Open y g ≡ Touching → (g ≡ Touching → ⊥) → NotAt y
 closed_up At Touching h n = n refl
 closed_up At g h n = cc
@@ -123,41 +123,41 @@ gap_no_at (Blanks (suc m)) l r h n = refl
 gap_no_at LineEnd l r h n = refl
 gap_no_at EmptyLine l r h n = refl
 
--- in a layout behind a `(`
-pub record BehindOpen (s : State) (ps : List Piece) : Type 0 where
+-- in a layout after a `(`
+pub record AfterOpen (s : State) (ps : List Piece) : Type 0 where
   pub touching : s.gap ≡ Touching → begins_at (joined (laid_pieces s ps)) ≡ begins_at (joined ps)
   pub apart : (s.gap ≡ Touching → ⊥) → begins_at (joined (laid_pieces s ps)) ≡ false
 
-module _ (flags : Settings) (s : State) (p : Piece) (ps rest : List Piece) (stand : Stands flags p.0 p.1 (joined ps)) (word : is_white p.0 ≡ false) (filled : Filled s.gap) (l : ℕ) where
+module _ (flags : Settings) (s : State) (p : Piece) (ps rest : List Piece) (legal : IsAt flags p.0 p.1 (joined ps)) (word : is_white p.0 ≡ false) (filled : Filled s.gap) (l : ℕ) where
   abbrev y : Sort
   y = sort_of s.before p.0 p.1
 
   kept_touching : (g : Gap) → settled Open y s.gap ≡ g → s.gap ≡ Touching → begins_at (joined (gapped (gap_text g l) (p ∷ rest))) ≡ begins_at (joined (p ∷ ps))
-  kept_touching Touching e k = word_same_at p.0 flags p.1 (joined rest) (joined ps) word stand.word
+  kept_touching Touching e k = word_same_at p.0 flags p.1 (joined rest) (joined ps) word legal.word
   kept_touching g e k =
       let n : NotAt y = opened_up y g (ap (λ z. settled Open y z) (sym k) ∙ e) (λ z. cc) in
-      gap_no_at g l (p ∷ rest) (subst Filled e (settled_filled Open y s.gap filled)) (λ z. cc) ∙ sym (word_no_at s.before p.0 flags p.1 (joined ps) stand.utf8 word stand.word n)
+      gap_no_at g l (p ∷ rest) (subst Filled e (settled_filled Open y s.gap filled)) (λ z. cc) ∙ sym (word_no_at s.before p.0 flags p.1 (joined ps) legal.utf8 word legal.word n)
 
   kept_apart : (g : Gap) → settled Open y s.gap ≡ g → (s.gap ≡ Touching → ⊥) → begins_at (joined (gapped (gap_text g l) (p ∷ rest))) ≡ false
-  kept_apart Touching e n = word_no_at s.before p.0 flags p.1 (joined rest) stand.utf8 word stand.word (closed_up y s.gap e n)
+  kept_apart Touching e n = word_no_at s.before p.0 flags p.1 (joined rest) legal.utf8 word legal.word (closed_up y s.gap e n)
   kept_apart g e n = gap_no_at g l (p ∷ rest) (subst Filled e (settled_filled Open y s.gap filled)) (λ z. cc)
 
-behind_open : (flags : Settings) (s : State) (ps : List Piece) → s.before ≡ Some Open → Filled s.gap → AllStand flags ps → BehindOpen s ps
-behind_open flags s [] o f h =
+after_open : (flags : Settings) (s : State) (ps : List Piece) → s.before ≡ Some Open → Filled s.gap → AllLegal flags ps → AfterOpen s ps
+after_open flags s [] o f h =
     let e : begins_at (joined (laid_pieces s [])) ≡ false = ap (λ q. begins_at (joined q)) (laid_end s Open o) in
     record { touching = λ k. e; apart = λ k. e }
-behind_open flags s (p ∷ ps) o f h =
+after_open flags s (p ∷ ps) o f h =
     let y : Sort = sort_of s.before p.0 p.1 in
     let l : ℕ = line_level y (gap_before y s) s in
     elim (bool_cases (is_white p.0)) [
       | inl e ↦
           let w = white_of flags p.0 p.1 (joined ps) e h.0 in
-          let ih = behind_open flags (record s { gap = gap_of p.1 }) ps o (gap_filled p.1) h.1 in
+          let ih = after_open flags (record s { gap = gap_of p.1 }) ps o (gap_filled p.1) h.1 in
           let k : begins_at (joined (laid_pieces s (p ∷ ps))) ≡ false = ap (λ q. begins_at (joined q)) (laid_white s p ps e) ∙ ih.apart w.apart in
           record { touching = λ _. k ∙ sym (w.no_at (joined ps)); apart = λ _. k }
       | inr e ↦
-          let rest : List Piece = laid_pieces (behind y l s) ps in
-          let g : settled Open y s.gap ≡ gap_before y s = sym (ap (λ z. gap_behind z y s.gap) o) in
+          let rest : List Piece = laid_pieces (after y l s) ps in
+          let g : settled Open y s.gap ≡ gap_before y s = sym (ap (λ z. gap_after z y s.gap) o) in
           let same : begins_at (joined (laid_pieces s (p ∷ ps))) ≡ begins_at (joined (gapped (gap_text (gap_before y s) l) (p ∷ rest))) = ap (λ q. begins_at (joined q)) (laid_word s p ps e) in
           record {
             touching = λ k. same ∙ kept_touching flags s p ps rest h.0 e f l (gap_before y s) g k;
@@ -187,20 +187,20 @@ mark_other p ps e = rw e refl
 mark_opening : (p : Piece) (ps : List Piece) → is_opening p.0 ≡ true → mark_list (p ∷ ps) ≡ begins_at (joined ps) ∷ mark_list ps
 mark_opening p ps e = rw e refl
 
-pub marks_laid : (flags : Settings) (s : State) (ps : List Piece) → AllStand flags ps → mark_list (laid_pieces s ps) ≡ mark_list ps
+pub marks_laid : (flags : Settings) (s : State) (ps : List Piece) → AllLegal flags ps → mark_list (laid_pieces s ps) ≡ mark_list ps
 marks_laid flags s [] h = elim (is_some s.before) as (λ b. mark_list (if b then (Whitespace, 10 ∷ []) ∷ [] else []) ≡ []) [ true ↦ refl | false ↦ refl ]
 marks_laid flags s (p ∷ ps) h =
     let y : Sort = sort_of s.before p.0 p.1 in
     let l : ℕ = line_level y (gap_before y s) s in
-    let rest : List Piece = laid_pieces (behind y l s) ps in
-    let ih = marks_laid flags (behind y l s) ps h.1 in
+    let rest : List Piece = laid_pieces (after y l s) ps in
+    let ih = marks_laid flags (after y l s) ps h.1 in
     elim (bool_cases (is_white p.0)) [
       | inl e ↦ ap mark_list (laid_white s p ps e) ∙ marks_laid flags (record s { gap = gap_of p.1 }) ps h.1 ∙ sym (mark_other p ps (white_opens_nothing p.0 e))
       | inr e ↦
           let first : mark_list (laid_pieces s (p ∷ ps)) ≡ mark_list (p ∷ rest) = ap mark_list (laid_word s p ps e) ∙ mark_gapped (gap_text (gap_before y s) l) (p ∷ rest) in
           elim (bool_cases (is_opening p.0)) [
             | inl o ↦
-                let b = behind_open flags (behind y l s) ps (ap (λ x. Some x) (opening_sort s.before p.0 p.1 o)) tt h.1 in
+                let b = after_open flags (after y l s) ps (ap (λ x. Some x) (opening_sort s.before p.0 p.1 o)) tt h.1 in
                 first ∙ mark_opening p rest o ∙ ap (λ x. x ∷ mark_list rest) (b.touching refl) ∙ ap (λ x. begins_at (joined ps) ∷ x) ih ∙ sym (mark_opening p ps o)
             | inr o ↦ first ∙ mark_other p rest o ∙ ih ∙ sym (mark_other p ps o)
           ]
@@ -219,7 +219,7 @@ marks_of_text s u bounds p to (t ∷ ts) b h e =
 pub marks_placed : (s : Setting) (p : ℕ) (qs : List Piece) → drop p s.text ≡ joined qs → marks s.text (placed p qs) ≡ mark_list qs
 marks_placed s p [] e = refl
 marks_placed s p (q ∷ qs) e =
-    let behind = drop_piece s p q qs e in
-    let ih = marks_placed s (p + length q.1) qs behind in
+    let after = drop_piece s p q qs e in
+    let ih = marks_placed s (p + length q.1) qs after in
     elim (is_opening q.0) as (λ k. (if k then begins_at (drop (p + length q.1) s.text) ∷ marks s.text (placed (p + length q.1) qs) else marks s.text (placed (p + length q.1) qs)) ≡ (if k then begins_at (joined qs) ∷ mark_list qs else mark_list qs))
-    [ true ↦ ap (λ x. x ∷ marks s.text (placed (p + length q.1) qs)) (ap begins_at behind) ∙ ap (λ x. begins_at (joined qs) ∷ x) ih | false ↦ ih ]
+    [ true ↦ ap (λ x. x ∷ marks s.text (placed (p + length q.1) qs)) (ap begins_at after) ∙ ap (λ x. begins_at (joined qs) ∷ x) ih | false ↦ ih ]

@@ -17,9 +17,9 @@ use Rattle.wat_format.specs.Spaces.{Spaced, spread, words_of, IsSpaced, AreSpace
 use Rattle.wat_format.proofs.FirstCharacters.{First, first_of_word, first_is_no_white}
 use Rattle.wat_format.proofs.KeptTokens.{words_of_pieces}
 use Rattle.wat_format.proofs.LaidPieces.{gapped, bool_cases, joined_gapped, no_white, no_white_gapped}
-use Rattle.wat_format.proofs.LaidStands.{behind_white, gapped_stand, white_stands, line_end_is_white}
+use Rattle.wat_format.proofs.LaidIsAt.{after_white, gapped_legal, white_is_at, line_end_is_white}
 use Rattle.wat_format.proofs.Marks.{first_byte, no_characters, mark_list, mark_gapped, marks_of_text, white_is_no_at}
-use Rattle.wat_format.proofs.Pieces.{Piece, pieces, joined, Stands, AllStand, utf8_joined, chars_append, Cut, cut_text, placed, placed_tiling, pieces_placed}
+use Rattle.wat_format.proofs.Pieces.{Piece, pieces, joined, IsAt, AllLegal, utf8_joined, chars_append, Cut, cut_text, placed, placed_tiling, pieces_placed}
 use Rattle.wat_format.proofs.Touching.{touch_in, touch_out, white_follows, end_follows}
 use Rattle.wat_format.proofs.WhiteSpace.{small, white_utf8, white_bytes}
 
@@ -64,14 +64,14 @@ kind_of_white : (k : TokenKind) → is_white k ≡ true → k ≡ Whitespace
 kind_of_white Whitespace e = refl
 kind_of_white k e = absurd (false≢true e)
 
--- a word and the white space behind it stand before these pieces
-put : (flags : Settings) (k : TokenKind) (bytes white : List ℕ) (ps : List Piece) → is_white k ≡ false → IsUtf8 bytes → Word k (chars bytes) flags → Each is_whitespace white → AllStand flags ps → (Begins is_whitespace (chars (joined ps)) → ⊥)
-    → (white ≡ [] → MayFollow k (chars bytes) (chars (joined ps))) → (white ≢ [] → k ≡ LineComment → Begins is_line_end white) → AllStand flags ((k, bytes) ∷ gapped white ps)
+-- a word and the white space after it come before these pieces
+put : (flags : Settings) (k : TokenKind) (bytes white : List ℕ) (ps : List Piece) → is_white k ≡ false → IsUtf8 bytes → Word k (chars bytes) flags → Each is_whitespace white → AllLegal flags ps → (Begins is_whitespace (chars (joined ps)) → ⊥)
+    → (white ≡ [] → MayFollow k (chars bytes) (chars (joined ps))) → (white ≢ [] → k ≡ LineComment → Begins is_line_end white) → AllLegal flags ((k, bytes) ∷ gapped white ps)
 put flags k bytes [] ps e u w h a n direct ended = (record { utf8 = u; word = w; ends = direct refl }, a)
 put flags k bytes (c ∷ white) ps e u w h a n direct ended =
-    let v = behind_white c (white ++ joined ps) h.0 (IsUtf8-append white (joined ps) (white_utf8 white h.1) (utf8_joined flags ps a)) in (
+    let v = after_white c (white ++ joined ps) h.0 (IsUtf8-append white (joined ps) (white_utf8 white h.1) (utf8_joined flags ps a)) in (
       record { utf8 = u; word = w; ends = subst (λ z. MayFollow k (chars bytes) z) (sym v) (white_follows k (chars bytes) (chars (white ++ joined ps)) c e h.0 (ended (λ i. cc))) },
-      (white_stands flags c white (joined ps) h n, a),
+      (white_is_at flags c white (joined ps) h n, a),
     )
 
 module _ (flags : Settings) (y : Spaced) (ys : List Spaced) (h : IsSpaced flags y) where
@@ -90,18 +90,18 @@ module _ (flags : Settings) (y : Spaced) (ys : List Spaced) (h : IsSpaced flags 
 nothing_white : Begins is_whitespace (chars []) → ⊥
 nothing_white h = subst (Begins is_whitespace) chars-nil h
 
-tail_stands : (flags : Settings) (white : List ℕ) (ps : List Piece) → AllStand flags (gapped white ps) → AllStand flags ps
-tail_stands flags [] ps a = a
-tail_stands flags (c ∷ w) ps a = a.1
+tail_is_at : (flags : Settings) (white : List ℕ) (ps : List Piece) → AllLegal flags (gapped white ps) → AllLegal flags ps
+tail_is_at flags [] ps a = a
+tail_is_at flags (c ∷ w) ps a = a.1
 
--- legal words stand
-stand : (flags : Settings) (xs : List Spaced) → AreSpaced flags xs → AreLegal xs → AllStand flags (to_pieces xs)
-stand flags [] h l = tt
-stand flags (x ∷ []) h l =
+-- legal words may follow each other
+legal : (flags : Settings) (xs : List Spaced) → AreSpaced flags xs → AreLegal xs → AllLegal flags (to_pieces xs)
+legal flags [] h l = tt
+legal flags (x ∷ []) h l =
     put flags x.kind x.bytes x.white [] h.0.no_white h.0.utf8 h.0.word h.0.white tt nothing_white (λ e. subst (λ z. MayFollow x.kind (chars x.bytes) z) (sym chars-nil) (end_follows x.kind (chars x.bytes) h.0.no_white))
     (λ n e. elim (l e) [ inl i ↦ absurd (n i) | inr i ↦ i ])
-stand flags (x ∷ y ∷ ys) h l =
-    let ih = stand flags (y ∷ ys) h.1 l.1 in
+legal flags (x ∷ y ∷ ys) h l =
+    let ih = legal flags (y ∷ ys) h.1 l.1 in
     let u = utf8_joined flags (gapped y.white (to_pieces ys)) ih.1 in
     let first = first_char flags y ys h.1.0 u in
     let g = first_of_word y.kind (chars y.bytes) flags h.1.0.no_white h.1.0.word in
@@ -110,18 +110,18 @@ stand flags (x ∷ y ∷ ys) h l =
     (touch_in x.kind (chars x.bytes) y.kind (chars y.bytes) g.others (g.others ++ chars (joined (gapped y.white (to_pieces ys)))) g.char h.0.no_white (λ k. subst (Begins is_line_end) e (l.0.ended k)) g.cut g.is (l.0.apart e)))
     (λ n e. l.0.ended e)
 
--- what stands is legal
+-- what is there is legal
 white_ended : (flags : Settings) (v white : List ℕ) (ps : List Piece) → Each is_whitespace white → IsUtf8 (joined ps) → white ≢ [] → MayFollow LineComment v (chars (joined (gapped white ps))) → Begins is_line_end white
 white_ended flags v [] ps h u n m = absurd (n refl)
 white_ended flags v (c ∷ w) ps h u n m =
-    let e = behind_white c (w ++ joined ps) h.0 (IsUtf8-append w (joined ps) (white_utf8 w h.1) u) in
+    let e = after_white c (w ++ joined ps) h.0 (IsUtf8-append w (joined ps) (white_utf8 w h.1) u) in
     elim (subst (λ z. MayFollow LineComment v z) e m) as (λ _. Begins is_line_end (c ∷ w)) [ inl i ↦ absurd cc | inr i ↦ i ]
 
 empty_or_not : (w : List ℕ) → (w ≡ []) ⊎ (w ≢ [])
 empty_or_not [] = inl refl
 empty_or_not (c ∷ w) = inr (λ e. cc)
 
-legal : (flags : Settings) (xs : List Spaced) → AreSpaced flags xs → AllStand flags (to_pieces xs) → AreLegal xs
+legal : (flags : Settings) (xs : List Spaced) → AreSpaced flags xs → AllLegal flags (to_pieces xs) → AreLegal xs
 legal flags [] h a = tt
 legal flags (x ∷ []) h a = λ k. elim (empty_or_not x.white) [
   | inl e ↦ inl e
@@ -129,7 +129,7 @@ legal flags (x ∷ []) h a = λ k. elim (empty_or_not x.white) [
 ]
 legal flags (x ∷ y ∷ ys) h a =
     let ps : List Piece = to_pieces (y ∷ ys) in
-    let all = tail_stands flags x.white ps a.1 in
+    let all = tail_is_at flags x.white ps a.1 in
     let u = utf8_joined flags (gapped y.white (to_pieces ys)) all.1 in
     let first = first_char flags y ys h.1.0 u in
     let g = first_of_word y.kind (chars y.bytes) flags h.1.0.no_white h.1.0.word in
@@ -171,7 +171,7 @@ spread_no_white : (flags : Settings) (xs : List Spaced) → AreSpaced flags xs �
 spread_no_white flags [] h b = b
 spread_no_white flags (x ∷ xs) h b = no_white_word flags x.kind x.bytes (x.white ++ spread xs) h.0.no_white h.0.utf8 h.0.word b
 
--- white space as it stands
+-- white space as it is
 pub record White (bytes rest : List ℕ) : Type 0 where
   pub some : bytes ≢ []
   pub each : Each is_whitespace bytes
@@ -181,15 +181,15 @@ white_by : (bytes : List ℕ) → chars bytes ≢ [] → bytes ≢ []
 white_by [] n e = n chars-nil
 white_by (c ∷ w) n e = cc
 
-white_of : (flags : Settings) (k : TokenKind) (bytes r : List ℕ) → is_white k ≡ true → Stands flags k bytes r → White bytes r
+white_of : (flags : Settings) (k : TokenKind) (bytes r : List ℕ) → is_white k ≡ true → IsAt flags k bytes r → White bytes r
 white_of flags Whitespace bytes r e h = record { some = white_by bytes h.word.0; each = subst (λ z. Each is_whitespace z) (white_bytes bytes h.utf8 h.word.1) h.word.1; ends = h.ends }
 white_of flags k bytes r e h = absurd (false≢true e)
 
 white_begins : (bytes r : List ℕ) → bytes ≢ [] → Each is_whitespace bytes → IsUtf8 r → Begins is_whitespace (chars (bytes ++ r))
 white_begins [] r n h u = absurd (n refl)
-white_begins (c ∷ w) r n h u = subst (Begins is_whitespace) (sym (behind_white c (w ++ r) h.0 (IsUtf8-append w r (white_utf8 w h.1) u))) h.0
+white_begins (c ∷ w) r n h u = subst (Begins is_whitespace) (sym (after_white c (w ++ r) h.0 (IsUtf8-append w r (white_utf8 w h.1) u))) h.0
 
-pieces_no_white : (flags : Settings) (ps : List Piece) → AllStand flags ps → (Begins is_whitespace (chars (joined ps)) → ⊥) → Begins is_whitespace (joined ps) → ⊥
+pieces_no_white : (flags : Settings) (ps : List Piece) → AllLegal flags ps → (Begins is_whitespace (chars (joined ps)) → ⊥) → Begins is_whitespace (joined ps) → ⊥
 pieces_no_white flags [] a n b = b
 pieces_no_white flags (p ∷ ps) a n b = elim (bool_cases (is_white p.0)) [
   | inl e ↦ (let w = white_of flags p.0 p.1 (joined ps) e a.0 in n (white_begins p.1 (joined ps) w.some w.each (utf8_joined flags ps a.1)))
@@ -216,13 +216,13 @@ rest_pieces (p ∷ ps) = ps
 
 module _ (flags : Settings) where
   -- white space in front is the white space in front
-  cut_white : (p : Piece) (ps : List Piece) (w : List ℕ) (xs : List Spaced) → is_white p.0 ≡ true → Stands flags p.0 p.1 (joined ps) → AllStand flags ps → p.1 ++ joined ps ≡ w ++ spread xs → Each is_whitespace w → AreSpaced flags xs
+  cut_white : (p : Piece) (ps : List Piece) (w : List ℕ) (xs : List Spaced) → is_white p.0 ≡ true → IsAt flags p.0 p.1 (joined ps) → AllLegal flags ps → p.1 ++ joined ps ≡ w ++ spread xs → Each is_whitespace w → AreSpaced flags xs
       → (p.1 ≡ w) × (joined ps ≡ spread xs)
   cut_white p ps w xs e a all j h k =
       let i = white_of flags p.0 p.1 (joined ps) e a in
       span p.1 w (joined ps) (spread xs) i.each h (pieces_no_white flags ps all i.ends) (spread_no_white flags xs k) j
 
-  only : (ps : List Piece) (w : List ℕ) (xs : List Spaced) → AllStand flags ps → joined ps ≡ w ++ spread xs → no_white ps ≡ words_of xs → Each is_whitespace w → AreSpaced flags xs → ps ≡ gapped w (to_pieces xs)
+  only : (ps : List Piece) (w : List ℕ) (xs : List Spaced) → AllLegal flags ps → joined ps ≡ w ++ spread xs → no_white ps ≡ words_of xs → Each is_whitespace w → AreSpaced flags xs → ps ≡ gapped w (to_pieces xs)
   only [] [] [] a j n h k = refl
   only [] [] (x ∷ xs) a j n h k = absurd (let e : ◌≡◌ {A = List Piece} [] ((x.kind, x.bytes) ∷ words_of xs) = n in cc)
   only [] (c ∷ w) xs a j n h k = absurd (let e : ◌≡◌ {A = List ℕ} [] (c ∷ (w ++ spread xs)) = j in cc)
@@ -251,7 +251,7 @@ module _ (flags : Settings) where
   spread_utf8 [] h = IsUtf8-nil
   spread_utf8 (x ∷ xs) h = IsUtf8-append x.bytes (x.white ++ spread xs) h.0.utf8 (IsUtf8-append x.white (spread xs) (white_utf8 x.white h.0.white) (spread_utf8 xs h.1))
 
-  no_white_in_front : (xs : List Spaced) → AreSpaced flags xs → AllStand flags (to_pieces xs) → Begins is_whitespace (chars (joined (to_pieces xs))) → ⊥
+  no_white_in_front : (xs : List Spaced) → AreSpaced flags xs → AllLegal flags (to_pieces xs) → Begins is_whitespace (chars (joined (to_pieces xs))) → ⊥
   no_white_in_front [] h a b = nothing_white b
   no_white_in_front (x ∷ xs) h a b = no_white_first flags x xs h.0 (utf8_joined flags (gapped x.white (to_pieces xs)) a.1) b
 
@@ -287,11 +287,11 @@ module _ (flags : Settings) where
 
     reads : AreLegal xs → Reads s xs
     reads l =
-        let all = stand flags xs h l in
-        let stands = gapped_stand flags front (to_pieces xs) white all (no_white_in_front xs h all) in
+        let all = legal flags xs h l in
+        let is_at = gapped_legal flags front (to_pieces xs) white all (no_white_in_front xs h all) in
         record {
           tokens = placed 0 out;
-          tiling = record { to = length s.text; tiling = placed_tiling s 0 out stands (sym whole) (let e = ap length whole in omega arith); ends = refl };
+          tiling = record { to = length s.text; tiling = placed_tiling s 0 out is_at (sym whole) (let e = ap length whole in omega arith); ends = refl };
           same = words_of_pieces s.text (placed 0 out) ∙ ap no_white (pieces_placed s 0 out (sym whole)) ∙ no_white_gapped front (to_pieces xs) ∙ no_white_spread flags xs h;
         }
 
@@ -299,10 +299,10 @@ module _ (flags : Settings) where
     cut r = cut_text s utf8 bounds 0 r.tiling.to r.tokens (IsCharBoundary-start s.text utf8) r.tiling.tiling r.tiling.ends
 
     same_pieces : (r : Reads s xs) → pieces s.text r.tokens ≡ out
-    same_pieces r = only (pieces s.text r.tokens) front xs (cut r).stand (cut r).whole (sym (words_of_pieces s.text r.tokens) ∙ r.same) white h
+    same_pieces r = only (pieces s.text r.tokens) front xs (cut r).legal (cut r).whole (sym (words_of_pieces s.text r.tokens) ∙ r.same) white h
 
     are_legal : Reads s xs → AreLegal xs
-    are_legal r = legal flags xs h (tail_stands flags front (to_pieces xs) (subst (AllStand flags) (same_pieces r) (cut r).stand))
+    are_legal r = legal flags xs h (tail_is_at flags front (to_pieces xs) (subst (AllLegal flags) (same_pieces r) (cut r).legal))
 
     pub exact : AreLegal xs ↔ Reads s xs
     exact = (reads, are_legal)

@@ -3,7 +3,7 @@ use Rattle.std.proofs.Common.{◌≡◌, ◌+◌, ℕ, List, [], ◌∷◌, ◌+
 use Rattle.std.proofs.lemmas.List.{append-nil, take-append-drop}
 use Rattle.std.specs.Prelude.{Option, Some, None, Result, Ok, Err, IfErr, IsErrAnd}
 use Rattle.std.specs.Io.KnownBytes.{Appends, Keeps}
-use Rattle.wat_lex.specs.tokens.EverySetting.{OneThingStands}
+use Rattle.wat_lex.specs.tokens.EverySetting.{OneThingIsAt}
 use Rattle.wat_lex.specs.tokens.Setting.{Setting}
 use Rattle.wat_lex.specs.tokens.Tiling.{TokenAt, MaximalTiling}
 use Rattle.wat_lex.specs.tokens.UniqueTilings.{AnswerAt}
@@ -51,7 +51,7 @@ no_fault s p [] r f m one e = let h = one (Ok None) (m.tiling ∙ m.ends) in cc
 no_fault s p (t ∷ ts) r f m one e = let h = one (Ok (Some t)) m.tiling.0 in cc
 
 module _ (s : Setting) (answer : List ℕ) (p : ℕ) (state : State) (old new : Option (List ℕ)) where
-  next_by : OneThingStands → (written block block' : List ℕ) (state' : State) (ts : List Token) (t : Token) → Appends old new written → MaximalTiling s p ts None → answer ≡ written ++ (block ++ laid s.text state ts) → TokenAt s p t → Lays s.text state t state' block block'
+  next_by : OneThingIsAt → (written block block' : List ℕ) (state' : State) (ts : List Token) (t : Token) → Appends old new written → MaximalTiling s p ts None → answer ≡ written ++ (block ++ laid s.text state ts) → TokenAt s p t → Lays s.text state t state' block block'
       → Remains s answer (t.offset + t.len) state' old new block'
   next_by one written block block' state' [] t a m e k l =
       let h = one s p (Ok None) (Ok (Some t)) (m.tiling ∙ m.ends) k in absurd cc
@@ -66,7 +66,7 @@ module _ (s : Setting) (answer : List ℕ) (p : ℕ) (state : State) (old new : 
         rest = e ∙ ap (λ x. written ++ (block ++ laid s.text state (x ∷ us))) same ∙ ap (λ x. written ++ x) (l us);
       })
 
-  pub remains_next : OneThingStands → (block block' : List ℕ) (state' : State) (t : Token) → Remains s answer p state old new block → TokenAt s p t → Lays s.text state t state' block block' → Remains s answer (t.offset + t.len) state' old new block'
+  pub remains_next : OneThingIsAt → (block block' : List ℕ) (state' : State) (t : Token) → Remains s answer p state old new block → TokenAt s p t → Lays s.text state t state' block block' → Remains s answer (t.offset + t.len) state' old new block'
   remains_next one block block' state' t h k l = next_by one h.written block block' state' h.tokens t h.appended h.tiling h.rest k l
 
   -- the first bytes of a block are written
@@ -102,15 +102,15 @@ module _ (s : Setting) (answer : List ℕ) (p : ℕ) (state : State) (old new : 
   pub part_of_block : (new' : Option (List ℕ)) (block : List ℕ) → Formatted s answer → Remains s answer p state old new block → AppendsPrefix new new' block → AppendsPart s old new'
   part_of_block new' block f h k = part_more new' h.written block (laid s.text state h.tokens) f h.appended h.rest k
 
-  last_by : OneThingStands → (ts : List Token) → MaximalTiling s p ts None → p ≡ length s.text → ts ≡ []
+  last_by : OneThingIsAt → (ts : List Token) → MaximalTiling s p ts None → p ≡ length s.text → ts ≡ []
   last_by one [] m e = refl
   last_by one (t ∷ ts) m e = let h = one s p (Ok None) (Ok (Some t)) e m.tiling.0 in absurd cc
 
-  last_rest : OneThingStands → (block last : List ℕ) → (h : Remains s answer p state old new block) → p ≡ length s.text → last ≡ block ++ laid s.text state [] → answer ≡ h.written ++ last
+  last_rest : OneThingIsAt → (block last : List ℕ) → (h : Remains s answer p state old new block) → p ≡ length s.text → last ≡ block ++ laid s.text state [] → answer ≡ h.written ++ last
   last_rest one block last h e k = h.rest ∙ ap (λ x. h.written ++ (block ++ laid s.text state x)) (last_by one h.tokens h.tiling e) ∙ ap (λ x. h.written ++ x) (sym k)
 
   -- the last block is written
-  pub all_written : OneThingStands → (new' : Option (List ℕ)) (block last : List ℕ) → Formatted s answer → Remains s answer p state old new block → p ≡ length s.text → last ≡ block ++ laid s.text state [] → Appends new new' last → AppendsLayout s old new'
+  pub all_written : OneThingIsAt → (new' : Option (List ℕ)) (block last : List ℕ) → Formatted s answer → Remains s answer p state old new block → p ≡ length s.text → last ≡ block ++ laid s.text state [] → Appends new new' last → AppendsLayout s old new'
   all_written one new' block last f h e k a = record {
     answer = answer;
     formatted = f;
@@ -118,7 +118,7 @@ module _ (s : Setting) (answer : List ℕ) (p : ℕ) (state : State) (old new : 
   }
 
   -- or a part of it
-  pub part_of_last : OneThingStands → (new' : Option (List ℕ)) (block last : List ℕ) → Formatted s answer → Remains s answer p state old new block → p ≡ length s.text → last ≡ block ++ laid s.text state [] → AppendsPrefix new new' last → AppendsPart s old new'
+  pub part_of_last : OneThingIsAt → (new' : Option (List ℕ)) (block last : List ℕ) → Formatted s answer → Remains s answer p state old new block → p ≡ length s.text → last ≡ block ++ laid s.text state [] → AppendsPrefix new new' last → AppendsPart s old new'
   part_of_last one new' block last f h e k a = part_more new' h.written last [] f h.appended (last_rest one block last h e k ∙ ap (λ x. h.written ++ x) (sym (append-nil last))) a
 
 pub remains_start : (s : Setting) (state : State) (old : Option (List ℕ)) (block : List ℕ) → (h : EndsFrom s 0 None) → state ≡ start → block ≡ [] → Remains s (layout s.text h.tokens) 0 state old old block

@@ -1,4 +1,4 @@
--- What stands between two tokens, and what is written in its place: the two tokens decide. No part of the standard.
+-- What is between two tokens, and what is written in its place: the two tokens decide. No part of the standard.
 use Rattle.std.specs.Prelude.{ℕ, ◌+◌, ◌*◌, replicate, Bool, true, false, not, ◌&&◌, ◌||◌, ◌==◌, nat_lt, List, [], ◌∷◌, length, if◌then◌else◌}
 use Rattle.wat_lex.specs.grammar.Classes.{line_feed, carriage_return}
 use Rattle.wat_format.specs.declared.gap.Gap.{Gap}
@@ -6,7 +6,7 @@ use Rattle.wat_format.specs.declared.gap.Gap.TheVariants.{Touching, Blanks, Line
 use Rattle.wat_format.specs.declared.sort.Sort.{Sort}
 use Rattle.wat_format.specs.declared.sort.Sort.TheVariants.{Open, Close, Comment, Mark, At}
 
--- the line ends in white space behind the byte p: each LF and each CR, but CR LF is one
+-- the line ends in white space after the byte p: each LF and each CR, but CR LF is one
 abbrev pub line_ends : ℕ → List ℕ → ℕ
 line_ends p [] = 0
 line_ends p (c ∷ w) = (if c == carriage_return || (c == line_feed && not (p == carriage_return)) then 1 else 0) + line_ends c w
@@ -47,7 +47,7 @@ settled x Mark g = kept g
 settled x Close g = Touching
 settled x y g = Blanks 1
 
--- a gap as it is written in front of a line of this level
+-- a gap as it is written before a line of this level
 abbrev pub gap_text : Gap → ℕ → List ℕ
 gap_text Touching l = []
 gap_text (Blanks n) l = replicate n 32

@@ -41,12 +41,12 @@ abbrev pub is_opening : TokenKind → Bool
 is_opening LParen = true
 is_opening kind = false
 
--- of each `(`, whether `@` stands directly behind it, which makes it the start of an annotation
+-- of each `(`, whether `@` comes directly after it, which makes it the start of an annotation
 abbrev pub marks : List ℕ → List Token → List Bool
 marks text [] = []
 marks text (t ∷ ts) = if is_opening t.kind then begins_at (drop (t.offset + t.len) text) ∷ marks text ts else marks text ts
 
--- no blank stands directly before a line end
+-- no blank comes directly before a line end
 abbrev pub EndsClean : List ℕ → Type 0
 EndsClean w = (front back : List ℕ) → w ≢ front ++ 32 ∷ line_feed ∷ back
 

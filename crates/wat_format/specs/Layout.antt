@@ -31,15 +31,15 @@ abbrev pub closed : Group → List Group → Groups
 closed g [] = record { open_group = g; around = [] }
 closed g (outer ∷ around) = record { open_group = outer; around = around }
 
--- the groups behind a token of this sort, on a line of this level
-abbrev pub groups_behind : Sort → ℕ → Groups → Groups
-groups_behind Open l s = record { open_group = record { floor = l + 1; blocks = 0 }; around = s.open_group ∷ s.around }
-groups_behind Close l s = closed s.open_group s.around
-groups_behind Begins l s = record s { open_group = record s.open_group { blocks = s.open_group.blocks + 1 } }
-groups_behind Ends l s = record s { open_group = record s.open_group { blocks = s.open_group.blocks - 1 } }
-groups_behind y l s = s
+-- the groups after a token of this sort, on a line of this level
+abbrev pub groups_after : Sort → ℕ → Groups → Groups
+groups_after Open l s = record { open_group = record { floor = l + 1; blocks = 0 }; around = s.open_group ∷ s.around }
+groups_after Close l s = closed s.open_group s.around
+groups_after Begins l s = record s { open_group = record s.open_group { blocks = s.open_group.blocks + 1 } }
+groups_after Ends l s = record s { open_group = record s.open_group { blocks = s.open_group.blocks - 1 } }
+groups_after y l s = s
 
--- in front of a token: the sort of the one before it, if there is one, the gap between them, the level of the line, and the groups
+-- before a token: the sort of the one before it, if there is one, the gap between them, the level of the line, and the groups
 pub record State : Type 0 where
   pub before : Option Sort
   pub gap : Gap
@@ -49,26 +49,26 @@ pub record State : Type 0 where
 abbrev pub start : State
 start = record { before = None; gap = Touching; line = 0; groups = record { open_group = record { floor = 0; blocks = 0 }; around = [] } }
 
--- nothing is written in front of the first token
-abbrev pub gap_behind : Option Sort → Sort → Gap → Gap
-gap_behind None y g = Touching
-gap_behind (Some x) y g = settled x y g
+-- nothing is written before the first token
+abbrev pub gap_after : Option Sort → Sort → Gap → Gap
+gap_after None y g = Touching
+gap_after (Some x) y g = settled x y g
 
 abbrev pub gap_before : Sort → State → Gap
-gap_before y s = gap_behind s.before y s.gap
+gap_before y s = gap_after s.before y s.gap
 
--- the level of the line on which a token of this sort stands behind this gap
+-- the level of the line on which a token of this sort comes after this gap
 abbrev pub line_level : Sort → Gap → State → ℕ
 line_level y g s = if is_break g then level y s.groups.open_group else s.line
 
-abbrev pub behind : Sort → ℕ → State → State
-behind y l s = record { before = Some y; gap = Touching; line = l; groups = groups_behind y l s.groups }
+abbrev pub after : Sort → ℕ → State → State
+after y l s = record { before = Some y; gap = Touching; line = l; groups = groups_after y l s.groups }
 
 abbrev pub is_white : TokenKind → Bool
 is_white Whitespace = true
 is_white kind = false
 
--- what is written of these raw tokens of a text; one line end stands behind the last
+-- what is written of these raw tokens of a text; one line end comes after the last
 abbrev pub laid : List ℕ → State → List Token → List ℕ
 laid text s [] = if is_some s.before then line_feed ∷ [] else []
 laid text s (t ∷ ts) =
@@ -77,7 +77,7 @@ laid text s (t ∷ ts) =
     let g = gap_before y s in
     let l = line_level y g s in
     if is_white t.kind then laid text (record s { gap = gap_of w }) ts
-    else (gap_text g l ++ w) ++ laid text (behind y l s) ts
+    else (gap_text g l ++ w) ++ laid text (after y l s) ts
 
 abbrev pub layout : List ℕ → List Token → List ℕ
 layout text tokens = laid text start tokens

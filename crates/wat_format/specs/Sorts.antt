@@ -17,7 +17,7 @@ ends_block w = bytes_eq w (codes "end") || bytes_eq w (codes "delegate")
 abbrev pub parts_block : List ℕ → Bool
 parts_block w = bytes_eq w (codes "else") || (bytes_eq w (codes "catch") || bytes_eq w (codes "catch_all"))
 
--- directly behind `(` a keyword is the head of a group, and no part of a flat block
+-- directly after `(` a keyword is the head of a group, and no part of a flat block
 abbrev pub sort_of_keyword : Option Sort → List ℕ → Sort
 sort_of_keyword (Some Open) w = Other
 sort_of_keyword before w = if begins_block w then Begins else if ends_block w then Ends else if parts_block w then Parts else Other
@@ -29,7 +29,7 @@ abbrev pub sort_by_first : List ℕ → Sort
 sort_by_first [] = Other
 sort_by_first (c ∷ w) = if c == at_sign then At else if is_mark_byte c then Mark else Other
 
--- the sort of a token of this kind and with this text, behind a token of that sort, if there is one
+-- the sort of a token of this kind and with this text, after a token of that sort, if there is one
 abbrev pub sort_of : Option Sort → TokenKind → List ℕ → Sort
 sort_of before LParen w = Open
 sort_of before RParen w = Close

@@ -1,5 +1,5 @@
 -- WebAssembly specification, text format, lexical format: tokens, white space, comments. Where white space may go or come between words, which are
--- the tokens other than white space, so that they stay as they are. Each token is the longest that can stand there: some words that touch are others.
+-- the tokens other than white space, so that they stay as they are. Each token is the longest that can be there: some words that touch are others.
 use Rattle.std.specs.Prelude.{◌≡◌, ◌⊎◌, ◌↔◌, ℕ, Bool, false, IsFalse, List, [], ◌∷◌, ◌++◌, None, if◌then◌else◌}
 use Rattle.std.specs.Str.{IsUtf8, chars}
 use Rattle.wat_lex.specs.grammar.Classes.{Begins, Each, is_line_end, is_whitespace, semicolon}
@@ -13,7 +13,7 @@ use Rattle.wat_lex.specs.declared.lexer.settings.Settings.{Settings}
 use Rattle.wat_format.specs.Laws.{words, begins_at, is_opening, marks}
 use Rattle.wat_format.specs.Layout.{is_white}
 
--- a word by its kind and bytes, and the white space behind it
+-- a word by its kind and bytes, and the white space after it
 pub record Spaced : Type 0 where
   pub kind : TokenKind
   pub bytes : List ℕ
@@ -59,12 +59,12 @@ pub data Joins (j : TokenKind) (v : List ℕ) (k : TokenKind) (w : List ℕ) : T
   block_comment : j ≡ LParen → BeginsWithSemicolon k w → Joins j v k w
   line_comment : j ≡ Reserved → v ≡ semicolon ∷ [] → BeginsWithSemicolon k w → Joins j v k w
 
--- Any other two words may touch, and white space may always stand between two. Behind a line comment it begins with a line end.
+-- Any other two words may touch, and white space may always be between two. After a line comment it begins with a line end.
 pub record IsLegal (x y : Spaced) : Type 0 where
   pub apart : x.white ≡ [] → Joins x.kind (chars x.bytes) y.kind (chars y.bytes) → ⊥
   pub ended : x.kind ≡ LineComment → Begins is_line_end x.white
 
--- behind the last word, too, or the text ends with the line comment
+-- after the last word, too, or the text ends with the line comment
 abbrev pub IsLegalEnd : Spaced → Type 0
 IsLegalEnd x = x.kind ≡ LineComment → (x.white ≡ []) ⊎ Begins is_line_end x.white
 

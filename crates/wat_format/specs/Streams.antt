@@ -34,12 +34,12 @@ RefusesToWrite s old new (Memory refused) = AppendsPart s old new
 RefusesToWrite s old new (Fault fault) = ((tokens : List Token) × MaximalTiling s 0 tokens (Some fault)) × Keeps old new
 RefusesToWrite s old new (Failed cause) = AppendsPart s old new
 
--- the failure of the last call that failed, behind a write
+-- the failure of the last call that failed, after a write
 abbrev pub failure_after : {F : Type 0} → Option F → Result (Unit {0}) F → Option F
 failure_after before (Ok u) = before
 failure_after before (Err failure) = Some failure
 
--- and behind formatting, which may be refused for other reasons
+-- and after formatting, which may be refused for other reasons
 abbrev pub failed_after : {F : Type 0} → Option F → Result (Unit {0}) (WriteError F) → Option F
 failed_after before (Ok u) = before
 failed_after before (Err (Memory refused)) = before

@@ -18,7 +18,7 @@ fn blanks(count: usize) -> &'static str
     &BLANKS[..count]
 }
 
-/// Writes blanks behind a text.
+/// Writes blanks after a text.
 fn push_blanks(out: &mut String, count: usize) -> Result<(), AllocError>
     ensures { OnOk result (string_bytes out.new ≡ string_bytes out.old ++ replicate count 32) }
 {

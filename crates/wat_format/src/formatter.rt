@@ -2,7 +2,7 @@
 ghost use Rattle.std.specs.Prelude.{◌≡◌, ◌≤◌, ◌<◌, ◌+◌, ◌^◌, ◌++◌, OnOk, [], string_bytes};
 ghost use Rattle.std.specs.Str.{IsCharBoundary};
 ghost use Rattle.wat_format.specs.Gaps.{gap_of};
-ghost use Rattle.wat_format.specs.Layout.{behind, gap_before, laid, line_level, start};
+ghost use Rattle.wat_format.specs.Layout.{after, gap_before, laid, line_level, start};
 ghost use Rattle.wat_format.specs.inside.Steps.{Few, Lays, Writes};
 
 use crate::blanks::push_gap;
@@ -13,7 +13,7 @@ use std::alloc::{AllocError, Global};
 use std::marker::Model;
 use wat_lex::lexer::{Token, TokenKind};
 
-/// Where a layout stands between two tokens.
+/// Where a layout is between two tokens.
 #[derive(Drop)]
 pub struct Formatter {
     before: Option<Sort>,
@@ -39,7 +39,7 @@ impl Model for Formatter {
 }
 
 impl Formatter {
-    /// A formatter in front of the first token.
+    /// A formatter before the first token.
     pub fn new(alloc: Global) -> Formatter
         ensures { result ≡ start }
     {
@@ -61,7 +61,7 @@ impl Formatter {
         }
     }
 
-    /// The level of the line on which a token of this sort stands behind this gap.
+    /// The level of the line on which a token of this sort comes after this gap.
     fn line_level(&self, sort: Sort, gap: Gap) -> u32
         ensures level { result ≡ line_level sort gap self.now }
         ensures low { result ≤ 50 }
@@ -73,11 +73,11 @@ impl Formatter {
         }
     }
 
-    /// Goes on behind a token of this sort, on a line of this level.
+    /// Goes on after a token of this sort, on a line of this level.
     fn pass(&mut self, sort: Sort, line: u32) -> Result<(), AllocError>
         requires line { line ≤ 50 }
         requires few { self.old.groups.open_group.blocks + 1 < 2 ^ 32 }
-        ensures { OnOk result (self.new ≡ behind sort line self.old) }
+        ensures { OnOk result (self.new ≡ after sort line self.old) }
     {
         self.groups.pass(sort, line)?;
         self.before = Some(sort);
@@ -86,14 +86,14 @@ impl Formatter {
         Ok(())
     }
 
-    /// Goes on behind white space.
+    /// Goes on after white space.
     fn pass_white(&mut self, white: &str)
         ensures { self.new ≡ record self.old { gap = gap_of white.now } }
     {
         self.gap = gap_of(white.as_bytes());
     }
 
-    /// Writes a token, and what stands between the token before and it.
+    /// Writes a token, and what is between the token before and it.
     fn write(&mut self, out: &mut String, kind: TokenKind, word: &str) -> Result<(), AllocError>
         requires { self.old.groups.open_group.blocks + 1 < 2 ^ 32 }
         ensures { OnOk result (Writes kind word.now self.old self.new (string_bytes out.old) (string_bytes out.new)) }
@@ -125,7 +125,7 @@ impl Formatter {
         self.write(out, token.kind, word)
     }
 
-    /// Writes the line end behind the last token.
+    /// Writes the line end after the last token.
     pub fn finish(&self, out: &mut String, text: &str) -> Result<(), AllocError>
         ensures { OnOk result (string_bytes out.new ≡ string_bytes out.old ++ laid text.now self.now []) }
     {

@@ -1,10 +1,10 @@
-//! What stands between two tokens.
+//! What is between two tokens.
 ghost use Rattle.std.specs.Prelude.{◌≡◌};
 ghost use Rattle.wat_format.specs.Gaps.{gap_of, is_break, kept, settled};
 
 use crate::sort::Sort;
 
-/// What stands between two tokens.
+/// What is between two tokens.
 #[derive(Clone, Copy)]
 pub enum Gap {
     /// Nothing.
@@ -62,38 +62,30 @@ impl Gap {
     }
 
     /// What is written in its place between tokens of these sorts.
-    pub fn settled(self, before: Sort, behind: Sort) -> Gap
-        ensures { result ≡ settled before behind self }
+    pub fn settled(self, before: Sort, after: Sort) -> Gap
+        ensures { result ≡ settled before after self }
     {
         if before.is_comment() {
-            return if behind.is_close() {
-                Gap::LineEnd
-            } else {
-                self
-            };
+            return if after.is_close() { Gap::LineEnd } else { self };
         }
-        if behind.is_comment() {
+        if after.is_comment() {
             let is_off = matches!(self, Gap::Touching) || (before.is_open() && self.is_break());
             return if is_off { Gap::Blanks(1) } else { self };
         }
         if before.is_open() {
-            return if behind.may_part() {
+            return if after.may_part() {
                 self.kept()
             } else {
                 Gap::Touching
             };
         }
         if self.is_break() {
-            return if behind.is_close() {
-                Gap::LineEnd
-            } else {
-                self
-            };
+            return if after.is_close() { Gap::LineEnd } else { self };
         }
-        if before.is_mark() || behind.is_mark() {
+        if before.is_mark() || after.is_mark() {
             return self.kept();
         }
-        if behind.is_close() {
+        if after.is_close() {
             Gap::Touching
         } else {
             Gap::Blanks(1)

@@ -1,7 +1,7 @@
 //! Groups of tokens in parentheses, and how far their lines are indented.
 ghost use Rattle.std.specs.Prelude.{◌≡◌, ◌≤◌, ◌<◌, ◌+◌, ◌^◌, OnOk};
 ghost use Rattle.wat_format.specs.declared.sort.Sort.TheVariants.{Open};
-ghost use Rattle.wat_format.specs.Layout.{closed, groups_behind, level, start};
+ghost use Rattle.wat_format.specs.Layout.{closed, groups_after, level, start};
 
 use crate::sort::Sort;
 use std::alloc::{AllocError, Global};
@@ -77,7 +77,7 @@ impl Groups {
     /// Opens a group on a line of this level.
     fn enter(&mut self, line: u32) -> Result<(), AllocError>
         requires { line ≤ 50 }
-        ensures { OnOk result (self.new ≡ groups_behind Open line self.old) }
+        ensures { OnOk result (self.new ≡ groups_after Open line self.old) }
     {
         self.around.push(self.inner)?;
         self.inner = Group {
@@ -96,11 +96,11 @@ impl Groups {
         }
     }
 
-    /// Goes on behind a token of this sort, on a line of this level.
+    /// Goes on after a token of this sort, on a line of this level.
     pub fn pass(&mut self, sort: Sort, line: u32) -> Result<(), AllocError>
         requires line { line ≤ 50 }
         requires few { self.old.open_group.blocks + 1 < 2 ^ 32 }
-        ensures { OnOk result (self.new ≡ groups_behind sort line self.old) }
+        ensures { OnOk result (self.new ≡ groups_after sort line self.old) }
     {
         match sort {
             Sort::Open => return self.enter(line),

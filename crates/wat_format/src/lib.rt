@@ -1,5 +1,5 @@
 //! A formatter of WebAssembly text that loses nothing: it writes each raw token of a text, comments
-//! among them, byte for byte in its order, and settles only what stands between two of them.
+//! among them, byte for byte in its order, and settles only what is between two of them.
 #![tactic(auto)]
 
 mod blanks;

@@ -5,7 +5,7 @@ ghost use Rattle.std.specs.Io.KnownBytes.{Appends};
 ghost use Rattle.std.specs.Str.{IsCharBoundary};
 ghost use Rattle.wat_format.specs.Streams.{AppendsLayout, RefusesToWrite, failed_after};
 ghost use Rattle.wat_format.specs.inside.Steps.{EndsFrom};
-ghost use Rattle.wat_format.specs.inside.Writing.{CutsShort, Moves, StandsAt, StopsShort};
+ghost use Rattle.wat_format.specs.inside.Writing.{CutsShort, Moves, TokenIsAt, StopsShort};
 
 use crate::format::{fault_from, lexer_of};
 use crate::formatter::Formatter;
@@ -113,7 +113,7 @@ fn write_laid<W: Sink>(
 fn next_token(lexer: &Lexer<'_>, pos: usize) -> Option<Token>
     requires boundary { IsCharBoundary lexer.now.text pos }
     requires ends { EndsFrom lexer.now pos None }
-    ensures some { IfSome result (StandsAt lexer.now pos) }
+    ensures some { IfSome result (TokenIsAt lexer.now pos) }
     ensures none { IfNone result (pos ≡ length lexer.now.text) }
 {
     match lexer.scan(pos) {

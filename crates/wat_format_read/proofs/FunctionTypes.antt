@@ -61,9 +61,9 @@ moves_results laws = moves_joined more_comes (group returns) (moves_more laws) (
 moves_func : ShownLaws → Moves 1 stays func
 unfolding func
 moves_func laws =
-    let behind : List ValType → Reading Signature = λ ps. mapped (λ rs. record { params = ps; results = rs }) results in
-    moves_and_then span_moved stays 1 0 (kw func_word) (λ at. and_then params behind) (moves_keyword_at laws false func_word)
-    (λ s ts v h. moves_and_then stays stays 0 0 params behind (moves_params laws) (λ s ts ps h. moves_mapped stays stays (λ rs. record { params = ps; results = rs }) 0 results (λ move rs. refl) (moves_results laws) s ts h) s ts h)
+    let after : List ValType → Reading Signature = λ ps. mapped (λ rs. record { params = ps; results = rs }) results in
+    moves_and_then span_moved stays 1 0 (kw func_word) (λ at. and_then params after) (moves_keyword_at laws false func_word)
+    (λ s ts v h. moves_and_then stays stays 0 0 params after (moves_params laws) (λ s ts ps h. moves_mapped stays stays (λ rs. record { params = ps; results = rs }) 0 results (λ move rs. refl) (moves_results laws) s ts h) s ts h)
 
 moves_definition : ShownLaws → Moves 4 stays definition
 unfolding definition

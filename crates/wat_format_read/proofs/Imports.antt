@@ -18,7 +18,7 @@ use Rattle.wat_lexer_parser.specs.readings.Readings.{and_then, mapped, optional,
 use Rattle.wat_lexer_parser.specs.readings.Types.{Spelled, an_identifier, identifier, keyword, optional_name, sees_word, text, u32}
 use Rattle.wat_words.specs.Words.{quoted}
 
--- a number behind a keyword
+-- a number after a keyword
 moves_numbered : ShownLaws → (w : List ℕ) (of : ℕ → Kind) → Moves 2 stays (and_then (keyword false w) (λ at. mapped of u32))
 moves_numbered laws w of = moves_and_then span_moved stays 1 1 (keyword false w) (λ at. mapped of u32) (moves_keyword_at laws false w) (λ s ts v h. moves_mapped stays stays of 1 u32 (λ move n. refl) (moves_u32 laws) s ts h)
 

@@ -80,7 +80,7 @@ measured_strip x (t ∷ ts) h =
     let ih = measured_strip x ts h.1 in
     elim (is_white t.kind) as (λ b. AllMeasured x (if b then strip ts else t ∷ strip ts)) [ true ↦ ih | false ↦ (h.0, ih) ]
 
--- the same token, wherever it stands
+-- the same token, wherever it is
 pub record Twin (x y : List ℕ) (t u : Token) : Type 0 where
   pub kind : u.kind ≡ t.kind
   pub len : u.len ≡ t.len

@@ -1,4 +1,4 @@
--- The map that says where a token stands.
+-- The map that says where a token is.
 use Rattle.std.proofs.Common.{◌≡◌, ◌+◌, ◌≤◌, ℕ, zero, suc, true, false, eqb, List, [], ◌∷◌, refl, sym, ap, ◌∙◌, subst, arith}
 use Rattle.std.proofs.lemmas.Bool.Decides.{nat_tests}
 use Rattle.std.specs.Prelude.{if◌then◌else◌}
@@ -9,7 +9,7 @@ use Rattle.wat_format_shown.specs.Reads.{MapsAreOne}
 use Rattle.wat_format_shown.specs.Sides.{AllSame, Among}
 use Rattle.wat_format_shown.proofs.Tokens.{Before, Rising}
 
--- the place of the other token, where a token stands here, and else the end of the other text
+-- the place of the other token, where a token is here, and else the end of the other text
 abbrev pub moved : ℕ → List Token → List Token → ℕ → ℕ
 moved e [] us p = e
 moved e (t ∷ ts) [] p = e
@@ -27,7 +27,7 @@ moved_here e t u ts us = ap (λ b. if b then u.offset else moved e ts us t.offse
 moved_on : (e : ℕ) (t u : Token) (ts us : List Token) (p : ℕ) → t.offset + 1 ≤ p → moved e (t ∷ ts) (u ∷ us) p ≡ moved e ts us p
 moved_on e t u ts us p h = ap (λ b. if b then u.offset else moved e ts us p) (others t.offset p h)
 
--- behind all tokens that is the end
+-- after all tokens that is the end
 pub moved_end : (e p : ℕ) (ts us : List Token) → Before p ts → moved e ts us p ≡ e
 moved_end e p [] us h = refl
 moved_end e p (t ∷ ts) [] h = refl

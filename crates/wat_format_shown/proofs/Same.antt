@@ -7,7 +7,7 @@ use Rattle.std.specs.Option.{option_map}
 use Rattle.wat_lex.specs.tokens.ReadableTokens.{token_text}
 use Rattle.wat_lex.specs.declared.lexer.kinds.Token.{Token}
 use Rattle.wat_lexer_parser.specs.declared.parser.fault.Fault.{Fault}
-use Rattle.wat_lexer_parser.specs.lemmas.Behind.{same_token}
+use Rattle.wat_lexer_parser.specs.lemmas.After.{same_token}
 use Rattle.wat_lexer_parser.specs.names.RegisteredNames.{Names}
 use Rattle.wat_lexer_parser.specs.laws.AllShown.{AllShown, end, fault, next}
 use Rattle.wat_lexer_parser.specs.shown.Shown.{Finding, Shown}

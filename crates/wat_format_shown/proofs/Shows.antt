@@ -10,7 +10,7 @@ use Rattle.wat_lex.specs.tokens.Tiling.{MaximalTiling}
 use Rattle.wat_lex.specs.declared.lexer.faults.LexFault.{LexFault}
 use Rattle.wat_lex.specs.declared.lexer.kinds.Token.{Token}
 use Rattle.wat_lexer_parser.specs.declared.parser.fault.Fault.{Fault}
-use Rattle.wat_lexer_parser.specs.lemmas.Behind.{behind_in, behind_place}
+use Rattle.wat_lexer_parser.specs.lemmas.After.{after_in, after_place}
 use Rattle.wat_lexer_parser.specs.names.RegisteredNames.{Names}
 use Rattle.wat_lexer_parser.specs.places.Source.{Source, IsRead}
 use Rattle.wat_lexer_parser.specs.laws.AllShown.{AllShown, end, fault, next}
@@ -50,7 +50,7 @@ of_counting one same s n u read p ts vs f e (fault {f = a} h) = fault (same s n 
 of_counting one same s n u read p ts vs f e (next {r = r} {us = us} {t = t} h rest) =
     let g : Shown s.setting.text s.ending n (drop p s.tokens) (Ok (Some (t, r))) = subst (λ l. Shown s.setting.text s.ending n l (Ok (Some (t, r)))) e h in
     let is : shown_in s.setting.text s.ending n Showing (drop p s.tokens) ≡ Ok (Some (t, r)) = sym (one s.setting.text s.ending n (drop p s.tokens) (Ok (Some (t, r))) g) in
-    let b = behind_place t s.tokens p r (behind_in s.setting.text s.ending n Showing (drop p s.tokens) t r is) in
+    let b = after_place t s.tokens p r (after_in s.setting.text s.ending n Showing (drop p s.tokens) t r is) in
     let ih = of_counting one same s n u read (length s.tokens - length r) r us f b.tail rest in
     next (same s n p (Ok (Some (t, r))) u read g) (subst (λ l. AllShown s.setting.text s.ending n (counting l) us f) (sym b.tail) ih)
 

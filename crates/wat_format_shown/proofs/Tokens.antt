@@ -1,4 +1,4 @@
--- Tokens of a tiling: how long they are, and in which order they stand.
+-- Tokens of a tiling: how long they are, and in which order they are.
 use lib.Utf8.{encode, encodes}
 use Rattle.std.proofs.Common.{◌≡◌, ◌≢◌, ◌+◌, ◌<◌, ◌≤◌, ℕ, true, false, List, [], ◌∷◌, refl, sym, ap, ◌∙◌, subst, inl, inr, arith, length-append}
 use Rattle.std.proofs.lemmas.Bool.{cases_Bool, false≢true}
@@ -57,7 +57,7 @@ counting_blank t r e = ap (λ b. cond (not b) (t ∷ counting r) (counting r)) e
 pub counting_other : (t : Token) (r : List Token) → is_blank t.kind ≡ false → counting (t ∷ r) ≡ t ∷ counting r
 counting_other t r e = ap (λ b. cond (not b) (t ∷ counting r) (counting r)) e
 
--- each stands behind the one before it, and the first not before the place
+-- each comes after the one before it, and the first not before the place
 abbrev pub Rising : ℕ → List Token → Type 0
 Rising p [] = Unit {0}
 Rising p (t ∷ ts) = (p ≤ t.offset) × Rising (t.offset + 1) ts
@@ -74,11 +74,11 @@ rising s p to (t ∷ ts) h =
     elim (cases_Bool (is_blank t.kind)) [
       | inl b ↦ subst (Rising p) (sym (counting_blank t ts b)) (rising_from p (t.offset + t.len) (counting ts) (omega (arith, at)) ih)
       | inr b ↦
-          let some = size_some h.0.word (word_some t.kind h.0.word s.flags b h.0.stands.word) in
+          let some = size_some h.0.word (word_some t.kind h.0.word s.flags b h.0.is_at.word) in
           subst (Rising p) (sym (counting_other t ts b)) ((omega (arith, at), rising_from (t.offset + 1) (t.offset + t.len) (counting ts) (omega (arith, some, h.0.len)) ih))
     ]
 
--- each stands before the place
+-- each comes before the place
 abbrev pub Before : ℕ → List Token → Type 0
 Before p [] = Unit {0}
 Before p (t ∷ ts) = (t.offset + 1 ≤ p) × Before p ts
@@ -94,7 +94,7 @@ before s p to (t ∷ ts) h =
     elim (cases_Bool (is_blank t.kind)) [
       | inl b ↦ subst (Before to) (sym (counting_blank t ts b)) ih
       | inr b ↦
-          let some = size_some h.0.word (word_some t.kind h.0.word s.flags b h.0.stands.word) in
+          let some = size_some h.0.word (word_some t.kind h.0.word s.flags b h.0.is_at.word) in
           subst (Before to) (sym (counting_other t ts b)) ((omega (arith, some, h.0.len, within s (t.offset + t.len) to ts h.1), ih))
     ]
 

@@ -1,5 +1,5 @@
 -- WebAssembly specification, text format, lexical format: white space, comments, annotations. What is shown of a layout is what is shown of the
--- text, and stands elsewhere. The layout is no part of the standard.
+-- text, and is elsewhere. The layout is no part of the standard.
 use Rattle.std.specs.Prelude.{◌≡◌, ◌+◌, ◌-◌, ℕ, List, length, map, Option, None}
 use Rattle.std.specs.List.{All}
 use Rattle.std.specs.Option.{option_map}
@@ -16,11 +16,11 @@ use Rattle.wat_lexer_parser.specs.laws.Blanking.{TextShows}
 use Rattle.wat_format.specs.Laws.{over}
 use Rattle.wat_format.specs.Layout.{layout}
 
--- a token of this kind and length that stands where the map says
+-- a token of this kind and length that is where the map says
 abbrev pub token_moved : (ℕ → ℕ) → Token → Token
 token_moved move t = record t { offset = move t.offset }
 
--- the fault of a name stands at its token, and that a group is not closed is told right behind its parenthesis
+-- the fault of a name is at its token, and that a group is not closed is reported right after its parenthesis
 abbrev pub place_moved : (ℕ → ℕ) → FaultKind → ℕ → ℕ
 place_moved move (Lex e) p = move p
 place_moved move Unclosed p = move (p - 1) + 1

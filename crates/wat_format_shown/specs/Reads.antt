@@ -21,18 +21,18 @@ AnswerMoved moved n s ts (Err f) k o = (g : Report) × (o.answer ≡ Err g) × S
 abbrev pub OutcomeMoved : {V : Type 0} → (V → V) → ℕ → Sides → List Token → Outcome V → Outcome V → Type 0
 OutcomeMoved moved n s ts o q = AnswerMoved moved n s ts o.answer o.passed q
 
--- A reading goes by the tokens that count, and by where they stand only as the value's spans do, which `moved` moves by a map. It takes n tokens
+-- A reading goes by the tokens that count, and by where they are only as the value's spans do, which `moved` moves by a map. It takes n tokens
 -- at least.
 abbrev pub Moves : {V : Type 0} → ℕ → ((ℕ → ℕ) → V → V) → Reading V → Type 0
 Moves n moved m = (s : Sides) (ts : List Token) → Alike s ts → OutcomeMoved (moved s.move) n s ts (m s.here) (m s.there)
 
 -- The same of a look,
-abbrev pub ToldMoved : Sides → Result Bool Report → Result Bool Report → Type 0
-ToldMoved s (Ok told) r = r ≡ Ok told
-ToldMoved s (Err f) r = (g : Report) × (r ≡ Err g) × SameRefusal s f g
+abbrev pub KnownMoved : Sides → Result Bool Report → Result Bool Report → Type 0
+KnownMoved s (Ok known) r = r ≡ Ok known
+KnownMoved s (Err f) r = (g : Report) × (r ≡ Err g) × SameRefusal s f g
 
 abbrev pub MovesSight : Sight → Type 0
-MovesSight sight = (s : Sides) (ts : List Token) → Alike s ts → ToldMoved s (sight s.here).told (sight s.there).told
+MovesSight sight = (s : Sides) (ts : List Token) → Alike s ts → KnownMoved s (sight s.here).known (sight s.there).known
 
 -- and of how a token is read.
 abbrev pub ReadMoved : {V : Type 0} → (V → V) → Sides → Option (Result V Report) → Option (Result V Report) → Type 0

@@ -1,4 +1,4 @@
--- A parser in a text, and one in another text of the same tokens, which may stand elsewhere. No part of the standard.
+-- A parser in a text, and one in another text of the same tokens, which may be elsewhere. No part of the standard.
 use Rattle.std.specs.Prelude.{◌≡◌, ◌+◌, ℕ, List, [], ◌∷◌, drop, length, slice_get, Some, None}
 use Rattle.std.specs.Option.{option_map}
 use Rattle.std.specs.Str.{IsUtf8}
@@ -42,16 +42,16 @@ Among ts t = (n : ℕ) × (slice_get ts n ≡ Some t)
 
 -- Where a byte of one text is in the other: where a token that counts begins, by the map; where the text ends, at the end; where such a token
 -- ends, at the end of the same one; and the start at the start. So it follows from the tokens that count of both texts.
-pub data Stands (move : ℕ → ℕ) (s r : Source) (p q : ℕ) : Type 0 where
-  at_token : (t : Token) → Among (counting s.tokens) t → p ≡ t.offset → q ≡ move t.offset → Stands move s r p q
-  at_end : p ≡ length s.setting.text → q ≡ length r.setting.text → Stands move s r p q
-  after_token : (t : Token) → Among (counting s.tokens) t → p ≡ t.offset + t.len → q ≡ move t.offset + t.len → Stands move s r p q
-  at_start : p ≡ 0 → q ≡ 0 → Stands move s r p q
+pub data Corresponds (move : ℕ → ℕ) (s r : Source) (p q : ℕ) : Type 0 where
+  at_token : (t : Token) → Among (counting s.tokens) t → p ≡ t.offset → q ≡ move t.offset → Corresponds move s r p q
+  at_end : p ≡ length s.setting.text → q ≡ length r.setting.text → Corresponds move s r p q
+  after_token : (t : Token) → Among (counting s.tokens) t → p ≡ t.offset + t.len → q ≡ move t.offset + t.len → Corresponds move s r p q
+  at_start : p ≡ 0 → q ≡ 0 → Corresponds move s r p q
 
--- The same is wrong, at the byte that stands so; what is kept of the text is kept of the other.
+-- The same is wrong, at the byte that is so; what is kept of the text is kept of the other.
 pub record RefusalMoved (move : ℕ → ℕ) (s r : Source) (f g : Report) : Type 0 where
   pub cause : g.cause ≡ f.cause
-  pub offset : Stands move s r f.offset g.offset
+  pub offset : Corresponds move s r f.offset g.offset
   pub excerpt : g.excerpt ≡ option_map (λ e. excerpt r.setting.text g.offset) f.excerpt
 
 -- a parser's state in each text, and the map from one text to the other
@@ -67,8 +67,8 @@ at_places s p q = record s { here = at_place s.here p; there = at_place s.there 
 abbrev pub passed : Sides → ℕ → ℕ → Sides
 passed s n m = record s { here = on s.here n; there = on s.there m }
 
-abbrev pub Stand : Sides → ℕ → ℕ → Type 0
-Stand s p q = Stands s.move s.here.source s.there.source p q
+abbrev pub Correspond : Sides → ℕ → ℕ → Type 0
+Correspond s p q = Corresponds s.move s.here.source s.there.source p q
 
 abbrev pub SameRefusal : Sides → Report → Report → Type 0
 SameRefusal s f g = RefusalMoved s.move s.here.source s.there.source f g
@@ -84,4 +84,4 @@ pub record Alike (s : Sides) (ts : List Token) : Type 0 where
   pub names : s.there.names ≡ s.here.names
   pub here : counting (drop s.here.place s.here.source.tokens) ≡ ts
   pub there : AllSame s.here.source.setting.text s.there.source.setting.text s.move ts (counting (drop s.there.place s.there.source.tokens))
-  pub place : Stand s (offset_at s.here.source.tokens s.here.place) (offset_at s.there.source.tokens s.there.place)
+  pub place : Correspond s (offset_at s.here.source.tokens s.here.place) (offset_at s.there.source.tokens s.there.place)

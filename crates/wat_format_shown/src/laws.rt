@@ -7,7 +7,7 @@ ghost use Rattle.wat_format_shown.specs.Reads.{LayoutsAreSameTexts, LayoutsReadT
 use wat_lexer_parser::parser::Parse;
 
 /// What is shown of a layout under any names is what is shown of the text, token by token, and the
-/// same end or fault: one map says where each stands.
+/// same end or fault: one map says where each is.
 pub fn shown()
     ensures { LayoutsShowTheSame }
 {

@@ -21,7 +21,7 @@ kind =
     one_of (choice (a_keyword (codes "code")) (quoted false (codes "code")) (and_then (keyword (codes "code")) (λ at. mapped Code u32))
     (choice (a_keyword (codes "pages")) (quoted false (codes "pages")) (and_then (keyword (codes "pages")) (λ at. mapped Pages u32)) nothing_else))
 
--- a kind, and a name or none, behind what was read before
+-- a kind, and a name or none, after what was read before
 unfoldable pub described : List ℕ → List ℕ → Option Spelled → Format Read
 described p f i = and_then kind (λ k. mapped (λ n. record { place = p; field = f; id = i; kind = k; name = n }) optional_name)
 
@@ -39,7 +39,7 @@ inner = and_then (keyword (codes "entry")) (λ at. details)
 abbrev pub entry : Format Read
 entry = group inner
 
--- the entries behind `imports`
+-- the entries after `imports`
 unfoldable pub list : Format (List Read)
 list = and_then (keyword (codes "imports")) (λ at. many entry refl)
 

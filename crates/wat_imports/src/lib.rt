@@ -89,7 +89,7 @@ impl<'a> Parse<'a> for Entry<'a> {
     }
 }
 
-/// What stands within the parentheses of an entry.
+/// What is within the parentheses of an entry.
 #[tactic(auto, unfolding(crate::specs::Imports::inner))]
 fn inner<'a>(parser: &mut Parser<'a>) -> Result<Entry<'a>, Error>
     ensures kept { IsKept parser.old parser.new }
@@ -100,7 +100,7 @@ fn inner<'a>(parser: &mut Parser<'a>) -> Result<Entry<'a>, Error>
     details(parser)
 }
 
-/// What stands behind the word of an entry.
+/// What comes after the word of an entry.
 #[tactic(auto, unfolding(crate::specs::Imports::details))]
 fn details<'a>(parser: &mut Parser<'a>) -> Result<Entry<'a>, Error>
     ensures kept { IsKept parser.old parser.new }
@@ -112,7 +112,7 @@ fn details<'a>(parser: &mut Parser<'a>) -> Result<Entry<'a>, Error>
     called(parser, place, field)
 }
 
-/// An identifier or none, and the rest, behind the strings.
+/// An identifier or none, and the rest, after the strings.
 #[tactic(auto, unfolding(crate::specs::Imports::called))]
 fn called<'a>(
     parser: &mut Parser<'a>,
@@ -128,7 +128,7 @@ fn called<'a>(
     described(parser, place, field, id)
 }
 
-/// A kind, and a name or none, behind what was read before.
+/// A kind, and a name or none, after what was read before.
 #[tactic(auto, unfolding(crate::specs::Imports::described))]
 fn described<'a>(
     parser: &mut Parser<'a>,
@@ -176,7 +176,7 @@ impl<'a> Parse<'a> for Imports<'a> {
     }
 }
 
-/// What stands within the parentheses of a list.
+/// What is within the parentheses of a list.
 #[tactic(auto, unfolding(crate::specs::Imports::list))]
 fn list<'a>(parser: &mut Parser<'a>) -> Result<Imports<'a>, Error>
     ensures kept { IsKept parser.old parser.new }

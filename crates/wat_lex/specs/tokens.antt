@@ -1,4 +1,4 @@
--- The tokens of a text: where they stand, how they tile it, how it goes wrong, and what holds of all of them.
+-- The tokens of a text: where they are, how they tile it, how it goes wrong, and what holds of all of them.
 pub mod Setting
 pub mod StringFaults
 pub mod Faults

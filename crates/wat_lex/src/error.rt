@@ -33,7 +33,7 @@ pub struct Error {
     kind: Kind,
 }
 
-// Room for an error is cleared for each token that is handed on, so what a fault keeps is behind
+// Room for an error is cleared for each token that is handed on, so what a fault keeps is after
 // one box. A message without a text is not: `Error::new` can't be refused.
 #[derive(Debug, Drop)]
 enum Kind {

@@ -61,7 +61,7 @@ impl Gensym {
         Gensym { generation }
     }
 
-    /// Starts anew: later identifiers may equal those made before.
+    /// Starts again: later identifiers may equal those made before.
     pub fn reset(&mut self)
         ensures { self.new ≡ 0 }
     {

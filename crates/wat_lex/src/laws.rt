@@ -1,7 +1,7 @@
 //! Laws of the lexical format, for every text of UTF-8 and all settings. Each function does
 //! nothing: its contract is the law, for the proofs of crates above.
 ghost use Rattle.wat_lex.specs.tokens.Blanking.{BlanksAreSpace, BlanksAreText, CommentsStay};
-ghost use Rattle.wat_lex.specs.tokens.EverySetting.{SomethingStands, OneThingStands};
+ghost use Rattle.wat_lex.specs.tokens.EverySetting.{SomethingIsAt, OneThingIsAt};
 ghost use Rattle.wat_lex.specs.tokens.EverySetting.{EachPlaceIsTiled, TilingsAreOne, TokensOfCuts};
 ghost use Rattle.wat_lex.specs.tokens.EverySetting.{TokensOfMoves, TokensAreReadable};
 ghost use Rattle.wat_lex.specs.tokens.EverySetting.{TokensEndAtBoundaries, WordsOfTokens};
@@ -9,10 +9,10 @@ ghost use Rattle.wat_lex.specs.tokens.EverySetting.{NamesAreThere};
 ghost use Rattle.wat_lex.specs.tokens.EverySetting.{NamesAreOne, NamesAreValues, StringsAreValues};
 ghost use Rattle.wat_lex.specs.tokens.EverySetting.{CutsAreOne};
 
-/// At each character boundary exactly one thing stands: a token, the text's end, or a fault.
+/// At each character boundary there is exactly one thing: a token, the text's end, or a fault.
 pub fn one_answer()
-    ensures some { SomethingStands }
-    ensures one { OneThingStands }
+    ensures some { SomethingIsAt }
+    ensures one { OneThingIsAt }
 {}
 
 /// From each character boundary on there is one maximal tiling.
@@ -32,7 +32,7 @@ pub fn moves()
     ensures { TokensOfMoves }
 {}
 
-/// Where spaces, tabs or line ends stand in place of a comment's bytes, one white space token stands
+/// Where spaces, tabs or line ends are in place of a comment's bytes, one white space token is
 /// in place of the comment and of the white space directly beside it. All other raw tokens, their
 /// texts and the ending are what they were.
 pub fn blanks()

@@ -84,7 +84,7 @@ impl<'a> Lexer<'a> {
     }
 
     /// Sets whether the nine characters that can make a text look other than it is
-    /// may stand in comments and strings.
+    /// may be in comments and strings.
     pub fn allow_confusing_unicode(&mut self, allow: bool) -> &mut Self
         ensures same { result.ghost_name ≡ self.entry.ghost_name }
         ensures setting { result.now ≡ record self.old {
@@ -180,7 +180,7 @@ impl<'a> Lexer<'a> {
     ghost use Rattle.wat_lex.specs.inside.Outlines.{FoundIn, IsRefused};
     ghost use Rattle.wat_lex.specs.inside.ScannedLexemes.{LexemeFound};
 
-    /// What stands at a byte of the text.
+    /// What is at a byte of the text.
     #[inline(always)]
     fn found(&self, pos: usize, stride: Stride) -> Found
         requires { IsCharBoundary self.now.text pos }
@@ -228,7 +228,7 @@ impl<'a> Lexer<'a> {
     ghost use Rattle.wat_lex.specs.values.Annotations.{AnnotationAt};
 
     /// The annotation's token at any position, or the error of the fault there, where the byte
-    /// there is `@`; None where it is not, and where a token of another kind stands there.
+    /// there is `@`; None where it is not, and where a token of another kind is there.
     #[inline]
     pub fn annotation(&self, alloc: Global, pos: usize) -> Result<Option<Token>, Error>
         ensures found { AnnotationAt self.now pos result }

@@ -1,6 +1,6 @@
 -- What follows from the definitions, for proofs here and in crates above. Nobody has to read it to know what is promised.
 pub mod Parts
-pub mod Behind
+pub mod After
 pub mod AnswerLaws
 pub mod ReadingLaws
 pub mod TypeLaws

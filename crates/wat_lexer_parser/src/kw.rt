@@ -1,7 +1,7 @@
 //! The standard keywords, as types.
 //!
-//! The name of a type is its word, with `_` for `-`, `.` and `:`. A `_` stands behind words that Rust
-//! keeps for itself, and behind `bool`, `enum`, `true`, `false` and `core`. The types of
+//! The name of a type is its word, with `_` for `-`, `.` and `:`. A `_` comes after words that Rust
+//! keeps for itself, and after `bool`, `enum`, `true`, `false` and `core`. The types of
 //! `string-encoding=utf8`, `string-encoding=utf16` and `string-encoding=latin1+utf16` are
 //! `string_utf8`, `string_utf16` and `string_latin1_utf16`.
 use crate::token::Keyword;

@@ -123,7 +123,7 @@ impl<'a> Parser<'a> {
         self.place
     }
 
-    /// What is shown at a place, with the place behind it, where the parser keeps which token it is.
+    /// What is shown at a place, with the place after it, where the parser keeps which token it is.
     #[inline(always)]
     pub(crate) fn kept(&self, place: usize) -> Option<(Token, usize)>
         ensures value { IfSome result (λ v.
@@ -139,7 +139,7 @@ impl<'a> Parser<'a> {
         }
     }
 
-    /// What is shown at a place, with the place behind it.
+    /// What is shown at a place, with the place after it.
     pub(crate) fn look(&self, place: usize) -> Result<Option<(Token, usize)>, Fault>
         ensures value { result ≡ shown self.now.source place self.now.names }
         ensures on { IfOk result (λ found. IfSome found (λ v.
@@ -272,7 +272,7 @@ impl<'a> Parser<'a> {
         table.is_meaningful()
     }
 
-    /// What the buffer was told by [`ParseBuffer::track_instr_spans`].
+    /// What the buffer was given by [`ParseBuffer::track_instr_spans`].
     pub fn track_instr_spans(&self) -> bool
         ensures { result ≡ self.now.source.track }
     {
@@ -471,14 +471,14 @@ impl<'a> Parser<'a> {
         T::peek(Cursor::new(self))
     }
 
-    /// Whether a type is seen behind the token that is shown; false where none is shown.
+    /// Whether a type is seen after the token that is shown; false where none is shown.
     pub fn peek2<T: Peek>(&self) -> Result<bool, Error>
         ensures { Tells (second T.sight self.now) result }
     {
         T::peek2(Cursor::new(self))
     }
 
-    /// Whether a type is seen behind the next two tokens; false where one of them is missing.
+    /// Whether a type is seen after the next two tokens; false where one of them is missing.
     pub fn peek3<T: Peek>(&self) -> Result<bool, Error>
         ensures { Tells (second (second T.sight) self.now) result }
     {

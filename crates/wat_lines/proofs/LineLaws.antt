@@ -7,7 +7,7 @@ use Rattle.std.specs.Fmt.{decimal}
 use Rattle.wat_lex.specs.declared.lexer.kinds.Token.{Token}
 use Rattle.wat_lines.specs.Lines.{kind_name, line}
 
--- the first bytes of a piece that was copied, behind what stands in front of it
+-- the first bytes of a piece that was copied, after what comes before it
 pub over_piece : (at count : ℕ) (room ys piece post : List ℕ) → at ≤ length room → count ≤ length piece → ys ≡ piece → take (at + count) (take at room ++ (ys ++ post)) ≡ take at room ++ take count piece
 over_piece at count room ys piece post h k e =
     ap (λ n. take (n + count) (take at room ++ (ys ++ post))) (sym (length-take-le at room h)) ∙ take-append-add (take at room) (ys ++ post) count

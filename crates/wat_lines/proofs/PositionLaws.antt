@@ -1,4 +1,4 @@
--- Line and column of a place that lies behind another.
+-- Line and column of a place that lies after another.
 use Rattle.std.proofs.Common.{◌≡◌, ◌≢◌, ◌+◌, ◌-◌, ◌≤◌, ℕ, Bool, cond, not, eqb, List, ◌++◌, length, reverse, take, drop, ap, ap₂, sym, ◌∙◌, arith}
 use Rattle.std.specs.Prelude.{if◌then◌else◌}
 use Rattle.std.specs.List.{count_by, prefix_len, suffix_len}
@@ -44,13 +44,13 @@ pub record Passed (text passed : List ℕ) (from to : ℕ) (old new : ℕ × ℕ
   pub end : to ≤ length text
   pub cut : take to text ≡ take from text ++ passed
   pub before : line_and_column text from ≡ old
-  pub behind : new ≡ line_and_column passed (length passed)
+  pub after : new ≡ line_and_column passed (length passed)
 
 front_is : {text passed : List ℕ} {from to : ℕ} {old new : ℕ × ℕ} → Passed text passed from to old new → ends_at (take from text) ≡ old
 front_is {text = text} {from = from} p = sym (within text from p.start) ∙ p.before
 
 passed_is : {text passed : List ℕ} {from to : ℕ} {old new : ℕ × ℕ} → Passed text passed from to old new → ends_at passed ≡ new
-passed_is {passed = passed} p = sym (at_end passed) ∙ sym p.behind
+passed_is {passed = passed} p = sym (at_end passed) ∙ sym p.after
 
 line_is : {text passed : List ℕ} {from to : ℕ} {old new : ℕ × ℕ} → Passed text passed from to old new → count_by is_line_feed (take to text) ≡ old.0 + new.0
 line_is {text = text} {passed = passed} {from = from} p =
@@ -73,7 +73,7 @@ down {text = text} {passed = passed} {to = to} {old = old} {new = new} p other =
     let column = column_is p ∙ ap (λ b. cond b (length passed + old.1) new.1) (ne_eqb new.1 (length passed) other) in
     within text to p.end ∙ ap₂ (λ a b. (a, b)) (line_is p) column
 
--- the bytes from one place to another behind those in front
+-- the bytes from one place to another after those in front
 pub passed_on : (text : List ℕ) (from to : ℕ) → from ≤ to → take to text ≡ take from text ++ take (to - from) (drop from text)
 passed_on text from to h = let e : to ≡ from + (to - from) = omega arith in ap (λ n. take n text) e ∙ take-add from (to - from) text
 

@@ -9,7 +9,7 @@ use Rattle.wat_lex.specs.declared.lexer.faults.LexFault.{LexFault}
 use Rattle.wat_lex.specs.declared.lexer.kinds.Token.{Token}
 use Rattle.wat_lines.specs.Streams.{AppendsPrefix}
 
--- Bytes were put behind those of a block. What was written is the first of both, and the block holds the others.
+-- Bytes were put after those of a block. What was written is the first of both, and the block holds the others.
 pub record Puts (old new : Option (List ℕ)) (block block' bytes : List ℕ) : Type 0 where
   pub written : List ℕ
   pub appended : Appends old new written

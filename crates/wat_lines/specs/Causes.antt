@@ -1,4 +1,4 @@
--- What a failed call of the system is told to have been: the words for its error number (POSIX, `errno.h`). No part of the WebAssembly
+-- What a failed call of the system is reported to have been: the words for its error number (POSIX, `errno.h`). No part of the WebAssembly
 -- specification.
 use Rattle.std.specs.Prelude.{◌==◌, ℕ, Bool, false, List, [], ◌++◌, codes, Option, Some, None, if◌then◌else◌}
 use Rattle.std.specs.Fmt.{decimal}

@@ -26,12 +26,12 @@ abbrev pub json_front : List ℕ → Token → List ℕ
 json_front begin t = begin ++ json_head t
 
 -- and after it: line and column, which count from 0, and are written from 1
-abbrev pub json_behind : ℕ × ℕ → List ℕ
-json_behind place = codes ",\"line\":" ++ decimal (place.0 + 1) ++ codes ",\"column\":" ++ decimal (place.1 + 1) ++ codes "}\n"
+abbrev pub json_after : ℕ × ℕ → List ℕ
+json_after place = codes ",\"line\":" ++ decimal (place.0 + 1) ++ codes ",\"column\":" ++ decimal (place.1 + 1) ++ codes "}\n"
 
 -- the whole line
 abbrev pub json_line : List ℕ → List ℕ → Token → List ℕ
-json_line begin text t = json_front begin t ++ json_string (token_text text t) ++ json_behind (line_and_column text t.offset)
+json_line begin text t = json_front begin t ++ json_string (token_text text t) ++ json_after (line_and_column text t.offset)
 
 -- one line for each token
 abbrev pub json_lines : List ℕ → List ℕ → List Token → List ℕ
@@ -43,4 +43,4 @@ json_fault_head offset = codes "\"offset\":" ++ decimal offset ++ codes ",\"faul
 
 -- the line of a fault
 abbrev pub json_fault : List ℕ → List ℕ → ℕ → List ℕ → List ℕ
-json_fault begin text offset message = begin ++ json_fault_head offset ++ json_string message ++ json_behind (line_and_column text offset)
+json_fault begin text offset message = begin ++ json_fault_head offset ++ json_string message ++ json_after (line_and_column text offset)

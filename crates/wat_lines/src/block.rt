@@ -92,7 +92,7 @@ impl Block {
         self.used += put_line(&mut self.bytes[self.used..], place, token);
     }
 
-    /// Puts bytes behind the others.
+    /// Puts bytes after the others.
     #[inline(always)]
     pub fn put<W: Sink>(&mut self, output: &mut W, bytes: &[u8]) -> Result<(), Failed>
         ensures put { OnOk result
@@ -110,7 +110,7 @@ impl Block {
         Ok(())
     }
 
-    /// Puts a token's line behind the others.
+    /// Puts a token's line after the others.
     #[inline(always)]
     pub fn put_line<W: Sink>(
         &mut self,

@@ -18,7 +18,7 @@ pub const ROOM: usize = 38;
 /// How many digits the longest number has.
 const MOST_DIGITS: usize = 10;
 
-/// How many bytes digits and what stands behind them have, so that a piece begins at the last digit.
+/// How many bytes digits and what comes after them have, so that a piece begins at the last digit.
 const LONGEST: usize = 26;
 
 /// The numbers below 100, in two digits each.
@@ -41,7 +41,7 @@ fn two_digits(number: u32) -> [u8; 2]
     PAIRS[number as usize]
 }
 
-/// Digits, and two dots behind them.
+/// Digits, and two dots after them.
 #[derive(Drop)]
 struct Digits {
     bytes: [u8; LONGEST],
@@ -158,7 +158,7 @@ impl Place {
         }
     }
 
-    /// The digits, two dots behind them, and what fills the piece.
+    /// The digits, two dots after them, and what fills the piece.
     fn piece(&self) -> &[u8]
         ensures piece { result.now ≡ take 16 (decimal self.now ++ codes "..00000000000000") }
         ensures len { length result.now ≡ 16 }

@@ -1,4 +1,4 @@
-//! Lines and columns of a text, one place behind the other.
+//! Lines and columns of a text, one place after the other.
 ghost use Rattle.std.specs.Prelude.{◌≡◌, ◌<◌, ◌^◌, length};
 ghost use Rattle.std.specs.Str.{IsCharBoundary};
 ghost use Rattle.wat_lex.specs.errors.Positions.{line_and_column};
@@ -6,7 +6,7 @@ ghost use Rattle.wat_lex.specs.errors.Positions.{line_and_column};
 use std::marker::Model;
 use wat_lex::token::Span;
 
-/// Where the places of a text stand, for those who ask for them in their order: each is found from
+/// Where the places of a text are, for those who ask for them in their order: each is found from
 /// the one before it.
 #[derive(Drop)]
 pub struct Positions<'a> {

@@ -1,5 +1,5 @@
-//! The lines of the lists as JSON. A line is put together of what stands in front of the token's text,
-//! of the text as a string, and of what stands behind it.
+//! The lines of the lists as JSON. A line is put together of what comes before the token's text,
+//! of the text as a string, and of what comes after it.
 ghost use Rattle.std.specs.Prelude.{◌≡◌, ◌++◌, ◌+◌, ◌<◌, ◌≤◌, ◌^◌, ℕ, List, [], length, take, flat_map, codes};
 ghost use Rattle.std.specs.Prelude.{OnOk, OnErr, IfOk};
 ghost use Rattle.std.specs.Option.{option_map};
@@ -7,7 +7,7 @@ ghost use Rattle.std.specs.Fmt.{decimal};
 ghost use Rattle.std.specs.Str.{IsCharBoundary};
 ghost use Rattle.wat_lex.specs.tokens.ReadableTokens.{token_text};
 ghost use Rattle.wat_lines.specs.Blocks.{Puts};
-ghost use Rattle.wat_lines.specs.JsonRows.{json_behind, json_fault, json_fault_head, json_front};
+ghost use Rattle.wat_lines.specs.JsonRows.{json_after, json_fault, json_fault_head, json_front};
 ghost use Rattle.wat_lines.specs.JsonRows.{json_head, json_line, json_open};
 ghost use Rattle.wat_lines.specs.JsonStrings.{escaped, hex_digit, json_string};
 ghost use Rattle.wat_lines.specs.Lines.{kind_name};
@@ -22,10 +22,10 @@ use std::marker::Model;
 use wat_lex::lexer::{Token, TokenKind};
 use wat_lex::token::Span;
 
-/// The room for what stands in a line in front of a token's text, or behind it.
+/// The room for what is in a line before a token's text, or after it.
 const ROOM: usize = 96;
 
-/// The bytes of a line in front of a token's text, or behind it.
+/// The bytes of a line before a token's text, or after it.
 #[derive(Drop)]
 struct Part {
     bytes: [u8; ROOM],
@@ -122,18 +122,18 @@ fn fault_head(offset: usize) -> Part
 }
 
 /// What comes last: line and column, which count from 0, and are written from 1.
-fn behind_of(line: usize, column: usize) -> Part
+fn after_of(line: usize, column: usize) -> Part
     requires line { line < 2 ^ 32 }
     requires column { column < 2 ^ 32 }
-    ensures { result ≡ json_behind (line, column) }
+    ensures { result ≡ json_after (line, column) }
 {
-    let mut behind = Part::new();
-    behind.push(",\"line\":");
-    behind.push_number(line + 1);
-    behind.push(",\"column\":");
-    behind.push_number(column + 1);
-    behind.push("}\n");
-    behind
+    let mut after = Part::new();
+    after.push(",\"line\":");
+    after.push_number(line + 1);
+    after.push(",\"column\":");
+    after.push_number(column + 1);
+    after.push("}\n");
+    after
 }
 
 /// A digit to base 16.
@@ -167,7 +167,7 @@ fn escaped(byte: u8) -> ([u8; 6], usize)
     }
 }
 
-/// Puts what stands for the bytes of a text in a string behind the others.
+/// Puts what stands for the bytes of a text in a string after the others.
 fn put_escaped<W: Sink>(block: &mut Block, output: &mut W, text: &[u8]) -> Result<(), Failed>
     ensures put { OnOk result (Puts (W.held output.old) (W.held output.new)
         block.old block.new (flat_map escaped text.now)) }
@@ -182,7 +182,7 @@ fn put_escaped<W: Sink>(block: &mut Block, output: &mut W, text: &[u8]) -> Resul
     Ok(())
 }
 
-/// Puts a text as a string behind the others.
+/// Puts a text as a string after the others.
 fn put_string<W: Sink>(block: &mut Block, output: &mut W, text: &[u8]) -> Result<(), Failed>
     ensures put { OnOk result (Puts (W.held output.old) (W.held output.new)
         block.old block.new (json_string text.now)) }
@@ -237,10 +237,10 @@ pub fn put_row<W: Sink>(
         output,
         &text[token.offset..token.offset + token.len as usize],
     )?;
-    block.put(output, behind_of(line, column).bytes())
+    block.put(output, after_of(line, column).bytes())
 }
 
-/// Writes what stands for the bytes of a text in a string behind the others.
+/// Writes what stands for the bytes of a text in a string after the others.
 fn push_escaped(lines: &mut Vec<u8>, text: &[u8]) -> Result<(), AllocError>
     ensures { OnOk result (lines.new.items ≡ lines.old.items ++ flat_map escaped text.now) }
 {
@@ -251,7 +251,7 @@ fn push_escaped(lines: &mut Vec<u8>, text: &[u8]) -> Result<(), AllocError>
     Ok(())
 }
 
-/// Writes a text as a string behind the others.
+/// Writes a text as a string after the others.
 fn push_string(lines: &mut Vec<u8>, text: &[u8]) -> Result<(), AllocError>
     ensures { OnOk result (lines.new.items ≡ lines.old.items ++ json_string text.now) }
 {
@@ -294,7 +294,7 @@ pub fn push_row(
         lines,
         &text[token.offset..token.offset + token.len as usize],
     )?;
-    lines.extend_from_slice(behind_of(line, column).bytes())
+    lines.extend_from_slice(after_of(line, column).bytes())
 }
 
 /// Writes the line of a fault of a text after the others, with its message.
@@ -313,5 +313,5 @@ pub fn push_fault(
     lines.extend_from_slice(begin)?;
     lines.extend_from_slice(fault_head(offset).bytes())?;
     push_string(lines, message.as_bytes())?;
-    lines.extend_from_slice(behind_of(line, column).bytes())
+    lines.extend_from_slice(after_of(line, column).bytes())
 }

@@ -1,4 +1,4 @@
--- What an error prints, cut into its message, the place and what stands behind it.
+-- What an error prints, cut into its message, the place and what comes after it.
 use Rattle.std.proofs.Common.{◌≡◌, ℕ, Bool, true, false, List, [], ◌∷◌, ◌++◌, append_assoc, length, drop, get_or, refl, sym, ap, ◌∙◌, arith}
 use Rattle.std.proofs.lemmas.List.{append-nil, drop_at}
 use Rattle.std.specs.Prelude.{Option, Some, None, Result, Ok, Err, IfOk, codes, nat_lt, if◌then◌else◌, String, string_bytes}
@@ -8,10 +8,10 @@ use Rattle.wat_lex.specs.errors.Errors.{Report, cause_text, message_of, printed}
 use Rattle.wat_lex.specs.errors.Rendering.{Excerpt, right_in, shown_place}
 use Rattle.wat_lists.specs.Places.{in_file, printed_in}
 
-same_behind : (xs ys zs : List ℕ) → xs ++ ys ≡ xs ++ zs → ys ≡ zs
-same_behind xs ys zs e = sym (drop_at xs ys (length xs) refl) ∙ ap (drop (length xs)) e ∙ drop_at xs zs (length xs) refl
+same_after : (xs ys zs : List ℕ) → xs ++ ys ≡ xs ++ zs → ys ≡ zs
+same_after xs ys zs e = sym (drop_at xs ys (length xs) refl) ∙ ap (drop (length xs)) e ∙ drop_at xs zs (length xs) refl
 
--- texts one behind the other
+-- texts one after the other
 abbrev appends : List ℕ → List (List ℕ) → List ℕ
 appends text [] = text
 appends text (part ∷ parts) = appends (text ++ part) parts
@@ -20,7 +20,7 @@ appends_on : (front text : List ℕ) (parts : List (List ℕ)) → appends (fron
 appends_on front text [] = refl
 appends_on front text (part ∷ parts) = ap (λ t. appends t parts) (append_assoc front text part) ∙ appends_on front (text ++ part) parts
 
--- line and column, and what stands below them
+-- line and column, and what is below them
 abbrev place_parts : Excerpt → List (List ℕ)
 place_parts e = decimal e.line ∷ codes ":" ∷ decimal e.column ∷ []
 
@@ -33,14 +33,14 @@ place_by far file e =
     let place = appends (file ++ codes ":") (place_parts e) in
     if far then codes " at " ++ place else appends (codes "\n     --> " ++ place) (line_parts e)
 
-abbrev behind : Bool → Excerpt → List ℕ
-behind true e = appends (codes ":") (place_parts e)
-behind false e = appends (appends (codes ":") (place_parts e)) (line_parts e)
+abbrev after : Bool → Excerpt → List ℕ
+after true e = appends (codes ":") (place_parts e)
+after false e = appends (appends (codes ":") (place_parts e)) (line_parts e)
 
-far_is : (file : List ℕ) (e : Excerpt) → place_by true file e ≡ codes " at " ++ (file ++ behind true e)
+far_is : (file : List ℕ) (e : Excerpt) → place_by true file e ≡ codes " at " ++ (file ++ after true e)
 far_is file e = ap (λ x. codes " at " ++ x) (appends_on file (codes ":") (place_parts e))
 
-near_is : (file : List ℕ) (e : Excerpt) → place_by false file e ≡ codes "\n     --> " ++ (file ++ behind false e)
+near_is : (file : List ℕ) (e : Excerpt) → place_by false file e ≡ codes "\n     --> " ++ (file ++ after false e)
 near_is file e =
     appends_on (codes "\n     --> ") (appends (file ++ codes ":") (place_parts e)) (line_parts e)
     ∙ ap (λ x. codes "\n     --> " ++ appends x (line_parts e)) (appends_on file (codes ":") (place_parts e))
@@ -49,20 +49,20 @@ near_is file e =
 near : (b : Bool) (name : List ℕ) (e : Excerpt) (rest : List ℕ) → place_by b (codes "<anon>") e ≡ codes "\n     --> <anon>" ++ rest → codes "\n     --> " ++ (name ++ rest) ≡ place_by b name e
 near true name e rest h = absurd (let d : 32 ≡ 10 = ap (λ x. get_or x 0 0) h in omega (arith, d))
 near false name e rest h =
-    let same : behind false e ≡ rest = same_behind (codes "\n     --> <anon>") (behind false e) rest (sym (near_is (codes "<anon>") e) ∙ h) in
+    let same : after false e ≡ rest = same_after (codes "\n     --> <anon>") (after false e) rest (sym (near_is (codes "<anon>") e) ∙ h) in
     ap (λ r. codes "\n     --> " ++ (name ++ r)) (sym same) ∙ sym (near_is name e)
 
 far : (b : Bool) (name : List ℕ) (e : Excerpt) (rest : List ℕ) → place_by b (codes "<anon>") e ≡ codes " at <anon>" ++ rest → codes " at " ++ (name ++ rest) ≡ place_by b name e
 far true name e rest h =
-    let same : behind true e ≡ rest = same_behind (codes " at <anon>") (behind true e) rest (sym (far_is (codes "<anon>") e) ∙ h) in
+    let same : after true e ≡ rest = same_after (codes " at <anon>") (after true e) rest (sym (far_is (codes "<anon>") e) ∙ h) in
     ap (λ r. codes " at " ++ (name ++ r)) (sym same) ∙ sym (far_is name e)
 far false name e rest h = absurd (let d : 10 ≡ 32 = ap (λ x. get_or x 0 0) (sym (near_is (codes "<anon>") e) ∙ h) in omega (arith, d))
 
 neither : (b : Bool) (e : Excerpt) → ((rest : List ℕ) → place_by b (codes "<anon>") e ≡ codes "\n     --> <anon>" ++ rest → ⊥) → ((rest : List ℕ) → place_by b (codes "<anon>") e ≡ codes " at <anon>" ++ rest → ⊥) → ⊥
-neither true e h k = k (behind true e) (far_is (codes "<anon>") e)
-neither false e h k = h (behind false e) (near_is (codes "<anon>") e)
+neither true e h k = k (after true e) (far_is (codes "<anon>") e)
+neither false e h k = h (after false e) (near_is (codes "<anon>") e)
 
--- what stands behind the message
+-- what comes after the message
 abbrev placed : ℕ → Option Excerpt → List ℕ
 placed offset None = codes " at byte offset " ++ decimal offset
 placed offset (Some e) = shown_place e
@@ -86,7 +86,7 @@ message_first None p m e f h = h [] (e ∙ sym f ∙ sym (append-nil m))
 message_first (Some r) p m e f h = h (placed r.offset r.excerpt) (e ∙ ap (λ x. x ++ placed r.offset r.excerpt) (sym f))
 
 placed_is : (r : Report) (p m place : List ℕ) → p ≡ printed (Some r) → m ≡ message_of (Some r) → p ≡ m ++ place → placed r.offset r.excerpt ≡ place
-placed_is r p m place e f cut = same_behind (cause_text r.cause) (placed r.offset r.excerpt) place (sym e ∙ cut ∙ ap (λ x. x ++ place) f)
+placed_is r p m place e f cut = same_after (cause_text r.cause) (placed r.offset r.excerpt) place (sym e ∙ cut ∙ ap (λ x. x ++ place) f)
 
 nothing_placed : (p m place : List ℕ) → p ≡ printed None → m ≡ message_of None → p ≡ m ++ place → [] ≡ place
 nothing_placed p m place e f cut = ap (λ x. drop 13 x) (sym e ∙ cut ∙ ap (λ x. x ++ place) f)
@@ -111,6 +111,6 @@ pub text_is : {E : Type 0} (r : Result (String Global) E) (text want : List ℕ)
 text_is (Ok s) text want h e = h ∙ e
 text_is (Err f) text want h e = tt
 
--- what is left of a text behind a prefix
+-- what is left of a text after a prefix
 pub stripped : (text prefix rest : List ℕ) (n : ℕ) → text ≡ prefix ++ drop n text → rest ≡ drop n text → text ≡ prefix ++ rest
 stripped text prefix rest n e f = e ∙ ap (λ x. prefix ++ x) (sym f)

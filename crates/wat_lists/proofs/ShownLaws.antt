@@ -13,7 +13,7 @@ use Rattle.wat_lex.specs.tokens.ReadableTokens.{IsTokenOf}
 use Rattle.wat_lex.specs.declared.lexer.kinds.Token.{Token}
 use Rattle.wat_lexer_parser.specs.declared.parser.fault.Fault.{Fault}
 use Rattle.wat_lexer_parser.specs.names.RegisteredNames.{Names}
-use Rattle.wat_lexer_parser.specs.parser.State.{State, Answers, report_of, told, seen, at_place, seen_at}
+use Rattle.wat_lexer_parser.specs.parser.State.{State, Answers, report_of, known, seen, at_place, seen_at}
 use Rattle.wat_lexer_parser.specs.places.Source.{Source, IsRead}
 use Rattle.wat_lexer_parser.specs.laws.AllShown.{AllShown}
 use Rattle.wat_lexer_parser.specs.shown.Showing.{Look, shown}
@@ -26,10 +26,10 @@ use Rattle.wat_lists.specs.Shows.{with_name, with_names, ShownFrom}
 -- the tokens from one place to another are shown one after another, and these are their lines
 pub record ShownSoFar (each : Token → List ℕ) (s : Source) (names : Names) (from to : ℕ) (text : List ℕ) : Type 0 where
   pub tokens : List Token
-  pub behind : (us : List Token) (f : Option Fault) → AllShown s.setting.text s.ending names (drop to s.tokens) us f → AllShown s.setting.text s.ending names (drop from s.tokens) (tokens ++ us) f
+  pub after : (us : List Token) (f : Option Fault) → AllShown s.setting.text s.ending names (drop to s.tokens) us f → AllShown s.setting.text s.ending names (drop from s.tokens) (tokens ++ us) f
   pub lines : text ≡ flat_map each tokens
 
--- all that is shown from a place on, these are its lines, and this is the error behind them
+-- all that is shown from a place on, these are its lines, and this is the error after them
 pub record ShownBy (each : Token → List ℕ) (s : Source) (names : Names) (place : ℕ) (text : List ℕ) (error : Option (Option Report)) : Type 0 where
   pub tokens : List Token
   pub fault : Option Fault
@@ -44,12 +44,12 @@ pub as_json : {s : Source} {names : Names} {place : ℕ} {begin text : List ℕ}
 as_json h = record { tokens = h.tokens; fault = h.fault; shown = h.shown; lines = h.lines; reported = h.reported }
 
 pub shown_start : (each : Token → List ℕ) (s : Source) (names : Names) (from : ℕ) (text : List ℕ) → text ≡ [] → ShownSoFar each s names from from text
-shown_start each s names from text e = record { tokens = []; behind = λ us f h. h; lines = e }
+shown_start each s names from text e = record { tokens = []; after = λ us f h. h; lines = e }
 
 pub shown_more : LooksAreAllShown → (each : Token → List ℕ) (s : Source) (names : Names) (from to next : ℕ) (text more : List ℕ) (t : Token) → IsUtf8 s.setting.text → IsRead s → ShownSoFar each s names from to text → shown s to names ≡ Ok (Some (t, next)) → more ≡ text ++ each t → ShownSoFar each s names from next more
 shown_more looks each s names from to next text more t u r h e l = record {
   tokens = h.tokens ++ t ∷ [];
-  behind = λ us f k. subst (λ ts. AllShown s.setting.text s.ending names (drop from s.tokens) ts f) (sym (append_assoc h.tokens (t ∷ []) us)) (h.behind (t ∷ us) f (looks.token s names to next t us f u r e k));
+  after = λ us f k. subst (λ ts. AllShown s.setting.text s.ending names (drop from s.tokens) ts f) (sym (append_assoc h.tokens (t ∷ []) us)) (h.after (t ∷ us) f (looks.token s names to next t us f u r e k));
   lines = l ∙ ap (λ x. x ++ each t) h.lines ∙ ap (λ x. flat_map each h.tokens ++ x) (sym (append-nil (each t))) ∙ sym (flat_map-append each h.tokens (t ∷ []));
 }
 
@@ -57,7 +57,7 @@ pub shown_end : LooksAreAllShown → (each : Token → List ℕ) (s : Source) (n
 shown_end looks each s names from to text u r h e = record {
   tokens = h.tokens;
   fault = None;
-  shown = subst (λ ts. AllShown s.setting.text s.ending names (drop from s.tokens) ts None) (append-nil h.tokens) (h.behind [] None (looks.end s names to u r e));
+  shown = subst (λ ts. AllShown s.setting.text s.ending names (drop from s.tokens) ts None) (append-nil h.tokens) (h.after [] None (looks.end s names to u r e));
   lines = h.lines;
   reported = refl;
 }
@@ -66,39 +66,39 @@ shown_fault : LooksAreAllShown → (each : Token → List ℕ) (s : Source) (nam
 shown_fault looks each s names from to text f u r h e = record {
   tokens = h.tokens;
   fault = Some f;
-  shown = subst (λ ts. AllShown s.setting.text s.ending names (drop from s.tokens) ts (Some f)) (append-nil h.tokens) (h.behind [] (Some f) (looks.fault s names to f u r e));
+  shown = subst (λ ts. AllShown s.setting.text s.ending names (drop from s.tokens) ts (Some f)) (append-nil h.tokens) (h.after [] (Some f) (looks.fault s names to f u r e));
   lines = h.lines;
   reported = refl;
 }
 
-told_fault : (text : List ℕ) (a : Look) (e : Report) → told text a ≡ Err e → (f : Fault) × (a ≡ Err f) × (e ≡ report_of text f)
-told_fault text (Ok found) e h = cc
-told_fault text (Err f) e h = let k : report_of text f ≡ e = cc in (f, refl, sym k)
+known_fault : (text : List ℕ) (a : Look) (e : Report) → known text a ≡ Err e → (f : Fault) × (a ≡ Err f) × (e ≡ report_of text f)
+known_fault text (Ok found) e h = cc
+known_fault text (Err f) e h = let k : report_of text f ≡ e = cc in (f, refl, sym k)
 
 -- a look that answers a report has reached a fault
 pub shown_refused : LooksAreAllShown → (each : Token → List ℕ) (s : Source) (names : Names) (from to : ℕ) (text : List ℕ) (e : Report) → IsUtf8 s.setting.text → IsRead s → ShownSoFar each s names from to text → seen s to names ≡ Err e → ShownBy each s names from text (Some (Some e))
 unfolding seen
 shown_refused looks each s names from to text e u r h k =
-    let f = told_fault s.setting.text (shown s to names) e k in
+    let f = known_fault s.setting.text (shown s to names) e k in
     subst (λ x. ShownBy each s names from text (Some (Some x))) (sym f.2) (shown_fault looks each s names from to text f.0 u r h f.1)
 
 reported : {T : Type 0} → LooksAreAllShown → (each : Token → List ℕ) (s : Source) (names : Names) (from to : ℕ) (text : List ℕ) (f : T → Option (Token × ℕ)) (error : Option Report) (is_memory : Bool) → IsUtf8 s.setting.text → IsRead s → ShownSoFar each s names from to text → Answers false f (seen s to names) (Err error) → is_memory ≡ false → (IsNone error → IsTrue is_memory) → ShownBy each s names from text (Some error)
 reported looks each s names from to text f None is_memory u r h a e k = let d : false ≡ true = sym e ∙ k refl in cc
 reported looks each s names from to text f (Some e) is_memory u r h a d k = shown_refused looks each s names from to text e u r h a
 
--- an error that is no want of memory is the report of a fault
+-- an error other than out of memory is the report of a fault
 pub shown_reported : {T : Type 0} → LooksAreAllShown → (each : Token → List ℕ) (a b : State) (from to : ℕ) (text : List ℕ) (f : T → Option (Token × ℕ)) (result : Result T (Option Report)) (error : Option Report) (is_memory : Bool) → IsUtf8 b.source.setting.text → IsRead b.source → ShownSoFar each b.source b.names from to text → Answers false f (seen_at (at_place a to)) result → result ≡ Err error → a ≡ b → is_memory ≡ false → (IsNone error → IsTrue is_memory) → ShownBy each b.source b.names from text (Some error)
 shown_reported looks each a b from to text f result error is_memory u r h m i e n k =
     let answered = subst (λ (x : State). Answers false f (seen_at (at_place x to)) result) e m in
     reported looks each b.source b.names from to text f error is_memory u r h (subst (λ x. Answers false f (seen_at (at_place b to)) x) i answered) n k
 
-told_found : (text : List ℕ) (a : Look) (found : Option (Token × ℕ)) → told text a ≡ Ok found → a ≡ Ok found
-told_found text (Ok x) found h = let k : x ≡ found = cc in ap Ok k
-told_found text (Err f) found h = cc
+known_found : (text : List ℕ) (a : Look) (found : Option (Token × ℕ)) → known text a ≡ Ok found → a ≡ Ok found
+known_found text (Ok x) found h = let k : x ≡ found = cc in ap Ok k
+known_found text (Err f) found h = cc
 
 pub seen_found : (s : Source) (names : Names) (p : ℕ) (found : Option (Token × ℕ)) → seen s p names ≡ Ok found → shown s p names ≡ Ok found
 unfolding seen
-seen_found s names p found h = told_found s.setting.text (shown s p names) found h
+seen_found s names p found h = known_found s.setting.text (shown s p names) found h
 
 -- a token of a text ends within it
 pub readable_end : (text : List ℕ) (t : Token) → IsUtf8 text → IsTokenOf text t → t.offset + t.len ≤ length text

@@ -36,7 +36,7 @@ place_in name e =
     ++ codes "\n " ++ right_in 4 (decimal e.line) ++ codes " | " ++ e.snippet
     ++ codes "\n      | " ++ right_in e.column (codes "^")
 
--- what a report prints of a file; the name stands in front where there is no line
+-- what a report prints of a file; the name comes first where there is no line
 abbrev pub in_file : List ℕ → Report → Option Excerpt → List ℕ
 in_file name r None = name ++ (codes ": " ++ printed (Some r))
 in_file name r (Some e) = cause_text r.cause ++ place_in name e

@@ -43,14 +43,14 @@ write_failure (Err (NotUtf8 offset)) = None
 write_failure (Err (Write failed)) = Some failed
 write_failure (Err (Memory refused)) = None
 
--- the failure of the last write that failed, behind a run: the run's own, or that of before
-abbrev pub failure_behind : {T : Type 0} → Option Failed → Result T RunFailure → Option Failed
-failure_behind before (Ok t) = before
-failure_behind before (Err (Read failed)) = before
-failure_behind before (Err TooLong) = before
-failure_behind before (Err (NotUtf8 offset)) = before
-failure_behind before (Err (Write failed)) = Some failed
-failure_behind before (Err (Memory refused)) = before
+-- the failure of the last write that failed, after a run: the run's own, or that of before
+abbrev pub failure_after : {T : Type 0} → Option Failed → Result T RunFailure → Option Failed
+failure_after before (Ok t) = before
+failure_after before (Err (Read failed)) = before
+failure_after before (Err TooLong) = before
+failure_after before (Err (NotUtf8 offset)) = before
+failure_after before (Err (Write failed)) = Some failed
+failure_after before (Err (Memory refused)) = before
 
 -- the same without what is known of the cause
 abbrev pub error_of : RunFailure → RunError

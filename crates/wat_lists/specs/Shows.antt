@@ -24,7 +24,7 @@ abbrev pub with_names : Names → List (String Global) → Names
 with_names names [] = names
 with_names names (x ∷ xs) = with_names (with_name names (string_bytes x)) xs
 
--- The lines of the tokens that are shown from a place on, and the error of the fault behind them where there is one.
+-- The lines of the tokens that are shown from a place on, and the error of the fault after them where there is one.
 pub record ShownFrom (s : Source) (names : Names) (place : ℕ) (text : List ℕ) (error : Option (Option Report)) : Type 0 where
   pub tokens : List Token
   pub fault : Option Fault
@@ -40,7 +40,7 @@ pub record ShownText (s : Setting) (names : List (String Global)) (text : List �
   pub shown : ShownFrom source (with_names no_names names) 0 text error
 
 -- The bytes are a text of at most 2^32-1 bytes, these are the lines of what is shown of it where these names are registered, and this is the
--- error of the fault behind them where there is one.
+-- error of the fault after them where there is one.
 pub record Shows (settings : Settings) (names : List (String Global)) (bytes text : List ℕ) (error : Option (Option Report)) : Type 0 where
   pub utf8 : IsUtf8 bytes
   pub short : length bytes < 2 ^ 32

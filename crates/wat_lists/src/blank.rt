@@ -19,7 +19,7 @@ fn blank_byte(byte: u8) -> u8
     }
 }
 
-/// Puts what stands in place of a comment's bytes behind the others.
+/// Puts what is in place of a comment's bytes after the others.
 fn put_blanks<W: Sink>(block: &mut Block, output: &mut W, comment: &[u8]) -> Result<(), Failed>
     ensures put { OnOk result (Puts (W.held output.old) (W.held output.new)
         block.old block.new (map blank_byte comment.now)) }
@@ -33,7 +33,7 @@ fn put_blanks<W: Sink>(block: &mut Block, output: &mut W, comment: &[u8]) -> Res
     Ok(())
 }
 
-/// Puts a token's bytes, or what stands in place of a comment's, behind the others.
+/// Puts a token's bytes, or what is in place of a comment's, after the others.
 fn put_token<W: Sink>(
     block: &mut Block,
     output: &mut W,
@@ -54,7 +54,7 @@ fn put_token<W: Sink>(
     }
 }
 
-/// Writes the bytes of each raw token of a lexer's text, or what stands in place of a comment's. It
+/// Writes the bytes of each raw token of a lexer's text, or what is in place of a comment's. It
 /// takes no memory.
 pub fn write_blanked<W: Sink>(lexer: &Lexer<'_>, output: &mut W) -> Result<(), Failed>
     ensures written { OnOk result (AppendsEach (blank_text lexer.now.text) lexer.now

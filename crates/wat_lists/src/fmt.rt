@@ -6,7 +6,7 @@ ghost use Rattle.wat_lex.specs.errors.Errors.{lexical};
 ghost use Rattle.wat_lines.specs.declared.failed.Failed.{Failed};
 ghost use Rattle.wat_lists.specs.Inputs.{ReadsPast, ReadsShort, HasEnded};
 ghost use Rattle.wat_lists.specs.Layouts.{Compares, WritesLayout, WritesPart};
-ghost use Rattle.wat_lists.specs.Refusals.{IsNotUtf8, IsWrite, failure_behind};
+ghost use Rattle.wat_lists.specs.Refusals.{IsNotUtf8, IsWrite, failure_after};
 ghost use Rattle.wat_lists.specs.Refusals.{read_failure, write_failure};
 
 use crate::input::{RunFailure, read_whole, text_of};
@@ -58,7 +58,7 @@ fn write_text<W: sink::Sink<Failure = Failed>>(
         (W.held output.old) (W.held output.new)) }
     ensures part { OnErr result
         (WritesPart settings text.now (W.held output.old) (W.held output.new)) }
-    ensures write { W.failure output.new ≡ failure_behind (W.failure output.old) result }
+    ensures write { W.failure output.new ≡ failure_after (W.failure output.old) result }
     ensures refused { IfErr result (λ e. IsWrite e ⊎ (e ≡ RunFailure.Memory alloc_error)) }
 {
     match format_to(alloc, text, settings, output) {
@@ -81,7 +81,7 @@ fn write_bytes<W: sink::Sink<Failure = Failed>>(
         (W.held output.old) (W.held output.new)) }
     ensures part { OnErr result
         (WritesPart settings bytes.now (W.held output.old) (W.held output.new)) }
-    ensures write { W.failure output.new ≡ failure_behind (W.failure output.old) result }
+    ensures write { W.failure output.new ≡ failure_after (W.failure output.old) result }
     ensures unwritten { IfErr result (λ e. IsWrite e ⊎
         ((e ≡ RunFailure.Memory alloc_error) ⊎ (output.new ≡ output.old))) }
     ensures not_utf8 { (offset : ℕ) →
@@ -124,7 +124,7 @@ pub fn run_fmt<R: Source, W: sink::Sink<Failure = Failed>>(
 
     // When each refusal but that of memory comes.
     ensures read { read_failure result ≡ R.failure input.new }
-    ensures write { W.failure output.new ≡ failure_behind (W.failure output.old) result }
+    ensures write { W.failure output.new ≡ failure_after (W.failure output.old) result }
     ensures short { (IsErrOf result RunFailure.TooLong) ⊎
         ReadsShort (R.left input.old) (R.left input.new) }
     ensures too_long { IfSome (R.left input.old) (λ _.

@@ -13,7 +13,7 @@ use wat_lines::block::Block;
 use wat_lines::ends::{Failed, Sink};
 use wat_lines::line::{Place, ROOM, put_line};
 
-/// Writes a token's line behind the others.
+/// Writes a token's line after the others.
 pub(crate) fn push_line(lines: &mut Vec<u8>, token: &Token) -> Result<(), AllocError>
     requires { token.now.offset + token.now.len < 2 ^ 32 }
     ensures { OnOk result (lines.new.items ≡ lines.old.items ++ line token.now) }

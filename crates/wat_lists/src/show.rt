@@ -9,7 +9,7 @@ use wat_lex::lexer::Settings;
 use wat_lexer_parser::laws;
 use wat_lexer_parser::parser::{Cursor, Parser};
 
-/// The lines of the tokens that are shown, and the error of the fault behind them.
+/// The lines of the tokens that are shown, and the error of the fault after them.
 #[derive(Drop)]
 pub struct Showing {
     /// A line for each token, in order.
@@ -42,7 +42,7 @@ pub(crate) fn register_all(parser: &mut Parser<'_>, names: &[String]) -> Result<
     Ok(())
 }
 
-/// Lists what is shown from a cursor on. The cursor that it answers stands behind it.
+/// Lists what is shown from a cursor on. The cursor that it answers is after it.
 fn lines_from<'p, 'a>(
     alloc: Global,
     from: Cursor<'p, 'a>,

@@ -29,10 +29,10 @@ tiled_more : (s : Setting) (from to : ℕ) (ts : List Token) (t : Token) → Til
 tiled_more s from to [] t h k = (subst (λ p. TokenAt s p t) (sym h) k, refl)
 tiled_more s from to (u ∷ ts) t h k = (h.0, tiled_more s (u.offset + u.len) to ts t h.1 k)
 
--- the first of what stands behind a list is set
-set_behind : {A : Type 0} (front : List A) (x y : A) (back : List A) → slice_set (front ++ x ∷ back) (length front) y ≡ front ++ y ∷ back
-set_behind [] x y back = refl
-set_behind (z ∷ front) x y back = ap (λ l. z ∷ l) (set_behind front x y back)
+-- the first of what comes after a list is set
+set_after : {A : Type 0} (front : List A) (x y : A) (back : List A) → slice_set (front ++ x ∷ back) (length front) y ≡ front ++ y ∷ back
+set_after [] x y back = refl
+set_after (z ∷ front) x y back = ap (λ l. z ∷ l) (set_after front x y back)
 
 rows_length : (s : Setting) (old rows : List Row) (count pos : ℕ) → Filling s old rows count pos → length rows ≡ length old
 rows_length s old rows count pos h =
@@ -50,14 +50,14 @@ module _ (s : Setting) (old rows : List Row) (count pos : ℕ) (t : Token) (h : 
   one_more =
       let shown = map row_of h.tokens in
       let last = length (h.tokens ++ t ∷ []) in
-      let behind : last ≡ suc (length h.tokens) = omega (arith, length-append h.tokens (t ∷ [])) in
+      let after : last ≡ suc (length h.tokens) = omega (arith, length-append h.tokens (t ∷ [])) in
       let place : count ≡ length shown = h.count ∙ sym (length-map h.tokens row_of) in
       let below : length h.tokens < length old = omega (arith, room, same_length, h.count) in
       let opened : drop (length h.tokens) old ≡ get_or old (length h.tokens) (row_of t) ∷ drop (suc (length h.tokens)) old = drop-cons old (length h.tokens) (row_of t) below in
       ap (λ r. slice_set r count (row_of t)) (h.rows ∙ ap (λ r. shown ++ r) opened) ∙ ap (λ n. slice_set (shown ++ (get_or old (length h.tokens) (row_of t) ∷ drop (suc (length h.tokens)) old)) n (row_of t)) place
-      ∙ set_behind shown (get_or old (length h.tokens) (row_of t)) (row_of t) (drop (suc (length h.tokens)) old)
+      ∙ set_after shown (get_or old (length h.tokens) (row_of t)) (row_of t) (drop (suc (length h.tokens)) old)
       ∙ sym (append_assoc shown (row_of t ∷ []) (drop (suc (length h.tokens)) old)) ∙ ap (λ r. r ++ drop (suc (length h.tokens)) old) (sym (map-append row_of h.tokens (t ∷ [])))
-      ∙ ap (λ n. map row_of (h.tokens ++ t ∷ []) ++ drop n old) (sym behind)
+      ∙ ap (λ n. map row_of (h.tokens ++ t ∷ []) ++ drop n old) (sym after)
 
   pub filling_more : IsCharBoundary s.text (pos + t.len) → Filling s old (slice_set rows count (row_of t)) (count + 1) (t.offset + t.len)
   filling_more b = record {
@@ -72,7 +72,7 @@ module _ (s : Setting) (old rows : List Row) (count pos : ℕ) (t : Token) (h : 
 pub filled_full : (s : Setting) (old rows : List Row) (count pos : ℕ) (t : Token) → Filling s old rows count pos → TokenAt s pos t → count ≡ length rows → Filled s old rows count Full
 filled_full s old rows count pos t h k e = record {
   tokens = h.tokens;
-  ends = (record { to = pos; tiling = h.tiling; next = t; behind = k }, omega (arith, e, h.fits, h.count, rows_length s old rows count pos h));
+  ends = (record { to = pos; tiling = h.tiling; next = t; after = k }, omega (arith, e, h.fits, h.count, rows_length s old rows count pos h));
   rows = h.rows;
   count = h.count;
 }

@@ -1,4 +1,4 @@
--- What a page is told of an ending, in numbers. No part of the standard.
+-- What a page gets of an ending, in numbers. No part of the standard.
 use Rattle.std.specs.Prelude.{ℕ, ◌+◌, List, [], length, min}
 use Rattle.wat_lex.specs.errors.Messages.{message}
 use Rattle.wat_lex.specs.errors.Positions.{line_and_column}
@@ -14,15 +14,15 @@ abbrev pub row_of : Token → Row
 row_of t = record { end = t.offset + t.len; kind = kind_number t.kind }
 
 -- what is rendered of an ending
-abbrev pub told : List ℕ → Ending → List ℕ
-told text (Faulty f) = rendered text (message f.error) f.offset
-told text _ = []
+abbrev pub known : List ℕ → Ending → List ℕ
+known text (Faulty f) = rendered text (message f.error) f.offset
+known text _ = []
 
--- what a page is told of so many rows and their ending, where there is room for so many bytes of a message
+-- what a page gets of so many rows and their ending, where there is room for so many bytes of a message
 abbrev pub report_of : List ℕ → ℕ → ℕ → Ending → Report
 report_of text room n Whole = record { ending = 0; rows = n; offset = 0; line = 0; column = 0; message = 0 }
 report_of text room n (Faulty f) = let place = line_and_column text f.offset in
-    record { ending = 1; rows = n; offset = f.offset; line = place.0; column = place.1; message = min (length (told text (Faulty f))) room }
+    record { ending = 1; rows = n; offset = f.offset; line = place.0; column = place.1; message = min (length (known text (Faulty f))) room }
 report_of text room n Full = record { ending = 2; rows = n; offset = 0; line = 0; column = 0; message = 0 }
 report_of text room n (NotUtf8 at) = record { ending = 3; rows = n; offset = at; line = 0; column = 0; message = 0 }
 report_of text room n TooLong = record { ending = 4; rows = n; offset = 0; line = 0; column = 0; message = 0 }

@@ -1,6 +1,6 @@
-//! What a page is told of a text.
+//! What a page gets of a text.
 ghost use Rattle.std.specs.Prelude.{◌≡◌, length};
-ghost use Rattle.wat_page.specs.Endings.{report_of, told};
+ghost use Rattle.wat_page.specs.Endings.{report_of, known};
 ghost use Rattle.wat_lex.specs.errors.Rendering.{laid_over};
 
 use wat_lex::error::Rendered;
@@ -10,11 +10,11 @@ use wat_lex::token::Span;
 /// How the rows of a text end.
 #[derive(Clone, Copy, Debug, PartialEq, Eq)]
 pub enum Ending {
-    /// The text ends behind the last row.
+    /// The text ends after the last row.
     Whole,
-    /// The text has a fault behind the last row.
+    /// The text has a fault after the last row.
     Faulty(LexFault),
-    /// A token stands behind the last row, and there is no room for its own.
+    /// A token comes after the last row, and there is no room for its own.
     Full,
     /// From this byte on the text is not UTF-8. There are no rows.
     NotUtf8(usize),
@@ -45,7 +45,7 @@ impl Ending {
     /// The report of so many rows and this ending.
     pub fn report(self, text: &str, rows: usize, message: &mut [u8]) -> Report
         ensures report { result ≡ report_of text.now (length message.old) rows self }
-        ensures message { message.new ≡ laid_over (told text.now self) message.old }
+        ensures message { message.new ≡ laid_over (known text.now self) message.old }
     {
         let plain = Report {
             ending: 0,

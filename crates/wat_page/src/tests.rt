@@ -58,14 +58,14 @@ fn a_fault(rt: HostRuntime) {
     let report = read("1\n é".as_bytes(), &mut [EMPTY; 8], &mut message);
     assert_eq!(rt; (report.ending, report.rows), (1, 2));
     assert_eq!(rt; (report.offset, report.line, report.column), (3, 1, 1));
-    let told =
+    let known =
         "unexpected character '\\u{e9}'\n     --> <anon>:2:2\n      |\n    2 |  é\n      |  ^";
-    assert_eq!(rt; report.message, told.len());
-    assert!(rt; message.starts_with(told.as_bytes()));
+    assert_eq!(rt; report.message, known.len());
+    assert!(rt; message.starts_with(known.as_bytes()));
     let mut few = [7; 28];
     let report = read("é".as_bytes(), &mut [], &mut few);
     assert_eq!(rt; (report.ending, report.message), (1, 28));
-    assert!(rt; told.as_bytes().starts_with(&few));
+    assert!(rt; known.as_bytes().starts_with(&few));
 }
 
 #[test]

@@ -9,10 +9,10 @@ use Rattle.wat_parser_c.specs.declared.answers.Refusal.{Refusal}
 use Rattle.wat_parser_c.specs.declared.answers.Refusal.TheVariants.{Other, Memory, Absent, Fault}
 
 pub given : (Reads : Result (List ℕ) Refusal → Type 0) (old new bytes read : List ℕ) (answer : Answer) → Reads (Ok read) → bytes ≡ read → answer ≡ answer_of (Ok bytes) → new ≡ left_of old (Ok bytes) → Answers Reads old new answer
-given Reads old new bytes read answer reads e told left = record { found = Ok bytes; reads = subst (λ b. Reads (Ok b)) (sym e) reads; told = told; left = left }
+given Reads old new bytes read answer reads e known left = record { found = Ok bytes; reads = subst (λ b. Reads (Ok b)) (sym e) reads; known = known; left = left }
 
 pub refused : (Reads : Result (List ℕ) Refusal → Type 0) (old : List ℕ) (refusal : Refusal) (answer : Answer) → Reads (Err refusal) → answer ≡ answer_of (Err refusal) → Answers Reads old old answer
-refused Reads old refusal answer reads told = record { found = Err refusal; reads = reads; told = told; left = refl }
+refused Reads old refusal answer reads known = record { found = Err refusal; reads = reads; known = known; left = refl }
 
 free_of : (s : Setting) (p : ℕ) (found : Result (List ℕ) Refusal) → FindsFault s p found → (answer_of found).status ≢ 2
 free_of s p (Ok bytes) h e = absurd (omega (arith, e))
@@ -23,4 +23,4 @@ free_of s p (Err (Fault f)) h e = h
 
 -- a fault's printing takes no memory
 pub fault_free : (s : Setting) (p : ℕ) (old new : List ℕ) (answer : Answer) → Answers (FindsFault s p) old new answer → answer.status ≢ 2
-fault_free s p old new answer h e = free_of s p h.found h.reads (sym (ap (λ a. a.status) h.told) ∙ e)
+fault_free s p old new answer h e = free_of s p h.found h.reads (sym (ap (λ a. a.status) h.known) ∙ e)

@@ -1,4 +1,4 @@
--- The words of integers' rows: their bytes are their characters, and the row tells what stands before their digits.
+-- The words of integers' rows: their bytes are their characters, and the row tells what comes before their digits.
 use Rattle.std.proofs.Common.{◌≡◌, ◌<◌, ◌+◌, ◌-◌, ℕ, zero, suc, List, [], ◌∷◌, ◌++◌, length, take, drop, refl, ap, sym, ◌∙◌, subst, arith, inl, inr, Bool, true, false, cond}
 use Rattle.std.specs.Prelude.{◌==◌, ◌&&◌, ◌||◌, nat_le, if◌then◌else◌, Option, Some, None, MatchOption}
 use Rattle.std.specs.Option.{option_map}
@@ -14,14 +14,14 @@ use Rattle.wat_lex.specs.grammar.Words.{Word}
 use Rattle.wat_lex.specs.tokens.EverySetting.{TokensAreReadable, WordsOfTokens}
 use Rattle.wat_lex.specs.tokens.ReadableTokens.{IsTokenOf, word_of}
 use Rattle.wat_lex.specs.tokens.Setting.{lenient}
-use Rattle.wat_lex.specs.values.NumberValues.{behind_prefix}
+use Rattle.wat_lex.specs.values.NumberValues.{after_prefix}
 use Rattle.wat_lex.specs.declared.lexer.kinds.IntegerKind.{IntegerKind}
 use Rattle.wat_lex.specs.declared.lexer.kinds.Sign.TheVariants as sign
 use Rattle.wat_lex.specs.declared.lexer.kinds.TokenKind.TheVariants.{Id, Keyword, Annotation, Reserved, String, Integer}
 use Rattle.wat_rows.specs.Counting.{IsRow, kind_beside}
 use Rattle.wat_rows.specs.Rows.{sign_code}
 use Rattle.wat_rows.specs.declared.counting.Row.{Row}
-use Rattle.wat_parser_c.specs.ByRow.{kind_of, token_of, sign_told}
+use Rattle.wat_parser_c.specs.ByRow.{kind_of, token_of, sign_known}
 use Rattle.wat_parser_c.specs.Numbers.{lead}
 use Rattle.wat_parser_c.proofs.RowTokens.{row_readable, row_kind, integer_by_code}
 
@@ -117,7 +117,7 @@ unsigned_drop (c ∷ t) = by (c == 43) (c == 45)
     by false true = refl
     by false false = refl
 
-prefix_drop : (hex : Bool) (s : List ℕ) → behind_prefix hex s ≡ drop (if hex then 2 else 0) s
+prefix_drop : (hex : Bool) (s : List ℕ) → after_prefix hex s ≡ drop (if hex then 2 else 0) s
 prefix_drop true s = refl
 prefix_drop false s = refl
 
@@ -126,7 +126,7 @@ digits_some hex s (last h) = omega arith
 digits_some hex s (next h r) = omega arith
 digits_some hex s (parted h r) = omega arith
 
-integral_some : (hex : Bool) (s : List ℕ) → IntegralPart hex s [] → 0 < length (behind_prefix hex s)
+integral_some : (hex : Bool) (s : List ℕ) → IntegralPart hex s [] → 0 < length (after_prefix hex s)
 integral_some hex s (decimal h) = digits_some false s h
 integral_some hex s (hexadecimal {t = t} h) = digits_some true t h
 
@@ -137,34 +137,34 @@ pub record IntegerWord (text : List ℕ) (row : Row) : Type 0 where
   pub bytes : take row.len (drop row.offset text) ≡ word
   pub long : length word ≡ row.len
   pub sign : row.kind.sign ≡ sign_code (sign_token (sign_of word))
-  pub digits : behind_prefix row.kind.hex (unsigned word) ≡ drop (lead row.kind) word
+  pub digits : after_prefix row.kind.hex (unsigned word) ≡ drop (lead row.kind) word
   pub some : lead row.kind < row.len
 
 -- the kind that a row tells, and what the row says of it
-told_sign : (text : List ℕ) (row : Row) → IsRow text row → row.kind.code ≡ 11 → row.kind.sign ≡ sign_code (sign_token (sign_told row.kind.sign))
-told_sign text row h e = ap (λ k. k.sign) (row_kind text row h ∙ ap (kind_beside text h.token) (integer_by_code row.kind e))
+known_sign : (text : List ℕ) (row : Row) → IsRow text row → row.kind.code ≡ 11 → row.kind.sign ≡ sign_code (sign_token (sign_known row.kind.sign))
+known_sign text row h e = ap (λ k. k.sign) (row_kind text row h ∙ ap (kind_beside text h.token) (integer_by_code row.kind e))
 
 module _ (readable : TokensAreReadable) (words : WordsOfTokens) (text : List ℕ) (row : Row) (utf8 : IsUtf8 text) (h : IsRow text row) (e : row.kind.code ≡ 11) where
   token_readable : IsTokenOf text (token_of row)
   token_readable = row_readable readable text row (kind_of row.kind) h refl
 
-  told_number : (r : IsTokenOf text (token_of row)) → Number r.word (Integer (record { sign = sign_told row.kind.sign; has_underscores = row.kind.has_underscores; hex = row.kind.hex }))
-  told_number r = number_word _ r.word (subst (λ k. Word k r.word lenient) (integer_by_code row.kind e) r.is)
+  known_number : (r : IsTokenOf text (token_of row)) → Number r.word (Integer (record { sign = sign_known row.kind.sign; has_underscores = row.kind.has_underscores; hex = row.kind.hex }))
+  known_number r = number_word _ r.word (subst (λ k. Word k r.word lenient) (integer_by_code row.kind e) r.is)
 
   by_readable : (r : IsTokenOf text (token_of row)) → IntegerWord text row
   by_readable r =
-      let n = told_number r in
+      let n = known_number r in
       let w = r.word in
       let ascii = word_ascii w (integral_ascii row.kind.hex (unsigned w) n.0) in
       let same : encodes w ≡ w = encodes-IsAscii w ascii in
       let long : length w ≡ row.len = ap length (sym same) ∙ sym r.len in
       let back : drop row.offset text ≡ w ++ encodes r.rest =
       sym (encodes-chars (drop row.offset text) (IsUtf8-drop text row.offset utf8 h.boundary)) ∙ ap encodes r.cut ∙ encodes-append w r.rest ∙ ap (λ x. x ++ encodes r.rest) same in
-      let sign : row.kind.sign ≡ sign_code (sign_token (sign_of w)) = told_sign text row h e ∙ ap (λ s. sign_code (sign_token s)) n.1 in
+      let sign : row.kind.sign ≡ sign_code (sign_token (sign_of w)) = known_sign text row h e ∙ ap (λ s. sign_code (sign_token s)) n.1 in
       let p = if row.kind.hex then 2 else 0 in
       let q = if row.kind.sign == 0 then 0 else 1 in
       let front : unsigned w ≡ drop q w = unsigned_drop w ∙ ap (λ s. drop (if s == 0 then 0 else 1) w) (sym sign) in
-      let digits : behind_prefix row.kind.hex (unsigned w) ≡ drop (lead row.kind) w = prefix_drop row.kind.hex (unsigned w) ∙ ap (drop p) front ∙ drop-drop p q w in
+      let digits : after_prefix row.kind.hex (unsigned w) ≡ drop (lead row.kind) w = prefix_drop row.kind.hex (unsigned w) ∙ ap (drop p) front ∙ drop-drop p q w in
       record {
         word = w;
         is = words text (token_of row) utf8 r;
@@ -179,10 +179,10 @@ module _ (readable : TokensAreReadable) (words : WordsOfTokens) (text : List ℕ
   integer_word = by_readable token_readable
 
 -- the digits in the text
-pub digits_there : (text : List ℕ) (row : Row) → IntegerWord text row → take (row.len - lead row.kind) (drop (row.offset + lead row.kind) text) ≡ behind_prefix row.kind.hex (unsigned (word_of text (token_of row)))
+pub digits_there : (text : List ℕ) (row : Row) → IntegerWord text row → take (row.len - lead row.kind) (drop (row.offset + lead row.kind) text) ≡ after_prefix row.kind.hex (unsigned (word_of text (token_of row)))
 digits_there text row h =
     let n = lead row.kind in
     let some = h.some in
     let parts : row.len ≡ n + (row.len - n) = omega arith in
     sym (ap (take (row.len - n)) (drop-drop n row.offset text)) ∙ sym (drop-take n (row.len - n) (drop row.offset text)) ∙ ap (λ m. drop n (take m (drop row.offset text))) (sym parts)
-    ∙ ap (drop n) h.bytes ∙ sym h.digits ∙ ap (λ w. behind_prefix row.kind.hex (unsigned w)) (sym h.is)
+    ∙ ap (drop n) h.bytes ∙ sym h.digits ∙ ap (λ w. after_prefix row.kind.hex (unsigned w)) (sym h.is)

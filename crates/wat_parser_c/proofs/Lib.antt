@@ -12,7 +12,7 @@ mod Parts
 mod PrintedErrors
 mod RowTokens
 mod Texts
-mod ToldFaults
-mod ToldWords
+mod KnownFaults
+mod KnownWords
 mod WordPlaces
 mod Writing

@@ -1,10 +1,10 @@
--- What a reader finds at a place is one thing, want of memory apart.
+-- What a reader finds at a place is one thing, apart from out of memory.
 use Rattle.std.proofs.Common.{◌≡◌, ◌≢◌, ◌⊎◌, ℕ, List, [], refl, true≢false, ap, sym, ◌∙◌, subst, inl, inr}
 use Rattle.std.specs.Prelude.{Bool, false, ◌||◌, ◌==◌, if◌then◌else◌, Option, Some, None, Result, Ok, Err, IfOk, IfSome, IsSome, alloc_error, unwrap_or}
 use Rattle.std.specs.Option.{option_map}
 use Rattle.std.specs.Cow.{cow_str_bytes}
 use Rattle.std.specs.declared.borrow.CowStr.{CowStr}
-use Rattle.wat_lex.specs.tokens.EverySetting.{OneThingStands, NamesAreOne, CutsAreOne}
+use Rattle.wat_lex.specs.tokens.EverySetting.{OneThingIsAt, NamesAreOne, CutsAreOne}
 use Rattle.wat_lex.specs.tokens.ReadableTokens.{word_of}
 use Rattle.wat_lex.specs.tokens.Setting.{Setting}
 use Rattle.wat_lex.specs.tokens.Faults.{FaultAt}
@@ -30,22 +30,22 @@ use Rattle.wat_parser_c.proofs.Texts.{bytes_of_text}
 abbrev pub Finding : Type 0
 Finding = Result (List ℕ) Refusal
 
--- any two findings are the same, but for want of memory
+-- any two findings are the same, but for out of memory
 abbrev pub One : (Finding → Type 0) → Type 0
 One Reads = (a b : Finding) → Reads a → Reads b → a ≢ Err (Memory alloc_error) → b ≢ Err (Memory alloc_error) → a ≡ b
 
 found_memory : (answer : Answer) (found : Finding) → answer ≡ answer_of found → answer.status ≢ status_of (Memory alloc_error) → found ≢ Err (Memory alloc_error)
-found_memory answer found told n e = n (ap (λ a. a.status) told ∙ ap (λ f. (answer_of f).status) e)
+found_memory answer found known n e = n (ap (λ a. a.status) known ∙ ap (λ f. (answer_of f).status) e)
 
 pub one_answer : (Reads : Finding → Type 0) (old : List ℕ) → One Reads → OneAnswer Reads old
 unfolding OneAnswer
-one_answer Reads old one new other answer told h k n m =
-    let same = one h.found k.found h.reads k.reads (found_memory answer h.found h.told n) (found_memory told k.found k.told m) in
-    (h.told ∙ ap answer_of same ∙ sym k.told, h.left ∙ ap (left_of old) same ∙ sym k.left)
+one_answer Reads old one new other answer known h k n m =
+    let same = one h.found k.found h.reads k.reads (found_memory answer h.found h.known n) (found_memory known k.found k.known m) in
+    (h.known ∙ ap answer_of same ∙ sym k.known, h.left ∙ ap (left_of old) same ∙ sym k.left)
 
 -- ---- tokens
 
--- no such token stands at the place, or one does
+-- no such token is at the place, or one does
 split : (Is : TokenKind → Type 0) (Reads : List ℕ → Token → Finding → Type 0) (s : Setting) (p : ℕ) (a : Finding) → Finds Is Reads s p a → ((a ≡ Err Other) × OtherAt Is s p) ⊎ ReadAt Is Reads s p a
 split Is Reads s p (Ok bytes) h = inr h
 split Is Reads s p (Err Other) h = inl (refl, h)
@@ -53,24 +53,24 @@ split Is Reads s p (Err (Memory refused)) h = inr h
 split Is Reads s p (Err Absent) h = inr h
 split Is Reads s p (Err (Fault e)) h = inr h
 
--- what stands at a place
-abbrev pub Standing : Type 0
-Standing = Result (Option Token) LexFault
+-- what is at a place
+abbrev pub Answered : Type 0
+Answered = Result (Option Token) LexFault
 
-abbrev pub token_stands : Token → Standing
-token_stands t = Ok (Some t)
+abbrev pub token_is_at : Token → Answered
+token_is_at t = Ok (Some t)
 
-pub some_token : (t u : Token) → token_stands t ≡ token_stands u → t ≡ u
+pub some_token : (t u : Token) → token_is_at t ≡ token_is_at u → t ≡ u
 some_token t u e = ap (λ r. elim r [ Ok (Some x) ↦ x | Ok None ↦ t | Err f ↦ t ]) e
 
-module _ (stands : OneThingStands) (Is : TokenKind → Type 0) (Reads : List ℕ → Token → Finding → Type 0) (s : Setting) (p : ℕ)
+module _ (is_at : OneThingIsAt) (Is : TokenKind → Type 0) (Reads : List ℕ → Token → Finding → Type 0) (s : Setting) (p : ℕ)
     (one : (t : Token) → Is t.kind → One (Reads s.text t)) where
   apart : (b : Finding) → OtherAt Is s p → ReadAt Is Reads s p b → ⊥
-  apart b h k = subst (λ r. IfOk r (λ found. IfSome found (λ t. Is t.kind → ⊥))) (stands s p h.answer (Ok (Some k.token)) h.stands k.stands) h.other k.kind
+  apart b h k = subst (λ r. IfOk r (λ found. IfSome found (λ t. Is t.kind → ⊥))) (is_at s p h.answer (Ok (Some k.token)) h.is_at k.is_at) h.other k.kind
 
   both : (a b : Finding) → ReadAt Is Reads s p a → ReadAt Is Reads s p b → a ≢ Err (Memory alloc_error) → b ≢ Err (Memory alloc_error) → a ≡ b
   both a b h k n m =
-      let same = some_token k.token h.token (stands s p (Ok (Some k.token)) (Ok (Some h.token)) k.stands h.stands) in
+      let same = some_token k.token h.token (is_at s p (Ok (Some k.token)) (Ok (Some h.token)) k.is_at h.is_at) in
       one h.token h.kind a b h.reads (subst (λ t. Reads s.text t b) same k.reads) n m
 
   pub one_finding : One (Finds Is Reads s p)
@@ -144,11 +144,11 @@ one_integer text t (Err (Fault e)) b h k n m = absurd h
 
 -- ---- floating-point numbers
 
-optional_bytes : {Z : Type 0} (anew : Bool) (digits : Option (List ℕ)) (text : Option (CowStr Z)) → IsOptionalText anew digits text → option_map cow_str_bytes text ≡ digits
-optional_bytes anew None None h = refl
-optional_bytes anew (Some d) (Some t) h = ap Some (bytes_of_text anew d t h)
-optional_bytes anew None (Some t) h = absurd h
-optional_bytes anew (Some d) None h = absurd h
+optional_bytes : {Z : Type 0} (again : Bool) (digits : Option (List ℕ)) (text : Option (CowStr Z)) → IsOptionalText again digits text → option_map cow_str_bytes text ≡ digits
+optional_bytes again None None h = refl
+optional_bytes again (Some d) (Some t) h = ap Some (bytes_of_text again d t h)
+optional_bytes again None (Some t) h = absurd h
+optional_bytes again (Some d) None h = absurd h
 
 -- the four parts
 abbrev Quarters : Type 0
@@ -183,9 +183,9 @@ quartered (float_kind.NanVal n u) w (value.Val x i f e) h = absurd h
 quartered (float_kind.Normal u hex) w (value.Val x i f e) h =
     let cut = h.1 in
     let first = ap Some (bytes_of_text (hex || u) (number_text hex cut.leading) i cut.integral_is) in
-    let behind = optional_bytes u (option_map joined cut.fraction) f cut.fractional_is in
+    let after = optional_bytes u (option_map joined cut.fraction) f cut.fractional_is in
     let power = optional_bytes u (option_map (number_text false) cut.power) e cut.exponent_is in
-    (cut.leading, cut.fraction, cut.power, cut.parts, λ j. (first j, behind j, power j, None))
+    (cut.leading, cut.fraction, cut.power, cut.parts, λ j. (first j, after j, power j, None))
 quartered (float_kind.Normal u hex) w (value.Inf m) h = absurd h
 quartered (float_kind.Normal u hex) w (value.Nan v m) h = absurd h
 
@@ -238,26 +238,26 @@ one_float one part text t (Err (Fault e)) b h k n m = absurd h
 
 -- ---- faults
 
-abbrev fault_stands : LexFault → Standing
-fault_stands f = Err f
+abbrev fault_is_at : LexFault → Answered
+fault_is_at f = Err f
 
-some_fault : (f g : LexFault) → fault_stands f ≡ fault_stands g → f ≡ g
+some_fault : (f g : LexFault) → fault_is_at f ≡ fault_is_at g → f ≡ g
 some_fault f g e = ap (λ r. elim r [ Err x ↦ x | Ok found ↦ f ]) e
 
-no_fault : (s : Setting) (p : ℕ) (f : LexFault) → OneThingStands → FaultAt s p f → NoFault s p → ⊥
-no_fault s p f stands h k = subst (λ r. IfOk r (λ found. ⊥)) (stands s p (Err f) (Ok k.found) h k.stands) tt
+no_fault : (s : Setting) (p : ℕ) (f : LexFault) → OneThingIsAt → FaultAt s p f → NoFault s p → ⊥
+no_fault s p f is_at h k = subst (λ r. IfOk r (λ found. ⊥)) (is_at s p (Err f) (Ok k.found) h k.is_at) tt
 
-pub one_fault : OneThingStands → (s : Setting) (p : ℕ) → One (FindsFault s p)
-one_fault stands s p (Ok a) (Ok b) h k n m = ap Ok (h.2 ∙ ap (shown_fault s.text) (some_fault h.0 k.0 (stands s p (Err h.0) (Err k.0) h.1 k.1)) ∙ sym k.2)
-one_fault stands s p (Err Other) (Err Other) h k n m = refl
-one_fault stands s p (Ok a) (Err Other) h k n m = absurd (no_fault s p h.0 stands h.1 k)
-one_fault stands s p (Err Other) (Ok b) h k n m = absurd (no_fault s p k.0 stands k.1 h)
-one_fault stands s p (Ok a) (Err (Memory refused)) h k n m = absurd k
-one_fault stands s p (Ok a) (Err Absent) h k n m = absurd k
-one_fault stands s p (Ok a) (Err (Fault e)) h k n m = absurd k
-one_fault stands s p (Err Other) (Err (Memory refused)) h k n m = absurd k
-one_fault stands s p (Err Other) (Err Absent) h k n m = absurd k
-one_fault stands s p (Err Other) (Err (Fault e)) h k n m = absurd k
-one_fault stands s p (Err (Memory refused)) b h k n m = absurd h
-one_fault stands s p (Err Absent) b h k n m = absurd h
-one_fault stands s p (Err (Fault e)) b h k n m = absurd h
+pub one_fault : OneThingIsAt → (s : Setting) (p : ℕ) → One (FindsFault s p)
+one_fault is_at s p (Ok a) (Ok b) h k n m = ap Ok (h.2 ∙ ap (shown_fault s.text) (some_fault h.0 k.0 (is_at s p (Err h.0) (Err k.0) h.1 k.1)) ∙ sym k.2)
+one_fault is_at s p (Err Other) (Err Other) h k n m = refl
+one_fault is_at s p (Ok a) (Err Other) h k n m = absurd (no_fault s p h.0 is_at h.1 k)
+one_fault is_at s p (Err Other) (Ok b) h k n m = absurd (no_fault s p k.0 is_at k.1 h)
+one_fault is_at s p (Ok a) (Err (Memory refused)) h k n m = absurd k
+one_fault is_at s p (Ok a) (Err Absent) h k n m = absurd k
+one_fault is_at s p (Ok a) (Err (Fault e)) h k n m = absurd k
+one_fault is_at s p (Err Other) (Err (Memory refused)) h k n m = absurd k
+one_fault is_at s p (Err Other) (Err Absent) h k n m = absurd k
+one_fault is_at s p (Err Other) (Err (Fault e)) h k n m = absurd k
+one_fault is_at s p (Err (Memory refused)) b h k n m = absurd h
+one_fault is_at s p (Err Absent) b h k n m = absurd h
+one_fault is_at s p (Err (Fault e)) b h k n m = absurd h

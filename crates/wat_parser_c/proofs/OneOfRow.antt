@@ -1,4 +1,4 @@
--- What a reader finds of a row is one thing, want of memory apart.
+-- What a reader finds of a row is one thing, apart from out of memory.
 use Rattle.std.proofs.Common.{◌≡◌, ◌⊎◌, ℕ, List, refl, sym, ◌∙◌, inl, inr}
 use Rattle.std.specs.Prelude.{Ok, Err}
 use Rattle.wat_lex.specs.declared.lexer.kinds.Token.{Token}

@@ -1,4 +1,4 @@
--- What is told of where a value stands is one thing.
+-- What is reported of a value's place is one thing.
 use Rattle.std.proofs.Common.{◌≡◌, ℕ, List, sym, ◌∙◌, arith, take, drop}
 use Rattle.std.specs.Prelude.{Ok, Err}
 use Rattle.wat_lex.specs.tokens.EverySetting.{NamesAreOne}

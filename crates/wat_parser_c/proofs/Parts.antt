@@ -7,7 +7,7 @@ use Rattle.wat_parser_c.specs.Readings.{Finds, IsFloat, ReadsFloat, FloatAt, par
 use Rattle.wat_parser_c.specs.declared.answers.Refusal.TheVariants.{Absent}
 
 pub part_found : (s : Setting) (p part : ℕ) (float : Float) (bytes : List ℕ) → FloatAt s p float → part_of part float ≡ Some bytes → Finds IsFloat (ReadsFloat part) s p (Ok bytes)
-part_found s p part float bytes h e = record { token = h.token; stands = h.stands; kind = (h.cut.0, h.cut.1); reads = (float, h.cut, e) }
+part_found s p part float bytes h e = record { token = h.token; is_at = h.is_at; kind = (h.cut.0, h.cut.1); reads = (float, h.cut, e) }
 
 pub part_missing : (s : Setting) (p part : ℕ) (float : Float) → FloatAt s p float → part_of part float ≡ None → Finds IsFloat (ReadsFloat part) s p (Err Absent)
-part_missing s p part float h e = record { token = h.token; stands = h.stands; kind = (h.cut.0, h.cut.1); reads = (float, h.cut, e) }
+part_missing s p part float h e = record { token = h.token; is_at = h.is_at; kind = (h.cut.0, h.cut.1); reads = (float, h.cut, e) }

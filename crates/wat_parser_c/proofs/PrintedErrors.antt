@@ -1,4 +1,4 @@
--- What is printed of an error: its message over the end of another, in front of the place.
+-- What is printed of an error: its message over the end of another, before the place.
 use Rattle.std.proofs.Common.{◌≡◌, ◌≤◌, ◌<◌, ◌+◌, ◌-◌, ℕ, List, [], ◌++◌, length, take, drop, refl, ap, sym, ◌∙◌, subst, arith, length-append, append_assoc, Bool, true, false}
 use Rattle.std.specs.Prelude.{codes, nat_lt, nat_le, if◌then◌else◌, Ok, Err}
 use Rattle.std.specs.Fmt.{decimal}
@@ -15,7 +15,7 @@ pub whole_laid : (all before : List ℕ) → length before ≡ length all → la
 whole_laid all before e =
     ap (λ x. x ++ drop (length all) before) (take_all (length before) all (omega (arith, e))) ∙ ap (λ x. all ++ x) (drop_all (length all) before (omega (arith, e))) ∙ append-nil all
 
--- the message stands over the end of another one, which was laid so that the place stands where it has to
+-- the message is laid over the end of another one, which was laid so that the place is where it has to
 pub message_over : (m out w post all other place : List ℕ) → 16 ≤ length m → length other ≡ 16 → all ≡ other ++ place → w ≡ all → length m ≤ length out + 16 → post ≡ []
     → m ++ drop (length m) (take (length m - 16) out ++ (w ++ post)) ≡ m ++ place
 message_over m out w post all other place long o e f room none =
@@ -40,35 +40,35 @@ one_print text offset message file (Err Other) b h k n m = absurd h
 one_print text offset message file (Err Absent) b h k n m = absurd h
 one_print text offset message file (Err (Fault e)) b h k n m = absurd h
 
--- ---- before and behind the name
+-- ---- before and after the name
 
-abbrev pub behind_far : Excerpt → List ℕ
-behind_far e = codes ":" ++ (decimal e.line ++ (codes ":" ++ decimal e.column))
+abbrev pub after_far : Excerpt → List ℕ
+after_far e = codes ":" ++ (decimal e.line ++ (codes ":" ++ decimal e.column))
 
-abbrev pub behind_near : Excerpt → List ℕ
-behind_near e =
+abbrev pub after_near : Excerpt → List ℕ
+after_near e =
     codes ":" ++ (decimal e.line ++ (codes ":" ++ (decimal e.column ++ (codes "\n      |" ++ (codes "\n " ++ (right_in 4 (decimal e.line) ++ (codes " | " ++ (e.snippet ++ (codes "\n      | " ++ right_in e.column (codes "^"))))))))))
 
-far_in : (name : List ℕ) (e : Excerpt) → nat_lt 500 e.column ≡ true → shown_in name e ≡ codes " at " ++ (name ++ behind_far e)
+far_in : (name : List ℕ) (e : Excerpt) → nat_lt 500 e.column ≡ true → shown_in name e ≡ codes " at " ++ (name ++ after_far e)
 far_in name e h =
     let place = name ++ codes ":" ++ decimal e.line ++ codes ":" ++ decimal e.column in
-    let same : place ≡ name ++ behind_far e = simp append_assoc in
+    let same : place ≡ name ++ after_far e = simp append_assoc in
     ap (λ b. if b then codes " at " ++ place else codes "\n     --> " ++ place ++ codes "\n      |" ++ codes "\n " ++ right_in 4 (decimal e.line) ++ codes " | " ++ e.snippet ++ codes "\n      | " ++ right_in e.column (codes "^")) h
     ∙ ap (λ x. codes " at " ++ x) same
 
-near_in : (name : List ℕ) (e : Excerpt) → nat_lt 500 e.column ≡ false → shown_in name e ≡ codes "\n     --> " ++ (name ++ behind_near e)
+near_in : (name : List ℕ) (e : Excerpt) → nat_lt 500 e.column ≡ false → shown_in name e ≡ codes "\n     --> " ++ (name ++ after_near e)
 near_in name e h =
     let place = name ++ codes ":" ++ decimal e.line ++ codes ":" ++ decimal e.column in
     let line = right_in 4 (decimal e.line) in
     let mark = right_in e.column (codes "^") in
-    let same : place ++ codes "\n      |" ++ codes "\n " ++ line ++ codes " | " ++ e.snippet ++ codes "\n      | " ++ mark ≡ name ++ behind_near e = simp append_assoc in
+    let same : place ++ codes "\n      |" ++ codes "\n " ++ line ++ codes " | " ++ e.snippet ++ codes "\n      | " ++ mark ≡ name ++ after_near e = simp append_assoc in
     ap (λ b. if b then codes " at " ++ place else codes "\n     --> " ++ place ++ codes "\n      |" ++ codes "\n " ++ line ++ codes " | " ++ e.snippet ++ codes "\n      | " ++ mark) h
     ∙ ap (λ x. codes "\n     --> " ++ x) same
 
 -- the bytes of a place by the first of them
 pub record Around (shown : List ℕ) (e : Excerpt) (near : Bool) : Type 0 where
   pub is : nat_lt 500 e.column ≡ (if near then false else true)
-  pub bytes : shown ≡ codes "empty identifier" ++ ((if near then codes "\n     --> " else codes " at ") ++ (codes "<anon>" ++ (if near then behind_near e else behind_far e)))
+  pub bytes : shown ≡ codes "empty identifier" ++ ((if near then codes "\n     --> " else codes " at ") ++ (codes "<anon>" ++ (if near then after_near e else after_far e)))
 
 -- ---- into a buffer
 
@@ -79,7 +79,7 @@ fits_put text offset message file old new n _ e f l =
     record {
       found = Ok all;
       reads = refl;
-      told = λ i. record { needed = e i; status = 0 };
+      known = λ i. record { needed = e i; status = 0 };
       left = (λ i. f i ++ drop (e i) old) ∙ put_there all old (subst (λ x. x ≤ length old) e l);
     }
 
@@ -91,7 +91,7 @@ short_put text offset message file old n e l =
     record {
       found = Ok all;
       reads = refl;
-      told = λ i. record { needed = e i; status = 0 };
+      known = λ i. record { needed = e i; status = 0 };
       left = sym (ap (λ b. if b then all ++ drop (length all) old else old) over);
     }
 

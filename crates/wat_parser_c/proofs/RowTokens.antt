@@ -18,10 +18,10 @@ use Rattle.wat_rows.specs.Counting.{IsRow, kind_beside, opens_at}
 use Rattle.wat_rows.specs.Rows.{kind_row, plain, sign_code, minus_code}
 use Rattle.wat_rows.specs.declared.counting.Row.{Row}
 use Rattle.wat_rows.specs.declared.rows.KindRow.{KindRow}
-use Rattle.wat_parser_c.specs.ByRow.{kind_of, kind_told, sign_told, token_of}
+use Rattle.wat_parser_c.specs.ByRow.{kind_of, kind_known, sign_known, token_of}
 use Rattle.wat_parser_c.specs.Readings.{IsNamed, IsInteger, IsFloat}
 
-sign_back : (s : Sign) → sign_told (sign_code (sign_token s)) ≡ s
+sign_back : (s : Sign) → sign_known (sign_code (sign_token s)) ≡ s
 sign_back sign.None = refl
 sign_back sign.Plus = refl
 sign_back sign.Minus = refl
@@ -58,44 +58,44 @@ kind_back text t (kind.Float k) = float_back k
 pub row_token : (text : List ℕ) (row : Row) (h : IsRow text row) → h.token ≡ token_of row
 row_token text row h =
     let t = h.token in
-    let told = h.told in
-    let offset : t.offset ≡ row.offset = sym (ap (λ r. r.offset) told) in
-    let len : t.len ≡ row.len = sym (ap (λ r. r.len) told) in
-    let same : t.kind ≡ kind_of row.kind = sym (kind_back text t t.kind) ∙ ap (λ r. kind_of r.kind) (sym told) in
+    let known = h.known in
+    let offset : t.offset ≡ row.offset = sym (ap (λ r. r.offset) known) in
+    let len : t.len ≡ row.len = sym (ap (λ r. r.len) known) in
+    let same : t.kind ≡ kind_of row.kind = sym (kind_back text t t.kind) ∙ ap (λ r. kind_of r.kind) (sym known) in
     λ i. record { offset = offset i; len = len i; kind = same i }
 
 -- and what the row says of it
 pub row_kind : (text : List ℕ) (row : Row) (h : IsRow text row) → row.kind ≡ kind_beside text h.token (kind_of row.kind)
 row_kind text row h =
-    let told = h.told in
+    let known = h.known in
     let same = row_token text row h in
-    ap (λ r. r.kind) told ∙ ap (λ k. kind_beside text h.token k) (ap (λ t. t.kind) same)
+    ap (λ r. r.kind) known ∙ ap (λ k. kind_beside text h.token k) (ap (λ t. t.kind) same)
 
 pub row_readable : TokensAreReadable → (text : List ℕ) (row : Row) (k : TokenKind) → IsRow text row → kind_of row.kind ≡ k → IsTokenOf text (record { offset = row.offset; len = row.len; kind = k })
 row_readable readable text row k h e =
-    let is = readable (record { text = text; flags = h.flags }) row.offset h.token h.boundary h.stands in
+    let is = readable (record { text = text; flags = h.flags }) row.offset h.token h.boundary h.is_at in
     let token : IsTokenOf text (token_of row) = subst (IsTokenOf text) (row_token text row h) is in
     subst (λ x. IsTokenOf text (record { offset = row.offset; len = row.len; kind = x })) e token
 
 -- ---- codes of kinds
 
 pub string_by_code : (k : KindRow) → k.code ≡ 6 → kind_of k ≡ kind.String
-string_by_code k e = ap (λ c. kind_told c k.sign k.has_underscores k.hex) e
+string_by_code k e = ap (λ c. kind_known c k.sign k.has_underscores k.hex) e
 
 pub id_by_code : (k : KindRow) → k.code ≡ 7 → kind_of k ≡ kind.Id
-id_by_code k e = ap (λ c. kind_told c k.sign k.has_underscores k.hex) e
+id_by_code k e = ap (λ c. kind_known c k.sign k.has_underscores k.hex) e
 
 pub annotation_by_code : (k : KindRow) → k.code ≡ 9 → kind_of k ≡ kind.Annotation
-annotation_by_code k e = ap (λ c. kind_told c k.sign k.has_underscores k.hex) e
+annotation_by_code k e = ap (λ c. kind_known c k.sign k.has_underscores k.hex) e
 
-pub integer_by_code : (k : KindRow) → k.code ≡ 11 → kind_of k ≡ kind.Integer (record { sign = sign_told k.sign; has_underscores = k.has_underscores; hex = k.hex })
-integer_by_code k e = ap (λ c. kind_told c k.sign k.has_underscores k.hex) e
+pub integer_by_code : (k : KindRow) → k.code ≡ 11 → kind_of k ≡ kind.Integer (record { sign = sign_known k.sign; has_underscores = k.has_underscores; hex = k.hex })
+integer_by_code k e = ap (λ c. kind_known c k.sign k.has_underscores k.hex) e
 
 -- the code of a kind that has one
 pub code_of_row : (text : List ℕ) (row : Row) (k : TokenKind) → IsRow text row → kind_of row.kind ≡ k → k ≢ kind.LParen → row.kind.code ≡ kind_number k
 code_of_row text row k h e n =
-    let told = row_kind text row h in
-    ap (λ r. r.code) (told ∙ ap (λ x. kind_beside text h.token x) e) ∙ beside k n
+    let known = row_kind text row h in
+    ap (λ r. r.code) (known ∙ ap (λ x. kind_beside text h.token x) e) ∙ beside k n
   where
     beside : (k : TokenKind) → k ≢ kind.LParen → (kind_beside text h.token k).code ≡ kind_number k
     beside kind.LineComment n = refl
@@ -143,5 +143,5 @@ not_float text row h out (f, e) = by f (code_of_row text row (kind.Float f) h e 
 
 pub row_ends : TokensEndAtBoundaries → (text : List ℕ) (row : Row) → IsUtf8 text → IsRow text row → row.offset + row.len ≤ length text
 row_ends ends text row u h =
-    let b = ends (record { text = text; flags = h.flags }) row.offset h.token u h.boundary h.stands in
+    let b = ends (record { text = text; flags = h.flags }) row.offset h.token u h.boundary h.is_at in
     (subst (λ t. IsCharBoundary text (t.offset + t.len)) (row_token text row h) b).0

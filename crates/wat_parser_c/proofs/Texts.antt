@@ -1,10 +1,10 @@
--- The bytes of a number's text, whether it was written anew or not.
+-- The bytes of a number's text, whether it was rewritten or not.
 use Rattle.std.proofs.Common.{◌≡◌, ℕ, List}
 use Rattle.std.specs.Prelude.{Bool, true, false}
 use Rattle.std.specs.Cow.{cow_str_bytes}
 use Rattle.std.specs.declared.borrow.CowStr.{CowStr}
 use Rattle.wat_lex.specs.values.NumberValues.{IsText}
 
-pub bytes_of_text : {Z : Type 0} (anew : Bool) (digits : List ℕ) (text : CowStr Z) → IsText anew digits text → cow_str_bytes text ≡ digits
+pub bytes_of_text : {Z : Type 0} (again : Bool) (digits : List ℕ) (text : CowStr Z) → IsText again digits text → cow_str_bytes text ≡ digits
 bytes_of_text true digits text h = h.0
 bytes_of_text false digits text h = h.0

@@ -1,4 +1,4 @@
--- Where the values of strings and names stand in the bytes of their words.
+-- Where the values of strings and names are in the bytes of their words.
 use Rattle.std.proofs.Common.{◌≡◌, ◌≢◌, ◌<◌, ◌+◌, ◌-◌, ◌⊎◌, ℕ, suc, List, [], ◌∷◌, ◌++◌, length, take, drop, get_or, refl, ap, sym, ◌∙◌, subst, arith, inl, inr, Bool, true, false, cond, length-append}
 use Rattle.std.specs.Prelude.{◌==◌, ◌&&◌, ◌||◌, nat_le, Option, Some, None, MatchOption}
 use Rattle.std.specs.Option.{option_map}
@@ -29,7 +29,7 @@ use Rattle.wat_parser_c.specs.Readings.{IsNamed}
 pub led : (b : List ℕ) (c : ℕ) (t : List ℕ) → IsUtf8 b → chars b ≡ c ∷ t → c < 128 → b ≡ c ∷ encodes t
 led b c t u e l = sym (encodes-chars b u) ∙ ap encodes e ∙ ap (λ x. x ++ encodes t) (encode_ascii c l)
 
--- what stands between two ends of a text
+-- what is between two ends of a text
 pub between : (b front v back : List ℕ) (n : ℕ) → b ≡ front ++ (v ++ back) → length v ≡ n → take n (drop (length front) b) ≡ v
 between b front v back n e l = ap (λ x. take n (drop (length front) x)) e ∙ ap (take n) (drop_at front (v ++ back) (length front) refl) ∙ take_at v back n l
 
@@ -203,7 +203,7 @@ name_bytes empty b k u named h some =
     let n = some_named empty (chars b) some in
     named_bytes b s.first s.rest n.0 u s.sign s.cut (subst (λ x. Name x n.0) s.cut n.1)
 
--- a name without escapes stands behind so many bytes of its word and before so many
+-- a name without escapes comes after so many bytes of its word and before so many
 pub record NameAt (b : List ℕ) (front back : ℕ) : Type 0 where
   pub value : List ℕ
   pub fits : front + (length value + back) ≡ length b
@@ -227,7 +227,7 @@ bare_at b c v u s e h n = record {
   plain = inl h;
 }
 
--- behind a list stands what was put behind it
+-- after a list is what was put after it
 last_of : (v : List ℕ) → get_or (v ++ 34 ∷ []) (length v) 0 ≡ 34
 last_of v = ap (λ n. get_or (v ++ 34 ∷ []) n 0) (let n : length v ≡ length v + 0 = omega arith in n) ∙ get_or-append-add v (34 ∷ []) 0 0
 
@@ -249,12 +249,12 @@ quoted_at b c s v u sign e f h n =
       plain = inr h;
     }
 
--- a character that does not stand in the word is not found there
+-- a character that is not in the word is not found there
 pub none_contains : (c : ℕ) (w : List ℕ) → HasNone c w → contains c w ≡ false
 none_contains c [] h = refl
 none_contains c (d ∷ w) h = ap (λ b. b || contains c w) h.0 ∙ none_contains c w h.1
 
--- by the byte behind the sign
+-- by the byte after the sign
 pub bare_or : (b : List ℕ) → IsUtf8 b → NameBytes b → (get_or b 1 0 == 34) ≡ false → NameAt b 1 0 × (contains 34 (chars b) ≡ false)
 bare_or b u (bare_name c v s e q h n) k = (bare_at b c v u s e h n, none_contains 34 (chars b) h)
 bare_or b u (quoted_name c s sign ce be f) k = absurd (both_ways (get_or b 1 0 == 34) k (ap (λ x. get_or x 1 0 == 34) be))

@@ -4,7 +4,7 @@ use Rattle.std.proofs.lemmas.List.{take_more_set, drop-set-lt, drop-drop, length
 use Rattle.wat_lex.specs.values.NumberValues.{joined}
 use Rattle.wat_parser_c.proofs.Joined.{joined_at, joined_over}
 
--- those of the first digits stand from a place on up to another, and the rest stays
+-- those of the first digits are from a place on up to another, and the rest stays
 pub record Written (old out : List ℕ) (from at : ℕ) (ds : List ℕ) (i : ℕ) : Type 0 where
   pub done : List ℕ
   pub all : joined ds ≡ done ++ joined (drop i ds)

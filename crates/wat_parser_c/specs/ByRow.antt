@@ -13,18 +13,18 @@ use Rattle.wat_rows.specs.declared.rows.KindRow.{KindRow}
 use Rattle.wat_parser_c.specs.declared.answers.Refusal.{Refusal}
 use Rattle.wat_parser_c.specs.declared.answers.Refusal.TheVariants.{Other}
 
-abbrev pub sign_told : ℕ → Sign
-sign_told code = if code == 1 then sign.Plus else if code == 2 then sign.Minus else sign.None
+abbrev pub sign_known : ℕ → Sign
+sign_known code = if code == 1 then sign.Plus else if code == 2 then sign.Minus else sign.None
 
-abbrev pub float_told : ℕ → Bool → Bool → Bool → FloatKind
-float_told code negative underscores hex =
+abbrev pub float_known : ℕ → Bool → Bool → Bool → FloatKind
+float_known code negative underscores hex =
     if code == 12 then Inf negative
     else if code == 13 then Nan negative
     else if code == 14 then NanVal negative underscores
     else Normal underscores hex
 
-abbrev pub kind_told : ℕ → ℕ → Bool → Bool → TokenKind
-kind_told code sign underscores hex =
+abbrev pub kind_known : ℕ → ℕ → Bool → Bool → TokenKind
+kind_known code sign underscores hex =
     if code == 1 then kind.LineComment
     else if code == 2 then kind.BlockComment
     else if code == 3 then kind.Whitespace
@@ -34,16 +34,16 @@ kind_told code sign underscores hex =
     else if code == 8 then kind.Keyword
     else if code == 9 then kind.Annotation
     else if code == 10 then kind.Reserved
-    else if code == 11 then kind.Integer (record { sign = sign_told sign; has_underscores = underscores; hex = hex })
-    else if code == 12 then kind.Float (float_told code (sign == 2) underscores hex)
-    else if code == 13 then kind.Float (float_told code (sign == 2) underscores hex)
-    else if code == 14 then kind.Float (float_told code (sign == 2) underscores hex)
-    else if code == 15 then kind.Float (float_told code (sign == 2) underscores hex)
+    else if code == 11 then kind.Integer (record { sign = sign_known sign; has_underscores = underscores; hex = hex })
+    else if code == 12 then kind.Float (float_known code (sign == 2) underscores hex)
+    else if code == 13 then kind.Float (float_known code (sign == 2) underscores hex)
+    else if code == 14 then kind.Float (float_known code (sign == 2) underscores hex)
+    else if code == 15 then kind.Float (float_known code (sign == 2) underscores hex)
     else kind.LParen
 
--- the kind of token that is told; both codes of a `(` tell one
+-- the kind of token that is reported; both codes of a `(` tell one
 abbrev pub kind_of : KindRow → TokenKind
-kind_of k = kind_told k.code k.sign k.has_underscores k.hex
+kind_of k = kind_known k.code k.sign k.has_underscores k.hex
 
 -- the token that a row tells
 abbrev pub token_of : Row → Token

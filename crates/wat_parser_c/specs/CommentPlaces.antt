@@ -15,37 +15,37 @@ use Rattle.wat_rows.specs.Rows.{fault_code}
 use Rattle.wat_parser_c.specs.Words.{no_word}
 use Rattle.wat_parser_c.specs.declared.words.Word.{Word}
 
--- what stands behind at most one white space token of a place
-pub data StandsPast (s : Setting) (p : ℕ) (answer : Result (Option Token) LexFault) : Type 0 where
-  here : AnswerAt s p answer → IfOk answer (λ found. IfSome found (λ t. is_space t.kind ≡ false)) → StandsPast s p answer
-  behind : (space : Token) → TokenAt s p space → is_space space.kind ≡ true → AnswerAt s (space.offset + space.len) answer → StandsPast s p answer
+-- what comes after at most one white space token of a place
+pub data IsPast (s : Setting) (p : ℕ) (answer : Result (Option Token) LexFault) : Type 0 where
+  here : AnswerAt s p answer → IfOk answer (λ found. IfSome found (λ t. is_space t.kind ≡ false)) → IsPast s p answer
+  after : (space : Token) → TokenAt s p space → is_space space.kind ≡ true → AnswerAt s (space.offset + space.len) answer → IsPast s p answer
 
-abbrev pub comment_told : Result (Option Token) LexFault → Word
-comment_told (Ok None) = no_word 3
-comment_told (Ok (Some t)) = if is_comment t.kind then record { start = t.offset; len = t.len; status = 0 } else no_word 3
-comment_told (Err f) = no_word (fault_code f.error)
+abbrev pub comment_known : Result (Option Token) LexFault → Word
+comment_known (Ok None) = no_word 3
+comment_known (Ok (Some t)) = if is_comment t.kind then record { start = t.offset; len = t.len; status = 0 } else no_word 3
+comment_known (Err f) = no_word (fault_code f.error)
 
--- the word is that of the comment there, or tells that none stands there, or the fault
+-- the word is that of the comment there, or tells that none is there, or the fault
 pub record TellsComment (s : Setting) (p : ℕ) (word : Word) : Type 0 where
   pub answer : Result (Option Token) LexFault
-  pub past : StandsPast s p answer
-  pub told : word ≡ comment_told answer
+  pub past : IsPast s p answer
+  pub known : word ≡ comment_known answer
 
 abbrev pub fault_kind_code : FaultKind → ℕ
 fault_kind_code (Lex e) = fault_code e
 fault_kind_code Unclosed = 3
 
 -- what a parser finds at a place, in the same words; it has no other fault there than the text's
-abbrev pub look_told : Look → Word
-look_told (Ok None) = no_word 3
-look_told (Ok (Some (t, q))) = record { start = t.offset; len = t.len; status = 0 }
-look_told (Err f) = no_word (fault_kind_code f.kind)
+abbrev pub look_known : Look → Word
+look_known (Ok None) = no_word 3
+look_known (Ok (Some (t, q))) = record { start = t.offset; len = t.len; status = 0 }
+look_known (Err f) = no_word (fault_kind_code f.kind)
 
 -- the word is what every parser of the text finds at the place
 unfoldable pub IsParsersComment : Setting → ℕ → Word → Type 0
-IsParsersComment s p word = (source : Source) (place : ℕ) → IsRead source → source.setting ≡ s → place ≤ length source.tokens → offset_at source.tokens place ≡ p → word ≡ look_told (comment_at source place)
+IsParsersComment s p word = (source : Source) (place : ℕ) → IsRead source → source.setting ≡ s → place ≤ length source.tokens → offset_at source.tokens place ≡ p → word ≡ look_known (comment_at source place)
 
--- what is told of a place is one thing, and the parser's
+-- what is reported of a place is one thing, and the parser's
 unfoldable pub CommentsAreOne : Type 0
 CommentsAreOne = (s : Setting) (p : ℕ) (word other : Word) → TellsComment s p word → TellsComment s p other → word ≡ other
 

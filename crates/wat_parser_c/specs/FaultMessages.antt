@@ -18,8 +18,8 @@ expected (Some wanted) (Some found) = Some (fault.Expected wanted found)
 expected wanted found = None
 
 -- the fault of these numbers: its own, what was found, and what was wanted; none where its number is no fault's, or a character is none
-abbrev pub fault_told : ℕ → ℕ → ℕ → Option LexError
-fault_told code found wanted =
+abbrev pub fault_known : ℕ → ℕ → ℕ → Option LexError
+fault_known code found wanted =
     if code == 101 then Some fault.DanglingBlockComment
     else if code == 102 then option_map fault.Unexpected (char_of found)
     else if code == 103 then option_map fault.InvalidStringElement (char_of found)
@@ -38,9 +38,9 @@ fault_told code found wanted =
     else None
 
 -- the message of a fault
-abbrev pub message_told : Option LexError → Result (List ℕ) Refusal
-message_told None = Err Other
-message_told (Some e) = Ok (message e)
+abbrev pub message_known : Option LexError → Result (List ℕ) Refusal
+message_known None = Err Other
+message_known (Some e) = Ok (message e)
 
 -- the characters that a fault speaks of are characters
 abbrev pub HasCharacters : LexError → Type 0
@@ -54,5 +54,5 @@ HasCharacters (fault.ConfusingUnicode c) = IsScalar c
 HasCharacters e = Unit {0}
 
 -- each fault is that of its numbers
-unfoldable pub FaultsAreTold : Type 0
-FaultsAreTold = (e : LexError) → HasCharacters e → fault_told (fault_code e) (fault_found e) (fault_wanted e) ≡ Some e
+unfoldable pub FaultsAreKnown : Type 0
+FaultsAreKnown = (e : LexError) → HasCharacters e → fault_known (fault_code e) (fault_found e) (fault_wanted e) ≡ Some e

@@ -1,5 +1,5 @@
 -- WebAssembly specification, text format, values: integers. An integer as so many bits: with a sign, which takes the words of all bits too, or
--- without one, where no `-` may stand.
+-- without one, where no `-` may be.
 use Rattle.std.specs.Prelude.{ℕ, suc, ◌+◌, ◌-◌, ◌*◌, ◌^◌, ◌==◌, Bool, true, false, if◌then◌else◌, ℤ, pos, negsuc, List, ◌∷◌, Option, Some, None, Result, Ok, Err}
 use Rattle.std.specs.Option.{option_map}
 use Rattle.wat_lex.specs.errors.Errors.{Report}
@@ -35,21 +35,21 @@ in_bits_of (Some half) signed number = in_bits half signed number
 abbrev pub no_number : ℕ → Number
 no_number status = record { value = 0; status = status }
 
-abbrev pub bits_told : Option ℕ → Number
-bits_told None = no_number 5
-bits_told (Some value) = record { value = value; status = 0 }
+abbrev pub bits_known : Option ℕ → Number
+bits_known None = no_number 5
+bits_known (Some value) = record { value = value; status = 0 }
 
--- what is told of a token that reads so as an integer
-abbrev pub number_told : ℕ → Bool → Option (Result (Bool × ℕ) Report) → Number
-number_told bits signed None = no_number 1
-number_told bits signed (Some (Err report)) = no_number 1
-number_told bits signed (Some (Ok number)) = bits_told (in_bits_of (half_of bits) signed number)
+-- what is reported of a token that reads so as an integer
+abbrev pub number_known : ℕ → Bool → Option (Result (Bool × ℕ) Report) → Number
+number_known bits signed None = no_number 1
+number_known bits signed (Some (Err report)) = no_number 1
+number_known bits signed (Some (Ok number)) = bits_known (in_bits_of (half_of bits) signed number)
 
--- how many bytes stand before an integer's digits: its sign, and `0x`
+-- how many bytes come before an integer's digits: its sign, and `0x`
 abbrev pub lead : KindRow → ℕ
 lead k = (if k.sign == 0 then 0 else 1) + (if k.hex then 2 else 0)
 
--- digits without underscores, behind a `-` or not
+-- digits without underscores, after a `-` or not
 abbrev pub signed_digits : Bool → List ℕ → List ℕ
 signed_digits true ds = minus ∷ joined ds
 signed_digits false ds = joined ds

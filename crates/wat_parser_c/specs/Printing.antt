@@ -22,7 +22,7 @@ shown_in name e =
 abbrev pub printed_in : List ℕ → ℕ → List ℕ → List ℕ → List ℕ
 printed_in text offset message file = message ++ shown_in (file_name file) (excerpt text offset)
 
--- what is printed; want of memory only for a message of less than 16 bytes, or where there is a name
+-- what is printed; out of memory only for a message of less than 16 bytes, or where there is a name
 abbrev pub Prints : List ℕ → ℕ → List ℕ → List ℕ → Result (List ℕ) Refusal → Type 0
 Prints text offset message file (Ok bytes) = bytes ≡ printed_in text offset message file
 Prints text offset message file (Err (Memory refused)) = 16 ≤ length message → file ≡ [] → ⊥

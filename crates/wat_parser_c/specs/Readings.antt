@@ -41,16 +41,16 @@ IsInteger k = (i : IntegerKind) × (k ≡ kind.Integer i)
 abbrev pub IsFloat : TokenKind → Type 0
 IsFloat k = (f : FloatKind) × (k ≡ kind.Float f)
 
--- no token of these kinds stands at the place: another one does, or the text ends there, or it has a fault
+-- no token of these kinds is at the place: another one does, or the text ends there, or it has a fault
 pub record OtherAt (Is : TokenKind → Type 0) (s : Setting) (p : ℕ) : Type 0 where
   pub answer : Result (Option Token) LexFault
-  pub stands : AnswerAt s p answer
+  pub is_at : AnswerAt s p answer
   pub other : IfOk answer (λ found. IfSome found (λ t. Is t.kind → ⊥))
 
--- a token of these kinds stands at the place, and this is what it reads as
+-- a token of these kinds is at the place, and this is what it reads as
 pub record ReadAt (Is : TokenKind → Type 0) (Reads : List ℕ → Token → Result (List ℕ) Refusal → Type 0) (s : Setting) (p : ℕ) (found : Result (List ℕ) Refusal) : Type 0 where
   pub token : Token
-  pub stands : TokenAt s p token
+  pub is_at : TokenAt s p token
   pub kind : Is token.kind
   pub reads : Reads s.text token found
 
@@ -59,20 +59,20 @@ abbrev pub Finds : (TokenKind → Type 0) → (List ℕ → Token → Result (Li
 Finds Is Reads s p (Err Other) = OtherAt Is s p
 Finds Is Reads s p found = ReadAt Is Reads s p found
 
--- a string's value; want of memory only where an escape stands in it
+-- a string's value; out of memory only where an escape is in it
 abbrev pub ReadsString : List ℕ → Token → Result (List ℕ) Refusal → Type 0
 ReadsString text t (Ok bytes) = StringWord lenient (word_of text t) bytes
 ReadsString text t (Err (Memory refused)) = HasNone backslash (word_of text t) → ⊥
 ReadsString text t (Err refusal) = ⊥
 
--- a name, which is UTF-8 and not empty, or what is wrong with it; want of memory only where an escape stands in it
+-- a name, which is UTF-8 and not empty, or what is wrong with it; out of memory only where an escape is in it
 abbrev pub ReadsName : List ℕ → Token → Result (List ℕ) Refusal → Type 0
 ReadsName text t (Ok bytes) = Name (word_of text t) bytes × IsUtf8 bytes × (bytes ≢ [])
 ReadsName text t (Err (Fault e)) = NameFault (empty_name t.kind) (word_of text t) e
 ReadsName text t (Err (Memory refused)) = HasNoEscape (word_of text t) → ⊥
 ReadsName text t (Err refusal) = ⊥
 
--- an integer's digits without `+`, underscores and `0x`, a `-` kept; want of memory only where it has underscores or `0x`
+-- an integer's digits without `+`, underscores and `0x`, a `-` kept; out of memory only where it has underscores or `0x`
 abbrev pub ReadsInteger : List ℕ → Token → Result (List ℕ) Refusal → Type 0
 ReadsInteger text t (Ok bytes) = (k : IntegerKind) × (t.kind ≡ kind.Integer k) × (bytes ≡ number_text (kind_hex k) (word_of text t))
 ReadsInteger text t (Err (Memory refused)) = (k : IntegerKind) × (t.kind ≡ kind.Integer k) × (is_integer_rewritten k ≡ true)
@@ -98,7 +98,7 @@ payload_part float = None
 abbrev pub IsFloatToken : List ℕ → Token → Float → Type 0
 IsFloatToken text t float = (k : FloatKind) × (t.kind ≡ kind.Float k) × IsFloatOf k (word_of text t) float
 
--- 0 for the digits before the dot, 1 for those behind it, 2 for those of the exponent, 3 for those of a payload
+-- 0 for the digits before the dot, 1 for those after it, 2 for those of the exponent, 3 for those of a payload
 abbrev pub part_of : ℕ → Float → Option (List ℕ)
 part_of part float =
     if part == 0 then integral_part float
@@ -107,27 +107,27 @@ part_of part float =
     else if part == 3 then payload_part float
     else None
 
--- a part of a floating-point number, or that it has none; want of memory only where reading the number writes a text anew
+-- a part of a floating-point number, or that it has none; out of memory only where reading the number rewrites a text
 abbrev pub ReadsFloat : ℕ → List ℕ → Token → Result (List ℕ) Refusal → Type 0
 ReadsFloat part text t (Ok bytes) = (float : Float) × IsFloatToken text t float × (part_of part float ≡ Some bytes)
 ReadsFloat part text t (Err Absent) = (float : Float) × IsFloatToken text t float × (part_of part float ≡ None)
 ReadsFloat part text t (Err (Memory refused)) = (k : FloatKind) × (t.kind ≡ kind.Float k) × (is_float_rewritten k ≡ true)
 ReadsFloat part text t (Err refusal) = ⊥
 
--- a floating-point number stands at the place, and is cut into these parts
+-- a floating-point number is at the place, and is cut into these parts
 pub record FloatAt (s : Setting) (p : ℕ) (float : Float) : Type 0 where
   pub token : Token
-  pub stands : TokenAt s p token
+  pub is_at : TokenAt s p token
   pub cut : IsFloatToken s.text token float
 
 -- what a fault of a text prints
 abbrev pub shown_fault : List ℕ → LexFault → List ℕ
 shown_fault text f = rendered text (message f.error) f.offset
 
--- a token or the text's end stands at the place
+-- a token or the text's end is at the place
 pub record NoFault (s : Setting) (p : ℕ) : Type 0 where
   pub found : Option Token
-  pub stands : AnswerAt s p (Ok found)
+  pub is_at : AnswerAt s p (Ok found)
 
 -- what the fault at the place prints, or that there is none
 abbrev pub FindsFault : Setting → ℕ → Result (List ℕ) Refusal → Type 0
@@ -135,7 +135,7 @@ FindsFault s p (Ok bytes) = (f : LexFault) × FaultAt s p f × (bytes ≡ shown_
 FindsFault s p (Err Other) = NoFault s p
 FindsFault s p (Err refusal) = ⊥
 
--- what is wrong with a name, as it is printed, or that nothing is; want of memory only where an escape stands in it
+-- what is wrong with a name, as it is printed, or that nothing is; out of memory only where an escape is in it
 abbrev pub ReadsNameFault : List ℕ → Token → Result (List ℕ) Refusal → Type 0
 ReadsNameFault text t (Ok bytes) = (e : LexError) × NameFault (empty_name t.kind) (word_of text t) e × (bytes ≡ shown_fault text (record { offset = t.offset; error = e }))
 ReadsNameFault text t (Err Absent) = (name : List ℕ) × Name (word_of text t) name × IsUtf8 name × (name ≢ [])

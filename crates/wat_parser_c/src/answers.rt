@@ -1,5 +1,5 @@
 //! What readers answer, and bytes into a caller's buffer. The fields of an answer are private, so that
-//! each is made here, and tells want of memory only of a refusal in hand.
+//! each is made here, and answers out of memory only with a refusal in hand.
 ghost use Rattle.std.specs.Prelude.{◌≡◌, length, Ok, Err};
 ghost use Rattle.wat_parser_c.specs.Answers.{answer_of, left_of, put, status_of};
 
@@ -13,8 +13,8 @@ use wat_rows::rows::fault_code;
 pub struct Answer {
     /// How many bytes it has. They were written where the buffer has room for all of them.
     needed: usize,
-    /// 0 where there was something, otherwise why not: 1 where no such token or fault stands there, 2
-    /// for want of memory, 3 where the number has no such part or the name no fault, or else
+    /// 0 where there was something, otherwise why not: 1 where no such token or fault is there, 2
+    /// for out of memory, 3 where the number has no such part or the name no fault, or else
     /// the number of what is wrong with the name.
     status: u32,
 }
@@ -31,7 +31,7 @@ impl Answer {
 /// Why there is nothing to give.
 #[derive(Clone, Copy, Debug, PartialEq)]
 pub enum Refusal {
-    /// No such token or fault stands there.
+    /// No such token or fault is there.
     Other,
     /// A request for memory was refused, by this refusal.
     Memory(AllocError),
@@ -66,7 +66,7 @@ impl Refusal {
 
 /// Copies the bytes to the buffer's front where they fit, and answers how many they are.
 pub fn give(bytes: &[u8], out: &mut [u8]) -> Answer
-    ensures told { result ≡ answer_of (Ok bytes.now) }
+    ensures known { result ≡ answer_of (Ok bytes.now) }
     ensures left { out.new ≡ left_of out.old (Ok bytes.now) }
 {
     let needed = bytes.len();

@@ -134,7 +134,7 @@ fn give_string(alloc: Global, text: &str, row: Row, out: &mut [u8]) -> Answer
 pub extern "C" fn wat_string_of(alloc: Global, text: &[u8], row: &Row, out: &mut [u8]) -> Answer
     requires utf8 { IsUtf8 text.now }
     requires short { length text.now < 2 ^ 32 }
-    requires told { IsRow text.now row.now }
+    requires known { IsRow text.now row.now }
     ensures found { Answers (FindsOf IsString ReadsString text.now row.now)
         out.old out.new result }
     ensures one { OneAnswer (FindsOf IsString ReadsString text.now row.now) out.old }
@@ -160,7 +160,7 @@ fn give_name(alloc: Global, text: &str, row: Row, out: &mut [u8]) -> Answer
 pub extern "C" fn wat_name_of(alloc: Global, text: &[u8], row: &Row, out: &mut [u8]) -> Answer
     requires utf8 { IsUtf8 text.now }
     requires short { length text.now < 2 ^ 32 }
-    requires told { IsRow text.now row.now }
+    requires known { IsRow text.now row.now }
     ensures found { Answers (FindsOf IsNamed ReadsName text.now row.now)
         out.old out.new result }
     ensures one { OneAnswer (FindsOf IsNamed ReadsName text.now row.now) out.old }
@@ -195,7 +195,7 @@ pub extern "C" fn wat_float_of(
 ) -> Answer
     requires utf8 { IsUtf8 text.now }
     requires short { length text.now < 2 ^ 32 }
-    requires told { IsRow text.now row.now }
+    requires known { IsRow text.now row.now }
     ensures found { Answers (FindsOf IsFloat (ReadsFloat part) text.now row.now)
         out.old out.new result }
     ensures one { OneAnswer (FindsOf IsFloat (ReadsFloat part) text.now row.now) out.old }

@@ -2,7 +2,7 @@
 ghost use Rattle.std.specs.Prelude.{◌≡◌, ◌<◌, ◌^◌, ◌+◌, length, IfOk, IfSome};
 ghost use Rattle.std.specs.Str.{IsCharBoundary, IsUtf8};
 ghost use Rattle.wat_parser_c.specs.CommentPlaces.{CommentsAreOne, IsParsersComment};
-ghost use Rattle.wat_parser_c.specs.CommentPlaces.{StandsPast, TellsComment, comment_told};
+ghost use Rattle.wat_parser_c.specs.CommentPlaces.{IsPast, TellsComment, comment_known};
 ghost use Rattle.wat_rows.specs.Rows.{setting};
 
 use crate::laws::comments_are_parsers;
@@ -11,11 +11,11 @@ use std::str;
 use wat_lex::lexer::{LexFault, Settings, Token, TokenKind};
 use wat_rows::rows::{fault_code, lexer_of};
 
-/// What stands behind at most one white space token.
+/// What comes after at most one white space token.
 fn past_space(text: &str, pos: usize, settings: Settings) -> Result<Option<Token>, LexFault>
     requires short { length text.now < 2 ^ 32 }
     requires boundary { IsCharBoundary text.now pos }
-    ensures past { StandsPast (record { text = text.now; flags = settings }) pos result }
+    ensures past { IsPast (record { text = text.now; flags = settings }) pos result }
     ensures short { IfOk result (λ found. IfSome found (λ t. t.offset + t.len < 2 ^ 32)) }
 {
     let lexer = lexer_of(text, settings);
@@ -28,10 +28,10 @@ fn past_space(text: &str, pos: usize, settings: Settings) -> Result<Option<Token
     }
 }
 
-/// What is told of the token that stands there.
-fn comment_told(found: Result<Option<Token>, LexFault>) -> Word
+/// What is reported of the token that is there.
+fn comment_known(found: Result<Option<Token>, LexFault>) -> Word
     requires { IfOk found (λ found. IfSome found (λ t. t.offset + t.len < 2 ^ 32)) }
-    ensures { result ≡ comment_told found }
+    ensures { result ≡ comment_known found }
 {
     match found {
         Ok(Some(token)) => match token.kind {
@@ -47,24 +47,24 @@ fn comment_told(found: Result<Option<Token>, LexFault>) -> Word
     }
 }
 
-/// Where the comment at a place stands, past white space.
+/// Where the comment at a place is, past white space.
 fn comment_at(text: &str, pos: usize, settings: Settings) -> Word
     requires short { length text.now < 2 ^ 32 }
     requires boundary { IsCharBoundary text.now pos }
-    ensures told { TellsComment (record { text = text.now; flags = settings }) pos result }
+    ensures known { TellsComment (record { text = text.now; flags = settings }) pos result }
     ensures parsers { IsParsersComment (record { text = text.now; flags = settings }) pos result }
 {
     comments_are_parsers();
-    comment_told(past_space(text, pos, settings))
+    comment_known(past_space(text, pos, settings))
 }
 
-/// Where the comment at a place of the text stands, past white space.
+/// Where the comment at a place of the text is, past white space.
 #[unsafe(no_mangle)]
 pub extern "C" fn wat_comment(text: &[u8], pos: usize, allow: bool, strict: bool) -> Word
     requires utf8 { IsUtf8 text.now }
     requires short { length text.now < 2 ^ 32 }
     requires boundary { IsCharBoundary text.now pos }
-    ensures told { TellsComment (setting text.now allow strict) pos result }
+    ensures known { TellsComment (setting text.now allow strict) pos result }
     ensures one { CommentsAreOne }
     ensures parsers { IsParsersComment (setting text.now allow strict) pos result }
 {

@@ -137,7 +137,7 @@ pub fn give_name_fault(
 /// is. It takes no memory.
 fn give_shown(text: &str, fault: LexFault, out: &mut [u8]) -> Answer
     requires { length text.now < 2 ^ 32 }
-    ensures told { result ≡ answer_of (Ok (shown_fault text.now fault)) }
+    ensures known { result ≡ answer_of (Ok (shown_fault text.now fault)) }
     ensures left { out.new ≡ left_of out.old (Ok (shown_fault text.now fault)) }
 {
     let rendered = Rendered::new(text, fault);

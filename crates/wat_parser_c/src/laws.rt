@@ -6,14 +6,14 @@ ghost use Rattle.wat_rows.specs.declared.counting.Row.{Row};
 ghost use Rattle.wat_parser_c.specs.Answers.{OneAnswer};
 ghost use Rattle.wat_parser_c.specs.ByRow.{FindsOf};
 ghost use Rattle.wat_parser_c.specs.CommentPlaces.{CommentsAreOne, CommentsAreParsers};
-ghost use Rattle.wat_parser_c.specs.FaultMessages.{FaultsAreTold};
+ghost use Rattle.wat_parser_c.specs.FaultMessages.{FaultsAreKnown};
 ghost use Rattle.wat_parser_c.specs.Printing.{Prints};
 ghost use Rattle.wat_parser_c.specs.Readings.{Finds, FindsFault, IsString, IsNamed, IsInteger, IsFloat};
 ghost use Rattle.wat_parser_c.specs.Readings.{ReadsString, ReadsName, ReadsInteger, ReadsFloat};
 ghost use Rattle.wat_parser_c.specs.Readings.{ReadsNameFault};
 ghost use Rattle.wat_parser_c.specs.Words.{OneWord};
 
-/// Each reader has one answer at each place, want of memory apart. It does nothing: its contract is
+/// Each reader has one answer at each place, apart from out of memory. It does nothing: its contract is
 /// the law.
 pub fn one_answer()
     ensures strings { (s : Setting) (p : ℕ) (old : List ℕ) →
@@ -50,7 +50,7 @@ pub fn one_answer_of_row()
     wat_lex::laws::floats();
 }
 
-/// What is told of where a value stands is one thing. It does nothing either.
+/// What is reported of a value's place is one thing. It does nothing either.
 pub fn one_word()
     ensures { (text : List ℕ) (t : Token) → OneWord text t }
 {
@@ -59,11 +59,11 @@ pub fn one_word()
 }
 
 /// Each fault is that of its numbers. It does nothing either.
-pub fn faults_are_told()
-    ensures { FaultsAreTold }
+pub fn faults_are_known()
+    ensures { FaultsAreKnown }
 {}
 
-/// The comment that is told of a place is one thing, and the one that a parser finds there. It does
+/// The comment that is reported of a place is one thing, and the one that a parser finds there. It does
 /// nothing either.
 pub fn comments_are_parsers()
     ensures one { CommentsAreOne }
@@ -72,7 +72,7 @@ pub fn comments_are_parsers()
     wat_lex::laws::one_answer();
 }
 
-/// What is printed of an error is one thing, want of memory apart. It does nothing either.
+/// What is printed of an error is one thing, apart from out of memory. It does nothing either.
 pub fn one_print()
     ensures { (text message file : List ℕ) (offset : ℕ) (old : List ℕ) →
         OneAnswer (Prints text offset message file) old }

@@ -1,5 +1,5 @@
 //! The lexer of the WebAssembly text format for programs in C and Rust, as a static library. What
-//! C owes, and what each function answers to C, stands in `include/wat.h`.
+//! C owes, and what each function answers to C, is in `include/wat.h`.
 #![tactic(auto)]
 
 ghost use Rattle.std.specs.Prelude.{◌≡◌, ◌≢◌, ◌≤◌, ◌<◌, ◌^◌, ◌↔◌, IsTrue, length, take, drop};
@@ -58,9 +58,9 @@ pub extern "C" fn wat_is_place(text: &[u8], pos: usize) -> bool
 #[repr(C)]
 #[derive(Clone, Copy, Debug, PartialEq)]
 pub struct Position {
-    /// How many line feeds stand before the place.
+    /// How many line feeds come before the place.
     pub line: usize,
-    /// How many bytes stand before it in its line.
+    /// How many bytes come before it in its line.
     pub column: usize,
 }
 
@@ -77,7 +77,7 @@ pub extern "C" fn wat_line_column(text: &[u8], offset: usize) -> Position
     Position { line, column }
 }
 
-/// What stands at a byte of the text: a token, the text's end, or a fault.
+/// What is at a byte of the text: a token, the text's end, or a fault.
 #[unsafe(no_mangle)]
 pub extern "C" fn wat_scan(text: &[u8], pos: usize, allow: bool, strict: bool) -> Found
     requires utf8 { IsUtf8 text.now }
@@ -106,7 +106,7 @@ pub extern "C" fn wat_token_at(text: &[u8], pos: usize, allow: bool, strict: boo
 }
 
 /// Fills rows with the tokens from a byte of the text on, up to its end or its first fault, or as
-/// many as there is room for. The rows behind them stay.
+/// many as there is room for. The rows after them stay.
 #[unsafe(no_mangle)]
 pub extern "C" fn wat_fill(
     text: &[u8],
@@ -200,7 +200,7 @@ pub extern "C" fn wat_integer(
 }
 
 /// A part of the floating-point number at a byte of the text: 0 for the digits before the dot, 1 for
-/// those behind it, 2 for those of the exponent, 3 for those of a payload.
+/// those after it, 2 for those of the exponent, 3 for those of a payload.
 #[unsafe(no_mangle)]
 pub extern "C" fn wat_float(
     alloc: Global,

@@ -12,8 +12,8 @@ ghost use Rattle.wat_rows.specs.Rows.{setting};
 use std::alloc::Global;
 use std::str;
 use wat_lex::lexer::Settings;
+use wat_rows::after::offset_after;
 use wat_rows::answers::Look;
-use wat_rows::behind::offset_behind;
 use wat_rows::counting::{Row, fill_counting};
 use wat_rows::laws::one_fill_counting;
 use wat_rows::links::link;
@@ -21,7 +21,7 @@ use wat_rows::looks::look_in_numbers;
 use wat_rows::rows::Filled;
 
 /// Fills rows with the tokens that count from a byte of the text on, without links, up to its end or
-/// its first fault, or as many as there is room for. The rows behind them stay.
+/// its first fault, or as many as there is room for. The rows after them stay.
 #[unsafe(no_mangle)]
 pub extern "C" fn wat_rows(
     text: &[u8],
@@ -82,10 +82,10 @@ pub extern "C" fn wat_shown(
 /// The place of a parser that has taken so many rows, with links or without: where the last of them
 /// ends, or 0.
 #[unsafe(no_mangle)]
-pub extern "C" fn wat_behind(rows: &[Row], place: usize) -> usize
+pub extern "C" fn wat_after(rows: &[Row], place: usize) -> usize
     requires { place ≤ length rows.now }
     ensures { (s : Source) → TellTokensOf s rows.now →
         result ≡ offset_at s.tokens (raw_place s.tokens place) }
 {
-    offset_behind(rows, place)
+    offset_after(rows, place)
 }

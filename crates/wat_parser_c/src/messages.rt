@@ -3,11 +3,11 @@ ghost use Rattle.std.specs.Prelude.{◌≡◌, ◌≢◌, ◌<◌, ◌^◌, leng
 ghost use Rattle.wat_lex.specs.errors.Messages.{message};
 ghost use Rattle.wat_lex.specs.errors.Rendering.{excerpt, shown_place};
 ghost use Rattle.wat_parser_c.specs.Answers.{answer_of, left_of};
-ghost use Rattle.wat_parser_c.specs.FaultMessages.{FaultsAreTold, char_of, expected, fault_told};
-ghost use Rattle.wat_parser_c.specs.FaultMessages.{message_told};
+ghost use Rattle.wat_parser_c.specs.FaultMessages.{FaultsAreKnown, char_of, expected, fault_known};
+ghost use Rattle.wat_parser_c.specs.FaultMessages.{message_known};
 
 use crate::answers::{Answer, Refusal};
-use crate::laws::faults_are_told;
+use crate::laws::faults_are_known;
 use wat_lex::error::Rendered;
 use wat_lex::lexer::{LexError, LexFault};
 
@@ -29,7 +29,7 @@ fn char_of(number: u32) -> Option<char>
 
 /// The fault of these numbers.
 fn fault_of(code: u32, found: u32, wanted: u32) -> Option<LexError>
-    ensures { result ≡ fault_told code found wanted }
+    ensures { result ≡ fault_known code found wanted }
 {
     match code {
         101 => Some(LexError::DanglingBlockComment),
@@ -51,7 +51,7 @@ fn fault_of(code: u32, found: u32, wanted: u32) -> Option<LexError>
     }
 }
 
-/// How many bytes an error prints behind its message, which are those behind any message.
+/// How many bytes an error prints after its message, which are those after any message.
 pub fn place_length(text: &str, offset: usize) -> usize
     requires { length text.now < 2 ^ 32 }
     ensures { result ≡ length (shown_place (excerpt text.now offset)) }
@@ -62,7 +62,7 @@ pub fn place_length(text: &str, offset: usize) -> usize
 
 /// A fault's message, to the front of a buffer where it fits.
 fn give_message(error: LexError, out: &mut [u8]) -> Answer
-    ensures told { result ≡ answer_of (Ok (message error)) }
+    ensures known { result ≡ answer_of (Ok (message error)) }
     ensures left { out.new ≡ left_of out.old (Ok (message error)) }
 {
     let rendered = Rendered::new("", LexFault { offset: 0, error });
@@ -77,11 +77,11 @@ fn give_message(error: LexError, out: &mut [u8]) -> Answer
 /// The message of the fault of these numbers. It takes no memory.
 #[unsafe(no_mangle)]
 pub extern "C" fn wat_message(fault: u32, found: u32, wanted: u32, out: &mut [u8]) -> Answer
-    ensures told { result ≡ answer_of (message_told (fault_told fault found wanted)) }
-    ensures left { out.new ≡ left_of out.old (message_told (fault_told fault found wanted)) }
-    ensures each { FaultsAreTold }
+    ensures known { result ≡ answer_of (message_known (fault_known fault found wanted)) }
+    ensures left { out.new ≡ left_of out.old (message_known (fault_known fault found wanted)) }
+    ensures each { FaultsAreKnown }
 {
-    faults_are_told();
+    faults_are_known();
     match fault_of(fault, found, wanted) {
         Some(error) => give_message(error, out),
         None => Refusal::Other.answer(),

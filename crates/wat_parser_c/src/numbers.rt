@@ -4,11 +4,11 @@ ghost use Rattle.std.specs.Prelude.{IfSome, take, drop, ◌++◌};
 ghost use Rattle.std.specs.Str.{IsUtf8};
 ghost use Rattle.wat_lex.specs.grammar.Numbers.{unsigned};
 ghost use Rattle.wat_lex.specs.tokens.ReadableTokens.{word_of};
-ghost use Rattle.wat_lex.specs.values.NumberValues.{behind_prefix, joined};
+ghost use Rattle.wat_lex.specs.values.NumberValues.{after_prefix, joined};
 ghost use Rattle.wat_lexer_parser.specs.parser.Takers.{as_integer};
 ghost use Rattle.wat_parser_c.specs.Answers.{Answers, OneAnswer, answer_of, left_of};
 ghost use Rattle.wat_parser_c.specs.ByRow.{FindsOf, kind_of, token_of};
-ghost use Rattle.wat_parser_c.specs.Numbers.{half_of, in_bits, lead, no_number, number_told};
+ghost use Rattle.wat_parser_c.specs.Numbers.{half_of, in_bits, lead, no_number, number_known};
 ghost use Rattle.wat_parser_c.specs.Numbers.{signed_digits};
 ghost use Rattle.wat_parser_c.specs.Readings.{IsInteger, ReadsInteger};
 ghost use Rattle.wat_rows.specs.Counting.{IsRow};
@@ -42,7 +42,7 @@ impl Number {
     }
 }
 
-/// How many bytes stand before an integer's digits: its sign, and `0x`.
+/// How many bytes come before an integer's digits: its sign, and `0x`.
 fn lead(kind: KindRow) -> usize
     ensures { result ≡ lead kind }
 {
@@ -51,12 +51,12 @@ fn lead(kind: KindRow) -> usize
     sign + prefix
 }
 
-/// The digits of an integer's row as they are written, behind its sign and its `0x`.
+/// The digits of an integer's row as they are written, after its sign and its `0x`.
 fn digits<'a>(text: &'a str, row: Row) -> &'a [u8]
-    requires told { IsRow text.now row }
+    requires known { IsRow text.now row }
     requires is { row.kind.code ≡ 11 }
     ensures digits { result.now
-        ≡ behind_prefix row.kind.hex (unsigned (word_of text.now (token_of row))) }
+        ≡ after_prefix row.kind.hex (unsigned (word_of text.now (token_of row))) }
     ensures read { ReadsInteger text.now (token_of row)
         (Ok (signed_digits (row.kind.sign == 2) result.now)) }
 {
@@ -107,7 +107,7 @@ fn in_bits(minus: bool, magnitude: u64, half: u64, is_signed: bool) -> Option<u6
 /// An integer's row in so many bits.
 fn integer_of(text: &str, row: Row, bits: u32, is_signed: bool) -> Number
     requires { IsRow text.now row }
-    ensures { result ≡ number_told bits is_signed
+    ensures { result ≡ number_known bits is_signed
         (as_integer text.now (token_of row) (kind_of row.kind)) }
 {
     if row.kind.code != INTEGER {
@@ -130,8 +130,8 @@ fn integer_of(text: &str, row: Row, bits: u32, is_signed: bool) -> Number
 pub extern "C" fn wat_integer_of(text: &[u8], row: &Row, bits: u32, is_signed: bool) -> Number
     requires utf8 { IsUtf8 text.now }
     requires short { length text.now < 2 ^ 32 }
-    requires told { IsRow text.now row.now }
-    ensures { result ≡ number_told bits is_signed
+    requires known { IsRow text.now row.now }
+    ensures { result ≡ number_known bits is_signed
         (as_integer text.now (token_of row.now) (kind_of row.now.kind)) }
 {
     let text = unsafe { str::from_utf8_unchecked(text) };
@@ -161,7 +161,7 @@ fn write_digits(digits: &[u8], out: &mut [u8], at: usize)
     }
 }
 
-/// Writes digits without underscores to the front, behind a `-` or not.
+/// Writes digits without underscores to the front, after a `-` or not.
 fn write_signed(digits: &[u8], minus: bool, out: &mut [u8])
     requires { length (signed_digits minus digits.now) ≤ length out.old }
     ensures { out.new ≡ signed_digits minus digits.now
@@ -174,9 +174,9 @@ fn write_signed(digits: &[u8], minus: bool, out: &mut [u8])
     write_digits(digits, out, 1);
 }
 
-/// Writes digits without underscores to the front where they fit, behind a `-` or not.
+/// Writes digits without underscores to the front where they fit, after a `-` or not.
 fn give_signed(digits: &[u8], minus: bool, out: &mut [u8]) -> Answer
-    ensures told { result ≡ answer_of (Ok (signed_digits minus digits.now)) }
+    ensures known { result ≡ answer_of (Ok (signed_digits minus digits.now)) }
     ensures left { out.new ≡ left_of out.old (Ok (signed_digits minus digits.now)) }
 {
     let needed = if minus {
@@ -207,7 +207,7 @@ fn give_digits(text: &str, row: Row, out: &mut [u8]) -> Answer
 pub extern "C" fn wat_digits_of(text: &[u8], row: &Row, out: &mut [u8]) -> Answer
     requires utf8 { IsUtf8 text.now }
     requires short { length text.now < 2 ^ 32 }
-    requires told { IsRow text.now row.now }
+    requires known { IsRow text.now row.now }
     ensures found { Answers (FindsOf IsInteger ReadsInteger text.now row.now)
         out.old out.new result }
     ensures one { OneAnswer (FindsOf IsInteger ReadsInteger text.now row.now) out.old }

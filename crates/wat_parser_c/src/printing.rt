@@ -51,7 +51,7 @@ fn give_long(text: &str, offset: usize, message: &[u8], out: &mut [u8]) -> Answe
     answer
 }
 
-/// What stands before and behind the name of the file, where the error of `rendered_at` is printed.
+/// What comes before and after the name of the file, where the error of `rendered_at` is printed.
 fn around_name(shown: &[u8]) -> (&[u8], &[u8])
     requires { (e : Excerpt) × (shown.now ≡ codes "empty identifier" ++ shown_place e) }
     ensures { (e : Excerpt) (name : List ℕ) →
@@ -101,12 +101,12 @@ fn printed(
         ≡ printed_in text.now offset message.now file.now) }
 {
     let shown = shown_at(alloc, text, offset)?;
-    let (before, behind) = around_name(&shown);
+    let (before, after) = around_name(&shown);
     let mut all = Vec::new(alloc);
     all.extend_from_slice(message)?;
     all.extend_from_slice(before)?;
     all.extend_from_slice(file_name(file))?;
-    all.extend_from_slice(behind)?;
+    all.extend_from_slice(after)?;
     Ok(all)
 }
 

@@ -1,4 +1,4 @@
-//! Where the values of strings and names stand in their text as it is.
+//! Where the values of strings and names are in their text as it is.
 ghost use Rattle.std.specs.Prelude.{◌≡◌, ◌≤◌, ◌<◌, ◌^◌, ◌+◌, ◌-◌, ◌==◌, length, true, false, slice_index};
 ghost use Rattle.std.specs.Str.{chars, IsUtf8};
 ghost use Rattle.wat_lex.specs.grammar.Classes.{backslash};
@@ -22,7 +22,7 @@ use wat_lex::lexer::{LexError, TokenKind};
 use wat_rows::counting::Row;
 use wat_rows::rows::fault_code;
 
-/// Where the value of a word stands, or why it does not stand there.
+/// Where the value of a word is, or why it is not there.
 #[repr(C)]
 #[derive(Clone, Copy, Debug, PartialEq)]
 pub struct Word {
@@ -30,8 +30,8 @@ pub struct Word {
     pub start: u32,
     /// How many bytes it has.
     pub len: u32,
-    /// 0 where it stands there, otherwise why not, and the others are 0: 1 where the token has no
-    /// value, 4 where an escape stands in it, or the number of what is wrong with the name.
+    /// 0 where it is there, otherwise why not, and the others are 0: 1 where the token has no
+    /// value, 4 where an escape is in it, or the number of what is wrong with the name.
     pub status: u32,
 }
 
@@ -47,7 +47,7 @@ impl Word {
     }
 }
 
-/// Whether escapes can stand in a word: each begins with a backslash.
+/// Whether escapes can be in a word: each begins with a backslash.
 fn has_backslash(word: &str) -> bool
     ensures none { result ≡ false → HasNone backslash (chars word.now) }
     ensures some { result ≡ true → HasNone backslash (chars word.now) → ⊥ }
@@ -57,7 +57,7 @@ fn has_backslash(word: &str) -> bool
 
 /// The text of a row's token.
 fn source<'a>(text: &'a str, row: Row, kind: TokenKind) -> &'a str
-    requires told { IsRow text.now row }
+    requires known { IsRow text.now row }
     requires is { kind_of row.kind ≡ kind }
     ensures text { result.now ≡ token_text text.now (token_of row) }
     ensures word { Spells kind (chars result.now) lenient }
@@ -68,10 +68,10 @@ fn source<'a>(text: &'a str, row: Row, kind: TokenKind) -> &'a str
     token_of(row, kind).src(text)
 }
 
-/// Where the value of a string's row stands.
+/// Where the value of a string's row is.
 fn string_word(text: &str, row: Row) -> Word
     requires short { length text.now < 2 ^ 32 }
-    requires told { IsRow text.now row }
+    requires known { IsRow text.now row }
     requires is { kind_of row.kind ≡ token_kind.String }
     ensures { TellsWord text.now (token_of row) result }
 {
@@ -104,18 +104,18 @@ fn empty_name(kind: TokenKind) -> LexError
     }
 }
 
-/// What is told of a name that stands behind so many bytes of its word and before so many.
-fn name_within(row: Row, kind: TokenKind, before: u32, behind: u32) -> Word
-    requires fits { before + behind ≤ row.len }
+/// What is reported of a name that comes after so many bytes of its word and before so many.
+fn name_within(row: Row, kind: TokenKind, before: u32, after: u32) -> Word
+    requires fits { before + after ≤ row.len }
     requires ends { row.offset + row.len < 2 ^ 32 }
-    ensures empty { row.len ≡ before + behind → result ≡ no_word (fault_code (empty_name kind)) }
-    ensures some { before + behind < row.len → result ≡ record {
+    ensures empty { row.len ≡ before + after → result ≡ no_word (fault_code (empty_name kind)) }
+    ensures some { before + after < row.len → result ≡ record {
       start = row.offset + before;
-      len = row.len - before - behind;
+      len = row.len - before - after;
       status = 0;
     } }
 {
-    let len = row.len - before - behind;
+    let len = row.len - before - after;
     if len == 0 {
         return Word::refused(fault_code(empty_name(kind)));
     }
@@ -126,10 +126,10 @@ fn name_within(row: Row, kind: TokenKind, before: u32, behind: u32) -> Word
     }
 }
 
-/// Where the name of a name's row stands.
+/// Where the name of a name's row is.
 fn name_word(text: &str, row: Row, kind: TokenKind) -> Word
     requires short { length text.now < 2 ^ 32 }
-    requires told { IsRow text.now row }
+    requires known { IsRow text.now row }
     requires is { kind_of row.kind ≡ kind }
     requires named { IsNamed kind }
     ensures { TellsWord text.now (token_of row) result }
@@ -145,10 +145,10 @@ fn name_word(text: &str, row: Row, kind: TokenKind) -> Word
     name_within(row, kind, 2, 1)
 }
 
-/// Where the value of a row's token stands.
+/// Where the value of a row's token is.
 fn word_of(text: &str, row: Row) -> Word
     requires short { length text.now < 2 ^ 32 }
-    requires told { IsRow text.now row }
+    requires known { IsRow text.now row }
     ensures { TellsWord text.now (token_of row) result }
 {
     if row.kind.code == TokenKind::String.number() {
@@ -160,14 +160,14 @@ fn word_of(text: &str, row: Row) -> Word
     }
 }
 
-/// Where the value of a row's token stands in the text: of a string the bytes between its quotes, of
+/// Where the value of a row's token is in the text: of a string the bytes between its quotes, of
 /// an identifier or annotation its name.
 #[unsafe(no_mangle)]
 pub extern "C" fn wat_word(text: &[u8], row: &Row) -> Word
     requires utf8 { IsUtf8 text.now }
     requires short { length text.now < 2 ^ 32 }
-    requires told { IsRow text.now row.now }
-    ensures told { TellsWord text.now (token_of row.now) result }
+    requires known { IsRow text.now row.now }
+    ensures known { TellsWord text.now (token_of row.now) result }
     ensures one { OneWord text.now (token_of row.now) }
 {
     one_word();

@@ -30,8 +30,8 @@ fn all_while(run: &mut Run<'_>, row: Row<'_>, parser: &mut Parser<'_>) -> Ending
     ended(run, row, parser, &result)
 }
 
-fn all_behind(run: &mut Run<'_>, row: Row<'_>, parser: &mut Parser<'_>) -> Ending {
-    let result = parser.all_behind::<u32, Parens<u32>>();
+fn all_after(run: &mut Run<'_>, row: Row<'_>, parser: &mut Parser<'_>) -> Ending {
+    let result = parser.all_after::<u32, Parens<u32>>();
     ended(run, row, parser, &result)
 }
 
@@ -41,7 +41,7 @@ pub fn ending(run: &mut Run<'_>, row: Row<'_>, parser: &mut Parser<'_>) -> Endin
     match row.of {
         "of" => all(run, row, parser),
         "while" => all_while(run, row, parser),
-        "behind" => all_behind(run, row, parser),
+        "behind" => all_after(run, row, parser),
         _ => Ending::Wrong,
     }
 }

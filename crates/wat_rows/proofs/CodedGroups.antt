@@ -101,17 +101,17 @@ module _ (x : List ℕ) where
   -- the first of these
   pub record Begun (ts : List Token) (c : ℕ) (b : List ℕ) : Type 0 where
     pub first : Token
-    pub behind : List Token
-    pub both : ts ≡ first ∷ behind
+    pub after : List Token
+    pub both : ts ≡ first ∷ after
     pub first_is : code_of x first ≡ c
-    pub behind_is : codes x behind ≡ b
+    pub after_is : codes x after ≡ b
 
   begin : (c : ℕ) (b : List ℕ) (ts : List Token) → codes x ts ≡ c ∷ b → Begun ts c b
   begin c b [] e = cc
   begin c b (t ∷ ts) e =
       let h : code_of x t ≡ c = cc in
       let k : codes x ts ≡ b = cc in
-      record { first = t; behind = ts; both = refl; first_is = h; behind_is = k }
+      record { first = t; after = ts; both = refl; first_is = h; after_is = k }
 
   tokens_balanced : (s : List ℕ) → Balanced s → (ts : List Token) → codes x ts ≡ s → BalancedTokens ts
   tokens_balanced s nothing [] e = no_tokens
@@ -119,15 +119,15 @@ module _ (x : List ℕ) where
   tokens_balanced s (plain {c = c} {b = b} o k g) ts e =
       let p = begin c b ts e in
       subst BalancedTokens (sym p.both) (plain_token (code_plain p.first (ap opens p.first_is ∙ o) (ap closes p.first_is
-      ∙ k)) (tokens_balanced b g p.behind p.behind_is))
+      ∙ k)) (tokens_balanced b g p.after p.after_is))
   tokens_balanced s (group o c {a = a} {b = b} eo ga ec gb f) ts e =
       let p = begin o (a ++ (c ∷ b)) ts (e ∙ f) in
-      let q = part a (c ∷ b) p.behind p.behind_is in
+      let q = part a (c ∷ b) p.after p.after_is in
       let r = begin c b q.back q.back_is in
-      let cut : ts ≡ (p.first ∷ q.front) ++ (r.first ∷ r.behind) = p.both ∙ ap (λ y. p.first ∷ y) (q.both ∙ ap (λ y. q.front ++ y) r.both) in
+      let cut : ts ≡ (p.first ∷ q.front) ++ (r.first ∷ r.after) = p.both ∙ ap (λ y. p.first ∷ y) (q.both ∙ ap (λ y. q.front ++ y) r.both) in
       token_group p.first r.first (code_open p.first (ap opens p.first_is
       ∙ eo)) (tokens_balanced a ga q.front q.front_is) (code_close r.first (ap closes r.first_is
-      ∙ ec)) (tokens_balanced b gb r.behind r.behind_is) cut
+      ∙ ec)) (tokens_balanced b gb r.after r.after_is) cut
 
   -- a group ends in the tokens where it ends in their codes
   pub codes_closed : (ts r : List Token) → (g : Group ts r) → ClosedWithin (codes x ts) (length g.within + 1)
@@ -141,19 +141,19 @@ module _ (x : List ℕ) where
     count = omega (arith, length-map g.within (code_of x));
   }
 
-  behind_front : (front : List Token) (t : Token) (behind : List Token) → drop (length front + 1) (front ++ (t ∷ behind)) ≡ behind
-  behind_front [] t behind = refl
-  behind_front (u ∷ front) t behind = let e : length (u ∷ front) + 1 ≡ suc (length front + 1) = omega arith in ap (λ n. drop n ((u ∷ front) ++
-      (t ∷ behind))) e ∙ behind_front front t behind
+  after_front : (front : List Token) (t : Token) (after : List Token) → drop (length front + 1) (front ++ (t ∷ after)) ≡ after
+  after_front [] t after = refl
+  after_front (u ∷ front) t after = let e : length (u ∷ front) + 1 ≡ suc (length front + 1) = omega arith in ap (λ n. drop n ((u ∷ front) ++
+      (t ∷ after))) e ∙ after_front front t after
 
   pub tokens_closed : (ts : List Token) (n : ℕ) → ClosedWithin (codes x ts) n → Group ts (drop n ts)
   tokens_closed ts n h =
       let q = part h.within (h.last ∷ h.rest) ts h.cut in
       let r = begin h.last h.rest q.back q.back_is in
-      let cut : ts ≡ q.front ++ (r.first ∷ r.behind) = q.both ∙ ap (λ y. q.front ++ y) r.both in
+      let cut : ts ≡ q.front ++ (r.first ∷ r.after) = q.both ∙ ap (λ y. q.front ++ y) r.both in
       let long : n ≡ length q.front + 1 = omega (arith, h.count, ap length q.front_is, length-map q.front (code_of x)) in
-      let rest : r.behind ≡ drop n ts = sym (ap (drop n) cut ∙ ap (λ k. drop k (q.front ++ (r.first ∷ r.behind))) long
-      ∙ behind_front q.front r.first r.behind) in
+      let rest : r.after ≡ drop n ts = sym (ap (drop n) cut ∙ ap (λ k. drop k (q.front ++ (r.first ∷ r.after))) long
+      ∙ after_front q.front r.first r.after) in
       record {
         within = q.front;
         last = r.first;

@@ -32,7 +32,7 @@ marked_open x t h = elim (cases_Bool (is_marked x t)) [
   | inr off ↦ let f : 4 ≡ 16 = sym (ap open_code off) ∙ h in absurd (omega (arith, f))
 ]
 
--- of a `(` with `@` behind it, and of no other
+-- of a `(` with `@` after it, and of no other
 pub marked_kind : (x : List ℕ) (t : Token) (k : TokenKind) → code_by x t k ≡ 16 → (k ≡ LParen) × (is_marked x t ≡ true)
 marked_kind x t LParen h = (refl, marked_open x t h)
 marked_kind x t LineComment h = absurd (omega (arith, h))

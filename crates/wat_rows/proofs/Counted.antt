@@ -14,7 +14,7 @@ use Rattle.wat_rows.specs.Counting.{row_of, EndsCounting, StopsCounting, FillsCo
 use Rattle.wat_rows.specs.declared.counting.Row.{Row}
 use Rattle.wat_rows.proofs.Filling.{tiled_more}
 
--- the first rows are those of the tokens that count up to the place, which is behind the last row where there is room for no more, and
+-- the first rows are those of the tokens that count up to the place, which is after the last row where there is room for no more, and
 -- the other rows stay
 pub record Counted (s : Setting) (from at : ℕ) (old out : List Row) (count : ℕ) : Type 0 where
   pub tokens : List Token
@@ -39,7 +39,7 @@ ends_counting [] t e = e
 ends_counting (u ∷ []) t e = e
 ends_counting (u ∷ v ∷ ts) t e = ends_counting (v ∷ ts) t e
 
--- what a row more leaves behind the rows
+-- what a row more leaves after the rows
 rest_more : (old out : List Row) (count : ℕ) (row : Row) → count < length out → drop count out ≡ drop count old
     → drop (count + 1) (slice_set out count row) ≡ drop (count + 1) old
 rest_more old out count row b h =

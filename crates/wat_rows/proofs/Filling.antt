@@ -23,7 +23,7 @@ pub tiled_more : (s : Setting) (from to : ℕ) (ts : List Token) (t : Token) →
 tiled_more s from to [] t h k = (subst (λ p. TokenAt s p t) (sym h) k, refl)
 tiled_more s from to (u ∷ ts) t h k = (h.0, tiled_more s (u.offset + u.len) to ts t h.1 k)
 
--- what a row more leaves behind the rows
+-- what a row more leaves after the rows
 rest_more : (old out : List TokenRow) (count : ℕ) (row : TokenRow) → count < length out → drop count out ≡ drop count old
     → drop (count + 1) (slice_set out count row) ≡ drop (count + 1) old
 rest_more old out count row b h =

@@ -14,4 +14,4 @@ mod OneFill
 mod Pieces
 mod RawPlaces
 mod Registering
-mod Told
+mod Known

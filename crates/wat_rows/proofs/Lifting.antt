@@ -1,14 +1,14 @@
--- What is shown of the tokens that count, with the place behind it among the raw tokens.
+-- What is shown of the tokens that count, with the place after it among the raw tokens.
 use Rattle.std.proofs.Common.{◌≡◌, ◌≤◌, ◌+◌, ◌-◌, ℕ, suc, List, ◌∷◌, false, refl, sym, ap, ◌∙◌, subst, arith, length, drop, Some, None, Ok, Err}
 use Rattle.std.specs.Prelude.{Option}
 use Rattle.std.specs.Str.{IsUtf8}
 use Rattle.wat_lex.specs.declared.lexer.faults.LexFault.{LexFault}
 use Rattle.wat_lex.specs.declared.lexer.kinds.Token.{Token}
 use Rattle.wat_lexer_parser.specs.groups.Sorts.{is_blank}
-use Rattle.wat_lexer_parser.specs.lemmas.Behind.{behind_in, behind_place, same_token}
+use Rattle.wat_lexer_parser.specs.lemmas.After.{after_in, after_place, same_token}
 use Rattle.wat_lexer_parser.specs.names.RegisteredNames.{Names}
 use Rattle.wat_lexer_parser.specs.places.Source.{Source, IsRead}
-use Rattle.wat_lexer_parser.specs.laws.Counting.{CountingShowsTheSame, counting, counting_behind}
+use Rattle.wat_lexer_parser.specs.laws.Counting.{CountingShowsTheSame, counting, counting_after}
 use Rattle.wat_lexer_parser.specs.shown.Shown.{Finding, Shown, ended, left_open, none_left, blank, none_follows, no_annotation, misnamed, registered, skipped, unclosed, unmarked, other}
 use Rattle.wat_lexer_parser.specs.shown.Showing.{OneThingShown, SomethingShown, Look, placed, shown}
 use Rattle.wat_lexer_parser.specs.inside.ShownIn.{Showing, shown_in}
@@ -19,7 +19,7 @@ use Rattle.wat_rows.proofs.RawPlaces.{drop_shorter, drops, place_of}
 abbrev pub look_in : Source → Names → ℕ → Finding
 look_in s n number = shown_in s.setting.text s.ending n Showing (drop number (counting s.tokens))
 
--- with the place behind it among the raw tokens
+-- with the place after it among the raw tokens
 abbrev pub lifted : List Token → Finding → Look
 lifted ts (Ok None) = Ok None
 lifted ts (Ok (Some (t, r))) = Ok (Some (t, raw_place ts (length (counting ts) - length r)))
@@ -57,23 +57,23 @@ module _ (some : SomethingShown) (one : OneThingShown) (same : CountingShowsTheS
   raw_shows : (p : ℕ) → Shown s.setting.text s.ending n (drop (raw_place s.tokens p) s.tokens) (raw_look p)
   raw_shows p = some s n (raw_place s.tokens p) utf8 read
 
-  in_counting : (p : ℕ) → Shown s.setting.text s.ending n (drop p (counting s.tokens)) (counting_behind (raw_look p))
+  in_counting : (p : ℕ) → Shown s.setting.text s.ending n (drop p (counting s.tokens)) (counting_after (raw_look p))
   in_counting p =
-      subst (λ r. Shown s.setting.text s.ending n r (counting_behind (raw_look p))) (drops s.tokens p) (same s n (raw_place s.tokens p)
+      subst (λ r. Shown s.setting.text s.ending n r (counting_after (raw_look p))) (drops s.tokens p) (same s n (raw_place s.tokens p)
       (raw_look p) utf8 read (raw_shows p))
 
-  of_counting : (p : ℕ) → counting_behind (raw_look p) ≡ look_in s n p
-  of_counting p = one s.setting.text s.ending n (drop p (counting s.tokens)) (counting_behind (raw_look p)) (in_counting p)
+  of_counting : (p : ℕ) → counting_after (raw_look p) ≡ look_in s n p
+  of_counting p = one s.setting.text s.ending n (drop p (counting s.tokens)) (counting_after (raw_look p)) (in_counting p)
 
   pub shows : (p : ℕ) → Shown s.setting.text s.ending n (drop p (counting s.tokens)) (look_in s n p)
   shows p = subst (Shown s.setting.text s.ending n (drop p (counting s.tokens))) (of_counting p) (in_counting p)
 
-  lift : (p : ℕ) (a : Finding) → raw_look p ≡ a → placed s.tokens a ≡ lifted s.tokens (counting_behind a)
+  lift : (p : ℕ) (a : Finding) → raw_look p ≡ a → placed s.tokens a ≡ lifted s.tokens (counting_after a)
   lift p (Ok None) e = refl
   lift p (Err f) e = refl
   lift p (Ok (Some (t, r))) e =
       let from = raw_place s.tokens p in
-      let b = behind_place t s.tokens from r (behind_in s.setting.text s.ending n Showing (drop from s.tokens) t r e) in
+      let b = after_place t s.tokens from r (after_in s.setting.text s.ending n Showing (drop from s.tokens) t r e) in
       let to = length s.tokens - length r in
       let last = to - 1 in
       let next : suc last ≡ to = omega (arith, b.forward) in

@@ -1,4 +1,4 @@
--- The link of a row, by that of the row behind it.
+-- The link of a row, by that of the row after it.
 use Rattle.std.proofs.Common.{◌≡◌, ◌≢◌, ◌⊎◌, ◌≤◌, ◌<◌, ◌+◌, ◌-◌, ◌++◌, ℕ, zero, suc, List, [], ◌∷◌, true, false, length, drop, refl, arith, ap, sym}
 use Rattle.std.proofs.Common.{◌∙◌, subst, inl, inr, length-append, length-drop, drop-drop, Some, None}
 use Rattle.std.specs.Prelude.{map, slice_get, slice_set}
@@ -10,7 +10,7 @@ use Rattle.wat_rows.proofs.Fronts.{front, none_past}
 use Rattle.wat_rows.proofs.Closing.{Closed, Closed.close, Closed.beyond, Closed.nested, Cut, at_nil, at_plain, at_open, closed_unique, closed_from}
 use Rattle.wat_rows.proofs.Closing.{cut_from}
 
--- what `IsLink` says, by the rest behind the group
+-- what `IsLink` says, by the rest after the group
 abbrev pub Link : List ℕ → ℕ → ℕ → Type 0
 Link codes i zero = (r : List ℕ) → Closed (drop (i + 1) codes) r → ⊥
 Link codes i (suc j) = (i + 1 < suc j) × (suc j ≤ length codes) × Closed (drop (i + 1) codes) (drop (suc j) codes)
@@ -142,23 +142,23 @@ module _ (rows : List Row) (i : ℕ) (linked : LinkedFrom (i + 1) rows) where
     within : i + 1 < length (codes_of rows)
     within = omega (arith, codes_length rows, slice_get_within rows (i + 1) next e)
 
-    behind : IsLink (codes_of rows) (i + 1) next.link
-    behind = linked (i + 1) next (omega arith) e
+    after : IsLink (codes_of rows) (i + 1) next.link
+    after = linked (i + 1) next (omega arith) e
 
     pub linked_close : closes next.kind.code ≡ true → IsLink (codes_of rows) i (i + 2)
     linked_close f = link_close (codes_of rows) i next.kind.code code within f
 
     pub linked_plain : closes next.kind.code ≡ false → opens next.kind.code ≡ false → IsLink (codes_of rows) i next.link
-    linked_plain f o = link_plain (codes_of rows) i next.kind.code code within next.link o f behind
+    linked_plain f o = link_plain (codes_of rows) i next.kind.code code within next.link o f after
 
     pub linked_unclosed : opens next.kind.code ≡ true → next.link ≡ 0 → IsLink (codes_of rows) i 0
-    linked_unclosed o z = link_unclosed (codes_of rows) i next.kind.code code within o (subst (IsLink (codes_of rows) (i + 1)) z behind)
+    linked_unclosed o z = link_unclosed (codes_of rows) i next.kind.code code within o (subst (IsLink (codes_of rows) (i + 1)) z after)
 
     pub closed_inside : next.link ≢ 0 → next.link ≤ length rows
     closed_inside n = (elim next.link as (λ l. IsLink (codes_of rows) (i + 1) l → l ≢ 0 → l ≤ length rows) [
       | zero ↦ λ h m. absurd (m refl)
       | suc j ↦ λ h m. omega (arith, codes_length rows, (link_to (codes_of rows) (i + 1) (suc j) h).1)
-    ]) behind n
+    ]) after n
 
     pub linked_open : (last : Row) → opens next.kind.code ≡ true → next.link ≢ 0 → slice_get rows (next.link - 1) ≡ Some last
         → IsLink (codes_of rows) i last.link
@@ -170,7 +170,7 @@ module _ (rows : List Row) (i : ℕ) (linked : LinkedFrom (i + 1) rows) where
               let l : i + 1 + 1 < suc j = (link_to (codes_of rows) (i + 1) (suc j) h).0 in
               link_open (codes_of rows) i next.kind.code code within j last.link o h (linked j last (omega (arith, l)) (subst
               (λ p. slice_get rows p ≡ Some last) e k))
-        ]) behind n f
+        ]) after n f
 
 get_of_set : (rows : List Row) (i k : ℕ) (y row : Row) → slice_get (slice_set rows i y) k ≡ Some row
     → ((k ≡ i) × (y ≡ row)) ⊎ ((k ≢ i) × (slice_get rows k ≡ Some row))

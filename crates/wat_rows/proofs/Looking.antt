@@ -20,7 +20,7 @@ use Rattle.wat_lexer_parser.specs.laws.Counting.{CountingShowsTheSame, PlainToke
 use Rattle.wat_lexer_parser.specs.shown.Shown.{Finding, HasName, IsMarked, IsMisnamed, Shown, ended, left_open, none_left, Shown.none_follows as ends_there, Shown.no_annotation as takes_other, Shown.misnamed as refuses, Shown.registered as takes, Shown.skipped as skips, Shown.unclosed as leaves_open}
 use Rattle.wat_lexer_parser.specs.shown.Showing.{OneThingShown, SomethingShown}
 use Rattle.wat_rows.specs.Links.{ClosedWithin, IsLink, codes_of}
-use Rattle.wat_rows.specs.Looks.{Looks, Looks.token, Looks.end, Looks.fault, Looks.unclosed, Looks.misnamed, Looks.memory, shown_behind}
+use Rattle.wat_rows.specs.Looks.{Looks, Looks.token, Looks.end, Looks.fault, Looks.unclosed, Looks.misnamed, Looks.memory, shown_after}
 use Rattle.wat_rows.specs.Places.{AreRowsOf, ending_code, raw_place}
 use Rattle.wat_rows.specs.Rows.{fault_code}
 use Rattle.wat_rows.specs.inside.Naming.{NameMeans, annotation_of, not_closed, not_shown}
@@ -36,7 +36,7 @@ use Rattle.wat_rows.proofs.Fronts.{front, none_past}
 use Rattle.wat_rows.proofs.Lifting.{lifted, look_in, shown_lifted, shows}
 use Rattle.wat_rows.proofs.Linking.{link_to}
 use Rattle.wat_rows.proofs.RawPlaces.{counts}
-use Rattle.wat_rows.proofs.Told.{Tells, annotation_told, code_told, codes_told, length_told, tells}
+use Rattle.wat_rows.proofs.Known.{Tells, annotation_known, code_known, codes_known, length_known, tells}
 
 -- what each answer on a name says
 pub is_taken : (x : List ℕ) (t : Token) (n : Names) (m : Named) → NameMeans x t n m → m ≡ named.Registered
@@ -97,7 +97,7 @@ module _ (some : SomethingShown) (one : OneThingShown) (same : CountingShowsTheS
   abbrev cs : List Token
   cs = counting s.tokens
 
-  shown_as : (a : Finding) → look_in s n number ≡ a → shown_behind s place n ≡ lifted s.tokens a
+  shown_as : (a : Finding) → look_in s n number ≡ a → shown_after s place n ≡ lifted s.tokens a
   shown_as a e = shown_lifted some one same s utf8 are.read n place ∙ ap (lifted s.tokens) (to ∙ e)
 
   answer_token : (t : Token) → slice_get cs number ≡ Some t → look_in s n number ≡ Ok (Some (t, drop (number + 1) cs)) → Looks s place n (Ok number)
@@ -105,7 +105,7 @@ module _ (some : SomethingShown) (one : OneThingShown) (same : CountingShowsTheS
       let k : length cs - length (drop (number + 1) cs) ≡ number + 1 = omega (arith, slice_get_within cs number t h, length-drop (number + 1) cs) in
       token h (shown_as (Ok (Some (t, drop (number + 1) cs))) e ∙ ap (λ m. Ok (Some (t, raw_place s.tokens m))) k)
 
-  ended_by : (z : Option LexFault) → s.ending ≡ z → why ≡ ending_code z → shown_behind s place n ≡ lifted s.tokens (ended z)
+  ended_by : (z : Option LexFault) → s.ending ≡ z → why ≡ ending_code z → shown_after s place n ≡ lifted s.tokens (ended z)
       → Looks s place n (Err (not_shown why))
   ended_by None e f h = subst (λ w. Looks s place n (Err (not_shown w))) (sym f) (end e h)
   ended_by (Some z) e f h =
@@ -116,7 +116,7 @@ module _ (some : SomethingShown) (one : OneThingShown) (same : CountingShowsTheS
   answer_ended e = ended_by s.ending refl are.ends (shown_as (ended s.ending) e)
 
   left_by : (z : Option LexFault) (t : Token) → s.ending ≡ z → why ≡ ending_code z → slice_get cs number ≡ Some t → IsMarked s.setting.text t
-      → shown_behind s place n ≡ lifted s.tokens (left_open z t) → Looks s place n (Err (not_closed why number))
+      → shown_after s place n ≡ lifted s.tokens (left_open z t) → Looks s place n (Err (not_closed why number))
   left_by None t e f k m h = subst (λ w. Looks s place n (Err (not_closed w number))) (sym f) (unclosed e k m h)
   left_by (Some z) t e f k m h =
       subst (λ w. Looks s place n (Err (not_closed w number))) (sym f)
@@ -128,37 +128,37 @@ module _ (some : SomethingShown) (one : OneThingShown) (same : CountingShowsTheS
   -- no row has the number
   pub answer_past : slice_get rows number ≡ None → Looks s place n (Err (not_shown why))
   answer_past e =
-      let k = drop_all number cs (omega (arith, none_past rows number e, length_told s.setting.text rows cs are.told)) in
+      let k = drop_all number cs (omega (arith, none_past rows number e, length_known s.setting.text rows cs are.known)) in
       answer_ended (by_shown (ended s.ending) (subst (λ r. Shown s.setting.text s.ending n r (ended s.ending)) (sym k) none_left))
 
   module _ (row : Row) (there : slice_get rows number ≡ Some row) where
     abbrev at_row : Tells s.setting.text cs number row
-    at_row = tells s.setting.text rows cs number row are.told there
+    at_row = tells s.setting.text rows cs number row are.known there
 
     pub answer_plain : PlainTokensAreShown → row.kind.code ≢ 16 → Looks s place n (Ok number)
     answer_plain plain other =
         let t = at_row.token in
         let unmarked : IsMarked s.setting.text t
-        → ⊥ = λ m. other (code_told s.setting.text cs number row at_row ∙ code_marked s.setting.text t m.0 m.1) in
+        → ⊥ = λ m. other (code_known s.setting.text cs number row at_row ∙ code_marked s.setting.text t m.0 m.1) in
         let h = plain s.setting.text s.ending n t (drop (number + 1) cs) (counts s.tokens number t at_row.there) unmarked in
         answer_token t at_row.there (by_shown (Ok (Some (t, drop (number + 1) cs))) (subst (λ r. Shown s.setting.text s.ending n r (Ok (Some
         (t, drop (number + 1) cs)))) (sym (front cs number t at_row.there)) h))
 
     module _ (code : row.kind.code ≡ 16) where
       marked : IsMarked s.setting.text at_row.token
-      marked = let k = marked_kind s.setting.text at_row.token at_row.token.kind (sym (code_told s.setting.text cs number row at_row)
+      marked = let k = marked_kind s.setting.text at_row.token at_row.token.kind (sym (code_known s.setting.text cs number row at_row)
           ∙ code) in (k.0, k.1)
 
       pub answer_last : slice_get rows (number + 1) ≡ None → Looks s place n (Err (not_shown why))
       answer_last e =
           let t = at_row.token in
-          let k = drop_all (number + 1) cs (omega (arith, none_past rows (number + 1) e, length_told s.setting.text rows cs are.told)) in
+          let k = drop_all (number + 1) cs (omega (arith, none_past rows (number + 1) e, length_known s.setting.text rows cs are.known)) in
           let f : drop number cs ≡ t ∷ [] = front cs number t at_row.there ∙ ap (λ r. t ∷ r) k in
           answer_ended (by_shown (ended s.ending) (subst (λ r. Shown s.setting.text s.ending n r (ended s.ending)) (sym f) (ends_there marked)))
 
       module _ (word : Row) (next : slice_get rows (number + 1) ≡ Some word) where
         abbrev at_word : Tells s.setting.text cs (number + 1) word
-        at_word = tells s.setting.text rows cs (number + 1) word are.told next
+        at_word = tells s.setting.text rows cs (number + 1) word are.known next
 
         two : (a : List Token → Finding) → Shown s.setting.text s.ending n (at_row.token ∷ at_word.token ∷ drop (number + 1 + 1) cs) (a
             (at_word.token ∷ drop (number + 1 + 1) cs)) → look_in s n number ≡ a (drop (number + 1) cs)
@@ -171,11 +171,11 @@ module _ (some : SomethingShown) (one : OneThingShown) (same : CountingShowsTheS
         pub answer_other : word.kind.code ≢ 9 → Looks s place n (Ok number)
         answer_other other =
             answer_token at_row.token at_row.there (two (λ r. Ok (Some (at_row.token, r))) (takes_other marked (λ e. other
-            (code_told s.setting.text cs (number + 1) word at_word ∙ code_annotation s.setting.text at_word.token e))))
+            (code_known s.setting.text cs (number + 1) word at_word ∙ code_annotation s.setting.text at_word.token e))))
 
         module _ (nine : word.kind.code ≡ 9) (m : Named) (given : NameMeans s.setting.text (annotation_of word) n m) where
           means : NameMeans s.setting.text at_word.token n m
-          means = subst (λ t. NameMeans s.setting.text t n m) (annotation_told s.setting.text cs (number + 1) word at_word nine) given
+          means = subst (λ t. NameMeans s.setting.text t n m) (annotation_known s.setting.text cs (number + 1) word at_word nine) given
 
           pub answer_taken : m ≡ named.Registered → Looks s place n (Ok number)
           answer_taken e =
@@ -196,15 +196,15 @@ module _ (some : SomethingShown) (one : OneThingShown) (same : CountingShowsTheS
             on = on;
             opens = at_row.there;
             marked = marked;
-            behind = at_word.there;
-            annotation = sym (ap (λ (t : Token). t.kind) (annotation_told s.setting.text cs (number + 1) word at_word nine));
+            after = at_word.there;
+            annotation = sym (ap (λ (t : Token). t.kind) (annotation_known s.setting.text cs (number + 1) word at_word nine));
             escape = is_escaped s.setting.text at_word.token n m a means e;
             same = shown_lifted some one same s utf8 are.read n place ∙ ap (lifted s.tokens) to
                 ∙ sym (shown_lifted some one same s utf8 are.read n number);
           })
 
           link : IsLink (codes s.setting.text cs) number row.link
-          link = subst (λ c. IsLink c number row.link) (codes_told s.setting.text rows cs are.told) (are.linked number row (omega arith) there)
+          link = subst (λ c. IsLink c number row.link) (codes_known s.setting.text rows cs are.known) (are.linked number row (omega arith) there)
 
           dropped : drop (number + 1) (codes s.setting.text cs) ≡ codes s.setting.text (drop (number + 1) cs)
           dropped = drop-map (code_of s.setting.text) (number + 1) cs
@@ -231,8 +231,8 @@ module _ (some : SomethingShown) (one : OneThingShown) (same : CountingShowsTheS
               left_by s.ending at_row.token refl are.ends at_row.there marked (shown_as (left_open s.ending at_row.token) (two
               (λ r. left_open s.ending at_row.token) h))
 
-          pub look_behind : m ≡ named.Other → row.link ≢ 0 → look_in s n place ≡ look_in s n row.link
-          look_behind e z =
+          pub look_after : m ≡ named.Other → row.link ≢ 0 → look_in s n place ≡ look_in s n row.link
+          look_after e z =
               let k = is_skipped s.setting.text at_word.token n m means e in
               let g = at_front (λ r. Group r (drop row.link cs)) (group_by row.link link z) in
               to ∙ two (λ r. look_in s n row.link) (skips marked k.1 k.2 g (shows some one same s utf8 are.read n row.link))

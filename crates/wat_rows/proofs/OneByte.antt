@@ -16,7 +16,7 @@ use Rattle.wat_lex.specs.declared.lexer.kinds.TokenKind.{TokenKind}
 use Rattle.wat_lex.specs.declared.lexer.kinds.TokenKind.TheVariants.{LParen, RParen, Reserved, Whitespace}
 use Rattle.wat_lex.specs.values.KindNumbers.{kind_number}
 use Rattle.wat_rows.specs.Rows.{kind_row, plain}
-use Rattle.wat_rows.specs.inside.OneByte.{sorts, longer_before, kind_alone, row_alone, StandsAlone}
+use Rattle.wat_rows.specs.inside.OneByte.{sorts, longer_before, kind_alone, row_alone, IsAlone}
 use Rattle.wat_rows.specs.declared.rows.KindRow.{KindRow}
 
 add-zero : (n : ℕ) → n + 0 ≡ n
@@ -47,7 +47,7 @@ one_byte : (c : ℕ) → c < 128 → size (c ∷ []) ≡ 1
 one_byte c s = ap length (append-nil (encode c)) ∙ length-encode c ∙ len_utf8_ascii c s
 
 one : (text : List ℕ) (at : ℕ) (k : TokenKind) (c : ℕ) → IsUtf8 text → IsCharBoundary text at → at < length text → get_or text at 0 ≡ c → c < 128
-    → ((flags : Settings) → Word k (c ∷ []) flags) → MayFollow k (c ∷ []) (chars (drop (at + 1) text)) → StandsAlone text at k
+    → ((flags : Settings) → Word k (c ∷ []) flags) → MayFollow k (c ∷ []) (chars (drop (at + 1) text)) → IsAlone text at k
 one text at k c u b l e s w f =
     let part = drop at text in
     let v : IsUtf8 part = IsUtf8-drop text at u b in
@@ -59,16 +59,16 @@ one text at k c u b l e s w f =
         offset = refl;
         word = c ∷ [];
         rest = chars (drop 1 part);
-        stands = record { cut = d.chars; word = w flags; ends = follows };
+        is_at = record { cut = d.chars; word = w flags; ends = follows };
         len = sym (one_byte c s);
       };
-      behind = IsCharBoundary-after_ascii text at u l (subst (λ x. x < 128) (sym e) s);
+      after = IsCharBoundary-after_ascii text at u l (subst (λ x. x < 128) (sym e) s);
     }
 
--- the character behind an ASCII byte, where the next byte fails a test of ASCII characters
-not_behind : (text : List ℕ) (at : ℕ) (p : ℕ → Bool) → IsUtf8 text → IsCharBoundary text at → at < length text → get_or text at 0 < 128
+-- the character after an ASCII byte, where the next byte fails a test of ASCII characters
+not_after : (text : List ℕ) (at : ℕ) (p : ℕ → Bool) → IsUtf8 text → IsCharBoundary text at → at < length text → get_or text at 0 < 128
     → ((c : ℕ) → p c ≡ true → c < 128) → p (get_or text (at + 1) 0) ≡ false → Begins p (chars (drop (at + 1) text)) → ⊥
-not_behind text at p u b l s ascii fails =
+not_after text at p u b l s ascii fails =
     not_begun p (drop (at + 1) text) (IsUtf8-drop text (at + 1) u (IsCharBoundary-after_ascii text at u l s)) ascii
     (ap p (get_or-drop (at + 1) text 0 0 ∙ ap (λ x. get_or text x 0) (add-zero (at + 1))) ∙ fails)
 
@@ -153,56 +153,56 @@ some_sort next z =
     ]
 
 opens : (text : List ℕ) (at next : ℕ) → IsUtf8 text → IsCharBoundary text at → at < length text → get_or text at 0 ≡ 40
-    → get_or text (at + 1) 0 ≡ next → (next == 59) ≡ false → StandsAlone text at LParen
+    → get_or text (at + 1) 0 ≡ next → (next == 59) ≡ false → IsAlone text at LParen
 opens text at next u b l e n f =
     one text at LParen 40 u b l e (omega arith) (λ flags. refl)
-    (not_behind text at (λ d. d == 59) u b l (subst (λ x. x < 128) (sym e) (omega arith)) semicolon_ascii (ap (λ x. x == 59) n ∙ f))
+    (not_after text at (λ d. d == 59) u b l (subst (λ x. x < 128) (sym e) (omega arith)) semicolon_ascii (ap (λ x. x == 59) n ∙ f))
 
-closes : (text : List ℕ) (at : ℕ) → IsUtf8 text → IsCharBoundary text at → at < length text → get_or text at 0 ≡ 41 → StandsAlone text at RParen
+closes : (text : List ℕ) (at : ℕ) → IsUtf8 text → IsCharBoundary text at → at < length text → get_or text at 0 ≡ 41 → IsAlone text at RParen
 closes text at u b l e = one text at RParen 41 u b l e (omega arith) (λ flags. refl) tt
 
 semicolon_alone : (text : List ℕ) (at next : ℕ) → IsUtf8 text → IsCharBoundary text at → at < length text → get_or text at 0 ≡ 59
-    → get_or text (at + 1) 0 ≡ next → (next == 59) ≡ false → StandsAlone text at Reserved
+    → get_or text (at + 1) 0 ≡ next → (next == 59) ≡ false → IsAlone text at Reserved
 semicolon_alone text at next u b l e n f =
     let m : Punctuation (59 ∷ []) = (59, refl, refl) in
     one text at Reserved 59 u b l e (omega arith) (λ flags. inl m) (
-      λ _. not_behind text at (λ d. d == 59) u b l (subst (λ x. x < 128) (sym e) (omega arith)) semicolon_ascii (ap (λ x. x == 59) n ∙ f),
+      λ _. not_after text at (λ d. d == 59) u b l (subst (λ x. x < 128) (sym e) (omega arith)) semicolon_ascii (ap (λ x. x == 59) n ∙ f),
       λ k. absurd (k m),
     )
 
 punctuation : (text : List ℕ) (at first : ℕ) → IsUtf8 text → IsCharBoundary text at → at < length text → get_or text at 0 ≡ first
-    → is_punctuation first ≡ true → StandsAlone text at Reserved
+    → is_punctuation first ≡ true → IsAlone text at Reserved
 punctuation text at c u b l e t =
     let m : Punctuation (c ∷ []) = (c, refl, ap (λ x. x || c == 59) t) in
     let other : c ∷ [] ≡ 59 ∷ [] → ⊥ = λ q. let k : c ≡ 59 = cc in both_ways (is_punctuation c) (ap is_punctuation k) t in
     one text at Reserved c u b l e (punctuation_ascii c t) (λ flags. inl m) (λ q. absurd (other q), λ k. absurd (k m))
 
 blank : (text : List ℕ) (at first next : ℕ) → IsUtf8 text → IsCharBoundary text at → at < length text → get_or text at 0 ≡ first
-    → is_whitespace first ≡ true → get_or text (at + 1) 0 ≡ next → is_whitespace next ≡ false → StandsAlone text at Whitespace
+    → is_whitespace first ≡ true → get_or text (at + 1) 0 ≡ next → is_whitespace next ≡ false → IsAlone text at Whitespace
 blank text at c next u b l e t n f =
     let some : c ∷ [] ≡ [] → ⊥ = λ q. cc in
     one text at Whitespace c u b l e (whitespace_ascii c t) (λ flags. (some, (t, tt)))
-    (not_behind text at is_whitespace u b l (subst (λ x. x < 128) (sym e) (whitespace_ascii c t)) whitespace_ascii (ap is_whitespace n ∙ f))
+    (not_after text at is_whitespace u b l (subst (λ x. x < 128) (sym e) (whitespace_ascii c t)) whitespace_ascii (ap is_whitespace n ∙ f))
 
-pub stands_alone : (text : List ℕ) (at first next : ℕ) → IsUtf8 text → IsCharBoundary text at → at < length text → get_or text at 0 ≡ first
-    → get_or text (at + 1) 0 ≡ next → bit_and (longer_before first) (sorts next) ≡ 0 → StandsAlone text at (kind_alone first)
-stands_alone text at first next u b l e n z =
+pub is_at_alone : (text : List ℕ) (at first next : ℕ) → IsUtf8 text → IsCharBoundary text at → at < length text → get_or text at 0 ≡ first
+    → get_or text (at + 1) 0 ≡ next → bit_and (longer_before first) (sorts next) ≡ 0 → IsAlone text at (kind_alone first)
+is_at_alone text at first next u b l e n z =
     elim (cases_Bool (first == 40)) [
       | inl o ↦
           let k : first ≡ 40 = eqb-true first 40 o in
           let f = no_semicolon next (subst (λ x. bit_and (longer_before x) (sorts next) ≡ 0) k z) in
-          subst (λ x. StandsAlone text at (kind_alone x)) (sym k) (opens text at next u b l (e ∙ k) n f)
+          subst (λ x. IsAlone text at (kind_alone x)) (sym k) (opens text at next u b l (e ∙ k) n f)
       | inr o ↦
           elim (cases_Bool (first == 59)) [
             | inl s ↦
                 let k : first ≡ 59 = eqb-true first 59 s in
                 let f = no_semicolon next (subst (λ x. bit_and (longer_before x) (sorts next) ≡ 0) k z) in
-                subst (λ x. StandsAlone text at (kind_alone x)) (sym k) (semicolon_alone text at next u b l (e ∙ k) n f)
+                subst (λ x. IsAlone text at (kind_alone x)) (sym k) (semicolon_alone text at next u b l (e ∙ k) n f)
             | inr s ↦
                 elim (cases_Bool (first == 41)) [
                   | inl c ↦
                       let k : first ≡ 41 = eqb-true first 41 c in
-                      subst (λ x. StandsAlone text at (kind_alone x)) (sym k) (closes text at u b l (e ∙ k))
+                      subst (λ x. IsAlone text at (kind_alone x)) (sym k) (closes text at u b l (e ∙ k))
                   | inr c ↦ others text at first next u b l e n z o s c
                 ]
           ]
@@ -210,16 +210,16 @@ stands_alone text at first next u b l e n z =
   where
     others : (text : List ℕ) (at first next : ℕ) → IsUtf8 text → IsCharBoundary text at → at < length text → get_or text at 0 ≡ first
         → get_or text (at + 1) 0 ≡ next → bit_and (longer_before first) (sorts next) ≡ 0 → (first == 40) ≡ false → (first == 59) ≡ false
-        → (first == 41) ≡ false → StandsAlone text at (kind_alone first)
+        → (first == 41) ≡ false → IsAlone text at (kind_alone first)
     others text at first next u b l e n z o s c =
         elim (cases_Bool (is_whitespace first)) [
           | inl w ↦
               let k : longer_before first ≡ 2 = longer_is first false false true false (is_punctuation first) o s w c refl in
               let f = no_whitespace next (subst (λ x. bit_and x (sorts next) ≡ 0) k z) in
-              subst (StandsAlone text at) (sym (kind_is first false false true o c w)) (blank text at first next u b l e w n f)
+              subst (IsAlone text at) (sym (kind_is first false false true o c w)) (blank text at first next u b l e w n f)
           | inr w ↦
               elim (cases_Bool (is_punctuation first)) [
-                | inl p ↦ subst (StandsAlone text at) (sym (kind_is first false false false o c w)) (punctuation text at first u b l e p)
+                | inl p ↦ subst (IsAlone text at) (sym (kind_is first false false false o c w)) (punctuation text at first u b l e p)
                 | inr p ↦
                     let k : longer_before first ≡ 4 = longer_is first false false false false false o s w c p in
                     absurd (some_sort next (subst (λ x. bit_and x (sorts next) ≡ 0) k z))

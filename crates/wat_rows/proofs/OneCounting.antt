@@ -2,7 +2,7 @@
 use Rattle.std.proofs.Common.{◌≡◌, ◌⊎◌, ◌<◌, ◌≤◌, ◌+◌, ℕ, zero, suc, List, [], ◌∷◌, length, refl, ap, sym, ◌∙◌, subst, arith, inl, inr}
 use Rattle.std.specs.Prelude.{Some, None, Ok, Err, map}
 use Rattle.std.proofs.lemmas.Bool.{cases_Bool}
-use Rattle.wat_lex.specs.tokens.EverySetting.{OneThingStands}
+use Rattle.wat_lex.specs.tokens.EverySetting.{OneThingIsAt}
 use Rattle.wat_lex.specs.tokens.Setting.{Setting}
 use Rattle.wat_lex.specs.tokens.Tiling.{TokenAt, Tiling}
 use Rattle.wat_lex.specs.tokens.UniqueTilings.{AnswerAt}
@@ -12,7 +12,7 @@ use Rattle.wat_lexer_parser.specs.laws.Counting.{counting}
 use Rattle.wat_rows.specs.Counting.{EndsCounting, OneFillCounting, StopsCounting, StopsCounting.ended, StopsCounting.full, StopsCounting.faulty}
 use Rattle.wat_rows.specs.Counting.{row_of}
 use Rattle.wat_rows.proofs.Counted.{counting_blank, counting_other}
-use Rattle.wat_rows.proofs.OneFill.{IsEnd, Standing, code_of, some_token}
+use Rattle.wat_rows.proofs.OneFill.{IsEnd, Answered, code_of, some_token}
 use Rattle.wat_rows.proofs.RawPlaces.{counting_shorter}
 
 -- some token counts where the last does
@@ -20,9 +20,9 @@ one_counts : (t : Token) (ts : List Token) → EndsCounting (t ∷ ts) → 0 < l
 one_counts t [] h = omega (arith, ap length (counting_other t [] h))
 one_counts t (u ∷ ts) h = omega (arith, one_counts u ts h, counting_shorter t (u ∷ ts))
 
-ends_behind : (t : Token) (ts : List Token) → EndsCounting (t ∷ ts) → EndsCounting ts
-ends_behind t [] h = tt
-ends_behind t (u ∷ ts) h = h
+ends_after : (t : Token) (ts : List Token) → EndsCounting (t ∷ ts) → EndsCounting ts
+ends_after t [] h = tt
+ends_after t (u ∷ ts) h = h
 
 -- how many of one token and the others count
 counting_front : (t : Token) (ts : List Token) → length (counting (t ∷ ts)) ≡ length (counting (t ∷ [])) + length (counting ts)
@@ -31,10 +31,10 @@ counting_front t ts = elim (cases_Bool (is_blank t.kind)) [
   | inr o ↦ omega (arith, ap length (counting_other t ts o), ap length (counting_other t [] o))
 ]
 
-module _ (stands : OneThingStands) (s : Setting) (room : ℕ) where
-  -- there is no room for more behind the last token, which counts, or there is, and nothing more stands at the place
+module _ (is_at : OneThingIsAt) (s : Setting) (room : ℕ) where
+  -- there is no room for more after the last token, which counts, or there is, and nothing more is at the place
   abbrev Ending : ℕ → ℕ → ℕ → List Token → Type 0
-  Ending at count why ts = ((count ≡ room) × (why ≡ 1) × EndsCounting ts) ⊎ ((r : Standing) × (count < room) × IsEnd r × AnswerAt s at r ×
+  Ending at count why ts = ((count ≡ room) × (why ≡ 1) × EndsCounting ts) ⊎ ((r : Answered) × (count < room) × IsEnd r × AnswerAt s at r ×
       (why ≡ code_of r))
 
   ending : (at count why : ℕ) (ts : List Token) → StopsCounting s at room count ts why → Ending at count why ts
@@ -50,17 +50,17 @@ module _ (stands : OneThingStands) (s : Setting) (room : ℕ) where
   codes_one at end c d why other ts us p q (inl x) (inl y) = x.1 ∙ sym y.1
   codes_one at end c d why other ts us p q (inl x) (inr y) = absurd (omega (arith, x.0, y.1, q))
   codes_one at end c d why other ts us p q (inr x) (inl y) = absurd (omega (arith, x.1, y.0, q))
-  codes_one at end c d why other ts us p q (inr x) (inr y) = x.4 ∙ ap code_of (stands s end x.0 y.0 (subst (λ k. AnswerAt s k x.0) p x.3) y.3)
+  codes_one at end c d why other ts us p q (inr x) (inr y) = x.4 ∙ ap code_of (is_at s end x.0 y.0 (subst (λ k. AnswerAt s k x.0) p x.3) y.3)
       ∙ sym y.4
 
-  behind : (at count why : ℕ) (t : Token) (ts : List Token) → Ending at count why (t ∷ ts) → Ending at count why ts
-  behind at count why t ts (inl x) = inl (x.0, x.1, ends_behind t ts x.2)
-  behind at count why t ts (inr y) = inr y
+  after : (at count why : ℕ) (t : Token) (ts : List Token) → Ending at count why (t ∷ ts) → Ending at count why ts
+  after at count why t ts (inl x) = inl (x.0, x.1, ends_after t ts x.2)
+  after at count why t ts (inr y) = inr y
 
   -- where one list stops, the other does not go on
   no_more : (at end c d why other : ℕ) (t : Token) (ts : List Token) → d ≡ c + length (counting (t ∷ ts)) → TokenAt s at t → Ending at c why []
       → Ending end d other (t ∷ ts) → ⊥
-  no_more at end c d why other t ts e h (inr x) y = subst IsEnd (stands s at x.0 (Ok (Some t)) x.3 h) x.2
+  no_more at end c d why other t ts e h (inr x) y = subst IsEnd (is_at s at x.0 (Ok (Some t)) x.3 h) x.2
   no_more at end c d why other t ts e h (inl x) (inl y) = omega (arith, x.0, y.0, e, one_counts t ts y.2)
   no_more at end c d why other t ts e h (inl x) (inr y) = omega (arith, x.0, y.1, e)
 
@@ -73,12 +73,12 @@ module _ (stands : OneThingStands) (s : Setting) (room : ℕ) where
   tilings_one from at end seen c d why other (t ∷ ts) [] e f h g x y =
       absurd (no_more from at d c other why t ts (omega (arith, e, f)) h.0 (subst (λ p. Ending p d other []) (sym g) y) x)
   tilings_one from at end seen c d why other (t ∷ ts) (u ∷ us) e f h g x y =
-      let k = some_token t u (stands s from (Ok (Some t)) (Ok (Some u)) h.0 g.0) in
+      let k = some_token t u (is_at s from (Ok (Some t)) (Ok (Some u)) h.0 g.0) in
       let one = length (counting (t ∷ [])) in
       let a : c ≡ seen + one + length (counting ts) = omega (arith, e, counting_front t ts) in
       let b : d ≡ seen + one + length (counting us) = omega (arith, f, counting_front u us, ap (λ (v : Token). length (counting (v ∷ []))) k) in
       let r = tilings_one (t.offset + t.len) at end (seen + one) c d why other ts us a b h.1 (subst (λ (z : Token). Tiling s
-      (z.offset + z.len) end us) (sym k) g.1) (behind at c why t ts x) (behind end d other u us y) in
+      (z.offset + z.len) end us) (sym k) g.1) (after at c why t ts x) (after end d other u us y) in
       let l = r.0 in
       let q : t ∷ ts ≡ u ∷ us = cc in
       (q, r.1, r.2)

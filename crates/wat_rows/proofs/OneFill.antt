@@ -1,7 +1,7 @@
 -- The rows from a place, and where they stop and why, are the only ones.
 use Rattle.std.proofs.Common.{◌≡◌, ◌⊎◌, ◌<◌, ◌≤◌, ◌+◌, ℕ, zero, suc, List, [], ◌∷◌, length, refl, ap, sym, ◌∙◌, subst, arith, inl, inr}
 use Rattle.std.specs.Prelude.{Option, Some, None, Result, Ok, Err, map}
-use Rattle.wat_lex.specs.tokens.EverySetting.{OneThingStands}
+use Rattle.wat_lex.specs.tokens.EverySetting.{OneThingIsAt}
 use Rattle.wat_lex.specs.tokens.Setting.{Setting}
 use Rattle.wat_lex.specs.tokens.Tiling.{TokenAt, Tiling}
 use Rattle.wat_lex.specs.tokens.UniqueTilings.{AnswerAt}
@@ -9,30 +9,30 @@ use Rattle.wat_lex.specs.declared.lexer.faults.LexFault.{LexFault}
 use Rattle.wat_lex.specs.declared.lexer.kinds.Token.{Token}
 use Rattle.wat_rows.specs.Rows.{Stops, Stops.ended, Stops.full, Stops.faulty, OneFill, token_row, fault_code}
 
--- what stands at a place
-abbrev pub Standing : Type 0
-Standing = Result (Option Token) LexFault
+-- what is at a place
+abbrev pub Answered : Type 0
+Answered = Result (Option Token) LexFault
 
-abbrev pub token_stands : Token → Standing
-token_stands t = Ok (Some t)
+abbrev pub token_is_at : Token → Answered
+token_is_at t = Ok (Some t)
 
-pub some_token : (t u : Token) → token_stands t ≡ token_stands u → t ≡ u
+pub some_token : (t u : Token) → token_is_at t ≡ token_is_at u → t ≡ u
 some_token t u e = ap (λ r. elim r [ Ok (Some x) ↦ x | Ok None ↦ t | Err f ↦ t ]) e
 
 -- the text's end or a fault
-abbrev pub IsEnd : Standing → Type 0
+abbrev pub IsEnd : Answered → Type 0
 IsEnd (Ok None) = Unit {0}
 IsEnd (Ok (Some t)) = ⊥
 IsEnd (Err f) = Unit {0}
 
-abbrev pub code_of : Standing → ℕ
+abbrev pub code_of : Answered → ℕ
 code_of (Ok found) = 0
 code_of (Err f) = fault_code f.error
 
-module _ (stands : OneThingStands) (s : Setting) (room : ℕ) where
-  -- there is no room for more, or there is, and nothing more stands at the place
+module _ (is_at : OneThingIsAt) (s : Setting) (room : ℕ) where
+  -- there is no room for more, or there is, and nothing more is at the place
   abbrev Ending : ℕ → ℕ → ℕ → Type 0
-  Ending at count why = ((count ≡ room) × (why ≡ 1)) ⊎ ((r : Standing) × (count < room) × IsEnd r × AnswerAt s at r × (why ≡ code_of r))
+  Ending at count why = ((count ≡ room) × (why ≡ 1)) ⊎ ((r : Answered) × (count < room) × IsEnd r × AnswerAt s at r × (why ≡ code_of r))
 
   ending : (at count why : ℕ) → Stops s at room count why → Ending at count why
   ending at count zero (ended l e) = inr (Ok None, l, tt, e, refl)
@@ -47,11 +47,11 @@ module _ (stands : OneThingStands) (s : Setting) (room : ℕ) where
   codes_one at count why other (inl x) (inl y) = x.1 ∙ sym y.1
   codes_one at count why other (inl x) (inr y) = absurd (omega (arith, x.0, y.1))
   codes_one at count why other (inr x) (inl y) = absurd (omega (arith, x.1, y.0))
-  codes_one at count why other (inr x) (inr y) = x.4 ∙ ap code_of (stands s at x.0 y.0 x.3 y.3) ∙ sym y.4
+  codes_one at count why other (inr x) (inr y) = x.4 ∙ ap code_of (is_at s at x.0 y.0 x.3 y.3) ∙ sym y.4
 
   no_more : (at count why : ℕ) (t : Token) → TokenAt s at t → count < room → Ending at count why → ⊥
   no_more at count why t h l (inl x) = absurd (omega (arith, l, x.0))
-  no_more at count why t h l (inr y) = subst IsEnd (stands s at y.0 (Ok (Some t)) y.3 h) y.2
+  no_more at count why t h l (inr y) = subst IsEnd (is_at s at y.0 (Ok (Some t)) y.3 h) y.2
 
   tilings_one : (from at end seen why other : ℕ) (ts us : List Token) → Tiling s from at ts → Tiling s from end us
       → Ending at (seen + length ts) why → Ending end (seen + length us) other → (ts ≡ us) × (at ≡ end) × (why ≡ other)
@@ -68,7 +68,7 @@ module _ (stands : OneThingStands) (s : Setting) (room : ℕ) where
         (t ∷ ts)) why x,
   )) (subst (λ p. Ending p (seen + 0) other) (sym g) y))
   tilings_one from at end seen why other (t ∷ ts) (u ∷ us) h g x y =
-      let k = some_token t u (stands s from (Ok (Some t)) (Ok (Some u)) h.0 g.0) in
+      let k = some_token t u (is_at s from (Ok (Some t)) (Ok (Some u)) h.0 g.0) in
       let m : seen + length (t ∷ ts) ≡ seen + 1 + length ts = omega arith in
       let n : seen + length (u ∷ us) ≡ seen + 1 + length us = omega arith in
       let r = tilings_one (t.offset + t.len) at end (seen + 1) why other ts us h.1 (subst (λ (z : Token). Tiling s (z.offset + z.len) end us)

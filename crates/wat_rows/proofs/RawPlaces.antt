@@ -32,7 +32,7 @@ at_end : (n : ℕ) → raw_place [] n ≡ 0
 unfolding raw_place
 at_end n = refl
 
--- the tokens that count behind a place are those behind so many that count
+-- the tokens that count after a place are those after so many that count
 pub drops : (ts : List Token) (n : ℕ) → counting (drop (raw_place ts n) ts) ≡ drop n (counting ts)
 drops [] zero = ap (λ k. counting (drop k [])) (at_end 0)
 drops [] (suc n) = ap (λ k. counting (drop k [])) (at_end (suc n))
@@ -53,21 +53,21 @@ drop_shorter ts zero = omega arith
 drop_shorter [] (suc j) = omega arith
 drop_shorter (t ∷ ts) (suc j) = omega (arith, drop_shorter ts j, counting_shorter t ts)
 
-behind_shorter : (ts : List Token) (j : ℕ) (t : Token) → slice_get ts j ≡ Some t → is_blank t.kind ≡ false
+after_shorter : (ts : List Token) (j : ℕ) (t : Token) → slice_get ts j ≡ Some t → is_blank t.kind ≡ false
     → length (counting (drop (suc j) ts)) < length (counting ts)
-behind_shorter [] zero t e o = cc
-behind_shorter [] (suc j) t e o = cc
-behind_shorter (u ∷ ts) zero t e o =
+after_shorter [] zero t e o = cc
+after_shorter [] (suc j) t e o = cc
+after_shorter (u ∷ ts) zero t e o =
     let k : u ≡ t = cc in
     omega (arith, ap length (counting_other u ts (ap (λ (v : Token). is_blank v.kind) k ∙ o)))
-behind_shorter (u ∷ ts) (suc j) t e o = omega (arith, behind_shorter ts j t e o, counting_shorter u ts)
+after_shorter (u ∷ ts) (suc j) t e o = omega (arith, after_shorter ts j t e o, counting_shorter u ts)
 
--- a place directly behind a token that counts is that of as many as count up to it
+-- a place directly after a token that counts is that of as many as count up to it
 pub place_of : (ts : List Token) (j : ℕ) (t : Token) (n : ℕ) → slice_get ts j ≡ Some t → is_blank t.kind ≡ false
     → n + length (counting (drop (suc j) ts)) ≡ length (counting ts) → raw_place ts n ≡ suc j
 place_of [] zero t n e o h = cc
 place_of [] (suc j) t n e o h = cc
-place_of (u ∷ ts) j t zero e o h = absurd (omega (arith, h, behind_shorter (u ∷ ts) j t e o))
+place_of (u ∷ ts) j t zero e o h = absurd (omega (arith, h, after_shorter (u ∷ ts) j t e o))
 place_of (u ∷ ts) zero t (suc n) e o h =
     let k : u ≡ t = cc in
     let other : is_blank u.kind ≡ false = ap (λ (v : Token). is_blank v.kind) k ∙ o in
@@ -121,22 +121,22 @@ none_place (t ∷ ts) = at_none t ts
 
 pub record LastPlace (ts : List Token) (n : ℕ) (t : Token) : Type 0 where
   pub place : ℕ
-  pub behind : raw_place ts (suc n) ≡ suc place
+  pub after : raw_place ts (suc n) ≡ suc place
   pub there : slice_get ts place ≡ Some t
 
--- in front of the place behind so many tokens that count lies the last of them
+-- before the place after so many tokens that count lies the last of them
 pub last_place : (ts : List Token) (n : ℕ) (t : Token) → slice_get (counting ts) n ≡ Some t → LastPlace ts n t
 last_place [] zero t e = cc
 last_place [] (suc n) t e = cc
 last_place (u ∷ ts) n t e = elim (cases_Bool (is_blank u.kind)) [
   | inl k ↦
       let h = last_place ts n t (sym (ap (λ r. slice_get r n) (counting_blank u ts k)) ∙ e) in
-      record { place = suc h.place; behind = at_blank u ts n k ∙ ap suc h.behind; there = h.there }
+      record { place = suc h.place; after = at_blank u ts n k ∙ ap suc h.after; there = h.there }
   | inr k ↦ (elim n as (λ m. slice_get (u ∷ counting ts) m ≡ Some t → LastPlace (u ∷ ts) m t) [
-    | zero ↦ λ f. record { place = 0; behind = at_other u ts 0 k ∙ ap suc (none_place ts); there = f }
+    | zero ↦ λ f. record { place = 0; after = at_other u ts 0 k ∙ ap suc (none_place ts); there = f }
     | suc m ↦ λ f.
         let h = last_place ts m t f in
-        record { place = suc h.place; behind = at_other u ts (suc m) k ∙ ap suc h.behind; there = h.there }
+        record { place = suc h.place; after = at_other u ts (suc m) k ∙ ap suc h.after; there = h.there }
   ]) (sym (ap (λ r. slice_get r n) (counting_other u ts k)) ∙ e)
 ]
 
@@ -144,4 +144,4 @@ pub offset_of_none : (ts : List Token) → offset_at ts (raw_place ts 0) ≡ 0
 offset_of_none ts = ap (offset_at ts) (none_place ts)
 
 pub offset_of_last : (ts : List Token) (n : ℕ) (t : Token) → slice_get (counting ts) n ≡ Some t → offset_at ts (raw_place ts (suc n)) ≡ t.offset + t.len
-offset_of_last ts n t e = let h = last_place ts n t e in ap (offset_at ts) h.behind ∙ ap end_of h.there
+offset_of_last ts n t e = let h = last_place ts n t e in ap (offset_at ts) h.after ∙ ap end_of h.there

@@ -1,4 +1,4 @@
--- Which names are registered that stand between ends.
+-- Which names are registered that are between ends.
 use Rattle.std.proofs.Common.{◌≡◌, ℕ, ◌+◌, ◌-◌, List, ◌∷◌, Bool, true, false, cond, refl, sym, ap, ◌∙◌, arith, length, take, drop, Some}
 use Rattle.std.specs.Prelude.{Option, nat_lt, nat_le, ◌&&◌, if◌then◌else◌}
 use Rattle.std.specs.Option.{unwrap_or}

@@ -16,7 +16,7 @@ use Rattle.wat_rows.specs.declared.counting.Row.{Row}
 use Rattle.wat_rows.specs.declared.rows.Filled.{Filled}
 use Rattle.wat_rows.specs.declared.rows.KindRow.{KindRow}
 
--- of a `(` with `@` directly behind it
+-- of a `(` with `@` directly after it
 abbrev pub opens_at : ℕ
 opens_at = 16
 
@@ -33,9 +33,9 @@ pub record IsRow (text : List ℕ) (row : Row) : Type 0 where
   pub flags : Settings
   pub token : Token
   pub boundary : IsCharBoundary text row.offset
-  pub stands : TokenAt (record { text = text; flags = flags }) row.offset token
+  pub is_at : TokenAt (record { text = text; flags = flags }) row.offset token
   pub counts : is_blank token.kind ≡ false
-  pub told : row ≡ row_of text row.link token
+  pub known : row ≡ row_of text row.link token
 
 -- no blank token is the last of these
 abbrev pub EndsCounting : List Token → Type 0
@@ -43,7 +43,7 @@ EndsCounting [] = Unit {0}
 EndsCounting (t ∷ []) = is_blank t.kind ≡ false
 EndsCounting (t ∷ u ∷ ts) = EndsCounting (u ∷ ts)
 
--- why no row follows those of these tokens, as `Stops` says it; where there is room for no more, the place is directly behind the last row
+-- why no row follows those of these tokens, as `Stops` says it; where there is room for no more, the place is directly after the last row
 pub data StopsCounting (s : Setting) (at room count : ℕ) (tokens : List Token) : ℕ → Type 0 where
   ended : count < room → at ≡ length s.text → StopsCounting s at room count tokens 0
   full : count ≡ room → EndsCounting tokens → StopsCounting s at room count tokens 1

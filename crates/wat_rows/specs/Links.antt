@@ -21,7 +21,7 @@ pub data Balanced : List ℕ → Type 0 where
   plain : {c : ℕ} {b : List ℕ} → IsFalse (opens c) → IsFalse (closes c) → Balanced b → Balanced (c ∷ b)
   group : (o c : ℕ) {a b s : List ℕ} → IsTrue (opens o) → Balanced a → IsTrue (closes c) → Balanced b → s ≡ (o ∷ a) ++ (c ∷ b) → Balanced s
 
--- The group that is open in front of these codes is closed by the last of so many of them.
+-- The group that is open before these codes is closed by the last of so many of them.
 pub record ClosedWithin (codes : List ℕ) (n : ℕ) : Type 0 where
   pub within : List ℕ
   pub last : ℕ
@@ -31,7 +31,7 @@ pub record ClosedWithin (codes : List ℕ) (n : ℕ) : Type 0 where
   pub cut : codes ≡ within ++ (last ∷ rest)
   pub count : n ≡ length within + 1
 
--- The link is one more than the number of the row that closes the group which is open behind the row of this number, or 0 where none
+-- The link is one more than the number of the row that closes the group which is open after the row of this number, or 0 where none
 -- does.
 abbrev pub IsLink : List ℕ → ℕ → ℕ → Type 0
 IsLink codes number zero = (n : ℕ) → ClosedWithin (drop (number + 1) codes) n → ⊥

@@ -37,15 +37,15 @@ registered (x ∷ xs) = more (registered xs) x
 abbrev pub names_of : List ℕ → List ℕ → Names
 names_of bytes ends = registered (names_between 0 bytes ends)
 
--- what is shown from the place behind so many tokens that count
-abbrev pub shown_behind : Source → ℕ → Names → Look
-shown_behind s count names = shown s (raw_place s.tokens count) names
+-- what is shown from the place after so many tokens that count
+abbrev pub shown_after : Source → ℕ → Names → Look
+shown_after s count names = shown s (raw_place s.tokens count) names
 
 -- the token that counts of this number
 abbrev pub IsNumber : Source → ℕ → Token → Type 0
 IsNumber s number t = slice_get (counting s.tokens) number ≡ Some t
 
--- From the place on an annotation is met directly behind a parenthesis in whose name an escape stands: what is shown from the place on is
+-- From the place on an annotation is met directly after a parenthesis in whose name an escape is: what is shown from the place on is
 -- what is shown from that parenthesis on.
 pub record MeetsEscape (s : Source) (count : ℕ) (names : Names) : Type 0 where
   pub number : ℕ
@@ -54,22 +54,22 @@ pub record MeetsEscape (s : Source) (count : ℕ) (names : Names) : Type 0 where
   pub on : count ≤ number
   pub opens : IsNumber s number paren
   pub marked : IsMarked s.setting.text paren
-  pub behind : IsNumber s (number + 1) word
+  pub after : IsNumber s (number + 1) word
   pub annotation : word.kind ≡ Annotation
   pub escape : HasNoEscape (word_of s.setting.text word) → ⊥
-  pub same : shown_behind s count names ≡ shown_behind s number names
+  pub same : shown_after s count names ≡ shown_after s number names
 
--- what a look from the place behind so many tokens that count answers: the number of the token that is shown, or why there is none
+-- what a look from the place after so many tokens that count answers: the number of the token that is shown, or why there is none
 pub data Looks (s : Source) (count : ℕ) (names : Names) : Result ℕ NotShown → Type 0 where
-  token : {number : ℕ} {t : Token} → IsNumber s number t → shown_behind s count names ≡ Ok (Some (t, raw_place s.tokens (number + 1)))
+  token : {number : ℕ} {t : Token} → IsNumber s number t → shown_after s count names ≡ Ok (Some (t, raw_place s.tokens (number + 1)))
       → Looks s count names (Ok number)
-  end : s.ending ≡ None → shown_behind s count names ≡ Ok None → Looks s count names (Err unseen.TextEnd)
-  fault : {f : LexFault} → s.ending ≡ Some f → shown_behind s count names ≡ Err (record { offset = f.offset; kind = Lex f.error })
+  end : s.ending ≡ None → shown_after s count names ≡ Ok None → Looks s count names (Err unseen.TextEnd)
+  fault : {f : LexFault} → s.ending ≡ Some f → shown_after s count names ≡ Err (record { offset = f.offset; kind = Lex f.error })
       → Looks s count names (Err unseen.TextFault)
   unclosed : {number : ℕ} {t : Token} → s.ending ≡ None → IsNumber s number t → IsMarked s.setting.text t
-      → shown_behind s count names ≡ Err (record { offset = t.offset + 1; kind = Unclosed }) → Looks s count names (Err (unseen.Unclosed number))
+      → shown_after s count names ≡ Err (record { offset = t.offset + 1; kind = Unclosed }) → Looks s count names (Err (unseen.Unclosed number))
   misnamed : {number : ℕ} {t : Token} {e : LexError} → IsNumber s number t → IsMisnamed s.setting.text t e
-      → shown_behind s count names ≡ Err (record { offset = t.offset; kind = Lex e }) → Looks s count names (Err (unseen.Misnamed number))
+      → shown_after s count names ≡ Err (record { offset = t.offset; kind = Lex e }) → Looks s count names (Err (unseen.Misnamed number))
   memory : {refused : AllocError} → MeetsEscape s count names → Looks s count names (Err (unseen.Memory refused))
 
 -- the answer in numbers, where there are so many rows
@@ -84,4 +84,4 @@ look_row rows (Err (unseen.Misnamed number)) = record { row = number; status = 5
 pub record LooksInNumbers (s : Source) (rows count : ℕ) (names : Names) (look : LookRow) : Type 0 where
   pub answer : Result ℕ NotShown
   pub looks : Looks s count names answer
-  pub told : look ≡ look_row rows answer
+  pub known : look ≡ look_row rows answer

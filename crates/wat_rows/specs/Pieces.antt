@@ -19,7 +19,7 @@ pub data FillsInPieces (s : Setting) : ℕ → List Row → ℕ → Type 0 where
   piece : {from room why : ℕ} {rows others : List Row} {filled : Filled} → FillsCounting s from room rows filled
       → FillsInPieces s filled.at others why → FillsInPieces s from (rows ++ others) why
 
--- pieces from the text's start on, one behind the other and with their links, are the rows of the text
+-- pieces from the text's start on, one after the other and with their links, are the rows of the text
 abbrev pub PiecesAreRows : Type 0
 PiecesAreRows = (s : Setting) (filled rows : List Row) (why : ℕ) → FillsInPieces s 0 filled why → map without_link rows ≡ map without_link filled
     → AreLinked rows → RowsOf s.text rows why
@@ -34,7 +34,7 @@ abbrev pub RowsTellTokens : Type 0
 RowsTellTokens = (s : Source) (rows : List Row) (number : ℕ) (row : Row) → IsUtf8 s.setting.text → TellTokensOf s rows
     → slice_get rows number ≡ Some row → IsRow s.setting.text row
 
--- A row is shown at its place, whatever names are registered, if it is no `(` with `@` directly behind it.
+-- A row is shown at its place, whatever names are registered, if it is no `(` with `@` directly after it.
 abbrev pub PlainRowsAreShown : Type 0
 PlainRowsAreShown = (s : Source) (rows : List Row) (why number : ℕ) (row : Row) (names : Names) → IsUtf8 s.setting.text → AreRowsOf s rows why
     → slice_get rows number ≡ Some row → row.kind.code ≢ opens_at

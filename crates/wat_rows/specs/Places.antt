@@ -19,14 +19,14 @@ ending_code (Some f) = fault_code f.error
 -- the rows are those of all tokens of the text that count, with their links, and this number tells the ending
 pub record AreRowsOf (s : Source) (rows : List Row) (why : ℕ) : Type 0 where
   pub read : IsRead s
-  pub told : map without_link rows ≡ map (row_of s.setting.text 0) (counting s.tokens)
+  pub known : map without_link rows ≡ map (row_of s.setting.text 0) (counting s.tokens)
   pub linked : AreLinked rows
   pub ends : why ≡ ending_code s.ending
 
 -- the rows are those of all tokens of the text that count, whatever links they have
 pub record TellTokensOf (s : Source) (rows : List Row) : Type 0 where
   pub read : IsRead s
-  pub told : map without_link rows ≡ map (row_of s.setting.text 0) (counting s.tokens)
+  pub known : map without_link rows ≡ map (row_of s.setting.text 0) (counting s.tokens)
 
 -- the rows are those of a text, under some flags
 pub record RowsOf (text : List ℕ) (rows : List Row) (why : ℕ) : Type 0 where

@@ -1,4 +1,4 @@
--- What C sees of a token, of a fault and of what stands at a place: numbers in place of kinds and faults. No part of the standard.
+-- What C sees of a token, of a fault and of what is at a place: numbers in place of kinds and faults. No part of the standard.
 use Rattle.std.specs.Prelude.{◌≡◌, ◌<◌, ℕ, Bool, false, List, length, map, Option, Some, None, Result, Ok, Err, if◌then◌else◌}
 use Rattle.wat_lex.specs.tokens.Faults.{FaultAt}
 use Rattle.wat_lex.specs.tokens.Setting.{Setting}
@@ -106,19 +106,19 @@ abbrev pub fault_wanted : LexError → ℕ
 fault_wanted (fault.Expected w f) = w
 fault_wanted e = 0
 
--- what stands at the place p, in numbers
+-- what is at the place p, in numbers
 abbrev pub found_row : ℕ → Result (Option Token) LexFault → Found
 found_row p (Ok None) = record { token = place_row p; fault = 0; found = 0; wanted = 0 }
 found_row p (Ok (Some t)) = record { token = token_row t; fault = 0; found = 0; wanted = 0 }
 found_row p (Err f) = record { token = place_row f.offset; fault = fault_code f.error; found = fault_found f.error; wanted = fault_wanted f.error }
 
--- the row tells what stands at the byte p
+-- the row tells what is at the byte p
 pub record FoundAt (s : Setting) (p : ℕ) (row : Found) : Type 0 where
   pub answer : Result (Option Token) LexFault
-  pub stands : AnswerAt s p answer
-  pub told : row ≡ found_row p answer
+  pub is_at : AnswerAt s p answer
+  pub known : row ≡ found_row p answer
 
--- the row is the token of what is told of the byte p
+-- the row is the token of what is reported of the byte p
 pub record TokenFoundAt (s : Setting) (p : ℕ) (row : TokenRow) : Type 0 where
   pub all : Found
   pub found : FoundAt s p all

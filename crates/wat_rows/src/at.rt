@@ -9,7 +9,7 @@ use crate::rows::{TokenRow, found_row, lexer_of};
 use wat_lex::laws::one_answer;
 use wat_lex::lexer::Settings;
 
-/// The token of what stands at a place. Its length is 0 where the text ends or has a fault.
+/// The token of what is at a place. Its length is 0 where the text ends or has a fault.
 // Neither way is a call, as a row that a call writes would be read back from memory.
 #[inline(always)]
 pub fn token_at(text: &str, pos: usize, settings: Settings) -> TokenRow

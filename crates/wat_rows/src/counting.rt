@@ -15,9 +15,9 @@ pub struct Row {
     pub offset: u32,
     /// How many bytes the token has.
     pub len: u32,
-    /// Its kind as in the rows of all tokens, but that the code of a `(` with `@` directly behind it is 16.
+    /// Its kind as in the rows of all tokens, but that the code of a `(` with `@` directly after it is 16.
     pub kind: KindRow,
-    /// One more than the number of the row that closes the group which is open behind this row, or 0 where none does.
+    /// One more than the number of the row that closes the group which is open after this row, or 0 where none does.
     pub link: u32,
 }
 
@@ -31,7 +31,7 @@ fn is_blank(kind: TokenKind) -> bool
     }
 }
 
-/// Whether the byte behind the token's first is `@`.
+/// Whether the byte after the token's first is `@`.
 fn is_marked(text: &str, token: Token) -> bool
     requires { token.offset < 2 ^ 32 }
     ensures { result ≡ is_marked text.now token }
@@ -42,7 +42,7 @@ fn is_marked(text: &str, token: Token) -> bool
     }
 }
 
-/// A token's kind, which tells a `(` with `@` directly behind it.
+/// A token's kind, which tells a `(` with `@` directly after it.
 fn kind_beside(text: &str, token: Token) -> KindRow
     requires { token.offset < 2 ^ 32 }
     ensures { result ≡ kind_beside text.now token token.kind }

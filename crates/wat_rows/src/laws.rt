@@ -29,7 +29,7 @@ pub fn rows_of_a_text()
     wat_lex::laws::tokens();
 }
 
-/// A row that is no `(` with `@` directly behind it is shown at its place, whatever names are registered.
+/// A row that is no `(` with `@` directly after it is shown at its place, whatever names are registered.
 pub fn plain_rows()
     ensures { PlainRowsAreShown }
 {

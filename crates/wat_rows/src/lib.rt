@@ -1,9 +1,9 @@
 //! Rows of numbers for the tokens of a text, as the programs in C and Rust over `wat_parser_c` hold them.
 #![tactic(auto)]
 
+pub mod after;
 pub mod answers;
 pub mod at;
-pub mod behind;
 pub mod counting;
 pub mod fill;
 pub mod laws;

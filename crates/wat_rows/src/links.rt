@@ -27,7 +27,7 @@ pub fn row_at(rows: &[Row], number: usize) -> Option<Row>
     rows.get(number).copied()
 }
 
-/// The link of the row of this number, where all rows behind it have theirs.
+/// The link of the row of this number, where all rows after it have theirs.
 fn link_of(rows: &[Row], number: usize) -> u32
     requires few { length rows.now < 2 ^ 32 - 1 }
     requires within { number < length rows.now }

@@ -30,7 +30,7 @@ fn is_between(names: &[u8], start: usize, end: usize, name: &[u8]) -> bool
     start <= end && end <= names.len() && &names[start..end] == name
 }
 
-/// Whether the name stands between the ends.
+/// Whether the name is between the ends.
 fn is_registered(name: &[u8], names: &[u8], ends: &[usize]) -> bool
     ensures { result ≡ is_registered (names_of names.now ends.now) name.now }
 {
@@ -96,8 +96,8 @@ fn not_closed(why: u32, number: usize) -> NotShown
     }
 }
 
-/// The number of the row that is shown from the row of a number on, under the names that stand between the ends. `why` is 0 where the
-/// text ends behind the rows, otherwise the number of its fault. It takes memory only where an escape stands in an annotation's name.
+/// The number of the row that is shown from the row of a number on, under the names that are between the ends. `why` is 0 where the
+/// text ends after the rows, otherwise the number of its fault. It takes memory only where an escape is in an annotation's name.
 pub fn look_at(
     alloc: Global,
     text: &str,

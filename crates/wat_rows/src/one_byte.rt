@@ -1,11 +1,11 @@
-//! Tokens of one byte, which are told by that byte and the next: most tokens of most texts.
+//! Tokens of one byte, known by that byte and the next: most tokens of most texts.
 ghost use Rattle.std.specs.Prelude.{◌≡◌, ◌<◌, ◌^◌, length, IfSome};
 ghost use Rattle.std.specs.Str.{IsCharBoundary};
 ghost use Rattle.wat_rows.specs.inside.OneByte.{sorts, longer_before, row_alone, IsRowAlone};
 
 use crate::rows::{TokenRow, plain};
 
-/// Of each byte, in rows of 32, the sorts of bytes before which it may be no token of its own; behind
+/// Of each byte, in rows of 32, the sorts of bytes before which it may be no token of its own; after
 /// these its own sorts as bits, 4 of each, 1 of `;`, 2 of white space; and then, in rows of 24, the
 /// code of its kind where it is a token of its own.
 // One table, so that one address serves for all three.
@@ -63,7 +63,7 @@ fn row_alone(byte: u8, at: usize) -> TokenRow
     }
 }
 
-/// The row of the token of one byte at a place, where its first two bytes tell that one stands there.
+/// The row of the token of one byte at a place, where its first two bytes tell that one is there.
 // Found so, a token of one byte takes half of the instructions of a scan.
 #[inline(always)]
 pub fn alone(text: &str, at: usize) -> Option<TokenRow>

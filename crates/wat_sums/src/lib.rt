@@ -51,7 +51,7 @@ impl<'a> Parse<'a> for Term {
     }
 }
 
-/// A number behind `neg`, which stands for its negative.
+/// A number after `neg`, which stands for its negative.
 #[tactic(auto, unfolding(crate::specs::Sums::negative))]
 fn negative(parser: &mut Parser<'_>) -> Result<Term, Error>
     ensures kept { IsKept parser.old parser.new }

@@ -6,7 +6,7 @@ use std::fmt;
 use wat_commands::ends::{Failed, Sink};
 use wat_lines::block::Block;
 
-/// How many lines are shown in front of a change and after it.
+/// How many lines are shown before a change and after it.
 const CONTEXT: usize = 3;
 
 /// What comes after a last line without an end.
@@ -52,7 +52,7 @@ impl Stretch {
     }
 }
 
-/// The first line and the number of lines; of no lines the line in front of them.
+/// The first line and the number of lines; of no lines the line before them.
 impl fmt::Display for Stretch {
     fn fmt<W: fmt::Write>(&self, f: &mut fmt::Formatter<W>) -> fmt::Result {
         let first = self.from.lines.saturating_add(1);
@@ -127,7 +127,7 @@ impl Patch<'_> {
         Ok(())
     }
 
-    /// Puts a change after the lines that are shown in front of it.
+    /// Puts a change after the lines that are shown before it.
     fn put_change<W: Sink>(
         &mut self,
         output: &mut W,

@@ -7,7 +7,7 @@ use Rattle.wat_lexer_parser.specs.lemmas.TypeLaws.{advances_keyword, advances_on
 use Rattle.wat_lexer_parser.specs.lemmas.WhileLaws.{some_takes}
 use Rattle.wat_lexer_parser.specs.parser.Sights.{Sight}
 use Rattle.wat_lexer_parser.specs.parser.State.{State}
-use Rattle.wat_lexer_parser.specs.readings.Readings.{Reading, joined_while, mapped, told_as, while_seen}
+use Rattle.wat_lexer_parser.specs.readings.Readings.{Reading, joined_while, mapped, known_as, while_seen}
 use Rattle.wat_lexer_parser.specs.readings.Reads.{Advances}
 use Rattle.wat_types.specs.Meanings.{f32_word, f64_word, i32_word, i64_word, kw, number_types, val}
 use Rattle.wat_types.specs.declared.types.ValType.{ValType}
@@ -26,7 +26,7 @@ joined_map f (x ∷ xs) = ap (λ vs. f x ++ vs) (joined_map f xs)
 
 -- the values of lists that were read, joined
 pub joined_read : {X V : Type 0} (f : X → List V) (sight : Sight) (m : Reading (List V)) (a : State) (xs : List X) (vs : List V) → (while_seen sight m a).answer ≡ Ok (map f xs) → vs ≡ flat_map f xs → (joined_while sight m a).answer ≡ Ok vs
-joined_read f sight m a xs vs h e = ap (told_as (λ vss. flat_map (λ vs. vs) vss)) h ∙ ap Ok (joined_map f xs ∙ sym e)
+joined_read f sight m a xs vs h e = ap (known_as (λ vss. flat_map (λ vs. vs) vss)) h ∙ ap Ok (joined_map f xs ∙ sym e)
 
 -- where there is one, memory may have been asked for
 pub joined_takes : {X V : Type 0} (f : X → List V) (sight : Sight) (m : Reading (List V)) (a : State) (xs : List X) → (while_seen sight m a).answer ≡ Ok (map f xs) → 0 < length xs → (joined_while sight m a).takes_memory ≡ true

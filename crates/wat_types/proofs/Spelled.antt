@@ -14,7 +14,7 @@ use Rattle.wat_lex.specs.declared.lexer.kinds.TokenKind.TheVariants.{Keyword, Id
 use Rattle.wat_lexer_parser.specs.groups.Sorts.{is_close}
 use Rattle.wat_lexer_parser.specs.parser.Takers.{as_id, as_keyword, name_or_report, name_takes}
 use Rattle.wat_lexer_parser.specs.readings.Types.{Spelled, spelling, as_owned_id, named_by}
-use Rattle.wat_lexer_parser.specs.rules.Rules.{Ground, Rule, Telling, One, one, Group, While, told_word, tells_kind, tells_second, tells_more}
+use Rattle.wat_lexer_parser.specs.rules.Rules.{Ground, Rule, Telling, One, one, Group, While, known_word, tells_kind, tells_second, tells_more}
 use Rattle.wat_lexer_parser.specs.rules.Rules as rules
 use Rattle.wat_types.proofs.Formats.{val, vals, name, named_or_all, param, returns, func, definition, module_types}
 use Rattle.wat_types.specs.Signatures.{Signature}
@@ -49,12 +49,12 @@ word_of_rule g w ts n r h = one_word g w ts h.1.0 r h.1.1
 rule_of_word : (g : Ground) (w : List ℕ) (t : Token) (r : List Token) → IsWord g.text w t → (keyword w).rule g (t ∷ r) t.offset r
 rule_of_word g w t r h = ((tt, t.offset), (tt, one (word_read g.text w w t h ∙ ap spells_by ((bytes_eq-Decides w w).1 refl)), refl), refl)
 
-seen_by : (b : Bool) → told_word (spells_by b) ≡ Ok b
+seen_by : (b : Bool) → known_word (spells_by b) ≡ Ok b
 seen_by true = refl
 seen_by false = refl
 
 sees_other : (g : Ground) (w u : List ℕ) (b : Bool) (t : Token) (r : List Token) → bytes_eq u w ≡ b → IsWord g.text u t → (a_keyword w).look g (t ∷ r) ≡ Ok b
-sees_other g w u b t r e h = ap told_word (word_read g.text w u t h) ∙ seen_by (bytes_eq u w) ∙ ap Ok e
+sees_other g w u b t r e h = ap known_word (word_read g.text w u t h) ∙ seen_by (bytes_eq u w) ∙ ap Ok e
 
 -- Values.
 
@@ -222,30 +222,30 @@ rule_of_name g t r h =
     let read = one (ap (named_by owned) is) in
     inl (ap (no_name_by g t) h.kind, (identified_by g h.name t, (((h.name, owned), t.offset), ((h.name, owned), read, refl), refl), refl))
 
-abbrev behind_open : Telling
-behind_open = tells_second (a_keyword (codes "param")).look
+abbrev after_open : Telling
+after_open = tells_second (a_keyword (codes "param")).look
 
-is_param : (g : Ground) (ts : List Token) (vs : List ValType) (r : List Token) → Param g.text ts vs r → Group param.rule g ts vs r × (behind_open g ts ≡ Ok true)
+is_param : (g : Ground) (ts : List Token) (vs : List ValType) (r : List Token) → Param g.text ts vs r → Group param.rule g ts vs r × (after_open g ts ≡ Ok true)
 unfolding param
 is_param g _ _ r (grammar.named {w = w} {n = n} {c = c} {ts = ts} {v = v} opens h i k closes) =
     (rules.group opens (w.offset, n ∷ ts, rule_of_word g (codes "param") w (n ∷ ts) h, (Some (identified_by g i.name n), ts, rule_of_name g n ts i, (v, is_val g ts v (c ∷ r) k, refl))) closes, sees_other g (codes "param") (codes "param") true w (n ∷ ts) refl h)
 is_param g _ vs r (grammar.listed {w = w} {c = c} {ts = ts} opens h k closes) =
     (rules.group opens (w.offset, ts, rule_of_word g (codes "param") w ts h, (None, ts, inr (vals_no_name g ts vs c r closes k, (refl, refl)), is_vals g ts vs c r closes k)) closes, sees_other g (codes "param") (codes "param") true w ts refl h)
 
--- no param stands behind a returns, nor behind what is behind the func
-returns_no_param : (g : Ground) (ts : List Token) (rs : List (List ValType)) (c : Token) (r : List Token) → (a_keyword (codes "param")).look g r ≡ Ok false → Star (Returns g.text) ts rs (c ∷ r) → behind_open g ts ≡ Ok false
+-- no param comes after a returns, nor after what is after the func
+returns_no_param : (g : Ground) (ts : List Token) (rs : List (List ValType)) (c : Token) (r : List Token) → (a_keyword (codes "param")).look g r ≡ Ok false → Star (Returns g.text) ts rs (c ∷ r) → after_open g ts ≡ Ok false
 returns_no_param g _ _ c r e grammar.none = e
 returns_no_param g _ _ c r e (grammar.more (returned {w = w} {ts = ts} opens h listed closes) others) = sees_other g (codes "param") (codes "result") false w ts refl h
 
 is_func : (g : Ground) (ts : List Token) (f : Signature) (r : List Token) → (a_keyword (codes "param")).look g r ≡ Ok false → Func g.text ts f r → Group func.rule g ts f r
 unfolding func
 is_func g _ f r e (grammar.func {w = w} {c = c} {ts = ts} {us = us} {ps = ps} {rs = rs} opens h params results closes is) =
-    let first = while_of g behind_open (Group param.rule) (Param g.text) (is_param g) ts ps us (returns_no_param g us rs c r e results) params in
+    let first = while_of g after_open (Group param.rule) (Param g.text) (is_param g) ts ps us (returns_no_param g us rs c r e results) params in
     let others = while_of g tells_more (Group returns.rule) (Returns g.text) (is_returns g) us rs (c ∷ r) (ap (λ k. Ok (not (is_close k))) closes) results in
     rules.group opens (w.offset, ts, rule_of_word g (codes "func") w ts h, (flat_map (λ vs. vs) ps, us, (ps, first, refl), (flat_map (λ vs. vs) rs, (rs, others, refl), sym is))) closes
 
 no_word_at : (g : Ground) (c : Token) (r : List Token) → IsClose c → (a_keyword (codes "param")).look g (c ∷ r) ≡ Ok false
-no_word_at g c r closes = ap (λ k. told_word (spelling as_keyword (codes "param") g.text c k)) closes
+no_word_at g c r closes = ap (λ k. known_word (spelling as_keyword (codes "param") g.text c k)) closes
 
 func_no_name : (g : Ground) (ts : List Token) (f : Signature) (r : List Token) → Func g.text ts f r → tells_kind as_id g ts ≡ Ok false
 func_no_name g _ f r (grammar.func {o = o} opens h params results closes is) = ap (no_name_by g o) opens

@@ -66,6 +66,6 @@ pub data Definition (text : List ℕ) : List Token → Signature → List Token 
   identified : {o w n c : Token} {ts r : List Token} {f : Signature} → IsOpen o → IsWord text (codes "type") w → IsName text n → Func text ts f (c ∷ r) → IsClose c → Definition text (o ∷ w ∷ n ∷ ts) f r
   plain : {o w c : Token} {ts r : List Token} {f : Signature} → IsOpen o → IsWord text (codes "type") w → Func text ts f (c ∷ r) → IsClose c → Definition text (o ∷ w ∷ ts) f r
 
--- module = "(" module type* ")", and nothing behind it
+-- module = "(" module type* ")", and nothing after it
 pub data Module (text : List ℕ) : List Token → List Signature → Type 0 where
   definitions : {o w c : Token} {ts : List Token} {fs : List Signature} → IsOpen o → IsWord text (codes "module") w → Star (Definition text) ts fs (c ∷ []) → IsClose c → Module text (o ∷ w ∷ ts) fs

@@ -64,7 +64,7 @@ vals = many val
 abbrev pub name : Reading (Option Spelled)
 name = optional an_identifier identifier
 
--- one val behind an identifier, and else all before `)`
+-- one val after an identifier, and else all before `)`
 abbrev pub named_or_all : Option Spelled → Reading (List ValType)
 named_or_all (Some i) = allocated (mapped (λ v. v ∷ []) val)
 named_or_all None = vals

@@ -66,7 +66,7 @@ fn vals(parser: &mut Parser<'_>) -> Result<Vec<ValType>, Error>
     parser.all_of::<ValType>()
 }
 
-/// The number types that stand behind a keyword, within the parentheses of both.
+/// The number types that come after a keyword, within the parentheses of both.
 #[derive(Drop)]
 struct Listed<K> {
     types: Vec<ValType>,
@@ -86,7 +86,7 @@ fn joined<K>(alloc: Global, lists: &[Parens<Listed<K>>]) -> Result<Vec<ValType>,
     Ok(types)
 }
 
-/// What stands within the parentheses of a `param`.
+/// What is within the parentheses of a `param`.
 impl<'a> Parse<'a> for Listed<kw::param> {
     ghost use Rattle.std.specs.Prelude.{List};
     ghost use Rattle.wat_types.specs.Meanings.{param};
@@ -116,7 +116,7 @@ impl<'a> Parse<'a> for Listed<kw::param> {
     }
 }
 
-/// What stands within the parentheses of a `result`.
+/// What is within the parentheses of a `result`.
 impl<'a> Parse<'a> for Listed<kw::result> {
     ghost use Rattle.std.specs.Prelude.{List};
     ghost use Rattle.wat_types.specs.Meanings.{returns};
@@ -144,7 +144,7 @@ fn params(parser: &mut Parser<'_>) -> Result<Vec<ValType>, Error>
     ensures on { parser.old.place ≤ parser.new.place }
     ensures reads { Reads (λ v. v.items) params parser.old result parser.new.place }
 {
-    let all = parser.all_behind::<kw::param, Parens<Listed<kw::param>>>()?;
+    let all = parser.all_after::<kw::param, Parens<Listed<kw::param>>>()?;
     Ok(joined(parser.alloc(), &all)?)
 }
 
@@ -158,7 +158,7 @@ fn results(parser: &mut Parser<'_>) -> Result<Vec<ValType>, Error>
     Ok(joined(parser.alloc(), &all)?)
 }
 
-/// What stands within the parentheses of a `func`.
+/// What is within the parentheses of a `func`.
 impl<'a> Parse<'a> for FuncType {
     ghost use Rattle.wat_types.specs.Meanings.{func};
     ghost use Rattle.wat_types.specs.Signatures.{Signature, signature};
@@ -178,7 +178,7 @@ impl<'a> Parse<'a> for FuncType {
     }
 }
 
-/// What stands within the parentheses of a `type`. Its identifier is read and dropped.
+/// What is within the parentheses of a `type`. Its identifier is read and dropped.
 #[derive(Drop)]
 struct Definition {
     func: FuncType,
@@ -219,7 +219,7 @@ fn definitions(parser: &mut Parser<'_>) -> Result<Vec<FuncType>, Error>
     Ok(types)
 }
 
-/// What stands within the parentheses of a module.
+/// What is within the parentheses of a module.
 #[derive(Drop)]
 struct Fields {
     types: Vec<FuncType>,

@@ -1,6 +1,6 @@
 -- WebAssembly specification, text format, lexical format: keywords; and the annotations proposal: the names of
 -- the custom, name, producers, dylink and branch hint annotations. Which words are standard, and at which place
--- each stands, is this project's own table.
+-- each is, is this project's own table.
 use Rattle.std.specs.Prelude.{ℕ, Bool, true, false, List, [], ◌∷◌, ◌++◌, ◌==◌, if◌then◌else◌, codes, slice_index_or}
 
 -- how messages show a word: between backquotes, with `@` before it where it is an annotation's name

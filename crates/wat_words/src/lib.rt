@@ -12,7 +12,7 @@ mod table;
 pub trait Word {
     ghost AT: { Bool };
 
-    /// Whether the word is an annotation's name, which a text writes behind `@`.
+    /// Whether the word is an annotation's name, which a text writes after `@`.
     const AT: bool;
 
     /// The bytes of the word.

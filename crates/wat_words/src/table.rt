@@ -1,10 +1,10 @@
-//! The tables of the words, each of which stands here once.
+//! The tables of the words, each of which is here once.
 
 ghost use Rattle.std.specs.Prelude.{◌≡◌, false, true, map, slice_index_or};
 ghost use Rattle.wat_words.specs.Words.{annotation_word, quoted, standard_word};
 
 /// The standard words in the order of their places, each as `words` or `displays` has it.
-/// Ten stand in a row, which goes on indented where it is long.
+/// Ten are in a row, which goes on indented where it is long.
 macro_rules! standard {
     ($entries:ident) => {
         $entries! {
@@ -67,14 +67,14 @@ macro_rules! annotations {
     };
 }
 
-/// The words behind the first text, which is the sign that displays have before them.
+/// The words after the first text, which is the sign that displays have before them.
 macro_rules! words {
     ($sign:literal $($word:literal)*) => {
         [$($word),*]
     };
 }
 
-/// The displays of the words behind the first text, which is the sign that each has before it.
+/// The displays of the words after the first text, which is the sign that each has before it.
 macro_rules! displays {
     ($sign:literal $($word:literal)*) => {
         [$(concat!("`", $sign, $word, "`")),*]

@@ -1,6 +1,6 @@
 // Made by tools/erase from crates/wat_parser_c/src/lib.rt; do not edit.
 //! The lexer of the WebAssembly text format for programs in C and Rust, as a static library. What
-//! C owes, and what each function answers to C, stands in `include/wat.h`.
+//! C owes, and what each function answers to C, is in `include/wat.h`.
 
 use wat_lex::shim::prelude::*;
 pub mod answers;
@@ -65,9 +65,9 @@ pub unsafe extern "C" fn wat_is_place(text: *const u8, text_len: usize, pos: usi
 #[repr(C)]
 #[derive(Clone, Copy, Debug, PartialEq)]
 pub struct Position {
-    /// How many line feeds stand before the place.
+    /// How many line feeds come before the place.
     pub line: usize,
-    /// How many bytes stand before it in its line.
+    /// How many bytes come before it in its line.
     pub column: usize,
 }
 
@@ -96,7 +96,7 @@ pub unsafe extern "C" fn wat_line_column(
     Position { line, column }
 }
 
-/// What stands at a byte of the text: a token, the text's end, or a fault.
+/// What is at a byte of the text: a token, the text's end, or a fault.
 ///
 /// # Proved
 ///
@@ -153,7 +153,7 @@ pub unsafe extern "C" fn wat_token_at(
 }
 
 /// Fills rows with the tokens from a byte of the text on, up to its end or its first fault, or as
-/// many as there is room for. The rows behind them stay.
+/// many as there is room for. The rows after them stay.
 ///
 /// # Proved
 ///
@@ -295,7 +295,7 @@ pub unsafe extern "C" fn wat_integer(
 }
 
 /// A part of the floating-point number at a byte of the text: 0 for the digits before the dot, 1 for
-/// those behind it, 2 for those of the exponent, 3 for those of a payload.
+/// those after it, 2 for those of the exponent, 3 for those of a payload.
 ///
 /// # Proved
 ///

@@ -8,7 +8,7 @@ mod table;
 /// A word that a token must spell, as a type:
 /// a keyword, a reserved symbol or the name of an annotation.
 pub trait Word {
-    /// Whether the word is an annotation's name, which a text writes behind `@`.
+    /// Whether the word is an annotation's name, which a text writes after `@`.
     const AT: bool;
 
     /// The word as a text spells it, without the `@` of an annotation.

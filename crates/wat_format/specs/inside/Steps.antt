@@ -11,7 +11,7 @@ use Rattle.wat_format.specs.declared.error.Error.TheVariants.{Memory, Fault, Too
 use Rattle.wat_format.specs.declared.group.Group.{Group}
 use Rattle.wat_format.specs.Sorts.{sort_of}
 use Rattle.wat_format.specs.Gaps.{gap_text}
-use Rattle.wat_format.specs.Layout.{State, laid, layout, gap_before, line_level, behind}
+use Rattle.wat_format.specs.Layout.{State, laid, layout, gap_before, line_level, after}
 
 -- no group has more open blocks than this
 abbrev pub HasFew : ℕ → Group → Type 0
@@ -21,12 +21,12 @@ pub record Few (n : ℕ) (s : State) : Type 0 where
   pub open_group : HasFew n s.groups.open_group
   pub around : All (HasFew n) s.groups.around
 
--- a token of this kind and with this text is written behind what was
+-- a token of this kind and with this text is written after what was
 pub record Writes (kind : TokenKind) (w : List ℕ) (s s' : State) (out out' : List ℕ) : Type 0 where
   pub bytes : let y = sort_of s.before kind w in let g = gap_before y s in out' ≡ out ++ (gap_text g (line_level y g s) ++ w)
-  pub state : let y = sort_of s.before kind w in s' ≡ behind y (line_level y (gap_before y s) s) s
+  pub state : let y = sort_of s.before kind w in s' ≡ after y (line_level y (gap_before y s) s) s
 
--- what is written of a token and of those behind it is what was written of it, and then what is written of those
+-- what is written of a token and of those after it is what was written of it, and then what is written of those
 abbrev pub Lays : List ℕ → State → Token → State → List ℕ → List ℕ → Type 0
 Lays text s t s' out out' = (ts : List Token) → out ++ laid text s (t ∷ ts) ≡ out' ++ laid text s' ts
 

@@ -19,7 +19,7 @@ abbrev pub is_mark : Sort → Bool
 is_mark Mark = true
 is_mark y = false
 
--- it may stand apart from a `(` before it
+-- it may be apart from a `(` before it
 abbrev pub may_part : Sort → Bool
 may_part Mark = true
 may_part At = true

@@ -10,8 +10,8 @@ use Rattle.wat_format.specs.Streams.{AppendsPrefix, AppendsPart}
 use Rattle.wat_format.specs.declared.stream.WriteError.{WriteError}
 use Rattle.wat_format.specs.declared.stream.WriteError.TheVariants.{Fault, Failed}
 
--- a token at a place, and the place behind it
-pub record StandsAt (s : Setting) (p : ℕ) (t : Token) : Type 0 where
+-- a token at a place, and the place after it
+pub record TokenIsAt (s : Setting) (p : ℕ) (t : Token) : Type 0 where
   pub token : TokenAt s p t
   pub some : 0 < t.len
   pub boundary : IsCharBoundary s.text (p + t.len)

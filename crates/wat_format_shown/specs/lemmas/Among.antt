@@ -15,7 +15,7 @@ use Rattle.wat_lexer_parser.specs.declared.parser.fault.FaultKind.TheVariants.{L
 use Rattle.wat_lexer_parser.specs.declared.parser.fault.Step.{Step}
 use Rattle.wat_lexer_parser.specs.declared.parser.fault.Step.TheVariants.{Pass, Take, Finish, Refuse, Skip}
 use Rattle.wat_lexer_parser.specs.groups.Sorts.{is_blank, is_marked}
-use Rattle.wat_lexer_parser.specs.lemmas.Behind.{does}
+use Rattle.wat_lexer_parser.specs.lemmas.After.{does}
 use Rattle.wat_lexer_parser.specs.names.RegisteredNames.{Names, is_registered}
 use Rattle.wat_lexer_parser.specs.places.Source.{Source, IsRead}
 use Rattle.wat_lexer_parser.specs.laws.Counting.{counting}
@@ -102,7 +102,7 @@ first_or_rest u t ts (suc n, e) = inr (n, e)
 pub paren_at : (s : Setting) (p : ℕ) (t : Token) → TokenAt s p t → t.kind ≡ LParen → t.len ≡ 1
 unfolding encode
 paren_at s p t h e =
-    let w : h.word ≡ 40 ∷ [] = subst (λ k. Word k h.word s.flags) e h.stands.word in
+    let w : h.word ≡ 40 ∷ [] = subst (λ k. Word k h.word s.flags) e h.is_at.word in
     h.len ∙ ap size w
 
 paren_in : (s : Setting) (p to : ℕ) (ts : List Token) (t : Token) → Tiling s p to ts → Among (counting ts) t → t.kind ≡ LParen → t.len ≡ 1

@@ -13,7 +13,7 @@ use Rattle.wat_lexer_parser.specs.declared.parser.fault.FaultKind.TheVariants.{L
 use Rattle.wat_lexer_parser.specs.declared.parser.fault.Step.{Step}
 use Rattle.wat_lexer_parser.specs.declared.parser.fault.Step.TheVariants.{Pass, Take, Finish, Refuse, Skip}
 use Rattle.wat_lexer_parser.specs.groups.Sorts.{is_marked}
-use Rattle.wat_lexer_parser.specs.lemmas.Behind.{does}
+use Rattle.wat_lexer_parser.specs.lemmas.After.{does}
 use Rattle.wat_lexer_parser.specs.names.RegisteredNames.{Names, is_registered}
 use Rattle.wat_lexer_parser.specs.shown.Shown.{Finding, left_open}
 use Rattle.wat_lexer_parser.specs.inside.ShownIn.{Mode, Showing, Inside, shown_in, name_by, name_at, step_named, step_next, step_kind, step_of, closed_one, after, first}

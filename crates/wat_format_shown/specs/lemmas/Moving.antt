@@ -14,11 +14,11 @@ use Rattle.wat_lexer_parser.specs.parser.Takers.{Reader, may_take_at, taken_at}
 use Rattle.wat_lexer_parser.specs.places.Places.{current_span, empty_of}
 use Rattle.wat_lexer_parser.specs.places.Source.{Source}
 use Rattle.wat_lexer_parser.specs.readings.Attempts.{attempts_held, attempts_message, attempts_report}
-use Rattle.wat_lexer_parser.specs.readings.Choices.{Choice, one_behind, one_of}
-use Rattle.wat_lexer_parser.specs.readings.Readings.{Outcome, Reading, allocated, also_first, also_taking, and_then, and_then_by, behind, checked, checked_by, closed_by, give, given, group, inside_by, mapped, mapped_by, on, opened_by, optional, passed_by, refuse, refuse_behind, refused, spanned, token, token_by, told_as, under, under_by, up_to, where_seen, where_seen_by, while_seen}
+use Rattle.wat_lexer_parser.specs.readings.Choices.{Choice, one_after, one_of}
+use Rattle.wat_lexer_parser.specs.readings.Readings.{Outcome, Reading, allocated, also_first, also_taking, and_then, and_then_by, after, checked, checked_by, closed_by, give, given, group, inside_by, mapped, mapped_by, on, opened_by, optional, passed_by, refuse, refuse_after, refused, spanned, token, token_by, known_as, under, under_by, up_to, where_seen, where_seen_by, while_seen}
 use Rattle.wat_lexer_parser.specs.laws.Counting.{counting}
 use Rattle.wat_lexer_parser.specs.shown.Showing.{shown}
-use Rattle.wat_format_shown.specs.Reads.{AnswerMoved, Moves, MovesReader, MovesSight, OutcomeMoved, ToldMoved}
+use Rattle.wat_format_shown.specs.Reads.{AnswerMoved, Moves, MovesReader, MovesSight, OutcomeMoved, KnownMoved}
 use Rattle.wat_format_shown.specs.Sides.{Sides, Alike, AllSame, SameRefusal, at_places, passed}
 use Rattle.wat_format_shown.specs.lemmas.Seeing.{NeedsToken, Onward, ShownLaws, PlaceMoved, TakenMoved, alike_at, closed_moves, empty_moves, opened_moves, report_moves, span_moves, taken_moves}
 
@@ -47,8 +47,8 @@ moved_give moved v w s ts e h = (ap Ok e, ts, alike_at s s.here.place (s.here.pl
 pub moves_refuse : ShownLaws → {V : Type 0} (moved : (ℕ → ℕ) → V → V) (n : ℕ) (message : List ℕ) → Moves n moved (refuse message)
 moves_refuse laws moved n message s ts h = refuses (moved s.move) n s ts _ _ 0 0 (report_moves laws s ts message h)
 
-pub moves_refuse_behind : {V : Type 0} (moved : (ℕ → ℕ) → V → V) (n : ℕ) (message : List ℕ) → Moves n moved (refuse_behind message)
-moves_refuse_behind moved n message s ts h = refuses (moved s.move) n s ts _ _ 0 0 (record { cause = refl; offset = h.place; excerpt = refl })
+pub moves_refuse_after : {V : Type 0} (moved : (ℕ → ℕ) → V → V) (n : ℕ) (message : List ℕ) → Moves n moved (refuse_after message)
+moves_refuse_after moved n message s ts h = refuses (moved s.move) n s ts _ _ 0 0 (record { cause = refl; offset = h.place; excerpt = refl })
 
 -- A token.
 
@@ -71,9 +71,9 @@ moves_token laws moved read message r s ts h =
 pub moved_mapped : {V W : Type 0} (g : V → V) (h : W → W) (f e : V → W) (n : ℕ) (s : Sides) (ts : List Token) (o q : Outcome V) → ((v : V) → e (g v) ≡ h (f v)) → OutcomeMoved g n s ts o q → OutcomeMoved h n s ts (mapped_by f o) (mapped_by e q)
 moved_mapped {V} {W} g h f e n s ts o q same k = by_answer o.answer k
   where
-    by_answer : (x : Result V Report) → AnswerMoved g n s ts x o.passed q → AnswerMoved h n s ts (told_as f x) o.passed (mapped_by e q)
-    by_answer (Ok v) k = (ap (told_as e) k.0 ∙ ap Ok (same v), k.1, k.2, k.3)
-    by_answer (Err r) k = (k.0, ap (told_as e) k.1, k.2)
+    by_answer : (x : Result V Report) → AnswerMoved g n s ts x o.passed q → AnswerMoved h n s ts (known_as f x) o.passed (mapped_by e q)
+    by_answer (Ok v) k = (ap (known_as e) k.0 ∙ ap Ok (same v), k.1, k.2, k.3)
+    by_answer (Err r) k = (k.0, ap (known_as e) k.1, k.2)
 
 -- the value with its span, where a token is shown if there is a value, so that it is the span of one
 pub moved_spanned : ShownLaws → {V : Type 0} (g : V → V) (n : ℕ) (s : Sides) (ts : List Token) (o q : Outcome V)
@@ -82,11 +82,11 @@ pub moved_spanned : ShownLaws → {V : Type 0} (g : V → V) (n : ℕ) (s : Side
 moved_spanned laws {V} g n s ts o q need h k = by_answer o.answer refl k
   where
     by_answer : (x : Result V Report) → o.answer ≡ x → AnswerMoved g n s ts x o.passed q
-        → AnswerMoved {V = V × ℕ} (λ v. (g v.0, s.move v.1)) n s ts (told_as (λ v. (v, current_span s.here.source s.here.place s.here.names)) x) o.passed (mapped_by (λ v. (v, current_span s.there.source s.there.place s.there.names)) q)
+        → AnswerMoved {V = V × ℕ} (λ v. (g v.0, s.move v.1)) n s ts (known_as (λ v. (v, current_span s.here.source s.here.place s.here.names)) x) o.passed (mapped_by (λ v. (v, current_span s.there.source s.there.place s.there.names)) q)
     by_answer (Ok v) e k =
         let t = need v e in
-        (ap (told_as {W = V × ℕ} (λ v. (v, current_span s.there.source s.there.place s.there.names))) k.0 ∙ ap (λ p. Ok (g v, p)) (span_moves laws s ts t.0 t.1 t.2 h), k.1, k.2, k.3)
-    by_answer (Err r) e k = (k.0, ap (told_as {W = V × ℕ} (λ v. (v, current_span s.there.source s.there.place s.there.names))) k.1, k.2)
+        (ap (known_as {W = V × ℕ} (λ v. (v, current_span s.there.source s.there.place s.there.names))) k.0 ∙ ap (λ p. Ok (g v, p)) (span_moves laws s ts t.0 t.1 t.2 h), k.1, k.2, k.3)
+    by_answer (Err r) e k = (k.0, ap (known_as {W = V × ℕ} (λ v. (v, current_span s.there.source s.there.place s.there.names))) k.1, k.2)
 
 pub moved_checked : {V W : Type 0} (g : V → V) (h : W → W) (check : V → Option W) (n : ℕ) (s : Sides) (ts : List Token) (o q : Outcome V) (f e : Report) → ((v : V) → check (g v) ≡ option_map h (check v)) → SameRefusal s f e → OutcomeMoved g n s ts o q
     → OutcomeMoved h n s ts (checked_by o.answer o check (refused f 0)) (checked_by q.answer q check (refused e 0))
@@ -112,12 +112,12 @@ moved_also {V} g t u n s ts o q h = by_answer o.answer h
     by_answer (Ok v) h = h
     by_answer (Err f) h = h
 
--- One behind another.
+-- One after another.
 
-moved_behind : {V : Type 0} (g : V → V) (i j k l : ℕ) (t u : Bool) (s : Sides) (ts r : List Token) (o q : Outcome V) → length r + i ≤ length ts → OutcomeMoved g j (passed s k l) r o q → OutcomeMoved g (i + j) s ts (behind k t o) (behind l u q)
-moved_behind {V} g i j k l t u s ts r o q few h = by_answer o.answer h
+moved_after : {V : Type 0} (g : V → V) (i j k l : ℕ) (t u : Bool) (s : Sides) (ts r : List Token) (o q : Outcome V) → length r + i ≤ length ts → OutcomeMoved g j (passed s k l) r o q → OutcomeMoved g (i + j) s ts (after k t o) (after l u q)
+moved_after {V} g i j k l t u s ts r o q few h = by_answer o.answer h
   where
-    by_answer : (x : Result V Report) → AnswerMoved g j (passed s k l) r x o.passed q → AnswerMoved g (i + j) s ts x (k + o.passed) (behind l u q)
+    by_answer : (x : Result V Report) → AnswerMoved g j (passed s k l) r x o.passed q → AnswerMoved g (i + j) s ts x (k + o.passed) (after l u q)
     by_answer (Ok v) h =
         (h.0, h.1, alike_at s (s.here.place + k + o.passed) (s.here.place + (k + o.passed)) (s.there.place + l + q.passed) (s.there.place + (l + q.passed)) h.1 (omega arith) (omega arith) h.2, omega (arith, few, h.3))
     by_answer (Err f) h = h
@@ -129,16 +129,16 @@ moved_and_then {V} {W} g h i j s ts o q next then_there first more = by_answer o
   where
     by_answer : (x : Result V Report) → AnswerMoved g i s ts x o.passed q → OutcomeMoved h (i + j) s ts (and_then_by x o.passed o.takes_memory next s.here) (and_then_by q.answer q.passed q.takes_memory then_there s.there)
     by_answer (Ok v) k =
-        let is : and_then_by q.answer q.passed q.takes_memory then_there s.there ≡ behind q.passed q.takes_memory (then_there (g v) (on s.there q.passed)) = ap (λ x. and_then_by x q.passed q.takes_memory then_there s.there) k.0 in
-        subst (λ c. OutcomeMoved h (i + j) s ts (behind o.passed o.takes_memory (next v (on s.here o.passed))) c) (sym is)
-        (moved_behind h i j o.passed q.passed o.takes_memory q.takes_memory s ts k.1 (next v (on s.here o.passed)) (then_there (g v) (on s.there q.passed)) k.3 (more v k.1 k.2 k.3))
+        let is : and_then_by q.answer q.passed q.takes_memory then_there s.there ≡ after q.passed q.takes_memory (then_there (g v) (on s.there q.passed)) = ap (λ x. and_then_by x q.passed q.takes_memory then_there s.there) k.0 in
+        subst (λ c. OutcomeMoved h (i + j) s ts (after o.passed o.takes_memory (next v (on s.here o.passed))) c) (sym is)
+        (moved_after h i j o.passed q.passed o.takes_memory q.takes_memory s ts k.1 (next v (on s.here o.passed)) (then_there (g v) (on s.there q.passed)) k.3 (more v k.1 k.2 k.3))
     by_answer (Err f) k =
         let is : and_then_by q.answer q.passed q.takes_memory then_there s.there ≡ refused k.0 q.passed = ap (λ x. and_then_by x q.passed q.takes_memory then_there s.there) k.1 in
         subst (λ c. OutcomeMoved h (i + j) s ts (refused f o.passed) c) (sym is) (k.0, refl, k.2)
 
 -- Looks.
 
-pub moved_where_seen : {V : Type 0} (g : V → V) (n : ℕ) (s : Sides) (ts : List Token) (a b : Result Bool Report) (t u : Bool) (o q c d : Outcome V) → ToldMoved s a b → OutcomeMoved g n s ts o q → OutcomeMoved g n s ts c d
+pub moved_where_seen : {V : Type 0} (g : V → V) (n : ℕ) (s : Sides) (ts : List Token) (a b : Result Bool Report) (t u : Bool) (o q c d : Outcome V) → KnownMoved s a b → OutcomeMoved g n s ts o q → OutcomeMoved g n s ts c d
     → OutcomeMoved g n s ts (where_seen_by a t o c) (where_seen_by b u q d)
 moved_where_seen g n s ts (Ok true) b t u o q c d h k j = subst (λ b. OutcomeMoved g n s ts (also_taking t o) (where_seen_by b u q d)) (sym h) (moved_also g t u n s ts o q k)
 moved_where_seen g n s ts (Ok false) b t u o q c d h k j = subst (λ b. OutcomeMoved g n s ts (also_taking t c) (where_seen_by b u q d)) (sym h) (moved_also g t u n s ts c d j)
@@ -154,16 +154,16 @@ abbrev pub EachMoves : {V : Type 0} → ℕ → ((ℕ → ℕ) → V → V) → 
 EachMoves n moved [] = Unit {0}
 EachMoves n moved (c ∷ cs) = MovesSight c.sight × Moves n moved c.reading × EachMoves n moved cs
 
-one_behind_moves : ShownLaws → {V : Type 0} (n : ℕ) (moved : (ℕ → ℕ) → V → V) (missed : List (List ℕ)) (cs : List (Choice V)) → EachMoves n moved cs → Moves n moved (one_behind missed cs)
-one_behind_moves laws n moved missed [] e s ts h = refuses (moved s.move) n s ts _ _ 0 0 (attempts_moves laws s ts missed h)
-one_behind_moves laws n moved missed (c ∷ cs) e s ts h =
+one_after_moves : ShownLaws → {V : Type 0} (n : ℕ) (moved : (ℕ → ℕ) → V → V) (missed : List (List ℕ)) (cs : List (Choice V)) → EachMoves n moved cs → Moves n moved (one_after missed cs)
+one_after_moves laws n moved missed [] e s ts h = refuses (moved s.move) n s ts _ _ 0 0 (attempts_moves laws s ts missed h)
+one_after_moves laws n moved missed (c ∷ cs) e s ts h =
     let takes = nat_le attempts_held (length missed) in
-    let rest = one_behind (missed ++ (c.shows ∷ [])) cs in
-    moved_where_seen (moved s.move) n s ts (c.sight s.here).told (c.sight s.there).told (c.sight s.here).takes (c.sight s.there).takes (c.reading s.here) (c.reading s.there) (also_taking takes (rest s.here)) (also_taking takes (rest s.there)) (e.0 s ts h) (e.1 s ts h)
-    (moved_also (moved s.move) takes takes n s ts (rest s.here) (rest s.there) (one_behind_moves laws n moved (missed ++ (c.shows ∷ [])) cs e.2 s ts h))
+    let rest = one_after (missed ++ (c.shows ∷ [])) cs in
+    moved_where_seen (moved s.move) n s ts (c.sight s.here).known (c.sight s.there).known (c.sight s.here).takes (c.sight s.there).takes (c.reading s.here) (c.reading s.there) (also_taking takes (rest s.here)) (also_taking takes (rest s.there)) (e.0 s ts h) (e.1 s ts h)
+    (moved_also (moved s.move) takes takes n s ts (rest s.here) (rest s.there) (one_after_moves laws n moved (missed ++ (c.shows ∷ [])) cs e.2 s ts h))
 
 pub moves_one_of : ShownLaws → {V : Type 0} (n : ℕ) (moved : (ℕ → ℕ) → V → V) (cs : List (Choice V)) → EachMoves n moved cs → Moves n moved (one_of cs)
-moves_one_of laws n moved cs e = one_behind_moves laws n moved [] cs e
+moves_one_of laws n moved cs e = one_after_moves laws n moved [] cs e
 
 -- Loops.
 
@@ -180,7 +180,7 @@ moved_up_to moved (suc i) (suc j) sight m look one s ts h l k =
     let first = moved_and_then (moved s.move) all 1 0 s ts o q (λ v a. mapped_by (λ vs. v ∷ vs) (up_to i sight m a)) (λ v a. mapped_by (λ vs. v ∷ vs) (up_to j sight m a)) (one s ts h)
     (λ v r alike few. moved_mapped all all (λ vs. v ∷ vs) (λ vs. moved s.move v ∷ vs) 0 (passed s o.passed q.passed) r (up_to i sight m (on s.here o.passed)) (up_to j sight m (on s.there q.passed)) (λ vs. refl)
     (moved_up_to moved i j sight m look one (passed s o.passed q.passed) r alike (omega (arith, few, l)) (omega (arith, few, k)))) in
-    moved_where_seen all 0 s ts (sight s.here).told (sight s.there).told (sight s.here).takes (sight s.there).takes (also_first m (up_to i sight m) s.here) (also_first m (up_to j sight m) s.there) (give [] s.here) (give [] s.there) (look s ts h)
+    moved_where_seen all 0 s ts (sight s.here).known (sight s.there).known (sight s.here).takes (sight s.there).takes (also_first m (up_to i sight m) s.here) (also_first m (up_to j sight m) s.there) (give [] s.here) (give [] s.there) (look s ts h)
     (moved_also all true true 0 s ts both_here both_there (at_least all 1 0 s ts both_here both_there (omega arith) first)) (moved_give all [] [] s ts refl h)
 
 counting_fewer : (ts : List Token) → length (counting ts) ≤ length ts
@@ -207,7 +207,7 @@ moves_while moved sight m look one s ts h =
 
 -- Groups.
 
--- behind the parentheses, one level deeper
+-- after the parentheses, one level deeper
 abbrev pub within : Sides → ℕ → ℕ → Sides
 within s p q = record s { here = inside s.here p; there = inside s.there q }
 
@@ -267,7 +267,7 @@ moves_as moved other n m e one s ts h = moved_as (moved s.move) (other s.move) n
 pub moves_mapped : {V W : Type 0} (moved : (ℕ → ℕ) → V → V) (other : (ℕ → ℕ) → W → W) (f : V → W) (n : ℕ) (m : Reading V) → ((move : ℕ → ℕ) (v : V) → f (moved move v) ≡ other move (f v)) → Moves n moved m → Moves n other (mapped f m)
 moves_mapped moved other f n m e one s ts h = moved_mapped (moved s.move) (other s.move) f f n s ts (m s.here) (m s.there) (e s.move) (one s ts h)
 
--- the value with the byte at which it stands
+-- the value with the byte at which it is
 abbrev pub spanned_moved : {V : Type 0} → ((ℕ → ℕ) → V → V) → (ℕ → ℕ) → V × ℕ → V × ℕ
 spanned_moved moved move v = (moved move v.0, move v.1)
 
@@ -297,7 +297,7 @@ moves_and_then moved other i j m next one more s ts h = moved_and_then (moved s.
 
 pub moves_where_seen : {V : Type 0} (moved : (ℕ → ℕ) → V → V) (n : ℕ) (sight : Sight) (m other : Reading V) → MovesSight sight → Moves n moved m → Moves n moved other → Moves n moved (where_seen sight m other)
 moves_where_seen moved n sight m other look one two s ts h =
-    moved_where_seen (moved s.move) n s ts (sight s.here).told (sight s.there).told (sight s.here).takes (sight s.there).takes (m s.here) (m s.there) (other s.here) (other s.there) (look s ts h) (one s ts h) (two s ts h)
+    moved_where_seen (moved s.move) n s ts (sight s.here).known (sight s.there).known (sight s.here).takes (sight s.there).takes (m s.here) (m s.there) (other s.here) (other s.there) (look s ts h) (one s ts h) (two s ts h)
 
 pub moves_optional : {V : Type 0} (moved : (ℕ → ℕ) → V → V) (n : ℕ) (sight : Sight) (m : Reading V) → MovesSight sight → Moves n moved m → Moves 0 (λ move. option_map (moved move)) (optional sight m)
 moves_optional {V} moved n sight m look one =

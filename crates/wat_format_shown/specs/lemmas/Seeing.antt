@@ -17,24 +17,24 @@ use Rattle.wat_lexer_parser.specs.declared.parser.fault.Fault.{Fault}
 use Rattle.wat_lexer_parser.specs.declared.parser.fault.FaultKind.{FaultKind}
 use Rattle.wat_lexer_parser.specs.declared.parser.fault.FaultKind.TheVariants.{Lex, Unclosed}
 use Rattle.wat_lexer_parser.specs.groups.Sorts.{is_close}
-use Rattle.wat_lexer_parser.specs.lemmas.Behind.{BehindPlace, behind_in, behind_place, forward_in, same_token, shown_is_taken}
+use Rattle.wat_lexer_parser.specs.lemmas.After.{AfterPlace, after_in, after_place, forward_in, same_token, shown_is_taken}
 use Rattle.wat_lexer_parser.specs.parser.Closures.{opened, closed}
-use Rattle.wat_lexer_parser.specs.parser.Sights.{Sight, second, seen_behind, sight_of}
-use Rattle.wat_lexer_parser.specs.parser.State.{State, Seen, at_place, report_here, report_of, seen, seen_at, told}
+use Rattle.wat_lexer_parser.specs.parser.Sights.{Sight, second, seen_after, sight_of}
+use Rattle.wat_lexer_parser.specs.parser.State.{State, Seen, at_place, report_here, report_of, seen, seen_at, known}
 use Rattle.wat_lexer_parser.specs.parser.Takers.{Reader, as_open, as_close, as_keyword, as_reserved, as_string, as_integer, as_float, as_id, as_annotation, contains, is_minus, name_or_report, name_takes, taken, taken_at, taken_by}
 use Rattle.wat_lexer_parser.specs.lemmas.Parts.{sees, taken_or}
 use Rattle.wat_lexer_parser.specs.places.Places.{current_span, empty_of}
 use Rattle.wat_lexer_parser.specs.lemmas.Parts as parts
 use Rattle.wat_lexer_parser.specs.places.Source.{Source, IsRead}
 use Rattle.wat_lexer_parser.specs.readings.Readings.{Reading, more_comes}
-use Rattle.wat_lexer_parser.specs.readings.Types.{behind_open, is_taken, sees_annotation, sees_word, spelling, spelling_by, as_owned_id, named_by}
-use Rattle.wat_lexer_parser.specs.laws.Counting.{CountingShowsTheSame, counting, counting_behind}
+use Rattle.wat_lexer_parser.specs.readings.Types.{after_open, is_taken, sees_annotation, sees_word, spelling, spelling_by, as_owned_id, named_by}
+use Rattle.wat_lexer_parser.specs.laws.Counting.{CountingShowsTheSame, counting, counting_after}
 use Rattle.wat_lexer_parser.specs.shown.Shown.{Finding}
 use Rattle.wat_lexer_parser.specs.inside.ShownIn.{Showing, shown_in}
 use Rattle.wat_lexer_parser.specs.shown.Showing.{OneThingShown, SomethingShown, placed, shown}
 use Rattle.wat_format_shown.specs.Moved.{fault_moved, place_moved, token_moved}
-use Rattle.wat_format_shown.specs.Reads.{MovesReader, MovesSight, ReadMoved, ToldMoved}
-use Rattle.wat_format_shown.specs.Sides.{Sides, Alike, AllSame, Among, Met, RefusalMoved, Same, SameRefusal, Stand, after_token, at_end, at_token, at_places}
+use Rattle.wat_format_shown.specs.Reads.{MovesReader, MovesSight, ReadMoved, KnownMoved}
+use Rattle.wat_format_shown.specs.Sides.{Sides, Alike, AllSame, Among, Met, RefusalMoved, Same, SameRefusal, Correspond, after_token, at_end, at_token, at_places}
 use Rattle.wat_format_shown.specs.lemmas.Among.{FaultIn, FoundIn, among_counting, found_in, paren_of}
 use Rattle.wat_format_shown.specs.lemmas.Found.{Found, found}
 
@@ -49,7 +49,7 @@ pub record ShownLaws : Type 0 where
 finding : State → Finding
 finding a = shown_in a.source.setting.text a.source.ending a.names Showing (drop a.place a.source.tokens)
 
-seen_is : (a : State) → seen_at a ≡ told a.source.setting.text (placed a.source.tokens (finding a))
+seen_is : (a : State) → seen_at a ≡ known a.source.setting.text (placed a.source.tokens (finding a))
 unfolding seen shown finding
 seen_is a = refl
 
@@ -61,17 +61,17 @@ span_is : (a : State) → current_span a.source a.place a.names ≡ parts.span_o
 unfolding current_span shown finding
 span_is a = refl
 
-counted : ShownLaws → (a : State) → IsUtf8 a.source.setting.text → IsRead a.source → a.source.ending ≡ None → counting_behind (finding a) ≡ shown_in a.source.setting.text None a.names Showing (counting (drop a.place a.source.tokens))
+counted : ShownLaws → (a : State) → IsUtf8 a.source.setting.text → IsRead a.source → a.source.ending ≡ None → counting_after (finding a) ≡ shown_in a.source.setting.text None a.names Showing (counting (drop a.place a.source.tokens))
 unfolding finding
 counted laws a u r e =
     let x = a.source.setting.text in
     let ts = counting (drop a.place a.source.tokens) in
     let some = laws.counting a.source a.names a.place (finding a) u r (laws.some a.source a.names a.place u r) in
-    laws.one x a.source.ending a.names ts (counting_behind (finding a)) some ∙ ap (λ e. shown_in x e a.names Showing ts) e
+    laws.one x a.source.ending a.names ts (counting_after (finding a)) some ∙ ap (λ e. shown_in x e a.names Showing ts) e
 
-behind_finding : (a : State) (t : Token) (r : List Token) → finding a ≡ Ok (Some (t, r)) → BehindPlace t a.source.tokens a.place r
+after_finding : (a : State) (t : Token) (r : List Token) → finding a ≡ Ok (Some (t, r)) → AfterPlace t a.source.tokens a.place r
 unfolding finding
-behind_finding a t r e = behind_place t a.source.tokens a.place r (behind_in a.source.setting.text a.source.ending a.names Showing (drop a.place a.source.tokens) t r e)
+after_finding a t r e = after_place t a.source.tokens a.place r (after_in a.source.setting.text a.source.ending a.names Showing (drop a.place a.source.tokens) t r e)
 
 module _ (laws : ShownLaws) (s : Sides) where
   abbrev x : List ℕ
@@ -80,19 +80,19 @@ module _ (laws : ShownLaws) (s : Sides) where
   abbrev y : List ℕ
   y = s.there.source.setting.text
 
-  found_here : (ts : List Token) → Alike s ts → counting_behind (finding s.here) ≡ shown_in x None s.here.names Showing ts
+  found_here : (ts : List Token) → Alike s ts → counting_after (finding s.here) ≡ shown_in x None s.here.names Showing ts
   found_here ts h = counted laws s.here h.texts.utf8.0 h.texts.read.0 h.texts.ending.0 ∙ ap (shown_in x None s.here.names Showing) h.here
 
-  found_there : (ts : List Token) → Alike s ts → counting_behind (finding s.there) ≡ shown_in y None s.here.names Showing (counting (drop s.there.place s.there.source.tokens))
+  found_there : (ts : List Token) → Alike s ts → counting_after (finding s.there) ≡ shown_in y None s.here.names Showing (counting (drop s.there.place s.there.source.tokens))
   found_there ts h = counted laws s.there h.texts.utf8.1 h.texts.read.1 h.texts.ending.1 ∙ ap (λ n. shown_in y None n Showing (counting (drop s.there.place s.there.source.tokens))) h.names
 
-  found_both : (ts : List Token) → Alike s ts → Found x y s.move (counting_behind (finding s.here)) (counting_behind (finding s.there))
+  found_both : (ts : List Token) → Alike s ts → Found x y s.move (counting_after (finding s.here)) (counting_after (finding s.there))
   found_both ts h =
       let us = counting (drop s.there.place s.there.source.tokens) in
-      subst (λ a. Found x y s.move a (counting_behind (finding s.there))) (sym (found_here ts h)) (subst (λ b. Found x y s.move (shown_in x None s.here.names Showing ts) b) (sym (found_there ts h)) (found x y s.move s.here.names ts us h.there Showing))
+      subst (λ a. Found x y s.move a (counting_after (finding s.there))) (sym (found_here ts h)) (subst (λ b. Found x y s.move (shown_in x None s.here.names Showing ts) b) (sym (found_there ts h)) (found x y s.move s.here.names ts us h.there Showing))
 
   -- a token that is found counts, and a fault is at one that does
-  seen_in : (ts : List Token) → Alike s ts → FoundIn (counting s.here.source.tokens) (counting_behind (finding s.here))
+  seen_in : (ts : List Token) → Alike s ts → FoundIn (counting s.here.source.tokens) (counting_after (finding s.here))
   seen_in ts h =
       let all = counting s.here.source.tokens in
       let among : (t : Token) → Among ts t → Among all t = λ t k. among_counting s.here.source.tokens s.here.place t (subst (λ l. Among l t) (sym h.here) k) in
@@ -112,8 +112,8 @@ refusal_of : (move : ℕ → ℕ) (s r : Source) → IsRead s → (f : Fault) �
 unfolding report_of
 refusal_of move s r read f h = refusal_by move s r read f.offset f.kind h
 
-span_by : (s : Sides) (ts : List Token) (f g : Finding) → Alike s ts → FoundIn (counting s.here.source.tokens) (counting_behind f) → Found s.here.source.setting.text s.there.source.setting.text s.move (counting_behind f) (counting_behind g)
-    → Stand s (parts.span_of s.here.source s.here.place (placed s.here.source.tokens f)) (parts.span_of s.there.source s.there.place (placed s.there.source.tokens g))
+span_by : (s : Sides) (ts : List Token) (f g : Finding) → Alike s ts → FoundIn (counting s.here.source.tokens) (counting_after f) → Found s.here.source.setting.text s.there.source.setting.text s.move (counting_after f) (counting_after g)
+    → Correspond s (parts.span_of s.here.source s.here.place (placed s.here.source.tokens f)) (parts.span_of s.there.source s.there.place (placed s.there.source.tokens g))
 span_by s ts (Ok None) (Ok None) h i k = at_end refl refl
 span_by s ts (Ok None) (Ok (Some (u, q))) h i k = cc
 span_by s ts (Ok None) (Err g) h i k = cc
@@ -124,19 +124,19 @@ span_by s ts (Err f) (Ok None) h i k = cc
 span_by s ts (Err f) (Ok (Some (u, q))) h i k = cc
 span_by s ts (Err f) (Err g) h i k = h.place
 
-pub span_stands : ShownLaws → (s : Sides) (ts : List Token) → Alike s ts → Stand s (current_span s.here.source s.here.place s.here.names) (current_span s.there.source s.there.place s.there.names)
-span_stands laws s ts h =
+pub span_is_at : ShownLaws → (s : Sides) (ts : List Token) → Alike s ts → Correspond s (current_span s.here.source s.here.place s.here.names) (current_span s.there.source s.there.place s.there.names)
+span_is_at laws s ts h =
     let there = parts.span_of s.there.source s.there.place (placed s.there.source.tokens (finding s.there)) in
-    subst (λ p. Stand s p (current_span s.there.source s.there.place s.there.names)) (sym (span_is s.here)) (subst (λ q. Stand s (parts.span_of s.here.source s.here.place (placed s.here.source.tokens (finding s.here))) q) (sym (span_is s.there)) (span_by s ts (finding s.here) (finding s.there) h (seen_in laws s ts h) (found_both laws s ts h)))
+    subst (λ p. Correspond s p (current_span s.there.source s.there.place s.there.names)) (sym (span_is s.here)) (subst (λ q. Correspond s (parts.span_of s.here.source s.here.place (placed s.here.source.tokens (finding s.here))) q) (sym (span_is s.there)) (span_by s ts (finding s.here) (finding s.there) h (seen_in laws s ts h) (found_both laws s ts h)))
 
 pub report_moves : ShownLaws → (s : Sides) (ts : List Token) (message : List ℕ) → Alike s ts → SameRefusal s (report_here s.here.source s.here.place s.here.names message) (report_here s.there.source s.there.place s.there.names message)
-report_moves laws s ts message h = record { cause = refl; offset = span_stands laws s ts h; excerpt = refl }
+report_moves laws s ts message h = record { cause = refl; offset = span_is_at laws s ts h; excerpt = refl }
 
 -- a reading that needs a token to be shown
 abbrev pub NeedsToken : {V : Type 0} → Reading V → Type 0
 NeedsToken {V} m = (a : State) (v : V) → (m a).answer ≡ Ok v → (t : Token) × (q : ℕ) × (shown a.source a.place a.names ≡ Ok (Some (t, q)))
 
-span_of_token : (s : Sides) (ts : List Token) (f g : Finding) (t : Token) (q : ℕ) → Found s.here.source.setting.text s.there.source.setting.text s.move (counting_behind f) (counting_behind g) → placed s.here.source.tokens f ≡ Ok (Some (t, q))
+span_of_token : (s : Sides) (ts : List Token) (f g : Finding) (t : Token) (q : ℕ) → Found s.here.source.setting.text s.there.source.setting.text s.move (counting_after f) (counting_after g) → placed s.here.source.tokens f ≡ Ok (Some (t, q))
     → parts.span_of s.there.source s.there.place (placed s.there.source.tokens g) ≡ s.move (parts.span_of s.here.source s.here.place (placed s.here.source.tokens f))
 span_of_token s ts (Ok None) g t q k e = cc
 span_of_token s ts (Ok (Some (v, r))) (Ok None) t q k e = let d = k.2 in cc
@@ -155,7 +155,7 @@ span_moves laws s ts t q e h =
 pub alike_at : (s : Sides) (p p' q q' : ℕ) (ts : List Token) → p ≡ p' → q ≡ q' → Alike (at_places s p q) ts → Alike (at_places s p' q') ts
 alike_at s p p' q q' ts d e h = subst (λ q. Alike (at_places s p' q) ts) e (subst (λ p. Alike (at_places s p q) ts) d h)
 
--- the places behind a token that is taken from both
+-- the places after a token that is taken from both
 pub record Onward (s : Sides) (ts : List Token) (p q : ℕ) : Type 0 where
   pub rest : List Token
   pub alike : Alike (at_places s p q) rest
@@ -173,13 +173,13 @@ onward : ShownLaws → (s : Sides) (ts : List Token) (t u v : Token) (r q z : Li
 onward laws s ts t u v r q z h e d w c same rest among =
     let x = s.here.source.setting.text in
     let y = s.there.source.setting.text in
-    let b = behind_finding s.here t r e in
-    let f = behind_finding s.there u q d in
+    let b = after_finding s.here t r e in
+    let f = after_finding s.there u q d in
     let p = length s.here.source.tokens - length r in
     let o = length s.there.source.tokens - length q in
     let taken = shown_is_taken s.here.source s.here.place s.here.names t p (shown_is s.here ∙ ap (placed s.here.source.tokens) e) in
     let other = shown_is_taken s.there.source s.there.place s.there.names u o (shown_is s.there ∙ ap (placed s.there.source.tokens) d) in
-    let counts : shown_in x None s.here.names Showing ts ≡ Ok (Some (t, counting r)) = sym (found_here laws s ts h) ∙ ap counting_behind e in
+    let counts : shown_in x None s.here.names Showing ts ≡ Ok (Some (t, counting r)) = sym (found_here laws s ts h) ∙ ap counting_after e in
     record {
       rest = counting r;
       alike = record {
@@ -194,15 +194,15 @@ onward laws s ts t u v r q z h e d w c same rest among =
       there = f.forward;
     }
 
-seen_by : ShownLaws → (s : Sides) (ts : List Token) (f g : Finding) → Alike s ts → finding s.here ≡ f → finding s.there ≡ g → Found s.here.source.setting.text s.there.source.setting.text s.move (counting_behind f) (counting_behind g)
-    → SeenMoved s ts (told s.here.source.setting.text (placed s.here.source.tokens f)) (told s.there.source.setting.text (placed s.there.source.tokens g))
+seen_by : ShownLaws → (s : Sides) (ts : List Token) (f g : Finding) → Alike s ts → finding s.here ≡ f → finding s.there ≡ g → Found s.here.source.setting.text s.there.source.setting.text s.move (counting_after f) (counting_after g)
+    → SeenMoved s ts (known s.here.source.setting.text (placed s.here.source.tokens f)) (known s.there.source.setting.text (placed s.there.source.tokens g))
 seen_by laws s ts (Ok None) (Ok None) h e d k = refl
 seen_by laws s ts (Ok None) (Ok (Some (u, q))) h e d k = cc
 seen_by laws s ts (Ok None) (Err g) h e d k = cc
 seen_by laws s ts (Ok (Some (t, r))) (Ok None) h e d k = let c = k.2 in cc
 seen_by laws s ts (Ok (Some (t, r))) (Ok (Some (u, q))) h e d k =
     let c = same_token {F = Fault} u k.0 (counting q) k.1 k.2 in
-    let among : Among (counting s.here.source.tokens) t = subst (λ f. FoundIn (counting s.here.source.tokens) (counting_behind f)) e (seen_in laws s ts h) in
+    let among : Among (counting s.here.source.tokens) t = subst (λ f. FoundIn (counting s.here.source.tokens) (counting_after f)) e (seen_in laws s ts h) in
     let at = length s.there.source.tokens - length q in (
       at,
       ap (λ v. Ok (Some (v, at))) (c.0 ∙ k.3.is),
@@ -214,13 +214,13 @@ seen_by laws s ts (Err f) (Ok None) h e d k = cc
 seen_by laws s ts (Err f) (Ok (Some (u, q))) h e d k = cc
 seen_by laws s ts (Err f) (Err g) h e d k =
     let c : g ≡ fault_moved s.move f = cc in
-    let at : FaultIn (counting s.here.source.tokens) f.kind f.offset = subst (λ f. FoundIn (counting s.here.source.tokens) (counting_behind f)) e (seen_in laws s ts h) in
+    let at : FaultIn (counting s.here.source.tokens) f.kind f.offset = subst (λ f. FoundIn (counting s.here.source.tokens) (counting_after f)) e (seen_in laws s ts h) in
     (report_of s.there.source.setting.text (fault_moved s.move f), ap (λ g. Err (report_of s.there.source.setting.text g)) c, refusal_of s.move s.here.source s.there.source h.texts.read.0 f at)
 
 pub seen_moves : ShownLaws → (s : Sides) (ts : List Token) → Alike s ts → SeenMoved s ts (seen_at s.here) (seen_at s.there)
 seen_moves laws s ts h =
     subst (λ a. SeenMoved s ts a (seen_at s.there)) (sym (seen_is s.here))
-    (subst (λ b. SeenMoved s ts (told s.here.source.setting.text (placed s.here.source.tokens (finding s.here))) b) (sym (seen_is s.there)) (seen_by laws s ts (finding s.here) (finding s.there) h refl refl (found_both laws s ts h)))
+    (subst (λ b. SeenMoved s ts (known s.here.source.setting.text (placed s.here.source.tokens (finding s.here))) b) (sym (seen_is s.there)) (seen_by laws s ts (finding s.here) (finding s.there) h refl refl (found_both laws s ts h)))
 
 -- What is taken.
 
@@ -350,7 +350,7 @@ moves_spelling read w r s t e = spelling_moves s w (read s.here.source.setting.t
 
 -- Parentheses.
 
--- the places behind a parenthesis that both take, or the same refusal
+-- the places after a parenthesis that both take, or the same refusal
 abbrev pub PlaceMoved : Sides → List Token → Result ℕ Report → Result ℕ Report → Type 0
 PlaceMoved s ts (Ok p) b = (q : ℕ) × (b ≡ Ok q) × Onward s ts p q
 PlaceMoved s ts (Err f) b = (g : Report) × (b ≡ Err g) × SameRefusal s f g
@@ -376,7 +376,7 @@ some_moves moved s (Some (Ok v)) b h = ap is_some h
 some_moves moved s (Some (Err f)) b h = ap is_some h.1
 
 sees_of_seen : {V : Type 0} (moved : (ℕ → ℕ) → V → V) (read : Reader V) → MovesReader moved read → (s : Sides) (ts : List Token) (a b : Seen) → SeenMoved s ts a b
-    → ToldMoved s (sees read s.here.source.setting.text a) (sees read s.there.source.setting.text b)
+    → KnownMoved s (sees read s.here.source.setting.text a) (sees read s.there.source.setting.text b)
 sees_of_seen moved read r s ts (Ok None) b h = ap (sees read s.there.source.setting.text) h
 sees_of_seen moved read r s ts (Ok (Some (t, p))) b h = ap (sees read s.there.source.setting.text) h.1 ∙ ap Ok (some_moves (moved s.move) s (read s.here.source.setting.text t t.kind) _ (r s t h.2))
 sees_of_seen moved read r s ts (Err f) b h = (h.0, ap (sees read s.there.source.setting.text) h.1, h.2)
@@ -384,7 +384,7 @@ sees_of_seen moved read r s ts (Err f) b h = (h.0, ap (sees read s.there.source.
 pub moves_sight_of : ShownLaws → {V : Type 0} (moved : (ℕ → ℕ) → V → V) (read : Reader V) → MovesReader moved read → MovesSight (sight_of read)
 moves_sight_of laws moved read r s ts h = sees_of_seen moved read r s ts (seen_at s.here) (seen_at s.there) (seen_moves laws s ts h)
 
-empty_by : (s : Sides) (f g : Finding) → Found s.here.source.setting.text s.there.source.setting.text s.move (counting_behind f) (counting_behind g) → empty_of (placed s.there.source.tokens g) ≡ empty_of (placed s.here.source.tokens f)
+empty_by : (s : Sides) (f g : Finding) → Found s.here.source.setting.text s.there.source.setting.text s.move (counting_after f) (counting_after g) → empty_of (placed s.there.source.tokens g) ≡ empty_of (placed s.here.source.tokens f)
 empty_by s (Ok None) (Ok None) k = refl
 empty_by s (Ok None) (Ok (Some (u, q))) k = cc
 empty_by s (Ok None) (Err g) k = cc
@@ -402,25 +402,25 @@ empty_moves laws s ts h = ap empty_of (shown_is s.there) ∙ empty_by s (finding
 pub moves_more : ShownLaws → MovesSight more_comes
 moves_more laws s ts h = ap (λ empty. Ok (not empty)) (empty_moves laws s ts h)
 
-second_moves : (sight : Sight) → MovesSight sight → (s : Sides) (ts : List Token) (a b : Seen) → SeenMoved s ts a b → ToldMoved s (seen_behind sight s.here a).told (seen_behind sight s.there b).told
-second_moves sight m s ts (Ok None) b h = ap (λ b. (seen_behind sight s.there b).told) h
+second_moves : (sight : Sight) → MovesSight sight → (s : Sides) (ts : List Token) (a b : Seen) → SeenMoved s ts a b → KnownMoved s (seen_after sight s.here a).known (seen_after sight s.there b).known
+second_moves sight m s ts (Ok None) b h = ap (λ b. (seen_after sight s.there b).known) h
 second_moves sight m s ts (Ok (Some (t, p))) b h =
-    subst (λ b. ToldMoved s (sight (at_place s.here p)).told (seen_behind sight s.there b).told) (sym h.1) (m (at_places s p h.0) h.3.rest h.3.alike)
-second_moves sight m s ts (Err f) b h = (h.0, ap (λ b. (seen_behind sight s.there b).told) h.1, h.2)
+    subst (λ b. KnownMoved s (sight (at_place s.here p)).known (seen_after sight s.there b).known) (sym h.1) (m (at_places s p h.0) h.3.rest h.3.alike)
+second_moves sight m s ts (Err f) b h = (h.0, ap (λ b. (seen_after sight s.there b).known) h.1, h.2)
 
 pub moves_second : ShownLaws → (sight : Sight) → MovesSight sight → MovesSight (second sight)
 moves_second laws sight m s ts h = second_moves sight m s ts (seen_at s.here) (seen_at s.there) (seen_moves laws s ts h)
 
-open_moves : (sight : Sight) → MovesSight sight → (s : Sides) (ts : List Token) (a b : Result (Option (Unit {0} × ℕ)) Report) → TakenMoved (λ v. v) s ts a b → ToldMoved s (seen_behind sight s.here a).told (seen_behind sight s.there b).told
-open_moves sight m s ts (Ok None) b h = ap (λ b. (seen_behind sight s.there b).told) h
+open_moves : (sight : Sight) → MovesSight sight → (s : Sides) (ts : List Token) (a b : Result (Option (Unit {0} × ℕ)) Report) → TakenMoved (λ v. v) s ts a b → KnownMoved s (seen_after sight s.here a).known (seen_after sight s.there b).known
+open_moves sight m s ts (Ok None) b h = ap (λ b. (seen_after sight s.there b).known) h
 open_moves sight m s ts (Ok (Some (u, p))) b h =
-    subst (λ b. ToldMoved s (sight (at_place s.here p)).told (seen_behind sight s.there b).told) (sym h.1) (m (at_places s p h.0) h.2.rest h.2.alike)
-open_moves sight m s ts (Err f) b h = (h.0, ap (λ b. (seen_behind sight s.there b).told) h.1, h.2)
+    subst (λ b. KnownMoved s (sight (at_place s.here p)).known (seen_after sight s.there b).known) (sym h.1) (m (at_places s p h.0) h.2.rest h.2.alike)
+open_moves sight m s ts (Err f) b h = (h.0, ap (λ b. (seen_after sight s.there b).known) h.1, h.2)
 
-pub moves_behind_open : ShownLaws → (sight : Sight) → MovesSight sight → MovesSight (behind_open sight)
-moves_behind_open laws sight m s ts h = open_moves sight m s ts (taken_at as_open s.here) (taken_at as_open s.there) (taken_moves laws (λ move v. v) as_open moves_open s ts h)
+pub moves_after_open : ShownLaws → (sight : Sight) → MovesSight sight → MovesSight (after_open sight)
+moves_after_open laws sight m s ts h = open_moves sight m s ts (taken_at as_open s.here) (taken_at as_open s.there) (taken_moves laws (λ move v. v) as_open moves_open s ts h)
 
-word_moves : (s : Sides) (ts : List Token) (a b : Result (Option (Unit {0} × ℕ)) Report) → TakenMoved (λ v. v) s ts a b → ToldMoved s (is_taken a) (is_taken b)
+word_moves : (s : Sides) (ts : List Token) (a b : Result (Option (Unit {0} × ℕ)) Report) → TakenMoved (λ v. v) s ts a b → KnownMoved s (is_taken a) (is_taken b)
 word_moves s ts (Ok None) b h = ap is_taken h
 word_moves s ts (Ok (Some (u, p))) b h = ap is_taken h.1
 word_moves s ts (Err f) b h = (h.0, ap is_taken h.1, h.2)

@@ -6,11 +6,11 @@ use Rattle.std.specs.Option.{option_map}
 use Rattle.std.specs.Str.{is_utf8}
 use Rattle.wat_lexer_parser.specs.parser.Sights.{Sight, second}
 use Rattle.wat_lexer_parser.specs.parser.Takers.{Reader, as_annotation, as_id, as_integer, as_keyword, as_string}
-use Rattle.wat_lexer_parser.specs.readings.Readings.{Reading, give, group, joined_while, mapped, refuse, refuse_behind, spanned, token, where_seen, while_seen}
+use Rattle.wat_lexer_parser.specs.readings.Readings.{Reading, give, group, joined_while, mapped, refuse, refuse_after, spanned, token, where_seen, while_seen}
 use Rattle.wat_lexer_parser.specs.readings.Types.{Reference, Named, Number, Spelled, an_identifier, an_index, an_integer, annotation, bytes, identifier, integer, keyword, name_annotation, optional_name, owned_text, sees_annotation, spelling, text, u32, under_standard, unsigned_below, utf8_or_refused, word, as_owned_id}
 use Rattle.wat_words.specs.Words.{annotation_word, quoted}
 use Rattle.wat_format_shown.specs.Reads.{Moves, MovesReader, MovesSight}
-use Rattle.wat_format_shown.specs.lemmas.Moving.{moves_allocated, moves_and_then, moves_as, moves_checked, moves_give, moves_group, moves_mapped, moves_optional, moves_refuse, moves_refuse_behind, moves_spanned, moves_token, moves_under, moves_where_seen, moves_while, needs_checked, needs_token, spanned_moved}
+use Rattle.wat_format_shown.specs.lemmas.Moving.{moves_allocated, moves_and_then, moves_as, moves_checked, moves_give, moves_group, moves_mapped, moves_optional, moves_refuse, moves_refuse_after, moves_spanned, moves_token, moves_under, moves_where_seen, moves_while, needs_checked, needs_token, spanned_moved}
 use Rattle.wat_format_shown.specs.lemmas.Seeing.{NeedsToken, ShownLaws, moves_annotation, moves_id, moves_integer, moves_keyword, moves_named, moves_owned_id, moves_second, moves_sight_of, moves_spelling, moves_string}
 
 -- a value without spans stays
@@ -25,7 +25,7 @@ abbrev pub reference_moved : (ℕ → ℕ) → Reference → Reference
 reference_moved move (Number n span) = Number n (move span)
 reference_moved move (Named i) = Named (spelled_moved move i)
 
--- the byte at which something stands
+-- the byte at which something is
 abbrev pub span_moved : (ℕ → ℕ) → ℕ → ℕ
 span_moved move at = move at
 
@@ -80,9 +80,9 @@ moves_bytes laws = moves_token laws stays as_string (codes "expected a string") 
 moves_utf8 : (v : List ℕ) → Moves 0 stays (utf8_or_refused v)
 moves_utf8 v = by_test (is_utf8 v)
   where
-    by_test : (b : Bool) → Moves 0 stays (if b then give v else refuse_behind (codes "malformed UTF-8 encoding"))
+    by_test : (b : Bool) → Moves 0 stays (if b then give v else refuse_after (codes "malformed UTF-8 encoding"))
     by_test true = moves_give stays v (λ move. refl)
-    by_test false = moves_refuse_behind stays 0 (codes "malformed UTF-8 encoding")
+    by_test false = moves_refuse_after stays 0 (codes "malformed UTF-8 encoding")
 
 pub moves_text : ShownLaws → Moves 1 stays text
 moves_text laws = moves_and_then stays stays 1 0 bytes utf8_or_refused (moves_bytes laws) (λ s ts v h. moves_utf8 v s ts h)

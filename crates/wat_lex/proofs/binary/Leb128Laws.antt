@@ -429,7 +429,7 @@ low_bits_of-below (negsuc n) = omega arith
 pub with_bit_7 : (g : ℕ) → g < 128 → bit_or g 128 ≡ g + 128
 with_bit_7 g below = or_comm g 128 ∙ or_shifted 1 7 g below ∙ add_comm 128 g
 
--- a byte leaves the buffer, and stands in it
+-- a byte leaves the buffer, and is in it
 pub moved : (items all next whole : List ℕ) (b : ℕ) → items ++ all ≡ whole → all ≡ b ∷ next → (items ++ b ∷ []) ++ next ≡ whole
 moved items all next whole b start first = rw append_assoc (ap (λ w. items ++ w) (sym first) ∙ start)
 

@@ -19,7 +19,7 @@ pub last_digit : (base n : ℕ) → IsBase base → n % base < 16
 last_digit base n (inl e) = subst (λ b. n % b < 16) (sym e) (omega arith)
 last_digit base n (inr e) = subst (λ b. n % b < 16) (sym e) (omega arith)
 
--- one digit more stands before those that are there
+-- one digit more comes before those that are there
 pub one_more : (k base n : ℕ) (acc : List ℕ) → (n / base ≡ 0 → ⊥) → digits_onto (suc k) base false n acc ≡ digits_onto k base false (n / base) (digit_glyph false (n % base) ∷ acc)
 one_more k base n acc h =
     ap (λ b. if b then digit_glyph false (n % base) ∷ acc else digits_onto k base false (n / base) (digit_glyph false (n % base) ∷ acc)) (ne_eqb (n / base) 0 h)

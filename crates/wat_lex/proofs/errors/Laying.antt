@@ -26,7 +26,7 @@ module _ (before already bytes text bytes' : List ℕ) (at count : ℕ) (h : Lai
       let parts = length-append (take (length before) already) (drop (length already) before) in
       omega (arith, over, parts, length-take (length before) already, length-drop (length already) before)
 
-  -- what stands before the place, where the old text fits
+  -- what comes before the place, where the old text fits
   fitting_front : length already ≤ length before → take at bytes ≡ already
   fitting_front l =
       let end : at ≡ length already = omega (arith, h.place, l) in

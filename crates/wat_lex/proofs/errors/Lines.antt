@@ -86,14 +86,14 @@ strip_none text (suc m) l n =
     let t = take (suc m) text in
     sym (ap (λ b. if b then take (length t - 1) t else t) (ne_eqb _ 13 (λ e. n (omega arith) (sym (last_of text (suc m) l (omega arith)) ∙ e))))
 
--- ---- the lines behind a line's start
+-- ---- the lines after a line's start
 
 -- nothing, or its last byte is a line feed
 abbrev pub EndsLine : List ℕ → Type 0
 EndsLine pre = (m : ℕ) → length pre ≡ suc m → feed (get_or pre m 0) ≡ true
 
-behind_feed : (xs : List ℕ) (n : ℕ) → slice_get (lines_of_parts ([] ∷ slice_split feed xs)) (suc n) ≡ slice_get (lines xs) n
-behind_feed xs n =
+after_feed : (xs : List ℕ) (n : ℕ) → slice_get (lines_of_parts ([] ∷ slice_split feed xs)) (suc n) ≡ slice_get (lines xs) n
+after_feed xs n =
     let p = parts xs in
     ap (λ ps. slice_get (lines_of_parts ([] ∷ ps)) (suc n)) p.cut ∙ sym (ap (λ ps. slice_get (lines_of_parts ps) n) p.cut)
 
@@ -125,18 +125,18 @@ some_feed y (z ∷ zs) h =
     ]
 
 split_yes : (x : ℕ) (xs : List ℕ) (n : ℕ) → feed x ≡ true → slice_get (lines (x ∷ xs)) (suc n) ≡ slice_get (lines xs) n
-split_yes x xs n t = ap (λ ps. slice_get (lines_of_parts ps) (suc n)) (slice_split-cons_yes feed x xs t) ∙ behind_feed xs n
+split_yes x xs n t = ap (λ ps. slice_get (lines_of_parts ps) (suc n)) (slice_split-cons_yes feed x xs t) ∙ after_feed xs n
 
 split_no : (x : ℕ) (xs : List ℕ) (n : ℕ) → feed x ≡ false → 0 < n → slice_get (lines (x ∷ xs)) n ≡ slice_get (lines xs) n
 split_no x xs zero f l = absurd (omega (arith, l))
 split_no x xs (suc n) f l = ap (λ ps. slice_get (lines_of_parts ps) (suc n)) (slice_split-cons_no feed x xs f) ∙ later_line x (slice_split feed xs) n
 
-pub lines_behind : (pre rest : List ℕ) → EndsLine pre → slice_get (lines (pre ++ rest)) (count_by is_line_feed pre) ≡ slice_get (lines rest) 0
-lines_behind [] rest h = refl
-lines_behind (x ∷ []) rest h = ap (slice_get (lines (x ∷ rest))) (count_yes x [] (h 0 refl)) ∙ split_yes x rest 0 (h 0 refl)
-lines_behind (x ∷ y ∷ ys) rest h =
+pub lines_after : (pre rest : List ℕ) → EndsLine pre → slice_get (lines (pre ++ rest)) (count_by is_line_feed pre) ≡ slice_get (lines rest) 0
+lines_after [] rest h = refl
+lines_after (x ∷ []) rest h = ap (slice_get (lines (x ∷ rest))) (count_yes x [] (h 0 refl)) ∙ split_yes x rest 0 (h 0 refl)
+lines_after (x ∷ y ∷ ys) rest h =
     let ends = rest_ends x y ys h in
-    let more = lines_behind (y ∷ ys) rest ends in
+    let more = lines_after (y ∷ ys) rest ends in
     elim (cases_Bool (feed x)) [
       | inl t ↦ ap (slice_get (lines (x ∷ y ∷ ys ++ rest))) (count_yes x (y ∷ ys) t) ∙ split_yes x (y ∷ ys ++ rest) (count_by is_line_feed (y ∷ ys)) t ∙ more
       | inr f ↦ ap (slice_get (lines (x ∷ y ∷ ys ++ rest))) (count_no x (y ∷ ys) f) ∙ split_no x (y ∷ ys ++ rest) (count_by is_line_feed (y ∷ ys)) f (some_feed y ys ends) ∙ more
@@ -200,7 +200,7 @@ module _ (s : List ℕ) (start : ℕ) (e : length s ≡ start + since s) where
 pub place_within : (text : List ℕ) (offset : ℕ) → offset ≤ length text → line_and_column text offset ≡ (count_by is_line_feed (take offset text), since (take offset text))
 place_within text offset l = ap (λ b. if b then (count_by is_line_feed (take offset text), since (take offset text)) else (length (lines text), 0)) (le-leb offset (length text) l)
 
--- the line that a byte stands in
+-- the line that a byte is in
 module _ (text : List ℕ) (offset column : ℕ) (within : offset ≤ length text) (place : column ≡ (line_and_column text offset).1) where
   abbrev front : List ℕ
   front = take offset text
@@ -238,6 +238,6 @@ module _ (text : List ℕ) (offset column : ℕ) (within : offset ≤ length tex
       let start = offset - column in
       let ends : EndsLine (take start text) = subst EndsLine same_front (start_ends front start start_at) in
       let count : count_by is_line_feed (take start text) ≡ (line_and_column text offset).0 = sym (start_counts front start start_at ∙ ap (count_by is_line_feed) same_front) ∙ sym (ap (λ p. p.0) there) in
-      ap (λ o. unwrap_or o []) (sym (lines_behind (take start text) (drop start text) ends))
+      ap (λ o. unwrap_or o []) (sym (lines_after (take start text) (drop start text) ends))
       ∙ ap (λ t. unwrap_or (slice_get (lines t) (count_by is_line_feed (take start text))) []) (take-append-drop start text)
       ∙ ap (λ n. unwrap_or (slice_get (lines text) n) []) count

@@ -23,14 +23,14 @@ use Rattle.wat_lex.proofs.errors.ShownLines.{all_shown, first_off, last_off, spa
 pub record Walked (line : List ℕ) (at missing bytes : ℕ) : Type 0 where
   pub range : at ≤ length line
   pub before : IsUtf8 (take at line)
-  pub behind : IsUtf8 (drop at line)
+  pub after : IsUtf8 (drop at line)
   pub shown : bytes ≡ length (encodes (all_shown (take at line))) + missing
 
 pub walked_start : (line : List ℕ) (bytes : ℕ) → IsUtf8 line → Walked line 0 bytes bytes
 walked_start line bytes u = record {
   range = omega arith;
   before = IsUtf8-nil;
-  behind = u;
+  after = u;
   shown = sym (ap (λ cs. length (encodes (flat_map shown cs)) + bytes) chars-nil ∙ omega arith);
 }
 
@@ -52,23 +52,23 @@ not_true : (b : Bool) → not b ≡ true → b ≡ false
 not_true true e = absurd (true≢false (sym e))
 not_true false e = refl
 
--- a byte behind the first of a character begins none
+-- a byte after the first of a character begins none
 later_in : (bytes : List ℕ) (k : ℕ) → list_all (λ b. not (is_char_start b)) bytes ≡ true → k < length bytes → is_char_start (get_or bytes k 0) ≡ false
 later_in [] k h l = absurd (omega (arith, l))
 later_in (b ∷ bs) zero h l = not_true (is_char_start b) (and_parts (not (is_char_start b)) (list_all (λ b. not (is_char_start b)) bs) h).0
 later_in (b ∷ bs) (suc k) h l = later_in bs k (and_parts (not (is_char_start b)) (list_all (λ b. not (is_char_start b)) bs) h).1 (omega (arith, l))
 
-later_behind : (b : ℕ) (bytes : List ℕ) (k : ℕ) → list_all (λ b. not (is_char_start b)) bytes ≡ true → 0 < k → k < length (b ∷ bytes) → is_char_start (get_or (b ∷ bytes) k 0) ≡ false
-later_behind b bytes zero h low l = absurd (omega (arith, low))
-later_behind b bytes (suc k) h low l = later_in bytes k h (omega (arith, l))
+later_after : (b : ℕ) (bytes : List ℕ) (k : ℕ) → list_all (λ b. not (is_char_start b)) bytes ≡ true → 0 < k → k < length (b ∷ bytes) → is_char_start (get_or (b ∷ bytes) k 0) ≡ false
+later_after b bytes zero h low l = absurd (omega (arith, low))
+later_after b bytes (suc k) h low l = later_in bytes k h (omega (arith, l))
 
 later_byte : (c k : ℕ) → 0 < k → k < length (encode c) → is_char_start (get_or (encode c) k 0) ≡ false
 later_byte c k low =
     encode_cases c (λ s. k < length s → is_char_start (get_or s k 0) ≡ false)
-    (λ _. later_behind c [] k refl low)
-    (λ a. later_behind (192 + a) (next c ∷ []) k (rw next_byte refl) low)
-    (λ a b. later_behind (224 + a) (next b ∷ next c ∷ []) k (rw (next_byte, next_byte) refl) low)
-    (λ a b d. later_behind (240 + a) (next b ∷ next d ∷ next c ∷ []) k (rw (next_byte, next_byte, next_byte) refl) low)
+    (λ _. later_after c [] k refl low)
+    (λ a. later_after (192 + a) (next c ∷ []) k (rw next_byte refl) low)
+    (λ a b. later_after (224 + a) (next b ∷ next c ∷ []) k (rw (next_byte, next_byte) refl) low)
+    (λ a b d. later_after (240 + a) (next b ∷ next d ∷ next c ∷ []) k (rw (next_byte, next_byte, next_byte) refl) low)
 
 first_byte : (c : ℕ) → is_char_start (get_or (encode c) 0 0) ≡ true
 first_byte c =
@@ -112,7 +112,7 @@ and-false false = refl
 -- the character at the place
 module _ (line rest : List ℕ) (at c missing bytes : ℕ) (whole : IsUtf8 line) (w : Walked line at missing bytes) (here : drop at line ≡ encode c ++ rest) where
   boundary : IsCharBoundary line (at + len_utf8 c)
-  boundary = IsCharBoundary-past_char line rest at c w.range w.behind here
+  boundary = IsCharBoundary-past_char line rest at c w.range w.after here
 
   through : take (at + len_utf8 c) line ≡ take at line ++ encode c
   through =
@@ -126,7 +126,7 @@ module _ (line rest : List ℕ) (at c missing bytes : ℕ) (whole : IsUtf8 line)
   walked_past len e l = record {
     range = boundary.0;
     before = IsUtf8-take line (at + len_utf8 c) whole boundary;
-    behind = subst IsUtf8 (sym (drop_past_char line rest at c here)) (IsUtf8-past_char (drop at line) rest c w.behind here);
+    after = subst IsUtf8 (sym (drop_past_char line rest at c here)) (IsUtf8-past_char (drop at line) rest c w.after here);
     shown =
         let more : length (encodes (all_shown (take (at + len_utf8 c) line))) ≡ length (encodes (all_shown (take at line))) + length (encodes (shown c)) =
         ap (λ s. length (encodes s)) shown_through ∙ ap length (encodes-append (all_shown (take at line)) (shown c)) ∙ length-append (encodes (all_shown (take at line))) (encodes (shown c)) in
@@ -138,7 +138,7 @@ module _ (line rest : List ℕ) (at c missing bytes : ℕ) (whole : IsUtf8 line)
   cut_here =
       ap (λ t. encodes (all_shown t)) (sym (take-append-drop at line)) ∙ ap (λ cs. encodes (flat_map shown cs)) (chars-append (take at line) (drop at line) w.before)
       ∙ ap encodes (flat_map-append shown (chars (take at line)) (chars (drop at line))) ∙ encodes-append (all_shown (take at line)) (all_shown (drop at line))
-      ∙ ap (λ x. encodes (all_shown (take at line)) ++ encodes x) (first_off (drop at line) rest c w.behind here) ∙ ap (λ x. encodes (all_shown (take at line)) ++ x) (encodes-append (shown c) (all_shown rest))
+      ∙ ap (λ x. encodes (all_shown (take at line)) ++ encodes x) (first_off (drop at line) rest c w.after here) ∙ ap (λ x. encodes (all_shown (take at line)) ++ x) (encodes-append (shown c) (all_shown rest))
 
   byte_here : get_or (shown_line line) bytes 0 ≡ get_or (encodes (shown c) ++ encodes (all_shown rest)) missing 0
   byte_here =

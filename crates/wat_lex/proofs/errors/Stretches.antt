@@ -98,14 +98,14 @@ module _ (line rest : List ℕ) (c : ℕ) (u : IsUtf8 line) (here : line ≡ enc
   pub past_first : IsCharBoundary line (len_utf8 c)
   past_first = subst (IsCharBoundary line) (zero-add (len_utf8 c)) (IsCharBoundary-past_char line rest 0 c (omega arith) u here)
 
-  pub behind_first : drop (len_utf8 c) line ≡ rest
-  behind_first = ap (λ k. drop k line) (sym (zero-add (len_utf8 c))) ∙ drop_past_char line rest 0 c here
+  pub after_first : drop (len_utf8 c) line ≡ rest
+  after_first = ap (λ k. drop k line) (sym (zero-add (len_utf8 c))) ∙ drop_past_char line rest 0 c here
 
-  pub shorter_behind : length (drop (len_utf8 c) line) < length line
-  shorter_behind = omega (arith, ap length here, length-append (encode c) rest, encode_some c, ap length behind_first)
+  pub shorter_after : length (drop (len_utf8 c) line) < length line
+  shorter_after = omega (arith, ap length here, length-append (encode c) rest, encode_some c, ap length after_first)
 
   first_shown : shown_line line ≡ encodes (shown c) ++ shown_line (drop (len_utf8 c) line)
-  first_shown = ap encodes (first_off line rest c u here) ∙ encodes-append (shown c) (all_shown rest) ∙ ap (λ x. encodes (shown c) ++ shown_line x) (sym behind_first)
+  first_shown = ap encodes (first_off line rest c u here) ∙ encodes-append (shown c) (all_shown rest) ∙ ap (λ x. encodes (shown c) ++ shown_line x) (sym after_first)
 
   pub first_as : (s : List ℕ) → encodes (shown c) ≡ s → shown_line line ≡ s ++ shown_line (drop (len_utf8 c) line)
   first_as s e = first_shown ∙ ap (λ x. x ++ shown_line (drop (len_utf8 c) line)) e

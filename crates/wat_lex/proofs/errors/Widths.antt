@@ -75,13 +75,13 @@ step_low c (total, s) l = grind (arith, past_emoji_low c total s l, past_emoji_l
 read_le : (cs : List ℕ) → (read_before false cs (0, plain)).0 ≤ 2 * length (encodes cs)
 read_le [] = omega arith
 read_le (c ∷ cs) =
-    let behind = read_le cs in
+    let after = read_le cs in
     let before = read_before false cs (0, plain) in
     let longer = length-append (encode c) (encodes cs) in
     let bounds = len_utf8_bounds c in
     elim (cases_lt 0xA0 c) [
-      | inl high ↦ omega (arith, behind, step_le c before, longer, length-encode c, two_bytes c high)
-      | inr low ↦ omega (arith, behind, step_low c before low, longer, length-encode c, bounds.0)
+      | inl high ↦ omega (arith, after, step_le c before, longer, length-encode c, two_bytes c high)
+      | inr low ↦ omega (arith, after, step_low c before low, longer, length-encode c, bounds.0)
     ]
 
 pub str_width_le : (cs : List ℕ) → str_width false cs ≤ 2 * length (encodes cs)

@@ -137,7 +137,7 @@ other_at s i n h p g a b =
 abbrev NoSemicolon : List ℕ → ℕ → ℕ → Type 0
 NoSemicolon s i j = (k : ℕ) → i ≤ k → k < j → get_or s k 0 ≢ 59
 
--- from place i to place j of a text no `(` stands before a `;`
+-- from place i to place j of a text no `(` comes before a `;`
 abbrev NoOpening : List ℕ → ℕ → ℕ → Type 0
 NoOpening s i j = (k : ℕ) → i ≤ k → k < j → get_or s k 0 ≡ 40 → k + 1 < length s → get_or s (k + 1) 0 ≡ 59 → ⊥
 
@@ -149,7 +149,7 @@ past_bytes s (suc d) i n l p f g h =
     subst (λ x. Reaches s n (drop x s)) e
     (other_at s (i + d) n (omega arith) p before (g (i + d) (omega arith) (omega arith)) (λ x y z. f (i + d) (omega arith) (omega arith) x))
 
--- what is reached before bytes that neither open nor close a comment is reached behind them
+-- what is reached before bytes that neither open nor close a comment is reached after them
 past_stretch : (s : List ℕ) (i j n : ℕ) → i ≤ j → j ≤ length s → 0 < n → NoSemicolon s i j → NoOpening s i j → Reaches s n (drop i s) → Reaches s n (drop j s)
 past_stretch s i j n a l p f g h =
     let e : i + (j - i) ≡ j = omega arith in
@@ -163,7 +163,7 @@ other_before s i m k e a b q =
     let passes = prefix_len_passes other_than_semicolon (drop i s) (k - i) 0 (omega arith) in
     both_ways (other_than_semicolon 59) refl (subst (λ x. other_than_semicolon x ≡ true) here passes)
 
--- the next `;` is reached, or the end, if no `(` from place i on stands before it
+-- the next `;` is reached, or the end, if no `(` from place i on comes before it
 pub semicolon_reached : (s : List ℕ) (i m n : ℕ) → m ≡ prefix_len other_than_semicolon (drop i s) → i + m ≤ length s → (i < i + m → get_or s (i + m - 1) 0 ≡ 40 → ⊥) → 0 < n → Reaches s n (drop i s) → Reaches s n (drop (i + m) s)
 semicolon_reached s i m n e l a p h =
     let none : NoSemicolon s i (i + m) = λ k x y. other_before s i m k e x y in

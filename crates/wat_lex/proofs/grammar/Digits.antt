@@ -25,7 +25,7 @@ stops_underscore false r s = s refl
 pub stops_at : (hex : Bool) (d : ℕ) (r : List ℕ) → is_digit hex d ≡ false → d ≢ 95 → Stops hex (d ∷ r)
 stops_at hex d r a b h = both_ways (in_row hex d) (or_from (is_digit hex d) (d == 95) a (ne_eqb d 95 b)) h
 
--- no reading goes on behind a stop
+-- no reading goes on after a stop
 pub digits_first : (hex : Bool) (d : ℕ) (t r : List ℕ) → Digits hex (d ∷ t) r → is_digit hex d ≡ true
 digits_first hex d t r (last h) = h
 digits_first hex d t r (next h k) = h
@@ -34,19 +34,19 @@ digits_first hex d t r (parted h k) = h
 pub digits_none : (hex : Bool) (r : List ℕ) → Digits hex [] r → ⊥
 digits_none hex r h = elim h [ ]
 
--- behind a digit comes an underscore
+-- after a digit comes an underscore
 pub digits_parted : (hex : Bool) (d : ℕ) (t r : List ℕ) → Digits hex (d ∷ 95 ∷ t) r → Stops hex r → Digits hex t r
 digits_parted hex d t r (last h) s = absurd (stops_underscore hex t s)
 digits_parted hex d t r (next h k) s = absurd (underscore_no_digit hex (digits_first hex 95 t r k))
 digits_parted hex d t r (parted h k) s = k
 
--- behind a digit comes a digit
+-- after a digit comes a digit
 pub digits_next : (hex : Bool) (d e : ℕ) (t r : List ℕ) → is_digit hex e ≡ true → Digits hex (d ∷ e ∷ t) r → Stops hex r → Digits hex (e ∷ t) r
 digits_next hex d e t r a (last h) s = absurd (stops_digit hex e t s a)
 digits_next hex d e t r a (next h k) s = k
 digits_next hex d e t r a (parted h k) s = absurd (underscore_no_digit hex a)
 
--- behind a digit comes something else
+-- after a digit comes something else
 pub digits_last : (hex : Bool) (d : ℕ) (t r : List ℕ) → Stops hex t → Digits hex (d ∷ t) r → r ≡ t
 digits_last hex d t r s (last h) = refl
 digits_last hex d [] r s (next h k) = absurd (digits_none hex r k)

@@ -6,7 +6,7 @@ use Rattle.wat_lex.specs.grammar.Classes.{quote, backslash, is_confusing, IsClea
 use Rattle.wat_lex.specs.tokens.Setting.{lenient}
 use Rattle.wat_lex.specs.grammar.Strings.{is_control, is_raw, HexRow, Element, raw, letter, byte, unicode, Quoted, ends, more}
 use Rattle.wat_lex.specs.grammar.Runs.{Piece, Run, none, idchar, string, RunWord}
-use Rattle.wat_lex.specs.grammar.Words.{Word, WordStands}
+use Rattle.wat_lex.specs.grammar.Words.{Word, WordIsAt}
 use Rattle.wat_lex.specs.declared.lexer.settings.Settings.{Settings}
 use Rattle.wat_lex.specs.declared.lexer.kinds.TokenKind.{TokenKind}
 use Rattle.wat_lex.specs.declared.lexer.kinds.TokenKind.TheVariants.{LineComment, BlockComment, Whitespace, LParen, RParen, String, Id, Keyword, Annotation, Reserved, Integer, Float}
@@ -68,8 +68,8 @@ word_looser Annotation w f g l h = run_word_looser Annotation w f g l h
 word_looser (Integer k) w f g l h = run_word_looser (Integer k) w f g l h
 word_looser (Float k) w f g l h = run_word_looser (Float k) w f g l h
 
-pub stands_looser : (f g : Settings) (text : List ℕ) (kind : TokenKind) (w rest : List ℕ) → Looser f g → WordStands f text kind w rest → WordStands g text kind w rest
-stands_looser f g text kind w rest l h = record { cut = h.cut; word = word_looser kind w f g l h.word; ends = h.ends }
+pub is_at_looser : (f g : Settings) (text : List ℕ) (kind : TokenKind) (w rest : List ℕ) → Looser f g → WordIsAt f text kind w rest → WordIsAt g text kind w rest
+is_at_looser f g text kind w rest l h = record { cut = h.cut; word = word_looser kind w f g l h.word; ends = h.ends }
 
 pub lenient_looser : (f : Settings) → Looser f lenient
 lenient_looser f = record { allow = λ h. refl; strict = λ h. absurd (let k : false ≡ true = h in cc) }

@@ -104,11 +104,11 @@ n_no_integral hex t r (decimal h) = let k = digits_first false 110 t r h in cc
 n_no_decimals : (hex : Bool) (t : List ℕ) → Decimals hex (110 ∷ t) → ⊥
 n_no_decimals hex t (decimals {t = r} h k) = n_no_integral hex t r h
 
-none_behind : (t : List ℕ) → (Digits true t [] → ⊥) → NoNumber (codes "nan:0x" ++ t)
-none_behind t n = record { inf = λ e. cc; nan = λ e. cc; payload = no_digits; integer = λ hex h. n_no_integral hex _ [] h; float = λ hex h. n_no_decimals hex _ h }
+none_after : (t : List ℕ) → (Digits true t [] → ⊥) → NoNumber (codes "nan:0x" ++ t)
+none_after t n = record { inf = λ e. cc; nan = λ e. cc; payload = no_digits; integer = λ hex h. n_no_integral hex _ [] h; float = λ hex h. n_no_decimals hex _ h }
   where
     no_digits : Payload (codes "nan:0x" ++ t) → ⊥
     no_digits (payload {t = u} e h) = let k : t ≡ u = cc in n (subst (λ x. Digits true x []) (sym k) h)
 
 pub none_payload : (s t : List ℕ) → s ≡ codes "nan:0x" ++ t → (Digits true t [] → ⊥) → NoNumber s
-none_payload s t e n = subst NoNumber (sym e) (none_behind t n)
+none_payload s t e n = subst NoNumber (sym e) (none_after t n)

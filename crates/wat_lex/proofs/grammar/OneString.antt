@@ -24,7 +24,7 @@ closes_unique t r q (nested {t = s} {m = m} g h) k =
     let e = closes_unique s m n.0 g n.1 in
     closes_unique m r q h (subst (λ x. Closes x q) (sym e) n.2)
 
--- what stands before the first character that fails
+-- what comes before the first character that fails
 pub span_unique : (p : ℕ → Bool) (x y r s : List ℕ) → Each p x → Each p y → (Begins p r → ⊥) → (Begins p s → ⊥) → x ++ r ≡ y ++ s → (x ≡ y) × (r ≡ s)
 span_unique p [] [] r s a b f g e = (refl, e)
 span_unique p [] (d ∷ y) r s a b f g e = absurd (f (subst (Begins p) (sym e) b.0))
@@ -101,15 +101,15 @@ quoted_unique flags s u v t r (more {t = x} {u = y} {v = z} a h) (more {t = x'} 
 record Prefix (ds es : List ℕ) (x : ℕ) (t r : List ℕ) : Type 0 where
   more : List ℕ
   is : ds ≡ es ++ x ∷ more
-  behind : t ≡ more ++ 125 ∷ r
+  after : t ≡ more ++ 125 ∷ r
 
 prefix_step : (y z x : ℕ) (ds es t r : List ℕ) → y ≡ z → Prefix ds es x t r → Prefix (y ∷ ds) (z ∷ es) x t r
-prefix_step y z x ds es t r e p = record { more = p.more; is = ap (λ a. a ∷ ds) e ∙ ap (λ a. z ∷ a) p.is; behind = p.behind }
+prefix_step y z x ds es t r e p = record { more = p.more; is = ap (λ a. a ∷ ds) e ∙ ap (λ a. z ∷ a) p.is; after = p.after }
 
 row_prefix : (ds es : List ℕ) (x : ℕ) (t r : List ℕ) → Each is_hex_or_underscore ds → Each is_hex_or_underscore es → is_hex_or_underscore x ≡ true → ds ++ 125 ∷ r ≡ es ++ x ∷ t → Prefix ds es x t r
 row_prefix [] [] x t r a b h e = let k : 125 ≡ x = cc in absurd (both_ways (is_hex_or_underscore x) (ap is_hex_or_underscore (sym k)) h)
 row_prefix [] (z ∷ es) x t r a b h e = let k : 125 ≡ z = cc in absurd (both_ways (is_hex_or_underscore z) (ap is_hex_or_underscore (sym k)) b.0)
-row_prefix (y ∷ ds) [] x t r a b h e = let k : y ≡ x = cc in let l : t ≡ ds ++ 125 ∷ r = cc in record { more = ds; is = ap (λ c. c ∷ ds) k; behind = l }
+row_prefix (y ∷ ds) [] x t r a b h e = let k : y ≡ x = cc in let l : t ≡ ds ++ 125 ∷ r = cc in record { more = ds; is = ap (λ c. c ∷ ds) k; after = l }
 row_prefix (y ∷ ds) (z ∷ es) x t r a b h e = let k : y ≡ z = cc in let l : ds ++ 125 ∷ r ≡ es ++ x ∷ t = cc in prefix_step y z x ds es t r k (row_prefix ds es x t r a.1 b.1 h l)
 
 value_grows : (n : ℕ) (ys : List ℕ) → n ≤ digits_value_after 16 n ys
@@ -136,17 +136,17 @@ pub begins_stop : (more u t : List ℕ) → Each is_hex_or_underscore more → t
 begins_stop [] u t a e f = refl
 begins_stop (y ∷ ys) u t a e f = absurd (f (subst (Begins is_hex_or_underscore) (sym e) a.0))
 
-pub each_behind : (p : ℕ → Bool) (xs : List ℕ) (x : ℕ) (ys : List ℕ) → Each p (xs ++ x ∷ ys) → Each p ys
-each_behind p [] x ys h = h.1
-each_behind p (z ∷ xs) x ys h = each_behind p xs x ys h.1
+pub each_after : (p : ℕ → Bool) (xs : List ℕ) (x : ℕ) (ys : List ℕ) → Each p (xs ++ x ∷ ys) → Each p ys
+each_after p [] x ys h = h.1
+each_after p (z ∷ xs) x ys h = each_after p xs x ys h.1
 
 pub each_prefix : (xs ys : List ℕ) → Each is_hex_or_underscore (xs ++ ys) → Each is_hex_or_underscore xs
 each_prefix [] ys h = tt
 each_prefix (x ∷ xs) ys h = (h.0, each_prefix xs ys h.1)
 
-each_behind_first : (ds r : List ℕ) → Each is_hex_or_underscore (ds ++ 125 ∷ r) → is_hex_or_underscore 125 ≡ true
-each_behind_first [] r h = h.0
-each_behind_first (x ∷ ds) r h = each_behind_first ds r h.1
+each_after_first : (ds r : List ℕ) → Each is_hex_or_underscore (ds ++ 125 ∷ r) → is_hex_or_underscore 125 ≡ true
+each_after_first [] r h = h.0
+each_after_first (x ∷ ds) r h = each_after_first ds r h.1
 
 number_clash : (flags : Settings) (d : ℕ) (ds s r at : List ℕ) (e : LexError) → s ≡ ds ++ 125 ∷ r → HexRow flags d ds → (EndsInUnderscore ds → ⊥) → IsScalar (hex_value (d ∷ ds)) → NumberFault flags d s e at → ⊥
 number_clash flags d ds s r at e q h n k (too_big {e = x} {t = t} es eq row hx big) =
@@ -160,18 +160,18 @@ number_clash flags d ds s r at e q h n k (doubled {t = t} es eq row st un) =
     h.parted st un.0 p.more (p.is ∙ ap (λ a. a ++ 95 ∷ p.more) un.1 ∙ append_assoc un.0 (95 ∷ []) (95 ∷ p.more))
 number_clash flags d ds s r at e q h n k (lone {t = t} es eq row stop) =
     let p = row_prefix ds es 95 t r h.others row.others refl (sym q ∙ eq) in
-    let m = begins_stop p.more (125 ∷ r) t (each_behind is_hex_or_underscore es 95 p.more (subst (Each is_hex_or_underscore) p.is h.others)) p.behind stop in
+    let m = begins_stop p.more (125 ∷ r) t (each_after is_hex_or_underscore es 95 p.more (subst (Each is_hex_or_underscore) p.is h.others)) p.after stop in
     n (es, p.is ∙ ap (λ a. es ++ 95 ∷ a) m)
 number_clash flags d ds s r at e q h n k (no_scalar {e = x} {t = t} es eq row hx stop bad) =
     let p = row_prefix ds es x t r h.others (each_prefix es (x ∷ []) row.others) (ap (λ b. b || x == 95) hx) (sym q ∙ eq) in
-    let m = begins_stop p.more (125 ∷ r) t (each_behind is_hex_or_underscore es x p.more (subst (Each is_hex_or_underscore) p.is h.others)) p.behind stop in
+    let m = begins_stop p.more (125 ∷ r) t (each_after is_hex_or_underscore es x p.more (subst (Each is_hex_or_underscore) p.is h.others)) p.after stop in
     bad (subst (λ a. IsScalar (hex_value (d ∷ a))) (p.is ∙ ap (λ a. es ++ x ∷ a) m) k)
 number_clash flags d ds s r at e q h n k (no_brace {c = c} {t = t} es eq row m sc out ne) =
     let w = span_unique is_hex_or_underscore ds es (125 ∷ r) (c ∷ t) h.others row.others (λ b. false≢true b) out (sym q ∙ eq) in
     let z = w.1 in
     let y : 125 ≡ c = cc in
     ne (sym y)
-number_clash flags d ds s r at e q h n k (no_more row m sc) = false≢true (each_behind_first ds r (subst (Each is_hex_or_underscore) q row.others))
+number_clash flags d ds s r at e q h n k (no_more row m sc) = false≢true (each_after_first ds r (subst (Each is_hex_or_underscore) q row.others))
 
 raw_control : (flags : Settings) (c : ℕ) → is_raw flags c ≡ true → is_control c ≡ true → ⊥
 raw_control flags c a k = both_ways (is_raw flags c) (ap (λ x. (not x && not (c == 34) && not (c == 92)) && (flags.allow || not (is_confusing c))) k) a
@@ -182,7 +182,7 @@ raw_confusing flags c o a k =
     let p = and_parts plain (flags.allow || not (is_confusing c)) a in
     both_ways (flags.allow || not (is_confusing c)) (ap (λ x. x || not (is_confusing c)) o ∙ ap not k) p.1
 
--- behind an element stands the fault that stands behind it
+-- after an element is the fault that comes after it
 pub element_fault : (flags : Settings) (s u t at : List ℕ) (e : LexError) → Element flags s u t → StringFault flags s e at → StringFault flags t e at
 element_fault flags s u t at e x (later {t = r} {u = v} y k) = subst (λ z. StringFault flags z e at) (sym (element_unique flags s u v t r x y).1) k
 element_fault flags s u t at e x no_quote = elim x [ ]

@@ -1,4 +1,4 @@
--- At the start of a text stands one word.
+-- At the start of a text is one word.
 use Rattle.std.proofs.Common.{◌≡◌, ◌≢◌, ◌⊎◌, ℕ, List, [], ◌∷◌, ◌++◌, refl, ap, sym, ◌∙◌, subst, Bool, true, false, cond, not, ◌||◌, inl, inr}
 use Rattle.std.specs.Prelude.{◌==◌, codes}
 use Rattle.std.proofs.lemmas.List.{append-nil, append_cancel_right}
@@ -6,7 +6,7 @@ use Rattle.std.proofs.lemmas.Bool.{both_ways, or_cases, eqb-true, false≢true}
 use Rattle.wat_lex.specs.grammar.Classes.{Each, Begins, is_whitespace, is_idchar, is_run_char, is_punctuation, is_line_end, open_paren, close_paren, semicolon, quote}
 use Rattle.wat_lex.specs.grammar.Comments.{Closes, BlockComment as Commented, opened, LineComment as CommentedLine, begun}
 use Rattle.wat_lex.specs.grammar.Runs.{Piece, Run, none, idchar, string, RunKind, RunWord}
-use Rattle.wat_lex.specs.grammar.Words.{Punctuation, EndsRun, Word, MayFollow, WordStands}
+use Rattle.wat_lex.specs.grammar.Words.{Punctuation, EndsRun, Word, MayFollow, WordIsAt}
 use Rattle.wat_lex.specs.declared.lexer.settings.Settings.{Settings}
 use Rattle.wat_lex.specs.declared.lexer.kinds.TokenKind.{TokenKind}
 use Rattle.wat_lex.specs.declared.lexer.kinds.TokenKind.TheVariants.{LineComment, BlockComment, Whitespace, LParen, RParen, String, Id, Keyword, Annotation, Reserved, Integer, Float}
@@ -17,7 +17,7 @@ use Rattle.wat_lex.proofs.grammar.OneKind.{run_kind_one}
 use Rattle.wat_lex.proofs.grammar.OneRun.{idchar_runs, run_unique}
 use Rattle.wat_lex.proofs.tokens.OneStringFault.{set_apart}
 
--- what can stand at the start, by its first two characters
+-- what can be at the start, by its first two characters
 pub data Class : Type 0 where
   Nothing : Class
   Spaces : Class
@@ -147,7 +147,7 @@ form_unique Line flags k l w x r s h g e = line_unique k l w x r s h g e
 form_unique Single flags k l w x r s h g e = one_unique Reserved k l w x r s h g e
 form_unique Other flags k l w x r s h g e = absurd h
 
--- a word that may stand before the rest has the form of its class
+-- a word that may come before the rest has the form of its class
 HasForm : Settings → TokenKind → List ℕ → List ℕ → Type 0
 HasForm flags k w r = Form (class_of (w ++ r)) flags k w r
 
@@ -243,9 +243,9 @@ word_form flags Annotation w r h e = run_form flags Annotation w r h e
 word_form flags (Integer x) w r h e = run_form flags (Integer x) w r h e
 word_form flags (Float x) w r h e = run_form flags (Float x) w r h e
 
-pub stands_form : (flags : Settings) (text : List ℕ) (k : TokenKind) (w r : List ℕ) → WordStands flags text k w r → Form (class_of text) flags k w r
+pub is_at_form : (flags : Settings) (text : List ℕ) (k : TokenKind) (w r : List ℕ) → WordIsAt flags text k w r → Form (class_of text) flags k w r
 unfolding HasForm
-stands_form flags text k w r h = subst (λ y. Form (class_of y) flags k w r) (sym h.cut) (word_form flags k w r h.word h.ends)
+is_at_form flags text k w r h = subst (λ y. Form (class_of y) flags k w r) (sym h.cut) (word_form flags k w r h.word h.ends)
 
-pub stands_unique : (flags : Settings) (text : List ℕ) (k l : TokenKind) (w x r s : List ℕ) → WordStands flags text k w r → WordStands flags text l x s → (k ≡ l) × (w ≡ x)
-stands_unique flags text k l w x r s h g = form_unique (class_of text) flags k l w x r s (stands_form flags text k w r h) (stands_form flags text l x s g) (sym h.cut ∙ g.cut)
+pub is_at_unique : (flags : Settings) (text : List ℕ) (k l : TokenKind) (w x r s : List ℕ) → WordIsAt flags text k w r → WordIsAt flags text l x s → (k ≡ l) × (w ≡ x)
+is_at_unique flags text k l w x r s h g = form_unique (class_of text) flags k l w x r s (is_at_form flags text k w r h) (is_at_form flags text l x s g) (sym h.cut ∙ g.cut)

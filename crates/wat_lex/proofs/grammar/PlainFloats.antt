@@ -22,9 +22,9 @@ plain_exponent hex [] t s at h n e = absurd (s refl)
 plain_exponent hex (c ∷ w) t s at h n e =
     exponent_of hex c w h (λ k. n (ap unsigned at ∙ k)) (subst (λ x. prefix_len is_ascii_digit (unsigned x) ≡ length (unsigned x)) at e)
 
--- the same of so many bytes of a text, behind whose first one the body stands
-pub exponent_stands : (hex : Bool) (text body : List ℕ) (len : ℕ) → len ≤ length text → 1 ≤ len → body ≡ drop 1 (take len text) → is_exponent_letter hex (get_or (take len text) 0 0) ≡ true → length (unsigned body) ≢ 0 → length (unsigned body) ≤ prefix_len is_ascii_digit (drop (len - length (unsigned body)) text) → PlainExponent hex (take len text)
-exponent_stands hex text body len within one at letter some h =
+-- the same of so many bytes of a text, after whose first one the body is
+pub exponent_is_at : (hex : Bool) (text body : List ℕ) (len : ℕ) → len ≤ length text → 1 ≤ len → body ≡ drop 1 (take len text) → is_exponent_letter hex (get_or (take len text) 0 0) ≡ true → length (unsigned body) ≢ 0 → length (unsigned body) ≤ prefix_len is_ascii_digit (drop (len - length (unsigned body)) text) → PlainExponent hex (take len text)
+exponent_is_at hex text body len within one at letter some h =
     let n = length (unsigned body) in
     let parts : 1 + (len - 1) ≡ len = omega arith in
     let same : body ≡ take (len - 1) (drop 1 text) = at ∙ ap (λ k. drop 1 (take k text)) (sym parts) ∙ drop-take 1 (len - 1) text in
@@ -50,7 +50,7 @@ first_passes p n d t h =
       | inr e ↦ absurd (omega (arith, h, none_there p d t e))
     ]
 
--- some of the digits that stand there, and then the rest
+-- some of the digits that are there, and then the rest
 pub digits_then : (hex : Bool) (n : ℕ) (t : List ℕ) → n ≤ prefix_len (is_digit hex) t → n ≢ 0 → Digits hex t (drop n t)
 digits_then hex zero t h some = absurd (some refl)
 digits_then hex (suc n) [] h some = absurd (omega arith)
@@ -65,7 +65,7 @@ underscore_then hex (suc n) (d ∷ t) h e =
     let other : d ≢ 95 = λ z. underscore_no_digit hex (sym (ap (is_digit hex) z) ∙ k.0) in
     ap (λ b. b || has_underscores t) (ne_eqb d 95 other) ∙ underscore_then hex n t k.1 e
 
--- as many as stand at the start stand at the start of as many or more bytes
+-- as many as are at the start are at the start of as many or more bytes
 taken_prefix : (p : ℕ → Bool) (k : ℕ) (xs : List ℕ) → prefix_len p xs ≤ k → prefix_len p (take k xs) ≡ prefix_len p xs
 taken_prefix p zero [] h = refl
 taken_prefix p (suc k) [] h = refl
@@ -104,12 +104,12 @@ module _ (hex : Bool) (text w : List ℕ) (len : ℕ) (n : ℕ) (at : w ≡ 46 �
 
   pub tail_parts : n < len - 1 → PlainExponent hex (take (len - 1 - n) (drop (1 + n) text)) → PlainTail hex w
   tail_parts h x =
-      let behind = drop 1 text in
-      let same : prefix_len (is_digit hex) (take (len - 1) behind) ≡ prefix_len (is_digit hex) behind = taken_prefix (is_digit hex) (len - 1) behind (omega (arith, h, digits)) in
+      let after = drop 1 text in
+      let same : prefix_len (is_digit hex) (take (len - 1) after) ≡ prefix_len (is_digit hex) after = taken_prefix (is_digit hex) (len - 1) after (omega (arith, h, digits)) in
       let parts : n + (len - 1 - n) ≡ len - 1 = omega arith in
-      let there : drop n (take (len - 1) behind) ≡ take (len - 1 - n) (drop (1 + n) text) =
-      ap (λ k. drop n (take k behind)) (sym parts) ∙ drop-take n (len - 1 - n) behind ∙ ap (take (len - 1 - n)) (drop-drop n 1 text) in
-      subst (PlainTail hex) (sym at) (tail_of_parts hex (take (len - 1) behind) n (omega (arith, digits, same)) (subst (PlainExponent hex) (sym there) x))
+      let there : drop n (take (len - 1) after) ≡ take (len - 1 - n) (drop (1 + n) text) =
+      ap (λ k. drop n (take k after)) (sym parts) ∙ drop-take n (len - 1 - n) after ∙ ap (take (len - 1 - n)) (drop-drop n 1 text) in
+      subst (PlainTail hex) (sym at) (tail_of_parts hex (take (len - 1) after) n (omega (arith, digits, same)) (subst (PlainExponent hex) (sym there) x))
 
 -- first digits of so many bytes of a text, and what follows them
 pub decimals_of : (hex : Bool) (text : List ℕ) (len n : ℕ) → n ≡ prefix_len (is_digit hex) text → n ≢ 0 → n < len → PlainTail hex (take (len - n) (drop n text)) → PlainDecimals hex (take len text)
@@ -119,7 +119,7 @@ decimals_of hex text len n digits some fewer tail =
     let there : drop n (take len text) ≡ take (len - n) (drop n text) = ap (λ k. drop n (take k text)) (sym parts) ∙ drop-take n (len - n) text in
     decimals_then hex (take len text) n (omega (arith, same)) some (subst (PlainTail hex) (sym there) tail)
 
--- a word of such parts behind a sign or none is a float, and so is one of hexadecimal parts behind `0x`
+-- a word of such parts after a sign or none is a float, and so is one of hexadecimal parts after `0x`
 pub decimal_float : (w : List ℕ) (kind : TokenKind) → IsPlainFloat false (unsigned w) kind → Number w kind
 decimal_float w kind (e, (t, d, h, u)) = subst (Number w) (sym e) (decimals (decimal d) h, sym (signed_no_underscore w u))
 

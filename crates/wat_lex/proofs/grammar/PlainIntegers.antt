@@ -1,4 +1,4 @@
--- A word of decimal digits alone is an integer, and so is one of hexadecimal digits alone behind `0x`.
+-- A word of decimal digits alone is an integer, and so is one of hexadecimal digits alone after `0x`.
 use Rattle.std.proofs.Common.{◌≡◌, ◌≢◌, ◌≤◌, ◌+◌, ◌-◌, ℕ, zero, suc, List, [], ◌∷◌, length, take, drop, refl, arith, ap, sym, ◌∙◌, subst, Bool, true, false, cond, ◌||◌, inl, inr}
 use Rattle.std.specs.Prelude.{◌==◌}
 use Rattle.std.specs.Char.{is_ascii_digit}
@@ -45,9 +45,9 @@ signed_no_underscore [] e = refl
 signed_no_underscore (c ∷ w) e =
     elim (cases_Bool (c == 43 || c == 45)) [
       | inl h ↦
-          let behind : unsigned (c ∷ w) ≡ w = ap (λ b. cond b w (c ∷ w)) h in
+          let after : unsigned (c ∷ w) ≡ w = ap (λ b. cond b w (c ∷ w)) h in
           let other : c ≢ 95 = elim (or_cases (c == 43) (c == 45) h) [ inl a ↦ (λ z. let k = eqb-true c 43 a in omega arith) | inr a ↦ (λ z. let k = eqb-true c 45 a in omega arith) ] in
-          ap (λ b. b || has_underscores w) (ne_eqb c 95 other) ∙ sym (ap has_underscores behind) ∙ e
+          ap (λ b. b || has_underscores w) (ne_eqb c 95 other) ∙ sym (ap has_underscores after) ∙ e
       | inr h ↦
           let same : unsigned (c ∷ w) ≡ c ∷ w = ap (λ b. cond b w (c ∷ w)) h in
           sym (ap has_underscores same) ∙ e
@@ -73,9 +73,9 @@ unsigned_is_end [] = refl
 unsigned_is_end (c ∷ w) =
     elim (cases_Bool (c == 43 || c == 45)) [
       | inl h ↦
-          let behind : unsigned (c ∷ w) ≡ w = ap (λ b. cond b w (c ∷ w)) h in
-          let one : length (c ∷ w) - length (unsigned (c ∷ w)) ≡ 1 = omega (arith, ap length behind) in
-          behind ∙ sym (ap (λ k. drop k (c ∷ w)) one)
+          let after : unsigned (c ∷ w) ≡ w = ap (λ b. cond b w (c ∷ w)) h in
+          let one : length (c ∷ w) - length (unsigned (c ∷ w)) ≡ 1 = omega (arith, ap length after) in
+          after ∙ sym (ap (λ k. drop k (c ∷ w)) one)
       | inr h ↦
           let same : unsigned (c ∷ w) ≡ c ∷ w = ap (λ b. cond b w (c ∷ w)) h in
           let none : length (c ∷ w) - length (unsigned (c ∷ w)) ≡ 0 = omega (arith, ap length same) in
@@ -94,22 +94,22 @@ taken_pass p (suc k) (x ∷ xs) h =
       | inr e ↦ absurd (omega (arith, h, ap (λ b. cond b (1 + prefix_len p xs) 0) e))
     ]
 
--- what is without its sign of the word of so many bytes stands before the word's end
-pub unsigned_stands : (text : List ℕ) (len n : ℕ) → len ≤ length text → n ≡ length (unsigned (take len text)) → n ≤ len → unsigned (take len text) ≡ take n (drop (len - n) text)
-unsigned_stands text len n within e fits =
+-- what is without its sign of the word of so many bytes comes before the word's end
+pub unsigned_is_at : (text : List ℕ) (len n : ℕ) → len ≤ length text → n ≡ length (unsigned (take len text)) → n ≤ len → unsigned (take len text) ≡ take n (drop (len - n) text)
+unsigned_is_at text len n within e fits =
     let w = take len text in
     let first : length w - length (unsigned w) ≡ len - n = omega (arith, e, length-take-le len text within) in
     let parts : len - n + n ≡ len = omega arith in
     unsigned_is_end w ∙ ap (λ k. drop k w) first ∙ ap (λ k. drop (len - n) (take k text)) (sym parts) ∙ drop-take (len - n) n text
 
--- so it is of digits where as many digits stand there
+-- so it is of digits where as many digits are there
 pub digits_of_word : (text : List ℕ) (len n : ℕ) → len ≤ length text → n ≡ length (unsigned (take len text)) → n ≤ len → n ≤ prefix_len is_ascii_digit (drop (len - n) text) → prefix_len is_ascii_digit (unsigned (take len text)) ≡ length (unsigned (take len text))
 digits_of_word text len n within e fits h =
-    subst (λ x. prefix_len is_ascii_digit x ≡ length x) (sym (unsigned_stands text len n within e fits)) (taken_pass is_ascii_digit n (drop (len - n) text) h)
+    subst (λ x. prefix_len is_ascii_digit x ≡ length x) (sym (unsigned_is_at text len n within e fits)) (taken_pass is_ascii_digit n (drop (len - n) text) h)
 
--- the same of what stands behind the first so many of its bytes
-pub end_stands : (text : List ℕ) (len n k : ℕ) → len ≤ length text → k + n ≡ length (unsigned (take len text)) → drop k (unsigned (take len text)) ≡ take n (drop (len - n) text)
-end_stands text len n k within e =
+-- the same of what comes after the first so many of its bytes
+pub end_is_at : (text : List ℕ) (len n k : ℕ) → len ≤ length text → k + n ≡ length (unsigned (take len text)) → drop k (unsigned (take len text)) ≡ take n (drop (len - n) text)
+end_is_at text len n k within e =
     let w = take len text in
     let long : length w ≡ len = length-take-le len text within in
     let fits = unsigned_is_shorter w in
@@ -118,9 +118,9 @@ end_stands text len n k within e =
     ap (drop k) (unsigned_is_end w) ∙ drop-drop k (length w - length (unsigned w)) w ∙ ap (λ k. drop k w) first
     ∙ ap (λ k. drop (len - n) (take k text)) (sym parts) ∙ drop-take (len - n) n text
 
-pub behind_two_stands : (text : List ℕ) (len n : ℕ) (ds : List ℕ) → len ≤ length text → unsigned (take len text) ≡ 48 ∷ 120 ∷ ds → n ≡ length ds → ds ≡ take n (drop (len - n) text)
-behind_two_stands text len n ds within cut e = sym (ap (drop 2) cut) ∙ end_stands text len n 2 within (omega (arith, e, ap length cut))
+pub after_two_is_at : (text : List ℕ) (len n : ℕ) (ds : List ℕ) → len ≤ length text → unsigned (take len text) ≡ 48 ∷ 120 ∷ ds → n ≡ length ds → ds ≡ take n (drop (len - n) text)
+after_two_is_at text len n ds within cut e = sym (ap (drop 2) cut) ∙ end_is_at text len n 2 within (omega (arith, e, ap length cut))
 
 pub hex_digits_of_word : (text : List ℕ) (len n : ℕ) (ds : List ℕ) → len ≤ length text → unsigned (take len text) ≡ 48 ∷ 120 ∷ ds → n ≡ length ds → n ≤ prefix_len is_hex (drop (len - n) text) → prefix_len is_hex ds ≡ length ds
 hex_digits_of_word text len n ds within cut e h =
-    subst (λ x. prefix_len is_hex x ≡ length x) (sym (behind_two_stands text len n ds within cut e)) (taken_pass is_hex n (drop (len - n) text) h)
+    subst (λ x. prefix_len is_hex x ≡ length x) (sym (after_two_is_at text len n ds within cut e)) (taken_pass is_hex n (drop (len - n) text) h)

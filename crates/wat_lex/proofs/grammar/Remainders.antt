@@ -1,4 +1,4 @@
--- Runs and faults of a text: what stands before their rest.
+-- Runs and faults of a text: what comes before their rest.
 use Rattle.std.proofs.Common.{◌≡◌, ◌≤◌, ℕ, List, [], ◌∷◌, ◌++◌, refl, arith, ap, sym, ◌∙◌, subst, append_assoc}
 use Rattle.std.proofs.lemmas.List.{append-nil}
 use Rattle.wat_lex.specs.grammar.Classes.{size}

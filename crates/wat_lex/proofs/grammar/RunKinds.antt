@@ -204,7 +204,7 @@ run_lexeme flags text found kind u l b f kind_is =
     record {
       word = w;
       rest = f.rest;
-      stands = record { cut = t.cut; word = word_of_run kind w flags is (f.pieces, some, r, kind_is); ends = ends_of_run kind w f.rest is (no_semicolon flags w f.pieces r) f.ends };
+      is_at = record { cut = t.cut; word = word_of_run kind w flags is (f.pieces, some, r, kind_is); ends = ends_of_run kind w f.rest is (no_semicolon flags w f.pieces r) f.ends };
       len = omega (arith, ap length (encodes-chars text u), ap size t.cut, size-append w f.rest, f.place);
     }
 

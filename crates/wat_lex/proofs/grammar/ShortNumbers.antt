@@ -1,4 +1,4 @@
--- Numbers of which bits tell where digits stand: what passes from a place on in the word of so many bytes of a text.
+-- Numbers of which bits tell where digits are: what passes from a place on in the word of so many bytes of a text.
 use Rattle.std.proofs.Common.{◌≡◌, ◌≢◌, ◌≤◌, ◌<◌, ◌+◌, ◌-◌, ℕ, zero, suc, List, [], ◌∷◌, length, take, drop, get_or, refl, arith, ap, sym, ◌∙◌, subst, Bool, true, false, cond, ◌||◌}
 use Rattle.std.specs.Prelude.{◌==◌}
 use Rattle.std.specs.Char.{is_ascii_digit}
@@ -8,7 +8,7 @@ use Rattle.wat_lex.specs.grammar.Numbers.{is_digit, is_exponent_letter, sign_of,
 use Rattle.wat_lex.specs.inside.ScannedNumbers.{PlainDecimals, PlainExponent, PlainTail}
 use Rattle.wat_lex.specs.declared.lexer.kinds.Sign.{Sign}
 use Rattle.wat_lex.specs.declared.lexer.kinds.Sign.TheVariants as sign
-use Rattle.wat_lex.proofs.grammar.PlainFloats.{decimals_then, exponent_stands, first_passes, tail_of_digits, tail_of_parts}
+use Rattle.wat_lex.proofs.grammar.PlainFloats.{decimals_then, exponent_is_at, first_passes, tail_of_digits, tail_of_parts}
 use Rattle.wat_lex.proofs.grammar.PlainIntegers.{taken_pass, unsigned_is_shorter}
 
 -- the word from a place on
@@ -34,7 +34,7 @@ module _ (p : ℕ → Bool) (text : List ℕ) (len i : ℕ) where
   pub all_pass : i ≤ len → len - i ≤ prefix_len p (drop i text) → prefix_len p (drop i (take len text)) ≡ length (drop i (take len text))
   all_pass fits h = subst (λ x. prefix_len p x ≡ length x) (sym (word_from text len i fits)) (taken_pass p (len - i) (drop i text) h)
 
--- an exponent from a place on, behind whose letter the body stands
+-- an exponent from a place on, after whose letter the body is
 pub short_exponent : (hex : Bool) (text body : List ℕ) (len i : ℕ) → len ≤ length text → i < len → body ≡ drop 1 (take (len - i) (drop i text)) → is_exponent_letter hex (get_or (take (len - i) (drop i text)) 0 0) ≡ true
     → length (unsigned body) ≢ 0 → length (unsigned body) ≤ prefix_len is_ascii_digit (drop (len - length (unsigned body)) text) → PlainExponent hex (drop i (take len text))
 short_exponent hex text body len i within one at letter some h =
@@ -44,7 +44,7 @@ short_exponent hex text body len i within one at letter some h =
     let place : i + (len - i - n) ≡ len - n = omega arith in
     let there : drop (len - i - n) (drop i text) ≡ drop (len - n) text = drop-drop (len - i - n) i text ∙ ap (λ k. drop k text) place in
     subst (PlainExponent hex) (sym (word_from text len i (omega arith)))
-    (exponent_stands hex (drop i text) body (len - i) room (omega arith) at letter some (subst (λ x. n ≤ prefix_len is_ascii_digit x) (sym there) h))
+    (exponent_is_at hex (drop i text) body (len - i) room (omega arith) at letter some (subst (λ x. n ≤ prefix_len is_ascii_digit x) (sym there) h))
 
 -- what follows a dot from a place on
 module _ (hex : Bool) (text : List ℕ) (len i : ℕ) (within : len ≤ length text) (place : i < len) (dot : get_or text i 0 ≡ 46) where

@@ -8,7 +8,7 @@ use Rattle.wat_lex.specs.declared.lexer.kinds.FloatKind.TheVariants.{Inf, Nan, N
 use Rattle.wat_lex.specs.declared.lexer.kinds.TokenKind.{TokenKind}
 use Rattle.wat_lex.specs.declared.lexer.kinds.TokenKind.TheVariants.{Integer, Float}
 use Rattle.wat_lex.proofs.grammar.Digits.{digits_first, digits_none, digits_next, digits_parted, stops_at}
-use Rattle.wat_lex.proofs.grammar.Tails.{stops_nil, digits_end, exponent_some, exponent_none, tail_power, behind_digits, behind_none}
+use Rattle.wat_lex.proofs.grammar.Tails.{stops_nil, digits_end, exponent_some, exponent_none, tail_power, past_digits, after_none}
 use Rattle.wat_lex.proofs.grammar.NumberKinds.{no_number, none_payload, no_payload, none_integral, none_tail, integral_hex, integral_no_hex, integral_decimal, integral_no_decimal}
 
 -- decided
@@ -63,10 +63,10 @@ some_exponent hex (c ∷ t) =
       | inr h ↦ inr (λ e. both_ways (is_exponent_letter hex c) h (exponent_some hex c t e).0)
     ]
 
--- behind a dot
-behind_dot : (hex : Bool) (c : ℕ) (t : List ℕ) → Either (Tail hex (46 ∷ c ∷ t))
+-- after a dot
+past_dot : (hex : Bool) (c : ℕ) (t : List ℕ) → Either (Tail hex (46 ∷ c ∷ t))
 unfolding Either
-behind_dot hex c t =
+past_dot hex c t =
     elim (some_exponent hex (c ∷ t)) [
       | inl e ↦ inl (both bare e)
       | inr n ↦ by n (some_digits hex (c ∷ t))
@@ -77,8 +77,8 @@ behind_dot hex c t =
 
     by : (Exponent hex (c ∷ t) → ⊥) → SomeDigits hex (c ∷ t) → Tail hex (46 ∷ c ∷ t) ⊎ (Tail hex (46 ∷ c ∷ t) → ⊥)
     by n (digits {rest = []} l) = inl (fraction (filled l.digits))
-    by n (digits {rest = x ∷ r} l) = elim (some_exponent hex (x ∷ r)) [ inl e ↦ inl (both (filled l.digits) e) | inr m ↦ inr (λ k. m (behind_digits hex (c ∷ t) (x ∷ r) some n l k (λ e. cc))) ]
-    by n (none l) = inr (λ k. behind_none hex (c ∷ t) some n l k)
+    by n (digits {rest = x ∷ r} l) = elim (some_exponent hex (x ∷ r)) [ inl e ↦ inl (both (filled l.digits) e) | inr m ↦ inr (λ k. m (past_digits hex (c ∷ t) (x ∷ r) some n l k (λ e. cc))) ]
+    by n (none l) = inr (λ k. after_none hex (c ∷ t) some n l k)
 
 some_tail : (hex : Bool) (s : List ℕ) → s ≢ [] → Either (Tail hex s)
 unfolding Either
@@ -90,7 +90,7 @@ some_tail hex (c ∷ []) n =
     ]
 some_tail hex (c ∷ d ∷ t) n =
     elim (cases_eq c 46) [
-      | inl e ↦ elim (behind_dot hex d t) [ inl k ↦ inl (subst (λ x. Tail hex (x ∷ d ∷ t)) (sym e) k) | inr k ↦ inr (λ h. k (subst (λ x. Tail hex (x ∷ d ∷ t)) e h)) ]
+      | inl e ↦ elim (past_dot hex d t) [ inl k ↦ inl (subst (λ x. Tail hex (x ∷ d ∷ t)) (sym e) k) | inr k ↦ inr (λ h. k (subst (λ x. Tail hex (x ∷ d ∷ t)) e h)) ]
       | inr e ↦ elim (some_exponent hex (c ∷ d ∷ t)) [ inl k ↦ inl (power k) | inr k ↦ inr (λ h. k (tail_power hex c (d ∷ t) e h)) ]
     ]
 

@@ -1,4 +1,4 @@
--- A text behind a quote is the rest of a string, or a string goes wrong there.
+-- A text after a quote is the rest of a string, or a string goes wrong there.
 use Rattle.std.proofs.Common.{◌≡◌, ◌≢◌, ◌⊎◌, ◌<◌, ◌^◌, ℕ, zero, suc, List, [], ◌∷◌, ◌++◌, length, refl, arith, ap, sym, ◌∙◌, subst, true, false, ◌||◌, inl, inr, append_assoc, lit<}
 use Rattle.std.specs.Prelude.{IsTrue, Option, Some, None, ◌==◌}
 use Rattle.std.proofs.lemmas.List.{append-nil, same_from_push}
@@ -56,7 +56,7 @@ module _ (flags : Settings) (d : ℕ) (s : List ℕ) where
   unfolding Answer
   fault e at h f = broken (number h f)
 
-  -- the row is well written: what stands behind it decides
+  -- the row is well written: what comes after it decides
   well_written : (ds rest : List ℕ) → s ≡ ds ++ rest → HexRow flags d ds → (EndsInUnderscore ds → ⊥) → IsScalar (hex_value (d ∷ ds)) → (Begins is_hex_or_underscore rest → ⊥) → Answer
   unfolding Answer
   well_written ds [] e row n k stop =

@@ -64,37 +64,37 @@ tail_power hex c t n (both {t = r} h k) = absurd (no_dot hex c t r n h)
     no_dot hex c t r n (filled h) = n refl
 
 -- what may follow a dot: nothing or an exponent, or digits and then one of these
-pub data Behind : Bool → List ℕ → Type 0 where
-  nothing : {hex : Bool} → Behind hex []
-  powered : {hex : Bool} {s : List ℕ} → Exponent hex s → Behind hex s
-  digits : {hex : Bool} {s : List ℕ} → Digits hex s [] → Behind hex s
-  digits_powered : {hex : Bool} {s r : List ℕ} → Digits hex s r → Exponent hex r → Behind hex s
+pub data After : Bool → List ℕ → Type 0 where
+  nothing : {hex : Bool} → After hex []
+  powered : {hex : Bool} {s : List ℕ} → Exponent hex s → After hex s
+  digits : {hex : Bool} {s : List ℕ} → Digits hex s [] → After hex s
+  digits_powered : {hex : Bool} {s r : List ℕ} → Digits hex s r → Exponent hex r → After hex s
 
 dot_power : (hex : Bool) (t : List ℕ) → Exponent hex (46 ∷ t) → ⊥
 dot_power true t (exponent h k) = cc
 dot_power false t (exponent h k) = cc
 
-pub behind : (hex : Bool) (t : List ℕ) → Tail hex (46 ∷ t) → Behind hex t
-behind hex t (fraction bare) = nothing
-behind hex t (fraction (filled h)) = digits h
-behind hex t (power h) = absurd (dot_power hex t h)
-behind hex t (both bare k) = powered k
-behind hex t (both (filled h) k) = digits_powered h k
+pub after : (hex : Bool) (t : List ℕ) → Tail hex (46 ∷ t) → After hex t
+after hex t (fraction bare) = nothing
+after hex t (fraction (filled h)) = digits h
+after hex t (power h) = absurd (dot_power hex t h)
+after hex t (both bare k) = powered k
+after hex t (both (filled h) k) = digits_powered h k
 
-after_dot : (hex : Bool) (t rest : List ℕ) → t ≢ [] → (Exponent hex t → ⊥) → LongestDigits hex t rest → rest ≢ [] → Behind hex t → Exponent hex rest
+after_dot : (hex : Bool) (t rest : List ℕ) → t ≢ [] → (Exponent hex t → ⊥) → LongestDigits hex t rest → rest ≢ [] → After hex t → Exponent hex rest
 after_dot hex t rest n never l some nothing = absurd (n refl)
 after_dot hex t rest n never l some (powered k) = absurd (never k)
 after_dot hex t rest n never l some (digits d) = absurd (some (digits_end hex t rest l d))
 after_dot hex t rest n never l some (digits_powered {r = r} d k) = subst (Exponent hex) (digits_one hex t r rest d (exponent_stops hex r k) l.digits l.stops) k
 
-pub behind_digits : (hex : Bool) (t rest : List ℕ) → t ≢ [] → (Exponent hex t → ⊥) → LongestDigits hex t rest → Tail hex (46 ∷ t) → (rest ≢ [] → Exponent hex rest)
-behind_digits hex t rest n never l h some = after_dot hex t rest n never l some (behind hex t h)
+pub past_digits : (hex : Bool) (t rest : List ℕ) → t ≢ [] → (Exponent hex t → ⊥) → LongestDigits hex t rest → Tail hex (46 ∷ t) → (rest ≢ [] → Exponent hex rest)
+past_digits hex t rest n never l h some = after_dot hex t rest n never l some (after hex t h)
 
-no_after_dot : (hex : Bool) (t : List ℕ) → t ≢ [] → (Exponent hex t → ⊥) → NoDigits hex t → Behind hex t → ⊥
+no_after_dot : (hex : Bool) (t : List ℕ) → t ≢ [] → (Exponent hex t → ⊥) → NoDigits hex t → After hex t → ⊥
 no_after_dot hex t n never l nothing = n refl
 no_after_dot hex t n never l (powered k) = never k
 no_after_dot hex t n never l (digits d) = l [] (record { digits = d; stops = stops_nil hex })
 no_after_dot hex t n never l (digits_powered {r = r} d k) = l r (record { digits = d; stops = exponent_stops hex r k })
 
-pub behind_none : (hex : Bool) (t : List ℕ) → t ≢ [] → (Exponent hex t → ⊥) → NoDigits hex t → Tail hex (46 ∷ t) → ⊥
-behind_none hex t n never l h = no_after_dot hex t n never l (behind hex t h)
+pub after_none : (hex : Bool) (t : List ℕ) → t ≢ [] → (Exponent hex t → ⊥) → NoDigits hex t → Tail hex (46 ∷ t) → ⊥
+after_none hex t n never l h = no_after_dot hex t n never l (after hex t h)

@@ -73,7 +73,7 @@ block_found flags text n u a b l h =
     record {
       word = 40 ∷ 59 ∷ k.prefix;
       rest = rest.chars;
-      stands = record {
+      is_at = record {
         cut = o.chars ∙ ap (λ x. 40 ∷ 59 ∷ x) k.cut;
         word = (opened (subst (λ x. Closes x []) (append-nil k.prefix) (k.closes [])), tt);
         ends = tt;

@@ -95,7 +95,7 @@ split : (p : ℕ → Bool) (text : List ℕ) (i n : ℕ)
     → prefix_len p (drop i text) ≡ cond (eqb (prefix_len p (chunk i n text)) (length (chunk i n text))) (length (chunk i n text) + prefix_len p (drop (i + n) text)) (prefix_len p (chunk i n text))
 split p text i n = ap (prefix_len p) (chunk-drop i n text) ∙ prefix_len-append p (chunk i n text) (drop (i + n) text)
 
--- where no byte of a block fails a test, what passes a weaker one goes on behind the block
+-- where no byte of a block fails a test, what passes a weaker one goes on after the block
 pub goes_on_weaker : (p q : ℕ → Bool) → ((b : ℕ) → p b ≡ true → q b ≡ true) → (text : List ℕ) (i n m : ℕ) → m ≡ failures p (chunk i n text) → i + n ≤ length text → m ≡ 0 → GoesOn q text i n
 goes_on_weaker p q weaker text i n m e room none =
     let v = chunk i n text in
@@ -104,7 +104,7 @@ goes_on_weaker p q weaker text i n m e room none =
     split q text i n ∙ ap (λ b. cond b (length v + prefix_len q (drop (i + n) text)) (prefix_len q v)) (eq-eqb _ _ all)
     ∙ ap (λ k. k + prefix_len q (drop (i + n) text)) (length-chunk i n text room)
 
--- where no byte of a block fails, what passes goes on behind the block
+-- where no byte of a block fails, what passes goes on after the block
 pub goes_on : (p : ℕ → Bool) (text : List ℕ) (i n m : ℕ) → m ≡ failures p (chunk i n text) → i + n ≤ length text → m ≡ 0 → GoesOn p text i n
 goes_on p text i n m e room none = goes_on_weaker p p (λ b h. h) text i n m e room none
 
@@ -145,7 +145,7 @@ all_clear a b c d e =
       fourth = omega (arith, e, le_or_r three d);
     }
 
--- the masks of four blocks, one behind another
+-- the masks of four blocks, one after another
 pub record FourMasks (p : ℕ → Bool) (text : List ℕ) (i a b c d : ℕ) : Type 0 where
   pub first : a ≡ failures p (chunk i 16 text)
   pub second : b ≡ failures p (chunk (i + 16) 16 text)
@@ -174,9 +174,9 @@ cut : (p : ℕ → Bool) (text : List ℕ) (n : ℕ)
     → prefix_len p text ≡ cond (eqb (prefix_len p (take n text)) (length (take n text))) (length (take n text) + prefix_len p (drop n text)) (prefix_len p (take n text))
 cut p text n = ap (prefix_len p) (sym (take-append-drop n text)) ∙ prefix_len-append p (take n text) (drop n text)
 
--- what passes up to the end of a text's first bytes goes on behind them
-pub goes_on_behind : (p : ℕ → Bool) (text : List ℕ) (n : ℕ) → prefix_len p (take n text) ≡ length (take n text) → prefix_len p text ≡ length (take n text) + prefix_len p (drop n text)
-goes_on_behind p text n all =
+-- what passes up to the end of a text's first bytes goes on after them
+pub goes_on_after : (p : ℕ → Bool) (text : List ℕ) (n : ℕ) → prefix_len p (take n text) ≡ length (take n text) → prefix_len p text ≡ length (take n text) + prefix_len p (drop n text)
+goes_on_after p text n all =
     cut p text n ∙ ap (λ b. cond b (length (take n text) + prefix_len p (drop n text)) (prefix_len p (take n text))) (eq-eqb _ _ all)
 
 -- what ends within them ends there in the text
@@ -195,7 +195,7 @@ outside_of f g v z a b long e =
 
 -- ---- bits from a place on
 
--- a bit for each byte that fails, and m behind them
+-- a bit for each byte that fails, and m after them
 abbrev failures_and : (ℕ → Bool) → List ℕ → ℕ → ℕ
 failures_and p [] m = m
 failures_and p (x ∷ xs) m = cond (not (p x)) 1 0 + 2 * failures_and p xs m
@@ -214,7 +214,7 @@ other_bits : (b : Bool) (n : ℕ) → (cond b 1 0 + 2 * n) / 2 ≡ n
 other_bits true n = omega arith
 other_bits false n = omega arith
 
--- with a bit behind them the lowest bit is where what passes ends
+-- with a bit after them the lowest bit is where what passes ends
 lowest_fails : (p : ℕ → Bool) (k m : ℕ) (xs : List ℕ) → m % 2 ≡ 1 → count_trailing_zeros k (failures_and p xs m) ≤ prefix_len p xs
 unfolding count_trailing_zeros
 lowest_fails p zero m xs odd = omega arith
@@ -246,7 +246,7 @@ front_passes p (suc n) (x ∷ xs) =
       | false ↦ omega arith
     ]
 
--- as many as stand before a bit pass
+-- as many as come before a bit pass
 pub clear_pass : (p : ℕ → Bool) (text : List ℕ) (bits i : ℕ) → FirstFailures p text bits → i ≤ 16 → count_trailing_zeros 64 (bit_or bits 18446744073709486080 / 2 ^ i) ≤ prefix_len p (drop i text)
 clear_pass p text bits i marked place =
     let v = chunk 0 16 text in

@@ -36,12 +36,12 @@ halves text w rest u e =
 
 pub boundary_at : (flags : Settings) (text : List ℕ) (lexeme : Lexeme) → IsUtf8 text → LexemeFound flags text lexeme → IsCharBoundary text lexeme.len
 boundary_at flags text lexeme u h =
-    let p = halves text h.word h.rest u h.stands.cut in
+    let p = halves text h.word h.rest u h.is_at.cut in
     subst (IsCharBoundary text) (sym h.len) (IsCharBoundary-at_seam text (encodes h.word) (encodes h.rest) p.bytes (h.rest, (p.right, refl)))
 
 pub word_at : (flags : Settings) (text : List ℕ) (lexeme : Lexeme) → IsUtf8 text → (h : LexemeFound flags text lexeme) → chars (take lexeme.len text) ≡ h.word
 word_at flags text lexeme u h =
-    let p = halves text h.word h.rest u h.stands.cut in
+    let p = halves text h.word h.rest u h.is_at.cut in
     ap (λ x. chars (take lexeme.len x)) p.bytes ∙ ap chars (take_at (encodes h.word) (encodes h.rest) lexeme.len (sym h.len)) ∙ chars-encodes h.word p.left
 
 is_clear : (allow : Bool) (w : List ℕ) → NonePass is_confusing w → IsClear allow w
@@ -56,7 +56,7 @@ pub found_clear : (flags : Settings) (text : List ℕ) (lexeme : Lexeme) → IsU
 found_clear flags text lexeme u k h c = record {
   word = h.word;
   rest = h.rest;
-  stands = record { cut = h.stands.cut; word = clear_word flags lexeme.kind h.word k h.stands.word (subst (NonePass is_confusing) (word_at (allowing flags) text lexeme u h) c); ends = h.stands.ends };
+  is_at = record { cut = h.is_at.cut; word = clear_word flags lexeme.kind h.word k h.is_at.word (subst (NonePass is_confusing) (word_at (allowing flags) text lexeme u h) c); ends = h.is_at.ends };
   len = h.len;
 }
 
@@ -66,10 +66,10 @@ found_allowed flags text lexeme a h = subst (λ (b : Bool). LexemeFound (record 
 
 pub found_confusing : (flags : Settings) (text : List ℕ) (lexeme : Lexeme) (i c : ℕ) → flags.allow ≡ false → IsUtf8 text → IsComment lexeme.kind → LexemeFound (allowing flags) text lexeme → FirstConfusing (take lexeme.len text) i c → Refused flags text (record { offset = i; error = ConfusingUnicode c })
 found_confusing flags text lexeme i c a u k h f =
-    let cut : h.word ≡ f.prefix ++ c ∷ f.behind = sym (word_at (allowing flags) text lexeme u h) ∙ f.cut in
-    let whole : chars text ≡ f.prefix ++ c ∷ (f.behind ++ h.rest) = h.stands.cut ∙ ap (λ x. x ++ h.rest) cut ∙ append_assoc f.prefix (c ∷ f.behind) h.rest in
+    let cut : h.word ≡ f.prefix ++ c ∷ f.after = sym (word_at (allowing flags) text lexeme u h) ∙ f.cut in
+    let whole : chars text ≡ f.prefix ++ c ∷ (f.after ++ h.rest) = h.is_at.cut ∙ ap (λ x. x ++ h.rest) cut ∙ append_assoc f.prefix (c ∷ f.after) h.rest in
     record {
-      at = c ∷ (f.behind ++ h.rest);
-      fault = confusing {w = h.word} {rest = h.rest} f.prefix a k h.stands whole f.clear f.is (omega (arith, ap length cut, length-append f.prefix (c ∷ f.behind)));
-      place = ap (λ x. x + size (c ∷ (f.behind ++ h.rest))) f.place ∙ sym (size-append f.prefix (c ∷ (f.behind ++ h.rest))) ∙ sym (ap size whole) ∙ ap length (encodes-chars text u);
+      at = c ∷ (f.after ++ h.rest);
+      fault = confusing {w = h.word} {rest = h.rest} f.prefix a k h.is_at whole f.clear f.is (omega (arith, ap length cut, length-append f.prefix (c ∷ f.after)));
+      place = ap (λ x. x + size (c ∷ (f.after ++ h.rest))) f.place ∙ sym (size-append f.prefix (c ∷ (f.after ++ h.rest))) ∙ sym (ap size whole) ∙ ap length (encodes-chars text u);
     }

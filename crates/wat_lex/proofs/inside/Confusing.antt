@@ -103,7 +103,7 @@ searched_more text next at c h e f =
 pub searched_found : (text next : List ℕ) (at c : ℕ) → Searched text at → drop at text ≡ encode c ++ next → is_confusing c ≡ true → FirstConfusing text at c
 searched_found text next at c h e f = record {
   prefix = h.prefix;
-  behind = chars next;
+  after = chars next;
   cut = h.cut ∙ ap (λ x. h.prefix ++ x) (chars_past_char (drop at text) next c h.utf8 e);
   clear = h.clear;
   is = f;

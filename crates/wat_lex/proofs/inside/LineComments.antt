@@ -107,7 +107,7 @@ line_found flags (c ∷ d ∷ t) n u a b e =
     record {
       word = 59 ∷ 59 ∷ k.prefix;
       rest = k.rest;
-      stands = record { cut = l.chars ∙ ap (λ x. 59 ∷ x) (m.chars ∙ ap (λ x. 59 ∷ x) k.cut); word = (begun k.passes, tt); ends = k.stops };
+      is_at = record { cut = l.chars ∙ ap (λ x. 59 ∷ x) (m.chars ∙ ap (λ x. 59 ∷ x) k.cut); word = (begun k.passes, tt); ends = k.stops };
       len = let s : prefix_len (λ c. not (is_line_end c)) t ≡ size k.prefix = ap (prefix_len (λ c. not (is_line_end c))) (sym (encodes-chars t m.utf8)) ∙ k.len in omega (arith, size_two k.prefix, s);
     }
 
@@ -115,7 +115,7 @@ line_found flags (c ∷ d ∷ t) n u a b e =
 pub found_one : (flags : Settings) (text : List ℕ) (kind : TokenKind) (c : ℕ) → IsUtf8 text → 0 < length text → get_or text 0 0 ≡ c → c < 128 → Word kind (c ∷ []) flags → MayFollow kind (c ∷ []) (chars (drop 1 text)) → LexemeFound flags text (record { kind = kind; len = 1 })
 found_one flags text kind c u l e s w f =
     let k = led text c u l e s in
-    record { word = c ∷ []; rest = chars (drop 1 text); stands = record { cut = k.chars; word = w; ends = f }; len = sym (size_one c ∙ len_utf8_ascii c s) }
+    record { word = c ∷ []; rest = chars (drop 1 text); is_at = record { cut = k.chars; word = w; ends = f }; len = sym (size_one c ∙ len_utf8_ascii c s) }
 
 no_semicolon : (text : List ℕ) (c : ℕ) → IsUtf8 text → 0 < length text → get_or text 0 0 ≡ c → c < 128 → (get_or text 1 0 ≡ 59 → ⊥) → Begins (λ d. d == 59) (chars (drop 1 text)) → ⊥
 no_semicolon text c u l e s n =
@@ -153,7 +153,7 @@ found_whitespace flags text n u l t e =
     record {
       word = take (prefix_len is_whitespace text) text;
       rest = chars (drop (prefix_len is_whitespace text) text);
-      stands = record { cut = k.cut; word = (whitespace_first text l t, k.passes); ends = k.stops };
+      is_at = record { cut = k.cut; word = (whitespace_first text l t, k.passes); ends = k.stops };
       len = e ∙ sym k.size_is;
     }
 

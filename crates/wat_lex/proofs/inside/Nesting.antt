@@ -1,4 +1,4 @@
--- Delimiters of comments by blocks: what their masks say of a text, and how many comments are open behind a block.
+-- Delimiters of comments by blocks: what their masks say of a text, and how many comments are open after a block.
 use Rattle.std.proofs.Common.{◌≡◌, ◌⊎◌, ℕ, zero, suc, ◌+◌, ◌-◌, ◌*◌, ◌/◌, ◌^◌, ◌<◌, ◌≤◌, Bool, true, false, ◌&&◌, ◌||◌, cond, eqb, List, ◌∷◌, map, length, take, drop, get_or, bit_and, bit_or, refl, sym, ap, ap₂, ◌∙◌, subst, inl, inr, arith}
 use Rattle.std.specs.Prelude.{count_ones}
 use Rattle.std.specs.List.{range_with_len}
@@ -65,7 +65,7 @@ either p q i (suc n) =
 chunk_more : (s : List ℕ) (i n : ℕ) → i < length s → chunk i (suc n) s ≡ get_or s i 0 ∷ chunk (i + 1) n s
 chunk_more s i n l = ap (take (suc n)) (drop_more s i 0 l)
 
--- where one byte stands at a place and another behind it
+-- where one byte is at a place and another after it
 pub pairs : (s : List ℕ) (a b i n : ℕ) → i + n + 1 ≤ length s
     → bit_and (mask_l (map (λ x. eqb x a) (chunk i n s))) (mask_l (map (λ x. eqb x b) (chunk (i + 1) n s))) ≡ passing (λ k. eqb (get_or s k 0) a && eqb (get_or s (k + 1) 0) b) i n
 pairs s a b i zero l = refl
@@ -119,8 +119,8 @@ last_bit p i (suc n) b =
     let e : 1 + n ≡ suc n = omega arith in
     ap (λ k. m / 2 ^ k) (sym e) ∙ sym (shr-shr m 1 n) ∙ ap (λ x. x / 2 ^ n) (halved (p i) (passing p (i + 1) (suc n))) ∙ last_bit p (i + 1) n (p i)
 
-pub behind_first : (p : ℕ → Bool) (i n : ℕ) → passing p i (suc n) / 2 ^ 1 ≡ passing p (i + 1) n
-behind_first p i n = halved (p i) (passing p (i + 1) n)
+pub after_first : (p : ℕ → Bool) (i n : ℕ) → passing p i (suc n) / 2 ^ 1 ≡ passing p (i + 1) n
+after_first p i n = halved (p i) (passing p (i + 1) n)
 
 -- ---- delimiters
 
@@ -145,7 +145,7 @@ opens_by s k a e n = ap (λ x. eqb x 40 && eqb (get_or s (k + 1) 0) 59) e ∙ ap
 closes_by : (s : List ℕ) (k a : ℕ) → get_or s k 0 ≡ a → eqb a 59 ≡ false → closes_at s k ≡ false
 closes_by s k a e n = ap (λ x. eqb x 59 && eqb (get_or s (k + 1) 0) 41) e ∙ ap (λ t. t && eqb (get_or s (k + 1) 0) 41) n
 
--- a delimiter stands at a place
+-- a delimiter is at a place
 abbrev pub delimits : List ℕ → ℕ → Bool
 delimits s k = opens_at s k || closes_at s k
 
@@ -177,20 +177,20 @@ Quiet : List ℕ → ℕ → ℕ → Bool → Type 0
 Quiet s i zero b = Unit {0}
 Quiet s i (suc n) b = b ≡ true → (opens_at s i ≡ false) × (closes_at s i ≡ false)
 
-behind_open : (s : List ℕ) (i n : ℕ) (b : Bool) → Next s i n → opens_at s i ≡ true → Quiet s (i + 1) n b
+after_open : (s : List ℕ) (i n : ℕ) (b : Bool) → Next s i n → opens_at s i ≡ true → Quiet s (i + 1) n b
 unfolding Next Quiet
-behind_open s i zero b a h = tt
-behind_open s i (suc n) b a h = λ _. (opens_by s (i + 1) 59 (opened_bytes s i h).1 refl, a h)
+after_open s i zero b a h = tt
+after_open s i (suc n) b a h = λ _. (opens_by s (i + 1) 59 (opened_bytes s i h).1 refl, a h)
 
-behind_close : (s : List ℕ) (i n : ℕ) (b : Bool) → closes_at s i ≡ true → Quiet s (i + 1) n b
+after_close : (s : List ℕ) (i n : ℕ) (b : Bool) → closes_at s i ≡ true → Quiet s (i + 1) n b
 unfolding Quiet
-behind_close s i zero b h = tt
-behind_close s i (suc n) b h = let e = (closed_bytes s i h).1 in λ _. (opens_by s (i + 1) 41 e refl, closes_by s (i + 1) 41 e refl)
+after_close s i zero b h = tt
+after_close s i (suc n) b h = let e = (closed_bytes s i h).1 in λ _. (opens_by s (i + 1) 41 e refl, closes_by s (i + 1) 41 e refl)
 
-behind_other : (s : List ℕ) (i n : ℕ) → Quiet s i n false
+after_other : (s : List ℕ) (i n : ℕ) → Quiet s i n false
 unfolding Quiet
-behind_other s i zero = tt
-behind_other s i (suc n) = λ e. cc
+after_other s i zero = tt
+after_other s i (suc n) = λ e. cc
 
 moved : (s : List ℕ) (a b i j : ℕ) → a ≡ b → i ≡ j → Reaches s a (drop i s) → Reaches s b (drop j s)
 moved s a b i j e f h = subst (λ x. Reaches s b (drop x s)) f (subst (λ x. Reaches s x (drop i s)) e h)
@@ -199,7 +199,7 @@ either_way : (b : Bool) → (b ≡ true) ⊎ (b ≡ false)
 either_way true = inl refl
 either_way false = inr refl
 
--- what is reached behind a place of which b says whether the place before it has a delimiter
+-- what is reached after a place of which b says whether the place before it has a delimiter
 record Stepped (s : List ℕ) (i n level : ℕ) : Type 0 where
   now : ℕ
   enough : n < now
@@ -216,7 +216,7 @@ past_none s n i level d not_open not_close h =
     record {
       now = level;
       enough = omega arith;
-      quiet = subst (Quiet s (i + 1) n) (sym e) (behind_other s (i + 1) n);
+      quiet = subst (Quiet s (i + 1) n) (sym e) (after_other s (i + 1) n);
       reaches = moved s level level (i + 1) (i + 1 + cond (delimits s i) 1 0) refl (omega (arith, z)) h;
       sum = omega (arith, zo, zc);
     }
@@ -231,7 +231,7 @@ past_open s n i level l d a o h =
     record {
       now = level + 1;
       enough = omega arith;
-      quiet = behind_open s i n (delimits s i) a o;
+      quiet = after_open s i n (delimits s i) a o;
       reaches = moved s (level + 1) (level + 1) (i + 2) (i + 1 + cond (delimits s i) 1 0) refl (omega (arith, z))
           (open_at s i level (omega arith) bytes.0 bytes.1 (omega arith) h);
       sum = omega (arith, zo, zc);
@@ -247,7 +247,7 @@ past_close s n i level l d not_open c h =
     record {
       now = level - 1;
       enough = omega arith;
-      quiet = behind_close s i n (delimits s i) c;
+      quiet = after_close s i n (delimits s i) c;
       reaches = moved s (level - 1) (level - 1) (i + 2) (i + 1 + cond (delimits s i) 1 0) refl (omega (arith, z))
           (close_at s i level (omega arith) bytes.0 bytes.1 (omega arith) h);
       sum = omega (arith, zo, zc);
@@ -307,14 +307,14 @@ last_of s i opens closes m =
 pub one_last : (s : List ℕ) (i opens closes : ℕ) → Masks s i opens closes → bit_or opens closes / 2 ^ 15 ≤ 1
 one_last s i opens closes m = omega (arith, last_of s i opens closes m, one_at_most (at_last (delimits s) i 16 false))
 
--- behind a block whose delimiters are apart so many comments are open
+-- after a block whose delimiters are apart so many comments are open
 pub past_block : (s : List ℕ) (i level opens closes : ℕ) → Masks s i opens closes → i + 16 < length s → 16 < level → bit_and opens (closes / 2 ^ 1) ≡ 0 → Reaches s level (drop i s)
     → Reaches s (level + count_ones opens - count_ones closes) (drop (i + (16 + bit_or opens closes / 2 ^ 15)) s)
 past_block s i level opens closes m l d e h =
-    let shifted : closes / 2 ^ 1 ≡ passing (closes_at s) (i + 1) 15 = ap (λ x. x / 2 ^ 1) m.closes_are ∙ behind_first (closes_at s) i 15 in
+    let shifted : closes / 2 ^ 1 ≡ passing (closes_at s) (i + 1) 15 = ap (λ x. x / 2 ^ 1) m.closes_are ∙ after_first (closes_at s) i 15 in
     let clear : bit_and (passing (opens_at s) i 16) (passing (closes_at s) (i + 1) 15) ≡ 0 = sym (ap₂ bit_and m.opens_are shifted) ∙ e in
     let z : i ≡ i + 0 = omega arith in
-    let made = past s 16 i level false l d (apart_from s i 15 clear) (behind_other s i 16) (moved s level level i (i + 0) refl z h) in
+    let made = past s 16 i level false l d (apart_from s i 15 clear) (after_other s i 16) (moved s level level i (i + 0) refl z h) in
     let opened : total (opens_at s) i 16 ≡ count_ones opens = sym (ap count_ones m.opens_are ∙ ones_passing (opens_at s) i 16) in
     let closed : total (closes_at s) i 16 ≡ count_ones closes = sym (ap count_ones m.closes_are ∙ ones_passing (closes_at s) i 16) in
     let last = last_of s i opens closes m in

@@ -4,7 +4,7 @@ use Rattle.std.specs.Prelude.{◌==◌, ◌↔◌, IsTrue}
 use Rattle.std.proofs.lemmas.Bool.{both_ways, ne_eqb}
 use Rattle.wat_lex.specs.grammar.Numbers.{Digits, is_exponent_letter, Exponent, exponent, Tail, fraction, power, both, bare, filled, unsigned}
 use Rattle.wat_lex.specs.inside.ScannedNumbers.{LongestDigits, NoDigits}
-use Rattle.wat_lex.proofs.grammar.Tails.{digits_end, exponent_some, tail_power, behind_digits, behind_none}
+use Rattle.wat_lex.proofs.grammar.Tails.{digits_end, exponent_some, tail_power, past_digits, after_none}
 
 pub empty_or : (xs : List ℕ) (b : Bool) → b ≡ (length xs == 0) → ((b ≡ true) × (xs ≡ [])) ⊎ ((b ≡ false) × (xs ≢ []))
 empty_or [] b e = inl (e, refl)
@@ -37,30 +37,30 @@ tail_no_dot hex [] b d e = (λ h. power (e.0 h), λ h. absurd (no_tail hex h))
 tail_no_dot hex (c ∷ t) b (inl l) e = absurd (omega arith)
 tail_no_dot hex (c ∷ t) b (inr d) e = (λ h. power (e.0 h), λ h. e.1 (tail_power hex c t d h))
 
--- behind a dot
-module _ (hex : Bool) (text behind : List ℕ) (n : text ≢ []) (d : get_or text 0 0 ≡ 46) (at : behind ≡ drop 1 text) where
-  dotted : text ≡ 46 ∷ behind
+-- after a dot
+module _ (hex : Bool) (text after : List ℕ) (n : text ≢ []) (d : get_or text 0 0 ≡ 46) (at : after ≡ drop 1 text) where
+  dotted : text ≡ 46 ∷ after
   dotted = by text n d at
     where
-      by : (text : List ℕ) → text ≢ [] → get_or text 0 0 ≡ 46 → behind ≡ drop 1 text → text ≡ 46 ∷ behind
+      by : (text : List ℕ) → text ≢ [] → get_or text 0 0 ≡ 46 → after ≡ drop 1 text → text ≡ 46 ∷ after
       by [] n d at = absurd (n refl)
       by (c ∷ t) n d at = cc
 
-  pub tail_bare : behind ≡ [] → Tail hex text
+  pub tail_bare : after ≡ [] → Tail hex text
   tail_bare e = subst (Tail hex) (sym (dotted ∙ ap (λ x. 46 ∷ x) e)) (fraction bare)
 
-  pub tail_bare_power : Exponent hex behind → Tail hex text
+  pub tail_bare_power : Exponent hex after → Tail hex text
   tail_bare_power h = subst (Tail hex) (sym dotted) (both bare h)
 
-  pub tail_digits : (rest : List ℕ) (b : Bool) → b ≡ true → rest ≡ [] → LongestDigits hex behind rest → (IsTrue b ↔ Tail hex text)
-  tail_digits rest b e z l = (λ h. subst (Tail hex) (sym dotted) (fraction (filled (subst (Digits hex behind) z l.digits))), λ h. e)
+  pub tail_digits : (rest : List ℕ) (b : Bool) → b ≡ true → rest ≡ [] → LongestDigits hex after rest → (IsTrue b ↔ Tail hex text)
+  tail_digits rest b e z l = (λ h. subst (Tail hex) (sym dotted) (fraction (filled (subst (Digits hex after) z l.digits))), λ h. e)
 
-  pub tail_digits_power : (rest : List ℕ) (b : Bool) → behind ≢ [] → (Exponent hex behind → ⊥) → rest ≢ [] → (IsTrue b ↔ Exponent hex rest) → LongestDigits hex behind rest → (IsTrue b ↔ Tail hex text)
+  pub tail_digits_power : (rest : List ℕ) (b : Bool) → after ≢ [] → (Exponent hex after → ⊥) → rest ≢ [] → (IsTrue b ↔ Exponent hex rest) → LongestDigits hex after rest → (IsTrue b ↔ Tail hex text)
   tail_digits_power rest b m x z e l =
-      (λ h. subst (Tail hex) (sym dotted) (both (filled l.digits) (e.0 h)), λ h. e.1 (behind_digits hex behind rest m x l (subst (Tail hex) dotted h) z))
+      (λ h. subst (Tail hex) (sym dotted) (both (filled l.digits) (e.0 h)), λ h. e.1 (past_digits hex after rest m x l (subst (Tail hex) dotted h) z))
 
-  pub tail_no_digits : behind ≢ [] → (Exponent hex behind → ⊥) → NoDigits hex behind → (Tail hex text → ⊥)
-  tail_no_digits m x l h = behind_none hex behind m x l (subst (Tail hex) dotted h)
+  pub tail_no_digits : after ≢ [] → (Exponent hex after → ⊥) → NoDigits hex after → (Tail hex text → ⊥)
+  tail_no_digits m x l h = after_none hex after m x l (subst (Tail hex) dotted h)
 
 -- no prefix
 pub not_prefix : (s t word given : List ℕ) → t ≡ s → given ≡ word → ((rest : List ℕ) → t ≢ given ++ rest) → (rest : List ℕ) → s ≢ word ++ rest

@@ -1,4 +1,4 @@
--- Outlines of what stands at the start of a text.
+-- Outlines of what is at the start of a text.
 use Rattle.std.proofs.Common.{◌≡◌, ◌≢◌, ◌<◌, ◌+◌, ℕ, zero, suc, List, [], ◌∷◌, length, take, drop, get_or, refl, arith, ap, sym, ◌∙◌, subst, Bool, true, false, cond, inl, inr}
 use Rattle.std.specs.Prelude.{IsTrue}
 use Rattle.std.proofs.lemmas.Bool.{cases_Bool}
@@ -72,13 +72,13 @@ pub outlined_run : (flags : Settings) (text : List ℕ) (found : Pieces) (s : Sh
 outlined_run flags text found s u l b f h = record {
   fits = run_fits flags text found f;
   word = λ k g. found_run flags text found k u l b f (h.kind k g);
-  fault = λ a. absurd (h.stands a);
+  fault = λ a. absurd (h.is_at a);
 }
 
 -- the shape of `$` or `@` and a string
 pub named_run : (word : List ℕ) (n m : ℕ) (s : Shape) (k : TokenKind) → s ≢ shape.Fault → ((j : TokenKind) → HasKind s word j → j ≡ k) → named_kind word ≡ k → m ≡ 1 → n ≡ 1 → IsShapeOfRun word n m s
-named_run word n m s k stands only e a b = record {
-  stands = stands;
+named_run word n m s k is_at only e a b = record {
+  is_at = is_at;
   kind = λ j h flags w ps f r i z. subst (RunKind ps) (ap named_kind (sym f) ∙ e ∙ sym (only j h)) (kind_of_two flags w ps r (sym z ∙ a) (sym i ∙ b));
 }
 
@@ -90,9 +90,9 @@ pub named_annotation : (word : List ℕ) → 0 < length word → get_or word 0 0
 named_annotation [] l e = absurd (omega arith)
 named_annotation (c ∷ cs) l e = ap (λ x. named_kind (x ∷ cs)) e
 
--- where a word stands there is no fault
+-- where a word is there is no fault
 pub word_no_fault : (flags : Settings) (text : List ℕ) (lexeme : Lexeme) → LexemeFound flags text lexeme → IsRefused flags text → ⊥
-word_no_fault flags text lexeme h r = let f = r.1 in no_word_at_fault flags (chars text) lexeme.kind h.word h.rest r.0.error f.at h.stands f.fault
+word_no_fault flags text lexeme h r = let f = r.1 in no_word_at_fault flags (chars text) lexeme.kind h.word h.rest r.0.error f.at h.is_at f.fault
 
 pub run_no_fault : (flags : Settings) (text : List ℕ) (found : Pieces) → IsUtf8 text → 0 < length text → is_run_char (get_or text 0 0) ≡ true → RunFound flags text found → IsRefused flags text → ⊥
 run_no_fault flags text found u l b f r =

@@ -79,21 +79,21 @@ past_quote flags text len ids strs j l e =
     let k = at_byte flags text len ids strs 34 j l e (omega arith) in
     k.chars ∙ ap (λ x. 34 ∷ chars x) (drop-drop 1 len text)
 
-pub behind_quote : (flags : Settings) (text : List ℕ) (len ids strs : ℕ) → Joined flags text len ids strs → len < length text → get_or text len 0 ≡ 34 → IsUtf8 (drop (len + 1) text)
-behind_quote flags text len ids strs j l e = let k = at_byte flags text len ids strs 34 j l e (omega arith) in subst IsUtf8 (drop-drop 1 len text) k.utf8
+pub after_quote : (flags : Settings) (text : List ℕ) (len ids strs : ℕ) → Joined flags text len ids strs → len < length text → get_or text len 0 ≡ 34 → IsUtf8 (drop (len + 1) text)
+after_quote flags text len ids strs j l e = let k = at_byte flags text len ids strs 34 j l e (omega arith) in subst IsUtf8 (drop-drop 1 len text) k.utf8
 
 pub joined_string : (flags : Settings) (text : List ℕ) (len ids strs n more : ℕ) → Joined flags text len ids strs → len < length text → get_or text len 0 ≡ 34 → StringTaken flags (drop (len + 1) text) n
     → more ≡ prefix_len is_idchar (drop (len + (1 + n)) text) → Joined flags text (len + (1 + n) + more) (ids + more) (strs + 1)
 joined_string flags text len ids strs n more j l e h m =
     let at = len + (1 + n) in
-    let behind : drop n (drop (len + 1) text) ≡ drop at text = drop-drop n (len + 1) text ∙ ap (λ x. drop x text) (let k : len + 1 + n ≡ at = omega arith in k) in
-    let next = joined_start flags (drop at text) more (subst IsUtf8 behind h.utf8) m in
+    let after : drop n (drop (len + 1) text) ≡ drop at text = drop-drop n (len + 1) text ∙ ap (λ x. drop x text) (let k : len + 1 + n ≡ at = omega arith in k) in
+    let next = joined_start flags (drop at text) more (subst IsUtf8 after h.utf8) m in
     let past : drop more (drop at text) ≡ drop (at + more) text = drop-drop more at text in
     record {
       pieces = j.pieces ++ Quoted h.value ∷ next.pieces;
       run = λ qs r k.
           let inner : Run flags (chars (drop at text)) (next.pieces ++ qs) r = next.run qs r (subst (λ x. Run flags (chars x) qs r) (sym past) k) in
-          let quoted : Run flags (34 ∷ chars (drop (len + 1) text)) (Quoted h.value ∷ (next.pieces ++ qs)) r = string h.quoted (subst (λ x. Run flags (chars x) (next.pieces ++ qs) r) (sym behind) inner) in
+          let quoted : Run flags (34 ∷ chars (drop (len + 1) text)) (Quoted h.value ∷ (next.pieces ++ qs)) r = string h.quoted (subst (λ x. Run flags (chars x) (next.pieces ++ qs) r) (sym after) inner) in
           subst (λ x. Run flags (chars text) x r) (sym (append_assoc j.pieces (Quoted h.value ∷ next.pieces) qs))
           (j.run (Quoted h.value ∷ (next.pieces ++ qs)) r (subst (λ x. Run flags x (Quoted h.value ∷ (next.pieces ++ qs)) r) (sym (past_quote flags text len ids strs j l e)) quoted));
       utf8 = subst IsUtf8 past next.utf8;

@@ -56,7 +56,7 @@ name_start c h d l i p m a =
 one_letter : (c : ℕ) → 97 ≤ c → c ≤ 122 → WordKind (c ∷ []) Keyword
 one_letter c a b = inr (one_none c (no_digit c (λ x y. omega arith)) (λ e. omega arith) (λ e. omega arith), sym (ap (λ t. if t then Keyword else named_kind (c ∷ [])) (lower c a b)))
 
--- behind the first letter of `inf` and of `nan` stands `n` or `a`
+-- after the first letter of `inf` and of `nan` is `n` or `a`
 pub keyword_of_two : (text : List ℕ) (len : ℕ) → 0 < len → 97 ≤ get_or text 0 0 → get_or text 0 0 ≤ 122 → get_or text 1 0 ≢ 110 → get_or text 1 0 ≢ 97 → WordKind (take len text) Keyword
 keyword_of_two [] len p a b i n = absurd (omega arith)
 keyword_of_two (c ∷ t) zero p a b i n = absurd (omega arith)

@@ -56,7 +56,7 @@ made_escape flags prefix old new d v t h = record {
   shorter = t.shorter;
 }
 
--- the fault stands at the character that was taken, or at the end
+-- the fault is at the character that was taken, or at the end
 pub breaks_here : (flags : Settings) (prefix old new : List ℕ) (d left : ℕ) (e : LexError) → Took old d new → left ≡ length old → StringFault flags (prefix ++ d ∷ chars new) e (d ∷ chars new) → Breaks flags prefix old (record { left = left; error = e })
 breaks_here flags prefix old new d left e t l h = record {
   at = chars old;

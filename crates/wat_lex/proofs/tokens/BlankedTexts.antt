@@ -1,4 +1,4 @@
--- A text with white bytes over those of a token: its bytes and its characters before the token, in its place, and behind it.
+-- A text with white bytes over those of a token: its bytes and its characters before the token, in its place, and after it.
 use Rattle.std.proofs.Common.{◌≡◌, ◌≤◌, ◌<◌, ◌+◌, ◌-◌, ℕ, zero, suc, List, [], ◌∷◌, ◌++◌, length, take, drop, refl, arith, ap, sym, ◌∙◌, append_assoc, length-append, length-drop}
 use Rattle.std.specs.Prelude.{IsTrue}
 use Rattle.std.specs.Str.{chars, IsAscii, IsUtf8, IsCharBoundary}
@@ -51,9 +51,9 @@ module _ (text : List ℕ) (t : Token) (white : List ℕ) (fits : t.offset + t.l
   pub blanked_length : length (overwritten text t white) ≡ length text
   blanked_length = omega (arith, fits, prefix_length, length-append (take t.offset text ++ white) (drop (t.offset + t.len) text), length-drop (t.offset + t.len) text)
 
-  -- behind the token nothing changes
-  pub drop_behind : (q : ℕ) → t.offset + t.len ≤ q → drop q (overwritten text t white) ≡ drop q text
-  drop_behind q l =
+  -- after the token nothing changes
+  pub drop_after : (q : ℕ) → t.offset + t.len ≤ q → drop q (overwritten text t white) ≡ drop q text
+  drop_after q l =
       let prefix = take t.offset text ++ white in
       let n = q - (t.offset + t.len) in
       let k : q ≡ length prefix + n = omega (arith, prefix_length, l) in
@@ -66,9 +66,9 @@ module _ (text : List ℕ) (t : Token) (white : List ℕ) (fits : t.offset + t.l
       ap (drop q) (append_assoc (take t.offset text) white (drop (t.offset + t.len) text))
       ∙ drop-append-le q (take t.offset text) (white ++ drop (t.offset + t.len) text) (omega (arith, l, fits, length-take-le t.offset text (omega (arith, fits))))
 
-  -- another token has the same text, before it or behind it
-  pub text_behind : (u : Token) → t.offset + t.len ≤ u.offset → token_text (overwritten text t white) u ≡ token_text text u
-  text_behind u l = ap (take u.len) (drop_behind u.offset l)
+  -- another token has the same text, before it or after it
+  pub text_after : (u : Token) → t.offset + t.len ≤ u.offset → token_text (overwritten text t white) u ≡ token_text text u
+  text_after u l = ap (take u.len) (drop_after u.offset l)
 
   pub text_before : (u : Token) → u.offset + u.len ≤ t.offset → token_text (overwritten text t white) u ≡ token_text text u
   text_before u l =
@@ -90,6 +90,6 @@ module _ (text : List ℕ) (t : Token) (white : List ℕ) (fits : t.offset + t.l
     pub chars_blanked : (q : ℕ) → IsCharBoundary text q → q ≤ t.offset → chars (drop q (overwritten text t white)) ≡ chars (drop q (take t.offset text)) ++ (white ++ chars (drop (t.offset + t.len) text))
     chars_blanked q b l =
         let m = drop q (take t.offset text) in
-        let behind = drop (t.offset + t.len) text in
-        ap chars (drop_before q l) ∙ chars-append m (white ++ behind) (prefix_utf8 text t.offset q utf8 first b l)
-        ∙ ap (λ x. chars m ++ x) (chars-append white behind (IsUtf8-from_ascii white ascii) ∙ ap (λ x. x ++ chars behind) (chars-IsAscii white ascii))
+        let after = drop (t.offset + t.len) text in
+        ap chars (drop_before q l) ∙ chars-append m (white ++ after) (prefix_utf8 text t.offset q utf8 first b l)
+        ∙ ap (λ x. chars m ++ x) (chars-append white after (IsUtf8-from_ascii white ascii) ∙ ap (λ x. x ++ chars after) (chars-IsAscii white ascii))

@@ -10,17 +10,17 @@ use Rattle.wat_lex.specs.tokens.Setting.{Setting}
 use Rattle.wat_lex.specs.tokens.Tiling.{TokenAt, Tiling, EndsAt}
 use Rattle.wat_lex.specs.tokens.CutsAndMoves.{sure, prefix, Cuts}
 use Rattle.wat_lex.proofs.tokens.SomeTilings.{some_tiling}
-use Rattle.wat_lex.specs.grammar.Words.{MayFollow, WordStands}
+use Rattle.wat_lex.specs.grammar.Words.{MayFollow, WordIsAt}
 use Rattle.wat_lex.specs.declared.lexer.settings.Settings.{Settings}
 use Rattle.wat_lex.specs.declared.lexer.kinds.Token.{Token}
 use Rattle.wat_lex.specs.declared.lexer.kinds.TokenKind.{TokenKind}
 use Rattle.wat_lex.specs.declared.lexer.kinds.TokenKind.TheVariants.{LineComment, BlockComment, Whitespace, LParen, RParen, String, Id, Keyword, Annotation, Reserved, Integer, Float}
 use Rattle.wat_lex.specs.declared.lexer.faults.LexFault.{LexFault}
 use Rattle.wat_lex.proofs.inside.CheckedComments.{halves}
-use Rattle.wat_lex.proofs.tokens.RawLaws.{behind}
+use Rattle.wat_lex.proofs.tokens.RawLaws.{after}
 use Rattle.wat_lex.proofs.tokens.OneTilings.{token_one, no_token_left, no_fault_left, ending_no_token}
 
--- what may follow is said of the first character behind the word
+-- what may follow is said of the first character after the word
 begins_prefix : (p : ℕ → Bool) (r x : List ℕ) → r ≢ [] → Begins p (r ++ x) → Begins p r
 begins_prefix p [] x n h = absurd (n refl)
 begins_prefix p (c ∷ r) x n h = h
@@ -44,14 +44,14 @@ follows_more Annotation w r x n h = λ b. h (begins_prefix is_run_char r x n b)
 follows_more (Integer k) w r x n h = λ b. h (begins_prefix is_run_char r x n b)
 follows_more (Float k) w r x n h = λ b. h (begins_prefix is_run_char r x n b)
 
--- a word that does not end the text stands before more text too
-pub stands_more : (flags : Settings) (text x : List ℕ) (k : TokenKind) (w r : List ℕ) → r ≢ [] → WordStands flags text k w r → WordStands flags (text ++ x) k w (r ++ x)
-stands_more flags text x k w r n h = record { cut = ap (λ y. y ++ x) h.cut ∙ append_assoc w r x; word = h.word; ends = follows_more k w r x n h.ends }
+-- a word that does not end the text may be before more text too
+pub is_at_more : (flags : Settings) (text x : List ℕ) (k : TokenKind) (w r : List ℕ) → r ≢ [] → WordIsAt flags text k w r → WordIsAt flags (text ++ x) k w (r ++ x)
+is_at_more flags text x k w r n h = record { cut = ap (λ y. y ++ x) h.cut ∙ append_assoc w r x; word = h.word; ends = follows_more k w r x n h.ends }
 
--- what is left behind a token
+-- what is left after a token
 pub token_rest : (s : Setting) (q : ℕ) (t : Token) → IsUtf8 s.text → IsCharBoundary s.text q → (h : TokenAt s q t) → chars (drop (t.offset + t.len) s.text) ≡ h.rest
 token_rest s q t u b h =
-    let p = halves (drop q s.text) h.word h.rest (IsUtf8-drop s.text q u b) h.stands.cut in
+    let p = halves (drop q s.text) h.word h.rest (IsUtf8-drop s.text q u b) h.is_at.cut in
     ap (λ x. chars (drop (x + t.len) s.text)) h.offset ∙ ap chars (sym (drop-drop t.len q s.text)) ∙ ap (λ x. chars (drop t.len x)) p.bytes
     ∙ ap chars (drop_at (encodes h.word) (encodes h.rest) t.len (sym h.len)) ∙ chars-encodes h.rest p.right
 
@@ -63,14 +63,14 @@ prefix_utf8 text n p u b c l =
 prefix_boundary : (text : List ℕ) (n p : ℕ) → IsUtf8 text → IsCharBoundary text n → IsCharBoundary text p → p ≤ n → IsCharBoundary (take n text) p
 prefix_boundary text n p u b c l = IsCharBoundary-from_drop (take n text) p (omega (arith, length-take-le n text b.0)) (prefix_utf8 text n p u b c l)
 
--- the characters from a place on are those of the prefix and those behind it
+-- the characters from a place on are those of the prefix and those after it
 prefix_chars : (text : List ℕ) (n q : ℕ) → IsUtf8 text → IsCharBoundary text n → IsCharBoundary (take n text) q → chars (drop q text) ≡ chars (drop q (take n text)) ++ chars (drop n text)
 prefix_chars text n q u b c =
     let l : q ≤ n = omega (arith, c.0, length-take-le n text b.0) in
     let k : n ≡ q + (n - q) = omega arith in
     let prefix : drop q (take n text) ≡ take (n - q) (drop q text) = ap (λ x. drop q (take x text)) k ∙ drop-take q (n - q) text in
-    let behind_it : drop (n - q) (drop q text) ≡ drop n text = drop-drop (n - q) q text ∙ ap (λ x. drop x text) (sym k) in
-    let bytes : drop q text ≡ drop q (take n text) ++ drop n text = sym (take-append-drop (n - q) (drop q text)) ∙ ap (λ x. x ++ drop (n - q) (drop q text)) (sym prefix) ∙ ap (λ x. drop q (take n text) ++ x) behind_it in
+    let after_it : drop (n - q) (drop q text) ≡ drop n text = drop-drop (n - q) q text ∙ ap (λ x. drop x text) (sym k) in
+    let bytes : drop q text ≡ drop q (take n text) ++ drop n text = sym (take-append-drop (n - q) (drop q text)) ∙ ap (λ x. x ++ drop (n - q) (drop q text)) (sym prefix) ∙ ap (λ x. drop q (take n text) ++ x) after_it in
     ap chars bytes ∙ chars-append (drop q (take n text)) (drop n text) (IsUtf8-drop (take n text) q (IsUtf8-take text n u b) c)
 
 -- a text, and its prefix of n bytes
@@ -85,8 +85,8 @@ token_more s n q t u b c h some =
       offset = h.offset;
       word = h.word;
       rest = h.rest ++ chars (drop n s.text);
-      stands = subst (λ x. WordStands s.flags x t.kind h.word (h.rest ++ chars (drop n s.text))) (sym (prefix_chars s.text n q u b c))
-          (stands_more s.flags (chars (drop q (take n s.text))) (chars (drop n s.text)) t.kind h.word h.rest (λ k. some (e ∙ k)) h.stands);
+      is_at = subst (λ x. WordIsAt s.flags x t.kind h.word (h.rest ++ chars (drop n s.text))) (sym (prefix_chars s.text n q u b c))
+          (is_at_more s.flags (chars (drop q (take n s.text))) (chars (drop n s.text)) t.kind h.word h.rest (λ k. some (e ∙ k)) h.is_at);
       len = h.len;
     }
 
@@ -110,7 +110,7 @@ left_before s q to (t ∷ ts) g h e = λ n. no_token_left s q t n h.0
 module _ (s : Setting) (n : ℕ) (utf8 : IsUtf8 s.text) (cut : IsCharBoundary s.text n) where
   next_boundary : (q : ℕ) (t : Token) → IsCharBoundary (take n s.text) q → TokenAt (prefix_of s n) q t → IsCharBoundary (take n s.text) (t.offset + t.len)
   unfolding prefix_of
-  next_boundary q t b h = behind (prefix_of s n) q t (IsUtf8-take s.text n utf8 cut) b h
+  next_boundary q t b h = after (prefix_of s n) q t (IsUtf8-take s.text n utf8 cut) b h
 
   Begun : List Token → List Token → Type 0
   Begun ts us = (rest : List Token) × (us ≡ ts ++ rest)

@@ -1,7 +1,7 @@
 -- The laws of the definitions for every text and setting, from what is proved of words, tilings and names.
 use Rattle.std.proofs.Common.{ℕ, [], ◌∷◌, ◌∙◌, refl, sym, subst, inl, inr}
 use Rattle.std.specs.Prelude.{Some, None, Ok, Err, Option, Result}
-use Rattle.wat_lex.specs.tokens.EverySetting.{SomethingStands, OneThingStands, EachPlaceIsTiled, TilingsAreOne, TokensOfCuts, TokensOfMoves, TokensAreReadable, TokensEndAtBoundaries, WordsOfTokens, NamesAreThere, NamesAreOne, NamesAreValues, StringsAreValues, CutsAreOne}
+use Rattle.wat_lex.specs.tokens.EverySetting.{SomethingIsAt, OneThingIsAt, EachPlaceIsTiled, TilingsAreOne, TokensOfCuts, TokensOfMoves, TokensAreReadable, TokensEndAtBoundaries, WordsOfTokens, NamesAreThere, NamesAreOne, NamesAreValues, StringsAreValues, CutsAreOne}
 use Rattle.wat_lex.specs.tokens.Faults.{FaultAt}
 use Rattle.wat_lex.specs.tokens.Setting.{Setting}
 use Rattle.wat_lex.specs.tokens.UniqueTilings.{SomeTiling, AnswerAt}
@@ -9,25 +9,25 @@ use Rattle.wat_lex.specs.declared.lexer.kinds.Token.{Token}
 use Rattle.wat_lex.specs.declared.lexer.kinds.TokenKind.TheVariants.{String, Id, Annotation}
 use Rattle.wat_lex.specs.declared.lexer.faults.LexFault.{LexFault}
 use Rattle.wat_lex.proofs.tokens.CutTexts as cut_texts
-use Rattle.wat_lex.proofs.tokens.RawLaws.{behind}
+use Rattle.wat_lex.proofs.tokens.RawLaws.{after}
 use Rattle.wat_lex.proofs.tokens.MovedTexts as moved_texts
 use Rattle.wat_lex.proofs.values.OneValues.{one_name, one_value, one_cut}
-use Rattle.wat_lex.proofs.tokens.OneTilings.{one_tiling, stands_one}
+use Rattle.wat_lex.proofs.tokens.OneTilings.{one_tiling, is_at_one}
 use Rattle.wat_lex.proofs.values.SomeValues.{name_of, value_of}
 use Rattle.wat_lex.proofs.tokens.SomeTilings.{some_tiling}
 use Rattle.wat_lex.proofs.tokens.ReadableTokens.{token_of, token_chars}
 use Rattle.wat_lex.proofs.values.WordValues.{string_value_is, name_good, name_fault}
 
-first_stands : (s : Setting) (p : ℕ) → SomeTiling s p → (r : Result (Option Token) LexFault) × AnswerAt s p r
-first_stands s p ([], None, h) = (Ok None, h.tiling ∙ h.ends)
-first_stands s p ([], Some f, h) = (Err f, subst (λ q. FaultAt s q f) (sym h.tiling) h.ends)
-first_stands s p (t ∷ ts, e, h) = (Ok (Some t), h.tiling.0)
+first_is_at : (s : Setting) (p : ℕ) → SomeTiling s p → (r : Result (Option Token) LexFault) × AnswerAt s p r
+first_is_at s p ([], None, h) = (Ok None, h.tiling ∙ h.ends)
+first_is_at s p ([], Some f, h) = (Err f, subst (λ q. FaultAt s q f) (sym h.tiling) h.ends)
+first_is_at s p (t ∷ ts, e, h) = (Ok (Some t), h.tiling.0)
 
-pub something_stands : SomethingStands
-something_stands s p u b = first_stands s p (some_tiling s p u b)
+pub something_is_at : SomethingIsAt
+something_is_at s p u b = first_is_at s p (some_tiling s p u b)
 
-pub one_thing_stands : OneThingStands
-one_thing_stands s p q r h g = stands_one s p q r h g
+pub one_thing_is_at : OneThingIsAt
+one_thing_is_at s p q r h g = is_at_one s p q r h g
 
 pub each_place_is_tiled : EachPlaceIsTiled
 each_place_is_tiled s p u b = some_tiling s p u b
@@ -45,7 +45,7 @@ pub tokens_are_readable : TokensAreReadable
 tokens_are_readable s p t b h = token_of s p t b h
 
 pub tokens_end_at_boundaries : TokensEndAtBoundaries
-tokens_end_at_boundaries s p t u b h = behind s p t u b h
+tokens_end_at_boundaries s p t u b h = after s p t u b h
 
 pub words_of_tokens : WordsOfTokens
 words_of_tokens text t u h = token_chars text t u h

@@ -1,4 +1,4 @@
--- Tokens that stand under some flags stand under those that take most, so the comments among them do.
+-- Tokens under some flags are tokens under those that take most, and so are the comments among them.
 use Rattle.std.proofs.Common.{◌+◌, ℕ, List, [], ◌∷◌, ◌++◌, subst, sym}
 use Rattle.std.specs.Prelude.{Option}
 use Rattle.std.proofs.lemmas.List.Elements.{Contains-append_left}
@@ -7,7 +7,7 @@ use Rattle.wat_lex.specs.tokens.Setting.{Setting, lenient}
 use Rattle.wat_lex.specs.tokens.Tiling.{TokenAt, Tiling, MaximalTiling}
 use Rattle.wat_lex.specs.declared.lexer.faults.LexFault.{LexFault}
 use Rattle.wat_lex.specs.declared.lexer.kinds.Token.{Token}
-use Rattle.wat_lex.proofs.grammar.Looser.{stands_looser, lenient_looser}
+use Rattle.wat_lex.proofs.grammar.Looser.{is_at_looser, lenient_looser}
 use Rattle.wat_lex.proofs.tokens.MovedTexts.{tiling_ends}
 use Rattle.wat_lex.proofs.tokens.SomeTilings.{some_tiling}
 
@@ -21,11 +21,11 @@ token_stays s p t h = record {
   offset = h.offset;
   word = h.word;
   rest = h.rest;
-  stands = stands_looser s.flags lenient _ t.kind h.word h.rest (lenient_looser s.flags) h.stands;
+  is_at = is_at_looser s.flags lenient _ t.kind h.word h.rest (lenient_looser s.flags) h.is_at;
   len = h.len;
 }
 
--- tokens, and then all that stand behind them
+-- tokens, and then all that come after them
 tiling_on : (s : Setting) (p to : ℕ) (ts us : List Token) (e : Option LexFault) → Tiling s p to ts → MaximalTiling (loosely s) to us e → MaximalTiling (loosely s) p (ts ++ us) e
 tiling_on s p to [] us e h g = subst (λ q. MaximalTiling (loosely s) q us e) (sym h) g
 tiling_on s p to (t ∷ ts) us e h g =

@@ -9,14 +9,14 @@ use Rattle.wat_lex.specs.tokens.Faults.{Fault, FaultAt, unexpected, dangling, co
 use Rattle.wat_lex.specs.tokens.CutsAndMoves.{moved_tokens, moved_ending, Moves}
 use Rattle.wat_lex.specs.tokens.Setting.{Setting}
 use Rattle.wat_lex.specs.tokens.Tiling.{TokenAt, Tiling, EndsAt}
-use Rattle.wat_lex.specs.grammar.Words.{WordStands}
+use Rattle.wat_lex.specs.grammar.Words.{WordIsAt}
 use Rattle.wat_lex.specs.declared.lexer.settings.Settings.{Settings}
 use Rattle.wat_lex.specs.declared.lexer.kinds.Token.{Token}
 use Rattle.wat_lex.specs.declared.lexer.faults.LexError.{LexError}
 use Rattle.wat_lex.specs.declared.lexer.faults.LexFault.{LexFault}
 use Rattle.wat_lex.proofs.inside.Confusing.{size-append}
 use Rattle.wat_lex.proofs.grammar.Remainders.{run_taken, string_fault_fits}
-use Rattle.wat_lex.proofs.tokens.RawLaws.{behind}
+use Rattle.wat_lex.proofs.tokens.RawLaws.{after}
 
 -- a fault is reported inside the text
 pub fault_fits : (flags : Settings) (s : List ℕ) (e : LexError) (at : List ℕ) → Fault flags s e at → size at ≤ size s
@@ -38,7 +38,7 @@ into_token s p q t h = record {
   offset = ap (λ x. p + x) h.offset;
   word = h.word;
   rest = h.rest;
-  stands = subst (λ x. WordStands s.flags (chars x) t.kind h.word h.rest) (drop-drop q p s.text) h.stands;
+  is_at = subst (λ x. WordIsAt s.flags (chars x) t.kind h.word h.rest) (drop-drop q p s.text) h.is_at;
   len = h.len;
 }
 
@@ -68,7 +68,7 @@ from_token s p q u h = record {
   offset = refl;
   word = h.word;
   rest = h.rest;
-  stands = subst (λ x. WordStands s.flags (chars x) u.kind h.word h.rest) (sym (drop-drop q p s.text)) h.stands;
+  is_at = subst (λ x. WordIsAt s.flags (chars x) u.kind h.word h.rest) (sym (drop-drop q p s.text)) h.is_at;
   len = h.len;
 }
 
@@ -97,11 +97,11 @@ unmoved s p q to (u ∷ us) h =
 -- a tiling ends at a boundary
 pub tiling_ends : (s : Setting) (p to : ℕ) (ts : List Token) → IsUtf8 s.text → IsCharBoundary s.text p → Tiling s p to ts → IsCharBoundary s.text to
 tiling_ends s p to [] u b h = subst (IsCharBoundary s.text) h b
-tiling_ends s p to (t ∷ ts) u b h = tiling_ends s (t.offset + t.len) to ts u (behind s p t u b h.0) h.1
+tiling_ends s p to (t ∷ ts) u b h = tiling_ends s (t.offset + t.len) to ts u (after s p t u b h.0) h.1
 
--- a fault is reported at its place or behind it
-fault_behind : (s : Setting) (q : ℕ) (f : LexFault) → IsUtf8 s.text → IsCharBoundary s.text q → FaultAt s q f → q ≤ f.offset
-fault_behind s q f u b h =
+-- a fault is reported at its place or after it
+fault_after : (s : Setting) (q : ℕ) (f : LexFault) → IsUtf8 s.text → IsCharBoundary s.text q → FaultAt s q f → q ≤ f.offset
+fault_after s q f u b h =
     let rest = drop q s.text in
     let k = fault_fits s.flags (chars rest) f.error h.at h.fault in
     let l : size (chars rest) ≡ length rest = ap length (encodes-chars rest (IsUtf8-drop s.text q u b)) in
@@ -117,7 +117,7 @@ unmoved_ending : (s : Setting) (p q : ℕ) (f : Option LexFault) → IsUtf8 s.te
 unfolding text_from
 unmoved_ending s p q None u l b h = record { ending = None; is = refl; ends = omega (arith, l, h, length-drop p s.text) }
 unmoved_ending s p q (Some f) u l b h =
-    let k = fault_behind s (p + q) f u b h in
+    let k = fault_after s (p + q) f u b h in
     let o : f.offset ≡ p + (f.offset - p) = omega arith in
     let same : f ≡ record f { offset = p + (f.offset - p) } = λ i. record { offset = o i; error = f.error } in
     record {

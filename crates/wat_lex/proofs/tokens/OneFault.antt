@@ -8,15 +8,15 @@ use Rattle.wat_lex.specs.grammar.Comments.{BlockComment as Commented, opened, Li
 use Rattle.wat_lex.specs.tokens.Faults.{begins_word, IsComment, Fault, unexpected, dangling, confusing, in_string}
 use Rattle.wat_lex.specs.grammar.Runs.{Piece, Run, none, idchar, string}
 use Rattle.wat_lex.specs.tokens.Setting.{allowing}
-use Rattle.wat_lex.specs.grammar.Words.{Word, WordStands}
+use Rattle.wat_lex.specs.grammar.Words.{Word, WordIsAt}
 use Rattle.wat_lex.specs.declared.lexer.settings.Settings.{Settings}
 use Rattle.wat_lex.specs.declared.lexer.kinds.TokenKind.{TokenKind}
 use Rattle.wat_lex.specs.declared.lexer.kinds.TokenKind.TheVariants.{BlockComment}
 use Rattle.wat_lex.specs.declared.lexer.faults.LexError.{LexError}
 use Rattle.wat_lex.specs.declared.lexer.faults.LexError.TheVariants.{ConfusingUnicode}
-use Rattle.wat_lex.proofs.grammar.Looser.{Looser, stands_looser}
+use Rattle.wat_lex.proofs.grammar.Looser.{Looser, is_at_looser}
 use Rattle.wat_lex.proofs.grammar.OneRun.{idchar_runs, run_sound, run_fault_unique}
-use Rattle.wat_lex.proofs.grammar.OneWord.{Class, class_of, Spaces, Punctuated, Shuts, Other, Joined, Block, Form, begun_class, stands_form, stands_unique}
+use Rattle.wat_lex.proofs.grammar.OneWord.{Class, class_of, Spaces, Punctuated, Shuts, Other, Joined, Block, Form, begun_class, is_at_form, is_at_unique}
 
 -- the first character that passes
 record FirstOf (c d : ℕ) (t u : List ℕ) : Type 0 where
@@ -29,7 +29,7 @@ first_unique [] (y ∷ ys) t u c d n m a b e = let k : c ≡ y = cc in absurd (b
 first_unique (x ∷ xs) [] t u c d n m a b e = let k : x ≡ d = cc in absurd (both_ways (is_confusing x) n.0 (ap is_confusing k ∙ b))
 first_unique (x ∷ xs) (y ∷ ys) t u c d n m a b e = first_unique xs ys t u c d n.1 m.1 a b (let k : xs ++ c ∷ t ≡ ys ++ d ∷ u = cc in k)
 
--- a comment that stands at the start: the text begins with `(;` or `;;`
+-- a comment that is at the start: the text begins with `(;` or `;;`
 pub data CommentStart : List ℕ → Type 0 where
   block : {t r : List ℕ} → Commented (open_paren ∷ semicolon ∷ t) r → CommentStart (open_paren ∷ semicolon ∷ t)
   line : {t : List ℕ} → CommentStart (semicolon ∷ semicolon ∷ t)
@@ -40,13 +40,13 @@ line_start w r (begun h) = line
 block_start : (s r : List ℕ) → Commented s r → CommentStart s
 block_start s r (opened h) = block (opened h)
 
-pub comment_start : (flags : Settings) (s : List ℕ) (k : TokenKind) (w r : List ℕ) → IsComment k → WordStands flags s k w r → CommentStart s
+pub comment_start : (flags : Settings) (s : List ℕ) (k : TokenKind) (w r : List ℕ) → IsComment k → WordIsAt flags s k w r → CommentStart s
 unfolding Form
 comment_start flags s k w r (inl e) h = let g = subst (λ y. Word y w flags) e h.word in subst CommentStart (sym h.cut) (line_start w r g.0)
 comment_start flags s k w r (inr e) h =
     let g = subst (λ y. Word y w flags) e h.word in
-    let there : WordStands flags s BlockComment w r = record { cut = h.cut; word = g; ends = tt } in
-    by s w r h.cut g.0 (stands_form flags s BlockComment w r there)
+    let there : WordIsAt flags s BlockComment w r = record { cut = h.cut; word = g; ends = tt } in
+    by s w r h.cut g.0 (is_at_form flags s BlockComment w r there)
   where
     by : (s w r : List ℕ) → s ≡ w ++ r → Commented w [] → Form (class_of s) flags BlockComment w r → CommentStart s
     by s w r e (opened {t = t} h) f =
@@ -102,7 +102,7 @@ fault_unique flags s e f a b (in_string (idchar i k) g) (dangling m) = absurd (f
 fault_unique flags s e f a b (in_string {t = t} {ps = ps} run g) (confusing {kind = k} {w = w} {rest = r} back off k_is there cut clear is lt) = absurd (comment_no_run flags s ps t (comment_start (allowing flags) s k w r k_is there) run)
 fault_unique flags s e f a b (in_string {t = t} {ps = ps} run g) (in_string {t = u} {ps = qs} run' g') = run_fault_unique flags s t u a b ps qs e f run g run' g'
 
--- at no character stands both
+-- no character begins both
 pub fault_some : (flags : Settings) (e : LexError) (a : List ℕ) (s : List ℕ) → s ≡ [] → Fault flags s e a → ⊥
 fault_some flags e a s n (unexpected m) = cc
 fault_some flags e a s n (dangling m) = cc
@@ -137,14 +137,14 @@ other_class c t n = by (is_whitespace c) (is_run_char c) (is_punctuation c) (c =
 allowed_looser : (flags : Settings) → Looser flags (allowing flags)
 allowed_looser flags = record { allow = λ h. refl; strict = λ h. h }
 
-pub no_word_at_fault : (flags : Settings) (s : List ℕ) (k : TokenKind) (w r : List ℕ) (e : LexError) (a : List ℕ) → WordStands flags s k w r → Fault flags s e a → ⊥
+pub no_word_at_fault : (flags : Settings) (s : List ℕ) (k : TokenKind) (w r : List ℕ) (e : LexError) (a : List ℕ) → WordIsAt flags s k w r → Fault flags s e a → ⊥
 unfolding Form
-no_word_at_fault flags s k w r e a h (unexpected {c = c} {t = t} n) = subst (λ y. Form y flags k w r) (other_class c t n) (stands_form flags s k w r h)
-no_word_at_fault flags s k w r e a h (dangling {t = t} n) = let f : Form Block flags k w r = stands_form flags s k w r h in n r (subst (λ y. Commented y r) (sym h.cut) f.1)
+no_word_at_fault flags s k w r e a h (unexpected {c = c} {t = t} n) = subst (λ y. Form y flags k w r) (other_class c t n) (is_at_form flags s k w r h)
+no_word_at_fault flags s k w r e a h (dangling {t = t} n) = let f : Form Block flags k w r = is_at_form flags s k w r h in n r (subst (λ y. Commented y r) (sym h.cut) f.1)
 no_word_at_fault flags s k w r e a h (confusing {t = t} {c = c} {kind = l} {w = x} {rest = q} prefix off l_is there cut clear is lt) =
-    let u = stands_unique (allowing flags) s k l w x r q (stands_looser flags (allowing flags) s k w r (allowed_looser flags) h) there in
+    let u = is_at_unique (allowing flags) s k l w x r q (is_at_looser flags (allowing flags) s k w r (allowed_looser flags) h) there in
     let n = comment_clear flags k w off (subst IsComment (sym u.0) l_is) h.word in
     not_in_clear w r prefix t c n (sym h.cut ∙ cut) is (subst (λ y. length prefix < length y) (sym u.1) lt)
 no_word_at_fault flags s k w r e a h (in_string {t = t} {ps = ps} run g) =
-    let f : Form Joined flags k w r = subst (λ y. Form y flags k w r) (begun_class s (run_begins flags s (quote ∷ t) ps t refl run)) (stands_form flags s k w r h) in
+    let f : Form Joined flags k w r = subst (λ y. Form y flags k w r) (begun_class s (run_begins flags s (quote ∷ t) ps t refl run)) (is_at_form flags s k w r h) in
     run_sound flags s r t a f.pieces ps e (subst (λ y. Run flags y f.pieces r) (sym h.cut) f.run) f.ends run g

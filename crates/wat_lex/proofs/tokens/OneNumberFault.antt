@@ -10,9 +10,9 @@ use Rattle.wat_lex.specs.tokens.StringFaults.{NumberFault, too_big, doubled, lon
 use Rattle.wat_lex.specs.declared.lexer.faults.LexError.{LexError}
 use Rattle.wat_lex.specs.declared.lexer.faults.LexError.TheVariants.{Expected, UnexpectedEof, NumberTooBig, InvalidUnicodeValue, LoneUnderscore}
 use Rattle.wat_lex.specs.declared.lexer.settings.Settings.{Settings}
-use Rattle.wat_lex.proofs.grammar.OneString.{value_prefix, each_prefix, each_behind, begins_stop}
+use Rattle.wat_lex.proofs.grammar.OneString.{value_prefix, each_prefix, each_after, begins_stop}
 
--- the error of a row of digits at the character behind it
+-- the error of a row of digits at the character after it
 data Reported (d : ℕ) (ds : List ℕ) (x : ℕ) : LexError → Type 0 where
   big : IsTrue (is_hex x) → 2 ^ 32 ≤ hex_value (d ∷ ds ++ x ∷ []) → Reported d ds x NumberTooBig
   bad : IsTrue (is_hex x) → hex_value (d ∷ ds ++ x ∷ []) < 2 ^ 32 → Reported d ds x (InvalidUnicodeValue (hex_value (d ∷ ds ++ x ∷ [])))
@@ -46,11 +46,11 @@ reported_one d ds x e f (other a) (bad c g) = absurd (a (hex_row x c))
 reported_one d ds x e f (other a) (bar c) = absurd (a (bar_row x c))
 reported_one d ds x e f (other a) (other c) = refl
 
--- behind the row u goes on with it, or the row is well written
+-- after the row u goes on with it, or the row is well written
 Goes : ℕ → List ℕ → List ℕ → Type 0
 Goes d ds u = Begins is_hex_or_underscore u ⊎ ((EndsInUnderscore ds → ⊥) × IsScalar (hex_value (d ∷ ds)))
 
--- the fault stands at a character, and none behind it
+-- the fault is at a character, and none after it
 record Stopped (flags : Settings) (d : ℕ) (s : List ℕ) (e : LexError) (at : List ℕ) : Type 0 where
   ds : List ℕ
   x : ℕ
@@ -62,7 +62,7 @@ record Stopped (flags : Settings) (d : ℕ) (s : List ℕ) (e : LexError) (at : 
   goes : Goes d ds (x ∷ t)
   ends : (more u : List ℕ) → t ≡ more ++ u → HexRow flags d (ds ++ x ∷ more) → Goes d (ds ++ x ∷ more) u → ⊥
 
--- the fault stands at the end
+-- the fault is at the end
 record Ended (flags : Settings) (d : ℕ) (s : List ℕ) (e : LexError) (at : List ℕ) : Type 0 where
   reported : e ≡ UnexpectedEof
   place : at ≡ []
@@ -82,7 +82,7 @@ one_more ds x more = append_assoc ds (x ∷ []) more
 
 -- the row that goes past the last character of digits and underscores is that character alone
 last_alone : (ds more t u : List ℕ) (x : ℕ) → Each is_hex_or_underscore (ds ++ x ∷ more) → t ≡ more ++ u → (Begins is_hex_or_underscore t → ⊥) → more ≡ []
-last_alone ds more t u x h e stop = begins_stop more u t (each_behind is_hex_or_underscore ds x more h) e stop
+last_alone ds more t u x h e stop = begins_stop more u t (each_after is_hex_or_underscore ds x more h) e stop
 
 past_last : (d : ℕ) (ds more t u : List ℕ) (x : ℕ) → Each is_hex_or_underscore (ds ++ x ∷ more) → t ≡ more ++ u → (Begins is_hex_or_underscore t → ⊥)
     → ((EndsInUnderscore (ds ++ x ∷ []) → ⊥) → IsScalar (hex_value (d ∷ ds ++ x ∷ [])) → ⊥) → Goes d (ds ++ x ∷ more) u → ⊥

@@ -33,7 +33,7 @@ element_shorter flags s u t (unicode {r = r} ds e h n k) = omega (arith, ap leng
 OneFault : Settings → List ℕ → Type 0
 OneFault flags s = (e f : LexError) (p q : List ℕ) → StringFault flags s e p → StringFault flags s f q → (e ≡ f) × (p ≡ q)
 
--- where the fault is not behind an element
+-- where the fault is not after an element
 pairs : (flags : Settings) (s : List ℕ) (e f : LexError) (p q : List ℕ) → ((t : List ℕ) → length t < length s → OneFault flags t) → StringFault flags s e p → StringFault flags s f q → (e ≡ f) × (p ≡ q)
 unfolding OneFault
 pairs flags s e f p q ih (later {t = t} {u = u} x h) g = ih t (element_shorter flags s u t x) e f p q h (element_fault flags s u t q f x g)

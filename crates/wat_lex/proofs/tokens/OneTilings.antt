@@ -1,4 +1,4 @@
--- What stands at a place is one thing, and so there is one maximal tiling from it.
+-- What is at a place is one thing, and so there is one maximal tiling from it.
 use Rattle.std.proofs.Common.{◌≡◌, ◌+◌, ℕ, List, [], ◌∷◌, ◌++◌, length, drop, refl, arith, ap, sym, ◌∙◌, subst}
 use Rattle.std.specs.Prelude.{Option, Some, None, Result, Ok, Err}
 use Rattle.std.proofs.lemmas.List.{drop_all}
@@ -12,12 +12,12 @@ use Rattle.wat_lex.specs.tokens.UniqueTilings.{AnswerAt, OneTiling}
 use Rattle.wat_lex.specs.declared.lexer.kinds.Token.{Token}
 use Rattle.wat_lex.specs.declared.lexer.faults.LexFault.{LexFault}
 use Rattle.wat_lex.proofs.tokens.Scans.{word_some}
-use Rattle.wat_lex.proofs.grammar.OneWord.{stands_unique}
+use Rattle.wat_lex.proofs.grammar.OneWord.{is_at_unique}
 use Rattle.wat_lex.proofs.tokens.OneFault.{fault_unique, fault_some, no_word_at_fault}
 
 pub token_one : (s : Setting) (p : ℕ) (t u : Token) → TokenAt s p t → TokenAt s p u → t ≡ u
 token_one s p t u h g =
-    let o = stands_unique s.flags (chars (drop p s.text)) t.kind u.kind h.word g.word h.rest g.rest h.stands g.stands in
+    let o = is_at_unique s.flags (chars (drop p s.text)) t.kind u.kind h.word g.word h.rest g.rest h.is_at g.is_at in
     let k : t.kind ≡ u.kind = o.0 in
     let l : t.len ≡ u.len = h.len ∙ ap size o.1 ∙ sym g.len in
     let f : t.offset ≡ u.offset = h.offset ∙ sym g.offset in
@@ -34,7 +34,7 @@ pub nothing_left : (text : List ℕ) (p : ℕ) → p ≡ length text → chars (
 nothing_left text p e = ap chars (drop_all p text (omega arith)) ∙ chars-nil
 
 pub no_token_left : (s : Setting) (p : ℕ) (t : Token) → chars (drop p s.text) ≡ [] → TokenAt s p t → ⊥
-no_token_left s p t e h = word_some t.kind h.word s.flags h.stands.word (prefix h.word h.rest (sym e ∙ h.stands.cut))
+no_token_left s p t e h = word_some t.kind h.word s.flags h.is_at.word (prefix h.word h.rest (sym e ∙ h.is_at.cut))
   where
     prefix : (w r : List ℕ) → [] ≡ w ++ r → w ≡ []
     prefix [] r e = refl
@@ -44,20 +44,20 @@ pub no_fault_left : (s : Setting) (p : ℕ) (f : LexFault) → chars (drop p s.t
 no_fault_left s p f e h = fault_some s.flags f.error h.at (chars (drop p s.text)) e h.fault
 
 pub token_no_fault : (s : Setting) (p : ℕ) (t : Token) (f : LexFault) → TokenAt s p t → FaultAt s p f → ⊥
-token_no_fault s p t f h k = no_word_at_fault s.flags (chars (drop p s.text)) t.kind h.word h.rest f.error k.at h.stands k.fault
+token_no_fault s p t f h k = no_word_at_fault s.flags (chars (drop p s.text)) t.kind h.word h.rest f.error k.at h.is_at k.fault
 
-pub stands_one : (s : Setting) (p : ℕ) (q r : Result (Option Token) LexFault) → AnswerAt s p q → AnswerAt s p r → q ≡ r
-stands_one s p (Ok None) (Ok None) h g = refl
-stands_one s p (Ok None) (Ok (Some u)) h g = absurd (no_token_left s p u (nothing_left s.text p h) g)
-stands_one s p (Ok None) (Err f) h g = absurd (no_fault_left s p f (nothing_left s.text p h) g)
-stands_one s p (Ok (Some t)) (Ok None) h g = absurd (no_token_left s p t (nothing_left s.text p g) h)
-stands_one s p (Ok (Some t)) (Ok (Some u)) h g = ap (λ x. Ok (Some x)) (token_one s p t u h g)
-stands_one s p (Ok (Some t)) (Err f) h g = absurd (token_no_fault s p t f h g)
-stands_one s p (Err e) (Ok None) h g = absurd (no_fault_left s p e (nothing_left s.text p g) h)
-stands_one s p (Err e) (Ok (Some u)) h g = absurd (token_no_fault s p u e g h)
-stands_one s p (Err e) (Err f) h g = ap Err (fault_one s p e f h g)
+pub is_at_one : (s : Setting) (p : ℕ) (q r : Result (Option Token) LexFault) → AnswerAt s p q → AnswerAt s p r → q ≡ r
+is_at_one s p (Ok None) (Ok None) h g = refl
+is_at_one s p (Ok None) (Ok (Some u)) h g = absurd (no_token_left s p u (nothing_left s.text p h) g)
+is_at_one s p (Ok None) (Err f) h g = absurd (no_fault_left s p f (nothing_left s.text p h) g)
+is_at_one s p (Ok (Some t)) (Ok None) h g = absurd (no_token_left s p t (nothing_left s.text p g) h)
+is_at_one s p (Ok (Some t)) (Ok (Some u)) h g = ap (λ x. Ok (Some x)) (token_one s p t u h g)
+is_at_one s p (Ok (Some t)) (Err f) h g = absurd (token_no_fault s p t f h g)
+is_at_one s p (Err e) (Ok None) h g = absurd (no_fault_left s p e (nothing_left s.text p g) h)
+is_at_one s p (Err e) (Ok (Some u)) h g = absurd (token_no_fault s p u e g h)
+is_at_one s p (Err e) (Err f) h g = ap Err (fault_one s p e f h g)
 
--- at the ending of a tiling no token stands
+-- at the ending of a tiling there is no token
 pub ending_no_token : (s : Setting) (p : ℕ) (e : Option LexFault) (t : Token) → EndsAt s p e → TokenAt s p t → ⊥
 ending_no_token s p None t h g = no_token_left s p t (nothing_left s.text p h) g
 ending_no_token s p (Some f) t h g = token_no_fault s p t f g h

@@ -12,7 +12,7 @@ use Rattle.wat_lex.specs.tokens.ReadableTokens.{IsTokenOf, token_text}
 use Rattle.wat_lex.specs.tokens.Laws.{AreTokens, EachToken, joined_texts, Laws}
 use Rattle.wat_lex.specs.declared.lexer.kinds.Token.{Token}
 use Rattle.wat_lex.specs.declared.lexer.faults.LexFault.{LexFault}
-use Rattle.wat_lex.proofs.grammar.Looser.{Looser, stands_looser}
+use Rattle.wat_lex.proofs.grammar.Looser.{Looser, is_at_looser}
 use Rattle.wat_lex.proofs.tokens.Scans.{some_size, word_some}
 use Rattle.wat_lex.proofs.tokens.ReadableTokens.{token_of, token_ends}
 
@@ -21,17 +21,17 @@ token_past : (text : List ℕ) (t : Token) → IsUtf8 text → IsTokenOf text t 
 token_past text t u h = IsCharBoundary-from_rest text t.offset t.len h.boundary.0 (token_ends text t u h)
 
 pub token_some : (s : Setting) (p : ℕ) (t : Token) → TokenAt s p t → 0 < t.len
-token_some s p t h = let k = some_size h.word (word_some t.kind h.word s.flags h.stands.word) in omega (arith, h.len, k)
+token_some s p t h = let k = some_size h.word (word_some t.kind h.word s.flags h.is_at.word) in omega (arith, h.len, k)
 
--- the boundary behind a token
-pub behind : (s : Setting) (p : ℕ) (t : Token) → IsUtf8 s.text → IsCharBoundary s.text p → TokenAt s p t → IsCharBoundary s.text (t.offset + t.len)
-behind s p t u b h = token_past s.text t u (token_of s p t b h)
+-- the boundary after a token
+pub after : (s : Setting) (p : ℕ) (t : Token) → IsUtf8 s.text → IsCharBoundary s.text p → TokenAt s p t → IsCharBoundary s.text (t.offset + t.len)
+after s p t u b h = token_past s.text t u (token_of s p t b h)
 
 few : (s : Setting) (from to : ℕ) (tokens : List Token) (ending : Option LexFault) (items : List Item) → IsUtf8 s.text → IsCharBoundary s.text from → Tiling s from to tokens → Spells s.text tokens ending items → from + length items ≤ length s.text + 1
 few s from to [] None items u b t h = omega (arith, b.0, ap length h)
 few s from to [] (Some f) items u b t h = omega (arith, b.0, ap length h.1)
 few s from to (t ∷ ts) ending items u b h k =
-    let r = few s (t.offset + t.len) to ts ending k.0 u (behind s from t u b h.0) h.1 k.2 in
+    let r = few s (t.offset + t.len) to ts ending k.0 u (after s from t u b h.0) h.1 k.2 in
     let o = h.0.offset in
     let l = token_some s from t h.0 in
     omega (arith, ap length k.1, r, o, l)
@@ -40,9 +40,9 @@ tokens_of : (s : Setting) (from to : ℕ) (tokens : List Token) (ending : Option
 tokens_of s from to [] None items u b t h = subst (EachToken (λ t. IsTokenOf s.text t × (0 < t.len))) (sym h) tt
 tokens_of s from to [] (Some f) items u b t h = subst (EachToken (λ t. IsTokenOf s.text t × (0 < t.len))) (sym h.1) tt
 tokens_of s from to (t ∷ ts) ending items u b h k = subst (EachToken (λ t. IsTokenOf s.text t × (0 < t.len))) (sym k.1)
-    ((token_of s from t b h.0, token_some s from t h.0), tokens_of s (t.offset + t.len) to ts ending k.0 u (behind s from t u b h.0) h.1 k.2)
+    ((token_of s from t b h.0, token_some s from t h.0), tokens_of s (t.offset + t.len) to ts ending k.0 u (after s from t u b h.0) h.1 k.2)
 
--- one token's text, and what stands behind it
+-- one token's text, and what comes after it
 next_text : (text : List ℕ) (from : ℕ) (t : Token) (rest : List ℕ) → t.offset ≡ from → rest ≡ drop (t.offset + t.len) text → token_text text t ++ rest ≡ drop from text
 next_text text from t rest o e =
     let step : drop (t.offset + t.len) text ≡ drop t.len (drop t.offset text) = sym (drop-drop t.len t.offset text) in
@@ -60,7 +60,7 @@ unstrict_tiling s from to [] h = h
 unstrict_tiling s from to (t ∷ ts) h =
     let g = h.0 in
     let loose : Looser s.flags (record s.flags { strict = false }) = record { allow = λ a. a; strict = λ x. absurd (let k : false ≡ true = x in cc) } in (
-      record { offset = g.offset; word = g.word; rest = g.rest; stands = stands_looser s.flags (record s.flags { strict = false }) _ t.kind g.word g.rest loose g.stands; len = g.len },
+      record { offset = g.offset; word = g.word; rest = g.rest; is_at = is_at_looser s.flags (record s.flags { strict = false }) _ t.kind g.word g.rest loose g.is_at; len = g.len },
       unstrict_tiling s (t.offset + t.len) to ts h.1,
     )
 

@@ -38,7 +38,7 @@ tiled_by s (Err f ∷ items) p q r l d h e =
     record {
       tokens = [];
       ending = Some here.fault;
-      tiling = record { to = p.at; tiling = refl; ends = here.stands };
+      tiling = record { to = p.at; tiling = refl; ends = here.is_at };
       spelled = (f, ap (λ x. Err f ∷ x) (ended items h.0 q step.1.1.1 h.2), here.reported);
     }
 

@@ -19,8 +19,8 @@ token_of s p t b h = record {
   boundary = subst (IsCharBoundary s.text) (sym h.offset) b;
   word = h.word;
   rest = h.rest;
-  cut = ap (λ x. chars (drop x s.text)) h.offset ∙ h.stands.cut;
-  is = word_looser t.kind h.word s.flags lenient (lenient_looser s.flags) h.stands.word;
+  cut = ap (λ x. chars (drop x s.text)) h.offset ∙ h.is_at.cut;
+  is = word_looser t.kind h.word s.flags lenient (lenient_looser s.flags) h.is_at.word;
   len = h.len;
 }
 

@@ -25,10 +25,10 @@ use Rattle.wat_lex.proofs.inside.Confusing.{size-append}
 use Rattle.wat_lex.specs.declared.lexer.settings.Settings.{Settings}
 
 pub found_fits : (flags : Settings) (text : List ℕ) (lexeme : Lexeme) → IsUtf8 text → LexemeFound flags text lexeme → lexeme.len ≤ length text
-found_fits flags text lexeme u h = omega (arith, h.len, size-append h.word h.rest, ap size h.stands.cut, ap length (encodes-chars text u))
+found_fits flags text lexeme u h = omega (arith, h.len, size-append h.word h.rest, ap size h.is_at.cut, ap length (encodes-chars text u))
 
 pub token_at : (s : Setting) (part : List ℕ) (p : ℕ) (lexeme : Lexeme) → part ≡ drop p s.text → LexemeFound s.flags part lexeme → TokenAt s p (record { kind = lexeme.kind; offset = p; len = lexeme.len })
-token_at s part p lexeme e h = let g = subst (λ x. LexemeFound s.flags x lexeme) e h in record { offset = refl; word = g.word; rest = g.rest; stands = g.stands; len = g.len }
+token_at s part p lexeme e h = let g = subst (λ x. LexemeFound s.flags x lexeme) e h in record { offset = refl; word = g.word; rest = g.rest; is_at = g.is_at; len = g.len }
 
 pub fault_at : (s : Setting) (part : List ℕ) (p : ℕ) (f : LexFault) → p ≤ length s.text → part ≡ drop p s.text → Refused s.flags part f → FaultAt s p (record { offset = p + f.offset; error = f.error })
 fault_at s part p f l k h = let g = subst (λ x. Refused s.flags x f) k h in record { at = g.at; fault = g.fault; place = let q = g.place in omega (arith, q, length-drop p s.text) }
@@ -70,4 +70,4 @@ word_some (Integer k) w flags h = run_word (Integer k) w flags h
 word_some (Float k) w flags h = run_word (Float k) w flags h
 
 pub found_some : (flags : Settings) (text : List ℕ) (lexeme : Lexeme) → LexemeFound flags text lexeme → 0 < lexeme.len
-found_some flags text lexeme h = let k = some_size h.word (word_some lexeme.kind h.word flags h.stands.word) in omega (arith, h.len)
+found_some flags text lexeme h = let k = some_size h.word (word_some lexeme.kind h.word flags h.is_at.word) in omega (arith, h.len)

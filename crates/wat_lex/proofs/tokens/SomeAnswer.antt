@@ -1,4 +1,4 @@
--- At the start of each text stands a word or a fault, unless it is empty.
+-- At the start of each text is a word or a fault, unless it is empty.
 use Rattle.std.proofs.Common.{◌≡◌, ◌≢◌, ◌⊎◌, ◌<◌, ◌+◌, ◌-◌, ℕ, List, [], ◌∷◌, ◌++◌, length, refl, arith, ap, sym, ◌∙◌, subst, Bool, true, false, not, ◌||◌, inl, inr, append_assoc, length-append}
 use Rattle.std.specs.Prelude.{IsTrue, ◌==◌}
 use Rattle.std.specs.Str.{NonePass}
@@ -9,7 +9,7 @@ use Rattle.wat_lex.specs.grammar.Comments.{Closes, BlockComment as Commented, op
 use Rattle.wat_lex.specs.tokens.Faults.{begins_word, IsComment, Fault, unexpected, dangling, confusing, in_string}
 use Rattle.wat_lex.specs.grammar.Runs.{Run}
 use Rattle.wat_lex.specs.tokens.Setting.{allowing}
-use Rattle.wat_lex.specs.grammar.Words.{Punctuation, WordStands}
+use Rattle.wat_lex.specs.grammar.Words.{Punctuation, WordIsAt}
 use Rattle.wat_lex.specs.declared.lexer.settings.Settings.{Settings}
 use Rattle.wat_lex.specs.declared.lexer.kinds.TokenKind.{TokenKind}
 use Rattle.wat_lex.specs.declared.lexer.kinds.TokenKind.TheVariants.{LineComment, BlockComment, Whitespace, LParen, RParen, Reserved}
@@ -25,7 +25,7 @@ use Rattle.wat_lex.proofs.grammar.SomeRun as runs
 
 pub data SomeAnswer (flags : Settings) (text : List ℕ) : Type 0 where
   nothing : text ≡ [] → SomeAnswer flags text
-  word : {k : TokenKind} {w r : List ℕ} → WordStands flags text k w r → SomeAnswer flags text
+  word : {k : TokenKind} {w r : List ℕ} → WordIsAt flags text k w r → SomeAnswer flags text
   fault : {e : LexError} {at : List ℕ} → Fault flags text e at → SomeAnswer flags text
 
 -- the longest prefix of characters that pass
@@ -57,15 +57,15 @@ confused : (w : List ℕ) → Confused w
 confused [] = clear tt
 confused (c ∷ w) = elim (cases_Bool (is_confusing c)) [ inl h ↦ first [] w c refl tt h | inr h ↦ confused_on c w h (confused w) ]
 
-comment_checked : (flags : Settings) (s : List ℕ) (k : TokenKind) (w r : List ℕ) → flags.allow ≡ false → IsComment k → WordStands (allowing flags) s k w r → Confused w → SomeAnswer flags s
+comment_checked : (flags : Settings) (s : List ℕ) (k : TokenKind) (w r : List ℕ) → flags.allow ≡ false → IsComment k → WordIsAt (allowing flags) s k w r → Confused w → SomeAnswer flags s
 comment_checked flags s k w r a i h (clear n) = word (record { cut = h.cut; word = clear_word flags k w i h.word n; ends = h.ends })
 comment_checked flags s k w r a i h (first prefix t c e n q) =
     fault (confusing prefix a i h (h.cut ∙ ap (λ x. x ++ r) e ∙ append_assoc prefix (c ∷ t) r) n q (omega (arith, ap length e, length-append prefix (c ∷ t))))
 
-comment_answer : (flags : Settings) (s : List ℕ) (k : TokenKind) (w r : List ℕ) → IsComment k → WordStands (allowing flags) s k w r → SomeAnswer flags s
+comment_answer : (flags : Settings) (s : List ℕ) (k : TokenKind) (w r : List ℕ) → IsComment k → WordIsAt (allowing flags) s k w r → SomeAnswer flags s
 comment_answer flags s k w r i h =
     elim (cases_Bool flags.allow) [
-      | inl a ↦ let there : WordStands flags s k w r = subst (λ (b : Bool). WordStands (record flags { allow = b }) s k w r) (sym a) h in word there
+      | inl a ↦ let there : WordIsAt flags s k w r = subst (λ (b : Bool). WordIsAt (record flags { allow = b }) s k w r) (sym a) h in word there
       | inr a ↦ comment_checked flags s k w r a i h (confused w)
     ]
 
@@ -122,7 +122,7 @@ line_answer flags u =
 whitespace_answer : (flags : Settings) (c : ℕ) (t : List ℕ) → is_whitespace c ≡ true → SomeAnswer flags (c ∷ t)
 whitespace_answer flags c t h =
     let k = span is_whitespace t in
-    let there : WordStands flags (c ∷ t) Whitespace (c ∷ k.prefix) k.rest = record { cut = ap (λ x. c ∷ x) k.cut; word = (λ e. cc, (h, k.passes)); ends = k.stops } in
+    let there : WordIsAt flags (c ∷ t) Whitespace (c ∷ k.prefix) k.rest = record { cut = ap (λ x. c ∷ x) k.cut; word = (λ e. cc, (h, k.passes)); ends = k.stops } in
     word there
 
 run_answer : (flags : Settings) (s : List ℕ) → Begins is_run_char s → SomeRun flags s → SomeAnswer flags s
@@ -132,7 +132,7 @@ run_answer flags s b (run {ps = ps} {r = r} h e) =
     let alone : Run flags w ps [] = subst (λ x. Run flags x ps []) (append-nil w) (t.again []) in
     let k = some_kind ps in
     let is = kind_of_run ps k.kind k.is in
-    let there : WordStands flags s k.kind w r = record {
+    let there : WordIsAt flags s k.kind w r = record {
       cut = t.cut;
       word = word_of_run k.kind w flags is (ps, some_pieces flags s r ps h b e, alone, k.is);
       ends = ends_of_run k.kind w r is (no_semicolon flags w ps alone) e;
@@ -144,31 +144,31 @@ punctuation_answer : (flags : Settings) (c : ℕ) (t : List ℕ) → is_punctuat
 punctuation_answer flags c t h =
     let m : Punctuation (c ∷ []) = (c, refl, ap (λ b. b || c == semicolon) h) in
     let other : c ∷ [] ≡ semicolon ∷ [] → ⊥ = λ e. let k : c ≡ semicolon = cc in both_ways (is_punctuation c) (ap is_punctuation k) h in
-    let there : WordStands flags (c ∷ t) Reserved (c ∷ []) t = record { cut = refl; word = inl m; ends = (λ e. absurd (other e), λ n. absurd (n m)) } in
+    let there : WordIsAt flags (c ∷ t) Reserved (c ∷ []) t = record { cut = refl; word = inl m; ends = (λ e. absurd (other e), λ n. absurd (n m)) } in
     word there
 
 -- whether a semicolon is next
 after_open : (flags : Settings) (t : List ℕ) → SomeAnswer flags (open_paren ∷ t)
-after_open flags [] = let there : WordStands flags (open_paren ∷ []) LParen (open_paren ∷ []) [] = record { cut = refl; word = refl; ends = λ b. b } in word there
+after_open flags [] = let there : WordIsAt flags (open_paren ∷ []) LParen (open_paren ∷ []) [] = record { cut = refl; word = refl; ends = λ b. b } in word there
 after_open flags (d ∷ u) =
     elim (cases_eq d semicolon) [
       | inl e ↦ subst (λ x. SomeAnswer flags (open_paren ∷ x ∷ u)) (sym e) (block_answer flags u (end_by u u 1 (omega arith) (reaches_start u)))
-      | inr e ↦ let there : WordStands flags (open_paren ∷ d ∷ u) LParen (open_paren ∷ []) (d ∷ u) = record { cut = refl; word = refl; ends = λ b. e (eqb-true d semicolon b) } in word there
+      | inr e ↦ let there : WordIsAt flags (open_paren ∷ d ∷ u) LParen (open_paren ∷ []) (d ∷ u) = record { cut = refl; word = refl; ends = λ b. e (eqb-true d semicolon b) } in word there
     ]
 
-semicolon_stands : (flags : Settings) (t : List ℕ) → (Begins (λ c. c == semicolon) t → ⊥) → WordStands flags (semicolon ∷ t) Reserved (semicolon ∷ []) t
-semicolon_stands flags t n = let m : Punctuation (semicolon ∷ []) = (semicolon, refl, refl) in record { cut = refl; word = inl m; ends = (λ _. n, λ k. absurd (k m)) }
+semicolon_is_at : (flags : Settings) (t : List ℕ) → (Begins (λ c. c == semicolon) t → ⊥) → WordIsAt flags (semicolon ∷ t) Reserved (semicolon ∷ []) t
+semicolon_is_at flags t n = let m : Punctuation (semicolon ∷ []) = (semicolon, refl, refl) in record { cut = refl; word = inl m; ends = (λ _. n, λ k. absurd (k m)) }
 
 after_semicolon : (flags : Settings) (t : List ℕ) → SomeAnswer flags (semicolon ∷ t)
-after_semicolon flags [] = word (semicolon_stands flags [] (λ b. b))
+after_semicolon flags [] = word (semicolon_is_at flags [] (λ b. b))
 after_semicolon flags (d ∷ u) =
     elim (cases_eq d semicolon) [
       | inl e ↦ subst (λ x. SomeAnswer flags (semicolon ∷ x ∷ u)) (sym e) (line_answer flags u)
-      | inr e ↦ word (semicolon_stands flags (d ∷ u) (λ b. e (eqb-true d semicolon b)))
+      | inr e ↦ word (semicolon_is_at flags (d ∷ u) (λ b. e (eqb-true d semicolon b)))
     ]
 
 shut_answer : (flags : Settings) (t : List ℕ) → SomeAnswer flags (close_paren ∷ t)
-shut_answer flags t = let there : WordStands flags (close_paren ∷ t) RParen (close_paren ∷ []) t = record { cut = refl; word = refl; ends = tt } in word there
+shut_answer flags t = let there : WordIsAt flags (close_paren ∷ t) RParen (close_paren ∷ []) t = record { cut = refl; word = refl; ends = tt } in word there
 
 no_begin : (c : ℕ) → is_whitespace c ≡ false → is_run_char c ≡ false → is_punctuation c ≡ false → c ≢ open_paren → c ≢ close_paren → c ≢ semicolon → begins_word c ≡ false
 no_begin c a b d e f g =

@@ -10,7 +10,7 @@ use Rattle.wat_lex.specs.tokens.Tiling.{TokenAt}
 use Rattle.wat_lex.specs.tokens.UniqueTilings.{SomeTiling}
 use Rattle.wat_lex.specs.declared.lexer.kinds.Token.{Token}
 use Rattle.wat_lex.specs.declared.lexer.faults.LexFault.{LexFault}
-use Rattle.wat_lex.proofs.tokens.RawLaws.{behind, token_some}
+use Rattle.wat_lex.proofs.tokens.RawLaws.{after, token_some}
 use Rattle.wat_lex.proofs.tokens.MovedTexts.{fault_fits}
 use Rattle.wat_lex.proofs.tokens.SomeAnswer.{SomeAnswer, nothing, word, fault, some_answer}
 
@@ -30,18 +30,18 @@ module _ (s : Setting) (utf8 : IsUtf8 s.text) where
 
   tiling_by : (n p : ℕ) → IsCharBoundary s.text p → length s.text - p < n → SomeTiling s p
   tiling_by zero p b l = absurd (omega arith)
-  tiling_by (suc n) p b l = by (some_answer s.flags (chars (drop p s.text))) (λ t h. one_more s p t h (tiling_by n (t.offset + t.len) (behind s p t utf8 b h) (shorter t h)))
+  tiling_by (suc n) p b l = by (some_answer s.flags (chars (drop p s.text))) (λ t h. one_more s p t h (tiling_by n (t.offset + t.len) (after s p t utf8 b h) (shorter t h)))
     where
       shorter : (t : Token) → TokenAt s p t → length s.text - (t.offset + t.len) < n
       shorter t h =
           let o = h.offset in
           let k = token_some s p t h in
-          let c = (behind s p t utf8 b h).0 in
+          let c = (after s p t utf8 b h).0 in
           omega (arith, o, k, c, l)
 
       by : SomeAnswer s.flags (chars (drop p s.text)) → ((t : Token) → TokenAt s p t → SomeTiling s p) → SomeTiling s p
       by (nothing e) next = at_end p b e
-      by (word {k = k} {w = w} {r = r} h) next = next (record { kind = k; offset = p; len = size w }) (record { offset = refl; word = w; rest = r; stands = h; len = refl })
+      by (word {k = k} {w = w} {r = r} h) next = next (record { kind = k; offset = p; len = size w }) (record { offset = refl; word = w; rest = r; is_at = h; len = refl })
       by (fault {e = e} {at = at} h) next =
           let f : LexFault = record { offset = length s.text - size at; error = e } in
           let k = fault_fits s.flags (chars (drop p s.text)) e at h in

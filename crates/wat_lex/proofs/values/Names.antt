@@ -61,7 +61,7 @@ no_word None e = not_string Reserved e refl
 no_word (Some x) (inl e) = e
 no_word (Some x) (inr e) = not_string (kind_by_first x) e.1 (first_other x)
 
--- where the word ends behind a string, the string's rest is nothing
+-- where the word ends after a string, the string's rest is nothing
 elements_end : (t v m : List ℕ) → Elements lenient t v m → Run lenient m [] [] → Elements lenient t v []
 elements_end t v m h none = h
 
@@ -82,7 +82,7 @@ string_of w (Idchar c ∷ Quoted v ∷ []) r k = absurd (not_string (named_kind 
 string_of w (Idchar c ∷ Quoted v ∷ p ∷ ps) r k = absurd (no_word None k)
 string_of w (Idchar c ∷ Idchar d ∷ ps) r k = absurd (no_word (idchars (Idchar c ∷ Idchar d ∷ ps)) k)
 
--- a string's elements stand behind its first character, a quote
+-- a string's elements come after its first character, a quote
 pub string_word : (kind : TokenKind) (w : List ℕ) → kind ≡ String → Word kind w lenient → (t : List ℕ) × (w ≡ 34 ∷ t) × IsQuoted t
 string_word kind w e h =
     let r : RunWord String w lenient = subst (λ k. Word k w lenient) e h in
@@ -103,7 +103,7 @@ idchars_of : (kind : TokenKind) (o : Option (List ℕ)) → (kind ≡ Reserved �
 idchars_of kind None n k = absurd (n k)
 idchars_of kind (Some x) n k = (x, refl, k)
 
--- a name behind a first character that is neither a quote nor a backslash
+-- a name after a first character that is neither a quote nor a backslash
 pub record Led (w : List ℕ) : Type 0 where
   pub first : ℕ
   pub rest : List ℕ
@@ -159,7 +159,7 @@ name_word kind w (inr e) h =
     let r : RunWord Annotation w lenient = subst (λ k. Word k w lenient) e h in
     name_of Annotation w r.0 (λ f. cc) (λ f. cc) (λ y n. n) r.1 r.2 r.3
 
--- what stands behind the first character of a string's text
+-- what comes after the first character of a string's text
 pub record StringTail (text : List ℕ) : Type 0 where
   pub boundary : IsCharBoundary text 1
   pub elements : IsQuoted (chars (drop 1 text))
@@ -169,7 +169,7 @@ pub string_tail : (kind : TokenKind) (text : List ℕ) → IsUtf8 text → kind 
 string_tail kind text u e h =
     let w = string_word kind (chars text) e h in
     let s = seam_one text w.0 34 u (omega arith) w.1 in
-    record { boundary = s.boundary; elements = subst IsQuoted (sym s.behind) w.2; cut = w.1 ∙ ap (λ x. 34 ∷ x) (sym s.behind) }
+    record { boundary = s.boundary; elements = subst IsQuoted (sym s.after) w.2; cut = w.1 ∙ ap (λ x. 34 ∷ x) (sym s.after) }
 
 pub string_value : (text elements value : List ℕ) → StringTail text → elements ≡ drop 1 text → Elements lenient (chars elements) value [] → StringWord lenient (chars text) value
 string_value text elements value t e q = subst (λ x. StringWord lenient x value) (ap (λ x. 34 ∷ chars x) e ∙ sym t.cut) (quoted q)
@@ -180,7 +180,7 @@ string_none text elements t e h = subst (HasNone 92) (ap (λ x. 34 ∷ chars x) 
 pub string_has : (text elements : List ℕ) → StringTail text → elements ≡ drop 1 text → HasNone 92 (chars text) → HasNone 92 (chars elements)
 string_has text elements t e h = (subst (HasNone 92) (sym (ap (λ x. 34 ∷ chars x) e ∙ sym t.cut)) h).1
 
--- what stands behind the first character of a name's text
+-- what comes after the first character of a name's text
 pub record NameTail (text : List ℕ) : Type 0 where
   pub boundary : IsCharBoundary text 1
   pub first : ℕ
@@ -196,8 +196,8 @@ name_tail kind text u e h =
     record {
       boundary = s.boundary;
       first = w.first;
-      cut = w.cut ∙ ap (λ x. w.first ∷ x) (sym s.behind);
-      named = subst IsNamed (sym s.behind) w.named;
+      cut = w.cut ∙ ap (λ x. w.first ∷ x) (sym s.after);
+      named = subst IsNamed (sym s.after) w.named;
       no_quote = w.no_quote;
       no_backslash = w.no_backslash;
     }
@@ -205,7 +205,7 @@ name_tail kind text u e h =
 pub name_value : (text rest bytes : List ℕ) → NameTail text → rest ≡ drop 1 text → Named (chars rest) bytes → Name (chars text) bytes
 name_value text rest bytes t e h = subst (λ x. Name x bytes) (sym t.cut) (subst (λ x. Named (chars x) bytes) e h)
 
--- escapes stand behind the first character
+-- escapes come after the first character
 no_escape_on : (c : ℕ) (r : List ℕ) → (c == 34) ≡ false → (c == 92) ≡ false → HasNoEscape r → HasNoEscape (c ∷ r)
 no_escape_on c r q b (inl h) = inl (q, h)
 no_escape_on c r q b (inr h) = inr (b, h)

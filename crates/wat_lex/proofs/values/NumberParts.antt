@@ -9,9 +9,9 @@ use Rattle.std.proofs.lemmas.Str.{IsAscii-take, IsAscii-drop}
 use Rattle.std.specs.Str.{IsAscii}
 use Rattle.wat_lex.specs.grammar.Numbers.{Digits, last, next, parted, is_digit, IntegralPart, decimal, hexadecimal, Exponent, exponent, Tail, Decimals, decimals, Payload, payload, unsigned, is_negative, has_underscores}
 use Rattle.wat_lex.specs.inside.ScannedNumbers.{LongestDigits, NoDigits, EndsFloat}
-use Rattle.wat_lex.specs.values.NumberValues.{joined, behind_prefix, number_text, payload_text, Point, no_point, bare, filled, Power, no_power, present}
+use Rattle.wat_lex.specs.values.NumberValues.{joined, after_prefix, number_text, payload_text, Point, no_point, bare, filled, Power, no_power, present}
 use Rattle.wat_lex.proofs.grammar.Digits.{digits_one, digits_first, digits_none}
-use Rattle.wat_lex.proofs.grammar.Tails.{tail_stops, tail_none, tail_power, exponent_stops, stops_nil, digits_end, Behind, behind, nothing, powered, digits, digits_powered}
+use Rattle.wat_lex.proofs.grammar.Tails.{tail_stops, tail_none, tail_power, exponent_stops, stops_nil, digits_end, After, after, nothing, powered, digits, digits_powered}
 
 -- a digit is no sign
 pub no_plus : (hex : Bool) (c : ℕ) → is_digit hex c ≡ true → c ≢ 43
@@ -60,7 +60,7 @@ cut_word hex (c ∷ t) r h = by (c == 43 || c == 45) refl h
     by true e h = let p = cut_integral hex t r h in (c ∷ p.0, ap (λ x. c ∷ x) p.1, subst (λ b. IntegralPart hex (cond b p.0 (c ∷ p.0)) []) (sym e) p.2)
     by false e h = let p = cut_integral hex (c ∷ t) r h in (p.0, p.1, subst (λ x. IntegralPart hex x []) (sym (integral_unsigned hex p.0 [] p.2)) p.2)
 
-pub integral_digits : (hex : Bool) (s r : List ℕ) → IntegralPart hex s r → Digits hex (behind_prefix hex s) r
+pub integral_digits : (hex : Bool) (s r : List ℕ) → IntegralPart hex s r → Digits hex (after_prefix hex s) r
 integral_digits hex s r (decimal h) = h
 integral_digits hex s r (hexadecimal h) = h
 
@@ -70,24 +70,24 @@ decimals_long s (decimals (hexadecimal h) k) = omega arith
 pub long : (hex : Bool) (w s : List ℕ) → s ≡ unsigned w → Decimals hex (unsigned w) → hex ≡ true → 2 ≤ length s
 long hex w s e h f = subst (λ x. 2 ≤ length x) (sym e) (decimals_long (unsigned w) (subst (λ x. Decimals x (unsigned w)) f h))
 
--- a float's word behind its first digits
+-- a float's word after its first digits
 pub record Split (hex : Bool) (w tail : List ℕ) : Type 0 where
   pub leading : List ℕ
   pub cut : w ≡ leading ++ tail
   pub integral : IntegralPart hex (unsigned leading) []
   pub is : Tail hex tail
 
-pub split : (hex : Bool) (w b tail : List ℕ) → Decimals hex (unsigned w) → b ≡ behind_prefix hex (unsigned w) → LongestDigits hex b tail → Split hex w tail
+pub split : (hex : Bool) (w b tail : List ℕ) → Decimals hex (unsigned w) → b ≡ after_prefix hex (unsigned w) → LongestDigits hex b tail → Split hex w tail
 split hex w b tail h e l = by (unsigned w) refl h
   where
     by : (s : List ℕ) → s ≡ unsigned w → Decimals hex s → Split hex w tail
     by s f (decimals {t = t} a k) =
-        let d : Digits hex b t = subst (λ x. Digits hex x t) (ap (behind_prefix hex) f ∙ sym e) (integral_digits hex s t a) in
+        let d : Digits hex b t = subst (λ x. Digits hex x t) (ap (after_prefix hex) f ∙ sym e) (integral_digits hex s t a) in
         let g : t ≡ tail = digits_one hex b t tail d (tail_stops hex t k) l.digits l.stops in
         let p = cut_word hex w tail (subst (λ x. IntegralPart hex x tail) f (subst (IntegralPart hex s) g a)) in
         record { leading = p.0; cut = p.1; integral = p.2; is = subst (Tail hex) g k }
 
-pub no_split : (hex : Bool) (s b : List ℕ) → Decimals hex s → b ≡ behind_prefix hex s → NoDigits hex b → ⊥
+pub no_split : (hex : Bool) (s b : List ℕ) → Decimals hex s → b ≡ after_prefix hex s → NoDigits hex b → ⊥
 no_split hex s b (decimals {t = t} a k) e n = n t (record { digits = subst (λ x. Digits hex x t) (sym e) (integral_digits hex s t a); stops = tail_stops hex t k })
 
 -- the seam, by the length of what follows it
@@ -112,9 +112,9 @@ pub no_dot : (hex : Bool) (s : List ℕ) → get_or s 0 0 ≢ 46 → Tail hex s 
 no_dot hex [] n h = absurd (tail_none hex h)
 no_dot hex (c ∷ s) n h = tail_power hex c s n h
 
-pub dotted : (hex : Bool) (s t : List ℕ) → get_or s 0 0 ≡ 46 → t ≡ drop 1 s → Tail hex s → (s ≡ 46 ∷ t) × Behind hex t
+pub dotted : (hex : Bool) (s t : List ℕ) → get_or s 0 0 ≡ 46 → t ≡ drop 1 s → Tail hex s → (s ≡ 46 ∷ t) × After hex t
 dotted hex [] t e f h = absurd (tail_none hex h)
-dotted hex (c ∷ s) t e f h = let g : c ∷ s ≡ 46 ∷ t = ap (λ x. x ∷ s) e ∙ ap (λ x. 46 ∷ x) (sym f) in (g, behind hex t (subst (Tail hex) g h))
+dotted hex (c ∷ s) t e f h = let g : c ∷ s ≡ 46 ∷ t = ap (λ x. x ∷ s) e ∙ ap (λ x. 46 ∷ x) (sym f) in (g, after hex t (subst (Tail hex) g h))
 
 letter_digit : (hex : Bool) (s r : List ℕ) → Exponent hex s → LongestDigits hex s r → ⊥
 letter_digit hex s r k l = digits_none hex r (subst (λ x. Digits hex x r) (by s r k l.digits) l.digits)
@@ -123,13 +123,13 @@ letter_digit hex s r k l = digits_none hex r (subst (λ x. Digits hex x r) (by s
     by [] r k d = refl
     by (c ∷ t) r k d = absurd (exponent_stops hex (c ∷ t) k (ap (λ b. b || c == 95) (digits_first hex c t r d)))
 
-pub ends_some : (hex : Bool) (t rest : List ℕ) → Behind hex t → LongestDigits hex t rest → EndsFloat hex rest
+pub ends_some : (hex : Bool) (t rest : List ℕ) → After hex t → LongestDigits hex t rest → EndsFloat hex rest
 ends_some hex t rest nothing l = absurd (digits_none hex rest l.digits)
 ends_some hex t rest (powered k) l = absurd (letter_digit hex t rest k l)
 ends_some hex t rest (digits d) l = inl (digits_end hex t rest l d)
 ends_some hex t rest (digits_powered {r = r} d k) l = inr (subst (Exponent hex) (digits_one hex t r rest d (exponent_stops hex r k) l.digits l.stops) k)
 
-pub ends_none : (hex : Bool) (t : List ℕ) → Behind hex t → NoDigits hex t → EndsFloat hex t
+pub ends_none : (hex : Bool) (t : List ℕ) → After hex t → NoDigits hex t → EndsFloat hex t
 ends_none hex t nothing n = inl refl
 ends_none hex t (powered k) n = inr k
 ends_none hex t (digits d) n = absurd (n [] (record { digits = d; stops = stops_nil hex }))
@@ -177,10 +177,10 @@ Plain s = has_underscores s ≡ false
 pub plain_inherited : Inherited Plain
 plain_inherited f r h = or_parts (has_underscores f) (has_underscores r) (sym (list_any-append (λ c. c == 95) f r) ∙ h)
 
--- a payload behind its prefix
-behind_nan : (w : List ℕ) → drop (length w - length (unsigned w) + 6) w ≡ drop 6 (unsigned w)
-behind_nan [] = refl
-behind_nan (c ∷ t) = by (c == 43 || c == 45)
+-- a payload after its prefix
+after_nan : (w : List ℕ) → drop (length w - length (unsigned w) + 6) w ≡ drop 6 (unsigned w)
+after_nan [] = refl
+after_nan (c ∷ t) = by (c == 43 || c == 45)
   where
     by : (b : Bool) → drop (length (c ∷ t) - length (cond b t (c ∷ t)) + 6) (c ∷ t) ≡ drop 6 (cond b t (c ∷ t))
     by true = let k : length (c ∷ t) - length t + 6 ≡ 7 = omega arith in ap (λ n. drop n (c ∷ t)) k
@@ -191,10 +191,10 @@ payload_digits s (payload e h) = subst (λ x. Digits true (drop 6 x) []) (sym e)
 
 pub payload_is : (w n d : List ℕ) → n ≡ unsigned w → d ≡ drop (length w - length n + 6) w → Payload (unsigned w) → number_text false d ≡ payload_text w
 payload_is w n d e f h =
-    let g : d ≡ drop 6 (unsigned w) = f ∙ ap (λ x. drop (length w - length x + 6) w) e ∙ behind_nan w in
+    let g : d ≡ drop 6 (unsigned w) = f ∙ ap (λ x. drop (length w - length x + 6) w) e ∙ after_nan w in
     ap (number_text false) g ∙ digits_text true (drop 6 (unsigned w)) [] (payload_digits (unsigned w) h)
 
--- the same behind references
+-- the same after references
 pub each : (P : List ℕ → Type 0) (o : Option (Bor (List ℕ))) → IfSome (option_map (λ r. r.now) o) P → IfSome o (λ p. P p.now)
 each P None h = h
 each P (Some r) h = h
@@ -204,6 +204,6 @@ point_texts hex s r o no_point = refl
 point_texts hex s r o bare = refl
 point_texts hex s r o (filled {d = d} e h) = ap Some (digits_text hex d [] h)
 
-pub behind_reference : (f : List ℕ → List ℕ) (o : Option (Bor (List ℕ))) → option_map (λ p. f p.now) o ≡ option_map f (option_map (λ r. r.now) o)
-behind_reference f None = refl
-behind_reference f (Some r) = refl
+pub after_reference : (f : List ℕ → List ℕ) (o : Option (Bor (List ℕ))) → option_map (λ p. f p.now) o ≡ option_map f (option_map (λ r. r.now) o)
+after_reference f None = refl
+after_reference f (Some r) = refl

@@ -7,7 +7,7 @@ use Rattle.std.specs.List.{list_any}
 use Rattle.std.specs.Str.{IsAscii}
 use Rattle.wat_lex.specs.grammar.Numbers.{IntegralPart, hexadecimal, unsigned, has_underscores}
 use Rattle.wat_lex.specs.inside.ScannedNumbers.{without_plus}
-use Rattle.wat_lex.specs.values.NumberValues.{joined, behind_prefix, number_text}
+use Rattle.wat_lex.specs.values.NumberValues.{joined, after_prefix, number_text}
 
 unsigned_ascii : (w : List ℕ) → IsAscii w → IsAscii (unsigned w)
 unsigned_ascii [] h = h
@@ -17,12 +17,12 @@ unsigned_ascii (c ∷ t) h = by (c == 43 || c == 45)
     by true = IsAscii-drop (c ∷ t) 1 h
     by false = h
 
-prefix_ascii : (hex : Bool) (s : List ℕ) → IsAscii s → IsAscii (behind_prefix hex s)
+prefix_ascii : (hex : Bool) (s : List ℕ) → IsAscii s → IsAscii (after_prefix hex s)
 prefix_ascii true s h = IsAscii-drop s 2 h
 prefix_ascii false s h = h
 
-pub digits_ascii : (hex : Bool) (w s t : List ℕ) → IsAscii w → s ≡ unsigned w → t ≡ behind_prefix hex s → IsAscii t
-digits_ascii hex w s t h e f = subst IsAscii (sym (f ∙ ap (behind_prefix hex) e)) (prefix_ascii hex (unsigned w) (unsigned_ascii w h))
+pub digits_ascii : (hex : Bool) (w s t : List ℕ) → IsAscii w → s ≡ unsigned w → t ≡ after_prefix hex s → IsAscii t
+digits_ascii hex w s t h e f = subst IsAscii (sym (f ∙ ap (after_prefix hex) e)) (prefix_ascii hex (unsigned w) (unsigned_ascii w h))
 
 pub integral_long : (hex : Bool) (s : List ℕ) → IntegralPart hex s [] → hex ≡ true → 2 ≤ length s
 integral_long hex s h e = by s (subst (λ b. IntegralPart b s []) e h)

@@ -8,7 +8,7 @@ use Rattle.std.specs.declared.borrow.CowStr.{CowStr}
 use Rattle.std.proofs.lemmas.Bool.{ne_eqb}
 use Rattle.std.proofs.lemmas.Bool.Decides.{nat_tests}
 use Rattle.wat_lex.specs.grammar.Numbers.{Digits, last, next, parted, is_digit, IntegralPart, unsigned, is_negative}
-use Rattle.wat_lex.specs.values.NumberValues.{joined, behind_prefix, bare_digits, number_text, base, IsText, IsIntegerOf, IsNumeralOf}
+use Rattle.wat_lex.specs.values.NumberValues.{joined, after_prefix, bare_digits, number_text, base, IsText, IsIntegerOf, IsNumeralOf}
 use Rattle.wat_lex.specs.declared.lexer.kinds.IntegerKind.{IntegerKind}
 use Rattle.wat_lex.specs.declared.lexer.read.numbers.Integer.{Integer}
 use Rattle.wat_lex.proofs.grammar.Digits.{digits_first, underscore_no_digit}
@@ -47,16 +47,16 @@ text_signless hex w h = by (is_negative w)
   where
     by : (b : Bool) → without_leading_sign (cond b (45 ∷ bare_digits hex w) (bare_digits hex w)) ≡ bare_digits hex w
     by true = refl
-    by false = joined_signless hex (behind_prefix hex (unsigned w)) (integral_digits hex (unsigned w) [] h)
+    by false = joined_signless hex (after_prefix hex (unsigned w)) (integral_digits hex (unsigned w) [] h)
 
-text_bytes : {Z : Type 0} (anew : Bool) (d : List ℕ) (t : CowStr Z) → IsText anew d t → cow_str_bytes t ≡ d
+text_bytes : {Z : Type 0} (again : Bool) (d : List ℕ) (t : CowStr Z) → IsText again d t → cow_str_bytes t ≡ d
 text_bytes true d t h = h.0
 text_bytes false d t h = h.0
 
 pub numeral_of : (k : IntegerKind) (w : List ℕ) (i : Integer) → IntegralPart k.hex (unsigned w) [] → IsIntegerOf k w i → IsNumeralOf k w i
 numeral_of k w i h o =
     let g : without_leading_sign (cow_str_bytes i.digits) ≡ bare_digits k.hex w = ap without_leading_sign (text_bytes _ (number_text k.hex w) i.digits o.digits) ∙ text_signless k.hex w h in
-    let n : IsNumeral (base k.hex) (bare_digits k.hex w) = joined_numeral k.hex (behind_prefix k.hex (unsigned w)) (integral_digits k.hex (unsigned w) [] h) in
+    let n : IsNumeral (base k.hex) (bare_digits k.hex w) = joined_numeral k.hex (after_prefix k.hex (unsigned w)) (integral_digits k.hex (unsigned w) [] h) in
     record {
       numeral = subst (λ x. IsNumeral (base x) (without_leading_sign (cow_str_bytes i.digits))) (sym o.hex) (subst (IsNumeral (base k.hex)) (sym g) n);
       value = ap (λ x. digits_value (base x) (without_leading_sign (cow_str_bytes i.digits))) o.hex ∙ ap (digits_value (base k.hex)) g;

@@ -105,7 +105,7 @@ digits_no_power : (hex : Bool) (d r : List ℕ) (x : Option (List ℕ)) → Digi
 digits_no_power hex [] r x h p = digits_none hex [] h
 digits_no_power hex (c ∷ d) r x h p = power_stops hex (c ∷ d ++ r) x p (ap (λ b. b || c == 95) (digits_first hex c d [] h))
 
--- one fraction, and one exponent behind it
+-- one fraction, and one exponent after it
 record SameParts (f g x y : Option (List ℕ)) : Type 0 where
   fraction : f ≡ g
   exponent : x ≡ y

@@ -55,7 +55,7 @@ some_name empty text t u h e = name_of empty t.kind (chars (token_text text t)) 
 -- ---- floats
 
 -- what follows first digits, in its parts
-record Behind (hex : Bool) (tail : List ℕ) : Type 0 where
+record After (hex : Bool) (tail : List ℕ) : Type 0 where
   rest : List ℕ
   fraction : Option (List ℕ)
   exponent : Option (List ℕ)
@@ -69,10 +69,10 @@ fraction_point hex s r (filled {t = t} h) = let p = cut_digits hex t r h in (Som
 exponent_power : (hex : Bool) (s : List ℕ) → Exponent hex s → (x : Option (List ℕ)) × Power hex s x
 exponent_power hex s (exponent {t = t} h k) = (Some t, present h k)
 
-behind : (hex : Bool) (s : List ℕ) → Tail hex s → Behind hex s
-behind hex s (fraction h) = let p = fraction_point hex s [] h in record { rest = []; fraction = p.0; exponent = None; point = p.1; power = no_power }
-behind hex s (power h) = let q = exponent_power hex s h in record { rest = s; fraction = None; exponent = q.0; point = no_point; power = q.1 }
-behind hex s (both {t = t} h k) =
+after : (hex : Bool) (s : List ℕ) → Tail hex s → After hex s
+after hex s (fraction h) = let p = fraction_point hex s [] h in record { rest = []; fraction = p.0; exponent = None; point = p.1; power = no_power }
+after hex s (power h) = let q = exponent_power hex s h in record { rest = s; fraction = None; exponent = q.0; point = no_point; power = q.1 }
+after hex s (both {t = t} h k) =
     let p = fraction_point hex s t h in
     let q = exponent_power hex t k in
     record { rest = t; fraction = p.0; exponent = q.0; point = p.1; power = q.1 }
@@ -80,7 +80,7 @@ behind hex s (both {t = t} h k) =
 parts_of : (hex : Bool) (w : List ℕ) → Decimals hex (unsigned w) → SomeParts hex w
 parts_of hex w (decimals {t = t} h k) =
     let p = cut_word hex w t h in
-    let b = behind hex t k in
+    let b = after hex t k in
     record {
       leading = p.0;
       fraction = b.fraction;

@@ -19,10 +19,10 @@ use Rattle.wat_lex.proofs.inside.Confusing.{size-append}
 use Rattle.wat_lex.proofs.inside.LineComments.{Until, until, first_place}
 use Rattle.wat_lex.proofs.grammar.OneString.{element_unique, quoted_sound}
 
--- a text that is cut behind n bytes
+-- a text that is cut after n bytes
 pub record Seam (text w rest : List ℕ) (n : ℕ) : Type 0 where
   pub prefix : take n text ≡ encodes w
-  pub behind : chars (drop n text) ≡ rest
+  pub after : chars (drop n text) ≡ rest
   pub utf8 : IsUtf8 (drop n text)
   pub boundary : IsCharBoundary text n
   pub range : n ≤ length text
@@ -35,7 +35,7 @@ seam text w rest n u e m =
     let l : length text ≡ length (encodes w) + length (encodes rest) = ap length h.bytes ∙ length-append (encodes w) (encodes rest) in
     record {
       prefix = ap (λ x. take n x) h.bytes ∙ take_at (encodes w) (encodes rest) n (sym m);
-      behind = ap chars d ∙ chars-encodes rest h.right;
+      after = ap chars d ∙ chars-encodes rest h.right;
       utf8 = subst IsUtf8 (sym d) (rest, (h.right, refl));
       boundary = subst (IsCharBoundary text) (sym m) (IsCharBoundary-at_seam text (encodes w) (encodes rest) h.bytes (rest, (h.right, refl)));
       range = omega (arith, l, m);
@@ -62,7 +62,7 @@ until_backslash text u r h =
     let t = until (is_byte 92) backslash_ascii (chars text) in
     (t, first_place (is_byte 92) text r h ∙ ap (prefix_len (λ c. not (is_byte 92 c))) (sym (encodes-chars text u)) ∙ t.len)
 
--- a backslash stands behind n bytes, and none before
+-- a backslash comes after n bytes, and none before
 pub record AtBackslash (text : List ℕ) (n : ℕ) : Type 0 where
   pub prefix : List ℕ
   pub clear : HasNone 92 prefix
@@ -81,7 +81,7 @@ at_backslash_by text prefix rest n u h e l =
       prefix = prefix;
       clear = h;
       bytes = a.prefix;
-      cut = e ∙ ap (λ x. prefix ++ 92 ∷ x) (sym b.behind);
+      cut = e ∙ ap (λ x. prefix ++ 92 ∷ x) (sym b.after);
       utf8 = b.utf8;
       boundary = b.boundary;
       range = b.range;
@@ -139,7 +139,7 @@ plain_whole s v (more (letter a) q) h = absurd (false≢true (sym h.0))
 plain_whole s v (more (byte a b) q) h = absurd (false≢true (sym h.0))
 plain_whole s v (more (unicode ds e a n k) q) h = absurd (false≢true (sym h.0))
 
--- what stands behind characters that are no backslash
+-- what comes after characters that are no backslash
 record PlainPrefix (cs t v : List ℕ) : Type 0 where
   rest : List ℕ
   value : v ≡ encodes cs ++ rest

@@ -1,4 +1,4 @@
--- WebAssembly specification, binary format, conventions: vectors; and values: names. A list and a text stand behind
+-- WebAssembly specification, binary format, conventions: vectors; and values: names. A list and a text come after
 -- their length.
 use Rattle.std.specs.Prelude.{ℕ, ◌^◌, ◌<◌, ◌≤◌, List, String, Vec, ◌++◌, length, string_bytes, All}
 use Rattle.std.specs.List.{flat_map}

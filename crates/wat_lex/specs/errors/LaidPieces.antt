@@ -7,7 +7,7 @@ pub record Laid (before text bytes : List ℕ) (at : ℕ) : Type 0 where
   pub over : bytes ≡ laid_over text before
   pub place : at ≡ min (length text) (length before)
 
--- behind whatever text lay there, this one was laid
+-- after whatever text lay there, this one was laid
 pub record LaysMore (bytes : List ℕ) (at : ℕ) (text bytes' : List ℕ) (at' : ℕ) : Type 0 where
   pub within : at' ≤ length bytes'
   pub long : length bytes' ≡ length bytes

@@ -1,4 +1,4 @@
--- Where the line feeds of a text stand. No part of the standard.
+-- Where the line feeds of a text are. No part of the standard.
 use Rattle.std.specs.Prelude.{◌≡◌, ◌<◌, ◌≤◌, ℕ, true, List, length, take, slice_index}
 use Rattle.std.specs.List.{count_by}
 use Rattle.wat_lex.specs.errors.Positions.{is_line_feed}

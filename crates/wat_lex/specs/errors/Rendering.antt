@@ -29,8 +29,8 @@ is_boundary text n = nat_le n (length text) && is_char_start (slice_index text n
 abbrev pub columns : List ℕ → ℕ → ℕ
 columns text n = if is_boundary text n then str_width false (chars (take n text)) else n
 
--- The line that the byte stands in is without its line feed, or carriage return and line feed. It is empty where the byte
--- stands in no line. The column is measured on the line as it is shown, so a TAB before the byte, or a character that is
+-- The line that the byte is in is without its line feed, or carriage return and line feed. It is empty where the byte
+-- is in no line. The column is measured on the line as it is shown, so a TAB before the byte, or a character that is
 -- dropped, puts it off.
 abbrev pub excerpt : List ℕ → ℕ → Excerpt
 excerpt text offset =

@@ -50,7 +50,7 @@ pub data Digits : Bool → List ℕ → List ℕ → Type 0 where
   next : {hex : Bool} {d : ℕ} {t r : List ℕ} → IsTrue (is_digit hex d) → Digits hex t r → Digits hex (d ∷ t) r
   parted : {hex : Bool} {d : ℕ} {t r : List ℕ} → IsTrue (is_digit hex d) → Digits hex t r → Digits hex (d ∷ underscore ∷ t) r
 
--- digits, behind `0x` where they are hexadecimal, and then the rest
+-- digits, after `0x` where they are hexadecimal, and then the rest
 pub data IntegralPart : Bool → List ℕ → List ℕ → Type 0 where
   decimal : {t r : List ℕ} → Digits false t r → IntegralPart false t r
   hexadecimal : {t r : List ℕ} → Digits true t r → IntegralPart true (48 ∷ 120 ∷ t) r
@@ -74,7 +74,7 @@ pub data Tail : Bool → List ℕ → Type 0 where
 pub data Decimals : Bool → List ℕ → Type 0 where
   decimals : {hex : Bool} {s t : List ℕ} → IntegralPart hex s t → Tail hex t → Decimals hex s
 
--- hexadecimal digits behind `nan:0x`
+-- hexadecimal digits after `nan:0x`
 pub data Payload : List ℕ → Type 0 where
   payload : {s t : List ℕ} → s ≡ codes "nan:0x" ++ t → Digits true t [] → Payload s
 

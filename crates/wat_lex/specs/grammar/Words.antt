@@ -37,8 +37,8 @@ MayFollow RParen w rest = Unit {0}
 MayFollow Reserved w rest = (w ≡ semicolon ∷ [] → Begins (λ c. c == semicolon) rest → ⊥) × ((Punctuation w → ⊥) → EndsRun rest)
 MayFollow kind w rest = EndsRun rest
 
--- a word of this kind stands at the start of the text, and may stand there
-pub record WordStands (flags : Settings) (text : List ℕ) (kind : TokenKind) (w rest : List ℕ) : Type 0 where
+-- a word of this kind is at the start of the text, and may be there
+pub record WordIsAt (flags : Settings) (text : List ℕ) (kind : TokenKind) (w rest : List ℕ) : Type 0 where
   pub cut : text ≡ w ++ rest
   pub word : Word kind w flags
   pub ends : MayFollow kind w rest

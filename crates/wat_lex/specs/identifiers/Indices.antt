@@ -5,7 +5,7 @@ use Rattle.wat_lex.specs.identifiers.Identifiers.{Identifier, IsSameIdentifier, 
 use Rattle.wat_lex.specs.declared.token.Index.{Index}
 use Rattle.wat_lex.specs.declared.token.Index.TheVariants.{Id, Num}
 
--- where an index stands
+-- where an index is
 abbrev pub span_of : Index → ℕ
 span_of (Num number span) = span
 span_of (Id id) = id.span

@@ -17,11 +17,11 @@ other_than_semicolon b = not (b == semicolon)
 abbrev pub is_plain_in_line : ℕ → Bool
 is_plain_in_line b = not (b == line_feed || b == carriage_return || b == 0xE2)
 
--- a byte of ASCII that stands behind both line ends; of those that are plain in a line it lacks a tab and a few others
+-- a byte of ASCII that comes after both line ends; of those that are plain in a line it lacks a tab and a few others
 abbrev pub is_surely_plain : ℕ → Bool
 is_surely_plain b = is_in_range 14 127 b
 
--- the n bytes from i on pass a test, so that what passes from i on goes on behind them
+-- the n bytes from i on pass a test, so that what passes from i on goes on after them
 abbrev pub GoesOn : (ℕ → Bool) → List ℕ → ℕ → ℕ → Type 0
 GoesOn p text i n = prefix_len p (drop i text) ≡ n + prefix_len p (drop (i + n) text)
 

@@ -15,11 +15,11 @@ pub record Reaches (s : List ℕ) (n : ℕ) (t : List ℕ) : Type 0 where
   pub into : (r : List ℕ) → Closings n t r → Closes s r
   pub from : (r : List ℕ) → Closes s r → Closings n t r
 
--- `(;` stands at a place
+-- `(;` is at a place
 abbrev pub opens_at : List ℕ → ℕ → Bool
 opens_at s k = (get_or s k 0 == open_paren) && (get_or s (k + 1) 0 == semicolon)
 
--- `;)` stands at a place
+-- `;)` is at a place
 abbrev pub closes_at : List ℕ → ℕ → Bool
 closes_at s k = (get_or s k 0 == semicolon) && (get_or s (k + 1) 0 == close_paren)
 

@@ -39,13 +39,13 @@ pub record Outlined (flags : Settings) (text : List ℕ) (outline : Outline) : T
   pub word : (k : TokenKind) → HasKind outline.shape (take outline.len text) k → LexemeFound flags text (record { kind = k; len = outline.len })
   pub fault : outline.shape ≡ shape.Fault → IsRefused flags text
 
--- what stands at the start of the text
+-- what is at the start of the text
 abbrev pub FoundIn : Settings → List ℕ → Found → Type 0
 FoundIn flags text (found.Lexeme lexeme) = LexemeFound flags text lexeme
 FoundIn flags text found.End = text ≡ []
 FoundIn flags text found.Fault = IsRefused flags text
 
--- a word of idchars alone, with no string behind it
+-- a word of idchars alone, with no string after it
 pub record IdcharsOnly (text : List ℕ) (lexeme : Lexeme) : Type 0 where
   pub len : lexeme.len ≡ prefix_len is_idchar text
   pub ends : get_or text lexeme.len 0 ≢ quote
@@ -58,7 +58,7 @@ pub record BeginsWord (first : ℕ) (k : TokenKind) : Type 0 where
 
 -- any run that these bytes are and that has so many idchars and strings has this shape
 pub record IsShapeOfRun (bytes : List ℕ) (idchars strings : ℕ) (s : Shape) : Type 0 where
-  pub stands : s ≢ shape.Fault
+  pub is_at : s ≢ shape.Fault
   pub kind : (k : TokenKind) → HasKind s bytes k → IsKindOfRun bytes idchars strings k
 
 -- what a text that begins with this byte begins with

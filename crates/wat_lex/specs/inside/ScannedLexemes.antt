@@ -3,16 +3,16 @@ use Rattle.std.specs.Prelude.{◌≡◌, ◌+◌, ℕ, List, ◌∷◌, ◌++◌
 use Rattle.std.specs.Str.{chars, NonePass}
 use Rattle.wat_lex.specs.grammar.Classes.{size, is_confusing}
 use Rattle.wat_lex.specs.tokens.Faults.{Fault}
-use Rattle.wat_lex.specs.grammar.Words.{WordStands}
+use Rattle.wat_lex.specs.grammar.Words.{WordIsAt}
 use Rattle.wat_lex.specs.declared.lexer.settings.Settings.{Settings}
 use Rattle.wat_lex.specs.declared.lexer.kinds.Lexeme.{Lexeme}
 use Rattle.wat_lex.specs.declared.lexer.faults.LexFault.{LexFault}
 
--- a word of this kind and of so many bytes stands at the start
+-- a word of this kind and of so many bytes is at the start
 pub record LexemeFound (flags : Settings) (text : List ℕ) (lexeme : Lexeme) : Type 0 where
   pub word : List ℕ
   pub rest : List ℕ
-  pub stands : WordStands flags (chars text) lexeme.kind word rest
+  pub is_at : WordIsAt flags (chars text) lexeme.kind word rest
   pub len : lexeme.len ≡ size word
 
 -- the text begins with no word, and this is the fault, its offset from the start
@@ -24,8 +24,8 @@ pub record Refused (flags : Settings) (text : List ℕ) (f : LexFault) : Type 0 
 -- the first confusing character of the text and its place
 pub record FirstConfusing (text : List ℕ) (i c : ℕ) : Type 0 where
   pub prefix : List ℕ
-  pub behind : List ℕ
-  pub cut : chars text ≡ prefix ++ c ∷ behind
+  pub after : List ℕ
+  pub cut : chars text ≡ prefix ++ c ∷ after
   pub clear : NonePass is_confusing prefix
   pub is : IsTrue (is_confusing c)
   pub place : i ≡ size prefix

@@ -22,13 +22,13 @@ abbrev pub escape_bytes : EscapeValue → List ℕ
 escape_bytes (Byte b) = b ∷ []
 escape_bytes (Scalar c) = encode_utf8 c
 
--- behind the given characters, the old rest begins with what is left of an element of this value
+-- after the given characters, the old rest begins with what is left of an element of this value
 pub record Escaped (flags : Settings) (prefix old new value : List ℕ) : Type 0 where
   pub element : Element flags (prefix ++ chars old) value (chars new)
   pub utf8 : IsUtf8 new
   pub shorter : length new ≤ length old
 
--- behind the given characters, the old rest goes wrong where so many bytes are left
+-- after the given characters, the old rest goes wrong where so many bytes are left
 pub record Breaks (flags : Settings) (prefix old : List ℕ) (broken : Broken) : Type 0 where
   pub at : List ℕ
   pub fault : StringFault flags (prefix ++ chars old) broken.error at

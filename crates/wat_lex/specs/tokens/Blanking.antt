@@ -44,15 +44,15 @@ pub record Spaced (text other : List ℕ) (comment : Token) (ts us : List Token)
   pub before : List Token
   pub left : List Token
   pub right : List Token
-  pub behind : List Token
+  pub after : List Token
   pub white : Token
-  pub was : ts ≡ before ++ ((left ++ comment ∷ right) ++ behind)
-  pub is : us ≡ before ++ white ∷ behind
+  pub was : ts ≡ before ++ ((left ++ comment ∷ right) ++ after)
+  pub is : us ≡ before ++ white ∷ after
   pub beside_left : AtMostOneSpace left
   pub beside_right : AtMostOneSpace right
   pub kind : white.kind ≡ Whitespace
   pub texts_before : All (λ t. token_text other t ≡ token_text text t) before
-  pub texts_behind : All (λ t. token_text other t ≡ token_text text t) behind
+  pub texts_after : All (λ t. token_text other t ≡ token_text text t) after
 
 -- the comment is one of the raw tokens from the byte p on
 pub record IsRawComment (s : Setting) (p : ℕ) (comment : Token) : Type 0 where
@@ -62,7 +62,7 @@ pub record IsRawComment (s : Setting) (p : ℕ) (comment : Token) : Type 0 where
   pub among : Contains tokens comment
   pub kind : IsComment comment.kind
 
--- Where white bytes stand in place of a comment, the raw tokens are spaced and end as they did.
+-- Where white bytes are in place of a comment, the raw tokens are spaced and end as they did.
 abbrev pub BlanksAreSpace : Type 0
 BlanksAreSpace = (s : Setting) (p : ℕ) (comment : Token) (white : List ℕ) → IsUtf8 s.text → IsCharBoundary s.text p → AreBlanksOf comment white → (raw : IsRawComment s p comment)
     → (us : List Token) × MaximalTiling (with_text s (overwritten s.text comment white)) p us raw.ending × Spaced s.text (overwritten s.text comment white) comment raw.tokens us

@@ -1,5 +1,5 @@
 -- WebAssembly specification, text format, lexical format: tokens. The longest match is taken, so what a token is depends on
--- its own characters and the one behind it: how the tokens of a part of a text are those of the whole.
+-- its own characters and the one after it: how the tokens of a part of a text are those of the whole.
 use Rattle.std.specs.Prelude.{◌≡◌, ◌≤◌, ◌+◌, ℕ, List, [], ◌∷◌, ◌++◌, map, take, drop, Option, Some, None}
 use Rattle.std.specs.Option.{option_map}
 use Rattle.std.specs.Str.{IsCharBoundary}
@@ -26,7 +26,7 @@ pub record CutAt (s : Setting) (p n : ℕ) : Type 0 where
   pub some : SomeTiling (prefix s n) p
   pub begins : (ts us : List Token) (e f : Option LexFault) → MaximalTiling (prefix s n) p ts e → MaximalTiling s p us f → (rest : List Token) × (us ≡ sure ts e ++ rest)
 
--- So it is wherever the text is cut between two characters, at the byte p or behind it.
+-- So it is wherever the text is cut between two characters, at the byte p or after it.
 abbrev pub Cuts : Setting → ℕ → Type 0
 Cuts s p = (n : ℕ) → IsCharBoundary s.text n → p ≤ n → CutAt s p n
 

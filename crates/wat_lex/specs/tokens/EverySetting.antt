@@ -22,13 +22,13 @@ use Rattle.wat_lex.specs.declared.lexer.kinds.TokenKind.TheVariants.{String, Id,
 abbrev pub IsNameWord : List ℕ → Type 0
 IsNameWord w = Word Id w lenient ⊎ Word Annotation w lenient
 
--- at each boundary something stands: a token, the text's end, or a fault
-abbrev pub SomethingStands : Type 0
-SomethingStands = (s : Setting) (p : ℕ) → IsUtf8 s.text → IsCharBoundary s.text p → (r : Result (Option Token) LexFault) × AnswerAt s p r
+-- at each boundary there is something: a token, the text's end, or a fault
+abbrev pub SomethingIsAt : Type 0
+SomethingIsAt = (s : Setting) (p : ℕ) → IsUtf8 s.text → IsCharBoundary s.text p → (r : Result (Option Token) LexFault) × AnswerAt s p r
 
 -- and it is one thing
-abbrev pub OneThingStands : Type 0
-OneThingStands = (s : Setting) (p : ℕ) (q r : Result (Option Token) LexFault) → AnswerAt s p q → AnswerAt s p r → q ≡ r
+abbrev pub OneThingIsAt : Type 0
+OneThingIsAt = (s : Setting) (p : ℕ) (q r : Result (Option Token) LexFault) → AnswerAt s p q → AnswerAt s p r → q ≡ r
 
 -- from each boundary on there is a maximal tiling
 abbrev pub EachPlaceIsTiled : Type 0

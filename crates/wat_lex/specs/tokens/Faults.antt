@@ -7,7 +7,7 @@ use Rattle.wat_lex.specs.grammar.Comments.{BlockComment as Commented}
 use Rattle.wat_lex.specs.grammar.Runs.{Piece, Run}
 use Rattle.wat_lex.specs.tokens.Setting.{Setting, allowing}
 use Rattle.wat_lex.specs.tokens.StringFaults.{StringFault}
-use Rattle.wat_lex.specs.grammar.Words.{WordStands}
+use Rattle.wat_lex.specs.grammar.Words.{WordIsAt}
 use Rattle.wat_lex.specs.declared.lexer.settings.Settings.{Settings}
 use Rattle.wat_lex.specs.declared.lexer.kinds.TokenKind.{TokenKind}
 use Rattle.wat_lex.specs.declared.lexer.kinds.TokenKind.TheVariants.{LineComment, BlockComment}
@@ -27,13 +27,13 @@ pub data Fault : Settings → List ℕ → LexError → List ℕ → Type 0 wher
   unexpected : {flags : Settings} {c : ℕ} {t : List ℕ} → (IsTrue (begins_word c) → ⊥) → Fault flags (c ∷ t) (Unexpected c) (c ∷ t)
   -- `(;`, and no prefix of the text is a block comment, whatever characters are in it
   dangling : {flags : Settings} {t : List ℕ} → ((r : List ℕ) → Commented (open_paren ∷ semicolon ∷ t) r → ⊥) → Fault flags (open_paren ∷ semicolon ∷ t) DanglingBlockComment (open_paren ∷ semicolon ∷ t)
-  -- c is the first confusing character of a comment that would stand here if they were allowed
-  confusing : {flags : Settings} {s t : List ℕ} {c : ℕ} {kind : TokenKind} {w rest : List ℕ} (prefix : List ℕ) → flags.allow ≡ false → IsComment kind → WordStands (allowing flags) s kind w rest
+  -- c is the first confusing character of a comment that would be here if they were allowed
+  confusing : {flags : Settings} {s t : List ℕ} {c : ℕ} {kind : TokenKind} {w rest : List ℕ} (prefix : List ℕ) → flags.allow ≡ false → IsComment kind → WordIsAt (allowing flags) s kind w rest
       → s ≡ prefix ++ c ∷ t → NonePass is_confusing prefix → IsTrue (is_confusing c) → length prefix < length w → Fault flags s (ConfusingUnicode c) (c ∷ t)
   -- idchars and strings, and then a string that goes wrong
   in_string : {flags : Settings} {s t at : List ℕ} {ps : List Piece} {e : LexError} → Run flags s ps (quote ∷ t) → StringFault flags t e at → Fault flags s e at
 
--- at the byte p of the text no word stands, and this is the fault
+-- at the byte p of the text there is no word, and this is the fault
 pub record FaultAt (s : Setting) (p : ℕ) (f : LexFault) : Type 0 where
   pub at : List ℕ
   pub fault : Fault s.flags (chars (drop p s.text)) f.error at

@@ -26,10 +26,10 @@ pub record Raw (s : Setting) (from : ℕ) (items : List Item) : Type 0 where
   pub tiling : MaximalTiling s from tokens ending
   pub spelled : Spells s.text tokens ending items
 
--- at the place no word stands, and this is the error of the fault there, or an out-of-memory error
+-- at the place there is no word, and this is the error of the fault there, or an out-of-memory error
 pub record ErrorAt (s : Setting) (p : ℕ) (e : Option Report) : Type 0 where
   pub fault : LexFault
-  pub stands : FaultAt s p fault
+  pub is_at : FaultAt s p fault
   pub reported : IsUnlessMemory e (lexical s.text fault)
 
 -- an iterator over the tokens: the text and the flags, the place, and whether it has ended

@@ -8,7 +8,7 @@ use Rattle.wat_lex.specs.declared.lexer.settings.Settings.{Settings}
 use Rattle.wat_lex.specs.declared.lexer.faults.LexError.{LexError}
 use Rattle.wat_lex.specs.declared.lexer.faults.LexError.TheVariants.{InvalidStringElement, InvalidStringEscape, InvalidHexDigit, Expected, UnexpectedEof, NumberTooBig, InvalidUnicodeValue, LoneUnderscore, ConfusingUnicode}
 
--- A fault of the number in `\u{`, whose first digit d stands before the text.
+-- A fault of the number in `\u{`, whose first digit d comes before the text.
 pub data NumberFault : Settings → ℕ → List ℕ → LexError → List ℕ → Type 0 where
   -- with the digit e the number passes 2^32-1
   too_big : {flags : Settings} {d e : ℕ} {s t : List ℕ} (ds : List ℕ) → s ≡ ds ++ e ∷ t → HexRow flags d ds → IsTrue (is_hex e) → 2 ^ 32 ≤ hex_value (d ∷ ds ++ e ∷ []) → NumberFault flags d s NumberTooBig (e ∷ t)
@@ -19,7 +19,7 @@ pub data NumberFault : Settings → ℕ → List ℕ → LexError → List ℕ �
   -- they end in the digit e, and write no scalar value
   no_scalar : {flags : Settings} {d e : ℕ} {s t : List ℕ} (ds : List ℕ) → s ≡ ds ++ e ∷ t → HexRow flags d (ds ++ e ∷ []) → IsTrue (is_hex e) → (Begins is_hex_or_underscore t → ⊥)
       → (IsScalar (hex_value (d ∷ ds ++ e ∷ [])) → ⊥) → NumberFault flags d s (InvalidUnicodeValue (hex_value (d ∷ ds ++ e ∷ []))) (e ∷ t)
-  -- another character than `}` stands behind them
+  -- another character than `}` comes after them
   no_brace : {flags : Settings} {d c : ℕ} {s t : List ℕ} (ds : List ℕ) → s ≡ ds ++ c ∷ t → HexRow flags d ds → (EndsInUnderscore ds → ⊥) → IsScalar (hex_value (d ∷ ds))
       → (IsTrue (is_hex_or_underscore c) → ⊥) → c ≢ close_brace → NumberFault flags d s (Expected close_brace c) (c ∷ t)
   -- the text ends with them

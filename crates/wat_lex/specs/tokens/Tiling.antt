@@ -1,20 +1,20 @@
 -- WebAssembly specification, text format, lexical format: a text is a sequence of tokens, white space and comments, each
--- the longest that can stand there.
+-- the longest that can be there.
 use Rattle.std.specs.Prelude.{◌≡◌, ◌+◌, ℕ, List, [], ◌∷◌, drop, length, Option, MatchOption}
 use Rattle.std.specs.Str.{chars}
 use Rattle.wat_lex.specs.grammar.Classes.{size}
 use Rattle.wat_lex.specs.tokens.Setting.{Setting}
-use Rattle.wat_lex.specs.grammar.Words.{WordStands}
+use Rattle.wat_lex.specs.grammar.Words.{WordIsAt}
 use Rattle.wat_lex.specs.tokens.Faults.{FaultAt}
 use Rattle.wat_lex.specs.declared.lexer.kinds.Token.{Token}
 use Rattle.wat_lex.specs.declared.lexer.faults.LexFault.{LexFault}
 
--- the token is a word that stands at the byte p of the text, and may stand there
+-- the token is a word that is at the byte p of the text, and may be there
 pub record TokenAt (s : Setting) (p : ℕ) (t : Token) : Type 0 where
   pub offset : t.offset ≡ p
   pub word : List ℕ
   pub rest : List ℕ
-  pub stands : WordStands s.flags (chars (drop p s.text)) t.kind word rest
+  pub is_at : WordIsAt s.flags (chars (drop p s.text)) t.kind word rest
   pub len : t.len ≡ size word
 
 -- the tokens lie end to end from one place to another

@@ -6,7 +6,7 @@ use Rattle.wat_lex.specs.tokens.Tiling.{TokenAt, MaximalTiling}
 use Rattle.wat_lex.specs.declared.lexer.kinds.Token.{Token}
 use Rattle.wat_lex.specs.declared.lexer.faults.LexFault.{LexFault}
 
--- what stands at the byte p: a token, or the text's end, or a fault
+-- what is at the byte p: a token, or the text's end, or a fault
 abbrev pub AnswerAt : Setting → ℕ → Result (Option Token) LexFault → Type 0
 AnswerAt s p r = MatchResult r (λ found. MatchOption found (p ≡ length s.text) (TokenAt s p)) (FaultAt s p)
 

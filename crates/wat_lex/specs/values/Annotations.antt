@@ -1,4 +1,4 @@
--- WebAssembly specification, text format, lexical format: annotations. What stands at a position, asked for an annotation.
+-- WebAssembly specification, text format, lexical format: annotations. What is at a position, asked for an annotation.
 use Rattle.std.specs.Prelude.{◌≡◌, ◌≢◌, ◌⊎◌, ◌==◌, ℕ, List, drop, Option, Some, None, Result, Ok, Err}
 use Rattle.wat_lex.specs.grammar.Classes.{at_sign, Begins}
 use Rattle.wat_lex.specs.errors.Errors.{Report}
@@ -12,11 +12,11 @@ use Rattle.wat_lex.specs.declared.lexer.kinds.TokenKind.TheVariants.{Annotation}
 abbrev pub HasAtSign : List ℕ → ℕ → Type 0
 HasAtSign text p = Begins (λ b. b == at_sign) (drop p text)
 
--- another token stands there
+-- another token is there
 abbrev pub IsOther : Setting → ℕ → Type 0
 IsOther s p = (t : Token) × TokenAt s p t × (t.kind ≢ Annotation)
 
--- Behind a byte `@`: the token, None for a token of another kind, or the error of the fault. Without that byte, None.
+-- After a byte `@`: the token, None for a token of another kind, or the error of the fault. Without that byte, None.
 abbrev pub AnnotationAt : Setting → ℕ → Result (Option Token) (Option Report) → Type 0
 AnnotationAt s p (Ok (Some t)) = HasAtSign s.text p × TokenAt s p t × (t.kind ≡ Annotation)
 AnnotationAt s p (Ok None) = (HasAtSign s.text p → ⊥) ⊎ (HasAtSign s.text p × IsOther s p)

@@ -9,10 +9,10 @@ use Rattle.wat_lex.specs.declared.lexer.kinds.SignToken.{SignToken}
 abbrev pub kind_sign : IntegerKind → Option SignToken
 kind_sign kind = sign_token kind.sign
 
--- whether underscores stand between its digits
+-- whether underscores are between its digits
 abbrev pub kind_has_underscores : IntegerKind → Bool
 kind_has_underscores kind = kind.has_underscores
 
--- whether its digits stand behind `0x`
+-- whether its digits come after `0x`
 abbrev pub kind_hex : IntegerKind → Bool
 kind_hex kind = kind.hex

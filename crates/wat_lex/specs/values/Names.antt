@@ -1,4 +1,4 @@
--- WebAssembly specification, text format, values: identifiers; lexical format: annotations. Behind `$` or `@` stands a name:
+-- WebAssembly specification, text format, values: identifiers; lexical format: annotations. After `$` or `@` is a name:
 -- idchars, which are their own bytes, or a string. The standard's names are UTF-8 and not empty; the words of other bytes are
 -- words here too, and what is wrong with their names is reported apart.
 use Rattle.std.specs.Prelude.{◌≡◌, ◌⊎◌, ◌==◌, ℕ, List, [], ◌∷◌, Option, Some, None, encode_utf8_all}
@@ -20,11 +20,11 @@ abbrev pub Name : List ℕ → List ℕ → Type 0
 Name [] bytes = ⊥
 Name (c ∷ t) bytes = Named t bytes
 
--- the character does not stand in the word
+-- the character is not in the word
 abbrev pub HasNone : ℕ → List ℕ → Type 0
 HasNone c w = NonePass (λ d. d == c) w
 
--- escapes stand in strings only
+-- escapes are in strings only
 abbrev pub HasNoEscape : List ℕ → Type 0
 HasNoEscape w = HasNone quote w ⊎ HasNone backslash w
 
@@ -34,7 +34,7 @@ pub data NameFault : LexError → List ℕ → LexError → Type 0 where
   not_utf8 : {empty : LexError} {w bytes : List ℕ} → Name w bytes → (IsUtf8 bytes → ⊥) → NameFault empty w InvalidUtf8Id
 
 -- The error is reported at the word of the text, and is what is wrong with its name; or it is the out-of-memory error, only where
--- an escape stands in the word or its name is wrong.
+-- an escape is in the word or its name is wrong.
 abbrev pub NameError : List ℕ → LexError → ℕ → List ℕ → Option Report → Type 0
 NameError text empty offset w None = HasNoEscape w → (e : LexError) × NameFault empty w e
 NameError text empty offset w (Some report) = (e : LexError) × NameFault empty w e × (report ≡ lexical text (record { offset = offset; error = e }))

@@ -20,14 +20,14 @@ use Rattle.wat_lex.specs.declared.lexer.read.numbers.Float.TheVariants as value
 abbrev pub joined : List ℕ → List ℕ
 joined s = filter (λ c. not (c == underscore)) s
 
--- what stands behind `0x`, where a number is hexadecimal
-abbrev pub behind_prefix : Bool → List ℕ → List ℕ
-behind_prefix true s = drop 2 s
-behind_prefix false s = s
+-- what comes after `0x`, where a number is hexadecimal
+abbrev pub after_prefix : Bool → List ℕ → List ℕ
+after_prefix true s = drop 2 s
+after_prefix false s = s
 
 -- a number's digits without sign, underscores and `0x`
 abbrev pub bare_digits : Bool → List ℕ → List ℕ
-bare_digits hex w = joined (behind_prefix hex (unsigned w))
+bare_digits hex w = joined (after_prefix hex (unsigned w))
 
 -- a number's digits without `+`, underscores and `0x`, a `-` kept
 abbrev pub number_text : Bool → List ℕ → List ℕ
@@ -41,17 +41,17 @@ base false = 10
 abbrev pub integer_value : Bool → List ℕ → ℕ
 integer_value hex w = digits_value (base hex) (bare_digits hex w)
 
--- the digits of a payload, behind `nan:0x`
+-- the digits of a payload, after `nan:0x`
 abbrev pub payload_text : List ℕ → List ℕ
 payload_text w = joined (drop 6 (unsigned w))
 
--- a fraction's digits as they are written, none where there is no digit behind the dot or no dot; and then the rest
+-- a fraction's digits as they are written, none where there is no digit after the dot or no dot; and then the rest
 pub data Point : Bool → List ℕ → Option (List ℕ) → List ℕ → Type 0 where
   no_point : {hex : Bool} {r : List ℕ} → Point hex r None r
   bare : {hex : Bool} {r : List ℕ} → Point hex (dot ∷ r) None r
   filled : {hex : Bool} {t d r : List ℕ} → t ≡ d ++ r → Digits hex d [] → Point hex (dot ∷ t) (Some d) r
 
--- an exponent as it is written behind its letter, or none
+-- an exponent as it is written after its letter, or none
 pub data Power : Bool → List ℕ → Option (List ℕ) → Type 0 where
   no_power : {hex : Bool} → Power hex [] None
   present : {hex : Bool} {c : ℕ} {t : List ℕ} → IsTrue (is_exponent_letter hex c) → Digits false (unsigned t) [] → Power hex (c ∷ t) (Some t)
@@ -65,21 +65,21 @@ pub record FloatParts (hex : Bool) (word leading : List ℕ) (fraction exponent 
   pub point : Point hex tail fraction rest
   pub power : Power hex rest exponent
 
--- this text, written anew, or a part of the text that is read
+-- this text, rewritten, or a part of the text that is read
 abbrev pub IsText : {Z : Type 0} → Bool → List ℕ → CowStr Z → Type 0
 IsText true digits text = (cow_str_bytes text ≡ digits) × IsOwnedStr text
 IsText false digits text = (cow_str_bytes text ≡ digits) × IsBorrowedStr text
 
 abbrev pub IsOptionalText : {Z : Type 0} → Bool → Option (List ℕ) → Option (CowStr Z) → Type 0
-IsOptionalText anew None None = Unit {0}
-IsOptionalText anew (Some digits) (Some text) = IsText anew digits text
-IsOptionalText anew digits text = ⊥
+IsOptionalText again None None = Unit {0}
+IsOptionalText again (Some digits) (Some text) = IsText again digits text
+IsOptionalText again digits text = ⊥
 
--- whether reading an integer writes its digits anew, which have underscores or stand behind `0x`
+-- whether reading an integer rewrites its digits, which have underscores or come after `0x`
 abbrev pub is_integer_rewritten : IntegerKind → Bool
 is_integer_rewritten kind = kind.hex || kind.has_underscores
 
--- what callers see of an integer: its sign, its digits behind a `-` where it is negative, and their base
+-- what callers see of an integer: its sign, its digits after a `-` where it is negative, and their base
 abbrev pub integer_sign : Integer → Option SignToken
 integer_sign integer = integer.sign
 
@@ -89,7 +89,7 @@ integer_digits integer = cow_str_bytes integer.digits
 abbrev pub integer_base : Integer → ℕ
 integer_base integer = base integer.hex
 
--- Its digits are borrowed where it has neither underscores nor `0x`, and else written anew.
+-- Its digits are borrowed where it has neither underscores nor `0x`, and else rewritten.
 pub record IsIntegerOf (kind : IntegerKind) (word : List ℕ) (integer : Integer) : Type 0 where
   pub sign : integer.sign ≡ sign_token kind.sign
   pub digits : IsText (is_integer_rewritten kind) (number_text kind.hex word) integer.digits
@@ -100,7 +100,7 @@ pub record IsNumeralOf (kind : IntegerKind) (word : List ℕ) (integer : Integer
   pub numeral : IsNumeral (integer_base integer) (without_leading_sign (integer_digits integer))
   pub value : digits_value (integer_base integer) (without_leading_sign (integer_digits integer)) ≡ integer_value kind.hex word
 
--- Where the word has underscores each part is written anew, where it is hexadecimal the first digits are.
+-- Where the word has underscores each part is rewritten, where it is hexadecimal the first digits are.
 pub record IsDecimalsOf {Z : Type 0} (hex underscores : Bool) (word : List ℕ) (integral : CowStr Z) (fractional exponent : Option (CowStr Z)) : Type 0 where
   pub leading : List ℕ
   pub fraction : Option (List ℕ)
@@ -117,7 +117,7 @@ IsFloatOf (kind.NanVal n underscores) w (value.Nan (Some val) m) = IsText unders
 IsFloatOf (kind.Normal underscores hex) w (value.Val h integral fractional exponent) = (h ≡ hex) × IsDecimalsOf hex underscores w integral fractional exponent
 IsFloatOf kind w float = ⊥
 
--- whether reading a float writes a text anew
+-- whether reading a float rewrites a text
 abbrev pub is_float_rewritten : FloatKind → Bool
 is_float_rewritten (kind.Inf n) = false
 is_float_rewritten (kind.Nan n) = false

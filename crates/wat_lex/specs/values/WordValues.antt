@@ -12,8 +12,8 @@ use Rattle.wat_lex.specs.declared.lexer.faults.LexError.TheVariants.{InvalidUtf8
 use Rattle.wat_lex.specs.declared.lexer.kinds.TokenKind.{TokenKind}
 use Rattle.wat_lex.specs.declared.lexer.kinds.TokenKind.TheVariants.{Annotation}
 
--- where in a string's word a character stands: between elements, behind a backslash, behind it and one hexadecimal digit,
--- behind `\u`, or behind `\u{` and these digits and underscores, none at first
+-- where in a string's word a character is: between elements, after a backslash, after it and one hexadecimal digit,
+-- after `\u`, or after `\u{` and these digits and underscores, none at first
 pub data Within : Type 0 where
   Between : Within
   Escaped : Within
@@ -43,7 +43,7 @@ unfoldable pub named_bytes : List ℕ → List ℕ
 named_bytes [] = []
 named_bytes (c ∷ t) = if c == quote then elements_value Between t else encode_utf8_all (c ∷ t)
 
--- the bytes of the name behind a word's first character
+-- the bytes of the name after a word's first character
 unfoldable pub name_bytes : List ℕ → List ℕ
 name_bytes [] = []
 name_bytes (c ∷ t) = named_bytes t

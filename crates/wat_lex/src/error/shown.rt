@@ -23,7 +23,7 @@ pub struct Shown<'a> {
     /// The spaces that are still to come of a TAB before the characters.
     front: usize,
     chars: Chars<'a>,
-    /// The same of one behind them.
+    /// The same of one after them.
     back: usize,
 }
 
@@ -104,9 +104,9 @@ impl fmt::Display for Line<'_> {
 
     fn fmt<W: fmt::Write>(&self, f: &mut fmt::Formatter<W>) -> fmt::Result {
         let mut rest = self.0;
-        while let Some((shown, behind)) = split_shown(rest) {
+        while let Some((shown, after)) = split_shown(rest) {
             f.write_str(shown)?;
-            rest = behind;
+            rest = after;
         }
         Ok(())
     }

@@ -10,7 +10,7 @@ use crate::lexer::{block_at, first_confusing, is_confusing};
 use memchr::{memchr, memchr2};
 use std::simd::prelude::*;
 
-/// What is shown of the first characters of a line, and the line behind them; none where the line
+/// What is shown of the first characters of a line, and the line after them; none where the line
 /// is empty.
 pub fn split_shown(line: &str) -> Option<(&str, &str)>
     ensures { MatchOption result (shown_line line.now ≡ [])
@@ -22,7 +22,7 @@ pub fn split_shown(line: &str) -> Option<(&str, &str)>
         return Some(line.split_at(kept));
     }
     let c = line.chars().next()?;
-    let (own, behind) = line.split_at(c.len_utf8());
+    let (own, after) = line.split_at(c.len_utf8());
     let shown = if c == '\t' {
         "    "
     } else if is_confusing(c) {
@@ -30,10 +30,10 @@ pub fn split_shown(line: &str) -> Option<(&str, &str)>
     } else {
         own
     };
-    Some((shown, behind))
+    Some((shown, after))
 }
 
-/// How many bytes stand before the first TAB, or the first byte that may begin a confusing
+/// How many bytes come before the first TAB, or the first byte that may begin a confusing
 /// character.
 fn kept_len(line: &[u8]) -> usize
     ensures { result ≡ prefix_len is_kept line.now }

@@ -53,7 +53,7 @@ impl<'a> Excerpt<'a> {
     }
 }
 
-/// The line that the byte at an offset stands in, in this column; empty where it stands in none.
+/// The line that the byte at an offset is in, in this column; empty where it is in none.
 fn line_at(text: &str, offset: usize, column: usize) -> &str
     requires { column ≡ (line_and_column text.now offset).1 }
     ensures { let line = (line_and_column text.now offset).0 in

@@ -5,7 +5,7 @@ ghost use Rattle.wat_lex.specs.values.IntegerFacts.{kind_sign, kind_has_undersco
 ghost use Rattle.wat_lex.specs.values.KindNumbers.{kind_number};
 
 /// A single token of a text.
-// The largest field stands first, so that a token has 16 bytes.
+// The largest field is first, so that a token has 16 bytes.
 #[derive(Clone, Copy, Debug, PartialEq)]
 pub struct Token {
     /// Where the token begins, in bytes from the text's start.
@@ -90,14 +90,14 @@ impl IntegerKind {
         self.sign.token()
     }
 
-    /// Whether underscores stand between its digits.
+    /// Whether underscores are between its digits.
     pub fn has_underscores(self) -> bool
         ensures { result ≡ kind_has_underscores self }
     {
         self.has_underscores
     }
 
-    /// Whether its digits stand behind `0x`.
+    /// Whether its digits come after `0x`.
     pub fn hex(self) -> bool
         ensures { result ≡ kind_hex self }
     {
@@ -122,14 +122,14 @@ pub enum FloatKind {
     NanVal {
         /// Whether it begins with `-`.
         negative: bool,
-        /// Whether underscores stand between its digits.
+        /// Whether underscores are between its digits.
         has_underscores: bool,
     },
     /// Digits with a fraction, an exponent, or both.
     Normal {
-        /// Whether underscores stand between its digits.
+        /// Whether underscores are between its digits.
         has_underscores: bool,
-        /// Whether its digits stand behind `0x`.
+        /// Whether its digits come after `0x`.
         hex: bool,
     },
 }
@@ -171,7 +171,7 @@ pub struct Lexeme {
     pub len: usize,
 }
 
-/// What stands at the start of a text.
+/// What is at the start of a text.
 #[derive(Clone, Copy)]
 pub enum Found {
     Lexeme(Lexeme),
@@ -181,7 +181,7 @@ pub enum Found {
     Fault,
 }
 
-/// What a run at the start of a text is, told without the facts of a number.
+/// What a run at the start of a text is, known without the facts of a number.
 #[derive(Clone, Copy, PartialEq, Eq)]
 pub enum Shape {
     String,

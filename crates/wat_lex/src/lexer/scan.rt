@@ -1,4 +1,4 @@
-//! Scanning: what stands at the start of a text, by its first bytes.
+//! Scanning: what is at the start of a text, by its first bytes.
 ghost use Rattle.std.specs.Prelude.{◌≡◌, ◌<◌, ◌≤◌, ◌↔◌, ◌∷◌, [], true, false, length, slice_index};
 ghost use Rattle.std.specs.Prelude.{IfSome, IsTrue};
 ghost use Rattle.std.specs.List.{prefix_len};
@@ -102,7 +102,7 @@ fn number_by_byte(text: &[u8]) -> Option<Lexeme>
 }
 
 /// The token of so many idchars that no string follows. They are all that one block holds and some
-/// behind it, and may be a number.
+/// after it, and may be a number.
 #[inline(always)]
 fn long_number(text: &[u8], len: usize) -> Option<Lexeme>
     requires { len ≡ prefix_len is_idchar text.now }
@@ -158,7 +158,7 @@ fn word(text: &[u8], start: Start, stride: Stride) -> Option<Lexeme>
 
 /// What the outline of a run at the start tells of the text.
 #[inline(always)]
-fn told(text: &str, outline: Outline) -> Found
+fn known(text: &str, outline: Outline) -> Found
     requires { outline.len ≤ length text.now }
     ensures { (flags : Settings) → Outlined flags text.now outline → FoundIn flags text.now result }
 {
@@ -173,7 +173,7 @@ fn told(text: &str, outline: Outline) -> Found
     lexeme(kind, outline.len)
 }
 
-/// What stands at the start of a text that begins with an idchar or a string.
+/// What is at the start of a text that begins with an idchar or a string.
 // The settings are passed by reference, so that they are read only where they are needed.
 #[inline(always)]
 fn run_found(text: &str, start: Start, flags: &Settings, stride: Stride) -> Found
@@ -184,11 +184,11 @@ fn run_found(text: &str, start: Start, flags: &Settings, stride: Stride) -> Foun
 {
     match word(text.as_bytes(), start, stride) {
         Some(lexeme) => Found::Lexeme(lexeme),
-        None => told(text, run_outline(text, *flags)),
+        None => known(text, run_outline(text, *flags)),
     }
 }
 
-/// What stands at the start of a text that begins with `(`.
+/// What is at the start of a text that begins with `(`.
 #[inline(always)]
 fn opened(text: &str, flags: &Settings) -> Found
     requires some { 0 < length text.now }
@@ -204,7 +204,7 @@ fn opened(text: &str, flags: &Settings) -> Found
     }
 }
 
-/// What stands at the start of a text that begins with `;`.
+/// What is at the start of a text that begins with `;`.
 #[inline(always)]
 fn semicolon(text: &str, flags: &Settings) -> Found
     requires some { 0 < length text.now }
@@ -220,7 +220,7 @@ fn semicolon(text: &str, flags: &Settings) -> Found
     }
 }
 
-/// What stands at the start.
+/// What is at the start.
 #[inline(always)]
 pub fn first_found(text: &str, flags: &Settings, stride: Stride) -> Found
     ensures { FoundIn flags.now text.now result }

@@ -4,7 +4,7 @@
 #[derive(Clone, Copy, Debug, PartialEq, Eq)]
 pub struct Settings {
     /// Whether the nine characters that can make a text look other than it is
-    /// may stand in comments and strings.
+    /// may be in comments and strings.
     pub allow: bool,
     /// Whether an underscore directly after another is a fault inside `\u{..}`.
     pub strict: bool,

@@ -53,7 +53,7 @@ to_end : (s : Setting) (p to : ℕ) (ts : List Token) → Tiling s p to ts → t
 to_end s p to ts h e =
     sym (append-nil (joined s.text ts)) ∙ ap (λ x. joined s.text ts ++ x) (sym (ap (λ q. drop q s.text) e ∙ drop-length s.text)) ∙ up_to s p to ts h
 
--- what stands between the same bytes
+-- what is between the same bytes
 between : (b l w r h m : List ℕ) → b ++ (m ++ h) ≡ ((b ++ l) ++ w) ++ (r ++ h) → m ≡ l ++ (w ++ r)
 between b l w r h m e =
     let right : ((b ++ l) ++ w) ++ (r ++ h) ≡ b ++ ((l ++ (w ++ r)) ++ h) =
@@ -141,15 +141,15 @@ same_through s r q f g = record {
 -- the comments in the tokens that are spaced are one fewer
 fewer : (text other : List ℕ) (c : Token) (ts us : List Token) → is_comment c.kind ≡ true → Spaced text other c ts us → comments us < comments ts
 fewer text other c ts us e g =
-    let was : comments ts ≡ comments g.before + ((comments g.left + (one_if (is_comment c.kind) + comments g.right)) + comments g.behind) =
-    ap comments g.was ∙ comments_of g.before ((g.left ++ c ∷ g.right) ++ g.behind)
-    ∙ ap (λ n. comments g.before + n) (comments_of (g.left ++ c ∷ g.right) g.behind ∙ ap (λ n. n + comments g.behind) (comments_of g.left (c ∷ g.right))) in
-    let is : comments us ≡ comments g.before + (one_if (is_comment g.white.kind) + comments g.behind) = ap comments g.is ∙ comments_of g.before (g.white ∷ g.behind) in
+    let was : comments ts ≡ comments g.before + ((comments g.left + (one_if (is_comment c.kind) + comments g.right)) + comments g.after) =
+    ap comments g.was ∙ comments_of g.before ((g.left ++ c ∷ g.right) ++ g.after)
+    ∙ ap (λ n. comments g.before + n) (comments_of (g.left ++ c ∷ g.right) g.after ∙ ap (λ n. n + comments g.after) (comments_of g.left (c ∷ g.right))) in
+    let is : comments us ≡ comments g.before + (one_if (is_comment g.white.kind) + comments g.after) = ap comments g.is ∙ comments_of g.before (g.white ∷ g.after) in
     let one : one_if (is_comment c.kind) ≡ 1 = ap one_if e in
     let none : one_if (is_comment g.white.kind) ≡ 0 = ap (λ k. one_if (is_comment k)) g.kind in
     omega (arith, was, is, one, none)
 
--- what stands in place of a comment
+-- what is in place of a comment
 abbrev blanks_of : List ℕ → Token → List ℕ
 blanks_of text c = map blank_byte (token_text text c)
 
@@ -166,52 +166,52 @@ module _ (s : Setting) (c : Token) (white : List ℕ) (ts us : List Token) (comm
   other = overwritten s.text c white
 
   -- the text with the comment blanked, as the tokens of the text
-  pieces : other ≡ ((joined s.text g.before ++ joined s.text g.left) ++ white) ++ (joined s.text g.right ++ joined s.text g.behind)
+  pieces : other ≡ ((joined s.text g.before ++ joined s.text g.left) ++ white) ++ (joined s.text g.right ++ joined s.text g.after)
   pieces =
-      let k = cut s 0 was.to g.before ((g.left ++ c ∷ g.right) ++ g.behind) (subst (Tiling s 0 was.to) g.was was.tiling) in
-      let l = cut s k.0 was.to g.left (c ∷ g.right ++ g.behind) (subst (Tiling s k.0 was.to) (append_assoc g.left (c ∷ g.right) g.behind) k.2) in
+      let k = cut s 0 was.to g.before ((g.left ++ c ∷ g.right) ++ g.after) (subst (Tiling s 0 was.to) g.was was.tiling) in
+      let l = cut s k.0 was.to g.left (c ∷ g.right ++ g.after) (subst (Tiling s k.0 was.to) (append_assoc g.left (c ∷ g.right) g.after) k.2) in
       let front : joined s.text g.before ++ (joined s.text g.left ++ drop l.0 s.text) ≡ s.text = ap (λ x. joined s.text g.before ++ x) (up_to s k.0 l.0 g.left l.1) ∙ up_to s 0 k.0 g.before k.1 in
       let at : take c.offset s.text ++ drop l.0 s.text ≡ s.text = ap (λ q. take c.offset s.text ++ drop q s.text) (sym l.2.0.offset) ∙ take-append-drop c.offset s.text in
       let first : take c.offset s.text ≡ joined s.text g.before ++ joined s.text g.left =
       append_cancel_right (take c.offset s.text) (joined s.text g.before ++ joined s.text g.left) (drop l.0 s.text) (at ∙ sym (append_assoc (joined s.text g.before) (joined s.text g.left) (drop l.0 s.text) ∙ front)) in
-      let last : drop (c.offset + c.len) s.text ≡ joined s.text g.right ++ joined s.text g.behind =
-      sym (to_end s (c.offset + c.len) was.to (g.right ++ g.behind) l.2.1 was.ends) ∙ flat_map-append (token_text s.text) g.right g.behind in
+      let last : drop (c.offset + c.len) s.text ≡ joined s.text g.right ++ joined s.text g.after =
+      sym (to_end s (c.offset + c.len) was.to (g.right ++ g.after) l.2.1 was.ends) ∙ flat_map-append (token_text s.text) g.right g.after in
       ap (λ x. (x ++ white) ++ drop (c.offset + c.len) s.text) first ∙ ap (λ x. ((joined s.text g.before ++ joined s.text g.left) ++ white) ++ x) last
 
   before_is : joined other g.before ≡ joined s.text g.before
   before_is = same_joined s.text other g.before (recursion_from_All (SameText s.text other) g.before g.texts_before)
 
-  behind_is : joined other g.behind ≡ joined s.text g.behind
-  behind_is = same_joined s.text other g.behind (recursion_from_All (SameText s.text other) g.behind g.texts_behind)
+  after_is : joined other g.after ≡ joined s.text g.after
+  after_is = same_joined s.text other g.after (recursion_from_All (SameText s.text other) g.after g.texts_after)
 
   -- what the white space token has
   middle : token_text other g.white ≡ joined s.text g.left ++ (white ++ joined s.text g.right)
   middle =
       let all : joined other us ≡ other = to_end (with_text s other) 0 now.to us now.tiling now.ends in
-      let cut : joined other us ≡ joined s.text g.before ++ (token_text other g.white ++ joined s.text g.behind) =
-      ap (joined other) g.is ∙ flat_map-append (token_text other) g.before (g.white ∷ g.behind)
-      ∙ ap (λ x. x ++ (token_text other g.white ++ joined other g.behind)) before_is
-      ∙ ap (λ x. joined s.text g.before ++ (token_text other g.white ++ x)) behind_is in
-      between (joined s.text g.before) (joined s.text g.left) white (joined s.text g.right) (joined s.text g.behind) (token_text other g.white) (sym cut ∙ all ∙ pieces)
+      let cut : joined other us ≡ joined s.text g.before ++ (token_text other g.white ++ joined s.text g.after) =
+      ap (joined other) g.is ∙ flat_map-append (token_text other) g.before (g.white ∷ g.after)
+      ∙ ap (λ x. x ++ (token_text other g.white ++ joined other g.after)) before_is
+      ∙ ap (λ x. joined s.text g.before ++ (token_text other g.white ++ x)) after_is in
+      between (joined s.text g.before) (joined s.text g.left) white (joined s.text g.right) (joined s.text g.after) (token_text other g.white) (sym cut ∙ all ∙ pieces)
 
   pub same_bytes : blank_texts other us ≡ blank_texts s.text ts
   same_bytes =
       let before = same_blank s.text other g.before (recursion_from_All (SameText s.text other) g.before g.texts_before) in
-      let behind = same_blank s.text other g.behind (recursion_from_All (SameText s.text other) g.behind g.texts_behind) in
-      let now_is : blank_texts other us ≡ blank_texts s.text g.before ++ (token_text other g.white ++ blank_texts s.text g.behind) =
-      ap (blank_texts other) g.is ∙ flat_map-append (blank_text other) g.before (g.white ∷ g.behind)
-      ∙ ap (λ x. x ++ (blank_text other g.white ++ blank_texts other g.behind)) before
-      ∙ ap (λ x. blank_texts s.text g.before ++ (blank_text other g.white ++ x)) behind
-      ∙ ap (λ x. blank_texts s.text g.before ++ (x ++ blank_texts s.text g.behind)) (other_text other g.white (ap is_comment g.kind)) in
+      let after = same_blank s.text other g.after (recursion_from_All (SameText s.text other) g.after g.texts_after) in
+      let now_is : blank_texts other us ≡ blank_texts s.text g.before ++ (token_text other g.white ++ blank_texts s.text g.after) =
+      ap (blank_texts other) g.is ∙ flat_map-append (blank_text other) g.before (g.white ∷ g.after)
+      ∙ ap (λ x. x ++ (blank_text other g.white ++ blank_texts other g.after)) before
+      ∙ ap (λ x. blank_texts s.text g.before ++ (blank_text other g.white ++ x)) after
+      ∙ ap (λ x. blank_texts s.text g.before ++ (x ++ blank_texts s.text g.after)) (other_text other g.white (ap is_comment g.kind)) in
       let group : blank_texts s.text (g.left ++ c ∷ g.right) ≡ joined s.text g.left ++ (white ++ joined s.text g.right) =
       flat_map-append (blank_text s.text) g.left (c ∷ g.right)
       ∙ ap (λ x. x ++ (blank_text s.text c ++ blank_texts s.text g.right)) (space_joined s.text g.left g.beside_left)
       ∙ ap (λ x. joined s.text g.left ++ (blank_text s.text c ++ x)) (space_joined s.text g.right g.beside_right)
       ∙ ap (λ x. joined s.text g.left ++ (x ++ joined s.text g.right)) (comment_text s.text c comment ∙ sym is_white) in
-      let was_is : blank_texts s.text ts ≡ blank_texts s.text g.before ++ ((joined s.text g.left ++ (white ++ joined s.text g.right)) ++ blank_texts s.text g.behind) =
-      ap (blank_texts s.text) g.was ∙ flat_map-append (blank_text s.text) g.before ((g.left ++ c ∷ g.right) ++ g.behind)
-      ∙ ap (λ x. blank_texts s.text g.before ++ x) (flat_map-append (blank_text s.text) (g.left ++ c ∷ g.right) g.behind ∙ ap (λ x. x ++ blank_texts s.text g.behind) group) in
-      now_is ∙ ap (λ x. blank_texts s.text g.before ++ (x ++ blank_texts s.text g.behind)) middle ∙ sym was_is
+      let was_is : blank_texts s.text ts ≡ blank_texts s.text g.before ++ ((joined s.text g.left ++ (white ++ joined s.text g.right)) ++ blank_texts s.text g.after) =
+      ap (blank_texts s.text) g.was ∙ flat_map-append (blank_text s.text) g.before ((g.left ++ c ∷ g.right) ++ g.after)
+      ∙ ap (λ x. blank_texts s.text g.before ++ x) (flat_map-append (blank_text s.text) (g.left ++ c ∷ g.right) g.after ∙ ap (λ x. x ++ blank_texts s.text g.after) group) in
+      now_is ∙ ap (λ x. blank_texts s.text g.before ++ (x ++ blank_texts s.text g.after)) middle ∙ sym was_is
 
 -- what is proved comment by comment
 record Blanked (s : Setting) (other : List ℕ) : Type 0 where

@@ -24,8 +24,8 @@ use Rattle.wat_lexer_parser.specs.laws.Blanking.{TextShows, ShowTheSame, Blankin
 use Rattle.wat_lexer_parser.specs.laws.ShownLaws.{SomethingIsAllShown, AllShownIsOne}
 use Rattle.wat_lexer_parser.specs.shown.Showing.{SomethingShown, OneThingShown}
 use Rattle.wat_lexer_parser.proofs.calls.AllShownBlanked.{SameText, all_twins}
-use Rattle.wat_lexer_parser.proofs.shown.BlankedMarks.{mark_before, mark_behind, annotation_some}
-use Rattle.wat_lexer_parser.proofs.shown.BlankedShown.{AreBlank, SameBefore, SameBehind, Twins, spaced}
+use Rattle.wat_lexer_parser.proofs.shown.BlankedMarks.{mark_before, mark_after, annotation_some}
+use Rattle.wat_lexer_parser.proofs.shown.BlankedShown.{AreBlank, SameBefore, SameAfter, Twins, spaced}
 use Rattle.wat_lexer_parser.proofs.shown.Marks.{paren_len}
 
 -- what is known of the lexer and of what is shown
@@ -54,7 +54,7 @@ blank_append [] us h g = g
 blank_append (t ∷ ts) us h g = (h.0, blank_append ts us h.1 g)
 
 module _ (boundary : TokensEndAtBoundaries) (s : Setting) (utf8 : IsUtf8 s.text) where
-  -- the tokens behind the first ones
+  -- the tokens after the first ones
   record Past (p to : ℕ) (r : List Token) : Type 0 where
     at : ℕ
     forward : p ≤ at
@@ -68,8 +68,8 @@ module _ (boundary : TokensEndAtBoundaries) (s : Setting) (utf8 : IsUtf8 s.text)
       let o = h.0.offset in
       record { at = g.at; forward = let f = g.forward in omega (arith, o, f); whole = g.whole; tiling = g.tiling }
 
-  module _ (c : Token) (white : List ℕ) (blanks : AreBlanksOf c white) (left right behind : List Token) where
-    -- where the comment stands, and what stands behind the white space behind it
+  module _ (c : Token) (white : List ℕ) (blanks : AreBlanksOf c white) (left right after : List Token) where
+    -- where the comment is, and what comes after the white space after it
     pub record Parts (p to : ℕ) : Type 0 where
       reached : p ≤ c.offset
       pub first : IsCharBoundary s.text c.offset
@@ -77,20 +77,20 @@ module _ (boundary : TokensEndAtBoundaries) (s : Setting) (utf8 : IsUtf8 s.text)
       fits : c.offset + c.len ≤ length s.text
       last : ℕ
       beyond : c.offset + c.len ≤ last
-      tiling : Tiling s last to behind
+      tiling : Tiling s last to after
 
-    parts : (p to : ℕ) (b : List Token) → IsCharBoundary s.text p → Tiling s p to (b ++ ((left ++ c ∷ right) ++ behind)) → Parts p to
+    parts : (p to : ℕ) (b : List Token) → IsCharBoundary s.text p → Tiling s p to (b ++ ((left ++ c ∷ right) ++ after)) → Parts p to
     parts p to b at h =
-        let g = past p to b ((left ++ c ∷ right) ++ behind) at h in
-        let k = past g.at to left (c ∷ right ++ behind) g.whole (subst (Tiling s g.at to) (append_assoc left (c ∷ right) behind) g.tiling) in
+        let g = past p to b ((left ++ c ∷ right) ++ after) at h in
+        let k = past g.at to left (c ∷ right ++ after) g.whole (subst (Tiling s g.at to) (append_assoc left (c ∷ right) after) g.tiling) in
         let o = k.tiling.0.offset in
         let end = boundary s k.at c utf8 k.whole k.tiling.0 in
-        let l = past (c.offset + c.len) to right behind end k.tiling.1 in
+        let l = past (c.offset + c.len) to right after end k.tiling.1 in
         let f = g.forward in
         let e = k.forward in
         record { reached = omega (arith, o, f, e); first = subst (IsCharBoundary s.text) (sym o) k.whole; end = end; fits = end.0; last = l.at; beyond = l.forward; tiling = l.tiling }
 
-    same_before : (p to : ℕ) (b : List Token) → IsCharBoundary s.text p → Tiling s p to (b ++ ((left ++ c ∷ right) ++ behind)) → AllByRecursion (SameText s.text (overwritten s.text c white)) b → SameBefore s.text (overwritten s.text c white) b
+    same_before : (p to : ℕ) (b : List Token) → IsCharBoundary s.text p → Tiling s p to (b ++ ((left ++ c ∷ right) ++ after)) → AllByRecursion (SameText s.text (overwritten s.text c white)) b → SameBefore s.text (overwritten s.text c white) b
     same_before p to [] at h g = tt
     same_before p to (t ∷ []) at h g = (g.0, tt)
     same_before p to (t ∷ u ∷ b) at h g =
@@ -104,11 +104,11 @@ module _ (boundary : TokensEndAtBoundaries) (s : Setting) (utf8 : IsUtf8 s.text)
         mark_before s.text c white k.fits blanks t (omega (arith, one, some, o, r)) in
         (g.0, mark, same_before (t.offset + t.len) to (u ∷ b) next h.1 g.1)
 
-  same_behind : (c : Token) (white : List ℕ) (p to : ℕ) (ts : List Token) → AreBlanksOf c white → c.offset + c.len ≤ length s.text → c.offset + c.len ≤ p → Tiling s p to ts → AllByRecursion (SameText s.text (overwritten s.text c white)) ts → SameBehind s.text (overwritten s.text c white) ts
-  same_behind c white p to [] blanks fits l h g = tt
-  same_behind c white p to (t ∷ ts) blanks fits l h g =
+  same_after : (c : Token) (white : List ℕ) (p to : ℕ) (ts : List Token) → AreBlanksOf c white → c.offset + c.len ≤ length s.text → c.offset + c.len ≤ p → Tiling s p to ts → AllByRecursion (SameText s.text (overwritten s.text c white)) ts → SameAfter s.text (overwritten s.text c white) ts
+  same_after c white p to [] blanks fits l h g = tt
+  same_after c white p to (t ∷ ts) blanks fits l h g =
       let o = h.0.offset in
-      (g.0, mark_behind s.text c white fits blanks t (omega (arith, o, l)), same_behind c white (t.offset + t.len) to ts blanks fits (omega (arith, o, l)) h.1 g.1)
+      (g.0, mark_after s.text c white fits blanks t (omega (arith, o, l)), same_after c white (t.offset + t.len) to ts blanks fits (omega (arith, o, l)) h.1 g.1)
 
 -- the first of the white space and the comment, and the others
 first_blank : (left : List Token) (c : Token) (right : List Token) → (v : Token) × (a : List Token) × (left ++ c ∷ right ≡ v ∷ a)
@@ -132,16 +132,16 @@ module _ (laws : Laws) (s : Setting) (utf8 : IsUtf8 s.text) (c : Token) (white :
       let a = f.1 in
       let source : Source = record { setting = with_text s (overwritten s.text c white); track = false; tokens = us; ending = raw.ending } in
       let tiling = subst (Tiling s 0 to) g.was raw.tiling.tiling in
-      let k = parts laws.boundary s utf8 c white blanks g.left g.right g.behind 0 to g.before start tiling in
-      let before = same_before laws.boundary s utf8 c white blanks g.left g.right g.behind 0 to g.before start tiling (recursion_from_All (SameText s.text (overwritten s.text c white)) g.before g.texts_before) in
-      let behind = same_behind laws.boundary s utf8 c white k.last to g.behind blanks k.fits k.beyond k.tiling (recursion_from_All (SameText s.text (overwritten s.text c white)) g.behind g.texts_behind) in
+      let k = parts laws.boundary s utf8 c white blanks g.left g.right g.after 0 to g.before start tiling in
+      let before = same_before laws.boundary s utf8 c white blanks g.left g.right g.after 0 to g.before start tiling (recursion_from_All (SameText s.text (overwritten s.text c white)) g.before g.texts_before) in
+      let after = same_after laws.boundary s utf8 c white k.last to g.after blanks k.fits k.beyond k.tiling (recursion_from_All (SameText s.text (overwritten s.text c white)) g.after g.texts_after) in
       let blank : AreBlank (v ∷ a) = subst AreBlank f.2 (blank_append g.left (c ∷ g.right) (space_blank g.left g.beside_left) (comment_blank c.kind raw.kind, space_blank g.right g.beside_right)) in
       let alone : AreBlank (g.white ∷ []) = (ap is_blank g.kind, tt) in
-      let was : raw.tokens ≡ g.before ++ (v ∷ a ++ g.behind) = g.was ∙ ap (λ y. g.before ++ (y ++ g.behind)) f.2 in
-      let twins : Twins s.text (overwritten s.text c white) raw.ending n v g.white a [] g.behind raw.tokens us =
-      subst (λ y. Twins s.text (overwritten s.text c white) raw.ending n v g.white a [] g.behind y us) (sym was)
-      (subst (Twins s.text (overwritten s.text c white) raw.ending n v g.white a [] g.behind (g.before ++ (v ∷ a ++ g.behind))) (sym g.is) (spaced g.before before)) in
-      all_twins laws.some laws.one s.text source n blanked_utf8 m v g.white a [] g.behind blank alone behind raw.tokens vs last 0 twins h
+      let was : raw.tokens ≡ g.before ++ (v ∷ a ++ g.after) = g.was ∙ ap (λ y. g.before ++ (y ++ g.after)) f.2 in
+      let twins : Twins s.text (overwritten s.text c white) raw.ending n v g.white a [] g.after raw.tokens us =
+      subst (λ y. Twins s.text (overwritten s.text c white) raw.ending n v g.white a [] g.after y us) (sym was)
+      (subst (Twins s.text (overwritten s.text c white) raw.ending n v g.white a [] g.after (g.before ++ (v ∷ a ++ g.after))) (sym g.is) (spaced g.before before)) in
+      all_twins laws.some laws.one s.text source n blanked_utf8 m v g.white a [] g.after blank alone after raw.tokens vs last 0 twins h
 
   -- what the text shows is what is shown of its raw tokens
   raw_shows : (n : Names) (vs : List Token) (last : Option Fault) → TextShows s n vs last → AllShown s.text raw.ending n raw.tokens vs last
@@ -191,5 +191,5 @@ comment_bounds boundary tokens s c utf8 raw =
     let white = replicate c.len space in
     let blanks = spaces_are_blanks c in
     let g = (tokens s 0 c white utf8 start blanks raw).2 in
-    let k = parts boundary s utf8 c white blanks g.left g.right g.behind 0 raw.tiling.to g.before start (subst (Tiling s 0 raw.tiling.to) g.was raw.tiling.tiling) in
+    let k = parts boundary s utf8 c white blanks g.left g.right g.after 0 raw.tiling.to g.before start (subst (Tiling s 0 raw.tiling.to) g.was raw.tiling.tiling) in
     (k.first, k.end)

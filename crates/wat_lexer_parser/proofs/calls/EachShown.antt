@@ -11,7 +11,7 @@ use Rattle.wat_lexer_parser.specs.laws.AllShown.{AllShown, end, fault, next}
 use Rattle.wat_lexer_parser.specs.shown.Shown.{Finding, Shown}
 use Rattle.wat_lexer_parser.specs.inside.ShownIn.{Showing, shown_in}
 use Rattle.wat_lexer_parser.specs.shown.Showing.{SomethingShown, OneThingShown}
-use Rattle.wat_lexer_parser.specs.lemmas.Behind.{BehindPlace, behind_in, behind_place, same_token}
+use Rattle.wat_lexer_parser.specs.lemmas.After.{AfterPlace, after_in, after_place, same_token}
 
 same_shown : OneThingShown → (x : List ℕ) (z : Option LexFault) (n : Names) (ts : List Token) (a b : Finding) → Shown x z n ts a → Shown x z n ts b → a ≡ b
 same_shown one x z n ts a b h k = one x z n ts a h ∙ sym (one x z n ts b k)
@@ -39,7 +39,7 @@ AllFrom s n p = (us : List Token) × (f : Option Fault) × AllShown s.setting.te
 pub shows_at : SomethingShown → (s : Source) (n : Names) (p : ℕ) (a : Finding) → IsUtf8 s.setting.text → IsRead s → shown_in s.setting.text s.ending n Showing (drop p s.tokens) ≡ a → Shown s.setting.text s.ending n (drop p s.tokens) a
 shows_at some s n p a u h e = subst (Shown s.setting.text s.ending n (drop p s.tokens)) e (some s n p u h)
 
-token_then : (s : Source) (n : Names) (p : ℕ) (t : Token) (r : List Token) → Shown s.setting.text s.ending n (drop p s.tokens) (Ok (Some (t, r))) → BehindPlace t s.tokens p r
+token_then : (s : Source) (n : Names) (p : ℕ) (t : Token) (r : List Token) → Shown s.setting.text s.ending n (drop p s.tokens) (Ok (Some (t, r))) → AfterPlace t s.tokens p r
     → AllFrom s n (length s.tokens - length r) → AllFrom s n p
 token_then s n p t r h b m = (t ∷ m.0, m.1, next h (subst (λ y. AllShown s.setting.text s.ending n y m.0 m.1) (sym b.tail) m.2))
 
@@ -49,7 +49,7 @@ place_by some s n p u h below (Ok None) e = ([], None, end (shows_at some s n p 
 place_by some s n p u h below (Err f) e = ([], Some f, fault (shows_at some s n p (Err f) u h e))
 place_by some s n p u h below (Ok (Some (t, r))) e =
     let q = length s.tokens - length r in
-    let b = behind_place t s.tokens p r (behind_in s.setting.text s.ending n Showing (drop p s.tokens) t r e) in
+    let b = after_place t s.tokens p r (after_in s.setting.text s.ending n Showing (drop p s.tokens) t r e) in
     let k : length (drop q s.tokens) < length (drop p s.tokens) = omega (arith, b.forward, b.inside, length-drop p s.tokens, length-drop q s.tokens) in
     token_then s n p t r (shows_at some s n p (Ok (Some (t, r))) u h e) b (below q k)
 

@@ -31,14 +31,14 @@ comment_still (Err f) p e = refl
 abbrev pub StaysRefused : ℕ → Reply × ℕ → Type 0
 StaysRefused p a = is_done a.0 ≡ false → a.1 ≡ p
 
-paren_still : (is_it : TokenKind → Bool) (p : ℕ) (refusal : Reply) (behind : ℕ → Reply × ℕ) → ((q : ℕ) → StaysRefused p (behind q)) → (a : Look) → StaysRefused p (paren_reply is_it p refusal behind a)
-paren_still is_it p refusal behind h (Ok None) = λ e. refl
-paren_still is_it p refusal behind h (Ok (Some (t, q))) = by_kind (is_it t.kind)
+paren_still : (is_it : TokenKind → Bool) (p : ℕ) (refusal : Reply) (after : ℕ → Reply × ℕ) → ((q : ℕ) → StaysRefused p (after q)) → (a : Look) → StaysRefused p (paren_reply is_it p refusal after a)
+paren_still is_it p refusal after h (Ok None) = λ e. refl
+paren_still is_it p refusal after h (Ok (Some (t, q))) = by_kind (is_it t.kind)
   where
-    by_kind : (b : Bool) → StaysRefused p (if b then behind q else (refusal, p))
+    by_kind : (b : Bool) → StaysRefused p (if b then after q else (refusal, p))
     by_kind true = h q
     by_kind false = λ e. refl
-paren_still is_it p refusal behind h (Err f) = λ e. refl
+paren_still is_it p refusal after h (Err f) = λ e. refl
 
 done : (p q : ℕ) → StaysRefused p (reply.Done, q)
 done p q e = cc

@@ -10,7 +10,7 @@ use Rattle.wat_lexer_parser.specs.laws.AllShown.{AllShown, end, fault, next}
 use Rattle.wat_lexer_parser.specs.shown.Showing.{shown, SomethingShown}
 use Rattle.wat_lexer_parser.specs.inside.ShownIn.{Showing, shown_in}
 use Rattle.wat_lexer_parser.specs.laws.ShownLaws.{LooksAreAllShown}
-use Rattle.wat_lexer_parser.specs.lemmas.Behind.{behind_in, behind_place, from_none, from_fault, from_token}
+use Rattle.wat_lexer_parser.specs.lemmas.After.{after_in, after_place, from_none, from_fault, from_token}
 use Rattle.wat_lexer_parser.proofs.calls.EachShown.{shows_at}
 
 token_first : SomethingShown → (s : Source) (n : Names) (p q : ℕ) (t : Token) (us : List Token) (f : Option Fault) → IsUtf8 s.setting.text → IsRead s → shown s p n ≡ Ok (Some (t, q))
@@ -18,7 +18,7 @@ token_first : SomethingShown → (s : Source) (n : Names) (p q : ℕ) (t : Token
 unfolding shown
 token_first some s n p q t us f u h e g =
     let k = from_token s.tokens (shown_in s.setting.text s.ending n Showing (drop p s.tokens)) t q e in
-    let b = behind_place t s.tokens p k.0 (behind_in s.setting.text s.ending n Showing (drop p s.tokens) t k.0 k.1) in
+    let b = after_place t s.tokens p k.0 (after_in s.setting.text s.ending n Showing (drop p s.tokens) t k.0 k.1) in
     let r : k.0 ≡ drop q s.tokens = b.tail ∙ ap (λ y. drop y s.tokens) k.2 in
     next (shows_at some s n p (Ok (Some (t, k.0))) u h k.1) (subst (λ y. AllShown s.setting.text s.ending n y us f) (sym r) g)
 

@@ -1,4 +1,4 @@
--- Annotations directly behind a parenthesis, noted a token at a time.
+-- Annotations directly after a parenthesis, noted a token at a time.
 use Rattle.std.proofs.Common.{◌≡◌, ◌⊎◌, ◌<◌, ◌≤◌, ◌+◌, ◌-◌, ◌*◌, ◌^◌, ◌++◌, ℕ, zero, suc, Bool, true, false, List, [], ◌∷◌, length, refl, sym, ap, ◌∙◌, subst, arith, inl, inr, get_or, Some, None}
 use Rattle.std.specs.Prelude.{Option, slice_get, ◌&&◌}
 use Rattle.std.proofs.lemmas.Bool.{cases_lt}
@@ -20,7 +20,7 @@ pub slice_pushed : {A : Type 0} (ts : List A) (u : A) → slice_get (ts ++ u ∷
 slice_pushed [] u = refl
 slice_pushed (a ∷ ts) u = slice_pushed ts u
 
--- what stands in a list with one more
+-- what is in a list with one more
 pub slice_back : {A : Type 0} (ts : List A) (u : A) (i : ℕ) (t : A) → slice_get (ts ++ u ∷ []) i ≡ Some t → (slice_get ts i ≡ Some t) ⊎ ((i ≡ length ts) × (u ≡ t))
 slice_back [] u zero t e = inr (refl, cc)
 slice_back [] u (suc i) t e = cc
@@ -36,7 +36,7 @@ open_is k e = ap is_open e
 annotation_is : (k : TokenKind) → k ≡ Annotation → is_annotation k ≡ true
 annotation_is k e = ap is_annotation e
 
--- such a token is a head, with the one that stands before it
+-- such a token is a head, with the one that comes before it
 pub head_is : (ts : List Token) (t u : Token) → slice_get ts (length ts - 1) ≡ Some t → t.kind ≡ LParen → u.kind ≡ Annotation → is_head (slice_get ts (length ts - 1)) u ≡ true
 head_is ts t u e o a = ap (λ x. is_head x u) e ∙ both (is_open t.kind) (is_annotation u.kind) (open_is t.kind o) (annotation_is u.kind a)
   where
@@ -107,7 +107,7 @@ head_kept text ts u i x h = record {
   name = h.name;
 }
 
--- a head stands before the last token
+-- a head comes before the last token
 pub head_below : (text : List ℕ) (ts : List Token) (i : ℕ) (x : Option NameOrFault) → HeadAt text ts i x → i + 1 < length ts
 head_below text ts i x h = slice_get_within ts (i + 1) h.word h.next
 

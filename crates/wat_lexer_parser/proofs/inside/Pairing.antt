@@ -56,7 +56,7 @@ pub record Walked (ts : List Token) (i : ℕ) (ks opens : List ℕ) (ps : List (
   pub fresh : (g : ℕ) → g < length opens → i ≤ get_or opens g 0 → get_or ps g None ≡ None
   pub passed : (g : ℕ) → g < length opens → get_or opens g 0 < i → Passed ts ks (get_or opens g 0) (get_or ps g None)
 
--- a token stands at a place
+-- a token is at a place
 pub record At (ts : List Token) (i : ℕ) (t : Token) : Type 0 where
   pub within : i < length ts
   pub is : t ≡ get_or ts i t
@@ -64,7 +64,7 @@ pub record At (ts : List Token) (i : ℕ) (t : Token) : Type 0 where
 cut : (ts : List Token) (i : ℕ) (t : Token) → At ts i t → drop i ts ≡ t ∷ drop (i + 1) ts
 cut ts i t a = drop_more ts i t a.within ∙ ap (λ x. x ∷ drop (i + 1) ts) (sym a.is)
 
--- where one of the parentheses stands, the token opens
+-- where one of the parentheses is, the token opens
 pub opens_at : (ts : List Token) (opens : List ℕ) (i g : ℕ) (t : Token) → Opening ts opens → At ts i t → g < length opens → get_or opens g 0 ≡ i → t.kind ≡ LParen
 opens_at ts opens i g t o a l e =
     let h = o g l in

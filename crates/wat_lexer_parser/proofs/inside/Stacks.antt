@@ -53,17 +53,17 @@ closes_one : (opens : List ℕ) (ps : List (Option ℕ)) (k i : ℕ) (m : Option
 closes_one opens ps k i None f = inl (f, refl)
 closes_one opens ps k i (Some g) f = inr (g, f.0, f.1, refl)
 
--- behind a token that opens no group
+-- after a token that opens no group
 counted_on : (ts : List Token) (opens : List ℕ) (n i : ℕ) (t : Token) → Opening ts opens → At ts i t → (t.kind ≡ LParen → ⊥) → Counted opens n i → Counted opens n (i + 1)
 counted_on ts opens n i t o a e c = record {
   before = λ g l h. omega (arith, c.before g l h);
-  behind = λ g l h. elim (cases_lt i (get_or opens g 0)) [
+  after = λ g l h. elim (cases_lt i (get_or opens g 0)) [
     | inl k ↦ omega arith
-    | inr k ↦ absurd (e (opens_at ts opens i g t o a l (omega (arith, c.behind g l h))))
+    | inr k ↦ absurd (e (opens_at ts opens i g t o a l (omega (arith, c.after g l h))))
   ];
 }
 
--- behind a parenthesis that closes
+-- after a parenthesis that closes
 pub counted_close : (ts : List Token) (opens : List ℕ) (n i : ℕ) (t : Token) → Opening ts opens → At ts i t → t.kind ≡ RParen → Counted opens n i → Counted opens n (i + 1)
 counted_close ts opens n i t o a e c = counted_on ts opens n i t o a (λ x. let f : RParen ≡ LParen = sym e ∙ x in cc) c
 
@@ -133,10 +133,10 @@ on_gap ts i j n ms opens ps z h f c w = record {
   counted = c;
 }
 
--- behind a group that was closed, whether or not another is open
-pub on_behind : (ts : List Token) (i j n : ℕ) (outermost : Bool) (ms : List (Option ℕ)) (opens : List ℕ) (ps : List (Option ℕ)) → (outermost ≡ true → length ms ≡ 0) → (outermost ≡ false → j ≡ i) → i ≤ j → FirstFrom opens i j → Counted opens n j → Walking ts i n ms opens ps → Walking ts j n ms opens ps
-on_behind ts i j n true ms opens ps z s h f c w = on_gap ts i j n ms opens ps (z refl) h f c w
-on_behind ts i j n false ms opens ps z s h f c w = subst (λ x. Walking ts x n ms opens ps) (sym (s refl)) w
+-- after a group that was closed, whether or not another is open
+pub on_after : (ts : List Token) (i j n : ℕ) (outermost : Bool) (ms : List (Option ℕ)) (opens : List ℕ) (ps : List (Option ℕ)) → (outermost ≡ true → length ms ≡ 0) → (outermost ≡ false → j ≡ i) → i ≤ j → FirstFrom opens i j → Counted opens n j → Walking ts i n ms opens ps → Walking ts j n ms opens ps
+on_after ts i j n true ms opens ps z s h f c w = on_gap ts i j n ms opens ps (z refl) h f c w
+on_after ts i j n false ms opens ps z s h f c w = subst (λ x. Walking ts x n ms opens ps) (sym (s refl)) w
 
 pub end : (ts : List Token) (i n : ℕ) (ms : List (Option ℕ)) (opens : List ℕ) (ps : List (Option ℕ)) → Opening ts opens → length ts ≤ i → Walking ts i n ms opens ps → Paired ts opens ps
 end ts i n ms opens ps o h w = walk_end ts i w.ks opens ps o h w.walked

@@ -1,4 +1,4 @@
--- Words in which no escape stands.
+-- Words without an escape.
 use Rattle.std.proofs.Common.{◌≡◌, ℕ, Bool, true, false, List, [], ◌∷◌, inl, inr, Err, Ok, Some, None, refl, subst, ap, ◌∙◌, sym}
 use Rattle.std.specs.Cow.{IsBorrowedStr}
 use Rattle.std.specs.declared.borrow.CowStr.{CowStr}
@@ -34,7 +34,7 @@ no_escape w e = elim (cases_Bool (contains quote w)) [
   | inr h ↦ inl (has_none quote w h)
 ]
 
--- what succeeds where no escape stands may only be refused where one may
+-- what succeeds without an escape may only be refused where there may be one
 pub escapes : (w : List ℕ) → (HasNoEscape w → ⊥) → (contains quote w && contains backslash w) ≡ true
 escapes w h = elim (cases_Bool (contains quote w && contains backslash w)) [
   | inl e ↦ e
@@ -69,7 +69,7 @@ not_escaped w h = elim h [
   | inr k ↦ ap (λ b. contains quote w && b) (none_in (λ d. d == backslash) w k) ∙ no_backslash (contains quote w)
 ]
 
--- a name that is borrowed where no escape stands is owned where one does
+-- a name that is borrowed where it has no escape is owned where it has one
 pub owned_where_escaped : {Z : Type 0} (name : CowStr Z) (w : List ℕ) → (IsBorrowedStr name ↔ HasNoEscape w) → is_owned_str name ≡ (contains quote w && contains backslash w)
 owned_where_escaped (Borrowed text) w h = sym (not_escaped w (h.0 tt))
 owned_where_escaped (Owned text) w h = sym (escapes w (λ e. h.1 e))

@@ -7,13 +7,13 @@ use Rattle.wat_lex.specs.declared.lexer.faults.LexFault.{LexFault}
 use Rattle.wat_lex.specs.declared.lexer.kinds.Token.{Token}
 use Rattle.wat_lexer_parser.specs.places.Places.{offset_at}
 
--- behind a token
-behind : (s : Setting) (from to : ℕ) (t : Token) (ts : List Token) (p : ℕ) → Tiling s from to (t ∷ ts) → p ≤ length ts → Tiling s (offset_at (t ∷ ts) (suc p)) to (drop p ts)
-behind s from to t ts zero h l = h.1
-behind s from to t [] (suc p) h l = absurd (omega arith)
-behind s from to t (u ∷ ts) (suc p) h l = behind s (t.offset + t.len) to u ts p h.1 (omega arith)
+-- after a token
+after : (s : Setting) (from to : ℕ) (t : Token) (ts : List Token) (p : ℕ) → Tiling s from to (t ∷ ts) → p ≤ length ts → Tiling s (offset_at (t ∷ ts) (suc p)) to (drop p ts)
+after s from to t ts zero h l = h.1
+after s from to t [] (suc p) h l = absurd (omega arith)
+after s from to t (u ∷ ts) (suc p) h l = after s (t.offset + t.len) to u ts p h.1 (omega arith)
 
 pub tails_are_raw : (s : Setting) (ts : List Token) (e : Option LexFault) (p : ℕ) → MaximalTiling s 0 ts e → p ≤ length ts → MaximalTiling s (offset_at ts p) (drop p ts) e
 tails_are_raw s ts e zero h l = h
 tails_are_raw s [] e (suc p) h l = absurd (omega arith)
-tails_are_raw s (t ∷ ts) e (suc p) h l = record { to = h.to; tiling = behind s 0 h.to t ts p h.tiling (omega arith); ends = h.ends }
+tails_are_raw s (t ∷ ts) e (suc p) h l = record { to = h.to; tiling = after s 0 h.to t ts p h.tiling (omega arith); ends = h.ends }

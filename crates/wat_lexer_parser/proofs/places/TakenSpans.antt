@@ -2,13 +2,13 @@
 use Rattle.std.proofs.Common.{◌≡◌, ℕ, List, ap, Some, Ok, Err}
 use Rattle.wat_lex.specs.declared.lexer.kinds.Token.{Token}
 use Rattle.wat_lexer_parser.specs.names.RegisteredNames.{Names}
-use Rattle.wat_lexer_parser.specs.parser.State.{seen, told}
+use Rattle.wat_lexer_parser.specs.parser.State.{seen, known}
 use Rattle.wat_lexer_parser.specs.lemmas.Parts.{span_of}
 use Rattle.wat_lexer_parser.specs.places.Places.{current_span}
 use Rattle.wat_lexer_parser.specs.places.Source.{Source}
 use Rattle.wat_lexer_parser.specs.shown.Showing.{Look, shown}
 
-same_look : (text : List ℕ) (l : Look) (t : Token) (q : ℕ) → told text l ≡ Ok (Some (t, q)) → l ≡ Ok (Some (t, q))
+same_look : (text : List ℕ) (l : Look) (t : Token) (q : ℕ) → known text l ≡ Ok (Some (t, q)) → l ≡ Ok (Some (t, q))
 same_look text (Ok found) t q e = cc
 same_look text (Err f) t q e = cc
 

@@ -29,8 +29,8 @@ first_of [] x y l = absurd (omega arith)
 first_of (c ∷ m) x y l = refl
 
 module _ (text : List ℕ) (t : Token) (white : List ℕ) (fits : t.offset + t.len ≤ length text) (blanks : AreBlanksOf t white) where
-  byte_behind : (i : ℕ) → t.offset + t.len ≤ i → slice_get (overwritten text t white) i ≡ slice_get text i
-  byte_behind i l =
+  byte_after : (i : ℕ) → t.offset + t.len ≤ i → slice_get (overwritten text t white) i ≡ slice_get text i
+  byte_after i l =
       let prefix = take t.offset text ++ white in
       let some = blanks.long in
       let n = i - (t.offset + t.len) in
@@ -52,8 +52,8 @@ module _ (text : List ℕ) (t : Token) (white : List ℕ) (fits : t.offset + t.l
       let was : drop i text ≡ m ++ drop t.offset text = ap (drop i) (sym (take-append-drop t.offset text)) ∙ drop-append-le i prefix (drop t.offset text) (omega (arith, l, long)) in
       from_there (overwritten text t white) i ∙ ap (λ x. slice_get x 0) now ∙ first_of m (white ++ rest) (drop t.offset text) some ∙ sym (ap (λ x. slice_get x 0) was) ∙ sym (from_there text i)
 
-  pub mark_behind : (u : Token) → t.offset + t.len ≤ u.offset → is_marked (overwritten text t white) u ≡ is_marked text u
-  mark_behind u l = ap is_mark (byte_behind (u.offset + 1) (omega (arith, l)))
+  pub mark_after : (u : Token) → t.offset + t.len ≤ u.offset → is_marked (overwritten text t white) u ≡ is_marked text u
+  mark_after u l = ap is_mark (byte_after (u.offset + 1) (omega (arith, l)))
 
   pub mark_before : (u : Token) → u.offset + 1 < t.offset → is_marked (overwritten text t white) u ≡ is_marked text u
   mark_before u l = ap is_mark (byte_before (u.offset + 1) l)
@@ -70,5 +70,5 @@ size_some (c ∷ w) h = omega (arith, length-append (encode c) (encodes w), leng
 -- an annotation is not empty
 pub annotation_some : (s : Setting) (p : ℕ) (t : Token) → TokenAt s p t → t.kind ≡ Annotation → 0 < t.len
 annotation_some s p t h e =
-    let w = subst (λ k. Word k h.word s.flags) e h.stands.word in
+    let w = subst (λ k. Word k h.word s.flags) e h.is_at.word in
     omega (arith, h.len, size_some h.word (run_some s.flags h.word w.0 w.1 w.2))

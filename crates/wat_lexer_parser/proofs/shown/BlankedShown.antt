@@ -14,7 +14,7 @@ use Rattle.wat_lexer_parser.specs.declared.parser.fault.Step.{Step}
 use Rattle.wat_lexer_parser.specs.declared.parser.fault.Step.TheVariants.{Pass, Take, Finish, Refuse, Skip}
 use Rattle.wat_lexer_parser.specs.groups.Sorts.{is_blank, is_marked}
 use Rattle.wat_lexer_parser.specs.lemmas.Parts.{is_paren}
-use Rattle.wat_lexer_parser.specs.lemmas.Behind.{does}
+use Rattle.wat_lexer_parser.specs.lemmas.After.{does}
 use Rattle.wat_lexer_parser.specs.names.RegisteredNames.{Names}
 use Rattle.wat_lexer_parser.specs.shown.Shown.{Finding, ended, left_open}
 use Rattle.wat_lexer_parser.specs.inside.ShownIn.{Mode, Showing, Inside, shown_in, first, step_of, step_kind, step_next, step_named, name_by, after}
@@ -50,12 +50,12 @@ passes x z n m [] r h = refl
 passes x z n Showing (t ∷ b) r h = by_step x z n t (b ++ r) Pass (blank_step x n t (first (b ++ r)) t.kind h.0) ∙ passes x z n Showing b r h.1
 passes x z n (Inside o d) (t ∷ b) r h = ap (λ k. shown_in x z n k (b ++ r)) (after_plain t.kind o d (blank_no_paren t.kind h.0)) ∙ passes x z n (Inside o d) b r h.1
 
--- In both texts the tokens have the same bytes, and behind the same ones stands `@`.
-abbrev pub SameBehind : List ℕ → List ℕ → List Token → Type 0
-SameBehind x y [] = Unit {0}
-SameBehind x y (t ∷ ts) = (token_text y t ≡ token_text x t) × (is_marked y t ≡ is_marked x t) × SameBehind x y ts
+-- In both texts the tokens have the same bytes, and after the same ones is `@`.
+abbrev pub SameAfter : List ℕ → List ℕ → List Token → Type 0
+SameAfter x y [] = Unit {0}
+SameAfter x y (t ∷ ts) = (token_text y t ≡ token_text x t) × (is_marked y t ≡ is_marked x t) × SameAfter x y ts
 
--- The same, but that nothing is known of the byte behind a token that no annotation follows.
+-- The same, but that nothing is known of the byte after a token that no annotation follows.
 abbrev pub SameBefore : List ℕ → List ℕ → List Token → Type 0
 SameBefore x y [] = Unit {0}
 SameBefore x y (t ∷ []) = (token_text y t ≡ token_text x t) × Unit {0}
@@ -90,7 +90,7 @@ steps_by x y n t u v Reserved h = refl
 steps_by x y n t u v (Integer k) h = refl
 steps_by x y n t u v (Float k) h = refl
 
--- a parenthesis is shown where no annotation follows it, whatever stands behind it in the text
+-- a parenthesis is shown where no annotation follows it, whatever comes after it in the text
 unnamed_step : (x : List ℕ) (n : Names) (t v : Token) → v.kind ≢ Annotation → step_kind x n t LParen (Some v) ≡ Take
 unnamed_step x n t v e = by_mark (is_marked x t)
   where
@@ -119,10 +119,10 @@ before_same x y n t u e f = elim (is_annotation u.kind) [
 ]
 
 module _ (x y : List ℕ) (z : Option LexFault) (n : Names) (v w : Token) (a b h : List Token) where
-  -- the same tokens, up to what is passed over between those before and those behind
+  -- the same tokens, up to what is passed over between those before and those after
   pub data Twins : List Token → List Token → Type 0 where
     spaced : (ts : List Token) → SameBefore x y ts → Twins (ts ++ (v ∷ a ++ h)) (ts ++ (w ∷ b ++ h))
-    behind : (ts : List Token) → SameBehind x y ts → Twins ts ts
+    later : (ts : List Token) → SameAfter x y ts → Twins ts ts
 
   -- the same is found, and twins are left
   pub data Alike : Finding → Finding → Type 0 where
@@ -165,18 +165,18 @@ module _ (x y : List ℕ) (z : Option LexFault) (n : Names) (v w : Token) (a b h
       subst (λ f. Alike (does x z n t r f) (does y z n t q k)) (sym s) (alike_does t r q e g next k)
   alike_step t r q e g s next (Inside o d) = next (after t.kind o d)
 
-  alike_behind : (ts : List Token) → SameBehind x y ts → (m : Mode) → Alike (shown_in x z n m ts) (shown_in y z n m ts)
+  alike_after : (ts : List Token) → SameAfter x y ts → (m : Mode) → Alike (shown_in x z n m ts) (shown_in y z n m ts)
   unfolding shown_in
-  alike_behind [] g Showing = alike_ended z
-  alike_behind [] g (Inside o d) = alike_open z o
-  alike_behind (t ∷ []) g m = alike_step t [] [] g.0 (behind [] tt) (marked_same x y n t None g.1 refl) (alike_behind [] tt) m
-  alike_behind (t ∷ u ∷ ts) g m = alike_step t (u ∷ ts) (u ∷ ts) g.0 (behind (u ∷ ts) g.2) (marked_same x y n t (Some u) g.1 (next_same x y n u g.2.0)) (alike_behind (u ∷ ts) g.2) m
+  alike_after [] g Showing = alike_ended z
+  alike_after [] g (Inside o d) = alike_open z o
+  alike_after (t ∷ []) g m = alike_step t [] [] g.0 (later [] tt) (marked_same x y n t None g.1 refl) (alike_after [] tt) m
+  alike_after (t ∷ u ∷ ts) g m = alike_step t (u ∷ ts) (u ∷ ts) g.0 (later (u ∷ ts) g.2) (marked_same x y n t (Some u) g.1 (next_same x y n u g.2.0)) (alike_after (u ∷ ts) g.2) m
 
-  module _ (va : AreBlank (v ∷ a)) (wb : AreBlank (w ∷ b)) (same : SameBehind x y h) where
+  module _ (va : AreBlank (v ∷ a)) (wb : AreBlank (w ∷ b)) (same : SameAfter x y h) where
     alike_before : (ts : List Token) → SameBefore x y ts → (m : Mode) → Alike (shown_in x z n m (ts ++ (v ∷ a ++ h))) (shown_in y z n m (ts ++ (w ∷ b ++ h)))
     alike_before [] g m =
         subst (λ f. Alike f (shown_in y z n m (w ∷ b ++ h))) (sym (passes x z n m (v ∷ a) h va))
-        (subst (Alike (shown_in x z n m h)) (sym (passes y z n m (w ∷ b) h wb)) (alike_behind h same m))
+        (subst (Alike (shown_in x z n m h)) (sym (passes y z n m (w ∷ b) h wb)) (alike_after h same m))
     alike_before (t ∷ []) g m =
         alike_step t (v ∷ a ++ h) (w ∷ b ++ h) g.0 (spaced [] tt) (unnamed_same x y n t v w (blank_no_annotation v.kind va.0) (blank_no_annotation w.kind wb.0)) (alike_before [] tt) m
     alike_before (t ∷ u ∷ ts) g m =
@@ -188,7 +188,7 @@ module _ (x y : List ℕ) (z : Option LexFault) (n : Names) (v w : Token) (a b h
 
     alike_twins : (r q : List Token) → Twins r q → Alike (shown_in x z n Showing r) (shown_in y z n Showing q)
     alike_twins r q (spaced ts g) = alike_before ts g Showing
-    alike_twins r q (behind ts g) = alike_behind ts g Showing
+    alike_twins r q (later ts g) = alike_after ts g Showing
 
     pub found_twins : (r q : List Token) → Twins r q → Found (shown_in x z n Showing r) (shown_in y z n Showing q)
     found_twins r q g = found_alike (shown_in x z n Showing r) (shown_in y z n Showing q) (alike_twins r q g)

@@ -9,7 +9,7 @@ use Rattle.wat_lex.specs.declared.lexer.kinds.TokenKind.TheVariants.{LineComment
 use Rattle.wat_lexer_parser.specs.groups.Sorts.{Group, NoGroup, is_blank, is_marked}
 use Rattle.wat_lexer_parser.specs.lemmas.Parts.{is_paren}
 use Rattle.wat_lexer_parser.specs.names.RegisteredNames.{Names}
-use Rattle.wat_lexer_parser.specs.laws.Counting.{counting, counting_behind}
+use Rattle.wat_lexer_parser.specs.laws.Counting.{counting, counting_after}
 use Rattle.wat_lexer_parser.specs.shown.Shown.{Finding, Shown, ended, left_open, none_left, blank, other, unmarked, none_follows, no_annotation, misnamed, registered, skipped, unclosed}
 use Rattle.wat_lexer_parser.proofs.groups.Closing.{Closed, Closings, close, beyond, nested, closed_from, group_from, kind_cases, at_nil, at_close, at_plain, at_open}
 
@@ -19,11 +19,11 @@ counting_blank t r e = ap (λ b. cond (not b) (t ∷ counting r) (counting r)) e
 counting_other : (t : Token) (r : List Token) → is_blank t.kind ≡ false → counting (t ∷ r) ≡ t ∷ counting r
 counting_other t r e = ap (λ b. cond (not b) (t ∷ counting r) (counting r)) e
 
-ended_counts : (z : Option LexFault) → counting_behind (ended z) ≡ ended z
+ended_counts : (z : Option LexFault) → counting_after (ended z) ≡ ended z
 ended_counts None = refl
 ended_counts (Some f) = refl
 
-left_counts : (z : Option LexFault) (t : Token) → counting_behind (left_open z t) ≡ left_open z t
+left_counts : (z : Option LexFault) (t : Token) → counting_after (left_open z t) ≡ left_open z t
 left_counts None t = refl
 left_counts (Some f) t = refl
 
@@ -86,7 +86,7 @@ no_group_counts s none q g =
     let k = some_close s 0 q (q, closed_from (counting s) q g, refl) in
     none k.1.0 (group_from s k.1.0 k.1.1)
 
--- A token that counts stands directly behind each parenthesis with `@`.
+-- A token that counts comes directly after each parenthesis with `@`.
 abbrev pub IsFollowed : List ℕ → Token → List Token → Type 0
 IsFollowed text t [] = Unit {0}
 IsFollowed text t (u ∷ r) = t.kind ≡ LParen → is_marked text t ≡ true → is_blank u.kind ≡ false
@@ -115,20 +115,20 @@ module _ (text : List ℕ) (z : Option LexFault) (n : Names) where
   shows_two t u r e b h =
       of_two t u r (Ok (Some (t, counting (u ∷ r)))) e b (subst (λ x. Shown text z n (t ∷ u ∷ counting r) (Ok (Some (t, x)))) (sym (counting_other u r b)) h)
 
-  pub shown_counts : (ts : List Token) (a : Finding) → AreFollowed text ts → Shown text z n ts a → Shown text z n (counting ts) (counting_behind a)
+  pub shown_counts : (ts : List Token) (a : Finding) → AreFollowed text ts → Shown text z n ts a → Shown text z n (counting ts) (counting_after a)
   shown_counts ts a f none_left = subst (Shown text z n []) (sym (ended_counts z)) none_left
-  shown_counts ts a f (blank {t = t} {r = r} b h) = subst (λ x. Shown text z n x (counting_behind a)) (sym (counting_blank t r b)) (shown_counts r a f.1 h)
-  shown_counts ts a f (none_follows {t = t} m) = of_one t [] (counting_behind (ended z)) (ap is_blank m.0) (subst (Shown text z n (t ∷ [])) (sym (ended_counts z)) (none_follows m))
+  shown_counts ts a f (blank {t = t} {r = r} b h) = subst (λ x. Shown text z n x (counting_after a)) (sym (counting_blank t r b)) (shown_counts r a f.1 h)
+  shown_counts ts a f (none_follows {t = t} m) = of_one t [] (counting_after (ended z)) (ap is_blank m.0) (subst (Shown text z n (t ∷ [])) (sym (ended_counts z)) (none_follows m))
   shown_counts ts a f (no_annotation {t = t} {u = u} {r = r} m k) = let b = f.0 m.0 m.1 in shows_two t u r m.0 b (no_annotation m k)
   shown_counts ts a f (misnamed {t = t} {u = u} {r = r} m w) = of_two t u r a m.0 (ap is_blank w.kind) (misnamed m w)
   shown_counts ts a f (registered {t = t} {u = u} {r = r} m w i) = shows_two t u r m.0 (ap is_blank w.kind) (registered m w i)
   shown_counts ts a f (skipped {t = t} {u = u} {r = r} {m = q} m w i g h) =
       let b = ap is_blank w.kind in
       let group = subst (λ x. Group x (counting q)) (counting_other u r b) (group_counts (u ∷ r) q g) in
-      of_two t u r (counting_behind a) m.0 b (skipped m w i group (shown_counts q a (followed_past text (u ∷ r) q (closed_from (u ∷ r) q g) f.1) h))
+      of_two t u r (counting_after a) m.0 b (skipped m w i group (shown_counts q a (followed_past text (u ∷ r) q (closed_from (u ∷ r) q g) f.1) h))
   shown_counts ts a f (unclosed {t = t} {u = u} {r = r} m w i g) =
       let b = ap is_blank w.kind in
       let none = subst NoGroup (counting_other u r b) (no_group_counts (u ∷ r) g) in
-      of_two t u r (counting_behind (left_open z t)) m.0 b (subst (Shown text z n (t ∷ u ∷ counting r)) (sym (left_counts z t)) (unclosed m w i none))
+      of_two t u r (counting_after (left_open z t)) m.0 b (subst (Shown text z n (t ∷ u ∷ counting r)) (sym (left_counts z t)) (unclosed m w i none))
   shown_counts ts a f (unmarked {t = t} {r = r} e k) = of_one t r (Ok (Some (t, counting r))) (ap is_blank e) (unmarked e k)
   shown_counts ts a f (other {t = t} {r = r} b k) = of_one t r (Ok (Some (t, counting r))) b (other b k)

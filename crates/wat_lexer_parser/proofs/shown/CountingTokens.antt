@@ -1,4 +1,4 @@
--- Behind a parenthesis with `@` no white space and no comment stands, since these begin with other characters.
+-- After a parenthesis with `@` no white space and no comment follows, since these begin with other characters.
 use lib.Utf8.{encode, encodes}
 use Rattle.std.proofs.Common.{◌≡◌, ◌≢◌, ◌⊎◌, ◌+◌, ℕ, zero, suc, true, List, [], ◌∷◌, ◌++◌, length, drop, refl, sym, ap, ◌∙◌, arith, inl, inr, Some, None}
 use Rattle.std.specs.Prelude.{Option, slice_get, get_or}
@@ -51,11 +51,11 @@ blank_other (Integer i) w flags b h = cc
 blank_other (Float i) w flags b h = cc
 
 -- an element is the first of those from its place on
-stands_first : (xs : List ℕ) (i b : ℕ) → slice_get xs i ≡ Some b → (r : List ℕ) × (drop i xs ≡ b ∷ r)
-stands_first [] zero b e = cc
-stands_first [] (suc i) b e = cc
-stands_first (x ∷ xs) zero b e = let k : x ≡ b = cc in (xs, ap (λ y. y ∷ xs) k)
-stands_first (x ∷ xs) (suc i) b e = stands_first xs i b e
+is_at_first : (xs : List ℕ) (i b : ℕ) → slice_get xs i ≡ Some b → (r : List ℕ) × (drop i xs ≡ b ∷ r)
+is_at_first [] zero b e = cc
+is_at_first [] (suc i) b e = cc
+is_at_first (x ∷ xs) zero b e = let k : x ≡ b = cc in (xs, ap (λ y. y ∷ xs) k)
+is_at_first (x ∷ xs) (suc i) b e = is_at_first xs i b e
 
 mark_is : (o : Option ℕ) → is_mark o ≡ true → o ≡ Some at_sign
 mark_is None e = cc
@@ -63,10 +63,10 @@ mark_is (Some b) e = ap Some (eqb-true b at_sign e)
 
 no_blank : (s : Setting) (p : ℕ) (u : Token) → IsUtf8 s.text → IsCharBoundary s.text p → TokenAt s p u → slice_get s.text p ≡ Some at_sign → is_blank u.kind ≡ true → ⊥
 no_blank s p u utf8 boundary h mark b =
-    let v = blank_other u.kind h.word s.flags b h.stands.word in
+    let v = blank_other u.kind h.word s.flags b h.is_at.word in
     let bytes : drop p s.text ≡ encode v.0 ++ encodes (v.1 ++ h.rest) =
-    sym (encodes-chars (drop p s.text) (IsUtf8-drop s.text p utf8 boundary)) ∙ ap encodes (h.stands.cut ∙ ap (λ w. w ++ h.rest) v.2) in
-    let at = stands_first s.text p at_sign mark in
+    sym (encodes-chars (drop p s.text) (IsUtf8-drop s.text p utf8 boundary)) ∙ ap encodes (h.is_at.cut ∙ ap (λ w. w ++ h.rest) v.2) in
+    let at = is_at_first s.text p at_sign mark in
     let byte : get_or (drop p s.text) 0 0 ≡ at_sign = ap (λ x. get_or x 0 0) at.1 in
     let c = char_from_byte (drop p s.text) (encodes (v.1 ++ h.rest)) v.0 bytes (omega (arith, byte)) (omega (arith, ap length at.1)) in
     v.3 (c ∙ byte)
@@ -84,8 +84,8 @@ is_followed s from to t (u ∷ ts) utf8 boundary h = λ e m.
 are_followed : TokensEndAtBoundaries → (s : Setting) (from to : ℕ) (ts : List Token) → IsUtf8 s.text → IsCharBoundary s.text from → Tiling s from to ts → AreFollowed s.text ts
 are_followed ends s from to [] utf8 boundary h = tt
 are_followed ends s from to (t ∷ ts) utf8 boundary h =
-    let behind = ends s from t utf8 boundary h.0 in
-    (is_followed s from to t ts utf8 behind h, are_followed ends s (t.offset + t.len) to ts utf8 behind h.1)
+    let after = ends s from t utf8 boundary h.0 in
+    (is_followed s from to t ts utf8 after h, are_followed ends s (t.offset + t.len) to ts utf8 after h.1)
 
 followed_drop : (text : List ℕ) (p : ℕ) (ts : List Token) → AreFollowed text ts → AreFollowed text (drop p ts)
 followed_drop text zero ts f = f

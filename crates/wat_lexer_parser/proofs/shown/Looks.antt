@@ -9,7 +9,7 @@ use Rattle.wat_lex.specs.declared.lexer.kinds.Token.{Token}
 use Rattle.wat_lexer_parser.specs.declared.parser.fault.Fault.{Fault}
 use Rattle.wat_lexer_parser.specs.declared.parser.fault.Step.TheVariants.{Pass, Take, Finish, Refuse, Skip}
 use Rattle.wat_lexer_parser.proofs.groups.Closing.{Closed}
-use Rattle.wat_lexer_parser.specs.lemmas.Behind.{does}
+use Rattle.wat_lexer_parser.specs.lemmas.After.{does}
 use Rattle.wat_lexer_parser.specs.names.RegisteredNames.{Names}
 use Rattle.wat_lexer_parser.specs.shown.Shown.{ended, left_open}
 use Rattle.wat_lexer_parser.specs.shown.Showing.{shown, placed}
@@ -99,7 +99,7 @@ skip_opens s n t u e = opens t.kind refl
     opens (Integer y) f = let g : step_kind s.setting.text n t (Integer y) u ≡ Skip = subst (λ x. step_kind s.setting.text n t x u ≡ Skip) f e in cc
     opens (Float y) f = let g : step_kind s.setting.text n t (Float y) u ≡ Skip = subst (λ x. step_kind s.setting.text n t x u ≡ Skip) f e in cc
 
--- what a step that skips has behind it
+-- what a step that skips has after it
 heads_by : (s : Source) (n : Names) (i : ℕ) (t : Token) (o : Option Token) → slice_get s.tokens i ≡ Some t → slice_get s.tokens (i + 1) ≡ o → t.kind ≡ LParen → step_kind s.setting.text n t LParen o ≡ Skip → (u : Token) × HeadsAnnotation s.tokens i u
 heads_by s n i t None e f o h = elim (cases_Bool (is_marked s.setting.text t)) [
   | inl m ↦ let k : Finish ≡ Skip = sym (ap (λ b. if b then step_next s.setting.text n None else Take) m) ∙ h in cc

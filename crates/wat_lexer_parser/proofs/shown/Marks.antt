@@ -1,4 +1,4 @@
--- Behind a parenthesis with `@` a token or a fault follows.
+-- After a parenthesis with `@` a token or a fault follows.
 use lib.Utf8.{encode}
 use Rattle.std.proofs.Common.{◌≡◌, ℕ, ◌+◌, List, [], ◌∷◌, ◌++◌, ap, ◌∙◌, subst, length, arith, Some, None}
 use Rattle.std.specs.Prelude.{Option, IsTrue}
@@ -25,7 +25,7 @@ last_at s from to (u ∷ ts) t h = last_at s (u.offset + u.len) to ts t h.1
 
 pub paren_len : (s : Setting) (p : ℕ) (t : Token) → TokenAt s p t → t.kind ≡ LParen → t.len ≡ 1
 unfolding encode
-paren_len s p t h e = h.len ∙ ap size (subst (λ k. Word k h.word s.flags) e h.stands.word)
+paren_len s p t h e = h.len ∙ ap size (subst (λ k. Word k h.word s.flags) e h.is_at.word)
 
 ends_text : (s : Setting) (to : ℕ) (ending : Option LexFault) → ending ≡ None → EndsAt s to ending → to ≡ length s.text
 ends_text s to None e h = h

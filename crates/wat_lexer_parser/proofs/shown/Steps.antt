@@ -18,7 +18,7 @@ use Rattle.wat_lexer_parser.specs.groups.Sorts.{is_blank, is_marked}
 use Rattle.wat_lexer_parser.proofs.groups.Closing.{closed_from, group_from}
 use Rattle.wat_lexer_parser.proofs.shown.Skipping.{past_closed, closes_or_not}
 use Rattle.wat_lexer_parser.proofs.shown.Looks.{step_at}
-use Rattle.wat_lexer_parser.specs.lemmas.Behind.{does}
+use Rattle.wat_lexer_parser.specs.lemmas.After.{does}
 use Rattle.wat_lexer_parser.proofs.shown.Annotations.{no_name}
 use Rattle.wat_lex.specs.tokens.EverySetting.{NamesAreValues}
 

@@ -4,7 +4,7 @@ use Rattle.std.specs.Prelude.{◌&&◌, Option, Result, is_some, IfOk, IfSome}
 use Rattle.std.specs.Option.{option_map}
 use Rattle.wat_lex.specs.errors.Errors.{Report}
 use Rattle.wat_lex.specs.declared.lexer.kinds.Token.{Token}
-use Rattle.wat_lexer_parser.specs.lemmas.Behind.{same_token}
+use Rattle.wat_lexer_parser.specs.lemmas.After.{same_token}
 use Rattle.wat_lexer_parser.specs.parser.State.{Answers, Seen}
 use Rattle.wat_lexer_parser.specs.parser.Takers.{as_id, name_takes, taken, taken_by, word_takes}
 use Rattle.wat_lexer_parser.specs.lemmas.Parts.{may_take}

@@ -17,24 +17,24 @@ shown_reply look = cases_of look reply.End (λ t q. reply.Token t) fault_reply
 abbrev pub comment_reply : Look → Reply
 comment_reply look = cases_of look reply.Absent (λ t q. reply.Comment t.offset t.len) fault_reply
 
--- the place behind what was found
+-- the place after what was found
 abbrev pub place_after : Look → ℕ → ℕ
 place_after look p = cases_of look p (λ t q. q) (λ f. p)
 
--- the place behind up to n shown tokens, or the fault that is shown before
+-- the place after up to n shown tokens, or the fault that is shown before
 unfoldable pub after_taking : Source → Names → ℕ → ℕ → Result ℕ Fault
 after_taking s names zero p = Ok p
 after_taking s names (suc n) p = cases_of (shown s p names) (Ok p) (λ t q. after_taking s names n q) Err
 
 -- the reply where this parenthesis is shown, or else the refusal; the place is p unless all is done
 abbrev pub paren_reply : (TokenKind → Bool) → ℕ → Reply → (ℕ → Reply × ℕ) → Look → Reply × ℕ
-paren_reply is_it p refusal behind look = cases_of look (refusal, p) (λ t q. if is_it t.kind then behind q else (refusal, p)) (λ f. (fault_reply f, p))
+paren_reply is_it p refusal after look = cases_of look (refusal, p) (λ t q. if is_it t.kind then after q else (refusal, p)) (λ f. (fault_reply f, p))
 
 abbrev pub close_reply : Source → Names → ℕ → Result ℕ Fault → Reply × ℕ
 close_reply s names p (Ok q) = paren_reply is_close p (reply.NotClosed (current_span s q names)) (λ r. (reply.Done, r)) (shown s q names)
 close_reply s names p (Err f) = (fault_reply f, p)
 
--- a group of up to n tokens: the reply, and the place behind it, or p where it is no such group
+-- a group of up to n tokens: the reply, and the place after it, or p where it is no such group
 unfoldable pub group_reply : Source → Names → ℕ → ℕ → Reply × ℕ
 group_reply s names n p =
     paren_reply is_open p (reply.NotOpen (current_span s p names)) (λ q. close_reply s names p (after_taking s names n q)) (shown s p names)
@@ -45,7 +45,7 @@ register s x = if nat_eq (count s.names x) most_often then (reply.TooOften, s) e
 abbrev pub unregister : State → List ℕ → Reply × State
 unregister s x = if is_registered s.names x then (reply.Done, record s { names = fewer s.names x }) else (reply.Absent, s)
 
--- the reply to a call, and the state behind it
+-- the reply to a call, and the state after it
 abbrev pub answer : State → Call → Reply × State
 answer s call.Look = (shown_reply (shown s.source s.place s.names), s)
 answer s call.Take = (shown_reply (shown s.source s.place s.names), record s { place = place_after (shown s.source s.place s.names) s.place })

@@ -26,7 +26,7 @@ abbrev pub is_close : TokenKind → Bool
 is_close RParen = true
 is_close kind = false
 
--- the byte of the text behind the token's first is `@`
+-- the byte of the text after the token's first is `@`
 abbrev pub is_marked : List ℕ → Token → Bool
 is_marked text t = unwrap_or (option_map (λ b. b == at_sign) (slice_get text (t.offset + 1))) false
 

@@ -10,8 +10,8 @@ use Rattle.wat_lexer_parser.specs.readings.Readings.{Reading, checked, spanned, 
 use Rattle.wat_lexer_parser.specs.readings.Types.{signed_number, unsigned_below}
 
 -- whether the token has a minus, and the number that its digits write
-abbrev pub number_told : List ℕ → Token × IntegerKind → Bool × ℕ
-number_told text v = (is_minus (sign_token v.1.sign), integer_value v.1.hex (word_of text v.0))
+abbrev pub number_known : List ℕ → Token × IntegerKind → Bool × ℕ
+number_known text v = (is_minus (sign_token v.1.sign), integer_value v.1.hex (word_of text v.0))
 
 unfoldable pub an_integer_word : List ℕ → Reading (Bool × ℕ)
 an_integer_word expected = token as_integer expected

@@ -24,7 +24,7 @@ name_by kind text t = None
 abbrev pub name_at : List ℕ → Token → Option (Result (List ℕ) LexError)
 name_at text t = name_by t.kind text t
 
--- What the token in front means, by the one directly behind it.
+-- What the token in front means, by the one directly after it.
 abbrev pub step_named : Names → Token → Option (Result (List ℕ) LexError) → Step
 step_named names u None = Take
 step_named names u (Some (Err e)) = Refuse (record { offset = u.offset; kind = Lex e })

@@ -1,4 +1,4 @@
--- What the table of a buffer holds beside the raw tokens: of each annotation that stands directly behind a parenthesis its name, and
+-- What the table of a buffer holds beside the raw tokens: of each annotation that comes directly after a parenthesis its name, and
 -- where its group is closed.
 use Rattle.std.specs.Prelude.{◌≡◌, ◌<◌, ◌≤◌, ◌^◌, ◌+◌, ◌++◌, ◌*◌, ◌&&◌, ◌==◌, ℕ, Bool, true, false, List, [], ◌∷◌, length, drop, Option, Some, None, Result, MatchOption, slice_get, slice_set as set, get_or, option_map, unwrap_or}
 use Rattle.wat_lex.specs.grammar.Classes.{quote}
@@ -26,7 +26,7 @@ NotedName w (Some x) = x ≡ name_value EmptyAnnotation w
 abbrev pub OneMoreName : List ℕ → List (Option NameOrFault) → List (Option NameOrFault) → Type 0
 OneMoreName w old new = (x : Option NameOrFault) × (new ≡ old ++ x ∷ []) × NotedName w x
 
--- at the place a parenthesis opens, and this is noted of the annotation directly behind it
+-- at the place a parenthesis opens, and this is noted of the annotation directly after it
 pub record HeadAt (text : List ℕ) (ts : List Token) (i : ℕ) (x : Option NameOrFault) : Type 0 where
   pub paren : Token
   pub word : Token
@@ -54,7 +54,7 @@ abbrev pub is_annotation : TokenKind → Bool
 is_annotation Annotation = true
 is_annotation kind = false
 
--- the byte of the text behind the token's first is a quote
+-- the byte of the text after the token's first is a quote
 abbrev pub is_quoted : List ℕ → Token → Bool
 is_quoted text t = unwrap_or (option_map (λ b. b == quote) (slice_get text (t.offset + 1))) false
 
@@ -73,7 +73,7 @@ pub record Started (opens starts : List ℕ) : Type 0 where
   pub before : (b g : ℕ) → b < length starts → g < get_or starts b 0 → get_or opens g 0 < block * b
   pub covers : (g : ℕ) → g < length opens → get_or opens g 0 < block * length starts
 
--- these starts, and those of the blocks behind them up to that of a place, before each of which so many places lie
+-- these starts, and those of the blocks after them up to that of a place, before each of which so many places lie
 pub record StartedUpTo (old new : List ℕ) (before place : ℕ) : Type 0 where
   pub longer : length old ≤ length new
   pub kept : (b : ℕ) → b < length old → get_or new b 0 ≡ get_or old b 0
@@ -102,7 +102,7 @@ FirstFrom opens i j = (g : ℕ) → g < length opens → i ≤ get_or opens g 0 
 -- so many of the places are before i, and the others from it on
 pub record Counted (opens : List ℕ) (passed i : ℕ) : Type 0 where
   pub before : (g : ℕ) → g < length opens → g < passed → get_or opens g 0 < i
-  pub behind : (g : ℕ) → g < length opens → passed ≤ g → i ≤ get_or opens g 0
+  pub after : (g : ℕ) → g < length opens → passed ≤ g → i ≤ get_or opens g 0
 
 -- where a parenthesis is one of the places, by its index among them, its group is closed at i; where it is none, nothing is noted
 abbrev pub closed_at : List (Option ℕ) → Option ℕ → ℕ → List (Option ℕ)
@@ -114,7 +114,7 @@ pub record Paired (ts : List Token) (opens : List ℕ) (closes : List (Option �
   pub long : length closes ≡ length opens
   pub pair : (g : ℕ) → g < length opens → Pair ts (get_or opens g 0) (get_or closes g None)
 
--- at the place a parenthesis opens, and this annotation stands directly behind it
+-- at the place a parenthesis opens, and this annotation comes directly after it
 pub record HeadsAnnotation (ts : List Token) (i : ℕ) (u : Token) : Type 0 where
   pub paren : Token
   pub opens : slice_get ts i ≡ Some paren

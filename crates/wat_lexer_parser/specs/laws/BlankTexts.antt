@@ -16,7 +16,7 @@ use Rattle.wat_lexer_parser.specs.laws.Blanking.{ShowTheSame}
 abbrev pub blank_byte : ℕ → ℕ
 blank_byte b = if is_line_end b then b else space
 
--- the bytes of a token, or what stands in place of a comment's
+-- the bytes of a token, or what is in place of a comment's
 abbrev pub blank_text : List ℕ → Token → List ℕ
 blank_text text t = if is_comment t.kind then map blank_byte (token_text text t) else token_text text t
 
@@ -24,7 +24,7 @@ blank_text text t = if is_comment t.kind then map blank_byte (token_text text t)
 abbrev pub blank_texts : List ℕ → List Token → List ℕ
 blank_texts text tokens = flat_map (blank_text text) tokens
 
--- each LF and each CR of one text stands in the other at the same offset
+-- each LF and each CR of one text is in the other at the same offset
 abbrev pub SameLineEnds : List ℕ → List ℕ → Type 0
 SameLineEnds text other = (i c : ℕ) → IsTrue (is_line_end c) → (slice_get text i ≡ Some c) ↔ (slice_get other i ≡ Some c)
 

@@ -13,18 +13,18 @@ use Rattle.wat_lexer_parser.specs.shown.Shown.{Finding, Shown, IsMarked}
 abbrev pub counting : List Token → List Token
 counting ts = filter (λ t. not (is_blank t.kind)) ts
 
--- the same, of the tokens behind the one that is shown
-abbrev pub counting_behind : Finding → Finding
-counting_behind (Ok None) = Ok None
-counting_behind (Ok (Some (t, r))) = Ok (Some (t, counting r))
-counting_behind (Err f) = Err f
+-- the same, of the tokens after the one that is shown
+abbrev pub counting_after : Finding → Finding
+counting_after (Ok None) = Ok None
+counting_after (Ok (Some (t, r))) = Ok (Some (t, counting r))
+counting_after (Err f) = Err f
 
--- what is shown from a place of a text on is shown of the tokens that count there, with those that count behind it
+-- what is shown from a place of a text on is shown of the tokens that count there, with those that count after it
 abbrev pub CountingShowsTheSame : Type 0
 CountingShowsTheSame = (s : Source) (names : Names) (p : ℕ) (a : Finding) → IsUtf8 s.setting.text → IsRead s → Shown s.setting.text s.ending names (drop p s.tokens) a
-    → Shown s.setting.text s.ending names (counting (drop p s.tokens)) (counting_behind a)
+    → Shown s.setting.text s.ending names (counting (drop p s.tokens)) (counting_after a)
 
--- a token that counts is shown where it stands, whatever names are registered, if it is no parenthesis with `@` directly behind it
+-- a token that counts is shown where it is, whatever names are registered, if it is no parenthesis with `@` directly after it
 abbrev pub PlainTokensAreShown : Type 0
 PlainTokensAreShown = (text : List ℕ) (ending : Option LexFault) (names : Names) (t : Token) (r : List Token) → IsFalse (is_blank t.kind) → (IsMarked text t → ⊥)
     → Shown text ending names (t ∷ r) (Ok (Some (t, r)))

@@ -31,17 +31,17 @@ SomethingIsAllShown = (s : Source) (names : Names) (p : ℕ) → IsUtf8 s.settin
 abbrev pub AllShownIsOne : Type 0
 AllShownIsOne = (text : List ℕ) (e : Option LexFault) (names : Names) (ts us vs : List Token) (f g : Option Fault) → AllShown text e names ts us f → AllShown text e names ts vs g → (us ≡ vs) × (f ≡ g)
 
--- what a look at a place shows, and then all that is shown from the place behind it
+-- what a look at a place shows, and then all that is shown from the place after it
 pub record LooksAreAllShown : Type 0 where
   pub token : (s : Source) (names : Names) (p q : ℕ) (t : Token) (us : List Token) (e : Option Fault) → IsUtf8 s.setting.text → IsRead s → shown s p names ≡ Ok (Some (t, q))
       → AllShown s.setting.text s.ending names (drop q s.tokens) us e → AllShown s.setting.text s.ending names (drop p s.tokens) (t ∷ us) e
   pub end : (s : Source) (names : Names) (p : ℕ) → IsUtf8 s.setting.text → IsRead s → shown s p names ≡ Ok None → AllShown s.setting.text s.ending names (drop p s.tokens) [] None
   pub fault : (s : Source) (names : Names) (p : ℕ) (f : Fault) → IsUtf8 s.setting.text → IsRead s → shown s p names ≡ Err f → AllShown s.setting.text s.ending names (drop p s.tokens) [] (Some f)
 
--- A token that is shown at a place is one of the tokens from there on, and the place behind it is where it ends.
+-- A token that is shown at a place is one of the tokens from there on, and the place after it is where it ends.
 abbrev pub ShownIsTaken : Type 0
 ShownIsTaken = (s : Source) (p : ℕ) (names : Names) (t : Token) (q : ℕ) → shown s p names ≡ Ok (Some (t, q)) → (p < q) × (q ≤ length s.tokens) × (slice_get s.tokens (q - 1) ≡ Some t) × (offset_at s.tokens q ≡ t.offset + t.len)
 
--- where the last token is a parenthesis with `@` directly behind it, a fault of the text follows
+-- where the last token is a parenthesis with `@` directly after it, a fault of the text follows
 abbrev pub MarksEndInFaults : Type 0
 MarksEndInFaults = (s : Source) (ts : List Token) (t : Token) → IsRead s → s.tokens ≡ ts ++ (t ∷ []) → IsMarked s.setting.text t → s.ending ≢ None

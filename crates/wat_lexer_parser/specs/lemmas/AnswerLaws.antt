@@ -16,7 +16,7 @@ refusal_answers true f m None r h k = refl
 refusal_answers false f m None r h k = ap is_err h
 refusal_answers takes f m (Some e) r h k = h ∙ ap Err (sym k)
 
--- where a value is due, an error is want of memory
+-- where a value is due, an error is out of memory
 pub wants_memory : {V T : Type 0} (takes : Bool) (f : T → V) (m : Result V Report) (v : V) (e : Option Report) → m ≡ Ok v → Answers {T = T} takes f m (Err e) → e ≡ None
 wants_memory takes f m v None i h = refl
 wants_memory takes f m v (Some e) i h = let k : Ok v ≡ Err e = sym i ∙ h in cc

@@ -8,34 +8,34 @@ use Rattle.wat_lexer_parser.specs.names.RegisteredNames.{Names}
 use Rattle.wat_lexer_parser.specs.parser.Closures.{opened, closed, inside}
 use Rattle.wat_lexer_parser.specs.lemmas.Parts.{taken_or}
 use Rattle.wat_lexer_parser.specs.parser.Sights.{Sight}
-use Rattle.wat_lexer_parser.specs.parser.State.{State, Seen, seen, told, report_here}
+use Rattle.wat_lexer_parser.specs.parser.State.{State, Seen, seen, known, report_here}
 use Rattle.wat_lexer_parser.specs.parser.Takers.{Reader, taken, taken_at, taken_by, may_take_at, as_open, as_close}
 use Rattle.wat_lexer_parser.specs.places.Places.{current_span}
 use Rattle.wat_lexer_parser.specs.places.Source.{Source}
-use Rattle.wat_lexer_parser.specs.readings.Readings.{Outcome, Reading, refused, refuse, token, token_by, and_then, and_then_by, mapped, pair, told_as, spanned, allocated, checked, checked_by, passed_by, where_seen, where_seen_by, closed_by, inside_by, opened_by, group}
+use Rattle.wat_lexer_parser.specs.readings.Readings.{Outcome, Reading, refused, refuse, token, token_by, and_then, and_then_by, mapped, pair, known_as, spanned, allocated, checked, checked_by, passed_by, where_seen, where_seen_by, closed_by, inside_by, opened_by, group}
 use Rattle.wat_lexer_parser.specs.readings.Reads.{Advances, Reads}
 use Rattle.wat_lexer_parser.specs.shown.Showing.{Look, shown}
-use Rattle.wat_lexer_parser.specs.lemmas.Behind.{forward_shown}
+use Rattle.wat_lexer_parser.specs.lemmas.After.{forward_shown}
 
 -- What is seen, and what is taken of it, is further on.
 
-abbrev behind_of : {A F : Type 0} → ℕ → Result (Option (A × ℕ)) F → ℕ
-behind_of d (Ok None) = d
-behind_of d (Ok (Some (a, q))) = q
-behind_of d (Err f) = d
+abbrev after_of : {A F : Type 0} → ℕ → Result (Option (A × ℕ)) F → ℕ
+after_of d (Ok None) = d
+after_of d (Ok (Some (a, q))) = q
+after_of d (Err f) = d
 
-forward_told : (x : List ℕ) (l : Look) (p : ℕ) (t : Token) (q : ℕ) → ((u : Token) (r : ℕ) → l ≡ Ok (Some (u, r)) → p < r) → told x l ≡ Ok (Some (t, q)) → p < q
-forward_told x (Ok None) p t q h e = cc
-forward_told x (Ok (Some (u, r))) p t q h e = let k : r ≡ q = ap (behind_of 0) e in omega (arith, h u r refl, k)
-forward_told x (Err f) p t q h e = cc
+forward_known : (x : List ℕ) (l : Look) (p : ℕ) (t : Token) (q : ℕ) → ((u : Token) (r : ℕ) → l ≡ Ok (Some (u, r)) → p < r) → known x l ≡ Ok (Some (t, q)) → p < q
+forward_known x (Ok None) p t q h e = cc
+forward_known x (Ok (Some (u, r))) p t q h e = let k : r ≡ q = ap (after_of 0) e in omega (arith, h u r refl, k)
+forward_known x (Err f) p t q h e = cc
 
 pub forward_seen : (s : Source) (p : ℕ) (names : Names) (t : Token) (q : ℕ) → seen s p names ≡ Ok (Some (t, q)) → p < q
 unfolding seen
-forward_seen s p names t q e = forward_told s.setting.text (shown s p names) p t q (λ u r k. (forward_shown s p names u r k).0) e
+forward_seen s p names t q e = forward_known s.setting.text (shown s p names) p t q (λ u r k. (forward_shown s p names u r k).0) e
 
 taken_place : {V : Type 0} (o : Option (Result V Report)) (q : ℕ) (v : V) (r : ℕ) → taken_by q o ≡ Ok (Some (v, r)) → q ≡ r
 taken_place None q v r e = cc
-taken_place (Some (Ok w)) q v r e = ap (behind_of q) e
+taken_place (Some (Ok w)) q v r e = ap (after_of q) e
 taken_place (Some (Err f)) q v r e = cc
 
 taken_of : {V : Type 0} (read : Reader V) (x : List ℕ) (a : Seen) (p : ℕ) (v : V) (r : ℕ) → ((t : Token) (q : ℕ) → a ≡ Ok (Some (t, q)) → p < q) → taken read x a ≡ Ok (Some (v, r)) → p < r
@@ -51,7 +51,7 @@ opened_of r (Ok None) p o h e = cc
 opened_of r (Ok (Some (v, q))) p o h e = let k : q ≡ o = cc in omega (arith, h v q refl, k)
 opened_of r (Err f) p o h e = cc
 
--- behind `(`, and behind `)`
+-- after `(`, and after `)`
 pub forward_opened : (s : Source) (p : ℕ) (names : Names) (q : ℕ) → opened s p names ≡ Ok q → p < q
 unfolding opened
 forward_opened s p names q e = opened_of (report_here s p names (codes "expected `(`")) (taken as_open s.setting.text (seen s p names)) p q (forward_taken as_open s p names) e
@@ -78,7 +78,7 @@ and_then_advances (Err g) n takes next a w h e = cc
 pub advances_and_then : {V W : Type 0} (m : Reading V) (next : V → Reading W) → Advances m → Advances (and_then m next)
 advances_and_then m next t a w e = and_then_advances (m a).answer (m a).passed (m a).takes_memory next a w (t a) e
 
-mapped_advances : {V W : Type 0} (f : V → W) (r : Result V Report) (n : ℕ) (w : W) → ((v : V) → r ≡ Ok v → 0 < n) → told_as f r ≡ Ok w → 0 < n
+mapped_advances : {V W : Type 0} (f : V → W) (r : Result V Report) (n : ℕ) (w : W) → ((v : V) → r ≡ Ok v → 0 < n) → known_as f r ≡ Ok w → 0 < n
 mapped_advances f (Ok v) n w h e = h v refl
 mapped_advances f (Err g) n w h e = cc
 
@@ -111,7 +111,7 @@ where_seen_advances (Ok false) takes o other v h k e = k v e
 where_seen_advances (Err f) takes o other v h k e = cc
 
 pub advances_where_seen : {V : Type 0} (sight : Sight) (m other : Reading V) → Advances m → Advances other → Advances (where_seen sight m other)
-advances_where_seen sight m other t u a v e = where_seen_advances (sight a).told (sight a).takes (m a) (other a) v (t a) (u a) e
+advances_where_seen sight m other t u a v e = where_seen_advances (sight a).known (sight a).takes (m a) (other a) v (t a) (u a) e
 
 pub advances_refuse : (V : Type 0) (message : List ℕ) → Advances (refuse {V = V} message)
 advances_refuse V message a v e = cc
@@ -132,7 +132,7 @@ opened_advances (Err f) m a w h e = cc
 pub advances_group : {V : Type 0} (m : Reading V) → Advances (group m)
 advances_group m a w e = opened_advances (opened a.source a.place a.names) m a w (forward_opened a.source a.place a.names) e
 
--- What calls answer, of whose values the same is told otherwise.
+-- What calls answer, of whose values the same is reported otherwise.
 pub reads_alike : {V T : Type 0} (f g : T → V) (m : Reading V) (a : State) (r : Result T (Option Report)) (q : ℕ) → ((x : T) → f x ≡ g x) → Reads f m a r q → Reads g m a r q
 reads_alike f g m a (Ok x) q e h = (h.0 ∙ ap Ok (e x), h.1)
 reads_alike f g m a (Err None) q e h = h

@@ -7,21 +7,21 @@ use Rattle.wat_lex.specs.declared.lexer.kinds.Token.{Token}
 use Rattle.wat_lex.specs.declared.lexer.kinds.TokenKind.{TokenKind}
 use Rattle.wat_lex.specs.declared.lexer.kinds.TokenKind.TheVariants.{LParen, RParen}
 use Rattle.wat_lexer_parser.specs.groups.Sorts.{is_close}
-use Rattle.wat_lexer_parser.specs.lemmas.Behind.{same_token, forward_shown}
+use Rattle.wat_lexer_parser.specs.lemmas.After.{same_token, forward_shown}
 use Rattle.wat_lexer_parser.specs.names.RegisteredNames.{Names, is_registered}
-use Rattle.wat_lexer_parser.specs.parser.State.{State, Seen, seen, told, report_here, message_at, registered, at_place, seen_at}
+use Rattle.wat_lexer_parser.specs.parser.State.{State, Seen, seen, known, report_here, message_at, registered, at_place, seen_at}
 use Rattle.wat_lexer_parser.specs.parser.Takers.{Reader, taken, taken_by, as_annotation, as_open, as_close, taken_at, may_take_at}
 use Rattle.wat_lexer_parser.specs.lemmas.Parts.{sees, taken_or}
 use Rattle.wat_lexer_parser.specs.places.Places.{current_span, empty_of}
 use Rattle.wat_lexer_parser.specs.lemmas.Parts as parts
 use Rattle.wat_lexer_parser.specs.places.Source.{Source}
 use Rattle.wat_lexer_parser.specs.shown.Showing.{Look, shown}
-use Rattle.wat_lexer_parser.specs.readings.Choices.{one_behind}
-use Rattle.wat_lexer_parser.specs.readings.Readings.{Outcome, Reading, on, refused, given, give, refuse, refuse_behind, token, token_by, also_taking, behind, and_then, and_then_by, told_as, mapped, spanned, allocated, passed_by, checked_by, checked, where_seen_by, where_seen, also_first, up_to, while_seen, closed_by, inside_by, opened_by, group, under, under_by, start, at_end, whole_by, whole, more_comes}
-use Rattle.wat_lexer_parser.specs.parser.Sights.{Sight, sight_of, seen_behind, second}
-use Rattle.wat_lexer_parser.specs.readings.Types.{behind_open, is_taken, sees_annotation, sees_word, spelling}
+use Rattle.wat_lexer_parser.specs.readings.Choices.{one_after}
+use Rattle.wat_lexer_parser.specs.readings.Readings.{Outcome, Reading, on, refused, given, give, refuse, refuse_after, token, token_by, also_taking, after, and_then, and_then_by, known_as, mapped, spanned, allocated, passed_by, checked_by, checked, where_seen_by, where_seen, also_first, up_to, while_seen, closed_by, inside_by, opened_by, group, under, under_by, start, at_end, whole_by, whole, more_comes}
+use Rattle.wat_lexer_parser.specs.parser.Sights.{Sight, sight_of, seen_after, second}
+use Rattle.wat_lexer_parser.specs.readings.Types.{after_open, is_taken, sees_annotation, sees_word, spelling}
 use Rattle.wat_lexer_parser.specs.parser.Closures.{opened, closed, inside}
-use Rattle.wat_lexer_parser.specs.rules.Rules.{End, Ground, Rule, Telling, unless_fault, Nothing, Never, One, one, Then, Told, span_of, Spanned, Checked, Seen as SeenRule, Group, Shrinks, While, none, more, told_word, behind_kind, tells_kind, tells_word, tells_second, tells_behind_open, tells_more}
+use Rattle.wat_lexer_parser.specs.rules.Rules.{End, Ground, Rule, Telling, unless_fault, Nothing, Never, One, one, Then, Known, span_of, Spanned, Checked, Seen as SeenRule, Group, Shrinks, While, none, more, known_word, after_kind, tells_kind, tells_word, tells_second, tells_after_open, tells_more}
 use Rattle.wat_lexer_parser.specs.rules.Rules as rules
 
 -- these tokens are shown one after another from a place on, and then what the ending says
@@ -72,26 +72,26 @@ follows_and_then m next R S f h = record {
       let i = f.complete a e us g.0 g.1 at g.2 in
       let k = (h g.0).complete (on a (m a).passed) e g.1 w r i.1 g.3 in
       let o = and_then m next a in
-      let is : o ≡ behind (m a).passed (m a).takes_memory (next g.0 (on a (m a).passed)) = ap (λ x. and_then_by x (m a).passed (m a).takes_memory next a) i.0 in
+      let is : o ≡ after (m a).passed (m a).takes_memory (next g.0 (on a (m a).passed)) = ap (λ x. and_then_by x (m a).passed (m a).takes_memory next a) i.0 in
       (ap (λ o. o.answer) is ∙ k.0, move a.source a.names e _ (a.place + o.passed) r (omega (arith, ap (λ o. o.passed) is)) k.1);
 }
 
-pub told_as_got : {V W : Type 0} (f : V → W) (x : Result V Report) (w : W) → told_as f x ≡ Ok w → (v : V) × (x ≡ Ok v) × (f v ≡ w)
-told_as_got f (Ok v) w e = let k : f v ≡ w = cc in (v, refl, k)
-told_as_got f (Err r) w e = cc
+pub known_as_got : {V W : Type 0} (f : V → W) (x : Result V Report) (w : W) → known_as f x ≡ Ok w → (v : V) × (x ≡ Ok v) × (f v ≡ w)
+known_as_got f (Ok v) w e = let k : f v ≡ w = cc in (v, refl, k)
+known_as_got f (Err r) w e = cc
 
-pub follows_mapped : {V W : Type 0} (f : V → W) (m : Reading V) (R : Rule V) → Follows m R → Follows (mapped f m) (Told f R)
+pub follows_mapped : {V W : Type 0} (f : V → W) (m : Reading V) (R : Rule V) → Follows m R → Follows (mapped f m) (Known f R)
 follows_mapped f m R h = record {
   sound = λ a e us w at got.
-      let k = told_as_got f (m a).answer w got in
+      let k = known_as_got f (m a).answer w got in
       let j = h.sound a e us k.0 at k.1 in
       (j.0, j.1, (k.0, j.2, k.2));
   complete = λ a e us w r at g.
       let k = h.complete a e us g.0 r at g.1 in
-      (ap (told_as f) k.0 ∙ ap Ok g.2, k.1);
+      (ap (known_as f) k.0 ∙ ap Ok g.2, k.1);
 }
 
--- the span is one of the shown tokens, or stands in the ending
+-- the span is one of the shown tokens, or is in the ending
 pub span_at : (a : State) (e : End) (us : List Token) → From a e us → current_span a.source a.place a.names ≡ span_of (ground a e) us
 unfolding current_span
 span_at a e [] at = at.1
@@ -100,12 +100,12 @@ span_at a e (t ∷ us) at = ap (parts.span_of a.source a.place) at.1
 pub follows_spanned : {V : Type 0} (m : Reading V) (R : Rule V) → Follows m R → Follows (spanned m) (Spanned R)
 follows_spanned {V} m R h = record {
   sound = λ a e us w at got.
-      let k = told_as_got {W = V × ℕ} (λ v. (v, current_span a.source a.place a.names)) (m a).answer w got in
+      let k = known_as_got {W = V × ℕ} (λ v. (v, current_span a.source a.place a.names)) (m a).answer w got in
       let j = h.sound a e us k.0 at k.1 in
       (j.0, j.1, (k.0, j.2, ap (λ n. (k.0, n)) (sym (span_at a e us at)) ∙ k.2));
   complete = λ a e us w r at g.
       let k = h.complete a e us g.0 r at g.1 in
-      (ap (told_as {W = V × ℕ} (λ v. (v, current_span a.source a.place a.names))) k.0 ∙ ap Ok (ap (λ n. (g.0, n)) (span_at a e us at) ∙ g.2), k.1);
+      (ap (known_as {W = V × ℕ} (λ v. (v, current_span a.source a.place a.names))) k.0 ∙ ap Ok (ap (λ n. (g.0, n)) (span_at a e us at) ∙ g.2), k.1);
 }
 
 pub follows_also : {V : Type 0} (takes : Bool) (m : Reading V) (R : Rule V) → Follows m R → Follows (λ a. also_taking takes (m a)) R
@@ -138,17 +138,17 @@ follows_checked check message m R h = record {
 
 -- A token.
 
-told_token : (x : List ℕ) (l : Look) (t : Token) (q : ℕ) → told x l ≡ Ok (Some (t, q)) → l ≡ Ok (Some (t, q))
-told_token x (Ok found) t q e = let k : found ≡ Some (t, q) = cc in ap Ok k
-told_token x (Err f) t q e = cc
+known_token : (x : List ℕ) (l : Look) (t : Token) (q : ℕ) → known x l ≡ Ok (Some (t, q)) → l ≡ Ok (Some (t, q))
+known_token x (Ok found) t q e = let k : found ≡ Some (t, q) = cc in ap Ok k
+known_token x (Err f) t q e = cc
 
 pub shown_token : (a : State) (t : Token) (q : ℕ) → seen_at a ≡ Ok (Some (t, q)) → shown a.source a.place a.names ≡ Ok (Some (t, q))
 unfolding seen
-shown_token a t q e = told_token a.source.setting.text (shown a.source a.place a.names) t q e
+shown_token a t q e = known_token a.source.setting.text (shown a.source a.place a.names) t q e
 
 pub seen_token : (a : State) (t : Token) (q : ℕ) → shown a.source a.place a.names ≡ Ok (Some (t, q)) → seen_at a ≡ Ok (Some (t, q))
 unfolding seen
-seen_token a t q e = ap (told a.source.setting.text) e
+seen_token a t q e = ap (known a.source.setting.text) e
 
 not_ended : (f : Option Report) (t : Token) (q : ℕ) → ◌≡◌ {A = Seen} (Ok (Some (t, q))) (unless_fault None f) → ⊥
 not_ended None t q e = cc
@@ -197,9 +197,9 @@ follows_token {V} read message = record {
 
 -- Looks.
 
--- what is told at a place is what is told of the shown tokens
+-- what is reported at a place is what is reported of the shown tokens
 abbrev pub Agrees : Sight → Telling → Type 0
-Agrees sight look = (a : State) (e : End) (us : List Token) → From a e us → (sight a).told ≡ look (ground a e) us
+Agrees sight look = (a : State) (e : End) (us : List Token) → From a e us → (sight a).known ≡ look (ground a e) us
 
 sees_end : {V : Type 0} (read : Reader V) (x : List ℕ) (f : Option Report) → sees read x (unless_fault None f) ≡ unless_fault false f
 sees_end read x None = refl
@@ -209,23 +209,23 @@ pub agrees_kind : {V : Type 0} (read : Reader V) → Agrees (sight_of read) (tel
 agrees_kind read a e [] at = ap (sees read a.source.setting.text) at.0 ∙ sees_end read a.source.setting.text e.fault
 agrees_kind read a e (t ∷ us) at = ap (sees read a.source.setting.text) (seen_token a t at.0 at.1)
 
-found_end : (A : Type 0) (sight : Sight) (a : State) (f : Option Report) → (seen_behind {A = A} sight a (unless_fault None f)).told ≡ unless_fault false f
+found_end : (A : Type 0) (sight : Sight) (a : State) (f : Option Report) → (seen_after {A = A} sight a (unless_fault None f)).known ≡ unless_fault false f
 found_end A sight a None = refl
 found_end A sight a (Some f) = refl
 
 pub agrees_second : (sight : Sight) (look : Telling) → Agrees sight look → Agrees (second sight) (tells_second look)
-agrees_second sight look h a e [] at = ap (λ x. (seen_behind sight a x).told) at.0 ∙ found_end Token sight a e.fault
-agrees_second sight look h a e (t ∷ us) at = ap (λ x. (seen_behind sight a x).told) (seen_token a t at.0 at.1) ∙ h (at_place a at.0) e us at.2
+agrees_second sight look h a e [] at = ap (λ x. (seen_after sight a x).known) at.0 ∙ found_end Token sight a e.fault
+agrees_second sight look h a e (t ∷ us) at = ap (λ x. (seen_after sight a x).known) (seen_token a t at.0 at.1) ∙ h (at_place a at.0) e us at.2
 
 open_end : (x : List ℕ) (f : Option Report) → taken as_open x (unless_fault None f) ≡ unless_fault None f
 open_end x None = refl
 open_end x (Some f) = refl
 
-pub agrees_behind_open : (sight : Sight) (look : Telling) → Agrees sight look → Agrees (behind_open sight) (tells_behind_open look)
-agrees_behind_open sight look h a e [] at = ap (λ x. (seen_behind sight a x).told) (ap (taken as_open a.source.setting.text) at.0 ∙ open_end a.source.setting.text e.fault) ∙ found_end (Unit {0}) sight a e.fault
-agrees_behind_open sight look h a e (t ∷ us) at = ap (λ x. (seen_behind sight a (taken as_open a.source.setting.text x)).told) (seen_token a t at.0 at.1) ∙ by_kind t.kind
+pub agrees_after_open : (sight : Sight) (look : Telling) → Agrees sight look → Agrees (after_open sight) (tells_after_open look)
+agrees_after_open sight look h a e [] at = ap (λ x. (seen_after sight a x).known) (ap (taken as_open a.source.setting.text) at.0 ∙ open_end a.source.setting.text e.fault) ∙ found_end (Unit {0}) sight a e.fault
+agrees_after_open sight look h a e (t ∷ us) at = ap (λ x. (seen_after sight a (taken as_open a.source.setting.text x)).known) (seen_token a t at.0 at.1) ∙ by_kind t.kind
   where
-    by_kind : (k : TokenKind) → (seen_behind sight a (taken_by at.0 (as_open a.source.setting.text t k))).told ≡ behind_kind k (look (ground a e) us)
+    by_kind : (k : TokenKind) → (seen_after sight a (taken_by at.0 (as_open a.source.setting.text t k))).known ≡ after_kind k (look (ground a e) us)
     by_kind LParen = h (at_place a at.0) e us at.2
     by_kind k = refl
 
@@ -233,7 +233,7 @@ word_end : (read : Reader (Unit {0})) (x : List ℕ) (f : Option Report) → is_
 word_end read x None = refl
 word_end read x (Some f) = refl
 
-word_of : (q : ℕ) (o : Option (Result (Unit {0}) Report)) → is_taken (taken_by q o) ≡ told_word o
+word_of : (q : ℕ) (o : Option (Result (Unit {0}) Report)) → is_taken (taken_by q o) ≡ known_word o
 word_of q None = refl
 word_of q (Some (Ok u)) = refl
 word_of q (Some (Err f)) = refl
@@ -252,14 +252,14 @@ over_of (Ok None) = true
 over_of (Ok (Some (t, q))) = is_close t.kind
 over_of (Err f) = false
 
-over_told : (x : List ℕ) (l : Look) → empty_of l ≡ over_of (told x l)
-over_told x (Ok None) = refl
-over_told x (Ok (Some (t, q))) = refl
-over_told x (Err f) = refl
+over_known : (x : List ℕ) (l : Look) → empty_of l ≡ over_of (known x l)
+over_known x (Ok None) = refl
+over_known x (Ok (Some (t, q))) = refl
+over_known x (Err f) = refl
 
 over_here : (a : State) → empty_of (shown a.source a.place a.names) ≡ over_of (seen_at a)
 unfolding seen
-over_here a = over_told a.source.setting.text (shown a.source a.place a.names)
+over_here a = over_known a.source.setting.text (shown a.source a.place a.names)
 
 over_end : (f : Option Report) → not (over_of (unless_fault None f)) ≡ is_some f
 over_end None = refl
@@ -277,7 +277,7 @@ seen_got (Err f) takes o other v e = cc
 
 pub follows_where_seen : {V : Type 0} (sight : Sight) (look : Telling) (m n : Reading V) (R S : Rule V) → Agrees sight look → Follows m R → Follows n S → Follows (where_seen sight m n) (SeenRule look R S)
 follows_where_seen sight look m n R S t f g = record {
-  sound = λ a e us v at got. elim (seen_got (sight a).told (sight a).takes (m a) (n a) v got) [
+  sound = λ a e us v at got. elim (seen_got (sight a).known (sight a).takes (m a) (n a) v got) [
     | inl h ↦ let k = f.sound a e us v at h.1 in (k.0, move a.source a.names e (a.place + (m a).passed) (a.place + (where_seen sight m n a).passed) k.0 (omega (arith, h.2)) k.1, inl (sym (t a e us at) ∙ h.0, k.2))
     | inr h ↦ let k = g.sound a e us v at h.1 in (k.0, move a.source a.names e (a.place + (n a).passed) (a.place + (where_seen sight m n a).passed) k.0 (omega (arith, h.2)) k.1, inr (sym (t a e us at) ∙ h.0, k.2))
   ];
@@ -293,13 +293,13 @@ follows_where_seen sight look m n R S t f g = record {
   ];
 }
 
-pub follows_refuse_behind : (V : Type 0) (message : List ℕ) → Follows (refuse_behind {V = V} message) Never
-follows_refuse_behind V message = record {
+pub follows_refuse_after : (V : Type 0) (message : List ℕ) → Follows (refuse_after {V = V} message) Never
+follows_refuse_after V message = record {
   sound = λ a e us w at got. cc;
   complete = λ a e us w r at h. absurd h;
 }
 
-pub follows_none : (V : Type 0) (missed : List (List ℕ)) → Follows (one_behind {V = V} missed []) Never
+pub follows_none : (V : Type 0) (missed : List (List ℕ)) → Follows (one_after {V = V} missed []) Never
 follows_none V missed = record {
   sound = λ a e us w at got. cc;
   complete = λ a e us w r at h. absurd h;
@@ -309,13 +309,13 @@ follows_none V missed = record {
 
 abbrev pub UpTo : {V : Type 0} → ℕ → Telling → Rule V → Rule (List V)
 UpTo zero look R = Never
-UpTo (suc n) look R = SeenRule look (Then R (λ v. Told (λ vs. v ∷ vs) (UpTo n look R))) (Nothing [])
+UpTo (suc n) look R = SeenRule look (Then R (λ v. Known (λ vs. v ∷ vs) (UpTo n look R))) (Nothing [])
 
 follows_up_to : {V : Type 0} (n : ℕ) (sight : Sight) (look : Telling) (m : Reading V) (R : Rule V) → Agrees sight look → Follows m R → Follows (up_to n sight m) (UpTo n look R)
 follows_up_to {V} zero sight look m R t f = follows_refuse (List V) []
 follows_up_to (suc n) sight look m R t f =
     let rest = follows_up_to n sight look m R t f in
-    let first = follows_and_then m (λ v. mapped (λ vs. v ∷ vs) (up_to n sight m)) R (λ v. Told (λ vs. v ∷ vs) (UpTo n look R)) f (λ v. follows_mapped (λ vs. v ∷ vs) (up_to n sight m) (UpTo n look R) rest) in
+    let first = follows_and_then m (λ v. mapped (λ vs. v ∷ vs) (up_to n sight m)) R (λ v. Known (λ vs. v ∷ vs) (UpTo n look R)) f (λ v. follows_mapped (λ vs. v ∷ vs) (up_to n sight m) (UpTo n look R) rest) in
     follows_where_seen sight look (also_first m (up_to n sight m)) (give []) _ (Nothing []) t (follows_allocated _ _ first) (follows_give [])
 
 while_of : {V : Type 0} (n : ℕ) (look : Telling) (R : Rule V) (g : Ground) (ts : List Token) (vs : List V) (r : List Token) → UpTo n look R g ts vs r → While look R g ts vs r
@@ -403,7 +403,7 @@ inside_got : {V : Type 0} (x : Result V Report) (o : Outcome V) (b a : State) (v
 inside_got (Ok w) o b a v e = let k = closed_by_got (closed a.source (b.place + o.passed) a.names) w o.takes_memory a.place v e in (k.0, ap Ok k.2, k.1, k.3)
 inside_got (Err f) o b a v e = cc
 
--- what a group got: the place behind `(`, the value, the place behind `)`
+-- what a group got: the place after `(`, the value, the place after `)`
 pub group_got : {V : Type 0} (x : Result ℕ Report) (m : Reading V) (a : State) (v : V) → (opened_by x m a).answer ≡ Ok v
     → (p q : ℕ) × (x ≡ Ok p) × ((m (inside a p)).answer ≡ Ok v) × (closed a.source (p + (m (inside a p)).passed) a.names ≡ Ok q) × ((opened_by x m a).passed ≡ q - a.place)
 group_got (Ok p) m a v e = let k = inside_got (m (inside a p)).answer (m (inside a p)) (inside a p) a v e in (p, k.0, refl, k.1, k.2, k.3)

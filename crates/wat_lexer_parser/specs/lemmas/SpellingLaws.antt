@@ -10,9 +10,9 @@ use Rattle.wat_lex.specs.tokens.Setting.{Setting}
 use Rattle.wat_lex.specs.declared.lexer.kinds.Token.{Token}
 use Rattle.wat_lexer_parser.specs.declared.parser.fault.Fault.{Fault}
 use Rattle.wat_lexer_parser.specs.lemmas.AnswerLaws.{answers_true}
-use Rattle.wat_lexer_parser.specs.lemmas.Behind.{Behind, behind_in, behind_place, shown_is_taken}
+use Rattle.wat_lexer_parser.specs.lemmas.After.{After, after_in, after_place, shown_is_taken}
 use Rattle.wat_lexer_parser.specs.names.RegisteredNames.{Names, no_names}
-use Rattle.wat_lexer_parser.specs.parser.State.{Answers, report_of, seen, told}
+use Rattle.wat_lexer_parser.specs.parser.State.{Answers, report_of, seen, known}
 use Rattle.wat_lexer_parser.specs.places.Places.{current_span, offset_at}
 use Rattle.wat_lexer_parser.specs.lemmas.Parts as parts
 use Rattle.wat_lexer_parser.specs.places.Source.{Source, IsRead}
@@ -25,16 +25,16 @@ use Rattle.wat_lexer_parser.specs.laws.ShownLaws.{SomethingIsAllShown}
 use Rattle.wat_lexer_parser.specs.readings.Readings.{Reading, whole}
 use Rattle.wat_lexer_parser.specs.lemmas.RuleLaws.{At, Follows, left, spelled_is_whole, whole_is_spelled}
 use Rattle.wat_lexer_parser.specs.rules.Rules.{Rule}
-use Rattle.wat_lexer_parser.specs.rules.Spelling.{Spells, ReadsAsSpelled, behind_value, end_from, ground_of}
+use Rattle.wat_lexer_parser.specs.rules.Spelling.{Spells, ReadsAsSpelled, after_value, end_from, ground_of}
 
 shown_is : OneThingShown → (s : Source) (names : Names) (p : ℕ) (ts : List Token) (a : Finding) → ts ≡ drop p s.tokens → Shown s.setting.text s.ending names ts a → shown s p names ≡ placed s.tokens a
 unfolding shown
 shown_is one s names p ts a e shows =
     ap (λ ts. placed s.tokens (shown_in s.setting.text s.ending names Showing ts)) (sym e) ∙ ap (placed s.tokens) (sym (one s.setting.text s.ending names ts a shows))
 
-seen_is : (s : Source) (names : Names) (p : ℕ) (l : Look) → shown s p names ≡ l → seen s p names ≡ told s.setting.text l
+seen_is : (s : Source) (names : Names) (p : ℕ) (l : Look) → shown s p names ≡ l → seen s p names ≡ known s.setting.text l
 unfolding seen
-seen_is s names p l e = ap (told s.setting.text) e
+seen_is s names p l e = ap (known s.setting.text) e
 
 span_is : (s : Source) (names : Names) (p : ℕ) (l : Look) → shown s p names ≡ l → current_span s p names ≡ parts.span_of s p l
 unfolding current_span
@@ -57,16 +57,16 @@ at_by one s names p ts _ f (all_shown.next {r = r} {us = us} {t = t} shows other
     let q = length s.tokens - length r in
     let is = shown_is one s names p ts (Ok (Some (t, r))) e shows in
     let here : shown_in x s.ending names Showing ts ≡ Ok (Some (t, r)) = sym (one x s.ending names ts (Ok (Some (t, r))) shows) in
-    let behind = behind_place t s.tokens p r (subst (λ ts. Behind t ts r) e (behind_in x s.ending names Showing ts t r here)) in
+    let after = after_place t s.tokens p r (subst (λ ts. After t ts r) e (after_in x s.ending names Showing ts t r here)) in
     let more = end_more x (offset_at s.tokens p) (offset_at s.tokens q) t us f (shown_is_taken s p names t q is).3 in
-    (q, is, subst (λ e. At s names e q us) more (at_by one s names q r us f others behind.tail))
+    (q, is, subst (λ e. At s names e q us) more (at_by one s names q r us f others after.tail))
 
 spells_of : {V : Type 0} (R : Rule V) (s : Source) (v : V) (us : List Token) (f : Option Fault) → IsRead s → AllShown s.setting.text s.ending no_names s.tokens us f → R (ground_of s.setting.text us f) us v []
     → option_map (report_of s.setting.text) f ≡ None → Spells R s.setting v
 spells_of R s v us None r all h e = record { tokens = us; shown = record { tokens = s.tokens; ending = s.ending; tiling = r; all = all }; begins = h }
 spells_of R s v us (Some f) r all h e = cc
 
-left_is : {V : Type 0} (s : Source) (v : V) (us l : List Token) (f : Option Fault) → left s (end_from s.setting.text 0 us f) v l ≡ behind_value v s.setting l f
+left_is : {V : Type 0} (s : Source) (v : V) (us l : List Token) (f : Option Fault) → left s (end_from s.setting.text 0 us f) v l ≡ after_value v s.setting l f
 left_is s v us [] None = refl
 left_is s v us [] (Some f) = refl
 left_is s v us (t ∷ l) f = refl

@@ -4,7 +4,7 @@ use Rattle.std.specs.Prelude.{◌++◌, codes, length, nat_le, Option}
 use Rattle.wat_lexer_parser.specs.lemmas.ReadingLaws.{advances_token, advances_and_then, advances_mapped, advances_spanned, advances_checked, advances_where_seen, advances_refuse, advances_group}
 use Rattle.wat_lexer_parser.specs.parser.Takers.{Reader, as_integer, as_string, as_annotation, as_keyword, as_reserved}
 use Rattle.wat_lexer_parser.specs.readings.Attempts.{attempts_held}
-use Rattle.wat_lexer_parser.specs.readings.Choices.{Choice, one_behind, one_of}
+use Rattle.wat_lexer_parser.specs.readings.Choices.{Choice, one_after, one_of}
 use Rattle.wat_lexer_parser.specs.readings.Readings.{Reading, also_taking, token, refuse, mapped, pair, spanned, where_seen}
 use Rattle.wat_lexer_parser.specs.readings.Reads.{Advances}
 use Rattle.wat_lexer_parser.specs.readings.Types.{Reference, Number, Named, Spelled, identifier, an_identifier, integer, an_integer, u32, unsigned_below, an_index, item, bytes, text, utf8_or_refused, spelling, word, keyword, reserved_symbol, annotation, name_annotation, as_owned_id}
@@ -15,13 +15,13 @@ abbrev pub EachAdvances : {V : Type 0} → List (Choice V) → Type 0
 EachAdvances [] = Unit {0}
 EachAdvances (c ∷ cs) = Advances c.reading × EachAdvances cs
 
-one_behind_advances : {V : Type 0} (missed : List (List ℕ)) (cs : List (Choice V)) → EachAdvances cs → Advances (one_behind missed cs)
-one_behind_advances missed [] h a v e = cc
-one_behind_advances missed (c ∷ cs) h a v e =
-    advances_where_seen c.sight c.reading (λ a. also_taking (nat_le attempts_held (length missed)) (one_behind (missed ++ (c.shows ∷ [])) cs a)) h.0 (one_behind_advances (missed ++ (c.shows ∷ [])) cs h.1) a v e
+one_after_advances : {V : Type 0} (missed : List (List ℕ)) (cs : List (Choice V)) → EachAdvances cs → Advances (one_after missed cs)
+one_after_advances missed [] h a v e = cc
+one_after_advances missed (c ∷ cs) h a v e =
+    advances_where_seen c.sight c.reading (λ a. also_taking (nat_le attempts_held (length missed)) (one_after (missed ++ (c.shows ∷ [])) cs a)) h.0 (one_after_advances (missed ++ (c.shows ∷ [])) cs h.1) a v e
 
 pub advances_one_of : {V : Type 0} (cs : List (Choice V)) → EachAdvances cs → Advances (one_of cs)
-advances_one_of cs h = one_behind_advances [] cs h
+advances_one_of cs h = one_after_advances [] cs h
 
 pub advances_identifier : Advances identifier
 advances_identifier =

@@ -3,11 +3,11 @@ use Rattle.std.specs.Prelude.{ℕ, ◌+◌, ◌≡◌, ◌<◌, ◌⊎◌, codes
 use Rattle.wat_lexer_parser.specs.parser.State.{State, IsRefusal, report_here, seen, Report, Names, Source, cases_of}
 use Rattle.wat_lexer_parser.specs.parser.Takers.{taken, as_open, as_close}
 
--- the place behind the `(` that is shown, or the refusal
+-- the place after the `(` that is shown, or the refusal
 unfoldable pub opened : Source → ℕ → Names → Result ℕ Report
 opened s p names = cases_of (taken as_open s.setting.text (seen s p names)) (Err (report_here s p names (codes "expected `(`"))) (λ v q. Ok q) Err
 
--- the place behind the `)` that is shown, or the refusal
+-- the place after the `)` that is shown, or the refusal
 unfoldable pub closed : Source → ℕ → Names → Result ℕ Report
 closed s p names = cases_of (taken as_close s.setting.text (seen s p names)) (Err (report_here s p names (codes "expected `)`"))) (λ v q. Ok q) Err
 
@@ -16,12 +16,12 @@ abbrev pub inside : State → ℕ → State
 inside a p = record { source = a.source; place = p; names = a.names; depth = a.depth + 1 }
 
 module _ {T : Type 0} where
-  -- R says what the closure answers, and the state that it leaves. Behind it `)` is taken. Each parenthesis is a token more.
+  -- R says what the closure answers, and the state that it leaves. After it `)` is taken. Each parenthesis is a token more.
   abbrev pub ParensOk : (State → Result T (Option Report) → State → Type 0) → State → T → State → Type 0
   ParensOk R a t b =
       (p : ℕ) × (q : State) × (opened a.source a.place a.names ≡ Ok p) × (a.place < p) × R (inside a p) (Ok t) q × (closed a.source q.place q.names ≡ Ok b.place) × (q.place < b.place) × (b ≡ record a { place = b.place; names = q.names })
 
-  -- no `(` is shown, or the closure refuses, or no `)` is shown behind it; place and depth are what they were
+  -- no `(` is shown, or the closure refuses, or no `)` is shown after it; place and depth are what they were
   abbrev pub ParensErr : (State → Result T (Option Report) → State → Type 0) → State → Option Report → State → Type 0
   ParensErr R a e b =
       ((b ≡ a) × IsRefusal (opened a.source a.place a.names) e)

@@ -39,16 +39,16 @@ message_at s offset message = report_in s.setting.text offset (Custom message)
 abbrev pub report_here : Source → ℕ → Names → List ℕ → Report
 report_here s p names message = message_at s (current_span s p names) message
 
--- what is seen: a token with the place behind it, None at the end, or the report of a fault
+-- what is seen: a token with the place after it, None at the end, or the report of a fault
 abbrev pub Seen : Type 0
 Seen = Result (Option (Token × ℕ)) Report
 
-abbrev pub told : List ℕ → Look → Seen
-told text (Ok found) = Ok found
-told text (Err f) = Err (report_of text f)
+abbrev pub known : List ℕ → Look → Seen
+known text (Ok found) = Ok found
+known text (Err f) = Err (report_of text f)
 
 unfoldable pub seen : Source → ℕ → Names → Seen
-seen s p names = told s.setting.text (shown s p names)
+seen s p names = known s.setting.text (shown s p names)
 
 -- the same from a parser's state
 abbrev pub seen_at : State → Seen

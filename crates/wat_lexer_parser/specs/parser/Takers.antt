@@ -11,7 +11,7 @@ use Rattle.wat_lex.specs.declared.lexer.kinds.SignToken.{SignToken}
 use Rattle.wat_lex.specs.declared.lexer.kinds.SignToken.TheVariants.{Minus}
 use Rattle.wat_lex.specs.declared.lexer.kinds.TokenKind.TheVariants.{String, Id, Keyword, Reserved, Integer, Float}
 use Rattle.wat_lex.specs.declared.lexer.read.numbers.Integer.{Integer as Number}
-use Rattle.wat_lexer_parser.specs.parser.State.{State, Seen, seen_at, told, Report, lexical, comment_at, cases_of}
+use Rattle.wat_lexer_parser.specs.parser.State.{State, Seen, seen_at, known, Report, lexical, comment_at, cases_of}
 use Rattle.wat_lexer_parser.specs.places.Source.{Token, TokenKind, LParen, RParen, Annotation, LexError, EmptyId, EmptyAnnotation, token_text, word_of}
 
 -- how tokens of one kind are read: None for another kind, else a value or a refusal
@@ -23,7 +23,7 @@ taken_by q None = Ok None
 taken_by q (Some (Ok v)) = Ok (Some (v, q))
 taken_by q (Some (Err f)) = Err f
 
--- the value of the seen token with the place behind it; None where another kind or the end is seen
+-- the value of the seen token with the place after it; None where another kind or the end is seen
 abbrev pub taken : {V : Type 0} → Reader V → List ℕ → Seen → Result (Option (V × ℕ)) Report
 taken read text found = cases_of found (Ok None) (λ t q. taken_by q (read text t t.kind)) Err
 
@@ -80,9 +80,9 @@ as_id text t = elim [ Id ↦ Some (name_or_report text t (name_value EmptyId (wo
 abbrev pub as_annotation : Reader (List ℕ)
 as_annotation text t = elim [ Annotation ↦ Some (name_or_report text t (name_value EmptyAnnotation (word_of text t))) | other ↦ None ]
 
--- the text of the comment in front, with the place behind it
+-- the text of the comment in front, with the place after it
 abbrev pub comment_taken : State → Result (Option (List ℕ × ℕ)) Report
-comment_taken a = taken (λ text t kind. Some (Ok (token_text text t))) a.source.setting.text (told a.source.setting.text (comment_at a.source a.place))
+comment_taken a = taken (λ text t kind. Some (Ok (token_text text t))) a.source.setting.text (known a.source.setting.text (comment_at a.source a.place))
 
 abbrev pub contains : ℕ → List ℕ → Bool
 contains c w = list_any (λ d. d == c) w
@@ -91,7 +91,7 @@ contains c w = list_any (λ d. d == c) w
 abbrev pub name_takes : List ℕ → Token → Bool
 name_takes text t = contains quote (word_of text t) && contains backslash (word_of text t)
 
--- whether reading a word takes memory; strings with an escape are decoded, and numbers with underscores or `0x` are written anew
+-- whether reading a word takes memory; strings with an escape are decoded, and numbers with underscores or `0x` are rewritten
 abbrev pub word_takes : List ℕ → Token → TokenKind → Bool
 word_takes text t String = contains backslash (word_of text t)
 word_takes text t Id = name_takes text t

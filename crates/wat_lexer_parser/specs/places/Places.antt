@@ -19,17 +19,17 @@ current_span s p names = cases_of (shown s p names) (length s.setting.text) (λ 
 abbrev pub empty_of : Look → Bool
 empty_of look = cases_of look true (λ t q. is_close t.kind) (λ f. false)
 
--- behind at most one whitespace token
+-- after at most one whitespace token
 unfoldable pub past_space : List Token → List Token
 past_space [] = []
 past_space (t ∷ r) = if is_space t.kind then r else (t ∷ r)
 
--- the comment that stands in front; the ending's fault where nothing is left
+-- the comment that comes first; the ending's fault where nothing is left
 unfoldable pub comment_in : Option LexFault → List Token → Finding
 comment_in e [] = ended e
 comment_in e (t ∷ r) = if is_comment t.kind then Ok (Some (t, r)) else Ok None
 
--- the comment at a place, with the place behind it
+-- the comment at a place, with the place after it
 unfoldable pub comment_at : Source → ℕ → Look
 comment_at s p = placed s.tokens (comment_in s.ending (past_space (drop p s.tokens)))
 

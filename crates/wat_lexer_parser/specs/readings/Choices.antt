@@ -14,11 +14,11 @@ abbrev pub choice : {V : Type 0} → Sight → List ℕ → Reading V → Choice
 choice sight shows reading = record { sight = sight; shows = shows; reading = reading }
 
 -- what is expected, where these types were missed; as many of them as a lookahead holds itself are remembered without memory
-abbrev pub one_behind : {V : Type 0} → List (List ℕ) → List (Choice V) → Reading V
-one_behind missed [] a = refused (attempts_report a missed) 0
-one_behind missed (c ∷ cs) a =
-    where_seen c.sight c.reading (λ a. also_taking (nat_le attempts_held (length missed)) (one_behind (missed ++ (c.shows ∷ [])) cs a)) a
+abbrev pub one_after : {V : Type 0} → List (List ℕ) → List (Choice V) → Reading V
+one_after missed [] a = refused (attempts_report a missed) 0
+one_after missed (c ∷ cs) a =
+    where_seen c.sight c.reading (λ a. also_taking (nat_le attempts_held (length missed)) (one_after (missed ++ (c.shows ∷ [])) cs a)) a
 
 -- the first of these that is seen; else the message that one of them was expected
 abbrev pub one_of : {V : Type 0} → List (Choice V) → Reading V
-one_of cs = one_behind [] cs
+one_of cs = one_after [] cs

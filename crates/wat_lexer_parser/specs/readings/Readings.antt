@@ -41,8 +41,8 @@ abbrev pub refuse : {V : Type 0} → List ℕ → Reading V
 refuse message a = refused (report_here a.source a.place a.names message) 0
 
 -- a message at the place itself, where what was read before it ends
-abbrev pub refuse_behind : {V : Type 0} → List ℕ → Reading V
-refuse_behind message a = refused (message_at a.source (offset_at a.source.tokens a.place) message) 0
+abbrev pub refuse_after : {V : Type 0} → List ℕ → Reading V
+refuse_after message a = refused (message_at a.source (offset_at a.source.tokens a.place) message) 0
 
 abbrev pub token_by : {V : Type 0} → Result (Option (V × ℕ)) Report → Bool → Outcome V → ℕ → Outcome V
 token_by (Ok None) takes other p = other
@@ -57,25 +57,25 @@ abbrev pub also_taking : {V : Type 0} → Bool → Outcome V → Outcome V
 also_taking takes o = record { answer = o.answer; passed = o.passed; takes_memory = takes || o.takes_memory }
 
 -- what was read before it is passed too
-abbrev pub behind : {V : Type 0} → ℕ → Bool → Outcome V → Outcome V
-behind n takes o = record { answer = o.answer; passed = n + o.passed; takes_memory = takes || o.takes_memory }
+abbrev pub after : {V : Type 0} → ℕ → Bool → Outcome V → Outcome V
+after n takes o = record { answer = o.answer; passed = n + o.passed; takes_memory = takes || o.takes_memory }
 
 abbrev pub and_then_by : {V W : Type 0} → Result V Report → ℕ → Bool → (V → Reading W) → State → Outcome W
-and_then_by (Ok v) n takes next a = behind n takes (next v (on a n))
+and_then_by (Ok v) n takes next a = after n takes (next v (on a n))
 and_then_by (Err f) n takes next a = refused f n
 
 -- what one reads, and then what another does, which may go by the first value
 abbrev pub and_then : {V W : Type 0} → Reading V → (V → Reading W) → Reading W
 and_then m next a = and_then_by (m a).answer (m a).passed (m a).takes_memory next a
 
-abbrev pub told_as : {V W : Type 0} → (V → W) → Result V Report → Result W Report
-told_as f (Ok v) = Ok (f v)
-told_as f (Err r) = Err r
+abbrev pub known_as : {V W : Type 0} → (V → W) → Result V Report → Result W Report
+known_as f (Ok v) = Ok (f v)
+known_as f (Err r) = Err r
 
 abbrev pub mapped_by : {V W : Type 0} → (V → W) → Outcome V → Outcome W
-mapped_by f o = record { answer = told_as f o.answer; passed = o.passed; takes_memory = o.takes_memory }
+mapped_by f o = record { answer = known_as f o.answer; passed = o.passed; takes_memory = o.takes_memory }
 
--- the value told otherwise
+-- the value, described otherwise
 abbrev pub mapped : {V W : Type 0} → (V → W) → Reading V → Reading W
 mapped f m a = mapped_by f (m a)
 
@@ -110,13 +110,13 @@ where_seen_by (Err f) takes o other = refused f 0
 
 -- one reading where a type is seen, another where it is not
 abbrev pub where_seen : {V : Type 0} → Sight → Reading V → Reading V → Reading V
-where_seen sight m other a = where_seen_by (sight a).told (sight a).takes (m a) (other a)
+where_seen sight m other a = where_seen_by (sight a).known (sight a).takes (m a) (other a)
 
 -- a value where a type is seen, and else none
 abbrev pub optional : {V : Type 0} → Sight → Reading V → Reading (Option V)
 optional sight m = where_seen sight (mapped (λ v. Some v) m) (give None)
 
--- a value before those that are read behind it, in memory
+-- a value before those that are read after it, in memory
 abbrev pub also_first : {V : Type 0} → Reading V → Reading (List V) → Reading (List V)
 also_first m rest = allocated (and_then m (λ v. mapped (λ vs. v ∷ vs) rest))
 

@@ -19,7 +19,7 @@ Reads f m a (Err (Some e)) q = ((m a).answer ≡ Err e) × (a.place + (m a).pass
 abbrev pub Advances : {V : Type 0} → Reading V → Type 0
 Advances {V} m = (a : State) (v : V) → (m a).answer ≡ Ok v → 0 < (m a).passed
 
--- The same of a function from a cursor to the one behind what is read, of which `at` tells the place. A refusal takes nothing.
+-- The same of a function from a cursor to the one after what is read, of which `at` tells the place. A refusal takes nothing.
 abbrev pub CursorReads : {V T C : Type 0} → (T → V) → Reading V → State → (C → ℕ) → Result (T × C) (Option Report) → Type 0
 CursorReads f m a at (Ok v) = ((m a).answer ≡ Ok (f v.0)) × (a.place + (m a).passed ≡ at v.1)
 CursorReads f m a at (Err None) = IsTrue (m a).takes_memory

@@ -7,12 +7,12 @@ use Rattle.wat_lex.specs.identifiers.Identifiers.{Identifier}
 use Rattle.wat_lex.specs.declared.lexer.kinds.TokenKind.TheVariants as kind
 use Rattle.wat_lex.specs.declared.token.Index.{Index}
 use Rattle.wat_lex.specs.declared.token.Index.TheVariants as index
-use Rattle.wat_lexer_parser.specs.parser.Sights.{Sight, freely, sight_of, seen_behind, second}
+use Rattle.wat_lexer_parser.specs.parser.Sights.{Sight, freely, sight_of, seen_after, second}
 use Rattle.wat_lexer_parser.specs.parser.Takers.{Reader, taken_at, may_take_at, name_takes, as_id, as_integer, as_string, as_keyword, as_reserved, as_annotation, as_open}
-use Rattle.wat_lexer_parser.specs.readings.Readings.{Reading, token, refuse, refuse_behind, give, and_then, mapped, pair, spanned, allocated, checked, where_seen, optional, group, under}
+use Rattle.wat_lexer_parser.specs.readings.Readings.{Reading, token, refuse, refuse_after, give, and_then, mapped, pair, spanned, allocated, checked, where_seen, optional, group, under}
 use Rattle.wat_words.specs.Words.{quoted, annotation_word}
 
--- Identifiers: the name, whether it is owned, the generation, and the byte at which it stands.
+-- Identifiers: the name, whether it is owned, the generation, and the byte at which it is.
 
 pub record Spelled : Type 0 where
   pub name : List ℕ
@@ -23,7 +23,7 @@ pub record Spelled : Type 0 where
 abbrev pub spelled : Identifier → Spelled
 spelled i = record { name = i.name; owned = i.owned; generation = i.generation; span = i.span }
 
--- the name of an identifier, and whether it is decoded, so that it stands in memory of its own
+-- the name of an identifier, and whether it is decoded, so that it is in memory of its own
 abbrev pub named_by : Bool → Option (Result (List ℕ) Report) → Option (Result (List ℕ × Bool) Report)
 named_by owned None = None
 named_by owned (Some (Ok name)) = Some (Ok (name, owned))
@@ -66,7 +66,7 @@ u32 = integer (codes "u32") (unsigned_below (2 ^ 32))
 abbrev pub an_integer : Sight
 an_integer = sight_of as_integer
 
--- Indices: an identifier, or a `u32` with the byte at which it stands.
+-- Indices: an identifier, or a `u32` with the byte at which it is.
 
 pub data Reference : Type 0 where
   Number : ℕ → ℕ → Reference
@@ -94,9 +94,9 @@ sees_index = sight_of as_index
 abbrev pub item : {V : Type 0} → Reading V → Reading (V × Reference)
 item m = group (pair m an_index)
 
--- what is seen behind a `(`
-abbrev pub behind_open : Sight → Sight
-behind_open sight a = seen_behind sight a (taken_at as_open a)
+-- what is seen after a `(`
+abbrev pub after_open : Sight → Sight
+after_open sight a = seen_after sight a (taken_at as_open a)
 
 -- Strings: bytes, or a text of UTF-8, which may be kept in memory of its own.
 
@@ -104,7 +104,7 @@ abbrev pub bytes : Reading (List ℕ)
 bytes = token as_string (codes "expected a string")
 
 abbrev pub utf8_or_refused : List ℕ → Reading (List ℕ)
-utf8_or_refused v = if is_utf8 v then give v else refuse_behind (codes "malformed UTF-8 encoding")
+utf8_or_refused v = if is_utf8 v then give v else refuse_after (codes "malformed UTF-8 encoding")
 
 abbrev pub text : Reading (List ℕ)
 text = and_then bytes utf8_or_refused
@@ -115,7 +115,7 @@ owned_text = allocated text
 abbrev pub a_string : Sight
 a_string = sight_of as_string
 
--- Words: a token of a kind that spells one. The value is the byte at which it stands.
+-- Words: a token of a kind that spells one. The value is the byte at which it is.
 
 abbrev pub spelling_by : List ℕ → Option (Result (List ℕ) Report) → Option (Result (Unit {0}) Report)
 spelling_by w None = None
@@ -148,9 +148,9 @@ annotation at w = word as_annotation w (codes "expected annotation " ++ quoted a
 
 -- an annotation of this name; each annotation's name is compared with it, and may be decoded for that
 abbrev pub sees_annotation : List ℕ → Sight
-sees_annotation w a = record { told = is_taken (taken_at (spelling as_annotation w) a); takes = may_take_at as_annotation a }
+sees_annotation w a = record { known = is_taken (taken_at (spelling as_annotation w) a); takes = may_take_at as_annotation a }
 
--- the name that an annotation gives, behind `@name`; and such an annotation in a group, where `@name` is the second token
+-- the name that an annotation gives, after `@name`; and such an annotation in a group, where `@name` is the second token
 abbrev pub name_annotation : Reading (List ℕ)
 name_annotation = and_then (annotation true (annotation_word 1)) (λ at. text)
 

@@ -4,7 +4,7 @@ use Rattle.std.proofs.Common.{◌≡◌, ap, refl}
 use Rattle.std.specs.Prelude.{ℕ, ◌^◌, Bool, true, false, if◌then◌else◌, List, ◌++◌, codes, Option}
 use Rattle.std.specs.Str.{is_utf8}
 use Rattle.wat_lexer_parser.specs.parser.Takers.{Reader, as_keyword, as_integer, as_open, as_id, as_string, as_annotation}
-use Rattle.wat_lexer_parser.specs.rules.Formats.{Format, Lookout, a_token, a_word, a_named, as_read, token, mapped, spanned, checked, and_then, give, refuse, refuse_behind, allocated, where_seen, optional, group, second}
+use Rattle.wat_lexer_parser.specs.rules.Formats.{Format, Lookout, a_token, a_word, a_named, as_read, token, mapped, spanned, checked, and_then, give, refuse, refuse_after, allocated, where_seen, optional, group, second}
 use Rattle.wat_lexer_parser.specs.readings.Readings as words
 use Rattle.wat_lexer_parser.specs.readings.Types.{Reference, Named, Number, Spelled, spelling, unsigned_below, utf8_or_refused, as_owned_id}
 use Rattle.wat_lexer_parser.specs.readings.Types as types
@@ -24,12 +24,12 @@ bytes = token as_string (codes "expected a string")
 
 abbrev pub utf8_by : Bool → List ℕ → Format (List ℕ)
 utf8_by true v = give v
-utf8_by false v = refuse_behind (codes "malformed UTF-8 encoding")
+utf8_by false v = refuse_after (codes "malformed UTF-8 encoding")
 
 pub utf8_is : (v : List ℕ) → (utf8_by (is_utf8 v) v).reading ≡ utf8_or_refused v
 utf8_is v = by_test (is_utf8 v)
   where
-    by_test : (b : Bool) → (utf8_by b v).reading ≡ (if b then words.give v else words.refuse_behind (codes "malformed UTF-8 encoding"))
+    by_test : (b : Bool) → (utf8_by b v).reading ≡ (if b then words.give v else words.refuse_after (codes "malformed UTF-8 encoding"))
     by_test true = refl
     by_test false = refl
 
@@ -40,7 +40,7 @@ text = as_read (and_then bytes (λ v. utf8_by (is_utf8 v) v)) types.text (ap (λ
 abbrev pub owned_text : Format (List ℕ)
 owned_text = allocated text
 
--- a token that spells a word; the value is the byte at which it stands
+-- a token that spells a word; the value is the byte at which it is
 abbrev pub word : Reader (List ℕ) → List ℕ → List ℕ → Format ℕ
 word read w expected = mapped (λ v. v.1) (spanned (token (spelling read w) expected))
 
@@ -79,7 +79,7 @@ a_group = a_token as_open
 abbrev pub a_keyword : List ℕ → Lookout
 a_keyword w = a_word as_keyword w
 
--- an identifier, or a number of 32 bits with the byte at which it stands
+-- an identifier, or a number of 32 bits with the byte at which it is
 abbrev pub an_index : Format Reference
 an_index =
     where_seen an_identifier (mapped Named identifier)

@@ -11,8 +11,8 @@ use Rattle.wat_lexer_parser.specs.readings.Choices as choices
 use Rattle.wat_lexer_parser.specs.readings.Readings.{Reading, also_taking, on}
 use Rattle.wat_lexer_parser.specs.readings.Readings as words
 use Rattle.wat_lexer_parser.specs.readings.Reads.{Advances}
-use Rattle.wat_lexer_parser.specs.lemmas.RuleLaws.{Follows, Agrees, follows_give, follows_refuse, follows_refuse_behind, follows_none, follows_token, follows_and_then, follows_mapped, follows_spanned, follows_checked, follows_also, follows_where_seen, follows_while, follows_group, agrees_kind, agrees_word, agrees_annotation, agrees_second, agrees_behind_open, agrees_more, advances_token, shrinks_one, told_as_got, checked_got, seen_got, group_passed, then_got}
-use Rattle.wat_lexer_parser.specs.rules.Rules.{Ground, Rule, Telling, Keeps, Shrinks, While, none, more, One, Group, Then, Told, Spanned, Checked, Seen, Nothing, Never, tells_kind, tells_word, tells_second, tells_behind_open, tells_more}
+use Rattle.wat_lexer_parser.specs.lemmas.RuleLaws.{Follows, Agrees, follows_give, follows_refuse, follows_refuse_after, follows_none, follows_token, follows_and_then, follows_mapped, follows_spanned, follows_checked, follows_also, follows_where_seen, follows_while, follows_group, agrees_kind, agrees_word, agrees_annotation, agrees_second, agrees_after_open, agrees_more, advances_token, shrinks_one, known_as_got, checked_got, seen_got, group_passed, then_got}
+use Rattle.wat_lexer_parser.specs.rules.Rules.{Ground, Rule, Telling, Keeps, Shrinks, While, none, more, One, Group, Then, Known, Spanned, Checked, Seen, Nothing, Never, tells_kind, tells_word, tells_second, tells_after_open, tells_more}
 use Rattle.wat_lexer_parser.specs.rules.Rules as rules
 use Rattle.wat_lexer_parser.specs.parser.Sights.{Sight}
 use Rattle.wat_lexer_parser.specs.parser.Sights as sights
@@ -55,8 +55,8 @@ a_named w = record { sight = types.sees_annotation w; look = tells_word (types.s
 abbrev pub second : Lookout → Lookout
 second l = record { sight = sights.second l.sight; look = tells_second l.look; agrees = agrees_second l.sight l.look l.agrees }
 
-abbrev pub behind_open : Lookout → Lookout
-behind_open l = record { sight = types.behind_open l.sight; look = tells_behind_open l.look; agrees = agrees_behind_open l.sight l.look l.agrees }
+abbrev pub after_open : Lookout → Lookout
+after_open l = record { sight = types.after_open l.sight; look = tells_after_open l.look; agrees = agrees_after_open l.sight l.look l.agrees }
 
 abbrev pub more_comes : Lookout
 more_comes = record { sight = words.more_comes; look = tells_more; agrees = agrees_more }
@@ -83,12 +83,12 @@ refuse {V} message = record {
   advances = λ e a v h. never_reads _ v h;
 }
 
-abbrev pub refuse_behind : {V : Type 0} → List ℕ → Format V
-refuse_behind {V} message = record {
-  reading = words.refuse_behind message;
+abbrev pub refuse_after : {V : Type 0} → List ℕ → Format V
+refuse_after {V} message = record {
+  reading = words.refuse_after message;
   rule = Never;
   takes = true;
-  law = follows_refuse_behind V message;
+  law = follows_refuse_after V message;
   keeps = λ g ts w r h. absurd h;
   shrinks = λ e g ts w r h. absurd h;
   advances = λ e a v h. never_reads _ v h;
@@ -120,12 +120,12 @@ token read message = record {
 abbrev pub mapped : {V W : Type 0} → (V → W) → Format V → Format W
 mapped f m = record {
   reading = words.mapped f m.reading;
-  rule = Told f m.rule;
+  rule = Known f m.rule;
   takes = m.takes;
   law = follows_mapped f m.reading m.rule m.law;
   keeps = λ g ts w r h. m.keeps g ts h.0 r h.1;
   shrinks = λ e g ts w r h. m.shrinks e g ts h.0 r h.1;
-  advances = λ e a w h. let k = told_as_got f (m.reading a).answer w h in m.advances e a k.0 k.1;
+  advances = λ e a w h. let k = known_as_got f (m.reading a).answer w h in m.advances e a k.0 k.1;
 }
 
 abbrev pub spanned : {V : Type 0} → Format V → Format (V × ℕ)
@@ -136,7 +136,7 @@ spanned {V} m = record {
   law = follows_spanned m.reading m.rule m.law;
   keeps = λ g ts w r h. m.keeps g ts h.0 r h.1;
   shrinks = λ e g ts w r h. m.shrinks e g ts h.0 r h.1;
-  advances = λ e a w h. let k = told_as_got {W = V × ℕ} _ (m.reading a).answer w h in m.advances e a k.0 k.1;
+  advances = λ e a w h. let k = known_as_got {W = V × ℕ} _ (m.reading a).answer w h in m.advances e a k.0 k.1;
 }
 
 abbrev pub checked : {V W : Type 0} → (V → Option W) → List ℕ → Format V → Format W
@@ -222,7 +222,7 @@ where_seen l m n = record {
     | inl k ↦ m.shrinks (both_true m.takes n.takes e).0 g ts v r k.1
     | inr k ↦ n.shrinks (both_true m.takes n.takes e).1 g ts v r k.1
   ];
-  advances = λ e a v h. elim (seen_got (l.sight a).told (l.sight a).takes (m.reading a) (n.reading a) v h) [
+  advances = λ e a v h. elim (seen_got (l.sight a).known (l.sight a).takes (m.reading a) (n.reading a) v h) [
     | inl k ↦ omega (arith, k.2, m.advances (both_true m.takes n.takes e).0 a v k.1)
     | inr k ↦ omega (arith, k.2, n.advances (both_true m.takes n.takes e).1 a v k.1)
   ];
@@ -269,15 +269,15 @@ group m = record {
   advances = λ e a v h. group_passed m.reading a v h;
 }
 
--- Alternatives, each told by a look, and how messages show it; where none is seen, the refusal that one of them was expected.
+-- Alternatives, each known by a look, and how messages show it; where none is seen, the refusal that one of them was expected.
 
 pub data Choices (V : Type 0) : Type 1 where
   nothing_else : Choices V
   choice : Lookout → List ℕ → Format V → Choices V → Choices V
 
-abbrev pub one_behind : {V : Type 0} → List (List ℕ) → Choices V → Format V
-one_behind {V} missed nothing_else = record {
-  reading = choices.one_behind missed [];
+abbrev pub one_after : {V : Type 0} → List (List ℕ) → Choices V → Format V
+one_after {V} missed nothing_else = record {
+  reading = choices.one_after missed [];
   rule = Never;
   takes = true;
   law = follows_none V missed;
@@ -285,7 +285,7 @@ one_behind {V} missed nothing_else = record {
   shrinks = λ e g ts w r h. absurd h;
   advances = λ e a v h. never_reads _ v h;
 }
-one_behind missed (choice l x m c) = where_seen l m (also (nat_le attempts_held (length missed)) (one_behind (missed ++ (x ∷ [])) c))
+one_after missed (choice l x m c) = where_seen l m (also (nat_le attempts_held (length missed)) (one_after (missed ++ (x ∷ [])) c))
 
 abbrev pub one_of : {V : Type 0} → Choices V → Format V
-one_of c = one_behind [] c
+one_of c = one_after [] c

@@ -8,12 +8,12 @@ use Rattle.wat_lex.specs.declared.lexer.kinds.TokenKind.TheVariants.{LParen, RPa
 use Rattle.wat_lexer_parser.specs.groups.Sorts.{is_close}
 use Rattle.wat_lexer_parser.specs.parser.Takers.{Reader}
 
--- what stands behind the shown tokens: the end of the text, or the report of a fault; and the current span there
+-- what comes after the shown tokens: the end of the text, or the report of a fault; and the current span there
 pub record End : Type 0 where
   pub fault : Option Report
   pub span : ℕ
 
--- what a rule stands on: the text, and what stands behind the tokens that are shown of it
+-- what a rule is on: the text, and what comes after the tokens that are shown of it
 pub record Ground : Type 0 where
   pub text : List ℕ
   pub end : End
@@ -45,10 +45,10 @@ pub data One {V : Type 0} (read : Reader V) (g : Ground) : List Token → V → 
 abbrev pub Then : {V W : Type 0} → Rule V → (V → Rule W) → Rule W
 Then {V} R S g ts w r = (v : V) × (us : List Token) × R g ts v us × S v g us w r
 
-abbrev pub Told : {V W : Type 0} → (V → W) → Rule V → Rule W
-Told {V} f R g ts w r = (v : V) × R g ts v r × (f v ≡ w)
+abbrev pub Known : {V W : Type 0} → (V → W) → Rule V → Rule W
+Known {V} f R g ts w r = (v : V) × R g ts v r × (f v ≡ w)
 
--- the byte at which the first token stands
+-- the byte at which the first token is
 abbrev pub span_of : Ground → List Token → ℕ
 span_of g [] = g.end.span
 span_of g (t ∷ ts) = t.offset
@@ -71,7 +71,7 @@ pub data While {V : Type 0} (look : Telling) (R : Rule V) (g : Ground) : List To
   none : {ts : List Token} → look g ts ≡ Ok false → While look R g ts [] ts
   more : {ts r q : List Token} {v : V} {vs : List V} → look g ts ≡ Ok true → R g ts v r → While look R g r vs q → While look R g ts (v ∷ vs) q
 
--- a group: `(`, what stands within it, `)`
+-- a group: `(`, what is within it, `)`
 pub data Group {V : Type 0} (R : Rule V) (g : Ground) : List Token → V → List Token → Type 0 where
   group : {o c : Token} {ts r : List Token} {v : V} → o.kind ≡ LParen → R g ts v (c ∷ r) → c.kind ≡ RParen → Group R g (o ∷ ts) v r
 
@@ -88,29 +88,29 @@ abbrev pub tells_kind : {V : Type 0} → Reader V → Telling
 tells_kind read g [] = unless_fault false g.end.fault
 tells_kind read g (t ∷ ts) = Ok (is_some (read g.text t t.kind))
 
-abbrev pub told_word : Option (Result (Unit {0}) Report) → Result Bool Report
-told_word None = Ok false
-told_word (Some (Ok u)) = Ok true
-told_word (Some (Err f)) = Err f
+abbrev pub known_word : Option (Result (Unit {0}) Report) → Result Bool Report
+known_word None = Ok false
+known_word (Some (Ok u)) = Ok true
+known_word (Some (Err f)) = Err f
 
 -- a token that spells a word; the report of its name, where that is at fault
 abbrev pub tells_word : Reader (Unit {0}) → Telling
 tells_word read g [] = unless_fault false g.end.fault
-tells_word read g (t ∷ ts) = told_word (read g.text t t.kind)
+tells_word read g (t ∷ ts) = known_word (read g.text t t.kind)
 
--- the same behind the first token
+-- the same after the first token
 abbrev pub tells_second : Telling → Telling
 tells_second look g [] = unless_fault false g.end.fault
 tells_second look g (t ∷ ts) = look g ts
 
-abbrev pub behind_kind : TokenKind → Result Bool Report → Result Bool Report
-behind_kind LParen told = told
-behind_kind kind told = Ok false
+abbrev pub after_kind : TokenKind → Result Bool Report → Result Bool Report
+after_kind LParen known = known
+after_kind kind known = Ok false
 
--- the same behind a `(`
-abbrev pub tells_behind_open : Telling → Telling
-tells_behind_open look g [] = unless_fault false g.end.fault
-tells_behind_open look g (t ∷ ts) = behind_kind t.kind (look g ts)
+-- the same after a `(`
+abbrev pub tells_after_open : Telling → Telling
+tells_after_open look g [] = unless_fault false g.end.fault
+tells_after_open look g (t ∷ ts) = after_kind t.kind (look g ts)
 
 -- neither `)` nor the end
 abbrev pub tells_more : Telling

@@ -13,17 +13,17 @@ use Rattle.wat_lexer_parser.specs.laws.Blanking.{TextShows}
 use Rattle.wat_lexer_parser.specs.readings.Readings.{Reading, whole}
 use Rattle.wat_lexer_parser.specs.rules.Rules.{End, Ground, Rule}
 
--- where the last of these tokens ends, or from where on they stand
+-- where the last of these tokens ends, or from where on they are
 abbrev pub last_end : ℕ → List Token → ℕ
 last_end p [] = p
 last_end p (t ∷ ts) = last_end (t.offset + t.len) ts
 
--- the current span behind all shown tokens: the text's length at its end, and the place itself at a fault
+-- the current span after all shown tokens: the text's length at its end, and the place itself at a fault
 abbrev pub end_span : List ℕ → ℕ → List Token → Option Fault → ℕ
 end_span text p ts None = length text
 end_span text p ts (Some f) = last_end p ts
 
--- what stands behind these tokens, from a byte on
+-- what comes after these tokens, from a byte on
 abbrev pub end_from : List ℕ → ℕ → List Token → Option Fault → End
 end_from text p ts f = record { fault = option_map (report_of text) f; span = end_span text p ts f }
 
@@ -31,7 +31,7 @@ end_from text p ts f = record { fault = option_map (report_of text) f; span = en
 abbrev pub ground_of : List ℕ → List Token → Option Fault → Ground
 ground_of text ts f = record { text = text; end = end_from text 0 ts f }
 
--- The text shows tokens of which the first are a value by the rule. Behind them stand tokens that are left, and then the end or a fault.
+-- The text shows tokens of which the first are a value by the rule. After them are tokens that are left, and then the end or a fault.
 pub record Begins {V : Type 0} (R : Rule V) (s : Setting) (v : V) (left : List Token) (fault : Option Fault) : Type 0 where
   pub tokens : List Token
   pub shown : TextShows s no_names tokens fault
@@ -41,13 +41,13 @@ pub record Begins {V : Type 0} (R : Rule V) (s : Setting) (v : V) (left : List T
 abbrev pub Spells : {V : Type 0} → Rule V → Setting → V → Type 0
 Spells R s v = Begins R s v [] None
 
--- what reading a text that begins with a value answers: the value, or the refusal of what stands behind it
-abbrev pub behind_value : {V : Type 0} → V → Setting → List Token → Option Fault → Result V Report
-behind_value v s [] None = Ok v
-behind_value v s [] (Some f) = Err (report_of s.text f)
-behind_value v s (t ∷ r) f = Err (report_in s.text t.offset (Custom (codes "extra tokens remaining after parse")))
+-- what reading a text that begins with a value answers: the value, or the refusal of what comes after it
+abbrev pub after_value : {V : Type 0} → V → Setting → List Token → Option Fault → Result V Report
+after_value v s [] None = Ok v
+after_value v s [] (Some f) = Err (report_of s.text f)
+after_value v s (t ∷ r) f = Err (report_in s.text t.offset (Custom (codes "extra tokens remaining after parse")))
 
 -- What is read of a whole text is what the rule spells of it; and where the text only begins with a value, it is refused where the value ends.
 pub record ReadsAsSpelled {V : Type 0} (m : Reading V) (R : Rule V) : Type 0 where
   pub read : (s : Source) (v : V) → IsUtf8 s.setting.text → IsRead s → whole m s ≡ Ok v → Spells R s.setting v
-  pub spelled : (s : Source) (v : V) (left : List Token) (fault : Option Fault) → IsRead s → Begins R s.setting v left fault → whole m s ≡ behind_value v s.setting left fault
+  pub spelled : (s : Source) (v : V) (left : List Token) (fault : Option Fault) → IsRead s → Begins R s.setting v left fault → whole m s ≡ after_value v s.setting left fault

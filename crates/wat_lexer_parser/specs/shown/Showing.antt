@@ -5,7 +5,7 @@ pub use Rattle.wat_lexer_parser.specs.names.RegisteredNames.{Names}
 pub use Rattle.wat_lexer_parser.specs.places.Source.{Source, IsRead, Token, TokenKind, LexFault, Fault, Lex, Unclosed}
 pub use Rattle.wat_lexer_parser.specs.shown.Shown.{Finding, Shown, ended, cases_of}
 
--- a token with the place behind it, or None, or a fault
+-- a token with the place after it, or None, or a fault
 abbrev pub Look : Type 0
 Look = Result (Option (Token × ℕ)) Fault
 

@@ -7,13 +7,13 @@ use Rattle.wat_lexer_parser.specs.groups.Sorts.{Group, NoGroup, is_blank, is_mar
 use Rattle.wat_lexer_parser.specs.names.RegisteredNames.{Names, is_registered}
 use Rattle.wat_lexer_parser.specs.places.Source.{Token, LParen, Annotation, LexError, EmptyAnnotation, LexFault, Fault, Lex, Unclosed, word_of}
 
--- what is made of the end, of a token with what stands behind it, and of a fault
+-- what is made of the end, of a token with what comes after it, and of a fault
 abbrev pub cases_of : {A B E V : Type 0} → Result (Option (A × B)) E → V → (A → B → V) → (E → V) → V
 cases_of (Ok None) at_end at_token at_fault = at_end
-cases_of (Ok (Some (t, behind))) at_end at_token at_fault = at_token t behind
+cases_of (Ok (Some (t, after))) at_end at_token at_fault = at_token t after
 cases_of (Err f) at_end at_token at_fault = at_fault f
 
--- a token and the tokens behind it, or None at the end, or a fault
+-- a token and the tokens after it, or None at the end, or a fault
 abbrev pub Finding : Type 0
 Finding = Result (Option (Token × List Token)) Fault
 
@@ -39,7 +39,7 @@ pub record IsMisnamed (text : List ℕ) (t : Token) (e : LexError) : Type 0 wher
   pub kind : t.kind ≡ Annotation
   pub fault : NameFault EmptyAnnotation (word_of text t) e
 
--- a parenthesis opens, and the text has `@` directly behind it
+-- a parenthesis opens, and the text has `@` directly after it
 abbrev pub IsMarked : List ℕ → Token → Type 0
 IsMarked text t = (t.kind ≡ LParen) × IsTrue (is_marked text t)
 

@@ -52,7 +52,7 @@ impl<'a> Model for ParseBuffer<'a> {
 
 impl<'a> ParseBuffer<'a> {
     /// The buffer of a text of at most `u32::MAX` bytes, with both settings of the lexer off. It is
-    /// refused for want of memory alone.
+    /// refused only when out of memory.
     pub fn new(alloc: Global, text: &'a str) -> Result<ParseBuffer<'a>, Error>
         requires { length text.now < 2 ^ 32 }
         ensures setting { IfOk result (λ b. b.setting ≡ record {

@@ -50,13 +50,13 @@ pub enum Reply {
     Absent,
     /// No `(` is shown; with the current span's offset.
     NotOpen(usize),
-    /// No `)` is shown behind the tokens; with the current span's offset.
+    /// No `)` is shown after the tokens; with the current span's offset.
     NotClosed(usize),
     /// The name is registered as often as can be.
     TooOften,
 }
 
-/// What a look finds: a token or a comment with the place behind it, None, or a fault.
+/// What a look finds: a token or a comment with the place after it, None, or a fault.
 type Found = Result<Option<(Token, usize)>, Fault>;
 
 fn fault_reply(fault: Fault) -> Reply
@@ -85,7 +85,7 @@ fn comment_reply(found: Found) -> Reply
     }
 }
 
-/// The place behind what was found.
+/// The place after what was found.
 fn place_after(found: Found, place: usize) -> usize
     ensures { result ≡ place_after found place }
 {
@@ -97,7 +97,7 @@ fn place_after(found: Found, place: usize) -> usize
 }
 
 impl<'a> Parser<'a> {
-    /// The place behind up to so many shown tokens.
+    /// The place after up to so many shown tokens.
     fn after_taking(&self, place: usize, count: usize) -> Result<usize, Fault>
         requires { place ≤ length self.now.source.tokens }
         ensures value { result ≡ after_taking self.now.source self.now.names count place }
@@ -119,7 +119,7 @@ impl<'a> Parser<'a> {
         Ok(at)
     }
 
-    /// The reply to taking `)` at `at`, and the place behind it, or `place` where none is shown.
+    /// The reply to taking `)` at `at`, and the place after it, or `place` where none is shown.
     fn close_group(&self, place: usize, at: usize) -> (Reply, usize)
         requires { (place ≤ at) × (place ≤ length self.now.source.tokens) }
         ensures value { result ≡
@@ -137,7 +137,7 @@ impl<'a> Parser<'a> {
         }
     }
 
-    /// The reply to taking a group of up to so many tokens, and the place behind it, or the
+    /// The reply to taking a group of up to so many tokens, and the place after it, or the
     /// parser's own where it is no such group.
     #[tactic(auto, unfolding(crate::specs::calls::Calls::group_reply))]
     fn group(&self, count: usize) -> (Reply, usize)
@@ -220,7 +220,7 @@ impl<'a> Parser<'a> {
 }
 
 /// Makes the calls of a list one after another, and answers the replies. Where memory is wanting
-/// the parser stands behind some beginning of the list.
+/// the parser is after some beginning of the list.
 pub fn replay<'a>(
     alloc: Global,
     parser: &mut Parser<'a>,

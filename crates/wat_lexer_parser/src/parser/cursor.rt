@@ -61,8 +61,8 @@ impl<'p, 'a> Cursor<'p, 'a> {
         self.at
     }
 
-    /// What is shown here, with the place behind it.
-    // What a parser keeps is told in registers; what a call writes to memory is read there apart from it.
+    /// What is shown here, with the place after it.
+    // What a parser keeps is handed over in registers; what a call writes to memory is read there apart from it.
     #[inline(always)]
     #[tactic(auto, unfolding(crate::specs::parser::State::seen))]
     fn look(self) -> Result<Option<(Token, usize)>, Error>
@@ -76,7 +76,7 @@ impl<'p, 'a> Cursor<'p, 'a> {
         let parser = self.parser;
         match parser.kept(self.at) {
             Some(found) => Ok(Some(found)),
-            None => match self.look_anew() {
+            None => match self.look_again() {
                 Ok(found) => Ok(found),
                 Err(error) => Err(error),
             },
@@ -86,7 +86,7 @@ impl<'p, 'a> Cursor<'p, 'a> {
     /// The same, by a look at the table.
     #[inline(never)]
     #[tactic(auto, unfolding(crate::specs::parser::State::seen))]
-    fn look_anew(self) -> Result<Option<(Token, usize)>, Error>
+    fn look_again(self) -> Result<Option<(Token, usize)>, Error>
         ensures value { Answers false (λ found. found)
             (seen_at (at_place self.entry.parser.now self.entry.at)) result }
         ensures on { IfOk result (λ found. IfSome found (λ v.
@@ -101,7 +101,7 @@ impl<'p, 'a> Cursor<'p, 'a> {
         }
     }
 
-    /// What holds of every cursor: what [`Parser::is_sound`] says of its parser, and it stands among
+    /// What holds of every cursor: what [`Parser::is_sound`] says of its parser, and it is among
     /// the tokens. The call does nothing.
     pub fn is_sound(&self)
         ensures sound { IsSound self.now.parser.now }
@@ -132,7 +132,7 @@ impl<'p, 'a> Cursor<'p, 'a> {
         parser.is_empty_from(self.at)
     }
 
-    /// The text in which the cursor stands.
+    /// The text in which the cursor is.
     pub(crate) fn text(self) -> &'a str
         ensures { result.now ≡ self.entry.parser.now.source.setting.text }
     {

@@ -28,12 +28,12 @@ impl Peek for Something {
     }
 }
 
-/// A type behind the token that is shown.
-pub struct Behind<P> {
+/// A type after the token that is shown.
+pub struct After<P> {
     of: PhantomData<P>,
 }
 
-impl<P: Peek> Peek for Behind<P> {
+impl<P: Peek> Peek for After<P> {
     ghost sight = { second P.sight };
 
     ghost shows = { P.shows };
@@ -59,16 +59,16 @@ impl<'a> Parser<'a> {
         self.all_while::<Something, T>()
     }
 
-    /// Reads values of a type as long as another is seen behind the token that is shown, as `param`
+    /// Reads values of a type as long as another is seen after the token that is shown, as `param`
     /// is in `(param i32)`.
-    pub fn all_behind<P: Peek, T: Parse<'a>>(&mut self) -> Result<Vec<T>, Error>
+    pub fn all_after<P: Peek, T: Parse<'a>>(&mut self) -> Result<Vec<T>, Error>
         requires { Advances T.meaning }
         ensures kept { IsKept self.old self.new }
         ensures on { self.old.place ≤ self.new.place }
         ensures reads { Reads (λ v. map T.value v.items)
             (while_seen (second P.sight) T.meaning) self.old result self.new.place }
     {
-        self.all_while::<Behind<P>, T>()
+        self.all_while::<After<P>, T>()
     }
 
     /// Reads values of a type as long as another is seen.

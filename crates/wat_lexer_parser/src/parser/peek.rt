@@ -8,7 +8,7 @@ use wat_lex::error::Error;
 
 /// A type of which a parser can tell whether it comes next.
 pub trait Peek {
-    // What is told at a place, and whether telling it may take memory.
+    // What is reported at a place, and whether reporting it may take memory.
     ghost sight: { Sight };
 
     // How messages show the type.
@@ -18,7 +18,7 @@ pub trait Peek {
     fn peek(cursor: Cursor<'_, '_>) -> Result<bool, Error>
         ensures { Tells (sight (at_place cursor.entry.parser.now cursor.entry.at)) result };
 
-    /// The same behind the token that is shown; false where none is shown.
+    /// The same after the token that is shown; false where none is shown.
     fn peek2(cursor: Cursor<'_, '_>) -> Result<bool, Error>
         ensures { Tells (second sight (at_place cursor.entry.parser.now cursor.entry.at)) result }
     {

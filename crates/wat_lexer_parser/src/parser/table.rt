@@ -27,7 +27,7 @@ const LIKELY: usize = 2;
 const FIRST_ROOM: usize = 65_472;
 
 /// The raw tokens of a text up to its end or its first fault, and the annotations among them that
-/// stand directly behind a parenthesis.
+/// come directly after a parenthesis.
 #[derive(Drop)]
 pub struct Table {
     pub tokens: Vec<Token>,
@@ -37,7 +37,7 @@ pub struct Table {
     /// The names of these annotations, or what is wrong with them, where they are no part of the
     /// text.
     pub names: Vec<Option<Box<Result<String, LexError>>>>,
-    /// For each block of tokens, how many of these parentheses stand before it.
+    /// For each block of tokens, how many of these parentheses come before it.
     pub starts: Vec<usize>,
     /// Where the groups of these annotations are closed.
     pub closes: Vec<Option<usize>>,
@@ -59,7 +59,7 @@ fn is_head(before: &[Token], token: Token) -> bool
     }
 }
 
-/// Whether the byte behind the token's first is a quote.
+/// Whether the byte after the token's first is a quote.
 pub fn is_quoted(text: &str, token: Token) -> bool
     requires { token.offset < 2 ^ 32 }
     ensures { result ≡ is_quoted text.now token }
@@ -83,7 +83,7 @@ fn noted_name(
     ensures { IfOk result (λ name. NotedName (word_of text.now token.now) (name_view name)) }
 {
     wat_lex::laws::tokens();
-    // A name without quotes is told by one byte; a string may have escapes.
+    // A name without quotes is known by one byte; a string may have escapes.
     if !is_quoted(text, *token) {
         return Ok(None);
     }
@@ -142,7 +142,7 @@ impl Table {
         Ok(())
     }
 
-    /// Adds a token, and notes it where it is an annotation directly behind a parenthesis.
+    /// Adds a token, and notes it where it is an annotation directly after a parenthesis.
     fn add(&mut self, alloc: Global, text: &str, token: Token) -> Result<(), AllocError>
         requires token { IsTokenOf text.now token }
         requires short { token.offset + token.len < 2 ^ 32 }
@@ -163,9 +163,9 @@ impl Table {
         Ok(())
     }
 
-    /// Adds an annotation, and notes it where it stands directly behind a parenthesis.
+    /// Adds an annotation, and notes it where it comes directly after a parenthesis.
     // It stays a call, so that the loop over all tokens is small, and it is passed numbers, so that no
-    // token of that loop has to stand in memory.
+    // token of that loop has to be in memory.
     #[inline(never)]
     fn add_annotation(
         &mut self,
@@ -282,9 +282,9 @@ fn next_open(opens: &[usize], passed: usize, place: usize, end: usize) -> usize
     }
 }
 
-/// Where the tokens go on to be read behind a group that ends before a place: there, or at the first
+/// Where the tokens go on to be read after a group that ends before a place: there, or at the first
 /// place that was not passed where that group stood in no other.
-fn behind_close(
+fn after_close(
     opens: &[usize],
     passed: usize,
     place: usize,
@@ -341,7 +341,7 @@ fn closes(
             TokenKind::RParen => match opened.pop() {
                 Some(group) => {
                     note_close(&mut closes, group, i);
-                    i = behind_close(opens, passed, i + 1, tokens.len(), opened.is_empty());
+                    i = after_close(opens, passed, i + 1, tokens.len(), opened.is_empty());
                 }
                 None => i += 1,
             },
@@ -376,7 +376,7 @@ fn fill(alloc: Global, lexer: &Lexer<'_>) -> Result<Table, AllocError>
 }
 
 impl Table {
-    /// The table of a lexer's text. It is refused for want of memory alone.
+    /// The table of a lexer's text. It is refused only when out of memory.
     pub fn of(alloc: Global, lexer: &Lexer<'_>) -> Result<Table, AllocError>
         ensures read { IfOk result (λ t. MaximalTiling lexer.now 0 t.tokens.items t.fault) }
         ensures noted { IfOk result (λ t. Noted lexer.now.text t.tokens.items t.opens.items

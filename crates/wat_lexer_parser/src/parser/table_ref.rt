@@ -229,7 +229,7 @@ impl<'a> TableRef<'a> {
         let _count = self.table.tokens.len();
     }
 
-    /// Whether the byte behind the token's first is `@`.
+    /// Whether the byte after the token's first is `@`.
     fn is_marked(&self, token: Token) -> bool
         requires { token.offset < 2 ^ 32 }
         ensures { result ≡ is_marked self.now.setting.text token }
@@ -254,7 +254,7 @@ impl<'a> TableRef<'a> {
         }
     }
 
-    /// What the name of the annotation means whose parenthesis stands at a place.
+    /// What the name of the annotation means whose parenthesis is at a place.
     // It stays a call, so that a look at any other token is small.
     #[inline(never)]
     fn step_named(&self, place: usize, names: &Names) -> Step
@@ -277,7 +277,7 @@ impl<'a> TableRef<'a> {
     }
 
     /// Whether the annotation at a place is skipped since no name is registered and it has one. It is
-    /// told without its name, and false tells nothing.
+    /// known without its name, and false tells nothing.
     fn is_unregistered(&self, place: usize, token: Token, names: &Names) -> bool
         requires token { slice_get self.now.tokens place ≡ Some token }
         requires kind { token.kind ≡ Annotation }
@@ -293,7 +293,7 @@ impl<'a> TableRef<'a> {
         names.are_none() && !is_quoted(self.text(), token)
     }
 
-    /// Where the group of the annotation is closed whose parenthesis stands at a place.
+    /// Where the group of the annotation is closed whose parenthesis is at a place.
     fn close_of(&self, place: usize) -> Option<usize>
         requires { (u : Token) × HeadsAnnotation self.now.tokens place u }
         ensures { Pair self.now.tokens place result }
@@ -304,7 +304,7 @@ impl<'a> TableRef<'a> {
         }
     }
 
-    /// What a parenthesis means by the token directly behind it.
+    /// What a parenthesis means by the token directly after it.
     fn step_open(&self, place: usize, token: Token, names: &Names) -> Step
         requires within { place < 2 ^ 63 }
         requires short { token.offset < 2 ^ 32 }
@@ -373,7 +373,7 @@ impl<'a> TableRef<'a> {
         }
     }
 
-    /// What is shown at a place, with the place behind it. It takes no memory.
+    /// What is shown at a place, with the place after it. It takes no memory.
     pub fn look(&self, place: usize, names: &Names) -> Result<Option<(Token, usize)>, Fault>
         ensures value { result ≡ shown self.now place names.now }
         ensures on { IfOk result (λ found. IfSome found (λ v.
@@ -401,7 +401,7 @@ impl<'a> TableRef<'a> {
         self.ending()
     }
 
-    /// The first place from this one on at which neither white space nor a comment stands.
+    /// The first place from this one on at which neither white space nor a comment is.
     fn past_blanks(&self, place: usize) -> usize
         ensures on { place ≤ result }
         ensures same { (names : NamesOf) →
@@ -465,16 +465,16 @@ impl<'a> TableRef<'a> {
         ensures { IfSome result (IsNext self.now place names.now) }
     {
         match self.look(place, names) {
-            Ok(Some((_, behind))) => Some(behind - 1),
+            Ok(Some((_, after))) => Some(after - 1),
             _ => None,
         }
     }
 
-    /// The token that was shown at a place, with the place behind it.
+    /// The token that was shown at a place, with the place after it.
     pub fn numbered(&self, number: usize) -> (Token, usize)
         requires { number < length self.now.tokens }
         ensures token { slice_get self.now.tokens number ≡ Some result.0 }
-        ensures behind { result.1 ≡ number + 1 }
+        ensures after { result.1 ≡ number + 1 }
         ensures reader { IsTokenOf self.now.setting.text result.0 }
     {
         let token = self.table.tokens[number];
@@ -482,7 +482,7 @@ impl<'a> TableRef<'a> {
         (token, number + 1)
     }
 
-    /// The place behind the whitespace token at a place, if one is there.
+    /// The place after the whitespace token at a place, if one is there.
     #[tactic(auto, using(crate::proofs::places::Comments::spaces))]
     fn past_space(&self, place: usize) -> usize
         requires { place ≤ length self.now.tokens }
@@ -496,7 +496,7 @@ impl<'a> TableRef<'a> {
         }
     }
 
-    /// The comment at a place, with the place behind it. It takes no memory.
+    /// The comment at a place, with the place after it. It takes no memory.
     #[tactic(auto, using(crate::proofs::places::Comments::comments))]
     pub fn comment_at(&self, place: usize) -> Result<Option<(Token, usize)>, Fault>
         requires { place ≤ length self.now.tokens }

@@ -33,7 +33,7 @@ impl<'a, N: Word, T: Parse<'a>> Parse<'a> for Under<N, T> {
     }
 }
 
-/// One type behind another.
+/// One type after another.
 #[derive(Drop)]
 struct Pair<T, U> {
     first: T,

@@ -26,7 +26,7 @@ impl<'a, T: Parse<'a> + Peek> Parse<'a> for Option<T> {
 /// A type in parentheses.
 #[derive(Debug, Drop)]
 pub struct Parens<T> {
-    /// What stands within them.
+    /// What is within them.
     pub inner: T,
 }
 

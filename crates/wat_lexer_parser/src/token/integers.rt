@@ -6,7 +6,7 @@ ghost use Rattle.wat_lex.specs.tokens.ReadableTokens.{IsTokenOf, word_of};
 ghost use Rattle.wat_lex.specs.values.NumberValues.{integer_value};
 ghost use Rattle.wat_lex.specs.declared.lexer.kinds.TokenKind.TheVariants as variant;
 ghost use Rattle.wat_lexer_parser.specs.inside.IntegerReadings.{an_integer_word, signed_integer};
-ghost use Rattle.wat_lexer_parser.specs.inside.IntegerReadings.{number_told, unsigned_integer};
+ghost use Rattle.wat_lexer_parser.specs.inside.IntegerReadings.{number_known, unsigned_integer};
 ghost use Rattle.wat_lexer_parser.specs.parser.State.{at_place, seen_at};
 ghost use Rattle.wat_lexer_parser.specs.parser.Takers.{is_minus};
 ghost use Rattle.wat_lexer_parser.specs.readings.Reads.{CursorReads, IsKept, Reads};
@@ -50,7 +50,7 @@ fn shown_integer<'p, 'a>(
     cursor: Cursor<'p, 'a>,
     expected: &str,
 ) -> Result<((Token, IntegerKind), Cursor<'p, 'a>), Error>
-    ensures value { CursorReads (number_told cursor.entry.parser.now.source.setting.text)
+    ensures value { CursorReads (number_known cursor.entry.parser.now.source.setting.text)
         (an_integer_word expected.now)
         (at_place cursor.entry.parser.now cursor.entry.at) (λ next. next.at) result }
     ensures seen { IfOk result (λ v. seen_at (at_place cursor.entry.parser.now cursor.entry.at)
@@ -70,7 +70,7 @@ fn shown_integer<'p, 'a>(
     }
 }
 
-/// Takes an integer of a type without a sign, with the place where it stands. The messages are for
+/// Takes an integer of a type without a sign, with the place where it is. The messages are for
 /// where none is shown, and where it is out of range.
 #[tactic(auto, unfolding(crate::specs::inside::IntegerReadings::unsigned_integer))]
 fn unsigned<'p, 'a>(
@@ -93,7 +93,7 @@ fn unsigned<'p, 'a>(
     }
 }
 
-/// Parses an integer of a type without a sign, with the place where it stands.
+/// Parses an integer of a type without a sign, with the place where it is.
 fn parse_unsigned(
     parser: &mut Parser<'_>,
     most: u64,
@@ -189,7 +189,7 @@ fn signed<'p, 'a>(
     }
 }
 
-/// Parses an integer of a type with a sign, with the place where it stands.
+/// Parses an integer of a type with a sign, with the place where it is.
 fn parse_signed(
     parser: &mut Parser<'_>,
     half: u64,

@@ -150,14 +150,14 @@ impl<'a, K: Parse<'a>> Parse<'a> for ItemRef<'a, K> {
 }
 
 impl<'a, K: Peek> Peek for ItemRef<'a, K> {
-    ghost use Rattle.wat_lexer_parser.specs.readings.Types.{behind_open};
+    ghost use Rattle.wat_lexer_parser.specs.readings.Types.{after_open};
 
-    ghost sight = { behind_open K.sight };
+    ghost sight = { after_open K.sight };
 
     ghost shows = { codes "an item reference" };
 
     fn peek(cursor: Cursor<'_, '_>) -> Result<bool, Error>
-        ensures { Tells (behind_open K.sight
+        ensures { Tells (after_open K.sight
             (at_place cursor.entry.parser.now cursor.entry.at)) result }
     {
         match cursor.lparen()? {

@@ -26,16 +26,16 @@ puts_more a b c block block' block'' xs ys zs h k e = record {
   all = append_assoc h.written k.written block'' ∙ ap (λ x. h.written ++ x) k.all ∙ sym (append_assoc h.written block' ys) ∙ ap (λ x. x ++ ys) h.all ∙ append_assoc block xs ys ∙ ap (λ x. block ++ x) (sym e);
 }
 
--- a prefix of what was yet to be written, behind what was
-pub cut_behind : (a b c : Option (List ℕ)) (written rest all : List ℕ) → Appends a b written → AppendsPrefix b c rest → all ≡ written ++ rest → AppendsPrefix a c all
-cut_behind a b c written rest all h k e = record {
+-- a prefix of what was yet to be written, after what was
+pub cut_after : (a b c : Option (List ℕ)) (written rest all : List ℕ) → Appends a b written → AppendsPrefix b c rest → all ≡ written ++ rest → AppendsPrefix a c all
+cut_after a b c written rest all h k e = record {
   n = length written + k.n;
   appended = appends_more a b c written (take k.n rest) (take (length written + k.n) all) h k.appended (ap (λ x. take (length written + k.n) x) e ∙ take-append-add written rest k.n);
 }
 
 pub cut_more : (a b c : Option (List ℕ)) (block block' xs ys zs : List ℕ) → Puts a b block block' xs → AppendsPrefix b c (block' ++ ys) → zs ≡ xs ++ ys → AppendsPrefix a c (block ++ zs)
 cut_more a b c block block' xs ys zs h k e =
-    cut_behind a b c h.written (block' ++ ys) (block ++ zs) h.appended k
+    cut_after a b c h.written (block' ++ ys) (block ++ zs) h.appended k
     (ap (λ x. block ++ x) e ∙ sym (append_assoc block xs ys) ∙ ap (λ x. x ++ ys) (sym h.all) ∙ append_assoc h.written block' ys)
 
 -- a prefix of a prefix
@@ -47,7 +47,7 @@ cut_longer a b xs ys zs h e =
       appended = subst (λ x. Appends a b x) (sym (ap (λ x. take (length (take h.n xs)) x) split ∙ take-append_seam (take h.n xs) (drop h.n xs ++ ys))) h.appended;
     }
 
--- The tokens up to a place of the text, and their bytes, put behind those of an empty block.
+-- The tokens up to a place of the text, and their bytes, put after those of an empty block.
 pub record Putting (each : Token → List ℕ) (s : Setting) (pos : ℕ) (old new : Option (List ℕ)) (block : List ℕ) : Type 0 where
   pub tokens : List Token
   pub tiling : Tiling s 0 pos tokens
@@ -84,14 +84,14 @@ putting_more each s pos a b c block block' t h k bound p = record {
 pub putting_cut : EachPlaceIsTiled → (each : Token → List ℕ) (s : Setting) (pos : ℕ) (a b c : Option (List ℕ)) (block : List ℕ) (t : Token) → IsUtf8 s.text → Putting each s pos a b block → TokenAt s pos t → IsCharBoundary s.text (pos + t.len) → AppendsPrefix b c (block ++ each t)
     → AppendsEachCut each s a c
 putting_cut tiled each s pos a b c block t u h k bound p =
-    let behind = tiled s (t.offset + t.len) u (tiled_from s 0 h.tokens t pos h.tiling k bound) in
+    let after = tiled s (t.offset + t.len) u (tiled_from s 0 h.tokens t pos h.tiling k bound) in
     let so_far = h.tokens ++ t ∷ [] in
-    let all = flat_map-append each so_far behind.0 in
+    let all = flat_map-append each so_far after.0 in
     record {
-      tokens = so_far ++ behind.0;
-      ending = behind.1;
-      tiling = record { to = behind.2.to; tiling = tiled_on s 0 (t.offset + t.len) behind.2.to so_far behind.0 (tiled_more s 0 pos h.tokens t h.tiling k) behind.2.tiling; ends = behind.2.ends };
-      appended = cut_longer a c (flat_map each so_far) (flat_map each behind.0) (flat_map each (so_far ++ behind.0))
+      tokens = so_far ++ after.0;
+      ending = after.1;
+      tiling = record { to = after.2.to; tiling = tiled_on s 0 (t.offset + t.len) after.2.to so_far after.0 (tiled_more s 0 pos h.tokens t h.tiling k) after.2.tiling; ends = after.2.ends };
+      appended = cut_longer a c (flat_map each so_far) (flat_map each after.0) (flat_map each (so_far ++ after.0))
           (cut_more a b c [] block (flat_map each h.tokens) (each t) (flat_map each so_far) h.puts p (one_more each h.tokens t)) all;
     }
 
@@ -112,7 +112,7 @@ putting_end_cut each s pos ending a b c block (Err f) h e p = record {
   tokens = h.tokens;
   ending = ending;
   tiling = record { to = pos; tiling = h.tiling; ends = e };
-  appended = cut_behind a b c h.puts.written block (flat_map each h.tokens) h.puts.appended p (sym h.puts.all);
+  appended = cut_after a b c h.puts.written block (flat_map each h.tokens) h.puts.appended p (sym h.puts.all);
 }
 
 -- the tokens up to a place of the text
@@ -134,7 +134,7 @@ tiled_next s pos t h k b = record {
 pub tiled_end : (s : Setting) (pos : ℕ) (ending : Option LexFault) → Tiled s pos → EndsAt s pos ending → EndsIn s ending
 tiled_end s pos ending h e = record { tokens = h.tokens; tiling = record { to = pos; tiling = h.tiling; ends = e } }
 
--- bytes that are longer than a block are written behind what it held
+-- bytes that are longer than a block are written after what it held
 pub put_long : {T E : Type 0} (a b c : Option (List ℕ)) (block block' bytes : List ℕ) (r : Result T E) → Appends a b block → OnOk r (Appends b c bytes) → block' ≡ [] → OnOk r (Puts a c block block' bytes)
 put_long a b c block block' bytes (Ok t) h k e = record {
   written = block ++ bytes;
@@ -145,7 +145,7 @@ put_long a b c block block' bytes (Err e) h k f = tt
 
 pub put_long_cut : {T E : Type 0} (a b c : Option (List ℕ)) (block bytes : List ℕ) (r : Result T E) → Appends a b block → OnErr r (AppendsPrefix b c bytes) → OnErr r (AppendsPrefix a c (block ++ bytes))
 put_long_cut a b c block bytes (Ok t) h k = tt
-put_long_cut a b c block bytes (Err e) h k = cut_behind a b c block bytes (block ++ bytes) h k refl
+put_long_cut a b c block bytes (Err e) h k = cut_after a b c block bytes (block ++ bytes) h k refl
 
 -- what holds where a call fails, for an answer that is a failure
 pub on_err : {T E P : Type 0} (r : Result T E) → P → OnErr r P

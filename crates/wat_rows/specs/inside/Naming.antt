@@ -38,7 +38,7 @@ not_shown why = if why == 0 then unseen.TextEnd else unseen.TextFault
 abbrev pub not_closed : ℕ → ℕ → NotShown
 not_closed why number = if why == 0 then unseen.Unclosed number else unseen.TextFault
 
--- a row that is told is one of so many
+-- a row that is reported is one of so many
 abbrev pub IsWithin : ℕ → Result ℕ NotShown → Type 0
 IsWithin rows (Ok number) = number < rows
 IsWithin rows (Err unseen.TextEnd) = Unit {0}

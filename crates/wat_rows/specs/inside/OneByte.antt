@@ -1,4 +1,4 @@
--- WebAssembly specification, text format, lexical format: tokens, white space, comments. Where a token of one byte stands.
+-- WebAssembly specification, text format, lexical format: tokens, white space, comments. Where a token of one byte is.
 use Rattle.std.specs.Prelude.{ℕ, ◌≡◌, ◌+◌, ◌==◌, ◌||◌, List, if◌then◌else◌}
 use Rattle.std.specs.Str.{IsCharBoundary}
 use Rattle.wat_lex.specs.grammar.Classes.{is_whitespace, is_punctuation, open_paren, close_paren, semicolon}
@@ -26,10 +26,10 @@ longer_before b =
 abbrev pub kind_alone : ℕ → TokenKind
 kind_alone b = if b == open_paren then LParen else if b == close_paren then RParen else if is_whitespace b then Whitespace else Reserved
 
--- under any settings a token of one byte and of this kind stands at the place, and behind it is a place
-pub record StandsAlone (text : List ℕ) (at : ℕ) (kind : TokenKind) : Type 0 where
+-- under any settings a token of one byte and of this kind is at the place, and after it is a place
+pub record IsAlone (text : List ℕ) (at : ℕ) (kind : TokenKind) : Type 0 where
   pub token : (flags : Settings) → TokenAt (record { text = text; flags = flags }) at (record { kind = kind; offset = at; len = 1 })
-  pub behind : IsCharBoundary text (at + 1)
+  pub after : IsCharBoundary text (at + 1)
 
 -- the token of a byte that is one of its own, and its row
 abbrev pub token_alone : ℕ → ℕ → Token
@@ -38,8 +38,8 @@ token_alone b at = record { kind = kind_alone b; offset = at; len = 1 }
 abbrev pub row_alone : ℕ → ℕ → TokenRow
 row_alone b at = token_row (token_alone b at)
 
--- the row is that of a token of one byte that stands at the place
+-- the row is that of a token of one byte that is at the place
 pub record IsRowAlone (text : List ℕ) (at : ℕ) (row : TokenRow) : Type 0 where
   pub byte : ℕ
-  pub stands : StandsAlone text at (kind_alone byte)
-  pub told : row ≡ row_alone byte at
+  pub is_at : IsAlone text at (kind_alone byte)
+  pub known : row ≡ row_alone byte at

@@ -1,6 +1,6 @@
 // Made by tools/erase from crates/wat_parser_c/src/answers.rt; do not edit.
 //! What readers answer, and bytes into a caller's buffer. The fields of an answer are private, so that
-//! each is made here, and tells want of memory only of a refusal in hand.
+//! each is made here, and answers out of memory only with a refusal in hand.
 
 use wat_lex::shim::prelude::*;
 use wat_lex::shim::alloc::AllocError;
@@ -13,8 +13,8 @@ use crate::rows::rows::fault_code;
 pub struct Answer {
     /// How many bytes it has. They were written where the buffer has room for all of them.
     needed: usize,
-    /// 0 where there was something, otherwise why not: 1 where no such token or fault stands there, 2
-    /// for want of memory, 3 where the number has no such part or the name no fault, or else
+    /// 0 where there was something, otherwise why not: 1 where no such token or fault is there, 2
+    /// for out of memory, 3 where the number has no such part or the name no fault, or else
     /// the number of what is wrong with the name.
     status: u32,
 }
@@ -35,7 +35,7 @@ impl Answer {
 /// Why there is nothing to give.
 #[derive(Clone, Copy, Debug, PartialEq)]
 pub enum Refusal {
-    /// No such token or fault stands there.
+    /// No such token or fault is there.
     Other,
     /// A request for memory was refused, by this refusal.
     Memory(AllocError),
@@ -80,7 +80,7 @@ impl Refusal {
 /// # Proved
 ///
 /// ```text
-/// ensures told { result ≡ answer_of (Ok bytes.now) }
+/// ensures known { result ≡ answer_of (Ok bytes.now) }
 /// ensures left { out.new ≡ left_of out.old (Ok bytes.now) }
 /// ```
 pub fn give(bytes: &[u8], out: &mut [u8]) -> Answer {

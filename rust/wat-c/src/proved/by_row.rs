@@ -153,7 +153,7 @@ fn give_string(alloc: Global, text: &str, row: Row, out: &mut [u8]) -> Answer {
 /// ```text
 /// requires utf8 { IsUtf8 text.now }
 /// requires short { length text.now < 2 ^ 32 }
-/// requires told { IsRow text.now row.now }
+/// requires known { IsRow text.now row.now }
 /// ensures found { Answers (FindsOf IsString ReadsString text.now row.now)
 ///     out.old out.new result }
 /// ensures one { OneAnswer (FindsOf IsString ReadsString text.now row.now) out.old }
@@ -198,7 +198,7 @@ fn give_name(alloc: Global, text: &str, row: Row, out: &mut [u8]) -> Answer {
 /// ```text
 /// requires utf8 { IsUtf8 text.now }
 /// requires short { length text.now < 2 ^ 32 }
-/// requires told { IsRow text.now row.now }
+/// requires known { IsRow text.now row.now }
 /// ensures found { Answers (FindsOf IsNamed ReadsName text.now row.now)
 ///     out.old out.new result }
 /// ensures one { OneAnswer (FindsOf IsNamed ReadsName text.now row.now) out.old }
@@ -246,7 +246,7 @@ fn give_float(alloc: Global, text: &str, row: Row, part: u32, out: &mut [u8]) ->
 /// ```text
 /// requires utf8 { IsUtf8 text.now }
 /// requires short { length text.now < 2 ^ 32 }
-/// requires told { IsRow text.now row.now }
+/// requires known { IsRow text.now row.now }
 /// ensures found { Answers (FindsOf IsFloat (ReadsFloat part) text.now row.now)
 ///     out.old out.new result }
 /// ensures one { OneAnswer (FindsOf IsFloat (ReadsFloat part) text.now row.now) out.old }

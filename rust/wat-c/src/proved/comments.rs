@@ -8,14 +8,14 @@ use core::str;
 use wat_lex::proved::lexer::{LexFault, Settings, Token, TokenKind};
 use crate::rows::rows::{fault_code, lexer_of};
 
-/// What stands behind at most one white space token.
+/// What comes after at most one white space token.
 ///
 /// # Proved
 ///
 /// ```text
 /// requires short { length text.now < 2 ^ 32 }
 /// requires boundary { IsCharBoundary text.now pos }
-/// ensures past { StandsPast (record { text = text.now; flags = settings }) pos result }
+/// ensures past { IsPast (record { text = text.now; flags = settings }) pos result }
 /// ensures short { IfOk result (λ found. IfSome found (λ t. t.offset + t.len < 2 ^ 32)) }
 /// ```
 fn past_space(text: &str, pos: usize, settings: Settings) -> Result<Option<Token>, LexFault> {
@@ -29,15 +29,15 @@ fn past_space(text: &str, pos: usize, settings: Settings) -> Result<Option<Token
     }
 }
 
-/// What is told of the token that stands there.
+/// What is reported of the token that is there.
 ///
 /// # Proved
 ///
 /// ```text
 /// requires { IfOk found (λ found. IfSome found (λ t. t.offset + t.len < 2 ^ 32)) }
-/// ensures { result ≡ comment_told found }
+/// ensures { result ≡ comment_known found }
 /// ```
-fn comment_told(found: Result<Option<Token>, LexFault>) -> Word {
+fn comment_known(found: Result<Option<Token>, LexFault>) -> Word {
     match found {
         Ok(Some(token)) => match token.kind {
             TokenKind::LineComment | TokenKind::BlockComment => Word {
@@ -52,22 +52,22 @@ fn comment_told(found: Result<Option<Token>, LexFault>) -> Word {
     }
 }
 
-/// Where the comment at a place stands, past white space.
+/// Where the comment at a place is, past white space.
 ///
 /// # Proved
 ///
 /// ```text
 /// requires short { length text.now < 2 ^ 32 }
 /// requires boundary { IsCharBoundary text.now pos }
-/// ensures told { TellsComment (record { text = text.now; flags = settings }) pos result }
+/// ensures known { TellsComment (record { text = text.now; flags = settings }) pos result }
 /// ensures parsers { IsParsersComment (record { text = text.now; flags = settings }) pos result }
 /// ```
 fn comment_at(text: &str, pos: usize, settings: Settings) -> Word {
     comments_are_parsers();
-    comment_told(past_space(text, pos, settings))
+    comment_known(past_space(text, pos, settings))
 }
 
-/// Where the comment at a place of the text stands, past white space.
+/// Where the comment at a place of the text is, past white space.
 ///
 /// # Proved
 ///
@@ -75,7 +75,7 @@ fn comment_at(text: &str, pos: usize, settings: Settings) -> Word {
 /// requires utf8 { IsUtf8 text.now }
 /// requires short { length text.now < 2 ^ 32 }
 /// requires boundary { IsCharBoundary text.now pos }
-/// ensures told { TellsComment (setting text.now allow strict) pos result }
+/// ensures known { TellsComment (setting text.now allow strict) pos result }
 /// ensures one { CommentsAreOne }
 /// ensures parsers { IsParsersComment (setting text.now allow strict) pos result }
 /// ```

@@ -2,7 +2,7 @@
 //! What a reader answers at a place is one thing.
 
 use wat_lex::shim::prelude::*;
-/// Each reader has one answer at each place, want of memory apart. It does nothing: its contract is
+/// Each reader has one answer at each place, apart from out of memory. It does nothing: its contract is
 /// the law.
 ///
 /// # Proved
@@ -47,7 +47,7 @@ pub fn one_answer_of_row() {
     wat_lex::proved::laws::floats();
 }
 
-/// What is told of where a value stands is one thing. It does nothing either.
+/// What is reported of a value's place is one thing. It does nothing either.
 ///
 /// # Proved
 ///
@@ -64,11 +64,11 @@ pub fn one_word() {
 /// # Proved
 ///
 /// ```text
-/// ensures { FaultsAreTold }
+/// ensures { FaultsAreKnown }
 /// ```
-pub fn faults_are_told() {}
+pub fn faults_are_known() {}
 
-/// The comment that is told of a place is one thing, and the one that a parser finds there. It does
+/// The comment that is reported of a place is one thing, and the one that a parser finds there. It does
 /// nothing either.
 ///
 /// # Proved
@@ -81,7 +81,7 @@ pub fn comments_are_parsers() {
     wat_lex::proved::laws::one_answer();
 }
 
-/// What is printed of an error is one thing, want of memory apart. It does nothing either.
+/// What is printed of an error is one thing, apart from out of memory. It does nothing either.
 ///
 /// # Proved
 ///

@@ -5,8 +5,8 @@ use wat_lex::shim::prelude::*;
 use wat_lex::shim::alloc::Global;
 use core::str;
 use wat_lex::proved::lexer::Settings;
+use crate::rows::after::offset_after;
 use crate::rows::answers::Look;
-use crate::rows::behind::offset_behind;
 use crate::rows::counting::{Row, fill_counting};
 use crate::rows::laws::one_fill_counting;
 use crate::rows::links::link;
@@ -14,7 +14,7 @@ use crate::rows::looks::look_in_numbers;
 use crate::rows::rows::Filled;
 
 /// Fills rows with the tokens that count from a byte of the text on, without links, up to its end or
-/// its first fault, or as many as there is room for. The rows behind them stay.
+/// its first fault, or as many as there is room for. The rows after them stay.
 ///
 /// # Proved
 ///
@@ -120,9 +120,9 @@ pub unsafe extern "C" fn wat_shown(
 ///     result ≡ offset_at s.tokens (raw_place s.tokens place) }
 /// ```
 #[unsafe(no_mangle)]
-pub unsafe extern "C" fn wat_behind(rows: *const Row, rows_len: usize, place: usize) -> usize {
+pub unsafe extern "C" fn wat_after(rows: *const Row, rows_len: usize, place: usize) -> usize {
     // SAFETY: `rows` points to `rows_len` values, by rule 1 of wat.h.
     let rows = unsafe { core::slice::from_raw_parts(rows, rows_len) };
 
-    offset_behind(rows, place)
+    offset_after(rows, place)
 }

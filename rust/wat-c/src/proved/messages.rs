@@ -3,7 +3,7 @@
 
 use wat_lex::shim::prelude::*;
 use crate::proved::answers::{Answer, Refusal};
-use crate::proved::laws::faults_are_told;
+use crate::proved::laws::faults_are_known;
 use wat_lex::proved::error::Rendered;
 use wat_lex::proved::lexer::{LexError, LexFault};
 
@@ -36,7 +36,7 @@ fn char_of(number: u32) -> Option<char> {
 /// # Proved
 ///
 /// ```text
-/// ensures { result ≡ fault_told code found wanted }
+/// ensures { result ≡ fault_known code found wanted }
 /// ```
 fn fault_of(code: u32, found: u32, wanted: u32) -> Option<LexError> {
     match code {
@@ -59,7 +59,7 @@ fn fault_of(code: u32, found: u32, wanted: u32) -> Option<LexError> {
     }
 }
 
-/// How many bytes an error prints behind its message, which are those behind any message.
+/// How many bytes an error prints after its message, which are those after any message.
 ///
 /// # Proved
 ///
@@ -77,7 +77,7 @@ pub fn place_length(text: &str, offset: usize) -> usize {
 /// # Proved
 ///
 /// ```text
-/// ensures told { result ≡ answer_of (Ok (message error)) }
+/// ensures known { result ≡ answer_of (Ok (message error)) }
 /// ensures left { out.new ≡ left_of out.old (Ok (message error)) }
 /// ```
 fn give_message(error: LexError, out: &mut [u8]) -> Answer {
@@ -95,9 +95,9 @@ fn give_message(error: LexError, out: &mut [u8]) -> Answer {
 /// # Proved
 ///
 /// ```text
-/// ensures told { result ≡ answer_of (message_told (fault_told fault found wanted)) }
-/// ensures left { out.new ≡ left_of out.old (message_told (fault_told fault found wanted)) }
-/// ensures each { FaultsAreTold }
+/// ensures known { result ≡ answer_of (message_known (fault_known fault found wanted)) }
+/// ensures left { out.new ≡ left_of out.old (message_known (fault_known fault found wanted)) }
+/// ensures each { FaultsAreKnown }
 /// ```
 #[unsafe(no_mangle)]
 pub unsafe extern "C" fn wat_message(
@@ -110,7 +110,7 @@ pub unsafe extern "C" fn wat_message(
     // SAFETY: `out` points to `out_len` values, by rules 1 and 5 of wat.h.
     let out = unsafe { core::slice::from_raw_parts_mut(out, out_len) };
 
-    faults_are_told();
+    faults_are_known();
     match fault_of(fault, found, wanted) {
         Some(error) => give_message(error, out),
         None => Refusal::Other.answer(),

@@ -34,7 +34,7 @@ impl Number {
     }
 }
 
-/// How many bytes stand before an integer's digits: its sign, and `0x`.
+/// How many bytes come before an integer's digits: its sign, and `0x`.
 ///
 /// # Proved
 ///
@@ -47,15 +47,15 @@ fn lead(kind: KindRow) -> usize {
     sign + prefix
 }
 
-/// The digits of an integer's row as they are written, behind its sign and its `0x`.
+/// The digits of an integer's row as they are written, after its sign and its `0x`.
 ///
 /// # Proved
 ///
 /// ```text
-/// requires told { IsRow text.now row }
+/// requires known { IsRow text.now row }
 /// requires is { row.kind.code ≡ 11 }
 /// ensures digits { result.now
-///     ≡ behind_prefix row.kind.hex (unsigned (word_of text.now (token_of row))) }
+///     ≡ after_prefix row.kind.hex (unsigned (word_of text.now (token_of row))) }
 /// ensures read { ReadsInteger text.now (token_of row)
 ///     (Ok (signed_digits (row.kind.sign == 2) result.now)) }
 /// ```
@@ -118,7 +118,7 @@ fn in_bits(minus: bool, magnitude: u64, half: u64, is_signed: bool) -> Option<u6
 ///
 /// ```text
 /// requires { IsRow text.now row }
-/// ensures { result ≡ number_told bits is_signed
+/// ensures { result ≡ number_known bits is_signed
 ///     (as_integer text.now (token_of row) (kind_of row.kind)) }
 /// ```
 fn integer_of(text: &str, row: Row, bits: u32, is_signed: bool) -> Number {
@@ -144,8 +144,8 @@ fn integer_of(text: &str, row: Row, bits: u32, is_signed: bool) -> Number {
 /// ```text
 /// requires utf8 { IsUtf8 text.now }
 /// requires short { length text.now < 2 ^ 32 }
-/// requires told { IsRow text.now row.now }
-/// ensures { result ≡ number_told bits is_signed
+/// requires known { IsRow text.now row.now }
+/// ensures { result ≡ number_known bits is_signed
 ///     (as_integer text.now (token_of row.now) (kind_of row.now.kind)) }
 /// ```
 #[unsafe(no_mangle)]
@@ -195,7 +195,7 @@ fn write_digits(digits: &[u8], out: &mut [u8], at: usize) {
     }
 }
 
-/// Writes digits without underscores to the front, behind a `-` or not.
+/// Writes digits without underscores to the front, after a `-` or not.
 ///
 /// # Proved
 ///
@@ -212,12 +212,12 @@ fn write_signed(digits: &[u8], minus: bool, out: &mut [u8]) {
     write_digits(digits, out, 1);
 }
 
-/// Writes digits without underscores to the front where they fit, behind a `-` or not.
+/// Writes digits without underscores to the front where they fit, after a `-` or not.
 ///
 /// # Proved
 ///
 /// ```text
-/// ensures told { result ≡ answer_of (Ok (signed_digits minus digits.now)) }
+/// ensures known { result ≡ answer_of (Ok (signed_digits minus digits.now)) }
 /// ensures left { out.new ≡ left_of out.old (Ok (signed_digits minus digits.now)) }
 /// ```
 fn give_signed(digits: &[u8], minus: bool, out: &mut [u8]) -> Answer {
@@ -255,7 +255,7 @@ fn give_digits(text: &str, row: Row, out: &mut [u8]) -> Answer {
 /// ```text
 /// requires utf8 { IsUtf8 text.now }
 /// requires short { length text.now < 2 ^ 32 }
-/// requires told { IsRow text.now row.now }
+/// requires known { IsRow text.now row.now }
 /// ensures found { Answers (FindsOf IsInteger ReadsInteger text.now row.now)
 ///     out.old out.new result }
 /// ensures one { OneAnswer (FindsOf IsInteger ReadsInteger text.now row.now) out.old }

@@ -1,5 +1,5 @@
 // Made by tools/erase from crates/wat_parser_c/src/words.rt; do not edit.
-//! Where the values of strings and names stand in their text as it is.
+//! Where the values of strings and names are in their text as it is.
 
 use wat_lex::shim::prelude::*;
 use crate::proved::by_row::{name_kind, token_of};
@@ -10,7 +10,7 @@ use wat_lex::proved::lexer::{LexError, TokenKind};
 use crate::rows::counting::Row;
 use crate::rows::rows::fault_code;
 
-/// Where the value of a word stands, or why it does not stand there.
+/// Where the value of a word is, or why it is not there.
 #[repr(C)]
 #[derive(Clone, Copy, Debug, PartialEq)]
 pub struct Word {
@@ -18,8 +18,8 @@ pub struct Word {
     pub start: u32,
     /// How many bytes it has.
     pub len: u32,
-    /// 0 where it stands there, otherwise why not, and the others are 0: 1 where the token has no
-    /// value, 4 where an escape stands in it, or the number of what is wrong with the name.
+    /// 0 where it is there, otherwise why not, and the others are 0: 1 where the token has no
+    /// value, 4 where an escape is in it, or the number of what is wrong with the name.
     pub status: u32,
 }
 
@@ -38,7 +38,7 @@ impl Word {
     }
 }
 
-/// Whether escapes can stand in a word: each begins with a backslash.
+/// Whether escapes can be in a word: each begins with a backslash.
 ///
 /// # Proved
 ///
@@ -55,7 +55,7 @@ fn has_backslash(word: &str) -> bool {
 /// # Proved
 ///
 /// ```text
-/// requires told { IsRow text.now row }
+/// requires known { IsRow text.now row }
 /// requires is { kind_of row.kind ≡ kind }
 /// ensures text { result.now ≡ token_text text.now (token_of row) }
 /// ensures word { Spells kind (chars result.now) lenient }
@@ -67,13 +67,13 @@ fn source<'a>(text: &'a str, row: Row, kind: TokenKind) -> &'a str {
     token_of(row, kind).src(text)
 }
 
-/// Where the value of a string's row stands.
+/// Where the value of a string's row is.
 ///
 /// # Proved
 ///
 /// ```text
 /// requires short { length text.now < 2 ^ 32 }
-/// requires told { IsRow text.now row }
+/// requires known { IsRow text.now row }
 /// requires is { kind_of row.kind ≡ token_kind.String }
 /// ensures { TellsWord text.now (token_of row) result }
 /// ```
@@ -115,22 +115,22 @@ fn empty_name(kind: TokenKind) -> LexError {
     }
 }
 
-/// What is told of a name that stands behind so many bytes of its word and before so many.
+/// What is reported of a name that comes after so many bytes of its word and before so many.
 ///
 /// # Proved
 ///
 /// ```text
-/// requires fits { before + behind ≤ row.len }
+/// requires fits { before + after ≤ row.len }
 /// requires ends { row.offset + row.len < 2 ^ 32 }
-/// ensures empty { row.len ≡ before + behind → result ≡ no_word (fault_code (empty_name kind)) }
-/// ensures some { before + behind < row.len → result ≡ record {
+/// ensures empty { row.len ≡ before + after → result ≡ no_word (fault_code (empty_name kind)) }
+/// ensures some { before + after < row.len → result ≡ record {
 ///   start = row.offset + before;
-///   len = row.len - before - behind;
+///   len = row.len - before - after;
 ///   status = 0;
 /// } }
 /// ```
-fn name_within(row: Row, kind: TokenKind, before: u32, behind: u32) -> Word {
-    let len = row.len - before - behind;
+fn name_within(row: Row, kind: TokenKind, before: u32, after: u32) -> Word {
+    let len = row.len - before - after;
     if len == 0 {
         return Word::refused(fault_code(empty_name(kind)));
     }
@@ -141,13 +141,13 @@ fn name_within(row: Row, kind: TokenKind, before: u32, behind: u32) -> Word {
     }
 }
 
-/// Where the name of a name's row stands.
+/// Where the name of a name's row is.
 ///
 /// # Proved
 ///
 /// ```text
 /// requires short { length text.now < 2 ^ 32 }
-/// requires told { IsRow text.now row }
+/// requires known { IsRow text.now row }
 /// requires is { kind_of row.kind ≡ kind }
 /// requires named { IsNamed kind }
 /// ensures { TellsWord text.now (token_of row) result }
@@ -164,13 +164,13 @@ fn name_word(text: &str, row: Row, kind: TokenKind) -> Word {
     name_within(row, kind, 2, 1)
 }
 
-/// Where the value of a row's token stands.
+/// Where the value of a row's token is.
 ///
 /// # Proved
 ///
 /// ```text
 /// requires short { length text.now < 2 ^ 32 }
-/// requires told { IsRow text.now row }
+/// requires known { IsRow text.now row }
 /// ensures { TellsWord text.now (token_of row) result }
 /// ```
 fn word_of(text: &str, row: Row) -> Word {
@@ -183,7 +183,7 @@ fn word_of(text: &str, row: Row) -> Word {
     }
 }
 
-/// Where the value of a row's token stands in the text: of a string the bytes between its quotes, of
+/// Where the value of a row's token is in the text: of a string the bytes between its quotes, of
 /// an identifier or annotation its name.
 ///
 /// # Proved
@@ -191,8 +191,8 @@ fn word_of(text: &str, row: Row) -> Word {
 /// ```text
 /// requires utf8 { IsUtf8 text.now }
 /// requires short { length text.now < 2 ^ 32 }
-/// requires told { IsRow text.now row.now }
-/// ensures told { TellsWord text.now (token_of row.now) result }
+/// requires known { IsRow text.now row.now }
+/// ensures known { TellsWord text.now (token_of row.now) result }
 /// ensures one { OneWord text.now (token_of row.now) }
 /// ```
 #[unsafe(no_mangle)]

@@ -26,7 +26,7 @@ pub enum NotShown {
 pub struct Look {
     /// The row that is shown; the `(` that nothing closes; the annotation whose name is at fault; otherwise how many rows there are.
     row: u32,
-    /// 0 where a row is shown, 1 at the text's end, 2 for want of memory, 3 at the text's fault, 4 where the group of an annotation that
+    /// 0 where a row is shown, 1 at the text's end, 2 for out of memory, 3 at the text's fault, 4 where the group of an annotation that
     /// is not registered is not closed, 5 where an annotation's name is at fault.
     status: u32,
 }

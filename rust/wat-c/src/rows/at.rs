@@ -7,7 +7,7 @@ use crate::rows::rows::{TokenRow, found_row, lexer_of};
 use wat_lex::proved::laws::one_answer;
 use wat_lex::proved::lexer::Settings;
 
-/// The token of what stands at a place. Its length is 0 where the text ends or has a fault.
+/// The token of what is at a place. Its length is 0 where the text ends or has a fault.
 // Neither way is a call, as a row that a call writes would be read back from memory.
 /// # Proved
 ///

@@ -13,9 +13,9 @@ pub struct Row {
     pub offset: u32,
     /// How many bytes the token has.
     pub len: u32,
-    /// Its kind as in the rows of all tokens, but that the code of a `(` with `@` directly behind it is 16.
+    /// Its kind as in the rows of all tokens, but that the code of a `(` with `@` directly after it is 16.
     pub kind: KindRow,
-    /// One more than the number of the row that closes the group which is open behind this row, or 0 where none does.
+    /// One more than the number of the row that closes the group which is open after this row, or 0 where none does.
     pub link: u32,
 }
 
@@ -33,7 +33,7 @@ fn is_blank(kind: TokenKind) -> bool {
     }
 }
 
-/// Whether the byte behind the token's first is `@`.
+/// Whether the byte after the token's first is `@`.
 ///
 /// # Proved
 ///
@@ -48,7 +48,7 @@ fn is_marked(text: &str, token: Token) -> bool {
     }
 }
 
-/// A token's kind, which tells a `(` with `@` directly behind it.
+/// A token's kind, which tells a `(` with `@` directly after it.
 ///
 /// # Proved
 ///

@@ -38,7 +38,7 @@ pub fn rows_of_a_text() {
     wat_lex::proved::laws::tokens();
 }
 
-/// A row that is no `(` with `@` directly behind it is shown at its place, whatever names are registered.
+/// A row that is no `(` with `@` directly after it is shown at its place, whatever names are registered.
 ///
 /// # Proved
 ///

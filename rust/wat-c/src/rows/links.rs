@@ -39,7 +39,7 @@ pub fn row_at(rows: &[Row], number: usize) -> Option<Row> {
     rows.get(number).copied()
 }
 
-/// The link of the row of this number, where all rows behind it have theirs.
+/// The link of the row of this number, where all rows after it have theirs.
 ///
 /// # Proved
 ///

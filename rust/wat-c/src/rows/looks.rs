@@ -28,7 +28,7 @@ fn is_between(names: &[u8], start: usize, end: usize, name: &[u8]) -> bool {
     start <= end && end <= names.len() && &names[start..end] == name
 }
 
-/// Whether the name stands between the ends.
+/// Whether the name is between the ends.
 ///
 /// # Proved
 ///
@@ -114,8 +114,8 @@ fn not_closed(why: u32, number: usize) -> NotShown {
     }
 }
 
-/// The number of the row that is shown from the row of a number on, under the names that stand between the ends. `why` is 0 where the
-/// text ends behind the rows, otherwise the number of its fault. It takes memory only where an escape stands in an annotation's name.
+/// The number of the row that is shown from the row of a number on, under the names that are between the ends. `why` is 0 where the
+/// text ends after the rows, otherwise the number of its fault. It takes memory only where an escape is in an annotation's name.
 ///
 /// # Proved
 ///

@@ -12,12 +12,12 @@ use wat_lex::proved::lexer::{
 pub struct KindRow {
     /// 1 to 15 for the kinds of tokens, 0 where there is no token.
     pub code: u8,
-    /// 1 for `+` and 2 for `-`, otherwise 0. Of floats only that of `inf` and `nan` is told, where it
+    /// 1 for `+` and 2 for `-`, otherwise 0. Of floats only that of `inf` and `nan` is reported, where it
     /// is `-`.
     pub sign: u8,
-    /// Whether underscores stand between its digits.
+    /// Whether underscores are between its digits.
     pub has_underscores: bool,
-    /// Whether its digits stand behind `0x`.
+    /// Whether its digits come after `0x`.
     pub hex: bool,
 }
 
@@ -33,7 +33,7 @@ pub struct TokenRow {
     pub kind: KindRow,
 }
 
-/// What stands at a place: a token, the text's end, or a fault.
+/// What is at a place: a token, the text's end, or a fault.
 #[repr(C)]
 #[derive(Clone, Copy, Debug, PartialEq)]
 pub struct Found {
@@ -287,7 +287,7 @@ fn fault_wanted(error: LexError) -> u32 {
     }
 }
 
-/// What stands at a place, in numbers.
+/// What is at a place, in numbers.
 ///
 /// # Proved
 ///

@@ -52,7 +52,7 @@ impl Gensym {
         Gensym { generation }
     }
 
-    /// Starts anew: later identifiers may equal those made before.
+    /// Starts again: later identifiers may equal those made before.
     ///
     /// # Proved
     ///

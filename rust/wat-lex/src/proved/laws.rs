@@ -3,13 +3,13 @@
 //! nothing: its contract is the law, for the proofs of crates above.
 
 use crate::shim::prelude::*;
-/// At each character boundary exactly one thing stands: a token, the text's end, or a fault.
+/// At each character boundary there is exactly one thing: a token, the text's end, or a fault.
 ///
 /// # Proved
 ///
 /// ```text
-/// ensures some { SomethingStands }
-/// ensures one { OneThingStands }
+/// ensures some { SomethingIsAt }
+/// ensures one { OneThingIsAt }
 /// ```
 pub fn one_answer() {}
 
@@ -42,7 +42,7 @@ pub fn cuts() {}
 /// ```
 pub fn moves() {}
 
-/// Where spaces, tabs or line ends stand in place of a comment's bytes, one white space token stands
+/// Where spaces, tabs or line ends are in place of a comment's bytes, one white space token is
 /// in place of the comment and of the white space directly beside it. All other raw tokens, their
 /// texts and the ending are what they were.
 ///

@@ -78,7 +78,7 @@ impl<'a> Lexer<'a> {
     }
 
     /// Sets whether the nine characters that can make a text look other than it is
-    /// may stand in comments and strings.
+    /// may be in comments and strings.
     ///
     /// # Proved
     ///
@@ -188,7 +188,7 @@ impl<'a> Lexer<'a> {
         }
     }
 
-    /// What stands at a byte of the text.
+    /// What is at a byte of the text.
     ///
     /// # Proved
     ///
@@ -246,7 +246,7 @@ impl<'a> Lexer<'a> {
     }
 
     /// The annotation's token at any position, or the error of the fault there, where the byte
-    /// there is `@`; None where it is not, and where a token of another kind stands there.
+    /// there is `@`; None where it is not, and where a token of another kind is there.
     ///
     /// # Proved
     ///

@@ -64,7 +64,7 @@ impl Span {
     }
 }
 
-/// How many bytes stand behind the last line feed.
+/// How many bytes come after the last line feed.
 ///
 /// # Proved
 ///
@@ -79,7 +79,7 @@ fn since_line_feed(text: &[u8]) -> usize {
     }
 }
 
-/// An identifier: a name, and where it stands. The name is without the `$` that the text has before
+/// An identifier: a name, and where it is. The name is without the `$` that the text has before
 /// it.
 ///
 /// What a text spells has generation 0. [`Gensym`](crate::proved::gensym::Gensym) makes identifiers of
@@ -144,7 +144,7 @@ impl<'a> Id<'a> {
         self.name.as_str()
     }
 
-    /// Where the identifier stands.
+    /// Where the identifier is.
     ///
     /// # Proved
     ///
@@ -214,14 +214,14 @@ impl fmt::Debug for Id<'_> {
 /// Equality and hash look at the number or the identifier alone, and not at places.
 #[derive(Debug)]
 pub enum Index<'a> {
-    /// A number, and where it stands.
+    /// A number, and where it is.
     Num(u32, Span),
     /// An identifier.
     Id(Id<'a>),
 }
 
 impl<'a> Index<'a> {
-    /// Where the number or the identifier stands.
+    /// Where the number or the identifier is.
     ///
     /// # Proved
     ///

@@ -38,7 +38,7 @@ pub fn shown() {
     wat_lex::proved::laws::tokens();
 }
 
-/// A token that is shown at a place stands right before the place behind it, which is further on.
+/// A token that is shown at a place comes right before the place after it, which is further on.
 ///
 /// # Proved
 ///
@@ -47,7 +47,7 @@ pub fn shown() {
 /// ```
 pub fn taken() {}
 
-/// Where the raw tokens end in a parenthesis with `@` directly behind it, a fault follows.
+/// Where the raw tokens end in a parenthesis with `@` directly after it, a fault follows.
 ///
 /// # Proved
 ///
@@ -72,7 +72,7 @@ pub fn all_shown() {
 
 /// What is shown of the tokens that count, which are neither white space nor comments, is what is
 /// shown of all raw tokens. So a caller may keep these alone. One that is no parenthesis with `@`
-/// directly behind it is shown where it stands, whatever names are registered.
+/// directly after it is shown where it is, whatever names are registered.
 ///
 /// # Proved
 ///
@@ -134,7 +134,7 @@ pub fn blank_texts() {
 }
 
 /// The text with spaces over the bytes of one of its comments. It is as long as the text and shows
-/// what the text shows, also where that has a fault further on. It is refused for want of memory
+/// what the text shows, also where that has a fault further on. It is refused for out of memory
 /// alone.
 ///
 /// # Proved

@@ -100,7 +100,7 @@ impl<'a> Parser<'a> {
         self.place
     }
 
-    /// What is shown at a place, with the place behind it, where the parser keeps which token it is.
+    /// What is shown at a place, with the place after it, where the parser keeps which token it is.
     ///
     /// # Proved
     ///
@@ -120,7 +120,7 @@ impl<'a> Parser<'a> {
         }
     }
 
-    /// What is shown at a place, with the place behind it.
+    /// What is shown at a place, with the place after it.
     ///
     /// # Proved
     ///
@@ -304,7 +304,7 @@ impl<'a> Parser<'a> {
         table.is_meaningful()
     }
 
-    /// What the buffer was told by [`ParseBuffer::track_instr_spans`].
+    /// What the buffer was given by [`ParseBuffer::track_instr_spans`].
     ///
     /// # Proved
     ///
@@ -543,7 +543,7 @@ impl<'a> Parser<'a> {
         T::peek(Cursor::new(self))
     }
 
-    /// Whether a type is seen behind the token that is shown; false where none is shown.
+    /// Whether a type is seen after the token that is shown; false where none is shown.
     ///
     /// # Proved
     ///
@@ -554,7 +554,7 @@ impl<'a> Parser<'a> {
         T::peek2(Cursor::new(self))
     }
 
-    /// Whether a type is seen behind the next two tokens; false where one of them is missing.
+    /// Whether a type is seen after the next two tokens; false where one of them is missing.
     ///
     /// # Proved
     ///

@@ -1,9 +1,9 @@
 // Made by tools/erase from crates/wat_words/src/table.rt; do not edit.
-//! The tables of the words, each of which stands here once.
+//! The tables of the words, each of which is here once.
 
 use wat_lex::shim::prelude::*;
 /// The standard words in the order of their places, each as `words` or `displays` has it.
-/// Ten stand in a row, which goes on indented where it is long.
+/// Ten are in a row, which goes on indented where it is long.
 macro_rules! standard {
     ($entries:ident) => {
         $entries! {
@@ -66,14 +66,14 @@ macro_rules! annotations {
     };
 }
 
-/// The words behind the first text, which is the sign that displays have before them.
+/// The words after the first text, which is the sign that displays have before them.
 macro_rules! words {
     ($sign:literal $($word:literal)*) => {
         [$($word),*]
     };
 }
 
-/// The displays of the words behind the first text, which is the sign that each has before it.
+/// The displays of the words after the first text, which is the sign that each has before it.
 macro_rules! displays {
     ($sign:literal $($word:literal)*) => {
         [$(concat!("`", $sign, $word, "`")),*]

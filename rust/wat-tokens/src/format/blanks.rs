@@ -20,7 +20,7 @@ fn blanks(count: usize) -> &'static str {
     &BLANKS[..count]
 }
 
-/// Writes blanks behind a text.
+/// Writes blanks after a text.
 ///
 /// # Proved
 ///

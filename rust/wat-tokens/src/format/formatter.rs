@@ -10,7 +10,7 @@ use crate::shim::alloc::{AllocError, Global};
 
 use wat_lex::proved::lexer::{Token, TokenKind};
 
-/// Where a layout stands between two tokens.
+/// Where a layout is between two tokens.
 pub struct Formatter {
     before: Option<Sort>,
     gap: Gap,
@@ -19,7 +19,7 @@ pub struct Formatter {
 }
 
 impl Formatter {
-    /// A formatter in front of the first token.
+    /// A formatter before the first token.
     ///
     /// # Proved
     ///
@@ -49,7 +49,7 @@ impl Formatter {
         }
     }
 
-    /// The level of the line on which a token of this sort stands behind this gap.
+    /// The level of the line on which a token of this sort comes after this gap.
     ///
     /// # Proved
     ///
@@ -65,14 +65,14 @@ impl Formatter {
         }
     }
 
-    /// Goes on behind a token of this sort, on a line of this level.
+    /// Goes on after a token of this sort, on a line of this level.
     ///
     /// # Proved
     ///
     /// ```text
     /// requires line { line ≤ 50 }
     /// requires few { self.old.groups.open_group.blocks + 1 < 2 ^ 32 }
-    /// ensures { OnOk result (self.new ≡ behind sort line self.old) }
+    /// ensures { OnOk result (self.new ≡ after sort line self.old) }
     /// ```
     fn pass(&mut self, sort: Sort, line: u32) -> Result<(), AllocError> {
         self.groups.pass(sort, line)?;
@@ -82,7 +82,7 @@ impl Formatter {
         Ok(())
     }
 
-    /// Goes on behind white space.
+    /// Goes on after white space.
     ///
     /// # Proved
     ///
@@ -93,7 +93,7 @@ impl Formatter {
         self.gap = gap_of(white.as_bytes());
     }
 
-    /// Writes a token, and what stands between the token before and it.
+    /// Writes a token, and what is between the token before and it.
     ///
     /// # Proved
     ///
@@ -133,7 +133,7 @@ impl Formatter {
         self.write(out, token.kind, word)
     }
 
-    /// Writes the line end behind the last token.
+    /// Writes the line end after the last token.
     ///
     /// # Proved
     ///

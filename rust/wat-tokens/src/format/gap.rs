@@ -1,10 +1,10 @@
 // Made by tools/erase from crates/wat_format/src/gap.rt; do not edit.
-//! What stands between two tokens.
+//! What is between two tokens.
 
 use crate::shim::prelude::*;
 use crate::format::sort::Sort;
 
-/// What stands between two tokens.
+/// What is between two tokens.
 #[derive(Clone, Copy)]
 pub enum Gap {
     /// Nothing.
@@ -78,38 +78,30 @@ impl Gap {
     /// # Proved
     ///
     /// ```text
-    /// ensures { result ≡ settled before behind self }
+    /// ensures { result ≡ settled before after self }
     /// ```
-    pub fn settled(self, before: Sort, behind: Sort) -> Gap {
+    pub fn settled(self, before: Sort, after: Sort) -> Gap {
         if before.is_comment() {
-            return if behind.is_close() {
-                Gap::LineEnd
-            } else {
-                self
-            };
+            return if after.is_close() { Gap::LineEnd } else { self };
         }
-        if behind.is_comment() {
+        if after.is_comment() {
             let is_off = matches!(self, Gap::Touching) || (before.is_open() && self.is_break());
             return if is_off { Gap::Blanks(1) } else { self };
         }
         if before.is_open() {
-            return if behind.may_part() {
+            return if after.may_part() {
                 self.kept()
             } else {
                 Gap::Touching
             };
         }
         if self.is_break() {
-            return if behind.is_close() {
-                Gap::LineEnd
-            } else {
-                self
-            };
+            return if after.is_close() { Gap::LineEnd } else { self };
         }
-        if before.is_mark() || behind.is_mark() {
+        if before.is_mark() || after.is_mark() {
             return self.kept();
         }
-        if behind.is_close() {
+        if after.is_close() {
             Gap::Touching
         } else {
             Gap::Blanks(1)

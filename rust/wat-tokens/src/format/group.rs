@@ -80,7 +80,7 @@ impl Groups {
     ///
     /// ```text
     /// requires { line ≤ 50 }
-    /// ensures { OnOk result (self.new ≡ groups_behind Open line self.old) }
+    /// ensures { OnOk result (self.new ≡ groups_after Open line self.old) }
     /// ```
     fn enter(&mut self, line: u32) -> Result<(), AllocError> {
         self.around.push(self.inner)?;
@@ -104,14 +104,14 @@ impl Groups {
         }
     }
 
-    /// Goes on behind a token of this sort, on a line of this level.
+    /// Goes on after a token of this sort, on a line of this level.
     ///
     /// # Proved
     ///
     /// ```text
     /// requires line { line ≤ 50 }
     /// requires few { self.old.open_group.blocks + 1 < 2 ^ 32 }
-    /// ensures { OnOk result (self.new ≡ groups_behind sort line self.old) }
+    /// ensures { OnOk result (self.new ≡ groups_after sort line self.old) }
     /// ```
     pub fn pass(&mut self, sort: Sort, line: u32) -> Result<(), AllocError> {
         match sort {

@@ -17,11 +17,11 @@ pub enum Sort {
     Mark,
     /// A token that begins with `@`.
     At,
-    /// A keyword, not directly behind a `(`, that begins a block up to an `end`.
+    /// A keyword, not directly after a `(`, that begins a block up to an `end`.
     Begins,
-    /// A keyword, not directly behind a `(`, that ends a block.
+    /// A keyword, not directly after a `(`, that ends a block.
     Ends,
-    /// A keyword, not directly behind a `(`, that parts a block.
+    /// A keyword, not directly after a `(`, that parts a block.
     Parts,
     /// Any other token, block comments too.
     Other,
@@ -64,7 +64,7 @@ impl Sort {
         matches!(self, Sort::Mark)
     }
 
-    /// Whether it may stand apart from a `(` before it.
+    /// Whether it may be apart from a `(` before it.
     ///
     /// # Proved
     ///

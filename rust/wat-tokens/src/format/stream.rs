@@ -107,7 +107,7 @@ fn write_laid<W: Sink>(
 /// ```text
 /// requires boundary { IsCharBoundary lexer.now.text pos }
 /// requires ends { EndsFrom lexer.now pos None }
-/// ensures some { IfSome result (StandsAt lexer.now pos) }
+/// ensures some { IfSome result (TokenIsAt lexer.now pos) }
 /// ensures none { IfNone result (pos ≡ length lexer.now.text) }
 /// ```
 fn next_token(lexer: &Lexer<'_>, pos: usize) -> Option<Token> {

@@ -99,7 +99,7 @@ impl Block {
         self.used += put_line(&mut self.bytes[self.used..], place, token);
     }
 
-    /// Puts bytes behind the others.
+    /// Puts bytes after the others.
     ///
     /// # Proved
     ///
@@ -121,7 +121,7 @@ impl Block {
         Ok(())
     }
 
-    /// Puts a token's line behind the others.
+    /// Puts a token's line after the others.
     ///
     /// # Proved
     ///

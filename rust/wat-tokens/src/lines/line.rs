@@ -14,7 +14,7 @@ pub const ROOM: usize = 38;
 /// How many digits the longest number has.
 const MOST_DIGITS: usize = 10;
 
-/// How many bytes digits and what stands behind them have, so that a piece begins at the last digit.
+/// How many bytes digits and what comes after them have, so that a piece begins at the last digit.
 const LONGEST: usize = 26;
 
 /// The numbers below 100, in two digits each.
@@ -40,7 +40,7 @@ fn two_digits(number: u32) -> [u8; 2] {
     PAIRS[number as usize]
 }
 
-/// Digits, and two dots behind them.
+/// Digits, and two dots after them.
 struct Digits {
     bytes: [u8; LONGEST],
     start: usize,
@@ -171,7 +171,7 @@ impl Place {
         }
     }
 
-    /// The digits, two dots behind them, and what fills the piece.
+    /// The digits, two dots after them, and what fills the piece.
     ///
     /// # Proved
     ///

@@ -1,10 +1,10 @@
 // Made by tools/erase from crates/wat_lines/src/position.rt; do not edit.
-//! Lines and columns of a text, one place behind the other.
+//! Lines and columns of a text, one place after the other.
 
 use crate::shim::prelude::*;
 use wat_lex::proved::token::Span;
 
-/// Where the places of a text stand, for those who ask for them in their order: each is found from
+/// Where the places of a text are, for those who ask for them in their order: each is found from
 /// the one before it.
 pub struct Positions<'a> {
     text: &'a str,

@@ -1,6 +1,6 @@
 // Made by tools/erase from crates/wat_lines/src/row.rt; do not edit.
-//! The lines of the lists as JSON. A line is put together of what stands in front of the token's text,
-//! of the text as a string, and of what stands behind it.
+//! The lines of the lists as JSON. A line is put together of what comes before the token's text,
+//! of the text as a string, and of what comes after it.
 
 use crate::shim::prelude::*;
 use crate::lines::block::Block;
@@ -12,10 +12,10 @@ use crate::shim::alloc::{AllocError, Global};
 use wat_lex::proved::lexer::{Token, TokenKind};
 use wat_lex::proved::token::Span;
 
-/// The room for what stands in a line in front of a token's text, or behind it.
+/// The room for what is in a line before a token's text, or after it.
 const ROOM: usize = 96;
 
-/// The bytes of a line in front of a token's text, or behind it.
+/// The bytes of a line before a token's text, or after it.
 struct Part {
     bytes: [u8; ROOM],
     used: usize,
@@ -133,16 +133,16 @@ fn fault_head(offset: usize) -> Part {
 /// ```text
 /// requires line { line < 2 ^ 32 }
 /// requires column { column < 2 ^ 32 }
-/// ensures { result ≡ json_behind (line, column) }
+/// ensures { result ≡ json_after (line, column) }
 /// ```
-fn behind_of(line: usize, column: usize) -> Part {
-    let mut behind = Part::new();
-    behind.push(",\"line\":");
-    behind.push_number(line + 1);
-    behind.push(",\"column\":");
-    behind.push_number(column + 1);
-    behind.push("}\n");
-    behind
+fn after_of(line: usize, column: usize) -> Part {
+    let mut after = Part::new();
+    after.push(",\"line\":");
+    after.push_number(line + 1);
+    after.push(",\"column\":");
+    after.push_number(column + 1);
+    after.push("}\n");
+    after
 }
 
 /// A digit to base 16.
@@ -184,7 +184,7 @@ fn escaped(byte: u8) -> ([u8; 6], usize) {
     }
 }
 
-/// Puts what stands for the bytes of a text in a string behind the others.
+/// Puts what stands for the bytes of a text in a string after the others.
 ///
 /// # Proved
 ///
@@ -203,7 +203,7 @@ fn put_escaped<W: Sink>(block: &mut Block, output: &mut W, text: &[u8]) -> Resul
     Ok(())
 }
 
-/// Puts a text as a string behind the others.
+/// Puts a text as a string after the others.
 ///
 /// # Proved
 ///
@@ -270,10 +270,10 @@ pub fn put_row<W: Sink>(
         output,
         &text[token.offset..token.offset + token.len as usize],
     )?;
-    block.put(output, behind_of(line, column).bytes())
+    block.put(output, after_of(line, column).bytes())
 }
 
-/// Writes what stands for the bytes of a text in a string behind the others.
+/// Writes what stands for the bytes of a text in a string after the others.
 ///
 /// # Proved
 ///
@@ -288,7 +288,7 @@ fn push_escaped(lines: &mut Vec<u8>, text: &[u8]) -> Result<(), AllocError> {
     Ok(())
 }
 
-/// Writes a text as a string behind the others.
+/// Writes a text as a string after the others.
 ///
 /// # Proved
 ///
@@ -343,7 +343,7 @@ pub fn push_row(
         lines,
         &text[token.offset..token.offset + token.len as usize],
     )?;
-    lines.extend_from_slice(behind_of(line, column).bytes())
+    lines.extend_from_slice(after_of(line, column).bytes())
 }
 
 /// Writes the line of a fault of a text after the others, with its message.
@@ -366,5 +366,5 @@ pub fn push_fault(
     lines.extend_from_slice(begin)?;
     lines.extend_from_slice(fault_head(offset).bytes())?;
     push_string(lines, message.as_bytes())?;
-    lines.extend_from_slice(behind_of(line, column).bytes())
+    lines.extend_from_slice(after_of(line, column).bytes())
 }

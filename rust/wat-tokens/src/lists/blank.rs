@@ -21,7 +21,7 @@ fn blank_byte(byte: u8) -> u8 {
     }
 }
 
-/// Puts what stands in place of a comment's bytes behind the others.
+/// Puts what is in place of a comment's bytes after the others.
 ///
 /// # Proved
 ///
@@ -39,7 +39,7 @@ fn put_blanks<W: Sink>(block: &mut Block, output: &mut W, comment: &[u8]) -> Res
     Ok(())
 }
 
-/// Puts a token's bytes, or what stands in place of a comment's, behind the others.
+/// Puts a token's bytes, or what is in place of a comment's, after the others.
 ///
 /// # Proved
 ///
@@ -64,7 +64,7 @@ fn put_token<W: Sink>(
     }
 }
 
-/// Writes the bytes of each raw token of a lexer's text, or what stands in place of a comment's. It
+/// Writes the bytes of each raw token of a lexer's text, or what is in place of a comment's. It
 /// takes no memory.
 ///
 /// # Proved

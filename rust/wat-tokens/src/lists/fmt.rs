@@ -52,7 +52,7 @@ fn error_of(alloc: Global, text: &str, fault: LexFault) -> Result<Error, RunFail
 ///     (W.held output.old) (W.held output.new)) }
 /// ensures part { OnErr result
 ///     (WritesPart settings text.now (W.held output.old) (W.held output.new)) }
-/// ensures write { W.failure output.new ≡ failure_behind (W.failure output.old) result }
+/// ensures write { W.failure output.new ≡ failure_after (W.failure output.old) result }
 /// ensures refused { IfErr result (λ e. IsWrite e ⊎ (e ≡ RunFailure.Memory alloc_error)) }
 /// ```
 fn write_text<W: sink::Sink<Failure = Failed>>(
@@ -79,7 +79,7 @@ fn write_text<W: sink::Sink<Failure = Failed>>(
 ///     (W.held output.old) (W.held output.new)) }
 /// ensures part { OnErr result
 ///     (WritesPart settings bytes.now (W.held output.old) (W.held output.new)) }
-/// ensures write { W.failure output.new ≡ failure_behind (W.failure output.old) result }
+/// ensures write { W.failure output.new ≡ failure_after (W.failure output.old) result }
 /// ensures unwritten { IfErr result (λ e. IsWrite e ⊎
 ///     ((e ≡ RunFailure.Memory alloc_error) ⊎ (output.new ≡ output.old))) }
 /// ensures not_utf8 { (offset : ℕ) →
@@ -126,7 +126,7 @@ fn write_bytes<W: sink::Sink<Failure = Failed>>(
 ///
 /// // When each refusal but that of memory comes.
 /// ensures read { read_failure result ≡ R.failure input.new }
-/// ensures write { W.failure output.new ≡ failure_behind (W.failure output.old) result }
+/// ensures write { W.failure output.new ≡ failure_after (W.failure output.old) result }
 /// ensures short { (IsErrOf result RunFailure.TooLong) ⊎
 ///     ReadsShort (R.left input.old) (R.left input.new) }
 /// ensures too_long { IfSome (R.left input.old) (λ _.

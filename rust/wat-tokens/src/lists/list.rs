@@ -10,7 +10,7 @@ use crate::lines::block::Block;
 use crate::lines::ends::{Failed, Sink};
 use crate::lines::line::{Place, ROOM, put_line};
 
-/// Writes a token's line behind the others.
+/// Writes a token's line after the others.
 ///
 /// # Proved
 ///

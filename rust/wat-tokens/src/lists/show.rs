@@ -9,7 +9,7 @@ use wat_lex::proved::lexer::Settings;
 use wat_parser::proved::laws;
 use wat_parser::proved::parser::{Cursor, Parser};
 
-/// The lines of the tokens that are shown, and the error of the fault behind them.
+/// The lines of the tokens that are shown, and the error of the fault after them.
 pub struct Showing {
     /// A line for each token, in order.
     pub lines: Vec<u8>,
@@ -49,7 +49,7 @@ pub(crate) fn register_all(parser: &mut Parser<'_>, names: &[String]) -> Result<
     Ok(())
 }
 
-/// Lists what is shown from a cursor on. The cursor that it answers stands behind it.
+/// Lists what is shown from a cursor on. The cursor that it answers is after it.
 ///
 /// # Proved
 ///

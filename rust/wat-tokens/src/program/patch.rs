@@ -8,7 +8,7 @@ use crate::shim::fmt;
 use crate::commands::ends::{Failed, Sink};
 use crate::lines::block::Block;
 
-/// How many lines are shown in front of a change and after it.
+/// How many lines are shown before a change and after it.
 const CONTEXT: usize = 3;
 
 /// What comes after a last line without an end.
@@ -54,7 +54,7 @@ impl Stretch {
     }
 }
 
-/// The first line and the number of lines; of no lines the line in front of them.
+/// The first line and the number of lines; of no lines the line before them.
 impl fmt::Display for Stretch {
     fn fmt(&self, f: &mut fmt::Formatter<'_>) -> fmt::Result {
         let first = self.from.lines.saturating_add(1);
@@ -128,7 +128,7 @@ impl Patch<'_> {
         Ok(())
     }
 
-    /// Puts a change after the lines that are shown in front of it.
+    /// Puts a change after the lines that are shown before it.
     fn put_change<W: Sink>(
         &mut self,
         output: &mut W,

@@ -60,7 +60,7 @@ fn vals(parser: &mut Parser<'_>) -> Result<Vec<ValType>, Error> {
     parser.all_of::<ValType>()
 }
 
-/// The number types that stand behind a keyword, within the parentheses of both.
+/// The number types that come after a keyword, within the parentheses of both.
 struct Listed<K> {
     types: Vec<ValType>,
     of: PhantomData<K>,
@@ -83,7 +83,7 @@ fn joined<K>(alloc: Global, lists: &[Parens<Listed<K>>]) -> Result<Vec<ValType>,
     Ok(types)
 }
 
-/// What stands within the parentheses of a `param`.
+/// What is within the parentheses of a `param`.
 impl<'a> Parse<'a> for Listed<kw::param> {
     fn parse(parser: &mut Parser<'a>) -> Result<Self, Error> {
         parser.parse::<kw::param>()?;
@@ -102,7 +102,7 @@ impl<'a> Parse<'a> for Listed<kw::param> {
     }
 }
 
-/// What stands within the parentheses of a `result`.
+/// What is within the parentheses of a `result`.
 impl<'a> Parse<'a> for Listed<kw::result> {
     fn parse(parser: &mut Parser<'a>) -> Result<Self, Error> {
         parser.parse::<kw::result>()?;
@@ -123,7 +123,7 @@ impl<'a> Parse<'a> for Listed<kw::result> {
 /// ensures reads { Reads (λ v. v.items) params parser.old result parser.new.place }
 /// ```
 fn params(parser: &mut Parser<'_>) -> Result<Vec<ValType>, Error> {
-    let all = parser.all_behind::<kw::param, Parens<Listed<kw::param>>>()?;
+    let all = parser.all_after::<kw::param, Parens<Listed<kw::param>>>()?;
     Ok(joined(parser.alloc(), &all)?)
 }
 
@@ -141,7 +141,7 @@ fn results(parser: &mut Parser<'_>) -> Result<Vec<ValType>, Error> {
     Ok(joined(parser.alloc(), &all)?)
 }
 
-/// What stands within the parentheses of a `func`.
+/// What is within the parentheses of a `func`.
 impl<'a> Parse<'a> for FuncType {
     fn parse(parser: &mut Parser<'a>) -> Result<FuncType, Error> {
         parser.parse::<kw::func>()?;
@@ -151,7 +151,7 @@ impl<'a> Parse<'a> for FuncType {
     }
 }
 
-/// What stands within the parentheses of a `type`. Its identifier is read and dropped.
+/// What is within the parentheses of a `type`. Its identifier is read and dropped.
 struct Definition {
     func: FuncType,
 }
@@ -185,7 +185,7 @@ fn definitions(parser: &mut Parser<'_>) -> Result<Vec<FuncType>, Error> {
     Ok(types)
 }
 
-/// What stands within the parentheses of a module.
+/// What is within the parentheses of a module.
 struct Fields {
     types: Vec<FuncType>,
 }

@@ -62,7 +62,7 @@ impl<'a> Parse<'a> for Entry<'a> {
     }
 }
 
-/// What stands within the parentheses of an entry.
+/// What is within the parentheses of an entry.
 ///
 /// # Proved
 ///
@@ -76,7 +76,7 @@ fn inner<'a>(parser: &mut Parser<'a>) -> Result<Entry<'a>, Error> {
     details(parser)
 }
 
-/// What stands behind the word of an entry.
+/// What comes after the word of an entry.
 ///
 /// # Proved
 ///
@@ -91,7 +91,7 @@ fn details<'a>(parser: &mut Parser<'a>) -> Result<Entry<'a>, Error> {
     called(parser, place, field)
 }
 
-/// An identifier or none, and the rest, behind the strings.
+/// An identifier or none, and the rest, after the strings.
 ///
 /// # Proved
 ///
@@ -110,7 +110,7 @@ fn called<'a>(
     described(parser, place, field, id)
 }
 
-/// A kind, and a name or none, behind what was read before.
+/// A kind, and a name or none, after what was read before.
 ///
 /// # Proved
 ///
@@ -151,7 +151,7 @@ impl<'a> Parse<'a> for Imports<'a> {
     }
 }
 
-/// What stands within the parentheses of a list.
+/// What is within the parentheses of a list.
 ///
 /// # Proved
 ///

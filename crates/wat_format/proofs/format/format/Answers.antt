@@ -1,6 +1,6 @@
 use Rattle.std.proofs.Common.{◌+◌, arith, length, string_bytes, sym, ap}
 use Rattle.std.proofs.lemmas.Str.{IsCharBoundary-start}
-use Rattle.wat_format.proofs.Formats.{boundary_behind, formats_start, formats_more, formatted, refused_at, refused_later}
+use Rattle.wat_format.proofs.Formats.{boundary_after, formats_start, formats_more, formatted, refused_at, refused_later}
 use Rattle.wat_format.proofs.Laying.{few_start, lays_in}
 use Rattle.wat_format.proofs.format.format.Goals as goal
 
@@ -17,7 +17,7 @@ tokens-preserved c =
     let t = rw c.in-Ok-Some.field-0-is at c.in-Ok-Some.ensures.token in
     let same = ap (λ s. s.text) (sym c.lexer_of-lexer.ensures) in
     record {
-      boundary = boundary_behind c.lexer_of-lexer.result c.tokens.pos c.in-Ok-Some.token t (rw c.in-Ok-Some.field-0-is at c.in-Ok-Some.ensures.boundary);
+      boundary = boundary_after c.lexer_of-lexer.result c.tokens.pos c.in-Ok-Some.token t (rw c.in-Ok-Some.field-0-is at c.in-Ok-Some.ensures.boundary);
       formats = formats_more c.lexer_of-lexer.result c.tokens.pos c.tokens.formatter c.take.new.self (string_bytes c.tokens.out) (string_bytes c.take.new.out) c.in-Ok-Some.token c.tokens.invariant.formats t
           (lays_in c.args.text.now c.lexer_of-lexer.result.text c.tokens.formatter c.take.new.self c.in-Ok-Some.token (string_bytes c.tokens.out) (string_bytes c.take.new.out) same c.in_ok-take-in-Ok-Some.ensures.written);
       few = c.in_ok-take-in-Ok-Some.ensures.few;

@@ -2,7 +2,7 @@ use Rattle.std.proofs.Common.{◌∙◌, ◌+◌, refl, string_bytes}
 use Rattle.std.proofs.lemmas.Str.{IsCharBoundary-start}
 use Rattle.wat_format.specs.Layout.{layout}
 use Rattle.wat_format.specs.inside.Writing.{CutsShort}
-use Rattle.wat_format.proofs.Formats.{boundary_behind}
+use Rattle.wat_format.proofs.Formats.{boundary_after}
 use Rattle.wat_format.proofs.Laying.{few_start, lays_in, on_ok}
 use Rattle.wat_format.proofs.Streaming.{remains_start, formatted_from, remains_next, remains_moved, part_of_block, all_written, part_of_last, cuts_short, on_error, passed_on}
 use Rattle.wat_format.proofs.stream.write_laid.Goals as goal
@@ -23,7 +23,7 @@ tokens-preserved g c =
     let answer = c.tokens.invariant.answer in
     let held = g.W.Sink.held c.args.output.now in
     record {
-      boundary = boundary_behind s c.tokens.pos c.in-Some.token c.in-Some.ensures.some.token c.in-Some.ensures.some.boundary;
+      boundary = boundary_after s c.tokens.pos c.in-Some.token c.in-Some.ensures.some.token c.in-Some.ensures.some.boundary;
       few = c.in_ok-take.ensures.few;
       kept = c.in_ok-write_if_full.ensures.failed ∙ c.tokens.invariant.kept;
       answer = answer;

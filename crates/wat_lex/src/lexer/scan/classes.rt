@@ -103,7 +103,7 @@ fn whitespace_len_by_block(text: &[u8]) -> usize
     i + whitespace_len_by_byte(&text[i..])
 }
 
-/// How many bytes of whitespace stand at the start of what follows a first one. Mostly there are
+/// How many bytes of whitespace are at the start of what follows a first one. Mostly there are
 /// none.
 #[inline(always)]
 pub fn whitespace_len(text: &[u8], stride: Stride) -> usize
@@ -130,7 +130,7 @@ fn idchar_len_by_byte(text: &[u8]) -> usize
     i
 }
 
-/// How many idchars stand at the start, found a block at a time.
+/// How many idchars are at the start, found a block at a time.
 #[inline]
 pub fn idchar_len_by_block(text: &[u8]) -> usize
     ensures { result ≡ prefix_len is_idchar text.now }
@@ -146,7 +146,7 @@ pub fn idchar_len_by_block(text: &[u8]) -> usize
     i + idchar_len_by_byte(&text[i..])
 }
 
-/// How many idchars stand at the start. Mostly there are some.
+/// How many idchars are at the start. Mostly there are some.
 #[inline(always)]
 pub fn idchar_len_of_word(text: &[u8], stride: Stride) -> usize
     ensures { result ≡ prefix_len is_idchar text.now }
@@ -157,7 +157,7 @@ pub fn idchar_len_of_word(text: &[u8], stride: Stride) -> usize
     }
 }
 
-/// How many idchars stand at the start. Around a string it is mostly none.
+/// How many idchars are at the start. Around a string it is mostly none.
 #[inline]
 pub fn idchar_len(text: &[u8]) -> usize
     ensures { result ≡ prefix_len is_idchar text.now }
@@ -193,7 +193,7 @@ fn digit_len_by_block(text: &[u8]) -> usize
     i + digit_len_by_byte(&text[i..])
 }
 
-/// How many decimal digits stand at the start.
+/// How many decimal digits are at the start.
 #[inline(always)]
 pub fn digit_len(text: &[u8], stride: Stride) -> usize
     ensures { result ≡ prefix_len is_ascii_digit text.now }
@@ -229,7 +229,7 @@ fn hex_digit_len_by_block(text: &[u8]) -> usize
     i + hex_digit_len_by_byte(&text[i..])
 }
 
-/// How many hexadecimal digits stand at the start.
+/// How many hexadecimal digits are at the start.
 #[inline(always)]
 pub fn hex_digit_len(text: &[u8], stride: Stride) -> usize
     ensures { result ≡ prefix_len is_hex text.now }

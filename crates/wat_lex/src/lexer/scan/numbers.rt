@@ -65,14 +65,14 @@ fn has_underscores(word: &[u8]) -> bool
 }
 
 /// What follows a prefix of the text.
-pub fn after<'a>(text: &'a [u8], prefix: &[u8]) -> Option<&'a [u8]>
+pub fn past_prefix<'a>(text: &'a [u8], prefix: &[u8]) -> Option<&'a [u8]>
     ensures { MatchOption result ((rest : List ℕ) → text.now ≢ prefix.now ++ rest)
         (λ rest. text.now ≡ prefix.now ++ rest.now) }
 {
     text.strip_prefix(prefix)
 }
 
-/// What follows the digits at the start, and None where there are none or an underscore stands
+/// What follows the digits at the start, and None where there are none or an underscore is
 /// alone.
 pub fn after_digits(text: &[u8], hex: bool) -> Option<&[u8]>
     ensures { MatchOption result (NoDigits hex text.now)
@@ -119,13 +119,13 @@ fn is_exponent(text: &[u8], hex: bool) -> bool
 fn is_tail(text: &[u8], hex: bool) -> bool
     ensures { IsTrue result ↔ Tail hex text.now }
 {
-    let [b'.', behind @ ..] = text else {
+    let [b'.', after @ ..] = text else {
         return is_exponent(text, hex);
     };
-    if behind.is_empty() || is_exponent(behind, hex) {
+    if after.is_empty() || is_exponent(after, hex) {
         return true;
     }
-    match after_digits(behind, hex) {
+    match after_digits(after, hex) {
         Some(rest) => rest.is_empty() || is_exponent(rest, hex),
         None => false,
     }
@@ -136,7 +136,7 @@ fn after_integral(text: &[u8]) -> Option<(bool, &[u8])>
     ensures { MatchOption result (NoIntegralPart text.now)
         (λ f. OnlyIntegralPart f.0 text.now f.1.now) }
 {
-    if let Some(digits) = after(text, b"0x".as_slice()) {
+    if let Some(digits) = past_prefix(text, b"0x".as_slice()) {
         return Some((true, after_digits(digits, true)?));
     }
     Some((false, after_digits(text, false)?))
@@ -182,7 +182,7 @@ fn digits_kind(word: &[u8]) -> Option<TokenKind>
     kind_by_rest(word, hex, rest)
 }
 
-/// How many digits stand at the start.
+/// How many digits are at the start.
 #[inline(always)]
 fn digits_len(text: &[u8], hex: bool, stride: Stride) -> usize
     ensures { result ≡ prefix_len (is_digit hex) text.now }
@@ -200,13 +200,13 @@ fn is_plain_exponent(text: &[u8], len: usize, hex: bool, stride: Stride) -> bool
     requires { len ≤ length text.now }
     ensures { IsTrue result → PlainExponent hex (take len text.now) }
 {
-    let [letter, behind @ ..] = &text[..len] else {
+    let [letter, after @ ..] = &text[..len] else {
         return false;
     };
     if !is_exponent_letter(*letter, hex) {
         return false;
     }
-    let digits = unsigned(behind).len();
+    let digits = unsigned(after).len();
     digits != 0 && digit_len(&text[len - digits..], stride) >= digits
 }
 
@@ -263,7 +263,7 @@ fn plain_payload(text: &[u8], len: usize, stride: Stride) -> Option<TokenKind>
     ensures { IfSome result (λ kind. Number (take len text.now) kind) }
 {
     let word = &text[..len];
-    let Some(payload) = after(unsigned(word), b"nan:0x".as_slice()) else {
+    let Some(payload) = past_prefix(unsigned(word), b"nan:0x".as_slice()) else {
         return None;
     };
     let digits = payload.len();
@@ -289,21 +289,21 @@ pub fn plain_float(text: &[u8], len: usize, stride: Stride) -> Option<TokenKind>
         [b'n', ..] => return plain_payload(text, len, stride),
         _ => return None,
     }
-    match after(number, b"0x".as_slice()) {
-        Some(behind) => plain_decimals(&text[len - behind.len()..], behind.len(), true, stride),
+    match past_prefix(number, b"0x".as_slice()) {
+        Some(after) => plain_decimals(&text[len - after.len()..], after.len(), true, stride),
         None => plain_decimals(&text[len - digits..], digits, false, stride),
     }
 }
 
 /// The kind of the word of so many bytes at the start, where that is of hexadecimal digits alone
-/// behind `0x`, with a sign or none.
+/// after `0x`, with a sign or none.
 #[inline(always)]
 pub fn plain_hexadecimal(text: &[u8], len: usize, stride: Stride) -> Option<TokenKind>
     requires { len ≤ length text.now }
     ensures { IfSome result (λ kind. Number (take len text.now) kind) }
 {
     let word = &text[..len];
-    let Some(digits) = after(unsigned(word), b"0x".as_slice()) else {
+    let Some(digits) = past_prefix(unsigned(word), b"0x".as_slice()) else {
         return None;
     };
     let number = digits.len();
@@ -354,7 +354,7 @@ pub fn classify(word: &[u8]) -> Option<TokenKind>
     if number == b"nan".as_slice() {
         return Some(TokenKind::Float(FloatKind::Nan { negative }));
     }
-    let Some(payload) = after(number, b"nan:0x".as_slice()) else {
+    let Some(payload) = past_prefix(number, b"nan:0x".as_slice()) else {
         return digits_kind(word);
     };
     if !is_digits(payload, true) {

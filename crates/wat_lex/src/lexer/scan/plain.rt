@@ -37,7 +37,7 @@ fn plain_len_by_byte(text: &[u8]) -> usize
     i
 }
 
-/// How many plain bytes stand at the start.
+/// How many plain bytes are at the start.
 pub fn plain_len(text: &[u8]) -> usize
     ensures { result ≡ prefix_len is_plain text.now }
 {

@@ -145,7 +145,7 @@ pub fn other_kind(text: &[u8], len: usize, stride: Stride) -> TokenKind
     }
 }
 
-/// The kind of a word that may be a number behind `0x`.
+/// The kind of a word that may be a number after `0x`.
 #[inline(always)]
 fn hexadecimal_kind(text: &[u8], len: usize) -> TokenKind
     requires { len ≤ length text.now }
@@ -211,8 +211,8 @@ pub fn short_number_kind(text: &[u8], len: usize, sign: Sign) -> TokenKind
     }
 }
 
-/// The kind of a word that begins with a small letter. Behind the first letter of `inf` and `nan`
-/// stands `n` or `a`, and no other number begins with a letter.
+/// The kind of a word that begins with a small letter. After the first letter of `inf` and `nan`
+/// is `n` or `a`, and no other number begins with a letter.
 #[inline(always)]
 pub fn letters_kind(text: &[u8], len: usize, stride: Stride) -> TokenKind
     requires some { 0 < len }

@@ -27,7 +27,7 @@ pub enum Start {
 }
 
 /// What a text begins with, by its first byte.
-// Bytes that are neighbours stand in patterns of their own: as one they would be a range, and ranges
+// Bytes that are neighbours are in patterns of their own: as one they would be a range, and ranges
 // are compared one after the other where one jump tells the rest.
 #[inline(always)]
 pub fn start_of(first: u8) -> Start

@@ -38,7 +38,7 @@ fn is_control(c: char) -> bool
     (c as u32) < 0x20 || c as u32 == 0x7f
 }
 
-/// What a letter stands for behind a backslash.
+/// What a letter stands for after a backslash.
 fn letter(c: char) -> Option<u8>
     ensures { result ≡ letter_value c }
 {
@@ -135,7 +135,7 @@ fn with_digit(n: u32, digit: char, left: usize) -> Result<u32, Broken>
     Ok(wide as u32)
 }
 
-/// What follows the first digit of a number behind `\u{`.
+/// What follows the first digit of a number after `\u{`.
 fn number(it: &mut Chars<'_>, first: char, flags: Settings) -> Result<EscapeValue, Broken>
     requires utf8 { IsUtf8 (chars_rest it.old) }
     requires hex { is_hex first ≡ true }
@@ -230,7 +230,7 @@ pub fn escape(it: &mut Chars<'_>, flags: Settings) -> Result<EscapeValue, Broken
     braced(it, flags)
 }
 
-/// Whether an escape of two hexadecimal digits stands at the start.
+/// Whether an escape of two hexadecimal digits is at the start.
 fn is_byte_escape(text: &[u8]) -> bool
     ensures { MatchBool result (BeginsByteEscape text.now) (BeginsByteEscape text.now → ⊥) }
 {
@@ -248,7 +248,7 @@ fn fault_at(offset: usize, error: LexError) -> Result<usize, LexFault>
     Err(LexFault { offset, error })
 }
 
-/// How many bytes the element of a string takes that stands at the start.
+/// How many bytes the element of a string takes that is at the start.
 fn element_len(text: &str, flags: Settings) -> Result<usize, LexFault>
     requires open { slice_index text.now 0 ≢ 34 }
     ensures ok { IfOk result (ElementTaken flags text.now) }
@@ -270,7 +270,7 @@ fn element_len(text: &str, flags: Settings) -> Result<usize, LexFault>
     Ok(text.len() - it.as_str().len())
 }
 
-/// How many bytes the elements of a string and its closing quote take, behind its opening quote.
+/// How many bytes the elements of a string and its closing quote take, after its opening quote.
 pub fn string_len(text: &str, flags: Settings) -> Result<usize, LexFault>
     ensures ok { IfOk result (StringTaken flags text.now) }
     ensures err { IfErr result (StringRefused flags text.now) }

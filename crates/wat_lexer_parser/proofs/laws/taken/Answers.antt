@@ -1,4 +1,4 @@
-use Rattle.wat_lexer_parser.specs.lemmas.Behind.{shown_is_taken}
+use Rattle.wat_lexer_parser.specs.lemmas.After.{shown_is_taken}
 use Rattle.wat_lexer_parser.proofs.laws.taken.Goals as goal
 
 pub returns : goal.returns

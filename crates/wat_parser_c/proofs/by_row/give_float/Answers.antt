@@ -9,7 +9,7 @@ pub returns-in-Some : goal.returns-in-Some
 returns-in-Some c =
     let found = c.in-Ok.ensures.found in
     given (FindsOf IsFloat (ReadsFloat c.args.part) c.args.text.now c.args.row) c.args.out.now c.give.new.out c.as_bytes.result.now c.in-Some.digits.now c.give.result
-    (found.0, (c.in-Ok.float, found.1, sym c.in-Some.ensures)) c.as_bytes.ensures.value c.give.ensures.told c.give.ensures.left
+    (found.0, (c.in-Ok.float, found.1, sym c.in-Some.ensures)) c.as_bytes.ensures.value c.give.ensures.known c.give.ensures.left
 
 pub returns-in-Ok : goal.returns-in-Ok
 returns-in-Ok c =

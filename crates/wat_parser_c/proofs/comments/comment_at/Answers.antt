@@ -6,5 +6,5 @@ pub returns-clause-parsers : goal.returns-clause-parsers
 unfolding CommentsAreParsers
 returns-clause-parsers c =
     let s : Setting = record { text = c.args.text.now; flags = c.args.settings } in
-    let told : TellsComment s c.args.pos c.comment_told.result = record { answer = c.past_space.result; past = c.past_space.ensures.past; told = c.comment_told.ensures } in
-    c.comments_are_parsers.ensures.parsers s c.args.pos c.comment_told.result told
+    let known : TellsComment s c.args.pos c.comment_known.result = record { answer = c.past_space.result; past = c.past_space.ensures.past; known = c.comment_known.ensures } in
+    c.comments_are_parsers.ensures.parsers s c.args.pos c.comment_known.result known

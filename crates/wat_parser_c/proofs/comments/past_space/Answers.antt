@@ -7,7 +7,7 @@ use Rattle.wat_lex.specs.tokens.UniqueTilings.{AnswerAt}
 use Rattle.wat_lex.specs.declared.lexer.faults.LexFault.{LexFault}
 use Rattle.wat_lex.specs.declared.lexer.kinds.Token.{Token}
 use Rattle.wat_lexer_parser.specs.groups.Sorts.{is_space}
-use Rattle.wat_parser_c.specs.CommentPlaces.{StandsPast, behind}
+use Rattle.wat_parser_c.specs.CommentPlaces.{IsPast, after}
 use Rattle.wat_parser_c.proofs.comments.past_space.Goals as goal
 
 answer_at : (s : Setting) (p : ℕ) (r : Result (Option Token) LexFault) → IfOk r (λ found. IfSome found (TokenAt s p)) → IfOk r (λ found. IfNone found (p ≡ length s.text)) → IfErr r (FaultAt s p) → AnswerAt s p r
@@ -22,4 +22,4 @@ returns-in-Whitespace-clause-past c =
     let at = rw c.in-Ok-Some.field-0-is at c.in-Ok-Some.ensures.token in
     let more = answer_at lexer (token.offset + token.len) c.scan-in-Whitespace.result c.scan-in-Whitespace.ensures.token c.scan-in-Whitespace.ensures.end c.scan-in-Whitespace.ensures.fault in
     let space : is_space token.kind ≡ true = ap is_space c.in-Whitespace.is in
-    subst (λ s. StandsPast s c.args.pos c.scan-in-Whitespace.result) c.lexer_of-lexer.ensures (behind token at space more)
+    subst (λ s. IsPast s c.args.pos c.scan-in-Whitespace.result) c.lexer_of-lexer.ensures (after token at space more)

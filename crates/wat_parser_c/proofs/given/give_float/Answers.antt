@@ -10,7 +10,7 @@ pub returns-in-Some : goal.returns-in-Some
 returns-in-Some c =
     let setting : Setting = record { text = c.args.text.now; flags = c.args.settings } in
     given (Finds IsFloat (ReadsFloat c.args.part) setting c.args.pos) c.args.out.now c.give.new.out c.as_bytes.result.now c.in-Some.digits.now c.give.result
-    (part_found setting c.args.pos c.args.part c.in-Ok.float c.in-Some.digits.now c.in-Ok.ensures.found (sym c.in-Some.ensures)) c.as_bytes.ensures.value c.give.ensures.told c.give.ensures.left
+    (part_found setting c.args.pos c.args.part c.in-Ok.float c.in-Some.digits.now c.in-Ok.ensures.found (sym c.in-Some.ensures)) c.as_bytes.ensures.value c.give.ensures.known c.give.ensures.left
 
 pub returns-in-Ok : goal.returns-in-Ok
 returns-in-Ok c =

@@ -17,4 +17,4 @@ pub returns-clause-found : goal.returns-clause-found
 returns-clause-found c =
     let digits = signed_digits (c.args.row.kind.sign == 2) c.digits.result.now in
     given (FindsOf IsInteger ReadsInteger c.args.text.now c.args.row) c.args.out.now c.give_signed.new.out digits digits c.give_signed.result
-    ((_, integer_by_code c.args.row.kind c.if-row-ne-INTEGER.false), c.digits.ensures.read) refl c.give_signed.ensures.told c.give_signed.ensures.left
+    ((_, integer_by_code c.args.row.kind c.if-row-ne-INTEGER.false), c.digits.ensures.read) refl c.give_signed.ensures.known c.give_signed.ensures.left

@@ -1,30 +1,30 @@
 use Rattle.std.proofs.Common.{refl, sym, ◌∙◌, ap}
-use Rattle.wat_parser_c.specs.Numbers.{bits_told}
-use Rattle.wat_parser_c.proofs.Bits.{written, told_none, told_no_half, told_too_big, told_in_bits}
+use Rattle.wat_parser_c.specs.Numbers.{bits_known}
+use Rattle.wat_parser_c.proofs.Bits.{written, known_none, known_no_half, known_too_big, known_in_bits}
 use Rattle.wat_parser_c.proofs.numbers.integer_of.Goals as goal
 
 pub returns-then-row-ne-INTEGER : goal.returns-then-row-ne-INTEGER
-returns-then-row-ne-INTEGER c = c.refused.ensures ∙ sym (told_none c.args.text.now c.args.row c.args.bits c.args.is_signed c.requires c.if-row-ne-INTEGER.true)
+returns-then-row-ne-INTEGER c = c.refused.ensures ∙ sym (known_none c.args.text.now c.args.row c.args.bits c.args.is_signed c.requires c.if-row-ne-INTEGER.true)
 
 pub returns-in_default : goal.returns-in_default
 returns-in_default c =
     c.refused-in_default.ensures
-    ∙ sym (told_no_half c.args.text.now c.args.row c.args.bits c.args.is_signed c.if-row-ne-INTEGER.false (written c.args.text.now c.args.row) refl (sym c.half_of.ensures.value ∙ c.in_default.is))
+    ∙ sym (known_no_half c.args.text.now c.args.row c.args.bits c.args.is_signed c.if-row-ne-INTEGER.false (written c.args.text.now c.args.row) refl (sym c.half_of.ensures.value ∙ c.in_default.is))
 
 pub returns-in_default-magnitude : goal.returns-in_default-magnitude
 returns-in_default-magnitude c =
     c.refused-in_default-magnitude.ensures
-    ∙ sym (told_too_big c.args.text.now c.args.row c.args.bits c.args.is_signed c.if-row-ne-INTEGER.false c.digits.result.now c.digits.ensures.digits c.in-Some.half
+    ∙ sym (known_too_big c.args.text.now c.args.row c.args.bits c.args.is_signed c.if-row-ne-INTEGER.false c.digits.result.now c.digits.ensures.digits c.in-Some.half
     (sym c.half_of.ensures.value ∙ c.in-Some.is) c.in-Some.ensures.bound c.in_default-magnitude.ensures)
 
 pub returns-in-None : goal.returns-in-None
 returns-in-None c =
-    c.refused-in-None.ensures ∙ ap bits_told (sym c.in-None.is)
-    ∙ sym (told_in_bits c.args.text.now c.args.row c.args.bits c.args.is_signed c.if-row-ne-INTEGER.false c.digits.result.now c.digits.ensures.digits c.in-Some.half
+    c.refused-in-None.ensures ∙ ap bits_known (sym c.in-None.is)
+    ∙ sym (known_in_bits c.args.text.now c.args.row c.args.bits c.args.is_signed c.if-row-ne-INTEGER.false c.digits.result.now c.digits.ensures.digits c.in-Some.half
     c.in-Some-magnitude.magnitude c.in_bits.result (sym c.half_of.ensures.value ∙ c.in-Some.is) c.in-Some-magnitude.ensures c.in_bits.ensures)
 
 pub returns-in-Some-in_bits : goal.returns-in-Some-in_bits
 returns-in-Some-in_bits c =
-    ap bits_told (sym c.in-Some-in_bits.is)
-    ∙ sym (told_in_bits c.args.text.now c.args.row c.args.bits c.args.is_signed c.if-row-ne-INTEGER.false c.digits.result.now c.digits.ensures.digits c.in-Some.half
+    ap bits_known (sym c.in-Some-in_bits.is)
+    ∙ sym (known_in_bits c.args.text.now c.args.row c.args.bits c.args.is_signed c.if-row-ne-INTEGER.false c.digits.result.now c.digits.ensures.digits c.in-Some.half
     c.in-Some-magnitude.magnitude c.in_bits.result (sym c.half_of.ensures.value ∙ c.in-Some.is) c.in-Some-magnitude.ensures c.in_bits.ensures)

@@ -1,7 +1,7 @@
 use Rattle.std.proofs.Common.{◌∷◌, [], length, ap, arith, length-append, refl}
 use Rattle.wat_parser_c.specs.ByRow.{kind_of}
 use Rattle.wat_parser_c.proofs.WordPlaces.{string_bytes}
-use Rattle.wat_parser_c.proofs.ToldWords.{string_given, string_escaped}
+use Rattle.wat_parser_c.proofs.KnownWords.{string_given, string_escaped}
 use Rattle.wat_parser_c.proofs.words.string_word.Goals as goal
 
 pub overflow_sub-result : goal.overflow_sub-result

@@ -12,7 +12,7 @@ returns-in-Some-clause-found c =
     let s : Setting = record { text = c.args.text.now; flags = c.args.settings } in
     let alone = c.in-Some.ensures in
     let t = token_alone alone.byte c.args.pos in
-    record { all = found_row c.args.pos (Ok (Some t)); found = found_token s c.args.pos t (alone.stands.token c.args.settings); token = alone.told }
+    record { all = found_row c.args.pos (Ok (Some t)); found = found_token s c.args.pos t (alone.is_at.token c.args.settings); token = alone.known }
 
 pub returns-in-Some-clause-one : goal.returns-in-Some-clause-one
 returns-in-Some-clause-one c = λ row h.
@@ -20,4 +20,4 @@ returns-in-Some-clause-one c = λ row h.
     let alone = c.in-Some.ensures in
     let t = token_alone alone.byte c.args.pos in
     ap (λ (r : Found). r.token) (found_once c.one_answer.ensures.one s c.args.pos row (found_row c.args.pos (Ok (Some t))) h
-    (found_token s c.args.pos t (alone.stands.token c.args.settings))) ∙ sym alone.told
+    (found_token s c.args.pos t (alone.is_at.token c.args.settings))) ∙ sym alone.known

@@ -19,13 +19,13 @@ pub rows-preserved-in-Some : goal.rows-preserved-in-Some
 rows-preserved-in-Some c =
     let s = c.lexer_of-lexer.result in
     let row = c.in-Some.ensures in
-    let alone = row.stands in
+    let alone = row.is_at in
     let t : Token = token_alone row.byte c.rows.at in
     let same = sym c.lexer_of-lexer.ensures in
     let token : TokenAt s c.rows.at t = subst (λ (x : Setting). TokenAt x c.rows.at t) same (alone.token c.args.settings) in
-    let behind : IsCharBoundary s.text (c.rows.at + 1) = subst (λ (x : Setting). IsCharBoundary x.text (c.rows.at + 1)) same alone.behind in
-    listed_more s c.args.pos c.rows.at c.args.out.now c.rows.out c.rows.count t c.in-Some.row c.rows.invariant c.rows-test.true token behind
-    row.told
+    let after : IsCharBoundary s.text (c.rows.at + 1) = subst (λ (x : Setting). IsCharBoundary x.text (c.rows.at + 1)) same alone.after in
+    listed_more s c.args.pos c.rows.at c.args.out.now c.rows.out c.rows.count t c.in-Some.row c.rows.invariant c.rows-test.true token after
+    row.known
 
 pub returns-in-Ok-None-clause-rows : goal.returns-in-Ok-None-clause-rows
 returns-in-Ok-None-clause-rows c =

@@ -8,9 +8,9 @@ use Rattle.wat_rows.specs.Looks.{Looks, names_of}
 use Rattle.wat_rows.specs.inside.Naming.{NameMeans, annotation_of, not_closed, not_shown}
 use Rattle.wat_rows.specs.declared.answers.NotShown.{NotShown}
 use Rattle.wat_rows.proofs.Looking.{answer_past, answer_plain, answer_last, answer_other, answer_taken, answer_refused, answer_memory}
-use Rattle.wat_rows.proofs.Looking.{answer_unclosed, look_behind, link_forward}
+use Rattle.wat_rows.proofs.Looking.{answer_unclosed, look_after, link_forward}
 use Rattle.wat_rows.proofs.RawPlaces.{readable}
-use Rattle.wat_rows.proofs.Told.{annotation_told, tells}
+use Rattle.wat_rows.proofs.Known.{annotation_known, tells}
 use Rattle.wat_rows.proofs.looks.look_at.Goals as goal
 
 pub returns-then-row-ne16-clause-looks : goal.returns-then-row-ne16-clause-looks
@@ -53,8 +53,8 @@ meaning_of-requires-clause-token c =
     let next : slice_get c.args.rows.now (c.rows.number + 1) ≡ Some c.in-Some-row_at.word = sym c.row_at-in-Some.ensures.value
     ∙ c.in-Some-row_at.is in
     let nine : c.in-Some-row_at.word.kind.code ≡ 9 = omega arith in
-    let word = tells s.setting.text c.args.rows.now (counting s.tokens) (c.rows.number + 1) c.in-Some-row_at.word c.requires.rows.are.told next in
-    let same = annotation_told s.setting.text (counting s.tokens) (c.rows.number + 1) c.in-Some-row_at.word word nine in
+    let word = tells s.setting.text c.args.rows.now (counting s.tokens) (c.rows.number + 1) c.in-Some-row_at.word c.requires.rows.are.known next in
+    let same = annotation_known s.setting.text (counting s.tokens) (c.rows.number + 1) c.in-Some-row_at.word word nine in
     let read = readable c.tokens.ensures.readable c.tokens.ensures.boundary s.setting 0 c.requires.rows.are.read.to s.tokens
     (c.rows.number + 1) word.token utf8 (IsCharBoundary-start s.setting.text utf8) c.requires.rows.are.read.tiling word.there in
     subst (IsTokenOf c.args.text.now) (sym (c.annotation_of.ensures ∙ same)) (subst (λ x. IsTokenOf x word.token) c.requires.rows.of_text read)
@@ -151,7 +151,7 @@ rows-preserved c =
           let means : NameMeans s.setting.text (annotation_of c.in-Some-row_at.word) n c.meaning_of.result =
           subst (λ x. NameMeans x (annotation_of c.in-Some-row_at.word) n c.meaning_of.result) (sym e) (subst
           (λ t. NameMeans c.args.text.now t n c.meaning_of.result) c.annotation_of.ensures c.meaning_of.ensures) in
-          look_behind c.shown.ensures.some c.shown.ensures.one c.counting.ensures.same s utf8 c.args.rows.now c.args.why are n c.args.place
+          look_after c.shown.ensures.some c.shown.ensures.one c.counting.ensures.same s utf8 c.args.rows.now c.args.why are n c.args.place
           c.rows.number c.rows.invariant.on (c.rows.invariant.same s e are)
           c.in-Some.row there code c.in-Some-row_at.word next nine c.meaning_of.result means c.in-Other-2.is some;
     }

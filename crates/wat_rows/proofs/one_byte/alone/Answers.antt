@@ -1,7 +1,7 @@
 use Rattle.std.proofs.Common.{◌≡◌, ◌<◌, ◌+◌, ◌∙◌, length, get_or, ap, sym, arith}
 use Rattle.std.specs.Int.Bits.{bit_and}
 use Rattle.wat_rows.specs.inside.OneByte.{sorts, longer_before}
-use Rattle.wat_rows.proofs.OneByte.{stands_alone}
+use Rattle.wat_rows.proofs.OneByte.{is_at_alone}
 use Rattle.wat_rows.proofs.one_byte.alone.Goals as goal
 
 pub returns-then-longer_before-sorts-eq0 : goal.returns-then-longer_before-sorts-eq0
@@ -10,12 +10,12 @@ returns-then-longer_before-sorts-eq0 c =
     let bytes = c.as_bytes-bytes.result.now in
     let same = c.as_bytes-bytes.ensures.value in
     let inside : at < length c.args.text.now = omega (arith, c.if-at-bytes.true, ap length same) in
-    let told : bit_and (longer_before (get_or bytes at 0)) (sorts (get_or bytes (at + 1) 0)) ≡ 0 =
+    let known : bit_and (longer_before (get_or bytes at 0)) (sorts (get_or bytes (at + 1) 0)) ≡ 0 =
     sym (ap (λ x. bit_and x c.sorts.result) c.longer_before.ensures ∙ ap (bit_and (longer_before (get_or bytes at 0))) c.sorts.ensures)
     ∙ c.if-longer_before-sorts-eq0.true in
     record {
       byte = get_or bytes at 0;
-      stands = stands_alone c.args.text.now at (get_or bytes at 0) (get_or bytes (at + 1) 0) c.utf8.text c.requires.boundary inside
-          (ap (λ x. get_or x at 0) (sym same)) (ap (λ x. get_or x (at + 1) 0) (sym same)) told;
-      told = c.row_alone.ensures;
+      is_at = is_at_alone c.args.text.now at (get_or bytes at 0) (get_or bytes (at + 1) 0) c.utf8.text c.requires.boundary inside
+          (ap (λ x. get_or x at 0) (sym same)) (ap (λ x. get_or x (at + 1) 0) (sym same)) known;
+      known = c.row_alone.ensures;
     }

@@ -32,11 +32,11 @@ loop-parser-preserved c =
     let q = c.parens_of.new.self.place in
     let read : Reads (λ (d : Definition). signature d.func) (group definition) b (Ok d) q = search rules in
     let items : c.push.new.self.items ≡ c.loop-parser.types.items ++ (d.func ∷ []) = search rules in
-    let told : signatures c.push.new.self.items ≡ signatures c.loop-parser.types.items ++ (signature d.func ∷ []) = ap signatures items ∙ map-append signature c.loop-parser.types.items (d.func ∷ []) in
+    let known : signatures c.push.new.self.items ≡ signatures c.loop-parser.types.items ++ (signature d.func ∷ []) = ap signatures items ∙ map-append signature c.loop-parser.types.items (d.func ∷ []) in
     record {
       kept = search rules;
       on = search rules;
-      so_far = subst (λ vs. IsSoFar more_comes (group definition) a vs q) (sym told)
+      so_far = subst (λ vs. IsSoFar more_comes (group definition) a vs q) (sym known)
           (one_more_read (λ (d : Definition). signature d.func) more_comes (group definition) a b (signatures c.loop-parser.types.items) d q (advances_group definition) i.so_far i.kept within (ap (λ e. Ok (not e)) empty) read);
     }
 

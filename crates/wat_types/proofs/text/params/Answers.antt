@@ -10,14 +10,14 @@ use Rattle.wat_types.specs.declared.types.ValType.{ValType}
 use Rattle.wat_types.proofs.Lists.{joined_read, joined_takes}
 use Rattle.wat_types.proofs.text.params.Goals as goal
 
-pub all_behind-requires : goal.all_behind-requires
-all_behind-requires c = λ k. ((refl, tt), advances_group param)
+pub all_after-requires : goal.all_after-requires
+all_after-requires c = λ k. ((refl, tt), advances_group param)
 
 pub returns-in_err-joined-clause-reads : goal.returns-in_err-joined-clause-reads
 returns-in_err-joined-clause-reads c =
     let a = c.args.parser.now in
     let none : c.from_residual-in_err-joined.result ≡ Err None = search rules in
-    subst (λ r. Reads (λ (v : Vec ValType Global). v.items) params a r c.all_behind.new.self.place) (sym none) (joined_takes _ (second (sees param_word)) (group param) a _ c.in_ok-all.ensures.reads.0 (search rules))
+    subst (λ r. Reads (λ (v : Vec ValType Global). v.items) params a r c.all_after.new.self.place) (sym none) (joined_takes _ (second (sees param_word)) (group param) a _ c.in_ok-all.ensures.reads.0 (search rules))
 
 pub returns-clause-reads : goal.returns-clause-reads
 returns-clause-reads c =

@@ -170,9 +170,9 @@ fn lay_spaces(count: usize, out: &mut [u8], at: usize) -> usize {
 fn lay_line(line: Line, out: &mut [u8], at: usize) -> usize {
     let mut at = at;
     let mut rest = line.0;
-    while let Some((shown, behind)) = split_shown(rest) {
+    while let Some((shown, after)) = split_shown(rest) {
         at = lay(shown, out, at);
-        rest = behind;
+        rest = after;
     }
     at
 }
@@ -188,9 +188,9 @@ fn lay_line(line: Line, out: &mut [u8], at: usize) -> usize {
 fn line_length(line: Line) -> usize {
     let mut length = 0;
     let mut rest = line.0;
-    while let Some((shown, behind)) = split_shown(rest) {
+    while let Some((shown, after)) = split_shown(rest) {
         length += shown.len();
-        rest = behind;
+        rest = after;
     }
     length
 }

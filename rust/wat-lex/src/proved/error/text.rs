@@ -38,7 +38,7 @@ impl<'a> Excerpt<'a> {
     }
 }
 
-/// The line that the byte at an offset stands in, in this column; empty where it stands in none.
+/// The line that the byte at an offset is in, in this column; empty where it is in none.
 ///
 /// # Proved
 ///

@@ -14,7 +14,7 @@ pub enum LexError {
     Unexpected(char),
     /// A control character in a string.
     InvalidStringElement(char),
-    /// What stands behind a `\` in a string begins no escape.
+    /// What comes after a `\` in a string begins no escape.
     InvalidStringEscape(char),
     /// Something else where a hexadecimal digit is needed.
     InvalidHexDigit(char),
@@ -24,7 +24,7 @@ pub enum LexError {
     Expected {
         /// The character that is needed.
         wanted: char,
-        /// The character that stands there.
+        /// The character that is there.
         found: char,
     },
     /// The text ends where more is needed.
@@ -33,7 +33,7 @@ pub enum LexError {
     NumberTooBig,
     /// A number that is no Unicode scalar value.
     InvalidUnicodeValue(u32),
-    /// An underscore with no digit behind it or, where underscores are strict,
+    /// An underscore with no digit after it or, where underscores are strict,
     /// one directly after another.
     LoneUnderscore,
     /// One of the nine characters that can make a text look other than it is.

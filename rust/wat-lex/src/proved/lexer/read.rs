@@ -71,7 +71,7 @@ impl Token {
         self.src(s)
     }
 
-    /// The value of a string. It is borrowed where no escape stands in the string,
+    /// The value of a string. It is borrowed where no escape is in the string,
     /// and then no memory is taken.
     ///
     /// # Proved
@@ -98,7 +98,7 @@ impl Token {
         Ok(CowSlice::Owned(value))
     }
 
-    /// The name of an identifier. It is borrowed where no escape stands in it,
+    /// The name of an identifier. It is borrowed where no escape is in it,
     /// and then no memory is taken.
     ///
     /// # Proved
@@ -122,7 +122,7 @@ impl Token {
         self.name_or_error(alloc, s)
     }
 
-    /// The name of an annotation. It is borrowed where no escape stands in it,
+    /// The name of an annotation. It is borrowed where no escape is in it,
     /// and then no memory is taken.
     ///
     /// # Proved
@@ -148,7 +148,7 @@ impl Token {
 
     /// The name of an identifier or an annotation, or what is wrong with it, at the token:
     /// `EmptyId` or `EmptyAnnotation` where it is empty, `InvalidUtf8Id` where it is not UTF-8. It
-    /// is borrowed where no escape stands in it, and memory is taken only where one does.
+    /// is borrowed where no escape is in it, and memory is taken only where one does.
     ///
     /// # Proved
     ///

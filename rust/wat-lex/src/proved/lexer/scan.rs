@@ -1,5 +1,5 @@
 // Made by tools/erase from crates/wat_lex/src/lexer/scan.rt; do not edit.
-//! Scanning: what stands at the start of a text, by its first bytes.
+//! Scanning: what is at the start of a text, by its first bytes.
 
 use crate::shim::prelude::*;
 use crate::proved::lexer::faults::{LexError, LexFault};
@@ -117,7 +117,7 @@ fn number_by_byte(text: &[u8]) -> Option<Lexeme> {
 }
 
 /// The token of so many idchars that no string follows. They are all that one block holds and some
-/// behind it, and may be a number.
+/// after it, and may be a number.
 ///
 /// # Proved
 ///
@@ -192,7 +192,7 @@ fn word(text: &[u8], start: Start, stride: Stride) -> Option<Lexeme> {
 /// ensures { (flags : Settings) → Outlined flags text.now outline → FoundIn flags text.now result }
 /// ```
 #[inline(always)]
-fn told(text: &str, outline: Outline) -> Found {
+fn known(text: &str, outline: Outline) -> Found {
     let kind = match outline.shape {
         Shape::String => TokenKind::String,
         Shape::Id => TokenKind::Id,
@@ -204,7 +204,7 @@ fn told(text: &str, outline: Outline) -> Found {
     lexeme(kind, outline.len)
 }
 
-/// What stands at the start of a text that begins with an idchar or a string.
+/// What is at the start of a text that begins with an idchar or a string.
 // The settings are passed by reference, so that they are read only where they are needed.
 /// # Proved
 ///
@@ -218,11 +218,11 @@ fn told(text: &str, outline: Outline) -> Found {
 fn run_found(text: &str, start: Start, flags: &Settings, stride: Stride) -> Found {
     match word(text.as_bytes(), start, stride) {
         Some(lexeme) => Found::Lexeme(lexeme),
-        None => told(text, run_outline(text, *flags)),
+        None => known(text, run_outline(text, *flags)),
     }
 }
 
-/// What stands at the start of a text that begins with `(`.
+/// What is at the start of a text that begins with `(`.
 ///
 /// # Proved
 ///
@@ -242,7 +242,7 @@ fn opened(text: &str, flags: &Settings) -> Found {
     }
 }
 
-/// What stands at the start of a text that begins with `;`.
+/// What is at the start of a text that begins with `;`.
 ///
 /// # Proved
 ///
@@ -262,7 +262,7 @@ fn semicolon(text: &str, flags: &Settings) -> Found {
     }
 }
 
-/// What stands at the start.
+/// What is at the start.
 ///
 /// # Proved
 ///

@@ -23,7 +23,7 @@ pub struct ParseBuffer<'a> {
 
 impl<'a> ParseBuffer<'a> {
     /// The buffer of a text of at most `u32::MAX` bytes, with both settings of the lexer off. It is
-    /// refused for want of memory alone.
+    /// refused only when out of memory.
     ///
     /// # Proved
     ///

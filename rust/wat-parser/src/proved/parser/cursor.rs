@@ -42,8 +42,8 @@ impl<'p, 'a> Cursor<'p, 'a> {
         self.at
     }
 
-    /// What is shown here, with the place behind it.
-    // What a parser keeps is told in registers; what a call writes to memory is read there apart from it.
+    /// What is shown here, with the place after it.
+    // What a parser keeps is handed over in registers; what a call writes to memory is read there apart from it.
     /// # Proved
     ///
     /// ```text
@@ -59,7 +59,7 @@ impl<'p, 'a> Cursor<'p, 'a> {
         let parser = self.parser;
         match parser.kept(self.at) {
             Some(found) => Ok(Some(found)),
-            None => match self.look_anew() {
+            None => match self.look_again() {
                 Ok(found) => Ok(found),
                 Err(error) => Err(error),
             },
@@ -79,7 +79,7 @@ impl<'p, 'a> Cursor<'p, 'a> {
     ///     IsTokenOf self.entry.parser.now.source.setting.text v.0)) }
     /// ```
     #[inline(never)]
-    fn look_anew(self) -> Result<Option<(Token, usize)>, Error> {
+    fn look_again(self) -> Result<Option<(Token, usize)>, Error> {
         let parser = self.parser;
         match parser.look(self.at) {
             Ok(found) => Ok(found),
@@ -87,7 +87,7 @@ impl<'p, 'a> Cursor<'p, 'a> {
         }
     }
 
-    /// What holds of every cursor: what [`Parser::is_sound`] says of its parser, and it stands among
+    /// What holds of every cursor: what [`Parser::is_sound`] says of its parser, and it is among
     /// the tokens. The call does nothing.
     ///
     /// # Proved
@@ -130,7 +130,7 @@ impl<'p, 'a> Cursor<'p, 'a> {
         parser.is_empty_from(self.at)
     }
 
-    /// The text in which the cursor stands.
+    /// The text in which the cursor is.
     ///
     /// # Proved
     ///

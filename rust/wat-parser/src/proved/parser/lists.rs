@@ -19,12 +19,12 @@ impl Peek for Something {
     }
 }
 
-/// A type behind the token that is shown.
-pub struct Behind<P> {
+/// A type after the token that is shown.
+pub struct After<P> {
     of: PhantomData<P>,
 }
 
-impl<P: Peek> Peek for Behind<P> {
+impl<P: Peek> Peek for After<P> {
     fn peek(cursor: Cursor<'_, '_>) -> Result<bool, Error> {
         P::peek2(cursor)
     }
@@ -50,7 +50,7 @@ impl<'a> Parser<'a> {
         self.all_while::<Something, T>()
     }
 
-    /// Reads values of a type as long as another is seen behind the token that is shown, as `param`
+    /// Reads values of a type as long as another is seen after the token that is shown, as `param`
     /// is in `(param i32)`.
     ///
     /// # Proved
@@ -62,8 +62,8 @@ impl<'a> Parser<'a> {
     /// ensures reads { Reads (λ v. map T.value v.items)
     ///     (while_seen (second P.sight) T.meaning) self.old result self.new.place }
     /// ```
-    pub fn all_behind<P: Peek, T: Parse<'a>>(&mut self) -> Result<Vec<T>, Error> {
-        self.all_while::<Behind<P>, T>()
+    pub fn all_after<P: Peek, T: Parse<'a>>(&mut self) -> Result<Vec<T>, Error> {
+        self.all_while::<After<P>, T>()
     }
 
     /// Reads values of a type as long as another is seen.

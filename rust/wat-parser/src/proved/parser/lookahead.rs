@@ -35,8 +35,8 @@ impl<'p, 'a> Lookahead1<'p, 'a> {
     ///
     /// ```text
     /// ensures value { Answers ((T.sight self.old.0).takes
-    ///     || needs_memory self.old.1 (T.sight self.old.0).told) (λ b. b)
-    ///     (T.sight self.old.0).told result }
+    ///     || needs_memory self.old.1 (T.sight self.old.0).known) (λ b. b)
+    ///     (T.sight self.old.0).known result }
     /// ensures kept { IfOk result (λ seen. self.new ≡
     ///     (self.old.0, cond seen self.old.1 (self.old.1 ++ T.shows ∷ []))) }
     /// ensures refused { OnErr result (self.new ≡ self.old) }

@@ -7,7 +7,7 @@ use wat_lex::proved::error::Error;
 
 /// A type of which a parser can tell whether it comes next.
 pub trait Peek {
-    // What is told at a place, and whether telling it may take memory.
+    // What is reported at a place, and whether reporting it may take memory.
 
     // How messages show the type.
 
@@ -20,7 +20,7 @@ pub trait Peek {
     /// ```
     fn peek(cursor: Cursor<'_, '_>) -> Result<bool, Error>;
 
-    /// The same behind the token that is shown; false where none is shown.
+    /// The same after the token that is shown; false where none is shown.
     ///
     /// # Proved
     ///

@@ -12,7 +12,7 @@ pub type Result<T, E = Error> = core::result::Result<T, E>;
 ///
 /// A type of one's own says what its values are to callers, and what it reads, in the language of
 /// readings; its `parse` calls those of its parts. What can be proved of the reading of a type
-/// that is a parameter is what stands here.
+/// that is a parameter is what is here.
 pub trait Parse<'a>: Sized {
     // What callers see of a value.
 

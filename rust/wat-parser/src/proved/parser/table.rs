@@ -19,7 +19,7 @@ const LIKELY: usize = 2;
 const FIRST_ROOM: usize = 65_472;
 
 /// The raw tokens of a text up to its end or its first fault, and the annotations among them that
-/// stand directly behind a parenthesis.
+/// come directly after a parenthesis.
 pub struct Table {
     pub tokens: Vec<Token>,
     pub fault: Option<LexFault>,
@@ -28,7 +28,7 @@ pub struct Table {
     /// The names of these annotations, or what is wrong with them, where they are no part of the
     /// text.
     pub names: Vec<Option<Box<Result<String, LexError>>>>,
-    /// For each block of tokens, how many of these parentheses stand before it.
+    /// For each block of tokens, how many of these parentheses come before it.
     pub starts: Vec<usize>,
     /// Where the groups of these annotations are closed.
     pub closes: Vec<Option<usize>>,
@@ -57,7 +57,7 @@ fn is_head(before: &[Token], token: Token) -> bool {
     }
 }
 
-/// Whether the byte behind the token's first is a quote.
+/// Whether the byte after the token's first is a quote.
 ///
 /// # Proved
 ///
@@ -89,7 +89,7 @@ fn noted_name(
     token: &Token,
 ) -> Result<Option<Box<Result<String, LexError>>>, AllocError> {
     wat_lex::proved::laws::tokens();
-    // A name without quotes is told by one byte; a string may have escapes.
+    // A name without quotes is known by one byte; a string may have escapes.
     if !is_quoted(text, *token) {
         return Ok(None);
     }
@@ -160,7 +160,7 @@ impl Table {
         Ok(())
     }
 
-    /// Adds a token, and notes it where it is an annotation directly behind a parenthesis.
+    /// Adds a token, and notes it where it is an annotation directly after a parenthesis.
     ///
     /// # Proved
     ///
@@ -185,9 +185,9 @@ impl Table {
         Ok(())
     }
 
-    /// Adds an annotation, and notes it where it stands directly behind a parenthesis.
+    /// Adds an annotation, and notes it where it comes directly after a parenthesis.
     // It stays a call, so that the loop over all tokens is small, and it is passed numbers, so that no
-    // token of that loop has to stand in memory.
+    // token of that loop has to be in memory.
     /// # Proved
     ///
     /// ```text
@@ -331,7 +331,7 @@ fn next_open(opens: &[usize], passed: usize, place: usize, end: usize) -> usize 
     }
 }
 
-/// Where the tokens go on to be read behind a group that ends before a place: there, or at the first
+/// Where the tokens go on to be read after a group that ends before a place: there, or at the first
 /// place that was not passed where that group stood in no other.
 ///
 /// # Proved
@@ -345,7 +345,7 @@ fn next_open(opens: &[usize], passed: usize, place: usize, end: usize) -> usize 
 /// ensures first { FirstFrom opens.now place result }
 /// ensures passed { Counted opens.now passed result }
 /// ```
-fn behind_close(
+fn after_close(
     opens: &[usize],
     passed: usize,
     place: usize,
@@ -402,7 +402,7 @@ fn closes(
             TokenKind::RParen => match opened.pop() {
                 Some(group) => {
                     note_close(&mut closes, group, i);
-                    i = behind_close(opens, passed, i + 1, tokens.len(), opened.is_empty());
+                    i = after_close(opens, passed, i + 1, tokens.len(), opened.is_empty());
                 }
                 None => i += 1,
             },
@@ -441,7 +441,7 @@ fn fill(alloc: Global, lexer: &Lexer<'_>) -> Result<Table, AllocError> {
 }
 
 impl Table {
-    /// The table of a lexer's text. It is refused for want of memory alone.
+    /// The table of a lexer's text. It is refused only when out of memory.
     ///
     /// # Proved
     ///

@@ -225,7 +225,7 @@ impl<'a> TableRef<'a> {
         let _count = self.table.tokens.len();
     }
 
-    /// Whether the byte behind the token's first is `@`.
+    /// Whether the byte after the token's first is `@`.
     ///
     /// # Proved
     ///
@@ -258,7 +258,7 @@ impl<'a> TableRef<'a> {
         }
     }
 
-    /// What the name of the annotation means whose parenthesis stands at a place.
+    /// What the name of the annotation means whose parenthesis is at a place.
     // It stays a call, so that a look at any other token is small.
     /// # Proved
     ///
@@ -284,7 +284,7 @@ impl<'a> TableRef<'a> {
     }
 
     /// Whether the annotation at a place is skipped since no name is registered and it has one. It is
-    /// told without its name, and false tells nothing.
+    /// known without its name, and false tells nothing.
     ///
     /// # Proved
     ///
@@ -304,7 +304,7 @@ impl<'a> TableRef<'a> {
         names.are_none() && !is_quoted(self.text(), token)
     }
 
-    /// Where the group of the annotation is closed whose parenthesis stands at a place.
+    /// Where the group of the annotation is closed whose parenthesis is at a place.
     ///
     /// # Proved
     ///
@@ -319,7 +319,7 @@ impl<'a> TableRef<'a> {
         }
     }
 
-    /// What a parenthesis means by the token directly behind it.
+    /// What a parenthesis means by the token directly after it.
     ///
     /// # Proved
     ///
@@ -402,7 +402,7 @@ impl<'a> TableRef<'a> {
         }
     }
 
-    /// What is shown at a place, with the place behind it. It takes no memory.
+    /// What is shown at a place, with the place after it. It takes no memory.
     ///
     /// # Proved
     ///
@@ -434,7 +434,7 @@ impl<'a> TableRef<'a> {
         self.ending()
     }
 
-    /// The first place from this one on at which neither white space nor a comment stands.
+    /// The first place from this one on at which neither white space nor a comment is.
     ///
     /// # Proved
     ///
@@ -517,19 +517,19 @@ impl<'a> TableRef<'a> {
     #[inline(never)]
     fn number_by_look(&self, place: usize, names: &Names) -> Option<usize> {
         match self.look(place, names) {
-            Ok(Some((_, behind))) => Some(behind - 1),
+            Ok(Some((_, after))) => Some(after - 1),
             _ => None,
         }
     }
 
-    /// The token that was shown at a place, with the place behind it.
+    /// The token that was shown at a place, with the place after it.
     ///
     /// # Proved
     ///
     /// ```text
     /// requires { number < length self.now.tokens }
     /// ensures token { slice_get self.now.tokens number ≡ Some result.0 }
-    /// ensures behind { result.1 ≡ number + 1 }
+    /// ensures after { result.1 ≡ number + 1 }
     /// ensures reader { IsTokenOf self.now.setting.text result.0 }
     /// ```
     pub fn numbered(&self, number: usize) -> (Token, usize) {
@@ -538,7 +538,7 @@ impl<'a> TableRef<'a> {
         (token, number + 1)
     }
 
-    /// The place behind the whitespace token at a place, if one is there.
+    /// The place after the whitespace token at a place, if one is there.
     ///
     /// # Proved
     ///
@@ -555,7 +555,7 @@ impl<'a> TableRef<'a> {
         }
     }
 
-    /// The comment at a place, with the place behind it. It takes no memory.
+    /// The comment at a place, with the place after it. It takes no memory.
     ///
     /// # Proved
     ///

@@ -22,7 +22,7 @@ impl<'a, N: Word, T: Parse<'a>> Parse<'a> for Under<N, T> {
     }
 }
 
-/// One type behind another.
+/// One type after another.
 struct Pair<T, U> {
     first: T,
     second: U,

@@ -49,7 +49,7 @@ pub(crate) fn unsigned_value(
 /// # Proved
 ///
 /// ```text
-/// ensures value { CursorReads (number_told cursor.entry.parser.now.source.setting.text)
+/// ensures value { CursorReads (number_known cursor.entry.parser.now.source.setting.text)
 ///     (an_integer_word expected.now)
 ///     (at_place cursor.entry.parser.now cursor.entry.at) (λ next. next.at) result }
 /// ensures seen { IfOk result (λ v. seen_at (at_place cursor.entry.parser.now cursor.entry.at)
@@ -74,7 +74,7 @@ fn shown_integer<'p, 'a>(
     }
 }
 
-/// Takes an integer of a type without a sign, with the place where it stands. The messages are for
+/// Takes an integer of a type without a sign, with the place where it is. The messages are for
 /// where none is shown, and where it is out of range.
 ///
 /// # Proved
@@ -100,7 +100,7 @@ fn unsigned<'p, 'a>(
     }
 }
 
-/// Parses an integer of a type without a sign, with the place where it stands.
+/// Parses an integer of a type without a sign, with the place where it is.
 ///
 /// # Proved
 ///
@@ -214,7 +214,7 @@ fn signed<'p, 'a>(
     }
 }
 
-/// Parses an integer of a type with a sign, with the place where it stands.
+/// Parses an integer of a type with a sign, with the place where it is.
 ///
 /// # Proved
 ///

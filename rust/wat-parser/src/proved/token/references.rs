@@ -128,7 +128,7 @@ impl<'a, K: Peek> Peek for ItemRef<'a, K> {
     /// # Proved
     ///
     /// ```text
-    /// ensures { Tells (behind_open K.sight
+    /// ensures { Tells (after_open K.sight
     /// (at_place cursor.entry.parser.now cursor.entry.at)) result }
     /// ```
     fn peek(cursor: Cursor<'_, '_>) -> Result<bool, Error> {

@@ -11,7 +11,7 @@ use crate::words::Word;
 /// A keyword that spells a word.
 #[derive(Clone, Copy, Debug)]
 pub struct Keyword<N: Word> {
-    /// Where it stands.
+    /// Where it is.
     pub span: Span,
     of: PhantomData<N>,
 }
@@ -57,7 +57,7 @@ impl<N: Word> Peek for Keyword<N> {
 /// A reserved token that spells a word.
 #[derive(Clone, Copy, Debug)]
 pub struct ReservedSymbol<N: Word> {
-    /// Where it stands.
+    /// Where it is.
     pub span: Span,
     of: PhantomData<N>,
 }
@@ -105,7 +105,7 @@ impl<N: Word> Peek for ReservedSymbol<N> {
 /// An annotation whose name is a word.
 #[derive(Clone, Copy, Debug)]
 pub struct AnnotationWord<N: Word> {
-    /// Where it stands.
+    /// Where it is.
     pub span: Span,
     of: PhantomData<N>,
 }

@@ -167,7 +167,7 @@ fn called(row: &Row, parser: &mut Parser) -> Option<Result<String, Error>> {
         "all-of" => parser.all_of::<u32>().map(|all| list(&all)),
         "all-while" => parser.all_while::<u32, u32>().map(|all| list(&all)),
         "all-behind" => parser
-            .all_behind::<u32, Parens<u32>>()
+            .all_after::<u32, Parens<u32>>()
             .map(|all| format!("{:?}", all.as_slice())),
         "too-often" => too_often(parser),
         "once-more" => once_more(parser),

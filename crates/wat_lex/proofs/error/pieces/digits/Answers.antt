@@ -7,9 +7,9 @@ use Rattle.wat_lex.proofs.errors.Digits.{low_glyph, high_glyph, written_more, wr
 use Rattle.wat_lex.proofs.error.pieces.digits.Goals as goal
 use Rattle.wat_lex.proofs.error.pieces.digits.Goals.{Else-rest-eq0, then-digit-lt10, else-digit-lt10}
 
--- what stands behind a place, in a row of twenty
-behind : (room : List ℕ) (at : ℕ) → length room ≡ 20 → take (20 - at) (drop at room) ≡ drop at room
-behind room at e = ap (λ n. take (n - at) (drop at room)) (sym e) ∙ take_rest room at
+-- what comes after a place, in a row of twenty
+after : (room : List ℕ) (at : ℕ) → length room ≡ 20 → take (20 - at) (drop at room) ≡ drop at room
+after room at e = ap (λ n. take (n - at) (drop at room)) (sym e) ∙ take_rest room at
 
 pub places-init : goal.places-init
 unfolding digits
@@ -39,7 +39,7 @@ returns-in-Ok c =
       | else-digit-lt10 w ↦ w.room-is ∙ sym (high_glyph (c.places.rest % c.args.base) w.if-digit-lt10.false)
     ] in
     c.in-Ok.ensures.cases.0
-    ∙ behind (slice_set c.places.room (c.places.at - 1) c.if-digit-lt10.room) (c.places.at - 1) (length-set c.places.room (c.places.at - 1) c.if-digit-lt10.room ∙ c.places.invariant.long)
+    ∙ after (slice_set c.places.room (c.places.at - 1) c.if-digit-lt10.room) (c.places.at - 1) (length-set c.places.room (c.places.at - 1) c.if-digit-lt10.room ∙ c.places.invariant.long)
     ∙ written_all c.args.base c.args.number c.places.at c.places.rest c.if-digit-lt10.room c.places.room c.requires c.places.invariant byte c.if-rest-eq0.true
 
 pub returns-in-Err : goal.returns-in-Err
@@ -49,6 +49,6 @@ returns-in-Err c =
       | then-digit-lt10 w ↦ w.room-is ∙ sym (low_glyph (c.places.rest % c.args.base) w.if-digit-lt10.true)
       | else-digit-lt10 w ↦ w.room-is ∙ sym (high_glyph (c.places.rest % c.args.base) w.if-digit-lt10.false)
     ] in
-    let all = behind (slice_set c.places.room (c.places.at - 1) c.if-digit-lt10.room) (c.places.at - 1) (length-set c.places.room (c.places.at - 1) c.if-digit-lt10.room ∙ c.places.invariant.long)
+    let all = after (slice_set c.places.room (c.places.at - 1) c.if-digit-lt10.room) (c.places.at - 1) (length-set c.places.room (c.places.at - 1) c.if-digit-lt10.room ∙ c.places.invariant.long)
     ∙ written_all c.args.base c.args.number c.places.at c.places.rest c.if-digit-lt10.room c.places.room c.requires c.places.invariant byte c.if-rest-eq0.true in
     absurd (c.in-Err.ensures.cases.0 (subst IsUtf8 (sym all) (IsUtf8-from_ascii (digits c.args.base false c.args.number) (digits_ascii c.args.base c.args.number c.requires))))

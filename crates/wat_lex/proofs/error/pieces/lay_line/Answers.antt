@@ -8,6 +8,6 @@ loop-shown-preserved c =
     let so_far = c.loop-shown.invariant in (
       so_far.0 ++ c.in-Some.shown.now,
       lays_then _ _ _ _ _ _ _ _ _ so_far.1 c.lay-at.ensures refl,
-      append_assoc so_far.0 c.in-Some.shown.now (shown_line c.in-Some.behind.now) ∙ ap (λ x. so_far.0 ++ x) (sym (c.in-Some.ensures).0) ∙ so_far.2,
+      append_assoc so_far.0 c.in-Some.shown.now (shown_line c.in-Some.after.now) ∙ ap (λ x. so_far.0 ++ x) (sym (c.in-Some.ensures).0) ∙ so_far.2,
       (c.in-Some.ensures).2,
     )

@@ -14,7 +14,7 @@ pub places-init : goal.places-init
 places-init c = walked_start c.args.line.now c.args.bytes c.utf8.line
 
 pub range_from-requires : goal.range_from-requires
-range_from-requires c = λ _. let w = c.places.invariant in IsCharBoundary-from_drop _ _ w.range w.behind
+range_from-requires c = λ _. let w = c.places.invariant in IsCharBoundary-from_drop _ _ w.range w.after
 
 pub places-preserved : goal.places-preserved
 places-preserved c =
@@ -28,7 +28,7 @@ returns-then-c-ne9 c =
     inside_char c.args.line.now (chars_rest c.next.new.self) c.places.at c.in-Some.c c.places.missing c.args.bytes c.utf8.line c.places.invariant (spelled at) c.if-missing-gt0.true (omega (arith, c.if-missing-len.true, c.shown_len-len.ensures)) c.if-c-ne9.true
 
 pub range-requires-clause-end_boundary : goal.range-requires-clause-end_boundary
-range-requires-clause-end_boundary c = let w = c.places.invariant in IsCharBoundary-from_drop _ _ w.range w.behind
+range-requires-clause-end_boundary c = let w = c.places.invariant in IsCharBoundary-from_drop _ _ w.range w.after
 
 none_missing : (c missing : ℕ) → ((0 < missing) × (c ≡ 9)) ⊎ (missing ≤ 0) → (c ≡ 9 → ⊥) → missing ≡ 0
 none_missing c missing (inl p) n = absurd (n p.1)

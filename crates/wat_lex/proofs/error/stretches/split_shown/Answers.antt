@@ -9,7 +9,7 @@ use lib.Utf8.{encode, encodes}
 use Rattle.wat_lex.specs.errors.LineBytes.{is_kept}
 use Rattle.wat_lex.specs.errors.Rendering.{shown, shown_line}
 use Rattle.wat_lex.proofs.errors.ShownBytes.{tab_bytes}
-use Rattle.wat_lex.proofs.errors.Stretches.{kept_boundary, kept_front, shown_nothing, past_first, shorter_behind, behind_first, first_as, own_bytes, no_bytes}
+use Rattle.wat_lex.proofs.errors.Stretches.{kept_boundary, kept_front, shown_nothing, past_first, shorter_after, after_first, first_as, own_bytes, no_bytes}
 use Rattle.wat_lex.proofs.error.stretches.split_shown.Goals as goal
 use Rattle.wat_lex.proofs.error.stretches.split_shown.Goals.{After-kept_len-kept, then-c-eq9, else-c-eq9+then-is_confusing, else-c-eq9+else-is_confusing}
 
@@ -43,7 +43,7 @@ returns c =
     let rest = chars_rest c.next.new.self in
     let x = c.in_ok-c.c in
     let here : line ≡ encode x ++ rest = sym c.chars.ensures.rest ∙ c.in_ok-c.ensures.steps.0 in
-    let behind : c.split_at-2.result.1.now ≡ drop (len_utf8 x) line = c.split_at-2.ensures.back ∙ ap (λ n. drop n line) c.len_utf8.ensures.value in
+    let after : c.split_at-2.result.1.now ≡ drop (len_utf8 x) line = c.split_at-2.ensures.back ∙ ap (λ n. drop n line) c.len_utf8.ensures.value in
     let own : c.split_at-2.result.0.now ≡ take (len_utf8 x) line = c.split_at-2.ensures.front ∙ ap (λ n. take n line) c.len_utf8.ensures.value in
     let shown : encodes (shown x) ≡ c.if-c-eq9.shown.now =
     elim c.if-c-eq9.branch [
@@ -51,7 +51,7 @@ returns c =
       | else-c-eq9+then-is_confusing w ↦ no_bytes line rest x c.utf8.line here w.if-c-eq9.false (sym w.is_confusing.ensures ∙ w.if-is_confusing.true) ∙ ap (λ s. s.now) (sym w.shown-is)
       | else-c-eq9+else-is_confusing w ↦ own_bytes line rest x c.utf8.line here w.if-c-eq9.false (sym w.is_confusing.ensures ∙ w.if-is_confusing.false) ∙ sym own ∙ ap (λ s. s.now) (sym w.shown-is)
     ] in (
-      first_as line rest x c.utf8.line here c.if-c-eq9.shown.now shown ∙ ap (λ s. c.if-c-eq9.shown.now ++ shown_line s) (sym behind),
-      subst (λ s. length s < length line) (sym behind) (shorter_behind line rest x c.utf8.line here),
-      subst IsUtf8 (sym (behind ∙ behind_first line rest x c.utf8.line here)) (IsUtf8-past_char line rest x c.utf8.line here),
+      first_as line rest x c.utf8.line here c.if-c-eq9.shown.now shown ∙ ap (λ s. c.if-c-eq9.shown.now ++ shown_line s) (sym after),
+      subst (λ s. length s < length line) (sym after) (shorter_after line rest x c.utf8.line here),
+      subst IsUtf8 (sym (after ∙ after_first line rest x c.utf8.line here)) (IsUtf8-past_char line rest x c.utf8.line here),
     )

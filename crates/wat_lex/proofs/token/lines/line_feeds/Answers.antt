@@ -24,15 +24,15 @@ overflow_add-count c = record { fits = omega (arith, more ((goal.at.overflow_add
 pub loop-i-preserved : goal.loop-i-preserved
 loop-i-preserved c = record { range = omega arith; so_far = more ((goal.at.loop-i-preserved c).After-feeds_in_block) }
 
-behind : (c : After-count) → c.loop-i.count + c.count.result ≡ count_by is_line_feed c.args.text.now
-behind c =
+after : (c : After-count) → c.loop-i.count + c.count.result ≡ count_by is_line_feed c.args.text.now
+after c =
     let rest = take (length c.args.text.now - c.loop-i.i) (drop c.loop-i.i c.args.text.now) in
     let tail : c.count.result ≡ count_by is_line_feed rest = c.count.ensures ∙ ap length c.memchr_iter.ensures.value ∙ length-places (is_byte 10) rest in
     let same : count_by is_line_feed rest ≡ count_by is_line_feed (drop c.loop-i.i c.args.text.now) = ap (count_by is_line_feed) (take_rest c.args.text.now c.loop-i.i) in
     omega (arith, tail, same, c.loop-i.invariant.so_far)
 
 pub returns-clause-count : goal.returns-clause-count
-returns-clause-count c = behind ((goal.at.returns-clause-count c).After-count)
+returns-clause-count c = after ((goal.at.returns-clause-count c).After-count)
 
 pub returns-clause-bound : goal.returns-clause-bound
-returns-clause-bound c = omega (arith, behind ((goal.at.returns-clause-bound c).After-count), count_by-le-length is_line_feed c.args.text.now)
+returns-clause-bound c = omega (arith, after ((goal.at.returns-clause-bound c).After-count), count_by-le-length is_line_feed c.args.text.now)

@@ -3,7 +3,7 @@ use Rattle.std.specs.Prelude.{None, replicate}
 use Rattle.wat_lex.specs.declared.lexer.kinds.TokenKind.TheVariants.{LineComment}
 use Rattle.wat_lex.specs.declared.lexer.kinds.Token.{Token}
 use Rattle.wat_lexer_parser.proofs.inside.Pairing.{at_default, neither}
-use Rattle.wat_lexer_parser.proofs.inside.Stacks.{Walking, start, counted_close, on_open, on_plain, on_stray, on_close, on_behind, top, end}
+use Rattle.wat_lexer_parser.proofs.inside.Stacks.{Walking, start, counted_close, on_open, on_plain, on_stray, on_close, on_after, top, end}
 use Rattle.wat_lexer_parser.proofs.parser.table.closes.Goals as goal
 
 none : Token
@@ -29,9 +29,9 @@ note_close-requires c =
     let e : c.loop-i.opened.items ≡ c.pop.new.self.items ++ c.in-Some.group ∷ [] = search rules in
     top c.args.tokens.now c.loop-i.i c.loop-i.passed c.loop-i.opened.items c.pop.new.self.items c.in-Some.group c.args.opens.now c.loop-i.closes.items e c.loop-i.invariant
 
-pub behind_close-i-requires-clause-passed : goal.behind_close-i-requires-clause-passed
+pub after_close-i-requires-clause-passed : goal.after_close-i-requires-clause-passed
 unfolding none
-behind_close-i-requires-clause-passed c =
+after_close-i-requires-clause-passed c =
     let ts = c.args.tokens.now in
     counted_close ts c.args.opens.now c.loop-i.passed c.loop-i.i (get_or ts c.loop-i.i none) c.requires.opening (at_default ts c.loop-i.i none c.loop-i-test.true) c.in-RParen.is c.loop-i.invariant.counted
 
@@ -45,7 +45,7 @@ loop-i-preserved-in-Some c =
     let w = on_close ts c.loop-i.i c.loop-i.passed old new c.in-Some.group c.args.opens.now c.loop-i.closes.items (get_or ts c.loop-i.i none) c.requires.opening c.requires.sorted (at_default ts c.loop-i.i none c.loop-i-test.true) c.in-RParen.is e c.loop-i.invariant in
     let v = subst (λ x. Walking ts (c.loop-i.i + 1) c.loop-i.passed new c.args.opens.now x) (sym c.note_close.ensures) w in
     let z : c.is_empty.result ≡ true → length new ≡ 0 = search rules in
-    on_behind ts (c.loop-i.i + 1) c.behind_close-i.result c.loop-i.passed c.is_empty.result new c.args.opens.now c.note_close.new.closes.items z c.behind_close-i.ensures.inside c.behind_close-i.ensures.on c.behind_close-i.ensures.first c.behind_close-i.ensures.passed v
+    on_after ts (c.loop-i.i + 1) c.after_close-i.result c.loop-i.passed c.is_empty.result new c.args.opens.now c.note_close.new.closes.items z c.after_close-i.ensures.inside c.after_close-i.ensures.on c.after_close-i.ensures.first c.after_close-i.ensures.passed v
 
 pub loop-i-preserved-in-None : goal.loop-i-preserved-in-None
 unfolding none

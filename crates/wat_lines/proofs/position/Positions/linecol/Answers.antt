@@ -21,7 +21,7 @@ invariant_of-self c =
       end = end;
       cut = passed_on i.text.now i.offset c.args.offset c.if-offset-self.false ∙ ap (λ x. take i.offset i.text.now ++ x) (sym c.range-passed.ensures.value);
       before = c.self.invariant.2;
-      behind = rw c.from_offset-2.ensures at c.linecol_in-lines.ensures.place;
+      after = rw c.from_offset-2.ensures at c.linecol_in-lines.ensures.place;
     } in
     let place = subst (λ t. IsCharBoundary t c.args.offset) (sym c.self.view_is) c.requires in
     elim c.if-column-passed.branch [
@@ -39,7 +39,7 @@ returns-clause-place c =
       end = end;
       cut = passed_on i.text.now i.offset c.args.offset c.if-offset-self.false ∙ ap (λ x. take i.offset i.text.now ++ x) (sym c.range-passed.ensures.value);
       before = c.self.invariant.2;
-      behind = rw c.from_offset-2.ensures at c.linecol_in-lines.ensures.place;
+      after = rw c.from_offset-2.ensures at c.linecol_in-lines.ensures.place;
     } in
     let same = ap (λ t. line_and_column t c.args.offset) c.self.view_is in
     elim c.if-column-passed.branch [
@@ -57,7 +57,7 @@ returns-clause-column c =
       end = end;
       cut = passed_on i.text.now i.offset c.args.offset c.if-offset-self.false ∙ ap (λ x. take i.offset i.text.now ++ x) (sym c.range-passed.ensures.value);
       before = c.self.invariant.2;
-      behind = rw c.from_offset-2.ensures at c.linecol_in-lines.ensures.place;
+      after = rw c.from_offset-2.ensures at c.linecol_in-lines.ensures.place;
     } in
     elim c.if-column-passed.branch [
       | then-column-passed w ↦ (let h = few i.text.now c.args.offset _ end (along p w.if-column-passed.true) in rw w.self-inside-is (omega (arith, h.1, end, c.self.invariant.0)))

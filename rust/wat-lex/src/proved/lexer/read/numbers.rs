@@ -16,7 +16,7 @@ pub struct Integer<'a> {
 }
 
 impl<'a> Integer<'a> {
-    /// The sign that stands before the digits.
+    /// The sign that comes before the digits.
     ///
     /// # Proved
     ///
@@ -27,7 +27,7 @@ impl<'a> Integer<'a> {
         self.sign
     }
 
-    /// The digits, behind a `-` where the integer is negative, and their base.
+    /// The digits, after a `-` where the integer is negative, and their base.
     ///
     /// # Proved
     ///
@@ -78,7 +78,7 @@ fn digit(byte: u8) -> u64 {
     }
 }
 
-/// The number with a digit behind it.
+/// The number with a digit after it.
 ///
 /// # Proved
 ///
@@ -90,7 +90,7 @@ fn with_digit(value: u64, base: u64, byte: u8) -> Option<u64> {
     value.checked_mul(base)?.checked_add(digit(byte))
 }
 
-/// The number that the digits of an integer write, as they stand in a text behind its sign and its
+/// The number that the digits of an integer write, as they are in a text after its sign and its
 /// `0x`: underscores among them do not count. None where it is 2^64 at least.
 ///
 /// # Proved
@@ -120,7 +120,7 @@ pub fn magnitude(digits: &[u8], hex: bool) -> Option<u64> {
 ///     (λ n. n ≡ integer_value kind.hex word.now) }
 /// ```
 pub(crate) fn magnitude_of(word: &str, kind: IntegerKind) -> Option<u64> {
-    let digits = behind_prefix(unsigned(word.as_bytes()), kind.hex);
+    let digits = after_prefix(unsigned(word.as_bytes()), kind.hex);
     magnitude(digits, kind.hex)
 }
 
@@ -129,7 +129,7 @@ pub(crate) fn magnitude_of(word: &str, kind: IntegerKind) -> Option<u64> {
 pub enum Float<'a> {
     /// `nan`, with the digits of its payload.
     Nan {
-        /// The payload's hexadecimal digits behind `nan:0x`, without underscores.
+        /// The payload's hexadecimal digits after `nan:0x`, without underscores.
         val: Option<CowStr<'a>>,
         /// Whether it begins with `-`.
         negative: bool,
@@ -139,13 +139,13 @@ pub enum Float<'a> {
         /// Whether it begins with `-`.
         negative: bool,
     },
-    /// Digits before the dot, behind it, and of the exponent, each without `+` and underscores.
+    /// Digits before the dot, after it, and of the exponent, each without `+` and underscores.
     Val {
         /// Whether the digits are hexadecimal. Those of the exponent never are.
         hex: bool,
         /// The digits before the dot, without `0x`; a `-` is kept.
         integral: CowStr<'a>,
-        /// The digits behind the dot, None where there are none.
+        /// The digits after the dot, None where there are none.
         fractional: Option<CowStr<'a>>,
         /// The digits of the exponent, None where there is none; a `-` is kept.
         exponent: Option<CowStr<'a>>,
@@ -203,19 +203,19 @@ fn without_plus(word: &str) -> &str {
     &word[1..]
 }
 
-/// What stands behind `0x`, where a number is hexadecimal.
+/// What comes after `0x`, where a number is hexadecimal.
 ///
 /// # Proved
 ///
 /// ```text
 /// requires long { hex ≡ true → 2 ≤ length number.now }
-/// ensures { result.now ≡ behind_prefix hex number.now }
+/// ensures { result.now ≡ after_prefix hex number.now }
 /// ```
-fn behind_prefix(number: &[u8], hex: bool) -> &[u8] {
+fn after_prefix(number: &[u8], hex: bool) -> &[u8] {
     if hex { &number[2..] } else { number }
 }
 
-/// Writes the digits behind a text, without underscores.
+/// Writes the digits after a text, without underscores.
 ///
 /// # Proved
 ///
@@ -257,11 +257,11 @@ fn number_text<'a>(
     if is_negative(bytes) {
         text.push('-')?;
     }
-    push_joined(&mut text, behind_prefix(unsigned(bytes), hex))?;
+    push_joined(&mut text, after_prefix(unsigned(bytes), hex))?;
     Ok(CowStr::Owned(text))
 }
 
-/// The digits behind `nan:0x`, without underscores.
+/// The digits after `nan:0x`, without underscores.
 ///
 /// # Proved
 ///
@@ -278,7 +278,7 @@ fn payload<'a>(alloc: Global, word: &'a str, underscores: bool) -> Result<CowStr
     number_text(alloc, &word[start..], false, underscores)
 }
 
-/// Cuts a float's word behind its first digits.
+/// Cuts a float's word after its first digits.
 ///
 /// # Proved
 ///
@@ -291,13 +291,13 @@ fn payload<'a>(alloc: Global, word: &'a str, underscores: bool) -> Result<CowStr
 /// ```
 fn split_integral(word: &str, hex: bool) -> (&str, &str) {
     let number = unsigned(word.as_bytes());
-    match after_digits(behind_prefix(number, hex), hex) {
+    match after_digits(after_prefix(number, hex), hex) {
         Some(tail) => word.split_at(word.len() - tail.len()),
         None => unreachable!(),
     }
 }
 
-/// The digits behind a dot, and what follows them.
+/// The digits after a dot, and what follows them.
 ///
 /// # Proved
 ///
@@ -311,17 +311,17 @@ fn split_fraction(tail: &str, hex: bool) -> (Option<&str>, &str) {
     if tail.as_bytes()[0] != b'.' {
         return (None, tail);
     }
-    let behind = &tail[1..];
-    match after_digits(behind.as_bytes(), hex) {
+    let after = &tail[1..];
+    match after_digits(after.as_bytes(), hex) {
         Some(rest) => {
-            let (digits, rest) = behind.split_at(behind.len() - rest.len());
+            let (digits, rest) = after.split_at(after.len() - rest.len());
             (Some(digits), rest)
         }
-        None => (None, behind),
+        None => (None, after),
     }
 }
 
-/// What stands behind an exponent's letter.
+/// What comes after an exponent's letter.
 ///
 /// # Proved
 ///
@@ -330,7 +330,7 @@ fn split_fraction(tail: &str, hex: bool) -> (Option<&str>, &str) {
 /// ensures { (hex : Bool) → EndsFloat hex rest.now →
 ///     Power hex rest.now (option_map (λ r. r.now) result) }
 /// ```
-fn behind_letter(rest: &str) -> Option<&str> {
+fn after_letter(rest: &str) -> Option<&str> {
     if rest.is_empty() {
         None
     } else {
@@ -384,7 +384,7 @@ fn decimals<'a>(
     let (fraction, rest) = split_fraction(tail, hex);
     let integral = number_text(alloc, leading, hex, underscores)?;
     let fractional = optional_text(alloc, fraction, underscores)?;
-    let exponent = optional_text(alloc, behind_letter(rest), underscores)?;
+    let exponent = optional_text(alloc, after_letter(rest), underscores)?;
     Ok(Float::Val {
         hex,
         integral,

@@ -144,7 +144,7 @@ pub fn other_than_plain_in_line(block: u8x16) -> u64 {
     stop.simd_eq(block).to_bitmask()
 }
 
-/// A bit for each byte that is no ASCII or stands below 14, as line ends and tabs do, the lowest for
+/// A bit for each byte that is no ASCII or is below 14, as line ends and tabs do, the lowest for
 /// the first.
 ///
 /// # Proved

@@ -124,7 +124,7 @@ fn whitespace_len_by_block(text: &[u8]) -> usize {
     i + whitespace_len_by_byte(&text[i..])
 }
 
-/// How many bytes of whitespace stand at the start of what follows a first one. Mostly there are
+/// How many bytes of whitespace are at the start of what follows a first one. Mostly there are
 /// none.
 ///
 /// # Proved
@@ -158,7 +158,7 @@ fn idchar_len_by_byte(text: &[u8]) -> usize {
     i
 }
 
-/// How many idchars stand at the start, found a block at a time.
+/// How many idchars are at the start, found a block at a time.
 ///
 /// # Proved
 ///
@@ -178,7 +178,7 @@ pub fn idchar_len_by_block(text: &[u8]) -> usize {
     i + idchar_len_by_byte(&text[i..])
 }
 
-/// How many idchars stand at the start. Mostly there are some.
+/// How many idchars are at the start. Mostly there are some.
 ///
 /// # Proved
 ///
@@ -193,7 +193,7 @@ pub fn idchar_len_of_word(text: &[u8], stride: Stride) -> usize {
     }
 }
 
-/// How many idchars stand at the start. Around a string it is mostly none.
+/// How many idchars are at the start. Around a string it is mostly none.
 ///
 /// # Proved
 ///
@@ -239,7 +239,7 @@ fn digit_len_by_block(text: &[u8]) -> usize {
     i + digit_len_by_byte(&text[i..])
 }
 
-/// How many decimal digits stand at the start.
+/// How many decimal digits are at the start.
 ///
 /// # Proved
 ///
@@ -285,7 +285,7 @@ fn hex_digit_len_by_block(text: &[u8]) -> usize {
     i + hex_digit_len_by_byte(&text[i..])
 }
 
-/// How many hexadecimal digits stand at the start.
+/// How many hexadecimal digits are at the start.
 ///
 /// # Proved
 ///

@@ -11,7 +11,7 @@ use crate::proved::lexer::scan::classes::is_confusing;
 use crate::proved::lexer::settings::Settings;
 use memchr::{memchr, memchr2, memchr3};
 
-/// How many bytes stand before the end of the line.
+/// How many bytes come before the end of the line.
 ///
 /// # Proved
 ///
@@ -22,7 +22,7 @@ fn line_len(text: &[u8]) -> usize {
     memchr2(b'\n', b'\r', text).unwrap_or(text.len())
 }
 
-/// The first confusing character, and where it stands. Each of them has 0xE2 as its first byte, and
+/// The first confusing character, and where it is. Each of them has 0xE2 as its first byte, and
 /// no character has that byte at another place.
 ///
 /// # Proved
@@ -57,7 +57,7 @@ fn plain_by_search(text: &[u8]) -> usize {
     memchr3(b'\n', b'\r', 0xe2, text).unwrap_or(text.len())
 }
 
-/// How many bytes stand before a line's end, or a byte that may begin a confusing character.
+/// How many bytes come before a line's end, or a byte that may begin a confusing character.
 ///
 /// # Proved
 ///
@@ -123,7 +123,7 @@ fn plain_by_four_blocks(text: &[u8]) -> usize {
     i + plain_by_block(&text[i..])
 }
 
-/// How many bytes stand before a line's end, or a byte that may begin a confusing character. Most
+/// How many bytes come before a line's end, or a byte that may begin a confusing character. Most
 /// comments end in the first blocks.
 ///
 /// # Proved
@@ -149,7 +149,7 @@ fn semicolon_by_search(text: &[u8]) -> usize {
     memchr(b';', text).unwrap_or(text.len())
 }
 
-/// How many bytes stand before the first `;`. Its code stays out of the loop that calls it, which
+/// How many bytes come before the first `;`. Its code stays out of the loop that calls it, which
 /// makes nested comments faster.
 ///
 /// # Proved
@@ -170,7 +170,7 @@ fn semicolon_by_block(text: &[u8]) -> usize {
     i + semicolon_by_search(&text[i..])
 }
 
-/// A bit for each of 16 places where `(;` stands, and for each where `;)` does, the lowest for the
+/// A bit for each of 16 places where `(;` is, and for each where `;)` is, the lowest for the
 /// first.
 ///
 /// # Proved
@@ -222,7 +222,7 @@ fn past_blocks(text: &[u8], place: usize, opened: usize) -> (usize, usize) {
     (level, i)
 }
 
-/// How many bytes the items of a block comment and its `;)` take, behind its `(;`.
+/// How many bytes the items of a block comment and its `;)` take, after its `(;`.
 ///
 /// # Proved
 ///
@@ -256,7 +256,7 @@ fn closing_len(text: &[u8]) -> Option<usize> {
     None
 }
 
-/// The length of a comment that stands at the start, unless it has a confusing character.
+/// The length of a comment that is at the start, unless it has a confusing character.
 ///
 /// # Proved
 ///

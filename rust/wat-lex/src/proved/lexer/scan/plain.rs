@@ -47,7 +47,7 @@ fn plain_len_by_byte(text: &[u8]) -> usize {
     i
 }
 
-/// How many plain bytes stand at the start.
+/// How many plain bytes are at the start.
 ///
 /// # Proved
 ///

@@ -166,7 +166,7 @@ pub fn other_kind(text: &[u8], len: usize, stride: Stride) -> TokenKind {
     }
 }
 
-/// The kind of a word that may be a number behind `0x`.
+/// The kind of a word that may be a number after `0x`.
 ///
 /// # Proved
 ///
@@ -252,8 +252,8 @@ pub fn short_number_kind(text: &[u8], len: usize, sign: Sign) -> TokenKind {
     }
 }
 
-/// The kind of a word that begins with a small letter. Behind the first letter of `inf` and `nan`
-/// stands `n` or `a`, and no other number begins with a letter.
+/// The kind of a word that begins with a small letter. After the first letter of `inf` and `nan`
+/// is `n` or `a`, and no other number begins with a letter.
 ///
 /// # Proved
 ///

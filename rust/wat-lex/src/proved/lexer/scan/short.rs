@@ -4,9 +4,9 @@
 use crate::shim::prelude::*;
 use crate::proved::lexer::kinds::{FloatKind, IntegerKind, Sign, TokenKind};
 use crate::proved::lexer::scan::blocks::{block_at, other_than_digits, other_than_hex_digits};
-use crate::proved::lexer::scan::numbers::{after, is_exponent_letter, unsigned};
+use crate::proved::lexer::scan::numbers::{is_exponent_letter, past_prefix, unsigned};
 
-/// How many of the first 16 bytes stand from a place on before the next one that has a bit.
+/// How many of the first 16 bytes are from a place on before the next one that has a bit.
 ///
 /// # Proved
 ///
@@ -18,11 +18,11 @@ use crate::proved::lexer::scan::numbers::{after, is_exponent_letter, unsigned};
 /// ```
 #[inline(always)]
 fn clear_from(bits: u64, i: usize) -> usize {
-    // Behind the 16 stands a bit for each place, so that some bit is found.
+    // After the 16 is a bit for each place, so that some bit is found.
     ((bits | 0xffff_ffff_ffff_0000) >> i).trailing_zeros() as usize
 }
 
-/// Whether an exponent without underscores stands in the word of so many bytes from a place on.
+/// Whether an exponent without underscores is in the word of so many bytes from a place on.
 ///
 /// # Proved
 ///
@@ -35,17 +35,17 @@ fn clear_from(bits: u64, i: usize) -> usize {
 /// ```
 #[inline(always)]
 fn is_short_exponent(text: &[u8], len: usize, i: usize, hex: bool, digits: u64) -> bool {
-    let [letter, behind @ ..] = &text[i..len] else {
+    let [letter, after @ ..] = &text[i..len] else {
         return false;
     };
     if !is_exponent_letter(*letter, hex) {
         return false;
     }
-    let number = unsigned(behind).len();
+    let number = unsigned(after).len();
     number != 0 && clear_from(digits, len - number) >= number
 }
 
-/// Whether what stands in the word of so many bytes from a place on can follow a float's first
+/// Whether what is in the word of so many bytes from a place on can follow a float's first
 /// digits, and has no underscores.
 ///
 /// # Proved
@@ -87,7 +87,7 @@ fn sign_len(sign: Sign) -> usize {
 }
 
 /// The kind of the word of so many bytes at the start, where that is a decimal integer or a decimal
-/// float without underscores, behind this sign.
+/// float without underscores, after this sign.
 ///
 /// # Proved
 ///
@@ -162,7 +162,7 @@ impl Prefixed {
     }
 }
 
-/// What the word of so many bytes at the start is, where that is `0x` and behind it an integer or a
+/// What the word of so many bytes at the start is, where that is `0x` and after it an integer or a
 /// float of at most 16 bytes. It is a call that answers one byte, so that its caller stays small.
 ///
 /// # Proved
@@ -173,15 +173,15 @@ impl Prefixed {
 /// ```
 #[inline(never)]
 pub fn short_hexadecimal(text: &[u8], len: usize) -> Prefixed {
-    let Some(digits) = after(&text[..len], b"0x".as_slice()) else {
+    let Some(digits) = past_prefix(&text[..len], b"0x".as_slice()) else {
         return Prefixed::Other;
     };
     let number = digits.len();
     if number > 16 || text.len() < 18 {
         return Prefixed::Other;
     }
-    let behind = &text[2..];
-    let block = block_at(behind, 0);
+    let after = &text[2..];
+    let block = block_at(after, 0);
     let others = other_than_hex_digits(block);
     let end = clear_from(others, 0);
     if end >= number {
@@ -190,7 +190,7 @@ pub fn short_hexadecimal(text: &[u8], len: usize) -> Prefixed {
         }
         return Prefixed::Integer;
     }
-    if end == 0 || !is_short_tail(behind, number, end, true, others, other_than_digits(block)) {
+    if end == 0 || !is_short_tail(after, number, end, true, others, other_than_digits(block)) {
         return Prefixed::Other;
     }
     Prefixed::Float
@@ -206,7 +206,7 @@ pub fn short_hexadecimal(text: &[u8], len: usize) -> Prefixed {
 /// ```
 #[inline(never)]
 pub fn short_payload(text: &[u8], len: usize) -> Prefixed {
-    let Some(digits) = after(&text[..len], b"nan:0x".as_slice()) else {
+    let Some(digits) = past_prefix(&text[..len], b"nan:0x".as_slice()) else {
         return Prefixed::Other;
     };
     let number = digits.len();

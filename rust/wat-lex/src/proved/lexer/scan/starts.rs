@@ -28,7 +28,7 @@ pub enum Start {
 }
 
 /// What a text begins with, by its first byte.
-// Bytes that are neighbours stand in patterns of their own: as one they would be a range, and ranges
+// Bytes that are neighbours are in patterns of their own: as one they would be a range, and ranges
 // are compared one after the other where one jump tells the rest.
 /// # Proved
 ///

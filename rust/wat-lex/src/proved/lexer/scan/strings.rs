@@ -31,7 +31,7 @@ fn is_control(c: char) -> bool {
     (c as u32) < 0x20 || c as u32 == 0x7f
 }
 
-/// What a letter stands for behind a backslash.
+/// What a letter stands for after a backslash.
 ///
 /// # Proved
 ///
@@ -155,7 +155,7 @@ fn with_digit(n: u32, digit: char, left: usize) -> Result<u32, Broken> {
     Ok(wide as u32)
 }
 
-/// What follows the first digit of a number behind `\u{`.
+/// What follows the first digit of a number after `\u{`.
 ///
 /// # Proved
 ///
@@ -266,7 +266,7 @@ pub fn escape(it: &mut Chars<'_>, flags: Settings) -> Result<EscapeValue, Broken
     braced(it, flags)
 }
 
-/// Whether an escape of two hexadecimal digits stands at the start.
+/// Whether an escape of two hexadecimal digits is at the start.
 ///
 /// # Proved
 ///
@@ -292,7 +292,7 @@ fn fault_at(offset: usize, error: LexError) -> Result<usize, LexFault> {
     Err(LexFault { offset, error })
 }
 
-/// How many bytes the element of a string takes that stands at the start.
+/// How many bytes the element of a string takes that is at the start.
 ///
 /// # Proved
 ///
@@ -318,7 +318,7 @@ fn element_len(text: &str, flags: Settings) -> Result<usize, LexFault> {
     Ok(text.len() - it.as_str().len())
 }
 
-/// How many bytes the elements of a string and its closing quote take, behind its opening quote.
+/// How many bytes the elements of a string and its closing quote take, after its opening quote.
 ///
 /// # Proved
 ///

@@ -10,6 +10,6 @@ loop-shown-preserved g c = (
       let so_far = c.loop-shown.invariant.1 plain in (
         so_far.0 ++ c.in-Some.shown.now,
         has_written_append _ _ _ _ _ _ so_far.1 (search rules),
-        append_assoc so_far.0 c.in-Some.shown.now (shown_line c.in-Some.behind.now) ∙ ap (λ x. so_far.0 ++ x) (sym (c.in-Some.ensures).0) ∙ so_far.2,
+        append_assoc so_far.0 c.in-Some.shown.now (shown_line c.in-Some.after.now) ∙ ap (λ x. so_far.0 ++ x) (sym (c.in-Some.ensures).0) ∙ so_far.2,
       ),
 )

@@ -6,8 +6,8 @@ use Rattle.wat_lex.specs.values.NumberValues.{number_text, IsText}
 use Rattle.wat_lex.proofs.values.NumberValues.{plain_text, digits_ascii}
 use Rattle.wat_lex.proofs.lexer.read.numbers.number_text.Goals as goal
 
-as_written : (hex anew : Bool) (w : List ℕ) (t : CowStr Global) → hex ≡ false → anew ≡ false → IsText false (number_text false w) t → IsText (hex || anew) (number_text hex w) t
-as_written hex anew w t e f h = subst (λ x. IsText (x || anew) (number_text x w) t) (sym e) (subst (λ x. IsText x (number_text false w) t) (sym f) h)
+as_written : (hex again : Bool) (w : List ℕ) (t : CowStr Global) → hex ≡ false → again ≡ false → IsText false (number_text false w) t → IsText (hex || again) (number_text hex w) t
+as_written hex again w t e f h = subst (λ x. IsText (x || again) (number_text x w) t) (sym e) (subst (λ x. IsText x (number_text false w) t) (sym f) h)
 
 pub returns-then-not-underscores-clause-value : goal.returns-then-not-underscores-clause-value
 returns-then-not-underscores-clause-value c =
@@ -17,5 +17,5 @@ returns-then-not-underscores-clause-value c =
 
 pub push_joined-requires : goal.push_joined-requires
 push_joined-requires c = record {
-  ascii = digits_ascii c.args.hex c.args.word.now c.unsigned.result.now c.behind_prefix.result.now c.requires.ascii (c.unsigned.ensures ∙ ap unsigned c.as_bytes-bytes.ensures.value) c.behind_prefix.ensures;
+  ascii = digits_ascii c.args.hex c.args.word.now c.unsigned.result.now c.after_prefix.result.now c.requires.ascii (c.unsigned.ensures ∙ ap unsigned c.as_bytes-bytes.ensures.value) c.after_prefix.ensures;
 }

@@ -16,35 +16,35 @@ pub returns-then-as_bytes-ne46-clause-rest : goal.returns-then-as_bytes-ne46-cla
 returns-then-as_bytes-ne46-clause-rest c =
     inr (no_dot c.args.hex c.args.tail.now (λ e. c.if-as_bytes-ne46.true (ap (λ x. get_or x 0 0) c.as_bytes.ensures.value ∙ e)) c.requires.tail)
 
-pub overflow_sub-behind : goal.overflow_sub-behind
-overflow_sub-behind c =
+pub overflow_sub-after : goal.overflow_sub-after
+overflow_sub-after c =
     let l = subst (λ x. LongestDigits c.args.hex x c.in-Some.rest.now) c.as_bytes-2.ensures.value c.in-Some.ensures in
-    let p = cut_digits c.args.hex c.range_from-behind.result.now c.in-Some.rest.now l.digits in
-    seam_fits c.range_from-behind.result.now p.0 c.in-Some.rest.now p.1
+    let p = cut_digits c.args.hex c.range_from-after.result.now c.in-Some.rest.now l.digits in
+    seam_fits c.range_from-after.result.now p.0 c.in-Some.rest.now p.1
 
 pub split_at-requires : goal.split_at-requires
 split_at-requires c =
-    IsCharBoundary-from_ascii c.range_from-behind.result.now _ (subst IsAscii (sym c.range_from-behind.ensures.value) (IsAscii-drop c.args.tail.now 1 c.requires.ascii)) (omega arith)
+    IsCharBoundary-from_ascii c.range_from-after.result.now _ (subst IsAscii (sym c.range_from-after.ensures.value) (IsAscii-drop c.args.tail.now 1 c.requires.ascii)) (omega arith)
 
 pub returns-in-Some-clause-point : goal.returns-in-Some-clause-point
 returns-in-Some-clause-point c =
     let l = subst (λ x. LongestDigits c.args.hex x c.in-Some.rest.now) c.as_bytes-2.ensures.value c.in-Some.ensures in
-    let d = dotted c.args.hex c.args.tail.now c.range_from-behind.result.now (ap (λ x. get_or x 0 0) (sym c.as_bytes.ensures.value) ∙ c.if-as_bytes-ne46.false) c.range_from-behind.ensures.value c.requires.tail in
-    point_some c.args.hex c.args.tail.now c.range_from-behind.result.now c.in-Some.rest.now d.0 l c.split_at.result.0.now c.split_at.result.1.now c.split_at.ensures.front c.split_at.ensures.back
+    let d = dotted c.args.hex c.args.tail.now c.range_from-after.result.now (ap (λ x. get_or x 0 0) (sym c.as_bytes.ensures.value) ∙ c.if-as_bytes-ne46.false) c.range_from-after.ensures.value c.requires.tail in
+    point_some c.args.hex c.args.tail.now c.range_from-after.result.now c.in-Some.rest.now d.0 l c.split_at.result.0.now c.split_at.result.1.now c.split_at.ensures.front c.split_at.ensures.back
 
 pub returns-in-Some-clause-rest : goal.returns-in-Some-clause-rest
 returns-in-Some-clause-rest c =
     let l = subst (λ x. LongestDigits c.args.hex x c.in-Some.rest.now) c.as_bytes-2.ensures.value c.in-Some.ensures in
-    let d = dotted c.args.hex c.args.tail.now c.range_from-behind.result.now (ap (λ x. get_or x 0 0) (sym c.as_bytes.ensures.value) ∙ c.if-as_bytes-ne46.false) c.range_from-behind.ensures.value c.requires.tail in
-    let p = cut_digits c.args.hex c.range_from-behind.result.now c.in-Some.rest.now l.digits in
-    subst (EndsFloat c.args.hex) (sym (c.split_at.ensures.back ∙ seam_back c.range_from-behind.result.now p.0 c.in-Some.rest.now p.1)) (ends_some c.args.hex c.range_from-behind.result.now c.in-Some.rest.now d.1 l)
+    let d = dotted c.args.hex c.args.tail.now c.range_from-after.result.now (ap (λ x. get_or x 0 0) (sym c.as_bytes.ensures.value) ∙ c.if-as_bytes-ne46.false) c.range_from-after.ensures.value c.requires.tail in
+    let p = cut_digits c.args.hex c.range_from-after.result.now c.in-Some.rest.now l.digits in
+    subst (EndsFloat c.args.hex) (sym (c.split_at.ensures.back ∙ seam_back c.range_from-after.result.now p.0 c.in-Some.rest.now p.1)) (ends_some c.args.hex c.range_from-after.result.now c.in-Some.rest.now d.1 l)
 
 pub returns-in-None-clause-point : goal.returns-in-None-clause-point
 returns-in-None-clause-point c =
-    let d = dotted c.args.hex c.args.tail.now c.range_from-behind.result.now (ap (λ x. get_or x 0 0) (sym c.as_bytes.ensures.value) ∙ c.if-as_bytes-ne46.false) c.range_from-behind.ensures.value c.requires.tail in
-    point_bare c.args.hex c.args.tail.now c.range_from-behind.result.now d.0
+    let d = dotted c.args.hex c.args.tail.now c.range_from-after.result.now (ap (λ x. get_or x 0 0) (sym c.as_bytes.ensures.value) ∙ c.if-as_bytes-ne46.false) c.range_from-after.ensures.value c.requires.tail in
+    point_bare c.args.hex c.args.tail.now c.range_from-after.result.now d.0
 
 pub returns-in-None-clause-rest : goal.returns-in-None-clause-rest
 returns-in-None-clause-rest c =
-    let d = dotted c.args.hex c.args.tail.now c.range_from-behind.result.now (ap (λ x. get_or x 0 0) (sym c.as_bytes.ensures.value) ∙ c.if-as_bytes-ne46.false) c.range_from-behind.ensures.value c.requires.tail in
-    ends_none c.args.hex c.range_from-behind.result.now d.1 (subst (NoDigits c.args.hex) c.as_bytes-2.ensures.value c.in-None.ensures)
+    let d = dotted c.args.hex c.args.tail.now c.range_from-after.result.now (ap (λ x. get_or x 0 0) (sym c.as_bytes.ensures.value) ∙ c.if-as_bytes-ne46.false) c.range_from-after.ensures.value c.requires.tail in
+    ends_none c.args.hex c.range_from-after.result.now d.1 (subst (NoDigits c.args.hex) c.as_bytes-2.ensures.value c.in-None.ensures)

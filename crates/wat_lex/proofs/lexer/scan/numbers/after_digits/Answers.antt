@@ -29,9 +29,9 @@ returns c =
     (row_ends c.args.hex c.args.text.now c.loop-last.last c.loop-last.invariant.range c.loop-last.invariant.digit
     (stops_end c.args.hex c.args.text.now next (omega arith)) c.loop-last.invariant.row)
 
--- behind the underscore that follows the last digit
-behind_underscore : (hex : Bool) (text : List ℕ) (last : ℕ) → last + 1 < length text → is_digit hex (get_or text last 0) ≡ true → get_or text (last + 1) 0 ≡ 95 → Row hex text (drop last text) → Row hex text (drop (last + 2) text)
-behind_underscore hex text last l a e h =
+-- after the underscore that follows the last digit
+after_underscore : (hex : Bool) (text : List ℕ) (last : ℕ) → last + 1 < length text → is_digit hex (get_or text last 0) ≡ true → get_or text (last + 1) 0 ≡ 95 → Row hex text (drop last text) → Row hex text (drop (last + 2) text)
+after_underscore hex text last l a e h =
     let same : last + 1 + 1 ≡ last + 2 = omega arith in
     subst (λ n. Row hex text (drop n text)) same (past_underscore hex text last l a e h)
 
@@ -39,12 +39,12 @@ pub loop-last-preserved : goal.loop-last-preserved
 loop-last-preserved c = record {
   range = omega arith;
   digit = sym c.is_digit-then-last-text.ensures ∙ c.if-is_digit-2.true;
-  row = behind_underscore c.args.hex c.args.text.now c.loop-last.last c.loop-last-test.true c.loop-last.invariant.digit (omega (arith, c.if-next-ne95.false)) c.loop-last.invariant.row;
+  row = after_underscore c.args.hex c.args.text.now c.loop-last.last c.loop-last-test.true c.loop-last.invariant.digit (omega (arith, c.if-next-ne95.false)) c.loop-last.invariant.row;
 }
 
 pub returns-else-last-text : goal.returns-else-last-text
 returns-else-last-text c =
-    let row = behind_underscore c.args.hex c.args.text.now c.loop-last.last c.loop-last-test.true c.loop-last.invariant.digit (omega (arith, c.if-next-ne95.false)) c.loop-last.invariant.row in
+    let row = after_underscore c.args.hex c.args.text.now c.loop-last.last c.loop-last-test.true c.loop-last.invariant.digit (omega (arith, c.if-next-ne95.false)) c.loop-last.invariant.row in
     elim c.else-last-text.branch [
       | else-last-text-via-then-last-text+else-is_digit-2 w ↦ row_wrong c.args.hex c.args.text.now (c.loop-last.last + 2) w.if-last-text.true (sym w.is_digit-then-last-text.ensures ∙ w.if-is_digit-2.false) row
       | else-last-text-via-else-last-text w ↦ row_end c.args.hex c.args.text.now (c.loop-last.last + 2) w.if-last-text.false row

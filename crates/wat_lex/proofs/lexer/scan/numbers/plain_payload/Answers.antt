@@ -4,7 +4,7 @@ use Rattle.std.specs.List.{prefix_len}
 use Rattle.std.specs.Prelude.{codes}
 use Rattle.wat_lex.specs.grammar.Classes.{is_hex}
 use Rattle.wat_lex.specs.grammar.Numbers.{has_underscores, payload, unsigned}
-use Rattle.wat_lex.proofs.grammar.PlainIntegers.{end_stands, hex_digits_alone, no_underscore, signed_no_underscore, taken_pass}
+use Rattle.wat_lex.proofs.grammar.PlainIntegers.{end_is_at, hex_digits_alone, no_underscore, signed_no_underscore, taken_pass}
 use Rattle.wat_lex.proofs.lexer.scan.numbers.plain_payload.Goals as goal
 
 pub returns : goal.returns
@@ -14,7 +14,7 @@ returns c =
     let digits = c.in-Some.payload.now in
     let start = c.args.len - length digits in
     let cut : unsigned word ≡ codes "nan:0x" ++ digits = sym c.unsigned.ensures ∙ c.in-Some.ensures ∙ ap (λ x. x ++ digits) c.as_slice.ensures in
-    let there : digits ≡ take (length digits) (drop start text) = sym (ap (drop 6) cut) ∙ end_stands text c.args.len (length digits) 6 c.requires (omega (arith, ap length cut)) in
+    let there : digits ≡ take (length digits) (drop start text) = sym (ap (drop 6) cut) ∙ end_is_at text c.args.len (length digits) 6 c.requires (omega (arith, ap length cut)) in
     let long : length digits ≤ prefix_len is_hex (drop start text) = omega (arith, c.if-hex_digit_len-digits.false, c.hex_digit_len.ensures, ap (prefix_len is_hex) (take_rest text start)) in
     let all : prefix_len is_hex digits ≡ length digits = subst (λ x. prefix_len is_hex x ≡ length x) (sym there) (taken_pass is_hex (length digits) (drop start text) long) in
     let some : digits ≢ [] = λ e. c.if-digits-eq0.false (ap length e) in

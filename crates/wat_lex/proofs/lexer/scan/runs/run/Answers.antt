@@ -4,7 +4,7 @@ use Rattle.std.proofs.lemmas.Str.{IsCharBoundary-from_drop}
 use Rattle.std.specs.List.{prefix_len}
 use Rattle.wat_lex.specs.grammar.Classes.{is_idchar}
 use Rattle.wat_lex.specs.inside.ScannedStrings.{StringTaken, StringRefused}
-use Rattle.wat_lex.proofs.inside.RunSteps.{Joined, joined_start, joined_string, joined_end, joined_wrong, behind_quote}
+use Rattle.wat_lex.proofs.inside.RunSteps.{Joined, joined_start, joined_string, joined_end, joined_wrong, after_quote}
 use Rattle.wat_lex.proofs.lexer.scan.runs.run.Goals as goal
 use Rattle.wat_lex.proofs.lexer.scan.runs.run.Goals.{Then-bytes-len-eq34, After-idchar_len-more}
 
@@ -25,7 +25,7 @@ pub range_from-requires : goal.range_from-requires
 range_from-requires c = λ _.
     let q = quote c in
     let i = q.inside in
-    IsCharBoundary-from_drop c.args.text.now (c.loop-len.len + 1) (omega (arith, i)) (behind_quote c.args.flags c.args.text.now c.loop-len.len c.loop-len.idchars c.loop-len.strings c.loop-len.invariant i q.byte)
+    IsCharBoundary-from_drop c.args.text.now (c.loop-len.len + 1) (omega (arith, i)) (after_quote c.args.flags c.args.text.now c.loop-len.len c.loop-len.idchars c.loop-len.strings c.loop-len.invariant i q.byte)
 
 pub returns-in-Err-clause-err : goal.returns-in-Err-clause-err
 returns-in-Err-clause-err c =

@@ -10,7 +10,7 @@ use Rattle.wat_lex.proofs.lexer.scan.runs.run_shape.Goals.{then-strings-gt1-via-
 
 pub returns-then-strings-eq0 : goal.returns-then-strings-eq0
 returns-then-strings-eq0 c = record {
-  stands = λ e. cc;
+  is_at = λ e. cc;
   kind = λ k h flags w ps e r i s.
       let p = no_strings flags w ps r (sym s ∙ c.if-strings-eq0.true) in
       kind_of_word w ps k p.same (subst (λ x. WordKind x k) (e ∙ p.bytes) h);
@@ -18,7 +18,7 @@ returns-then-strings-eq0 c = record {
 
 pub returns-then-strings-gt1 : goal.returns-then-strings-gt1
 returns-then-strings-gt1 c = record {
-  stands = λ e. cc;
+  is_at = λ e. cc;
   kind = λ k h flags w ps e r i s.
       let many : (1 < string_count ps) ⊎ (1 < idchar_count ps) = elim c.then-strings-gt1.branch [
         | then-strings-gt1-via-then-strings-gt1 v ↦ inl (subst (λ x. 1 < x) s v.if-strings-gt1.true)

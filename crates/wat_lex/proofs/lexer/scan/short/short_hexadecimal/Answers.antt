@@ -17,9 +17,9 @@ prefixed w digits given e g = ap unsigned (e ∙ ap (λ x. x ++ digits) g)
 no_sign_there : (w digits given : List ℕ) → w ≡ given ++ digits → given ≡ 48 ∷ 120 ∷ [] → sign.None ≡ sign_of w
 no_sign_there w digits given e g = sym (ap sign_of (e ∙ ap (λ x. x ++ digits) g))
 
--- the digits stand behind the first two bytes
-digits_there : (text digits given behind : List ℕ) (len : ℕ) → len ≤ length text → take len text ≡ given ++ digits → given ≡ 48 ∷ 120 ∷ [] → behind ≡ drop 2 text → digits ≡ take (length digits) behind
-digits_there text digits given behind len within e g at =
+-- the digits come after the first two bytes
+digits_there : (text digits given after : List ℕ) (len : ℕ) → len ≤ length text → take len text ≡ given ++ digits → given ≡ 48 ∷ 120 ∷ [] → after ≡ drop 2 text → digits ≡ take (length digits) after
+digits_there text digits given after len within e g at =
     let cut : take len text ≡ 48 ∷ 120 ∷ digits = e ∙ ap (λ x. x ++ digits) g in
     let long : len ≡ 2 + length digits = sym (length-take-le len text within) ∙ ap length cut ∙ omega arith in
     let room : len - 2 ≡ length digits = omega arith in
@@ -33,11 +33,11 @@ returns-then-end-number c =
     let text = c.args.text.now in
     let w = take c.args.len text in
     let digits = c.in-Some.digits.now in
-    let behind = take (length text - 2) (drop 2 text) in
-    let marked : FirstFailures is_hex behind c.other_than_hex_digits-others.result = record { long = omega (arith, length-drop 2 text, ap length (take_rest text 2)); each = c.other_than_hex_digits-others.ensures ∙ ap (failures is_hex) c.block_at-block.ensures } in
+    let after = take (length text - 2) (drop 2 text) in
+    let marked : FirstFailures is_hex after c.other_than_hex_digits-others.result = record { long = omega (arith, length-drop 2 text, ap length (take_rest text 2)); each = c.other_than_hex_digits-others.ensures ∙ ap (failures is_hex) c.block_at-block.ensures } in
     let cut = prefixed w digits _ c.in-Some.ensures c.as_slice.ensures in
-    let there = digits_there text digits _ behind c.args.len c.requires c.in-Some.ensures c.as_slice.ensures (take_rest text 2) in
-    let all : prefix_len is_hex digits ≡ length digits = subst (λ x. prefix_len is_hex x ≡ length x) (sym there) (taken_pass is_hex (length digits) behind (omega (arith, c.clear_from-end.ensures.clear is_hex behind marked))) in
+    let there = digits_there text digits _ after c.args.len c.requires c.in-Some.ensures c.as_slice.ensures (take_rest text 2) in
+    let all : prefix_len is_hex digits ≡ length digits = subst (λ x. prefix_len is_hex x ≡ length x) (sym there) (taken_pass is_hex (length digits) after (omega (arith, c.clear_from-end.ensures.clear is_hex after marked))) in
     let some : digits ≢ [] = λ e. c.if-number-eq0.false (ap length e) in (
       subst (λ x. IntegralPart true x []) (sym cut) (hexadecimal (hex_digits_alone digits some all)),
       no_sign_there w digits _ c.in-Some.ensures c.as_slice.ensures,
@@ -49,10 +49,10 @@ returns c =
     let text = c.args.text.now in
     let w = take c.args.len text in
     let digits = c.in-Some.digits.now in
-    let behind = take (length text - 2) (drop 2 text) in
-    let marked : FirstFailures is_hex behind c.other_than_hex_digits-others.result = record { long = omega (arith, length-drop 2 text, ap length (take_rest text 2)); each = c.other_than_hex_digits-others.ensures ∙ ap (failures is_hex) c.block_at-block.ensures } in
-    let there = digits_there text digits _ behind c.args.len c.requires c.in-Some.ensures c.as_slice.ensures (take_rest text 2) in
+    let after = take (length text - 2) (drop 2 text) in
+    let marked : FirstFailures is_hex after c.other_than_hex_digits-others.result = record { long = omega (arith, length-drop 2 text, ap length (take_rest text 2)); each = c.other_than_hex_digits-others.ensures ∙ ap (failures is_hex) c.block_at-block.ensures } in
+    let there = digits_there text digits _ after c.args.len c.requires c.in-Some.ensures c.as_slice.ensures (take_rest text 2) in
     let n = c.clear_from-end.result in
-    let few : n ≤ prefix_len is_hex (take (length digits) behind) = some_pass is_hex behind (length digits) 0 n (omega arith) (c.clear_from-end.ensures.clear is_hex behind marked) in
-    let parts = decimals_then true (take (length digits) behind) n few (λ e. absurd (omega arith)) (c.is_short_tail.ensures c.if-not-is_short_tail.false) in
+    let few : n ≤ prefix_len is_hex (take (length digits) after) = some_pass is_hex after (length digits) 0 n (omega arith) (c.clear_from-end.ensures.clear is_hex after marked) in
+    let parts = decimals_then true (take (length digits) after) n few (λ e. absurd (omega arith)) (c.is_short_tail.ensures c.if-not-is_short_tail.false) in
     hexadecimal_float w digits _ (prefixed w digits _ c.in-Some.ensures c.as_slice.ensures) (refl, subst (PlainDecimals true) (sym there) parts)

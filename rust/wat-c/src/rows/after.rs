@@ -1,5 +1,5 @@
-// Made by tools/erase from crates/wat_rows/src/behind.rt; do not edit.
-//! Where a parser stands behind rows.
+// Made by tools/erase from crates/wat_rows/src/after.rt; do not edit.
+//! Where a parser is after rows.
 
 use wat_lex::shim::prelude::*;
 use crate::rows::counting::Row;
@@ -13,7 +13,7 @@ use crate::rows::counting::Row;
 /// ensures { (s : Source) → TellTokensOf s rows.now →
 ///     result ≡ offset_at s.tokens (raw_place s.tokens count) }
 /// ```
-pub fn offset_behind(rows: &[Row], count: usize) -> usize {
+pub fn offset_after(rows: &[Row], count: usize) -> usize {
     if count == 0 {
         return 0;
     }

@@ -1,5 +1,5 @@
 use Rattle.wat_lex.proofs.values.NumberParts.{power_none, power_some}
-use Rattle.wat_lex.proofs.lexer.read.numbers.behind_letter.Goals as goal
+use Rattle.wat_lex.proofs.lexer.read.numbers.after_letter.Goals as goal
 
 pub returns-then-is_empty : goal.returns-then-is_empty
 returns-then-is_empty c = λ hex h. power_none hex c.args.rest.now c.if-is_empty.ensures

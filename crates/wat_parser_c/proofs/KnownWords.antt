@@ -1,4 +1,4 @@
--- What is told of the word of a string or a name, and that it is one thing.
+-- What is reported of the word of a string or a name, and that it is one thing.
 use Rattle.std.proofs.Common.{◌≡◌, ◌≢◌, ◌<◌, ◌≤◌, ◌+◌, ◌-◌, ℕ, zero, suc, List, [], ◌∷◌, length, take, drop, refl, ap, sym, ◌∙◌, subst, arith, inl, inr, Bool, true, false, length-append}
 use Rattle.std.specs.Prelude.{if◌then◌else◌, Result, Ok, Err}
 use Rattle.std.specs.Str.{chars, IsUtf8}
@@ -16,7 +16,7 @@ use Rattle.wat_lex.specs.declared.lexer.kinds.TokenKind.TheVariants.{String}
 use Rattle.wat_lexer_parser.specs.parser.Takers.{contains}
 use Rattle.wat_rows.specs.Rows.{fault_code}
 use Rattle.wat_parser_c.specs.Readings.{IsNamed, ReadsName}
-use Rattle.wat_parser_c.specs.Words.{ReadsValue, IsPlain, before, behind, no_word, TellsWord, given, escaped, nameless}
+use Rattle.wat_parser_c.specs.Words.{ReadsValue, IsPlain, before, after, no_word, TellsWord, given, escaped, nameless}
 use Rattle.wat_parser_c.specs.declared.answers.Refusal.{Refusal}
 use Rattle.wat_parser_c.specs.declared.answers.Refusal.TheVariants.{Fault}
 use Rattle.wat_parser_c.specs.declared.words.Word.{Word}
@@ -74,18 +74,18 @@ before_named : (k : TokenKind) (w : List ℕ) (q : Bool) → IsNamed k → conta
 before_named k w q (inl e) h = ap (λ x. before x w) e ∙ ap (λ b. if b then 2 else 1) h
 before_named k w q (inr e) h = ap (λ x. before x w) e ∙ ap (λ b. if b then 2 else 1) h
 
-behind_named : (k : TokenKind) (w : List ℕ) (q : Bool) → IsNamed k → contains 34 w ≡ q → behind k w ≡ (if q then 1 else 0)
-behind_named k w q (inl e) h = ap (λ x. behind x w) e ∙ ap (λ b. if b then 1 else 0) h
-behind_named k w q (inr e) h = ap (λ x. behind x w) e ∙ ap (λ b. if b then 1 else 0) h
+after_named : (k : TokenKind) (w : List ℕ) (q : Bool) → IsNamed k → contains 34 w ≡ q → after k w ≡ (if q then 1 else 0)
+after_named k w q (inl e) h = ap (λ x. after x w) e ∙ ap (λ b. if b then 1 else 0) h
+after_named k w q (inr e) h = ap (λ x. after x w) e ∙ ap (λ b. if b then 1 else 0) h
 
 reads_named : (k : TokenKind) (text : List ℕ) (t : Token) (f : Result (List ℕ) Refusal) → IsNamed k → ReadsName text t f → ReadsValue k text t f
 reads_named k text t f (inl e) h = subst (λ x. ReadsValue x text t f) (sym e) h
 reads_named k text t f (inr e) h = subst (λ x. ReadsValue x text t f) (sym e) h
 
--- a name that stands behind so many bytes of its word and before so many
+-- a name that comes after so many bytes of its word and before so many
 module _ (text : List ℕ) (o l : ℕ) (k : TokenKind) (b : List ℕ) (word : Word) (front back : ℕ) (named : IsNamed k) (eb : b ≡ take l (drop o text)) (el : length b ≡ l)
     (at : NameAt b front back) where
-  name_given : before k (chars b) ≡ front → behind k (chars b) ≡ back → 0 < length at.value → word ≡ record { start = o + front; len = l - front - back; status = 0 }
+  name_given : before k (chars b) ≡ front → after k (chars b) ≡ back → 0 < length at.value → word ≡ record { start = o + front; len = l - front - back; status = 0 }
       → TellsWord text (token o l k) word
   name_given f r some w =
       let s : word.start ≡ o + front = ap (λ x. x.start) w in
@@ -102,7 +102,7 @@ module _ (text : List ℕ) (o l : ℕ) (k : TokenKind) (b : List ℕ) (word : Wo
         kind = inr named;
         plain = plain_named k (chars (take l (drop o text))) named (subst (λ x. HasNoEscape (chars x)) eb at.plain);
         begins = s ∙ ap (λ x. o + x) (sym f ∙ ap (λ x. before k (chars x)) eb);
-        ends = omega (arith, s, n, fits, el, r, ap (λ x. behind k (chars x)) eb);
+        ends = omega (arith, s, n, fits, el, r, ap (λ x. after k (chars x)) eb);
         reads = reads_named k text (token o l k) (Ok (take word.len (drop word.start text))) named (value, subst IsUtf8 there at.utf8, full);
       })
 
@@ -113,9 +113,9 @@ module _ (text : List ℕ) (o l : ℕ) (k : TokenKind) (b : List ℕ) (word : Wo
       nameless w (inr named) (plain_named k (chars (take l (drop o text))) named (subst (λ x. HasNoEscape (chars x)) eb at.plain))
       (reads_named k text (token o l k) (Err (Fault (empty_name k))) named (no_name value))
 
-  pub name_told : before k (chars b) ≡ front → behind k (chars b) ≡ back → (l ≡ front + back → word ≡ no_word (fault_code (empty_name k)))
+  pub name_known : before k (chars b) ≡ front → after k (chars b) ≡ back → (l ≡ front + back → word ≡ no_word (fault_code (empty_name k)))
       → (front + back < l → word ≡ record { start = o + front; len = l - front - back; status = 0 }) → TellsWord text (token o l k) word
-  name_told f r empty some = by (length at.value) refl
+  name_known f r empty some = by (length at.value) refl
     where
       by : (n : ℕ) → length at.value ≡ n → TellsWord text (token o l k) word
       by zero e = let fits = at.fits in name_empty e (empty (omega (arith, fits, el, e)))
@@ -126,11 +126,11 @@ pub name_escaped : (text : List ℕ) (o l : ℕ) (k : TokenKind) (b : List ℕ) 
 name_escaped text o l k b word named eb esc w =
     escaped w (inr named) (λ h. esc (subst (λ x. HasNoEscape (chars x)) (sym eb) (named_plain k (chars (take l (drop o text))) named h)))
 
-pub bare_told : (k : TokenKind) (w : List ℕ) → IsNamed k → contains 34 w ≡ false → (before k w ≡ 1) × (behind k w ≡ 0)
-bare_told k w n h = (before_named k w false n h, behind_named k w false n h)
+pub bare_known : (k : TokenKind) (w : List ℕ) → IsNamed k → contains 34 w ≡ false → (before k w ≡ 1) × (after k w ≡ 0)
+bare_known k w n h = (before_named k w false n h, after_named k w false n h)
 
-pub quoted_told : (k : TokenKind) (w : List ℕ) → IsNamed k → contains 34 w ≡ true → (before k w ≡ 2) × (behind k w ≡ 1)
-quoted_told k w n h = (before_named k w true n h, behind_named k w true n h)
+pub quoted_known : (k : TokenKind) (w : List ℕ) → IsNamed k → contains 34 w ≡ true → (before k w ≡ 2) × (after k w ≡ 1)
+quoted_known k w n h = (before_named k w true n h, after_named k w true n h)
 
 pub named_word : NamesAreThere → (b : List ℕ) (k : TokenKind) → IsUtf8 b → IsNamed k → Spells k (chars b) lenient → NameBytes b
 named_word there b k u named word = name_bytes EmptyId b k u named word (there EmptyId (chars b) (is named))

@@ -1,4 +1,4 @@
--- What is left behind a shown token, and where it stands.
+-- What is left after a shown token, and where it is.
 use Rattle.std.proofs.Common.{◌≡◌, ℕ, zero, suc, ◌+◌, ◌-◌, ◌<◌, ◌≤◌, List, [], ◌∷◌, refl, sym, ap, ◌∙◌, length, drop, drop-drop, length-drop, arith, Some, None, Ok, Err}
 use Rattle.std.specs.Prelude.{Option, Result, slice_get}
 use Rattle.wat_lex.specs.declared.lexer.faults.LexFault.{LexFault}
@@ -15,7 +15,7 @@ use Rattle.wat_lexer_parser.specs.places.Source.{Source}
 use Rattle.wat_lexer_parser.specs.shown.Showing.{placed, shown}
 use Rattle.wat_lexer_parser.specs.inside.ShownIn.{Mode, Showing, Inside, shown_in, first, step_of, after}
 
--- what is shown of a token and the rest behind it, by the step that the token means
+-- what is shown of a token and the rest after it, by the step that the token means
 abbrev pub does : List ℕ → Option LexFault → Names → Token → List Token → Step → Finding
 does x z n t r Pass = shown_in x z n Showing r
 does x z n t r Take = Ok (Some (t, r))
@@ -23,18 +23,18 @@ does x z n t r Finish = ended z
 does x z n t r (Refuse f) = Err f
 does x z n t r Skip = shown_in x z n (Inside t 0) r
 
--- the rest is what is left behind this token, which stands in the tokens behind so many others
-pub record Behind (t : Token) (ts r : List Token) : Type 0 where
+-- the rest is what is left after this token, which is in the tokens after so many others
+pub record After (t : Token) (ts r : List Token) : Type 0 where
   pub past : ℕ
   pub inside : past < length ts
   pub there : slice_get ts past ≡ Some t
   pub tail : r ≡ drop (suc past) ts
 
-one_more : (t u : Token) (ts r : List Token) → Behind t ts r → Behind t (u ∷ ts) r
+one_more : (t u : Token) (ts r : List Token) → After t ts r → After t (u ∷ ts) r
 one_more t u ts r b = record { past = suc b.past; inside = omega (arith, b.inside); there = b.there; tail = b.tail }
 
-pub behind_shorter : (t : Token) (ts r : List Token) → Behind t ts r → length r < length ts
-behind_shorter t ts r b = omega (arith, b.inside, ap length b.tail, length-drop (suc b.past) ts)
+pub after_shorter : (t : Token) (ts r : List Token) → After t ts r → length r < length ts
+after_shorter t ts r b = omega (arith, b.inside, ap length b.tail, length-drop (suc b.past) ts)
 
 not_ended : (z : Option LexFault) (t : Token) (r : List Token) → ended z ≡ Ok (Some (t, r)) → ⊥
 not_ended None t r e = cc
@@ -57,25 +57,25 @@ rest_of d (Err f) = d
 pub same_token : {A B F : Type 0} (t u : A) (r q : B) → ◌≡◌ {A = Result (Option (A × B)) F} (Ok (Some (t, r))) (Ok (Some (u, q))) → (t ≡ u) × (r ≡ q)
 same_token t u r q e = (ap (token_of t) e, ap (rest_of r) e)
 
--- what is left behind a shown token
-pub behind_in : (x : List ℕ) (z : Option LexFault) (n : Names) (m : Mode) (ts : List Token) (t : Token) (r : List Token) → shown_in x z n m ts ≡ Ok (Some (t, r)) → Behind t ts r
+-- what is left after a shown token
+pub after_in : (x : List ℕ) (z : Option LexFault) (n : Names) (m : Mode) (ts : List Token) (t : Token) (r : List Token) → shown_in x z n m ts ≡ Ok (Some (t, r)) → After t ts r
 unfolding shown_in
-behind_in x z n Showing [] t r e = absurd (not_ended z t r e)
-behind_in x z n (Inside o d) [] t r e = absurd (not_left z o t r e)
-behind_in x z n Showing (u ∷ us) t r e = (elim (step_of x n u (first us)) as (λ k. does x z n u us k ≡ Ok (Some (t, r)) → Behind t (u ∷ us) r) [
-  | Pass ↦ λ h. one_more t u us r (behind_in x z n Showing us t r h)
+after_in x z n Showing [] t r e = absurd (not_ended z t r e)
+after_in x z n (Inside o d) [] t r e = absurd (not_left z o t r e)
+after_in x z n Showing (u ∷ us) t r e = (elim (step_of x n u (first us)) as (λ k. does x z n u us k ≡ Ok (Some (t, r)) → After t (u ∷ us) r) [
+  | Pass ↦ λ h. one_more t u us r (after_in x z n Showing us t r h)
   | Take ↦ λ h. let k = same_token u t us r h in record { past = 0; inside = omega arith; there = ap Some k.0; tail = sym k.1 }
   | Finish ↦ λ h. absurd (not_ended z t r h)
   | Refuse f ↦ λ h. cc
-  | Skip ↦ λ h. one_more t u us r (behind_in x z n (Inside u 0) us t r h)
+  | Skip ↦ λ h. one_more t u us r (after_in x z n (Inside u 0) us t r h)
 ]) e
-behind_in x z n (Inside o d) (u ∷ us) t r e = one_more t u us r (behind_in x z n (after u.kind o d) us t r e)
+after_in x z n (Inside o d) (u ∷ us) t r e = one_more t u us r (after_in x z n (after u.kind o d) us t r e)
 
 pub forward_in : (x : List ℕ) (z : Option LexFault) (n : Names) (m : Mode) (ts : List Token) (t : Token) (r : List Token) → shown_in x z n m ts ≡ Ok (Some (t, r)) → length r < length ts
-forward_in x z n m ts t r e = behind_shorter t ts r (behind_in x z n m ts t r e)
+forward_in x z n m ts t r e = after_shorter t ts r (after_in x z n m ts t r e)
 
--- this token is shown at a place: it stands right before a later place, and what is left behind it is the tail there
-pub record BehindPlace (t : Token) (ts : List Token) (p : ℕ) (r : List Token) : Type 0 where
+-- this token is shown at a place: it comes right before a later place, and what is left after it is the tail there
+pub record AfterPlace (t : Token) (ts : List Token) (p : ℕ) (r : List Token) : Type 0 where
   pub forward : p < length ts - length r
   pub inside : length ts - length r ≤ length ts
   pub there : slice_get ts (length ts - length r - 1) ≡ Some t
@@ -86,8 +86,8 @@ get_of_tail ts zero i = let e : i ≡ 0 + i = omega arith in ap (slice_get ts) e
 get_of_tail [] (suc p) i = refl
 get_of_tail (t ∷ ts) (suc p) i = let e : suc (p + i) ≡ suc p + i = omega arith in get_of_tail ts p i ∙ ap (slice_get (t ∷ ts)) e
 
-pub behind_place : (t : Token) (ts : List Token) (p : ℕ) (r : List Token) → Behind t (drop p ts) r → BehindPlace t ts p r
-behind_place t ts p r b =
+pub after_place : (t : Token) (ts : List Token) (p : ℕ) (r : List Token) → After t (drop p ts) r → AfterPlace t ts p r
+after_place t ts p r b =
     let e : r ≡ drop (p + (suc b.past)) ts = b.tail ∙ drop-drop _ _ ts in
     let h : length ts - length r ≡ p + (suc b.past) = omega (arith, b.inside, ap length e, length-drop (p + (suc b.past)) ts, length-drop p ts) in
     let k : length ts - length r - 1 ≡ p + b.past = omega (arith, h) in
@@ -114,12 +114,12 @@ end_at : (ts : List Token) (q : ℕ) (t : Token) → 0 < q → slice_get ts (q -
 end_at ts zero t l e = absurd (omega arith)
 end_at ts (suc q) t l e = let k : q ≡ suc q - 1 = omega arith in ap (λ i. end_of (slice_get ts i)) k ∙ ap end_of e
 
--- the place behind a shown token is further on, within the tokens, and the token ends there
+-- the place after a shown token is further on, within the tokens, and the token ends there
 pub shown_is_taken : ShownIsTaken
 unfolding shown
 shown_is_taken s p n t q e =
     let k = from_token s.tokens (shown_in s.setting.text s.ending n Showing (drop p s.tokens)) t q e in
-    let b = behind_place t s.tokens p k.0 (behind_in s.setting.text s.ending n Showing (drop p s.tokens) t k.0 k.1) in
+    let b = after_place t s.tokens p k.0 (after_in s.setting.text s.ending n Showing (drop p s.tokens) t k.0 k.1) in
     let l : p < q = omega (arith, b.forward, k.2) in
     let f = ap (λ i. slice_get s.tokens (i - 1)) (sym k.2) ∙ b.there in
     (l, omega (arith, b.inside, k.2), f, end_at s.tokens q t (omega arith) f)
