@@ -3,6 +3,7 @@
 
 mod layer;
 mod pictures;
+mod printed;
 mod proved;
 mod row;
 

@@ -1,6 +1,7 @@
 //! Whole texts that are read as a type.
 
 use super::lexing;
+use crate::printed::printed;
 use crate::row::Row;
 use std::fmt::Debug;
 use wat_lex::proved::error::Error;
@@ -25,15 +26,9 @@ impl Word for Spaceship {
     }
 }
 
-/// The value that a whole text is read as, with `_` for a type's name.
+/// The value that a whole text is read as.
 fn value<'a, T: Parse<'a> + Debug>(buffer: &'a ParseBuffer<'a>) -> Result<String, Error> {
-    let value = format!("{:?}", parse::<T>(buffer)?);
-    let of_type = value.split_once("PhantomData<");
-    let named = of_type.and_then(|(before, rest)| Some((before, rest.rsplit_once('>')?.1)));
-    Ok(match named {
-        Some((before, after)) => format!("{before}PhantomData<_>{after}"),
-        None => value,
-    })
+    Ok(printed(&parse::<T>(buffer)?))
 }
 
 /// Types at the ends of their lists, one with a word of one's own, a number and an optional identifier.
