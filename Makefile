@@ -12,8 +12,10 @@
 ## make install        both, header and wat.pc (PREFIX, DESTDIR; BY=rattle: by Rattle's own compilers)
 ## make program        the program, rust/target/release/wat_tokens
 ## make tests          the tests of the Rust packages
-## make checks         what takes seconds: edits, documents, names, the erased text
+## make checks         what takes a minute or two: edits, documents, names, the version, the erased text
 ## make gate           rt ci: proves every crate, tries wrong bodies, runs tests and programs
+## make parts          the parts of all that CI checks: group, name, command
+## make part OF=NAME   runs one of them, or a group; all of them: .ci/run
 ## make edits OF=NAME  tries the wrong bodies of a function, of a crate, or of this name
 ## make readme         runs the commands of README.md and docs/COMMAND-LINE.md
 
@@ -22,12 +24,12 @@ CARGO ?= cargo
 CARGO_TARGET_DIR ?= rust/target
 override CARGO_TARGET_DIR := $(abspath $(CARGO_TARGET_DIR))
 export CARGO_TARGET_DIR
-version := $(shell sed -n 's/^\#define WAT_VERSION_TEXT "\(.*\)"/\1/p' include/wat.h)
+version := $(shell sed -n 's/^version = "\(.*\)"/\1/p' rust/Cargo.toml)
 major := $(firstword $(subst ., ,$(version)))
 includes := $(DESTDIR)$(PREFIX)/include
 libraries := $(DESTDIR)$(PREFIX)/lib
 
-.PHONY: all install install-shared help program tests checks gate edits readme
+.PHONY: all install install-shared help program tests checks parts part gate edits readme
 ifeq ($(BY),rattle)
 
 folder := crates/wat_parser_c/out
@@ -84,13 +86,13 @@ tests:
 	cd rust && $(CARGO) test --locked --workspace
 
 checks:
-	tools/edits.py check
-	tools/check_evidence.py
-	tools/check_words.py
-	tools/check_names.py
-	tools/make_quick_start.py --check
-	tools/definitions.py --check
-	tools/erase/check.py --committed
+	.ci/run quick
+
+parts:
+	@.ci/run --list
+
+part:
+	.ci/run $(OF)
 
 gate:
 	rt ci

@@ -40,7 +40,7 @@ function ran(words, input) {
 const flagsOf = (words) => Object.fromEntries(words.filter((word) => word in FLAGS).map((word) => [FLAGS[word], true]));
 const lineOf = (tokens, i) => `${tokens.start(i)}..${tokens.end(i)} ${tokens.kind(i)}\n`;
 
-const told = { stored: 0, tokens: 0, faults: 0, edits: 0, stretches: 0, signatures: 0, counting: 0, wrong: 0, modules: 0, refused: 0, other: [] };
+const seen = { stored: 0, tokens: 0, faults: 0, edits: 0, stretches: 0, signatures: 0, counting: 0, wrong: 0, modules: 0, refused: 0, other: [] };
 
 // What the program prints, on both streams.
 function compareTokens(name, bytes, words) {
@@ -55,9 +55,9 @@ function compareTokens(name, bytes, words) {
   const list = rows.join('');
   const fault = found.ending === 'faulty' ? `${found.message}\n` : '';
   const its = ran(words, bytes);
-  told.tokens += found.count;
-  told.faults += fault ? 1 : 0;
-  if (list !== its.list || fault !== its.fault) told.other.push(name);
+  seen.tokens += found.count;
+  seen.faults += fault ? 1 : 0;
+  if (list !== its.list || fault !== its.fault) seen.other.push(name);
   return list;
 }
 
@@ -67,18 +67,18 @@ function compareParts(bytes, flags, times, chance) {
   reader.readOn();
   compare(reader, lexer, flags);
   if (times > 0) editOften(reader, lexer, bytes.toString(), times, chance);
-  for (let i = 0; i < AHEAD; i += 1) told.stretches += readAhead(reader, lexer, bytes, flags, chance);
-  told.edits += times;
+  for (let i = 0; i < AHEAD; i += 1) seen.stretches += readAhead(reader, lexer, bytes, flags, chance);
+  seen.edits += times;
 }
 
 // What tools/layout.py answers.
 function compareLayouts(files) {
   const its = spawnSync('python3', [here('../tools/compare_layouts.py'), '--alone', here('laid.mjs'), ...files], { maxBuffer: 2 ** 30 });
   console.log(its.stdout.toString().trim());
-  if (its.status !== 0) told.other.push(`layouts: ${its.stderr}`);
+  if (its.status !== 0) seen.other.push(`layouts: ${its.stderr}`);
 }
 
-// How the program tells what is wrong with an annotation, as far as that is compared: not the rendered line.
+// How the program says what is wrong with an annotation, as far as that is compared: not the rendered line.
 function beginningOf({ what, offset }, bytes) {
   if (what.startsWith('unclosed')) return `${what} at byte offset ${offset}\n`;
   const line = bytes.subarray(0, offset).toString('latin1').split('\n').length;
@@ -93,11 +93,11 @@ function compareCounts(name, bytes, words, names) {
   const its = ran([...words, 'sig', ...names], bytes);
   const list = Array.from(numbers, (i) => lineOf(tokens, i)).join('');
   const fault = wrong ? beginningOf(wrong, bytes) : found.ending === 'faulty' ? `${found.message}\n` : '';
-  told.signatures += 1;
-  told.counting += numbers.length;
-  told.wrong += wrong ? 1 : 0;
+  seen.signatures += 1;
+  seen.counting += numbers.length;
+  seen.wrong += wrong ? 1 : 0;
   const isSame = list === its.list && its.isRefused === Boolean(wrong || found.ending === 'faulty') && its.fault.startsWith(fault);
-  if (!isSame) told.other.push(`${name}: sig ${names.join(' ')}`);
+  if (!isSame) seen.other.push(`${name}: sig ${names.join(' ')}`);
 }
 
 // What `types` writes.
@@ -105,8 +105,8 @@ function compareTypes(name, bytes) {
   const found = readWhole(bytes, {});
   const mine = found.ending === 'whole' ? compileTypes(new Tokens(found), found.bytes) : null;
   const its = ran(['types'], bytes);
-  told[mine ? 'modules' : 'refused'] += 1;
-  if (its.isRefused ? mine !== null : mine === null || !its.output.equals(mine)) told.other.push(`${name}: types`);
+  seen[mine ? 'modules' : 'refused'] += 1;
+  if (its.isRefused ? mine !== null : mine === null || !its.output.equals(mine)) seen.other.push(`${name}: types`);
 }
 
 const chance = new Chance(1), editing = new Chance(2);
@@ -146,8 +146,8 @@ for (const name of readdirSync(folder).filter((it) => existsSync(`${folder}${it}
   const isSignature = words[flags.length] === 'sig';
   if (words.length === flags.length) {
     const list = compareTokens(name, bytes, words);
-    if (list !== readFileSync(`${folder}${name}.stdout`, 'utf8')) told.other.push(`${name}.stdout`);
-    told.stored += 1;
+    if (list !== readFileSync(`${folder}${name}.stdout`, 'utf8')) seen.other.push(`${name}.stdout`);
+    seen.stored += 1;
   }
   for (const names of isSignature ? [words.slice(flags.length + 1), ...NAMES] : NAMES) compareCounts(name, bytes, flags, names);
   compareTypes(name, bytes);
@@ -163,7 +163,7 @@ if (generated.error) throw generated.error;
 const text = generated.stdout;
 compareTokens('generated', text, []);
 compareParts(text, {}, 0, editing);
-told.stretches += readAhead(reader, lexer, text, {}, editing, 200_000);
+seen.stretches += readAhead(reader, lexer, text, {}, editing, 200_000);
 for (let at = 0; at < 20; at += 1) compareParts(text.subarray(at * 400_000, at * 400_000 + (at % 4 === 0 ? 300_000 : 20_000)), {}, 2 * EDITS, editing);
 for (const names of [[], ['custom']]) compareCounts('generated', text, [], names);
 compareLayouts(readdirSync(folder).filter((it) => existsSync(`${folder}${it}.stdout`)).map((it) => folder + it));
@@ -176,5 +176,7 @@ for (const strict of [false, true]) {
   }
   console.log(`generated text of ${text.length} bytes: ${Math.min(...times).toFixed(1)} ms at best of ${times.length}`);
 }
-console.log(told);
-process.exit(told.other.length > 0 || told.stored === 0 || told.modules === 0 ? 1 : 0);
+const { other, ...counts } = seen;
+for (const name of other.slice(0, 20)) console.log(`other than the program: ${name.slice(0, 200)}`);
+console.log(`agree.mjs: ${Object.entries(counts).map(([what, count]) => `${what} ${count}`).join(', ')}; ${other.length} differ`);
+process.exit(other.length > 0 || seen.stored === 0 || seen.modules === 0 ? 1 : 0);

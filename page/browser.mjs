@@ -60,7 +60,7 @@ async function visit(address) {
   await send('Page.navigate', { url: 'about:blank' });
   await send('Page.navigate', { url: address });
   for (let i = 0; i < 200 && !(await ask("document.body?.dataset.ready === 'yes'").catch(() => false)); i += 1) await pause(50);
-  assert.equal(await ask('document.body.dataset.ready'), 'yes', await ask("document.querySelector('#told')?.textContent"));
+  assert.equal(await ask('document.body.dataset.ready'), 'yes', await ask("document.querySelector('#report')?.textContent"));
 }
 
 // What the page shows: its pieces in order, its message, its mark and its state.
@@ -72,7 +72,7 @@ const SHOWN = `({
   line: document.querySelector('#fault') ? Number(document.querySelector('#numbers').textContent.split('\\n')[[...document.querySelectorAll('#seen > .line')].indexOf(document.querySelector('#fault').parentElement)]) : null,
   numbers: document.querySelector('#numbers').textContent.split('\\n').map(Number),
   carets: document.querySelectorAll('.caret').length,
-  told: document.querySelector('#told').textContent,
+  report: document.querySelector('#report').textContent,
   size: document.querySelector('#size').textContent,
   counted: document.querySelector('#counted').textContent,
   bytes: document.querySelector('#bytes-part').hidden ? null : document.querySelector('#bytes').textContent.split('\\n').map((it) => it.slice(10)).join(' '),
@@ -83,7 +83,7 @@ const SHOWN = `({
   matched: [...document.querySelectorAll('.match')].map((it) => Number(it.dataset.from)),
 })`;
 
-// The token that the list stands at once the text area's cursor is at a place.
+// The token that the list is at once the text area's cursor is at a place.
 const heldAt = (place) => ask(`{ const it = document.querySelector('#text'); it.focus(); it.setSelectionRange(${place}, ${place}); document.dispatchEvent(new Event('selectionchange')); } ${SHOWN}`).then((page) => page.held);
 
 // Types into the text area, which an example brings back where a text was only shown.
@@ -170,14 +170,14 @@ async function droppedTexts() {
   for (const [refused, size, text] of [['Blob.prototype.arrayBuffer', 2, '(dropped)'], ['WebAssembly.Memory.prototype.grow', 1e6, '']]) {
     await ask(`window.kept = ${refused}; ${refused} = () => { throw new RangeError('refused'); };`);
     page = await dropped(size, text);
-    assert.deepEqual([page.told, page.text], ['The file could not be read: RangeError: refused', text]);
+    assert.deepEqual([page.report, page.text], ['The file could not be read: RangeError: refused', text]);
     await ask(`${refused} = window.kept;`);
   }
   assert.equal((await dropped(1, '(dropped)')).text, '(dropped)');
   page = await drop('a\rb\n');
   assert.deepEqual([page.text, page.isEdited], ['a\rb\n', false]);
   page = await drop(Buffer.from([40, 255]));
-  assert.match(page.told, /not UTF-8 from byte 1 on/);
+  assert.match(page.report, /not UTF-8 from byte 1 on/);
   const folder = here('../crates/wat_tokens/agreement/');
   const FLAGS = { '--allow-confusing': 'allow', '--strict-underscores': 'strict' };
   let texts = 0, faults = 0;
@@ -188,15 +188,15 @@ async function droppedTexts() {
     for (const [word, id] of Object.entries(FLAGS)) await ask(`document.querySelector('#${id}').checked = ${words.includes(word)}`);
     page = await drop(bytes);
     const ran = spawnSync(program, words, { input: bytes });
-    const told = ran.stderr.toString();
+    const report = ran.stderr.toString();
     assert.equal(page.text, bytes.toString(), name);
     assert.equal(page.pieces.map((it) => it[1]).join(''), bytes.toString(), name);
-    assert.equal(page.message + (page.message && '\n'), told, name);
-    if (told) {
+    assert.equal(page.message + (page.message && '\n'), report, name);
+    if (report) {
       const lines = bytes.subarray(0, page.fault).toString('latin1').split('\n').length;
-      const [line, column] = /<anon>:(\d+):(\d+)/.exec(told).slice(1);
+      const [line, column] = /<anon>:(\d+):(\d+)/.exec(report).slice(1);
       assert.equal(page.line, lines, name);
-      assert.ok(page.told.startsWith(`Line ${line}, column ${column}: `), `${name}: ${page.told}`);
+      assert.ok(page.report.startsWith(`Line ${line}, column ${column}: `), `${name}: ${page.report}`);
       const rows = ran.stdout.toString().trim().split('\n').filter(Boolean);
       const end = rows.length > 0 ? Number(/\.\.(\d+)/.exec(rows.at(-1))[1]) : 0;
       assert.ok(page.fault >= end && page.fault <= bytes.length, name);
@@ -337,7 +337,7 @@ async function examples() {
 
 async function theFault() {
   let page = await type(`${'\n'.repeat(100)}  "\\q"`);
-  assert.equal(page.told, "Line 101, column 5: invalid string escape 'q'");
+  assert.equal(page.report, "Line 101, column 5: invalid string escape 'q'");
   await ask("document.querySelector('#go').focus()");
   await key('Enter');
   assert.deepEqual(await ask("[document.activeElement.id, document.querySelector('#text').selectionStart, document.querySelector('#text').scrollTop > 0]"), ['text', 104, true]);
@@ -345,7 +345,7 @@ async function theFault() {
   page = await press('#go');
   assert.deepEqual([await ask("document.querySelector('#text').selectionStart"), page.fault, page.line], [104, 104, 101]);
   page = await type('(a)');
-  assert.deepEqual([page.told, page.size, await ask("document.querySelector('#go').hidden")], ['No fault.', '3 tokens, 3 bytes.', true]);
+  assert.deepEqual([page.report, page.size, await ask("document.querySelector('#go').hidden")], ['No fault.', '3 tokens, 3 bytes.', true]);
 }
 
 async function whatCounts() {
@@ -391,7 +391,7 @@ async function links() {
   assert.equal(page.counted, '11 tokens of 16 count.');
   await ask("location.hash = '#text=x'");
   await pause(200);
-  assert.match(await ask("document.querySelector('#told').textContent"), /^The link could not be read/);
+  assert.match(await ask("document.querySelector('#report').textContent"), /^The link could not be read/);
   assert.equal((await ask(SHOWN)).text, text);
   await visit(origin);
 }
@@ -419,7 +419,7 @@ async function formatting() {
     assert.equal(await ask("document.querySelector('#formatted').textContent"), '');
     await heldAt(text.indexOf('end') + 1);
   }
-  // Whatever stands in it, the layout comes as it is, and goes again.
+  // Whatever is in it, the layout comes as it is, and goes again.
   for (const given of ['\n\n( a "&lt;<b>&#60;" )  ;; \t&amp; \u00a0\u2028\u000c x \n\n\n(b)\t', '( a ;; \0\n)', '\t\n', `( a )\n${'(b\n( c )\n\n\n)'.repeat(2000)}`]) {
     await type(given);
     await press('#format');
@@ -430,10 +430,10 @@ async function formatting() {
   }
   // What cannot be formatted stays as it is, and the page says why.
   const deep = '(a\n'.repeat(25_000);
-  for (const [given, told] of [[laid, 'The text is formatted already.'], ['', 'The text is formatted already.'], ['( a "', 'A text with a fault is not formatted.'], [deep, 'Formatted it would have more than a megabyte, and is left as it is.']]) {
+  for (const [given, answer] of [[laid, 'The text is formatted already.'], ['', 'The text is formatted already.'], ['( a "', 'A text with a fault is not formatted.'], [deep, 'Formatted it would have more than a megabyte, and is left as it is.']]) {
     await type(given);
     await press('#format');
-    assert.deepEqual([await ask("document.querySelector('#formatted').textContent"), await valueOf('text')], [told, given]);
+    assert.deepEqual([await ask("document.querySelector('#formatted').textContent"), await valueOf('text')], [answer, given]);
   }
   await drop('( a )\r');
   assert.equal((await press('#format')).text, '( a )\r');
@@ -453,7 +453,7 @@ async function byKeyboard() {
     for (let i = 0; i < 30 && (await here()) !== id; i += 1) await key('Tab');
     assert.equal(await here(), id);
   };
-  const told = (id) => ask(`document.querySelector('#${id}').textContent`);
+  const textOf = (id) => ask(`document.querySelector('#${id}').textContent`);
   await goTo('example');
   await key('End');
   const reached = [];
@@ -464,8 +464,8 @@ async function byKeyboard() {
   assert.deepEqual(reached, ['example', 'file', 'format', 'share', 'allow', 'strict', 'go', 'text', 'message', 'counts', 'names', 'list']);
   await goTo('share');
   await key('Enter');
-  for (let i = 0; i < 100 && !(await told('shared')); i += 1) await pause(20);
-  assert.match(await told('shared'), /^The link is/);
+  for (let i = 0; i < 100 && !(await textOf('shared')); i += 1) await pause(20);
+  assert.match(await textOf('shared'), /^The link is/);
   await goTo('go');
   await key('Enter');
   assert.deepEqual([await here(), (await ask(SHOWN)).fault], ['text', await ask("new TextEncoder().encode(document.querySelector('#text').value.slice(0, document.querySelector('#text').selectionStart)).length")]);
@@ -479,7 +479,7 @@ async function byKeyboard() {
   await send('Input.insertText', { text: '(@a ( b )) ' });
   await goTo('format');
   await key('Enter');
-  assert.equal(await told('formatted'), 'A text with a fault is not formatted.');
+  assert.equal(await textOf('formatted'), 'A text with a fault is not formatted.');
   await goTo('allow');
   await key(' ');
   await goTo('format');
@@ -538,7 +538,7 @@ async function access() {
 // Times of the page's own work on a whole text: encoding, reading, lines, and drawing what is in sight. A megabyte is typed into, and
 // ten are opened again and again.
 // Runs in the page: edits the text area at random, and tells what then differs between what it holds, what is shown, and what is shown once
-// all of the text is read anew.
+// all of the text is read again.
 function retypeOften(times, lineEnd, shown) {
   const PIECES = ['"', '\\', '(;', ';)', ';;', ';', '(', ')', '@', '$', 'x', '0x1', ' ', '\t', '\n', '\n\n', '\u00e9', '\u6f22', '\u{1f600}', '\u202e'];
   const it = document.querySelector('#text');
@@ -558,9 +558,9 @@ function retypeOften(times, lineEnd, shown) {
     it.dispatchEvent(new Event('input'));
     const before = shown();
     for (let j = 0; j < 2; j += 1) document.querySelector('#strict').click();
-    const anew = shown();
+    const again = shown();
     const text = it.value.replaceAll('\n', lineEnd);
-    if (before.text !== text || JSON.stringify(before) !== JSON.stringify(anew)) return { i, text, before, anew };
+    if (before.text !== text || JSON.stringify(before) !== JSON.stringify(again)) return { i, text, before, again };
   }
   return null;
 }
@@ -642,7 +642,7 @@ async function openLong(name, text) {
   }
 }
 
-// Texts that workers read ahead, whatever stands where a stretch begins; and one where the workers fail.
+// Texts that workers read ahead, whatever is where a stretch begins; and one where the workers fail.
 async function longTexts() {
   const text = generatedText(4).toString();
   const middle = text.indexOf('\n', text.length / 2);
@@ -659,7 +659,7 @@ async function longTexts() {
   await visit(origin);
 }
 
-// What stands in the middle of a long text.
+// What is in the middle of a long text.
 async function theMiddle(bytes, box) {
   await ask(`document.querySelector('${box}').scrollTop = document.querySelector('${box}').scrollHeight / 2`);
   await pause(200);
@@ -673,13 +673,13 @@ async function theMiddle(bytes, box) {
 async function timesOfTyping() {
   const bytes = generatedText(1);
   const page = await drop(bytes);
-  assert.deepEqual([page.ending, page.isEdited], ['whole', true], page.told);
+  assert.deepEqual([page.ending, page.isEdited], ['whole', true], page.report);
   await theMiddle(bytes, '#text');
   const line = (place) => bytes.toString().indexOf('\n', place) + 1;
   for (const [times, name, place, piece] of [[26, 'a letter in the middle', bytes.length / 2, 'x'], [10, 'a letter in front', 0, 'x'], [10, 'a quote in the middle', bytes.length / 2, '"'], [6, 'a comment in front', 0, '(;']]) {
     tell(bytes, name, await ask(`(${typeOften})(${times}, ${line(place)}, ${JSON.stringify(piece)}, () => ${LAST})`));
   }
-  await tellEach(bytes, 'read anew', 25, async () => {
+  await tellEach(bytes, 'read again', 25, async () => {
     const before = await ask(READ);
     await ask("document.querySelector('#strict').click()");
     await ask(untilReadSince(before));
@@ -698,8 +698,8 @@ async function timesOfOpening() {
       await visit(origin);
       console.log(`  ${generated.length} bytes, the module alone: ${best(await ask(`(${readOften})(15)`))}`);
       const page = await drop(generated);
-      assert.deepEqual([page.ending, page.isEdited], ['whole', false], page.told);
-      await tellEach(generated, `opened, ${hardwareConcurrency} processors told`, 15, () => drop(generated));
+      assert.deepEqual([page.ending, page.isEdited], ['whole', false], page.report);
+      await tellEach(generated, `opened, ${hardwareConcurrency} processors`, 15, () => drop(generated));
     }
   }
   await send('Emulation.setHardwareConcurrencyOverride', { hardwareConcurrency: processors });
@@ -747,12 +747,12 @@ try {
   await typedTexts();
   await send('Page.addScriptToEvaluateOnNewDocument', { source: 'WebAssembly.validate = () => false;' });
   await send('Page.navigate', { url: origin });
-  for (let i = 0; i < 100 && !/memory/.test(await ask("document.querySelector('#told')?.textContent ?? ''")); i += 1) await pause(50);
-  assert.match(await ask("document.querySelector('#told').textContent"), /no 64-bit WebAssembly memory/);
+  for (let i = 0; i < 100 && !/memory/.test(await ask("document.querySelector('#report')?.textContent ?? ''")); i += 1) await pause(50);
+  assert.match(await ask("document.querySelector('#report').textContent"), /no 64-bit WebAssembly memory/);
   assert.ok(await ask("[...document.querySelectorAll('main :is(button, input, select, textarea)')].every((it) => it.disabled)"));
   const bad = events.filter((it) => it.method === 'Runtime.exceptionThrown' || (it.method === 'Runtime.consoleAPICalled' && it.params.type === 'error') || (it.method === 'Log.entryAdded' && it.params.entry.level === 'error'));
   assert.deepEqual(bad, []);
-  // What the page's policy refuses is told in the console.
+  // What the page's policy refuses is reported in the console.
   for (const address of [origin, pathToFileURL(here('out/wat.html')).href]) {
     await send('Page.navigate', { url: address });
     await pause(500);

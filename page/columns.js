@@ -3,7 +3,7 @@
 const TAB = 9;
 const STOPS = 4;
 
-// The character that begins at a byte, and the byte behind it.
+// The character that begins at a byte, and the byte after it.
 function characterAt(bytes, at) {
   const first = bytes[at];
   if (first < 0x80) return [first, at + 1];
@@ -27,24 +27,24 @@ export class Columns {
     return this.others.get(code);
   }
 
-  // Where the character behind one that stands at `x` stands. A tab has half a character's width at least.
-  behind(x, code) {
+  // Where the character after one that is at `x` is. A tab has half a character's width at least.
+  after(x, code) {
     const stop = STOPS * this.width;
     return code === TAB ? Math.ceil((x + this.width / 2) / stop) * stop : x + this.widthOf(code);
   }
 
-  // From a byte that stands at `x` on, the first that stands at `wanted` or behind it, or where the line ends; and where it stands.
+  // From a byte that is at `x` on, the first that is at `wanted` or after it, or where the line ends; and where it is.
   reach(bytes, from, to, wanted, x = 0) {
     let at = from, here = x;
     while (at < to && here < wanted) {
       const [code, next] = characterAt(bytes, at);
-      here = this.behind(here, code);
+      here = this.after(here, code);
       at = next;
     }
     return { at, x: here };
   }
 
-  // The bytes of a line between two places in pixels, and where the first of them stands: so far behind a stop of the tabs.
+  // The bytes of a line between two places in pixels, and where the first of them is: so far after a stop of the tabs.
   part(bytes, from, to, left, right) {
     const first = this.reach(bytes, from, to, left);
     const beyond = first.x % (STOPS * this.width);

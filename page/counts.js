@@ -5,11 +5,11 @@ import { ANNOTATION, AT_SIGN, OPENING } from './tokens.js';
 
 const SHOWN = {};
 
-// What becomes of a parenthesis with `@` directly behind it: it is shown, or one skips to the token behind its group, or something is wrong
+// What becomes of a parenthesis with `@` directly after it: it is shown, or one skips to the token after its group, or something is wrong
 // with it, and where. Where the text's fault takes the place of what follows, one skips all tokens.
 function skip(tokens, bytes, names, i) {
   const annotation = i + 1;
-  if (annotation === tokens.count) return { behind: Infinity };
+  if (annotation === tokens.count) return { after: Infinity };
   if (tokens.code(annotation) !== ANNOTATION) return SHOWN;
   const offset = tokens.start(annotation);
   const name = nameOf(decoder.decode(bytes.subarray(offset, tokens.end(annotation))));
@@ -18,7 +18,7 @@ function skip(tokens, bytes, names, i) {
   if (names.has(name)) return SHOWN;
   const last = tokens.partner(i);
   if (last < 0 && tokens.isWhole) return { wrong: { what: 'unclosed annotation', offset } };
-  return { behind: last < 0 ? Infinity : last + 1 };
+  return { after: last < 0 ? Infinity : last + 1 };
 }
 
 // The numbers of the tokens that count, at most so many; and what is wrong with an annotation where they end before the text.
@@ -30,9 +30,9 @@ export function whatCounts(tokens, bytes, names, most = tokens.count) {
     numbers[count] = i;
     count += 1;
     if (tokens.code(i) !== OPENING || bytes[tokens.end(i)] !== AT_SIGN) continue;
-    const { behind = i + 1, wrong = null } = skip(tokens, bytes, names, i);
-    if (behind > i + 1 || wrong) count -= 1;
-    i = behind - 1;
+    const { after = i + 1, wrong = null } = skip(tokens, bytes, names, i);
+    if (after > i + 1 || wrong) count -= 1;
+    i = after - 1;
     error = wrong;
   }
   return { numbers: numbers.subarray(0, count), wrong: error };

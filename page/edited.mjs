@@ -22,8 +22,8 @@ export class Chance {
 export function readOnce(lexer, bytes, flags) {
   lexer.reserve(bytes.length);
   lexer.bytes(bytes.length).set(bytes);
-  const told = lexer.render(0, bytes.length, bytes.length, flags);
-  return { ...told, bytes: lexer.bytes(bytes.length) };
+  const found = lexer.render(0, bytes.length, bytes.length, flags);
+  return { ...found, bytes: lexer.bytes(bytes.length) };
 }
 
 const isSame = (one, other) => Buffer.from(one.slice().buffer).equals(Buffer.from(other.slice().buffer));
@@ -38,7 +38,7 @@ export function compare(reader, lexer, flags) {
   assert.deepEqual([reader.lines.count, reader.lines.before], [lines.count, lines.before], 'lines');
 }
 
-// Reads a text of which stretches are read elsewhere, wherever they begin, told in any order, and some of them not at all. Tells how many were told.
+// Reads a text of which stretches are read elsewhere, wherever they begin, given in any order, and some of them not at all. Answers how many were given.
 export function readAhead(reader, lexer, bytes, flags, chance, least = 0) {
   const awaited = [];
   const size = () => 1 + least + chance.below(chance.oneOf([4000, 300, 20]));

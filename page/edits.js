@@ -25,7 +25,7 @@ function commonAtEnd(one, other, most) {
 const isFirstOfPair = (unit) => unit >= 0xd800 && unit < 0xdc00;
 const isSecondOfPair = (unit) => unit >= 0xdc00 && unit < 0xe000;
 
-// The part of a text, from one unit to another, in whose place another part stands in a new text. No pair of surrogates is parted.
+// The part of a text, from one unit to another, in whose place another part is in a new text. No pair of surrogates is parted.
 export function changeOf(before, after) {
   const least = Math.min(before.length, after.length);
   let from = common(before, after, 0, 0, least);
@@ -43,7 +43,7 @@ function unitsOf(first) {
   return first < 0xf0 ? 1 : 2;
 }
 
-// The byte that a text area's place stands for. The last one is kept, since the next is mostly near it; it holds as long as the text in
+// The byte at a text area's place. The last one is kept, since the next is mostly near it; it holds as long as the text in
 // front of it does.
 export class Places {
   #units = 0;

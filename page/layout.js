@@ -1,4 +1,4 @@
-// A text laid out: its tokens as they are and its line ends where they are, each line indented anew, and any other gap by the two tokens beside
+// A text laid out: its tokens as they are and its line ends where they are, each line indented again, and any other gap by the two tokens beside
 // it. docs/FORMAT.md has the rules.
 import { decoder } from './lexer.js';
 import { CARRIAGE_RETURN, LINE_FEED } from './lines.js';
@@ -11,7 +11,7 @@ const MARKS = new Set(Array.from(',;[]{}', (it) => it.charCodeAt(0)));
 const BLOCK_WORDS = { block: 'begins', loop: 'begins', if: 'begins', try: 'begins', try_table: 'begins', end: 'ends', delegate: 'ends', else: 'parts', catch: 'parts', catch_all: 'parts' };
 const LONGEST_WORD = Math.max(...Object.keys(BLOCK_WORDS).map((word) => word.length));
 
-// What stands between two tokens: so many line ends, where more than two are two, or else so many blanks.
+// What is between two tokens: so many line ends, where more than two are two, or else so many blanks.
 const TOUCHING = { ends: 0, blanks: 0 }, ONE_BLANK = { ends: 0, blanks: 1 }, LINE_END = { ends: 1, blanks: 0 };
 
 function gapOf(bytes, from, to) {
@@ -37,7 +37,7 @@ function settled(before, sort, gap) {
   return sort === 'close' ? TOUCHING : ONE_BLANK;
 }
 
-// Bytes, one behind another.
+// Bytes, one after another.
 class Written {
   #bytes = new Uint8Array(1 << 16);
   length = 0;
@@ -99,7 +99,7 @@ class Layout {
 
   constructor(tokens, bytes) { Object.assign(this, { tokens, bytes }); }
 
-  // What the rules tell apart among tokens. Directly behind `(` a keyword is the head of a group.
+  // What the rules tell apart among tokens. Directly after `(` a keyword is the head of a group.
   #sortOf(i) {
     const code = this.tokens.code(i);
     if (code === OPENING) return 'open';
@@ -120,7 +120,7 @@ class Layout {
     this.#written.repeat(BLANK, ends > 0 ? 2 * this.#line : blanks);
   }
 
-  // Puts a token behind so much white space, and tells where it stands now.
+  // Puts a token after so much white space, and answers where it is now.
   put(i, white) {
     const sort = this.#sortOf(i);
     const start = this.tokens.start(i);

@@ -1,4 +1,4 @@
-// The proved lexer in its memory, which is laid out here, behind the module's own: the report, the text, the rows, and the message with what
+// The proved lexer in its memory, which is laid out here, after the module's own: the report, the text, the rows, and the message with what
 // rows its fault takes. The module allocates nothing.
 // The words of the kinds, at the numbers that the module tells: 0 is none, 12 to 15 are the kinds of floats.
 export const KINDS = [null, 'LineComment', 'BlockComment', 'Whitespace', 'LParen', 'RParen', 'String', 'Id', 'Keyword', 'Annotation', 'Reserved', 'Integer', 'Float', 'Float', 'Float', 'Float'];
@@ -64,17 +64,17 @@ export class Lexer {
   // `first` on, each with two numbers: where the token ends, counted from `from`, and the number of its kind.
   tell(from, to, first, most, flags) { return this.#call(from, to, this.#rows + ROW * first, most, 0, flags); }
 
-  // The same with the fault's message whole, and with the rows, at most so many, which lie behind it.
+  // The same with the fault's message whole, and with the rows, at most so many, which come after it.
   render(from, to, most, flags) {
     const { memory } = this.#exports;
     for (let room = MESSAGE; ; room *= 4) {
       const rows = aligned(this.#message + room);
       grow(memory, rows + ROW * most);
-      const told = this.#call(from, to, rows, most, room, flags);
+      const found = this.#call(from, to, rows, most, room, flags);
       // The message is whole where it leaves room.
-      if (told.written < room) {
-        const message = decoder.decode(new Uint8Array(memory.buffer, this.#message, told.written));
-        return { ...told, message, rows: new Uint32Array(memory.buffer, rows, 2 * told.count) };
+      if (found.written < room) {
+        const message = decoder.decode(new Uint8Array(memory.buffer, this.#message, found.written));
+        return { ...found, message, rows: new Uint32Array(memory.buffer, rows, 2 * found.count) };
       }
     }
   }
@@ -82,9 +82,9 @@ export class Lexer {
   #call(from, to, rows, most, room, { allow = false, strict = false }) {
     const { memory, wat_page_read } = this.#exports;
     wat_page_read(BigInt(this.#text + from), BigInt(to - from), allow ? 1 : 0, strict ? 1 : 0, BigInt(rows), BigInt(most), BigInt(this.#message), BigInt(room), BigInt(this.#report));
-    const told = new DataView(memory.buffer, this.#report, REPORT);
-    const number = (at) => Number(told.getBigUint64(at, true));
-    return { ending: ENDINGS[told.getUint32(0, true)], count: number(8), offset: number(16), line: number(24), column: number(32), written: number(40) };
+    const found = new DataView(memory.buffer, this.#report, REPORT);
+    const number = (at) => Number(found.getBigUint64(at, true));
+    return { ending: ENDINGS[found.getUint32(0, true)], count: number(8), offset: number(16), line: number(24), column: number(32), written: number(40) };
   }
 }
 

@@ -24,7 +24,7 @@ export class Lines {
     this.count = this.at(bytes.length) + 1;
   }
 
-  // Where a line begins: behind the line feed that ends the one before it.
+  // Where a line begins: after the line feed that ends the one before it.
   start(line) {
     if (line === 0) return 0;
     let low = 0, high = this.before.length;
@@ -40,7 +40,7 @@ export class Lines {
   // Where the next line begins, or the text ends.
   end(line) { return line + 1 < this.count ? this.start(line + 1) : this.bytes.length; }
 
-  // The line that a byte stands in.
+  // The line that a byte is in.
   at(offset) {
     const block = Math.floor(offset / BLOCK);
     let line = this.before[block];
@@ -63,7 +63,7 @@ export class Lines {
 }
 
 // The items in sight of a box that scrolls, however many there are: `draw` makes those from one to another, which lie in `seen`. This
-// stands in the box and scrolls with it, or, where the box is another's, beside it and is moved. Where the box stands and how large it is
+// is in the box and scrolls with it, or, where the box is another's, beside it and is moved. Where the box is and how large it is
 // are kept here, since asking the browser would make it lay out the page at once.
 export class Sight {
   static HEIGHT = 20;
@@ -151,7 +151,7 @@ export class Sight {
     }
   }
 
-  // Where the box stands once an item is in sight.
+  // Where the box is once an item is in sight.
   #topFor(item) {
     const top = this.top * this.scale;
     const low = item * Sight.HEIGHT, high = low + Sight.HEIGHT;
@@ -180,7 +180,7 @@ export class Sight {
     });
   }
 
-  // The same for what stands so many pixels behind the line's start.
+  // The same for what is so many pixels after the line's start.
   revealAcross(x) {
     if (x >= this.left + 16 && x <= this.left + this.width - 16) return;
     this.box.scrollLeft = Math.max(0, x - this.width / 2);

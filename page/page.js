@@ -29,7 +29,7 @@ let reader, ahead, view, list, columns;
 let bytes, lines, tokens, cursor = 0;
 // The tokens that count, where only these are listed.
 let counted = null;
-// The line end that the text area's own stands for, or null where the text area is not in use.
+// The line end that the text area's own is shown for, or null where the text area is not in use.
 let lineEnd = '\n';
 // The text area's text as it was read last, and where its places lie in the bytes.
 let typed = '', places = new Places();
@@ -54,7 +54,7 @@ function caret() {
 // Whether the cursor is drawn at a place: the text area has its own.
 const isCaretAt = (place) => lineEnd === null && cursor === place;
 
-// What is drawn of a line: bytes one behind another, each with a class and perhaps a mark, and the cursor between them.
+// What is drawn of a line: bytes one after another, each with a class and perhaps a mark, and the cursor between them.
 class Pieces {
   all = [];
 
@@ -68,7 +68,7 @@ class Pieces {
 
   putCaret() { this.all.push({ className: 'caret', from: cursor, to: cursor, mark: '' }); }
 
-  // The character that the fault is reported at. A mark stands for a line end, and for the text's end.
+  // The character that the fault is reported at. A mark is shown for a line end, and for the text's end.
   putFault(to) {
     const at = reader.offset;
     const end = Math.min(lines.on(at + 1), to);
@@ -88,7 +88,7 @@ function partOf(line, from, to) {
   return { from: first, to: lines.on(Math.min(to, first + LONGEST)) };
 }
 
-// The class of a token: its kind, and how it stands to the cursor or whether it is among those that do not count.
+// The class of a token: its kind, and whether the cursor is at it or whether it is among those that do not count.
 function classOf(i, held, matched) {
   const kind = counted && !isListed(i) ? 'skipped' : tokens.kind(i);
   if (matched.includes(i)) return `${kind} ${matched.length > 1 ? 'match' : 'alone'}`;
@@ -181,7 +181,7 @@ const visible = (text) => text.replace(/\r/g, '␍').replace(/\n/g, '↵').repla
 const listedCount = () => (counted ? counted.numbers.length : tokens.count);
 const listed = (place) => (counted ? counted.numbers[place] : place);
 
-// Where a token stands in the list, or the nearest one behind it.
+// Where a token is in the list, or the nearest one after it.
 function placeOf(token) {
   if (!counted) return token;
   let low = 0, high = counted.numbers.length;
@@ -303,7 +303,7 @@ function onListClick(event) {
   if (option) moveTo(tokens.start(Number(option.id.slice('token-'.length))), 'list');
 }
 
-// ---- what is told
+// ---- what is reported
 
 // Changes what a screen reader is to hear only where it is another.
 function tell(id, text) {
@@ -317,7 +317,7 @@ function say(text, isWrong = false) {
   $('state').className = isWrong ? 'wrong' : '';
 }
 
-// The fault's place as its message has it: the column is where the mark stands.
+// The fault's place as its message has it: the column is where the mark is.
 function sayFault() {
   const [what, place] = reader.message.split('\n');
   const [line, column] = place.split(':').slice(-2);
@@ -390,7 +390,7 @@ function draw() {
   list.redraw();
 }
 
-// Draws a text that is read, or its front, behind which the rest is then read. What a change of the text costs is measured from its
+// Draws a text that is read, or its front, after which the rest is then read. What a change of the text costs is measured from its
 // start, until what is in sight is drawn, and until the whole is read and drawn.
 function show(place, start) {
   cursor = lines.back(place);
@@ -487,7 +487,7 @@ function onInput() {
   const { value, selectionEnd } = $('text');
   const { from, to, text } = changeOf(typed, value);
   isUntouched = false;
-  // The last place that is asked for stands in front of the change, and so holds.
+  // The last place that is asked for is before the change, and so holds.
   const end = places.byteAt(bytes, to), begin = places.byteAt(bytes, from);
   reader.change(begin, end, encoder.encode(lineEnd === '\r\n' ? text.replaceAll('\n', lineEnd) : text));
   typed = value;
@@ -544,9 +544,9 @@ function format() {
   return tell('formatted', 'The text is formatted.');
 }
 
-// The press on the fault that is told.
+// The press on the fault that is reported.
 function goToFault() {
-  moveTo(reader.offset, 'told');
+  moveTo(reader.offset, 'report');
   view.box.focus({ preventScroll: true });
   view.box.scrollIntoView({ block: 'nearest' });
 }

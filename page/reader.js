@@ -1,13 +1,13 @@
 // A text and what the lexer reads in it, part by part. What is read of a text that changes is little: what a token is depends on its own
-// characters and the one behind it, so those that end in front of a change stay; and from a place on at which a token began before, behind
+// characters and the one after it, so those that end before a change stay; and from a place on at which a token began before, after
 // the change, the tokens are those from before, moved.
 import { LINE_FEED, Lines } from './lines.js';
 
-// In bytes: how much is read at once, at first behind a change, and of a whole text.
+// In bytes: how much is read at once, at first after a change, and of a whole text.
 const FIRST_PART = 512;
 const PART = 1 << 16;
 
-// The first of `count` numbers, told by their places, that is not less; or how many there are.
+// The first of `count` numbers, given by their places, that is not less; or how many there are.
 function firstFrom(count, numberAt, least) {
   let low = 0, high = count;
   while (low < high) {
@@ -24,7 +24,7 @@ function move(rows, first, last, by) {
 }
 
 // The tokens that are read lie in the first rows, `count` of them. In the last rows, from `#kept` on, lie those of an earlier reading that
-// stand behind all changes since: the first of them begins at `#keptFrom`, and `#moved` is to be added to where each ends. So many bytes
+// are after all changes since: the first of them begins at `#keptFrom`, and `#moved` is to be added to where each ends. So many bytes
 // as there are rows at least, and each token has one: the two never meet.
 export class Reader {
   #lexer;
@@ -34,7 +34,7 @@ export class Reader {
   #keptFrom = 0;
   #moved = 0;
   #step = PART;
-  // Stretches of the text that are read elsewhere, one behind another, with their rows once they are known.
+  // Stretches of the text that are read elsewhere, one after another, with their rows once they are known.
   #ahead = [];
 
   constructor(lexer) {
@@ -51,12 +51,12 @@ export class Reader {
     this.restart(flags);
   }
 
-  // Has the text be read anew.
+  // Has the text be read again.
   restart(flags) {
     this.#flags = flags;
     this.#forget();
-    const told = this.#lexer.tell(0, this.bytes.length, 0, 0, flags);
-    if (told.ending === 'not UTF-8' || told.ending === 'too long') this.#end(told);
+    const found = this.#lexer.tell(0, this.bytes.length, 0, 0, flags);
+    if (found.ending === 'not UTF-8' || found.ending === 'too long') this.#end(found);
   }
 
   // Puts a piece of text in the place of the bytes from one to another. All three are whole characters, and the text is UTF-8.
@@ -74,7 +74,7 @@ export class Reader {
   // The place that the text is read to.
   get place() { return this.#place; }
 
-  // Tells that what stands between two places is read elsewhere, behind what is so already.
+  // Says that what is between two places is read elsewhere, after what is so already.
   expect(from, to) { this.#ahead.push({ from, to, rows: null }); }
 
   // Tells the rows of what is read elsewhere from a place on, whose first token begins there, or that nobody does.
@@ -84,14 +84,14 @@ export class Reader {
     if (rows?.length > 0) this.#ahead[at].rows = rows; else this.#ahead.splice(at, 1);
   }
 
-  // Whether what stands at the place is read elsewhere and may be told soon.
+  // Whether what is at the place is read elsewhere and may be given soon.
   get #isAwaiting() {
     while (this.#ahead.length > 0 && this.#ahead[0].to <= this.#place) this.#ahead.shift();
     const [next] = this.#ahead;
     return next !== undefined && next.rows === null && next.from <= this.#place;
   }
 
-  // Reads on until the text or the time ends, or a part of what may be told soon is read, and tells whether the text ended.
+  // Reads on until the text or the time ends, or a part of what may be given soon is read, and answers whether the text ended.
   readOn(until = Infinity) {
     while (this.ending === null) {
       const isAwaiting = this.#isAwaiting;
@@ -120,15 +120,15 @@ export class Reader {
     this.#end({ ending: null });
   }
 
-  // Keeps the tokens in front of a change and those behind it: where there are none of this reading, those that were kept before.
+  // Keeps the tokens before a change and those after it: where there are none of this reading, those that were kept before.
   #keep(from, to, more) {
     this.#ahead = [];
-    const behind = to === 0 ? 0 : firstFrom(this.count, (i) => this.endOf(i), to) + 1;
-    if (behind < this.count) {
-      this.#kept = this.#lexer.capacity - (this.count - behind);
-      this.#keptFrom = behind > 0 ? this.endOf(behind - 1) : 0;
+    const next = to === 0 ? 0 : firstFrom(this.count, (i) => this.endOf(i), to) + 1;
+    if (next < this.count) {
+      this.#kept = this.#lexer.capacity - (this.count - next);
+      this.#keptFrom = next > 0 ? this.endOf(next - 1) : 0;
       this.#moved = 0;
-      this.rows.copyWithin(2 * this.#kept, 2 * behind, 2 * this.count);
+      this.rows.copyWithin(2 * this.#kept, 2 * next, 2 * this.count);
     } else {
       this.#leave(to);
     }
@@ -150,15 +150,15 @@ export class Reader {
 
   #join() { return this.#joinKept() || this.#joinAhead(); }
 
-  // Puts tokens that were read elsewhere behind those that are read, where they begin there, and tells whether.
+  // Puts tokens that were read elsewhere after those that are read, where they begin there, and answers whether.
   #joinAhead() {
     while (this.#ahead.length > 0 && this.#ahead[0].rows !== null) {
       const { from, rows } = this.#ahead[0];
-      const behind = from < this.#place ? firstFrom(rows.length / 2, (i) => rows[2 * i], this.#place) + 1 : 0;
-      if (2 * behind < rows.length) {
-        if ((behind > 0 ? rows[2 * behind - 2] : from) !== this.#place) return false;
-        this.rows.set(rows.subarray(2 * behind), 2 * this.count);
-        this.count += rows.length / 2 - behind;
+      const next = from < this.#place ? firstFrom(rows.length / 2, (i) => rows[2 * i], this.#place) + 1 : 0;
+      if (2 * next < rows.length) {
+        if ((next > 0 ? rows[2 * next - 2] : from) !== this.#place) return false;
+        this.rows.set(rows.subarray(2 * next), 2 * this.count);
+        this.count += rows.length / 2 - next;
         this.#place = this.endOf(this.count - 1);
         this.#ahead.shift();
         return true;
@@ -168,7 +168,7 @@ export class Reader {
     return false;
   }
 
-  // Puts the kept tokens behind those that are read, where they begin there, and tells whether.
+  // Puts the kept tokens after those that are read, where they begin there, and answers whether.
   #joinKept() {
     this.#leave(this.#place);
     if (this.#kept === this.#lexer.capacity || this.#keptFrom !== this.#place) return false;
@@ -182,7 +182,7 @@ export class Reader {
     return true;
   }
 
-  // Where the part ends that is read next: soon behind where something begins that was read elsewhere.
+  // Where the part ends that is read next: soon after where something begins that was read elsewhere.
   #partEnd() {
     const [next] = this.#ahead;
     const near = next?.rows ? Math.max(next.from, this.#place) + FIRST_PART : Infinity;
@@ -196,21 +196,21 @@ export class Reader {
     const { length } = this.bytes;
     const from = this.#place;
     const to = this.#partEnd();
-    let told = this.#lexer.tell(from, to, this.count, this.#kept - this.count, this.#flags);
+    let found = this.#lexer.tell(from, to, this.count, this.#kept - this.count, this.#flags);
     let isPart = to < length;
-    if (isPart && told.ending === 'whole') told.count -= 1;
+    if (isPart && found.ending === 'whole') found.count -= 1;
     // A token that is as long as the part or longer, or a fault.
-    if (isPart && told.count === 0) {
-      told = this.#lexer.tell(from, length, this.count, 1, this.#flags);
+    if (isPart && found.count === 0) {
+      found = this.#lexer.tell(from, length, this.count, 1, this.#flags);
       isPart = false;
     }
     this.#step = Math.min(PART, 2 * this.#step);
-    if (this.#take(told.count, from) || isPart) return;
-    if (told.ending === 'whole') this.#end(told);
-    if (told.ending === 'faulty') this.#endAt(from + told.offset);
+    if (this.#take(found.count, from) || isPart) return;
+    if (found.ending === 'whole') this.#end(found);
+    if (found.ending === 'faulty') this.#endAt(from + found.offset);
   }
 
-  // The first of the tokens behind those that are read, up to one, behind which others may stand already.
+  // The first of the tokens after those that are read, up to one, after which others may be already.
   #firstToJoin(last) {
     const [next] = this.#ahead;
     if (this.#kept < this.#lexer.capacity) return this.count;
@@ -218,7 +218,7 @@ export class Reader {
     return this.count + firstFrom(last - this.count, (i) => this.endOf(this.count + i), next.from);
   }
 
-  // Takes so many tokens that are written behind those that are read, at most until kept ones follow, and tells whether they do.
+  // Takes so many tokens that are written after those that are read, at most until kept ones follow, and answers whether they do.
   #take(count, from) {
     const last = this.count + count;
     move(this.rows, this.count, last, from);

@@ -1,5 +1,5 @@
 #!/usr/bin/env python3
-"""Writes the page of a folder as one file, which a browser also opens from a disk: style, scripts and module stand in it.
+"""Writes the page of a folder as one file, which a browser also opens from a disk: style, scripts and module are in it.
 
 usage: single.py FOLDER > wat.html
 """
@@ -11,7 +11,7 @@ import re
 import sys
 
 folder = pathlib.Path(sys.argv[1])
-# Each behind those that it imports.
+# Each after those that it imports.
 SCRIPTS = ["lexer.js", "lines.js", "columns.js", "reader.js", "ahead.js", "edits.js", "tokens.js", "names.js", "counts.js", "types.js", "layout.js", "examples.js", "link.js", "page.js"]
 WORKER = ["lexer.js", "worker.js"]
 
@@ -22,7 +22,7 @@ def read(name):
 
 def replaced(text, old, new):
     if text.count(old) != 1:
-        sys.exit(f"single.py: {old!r} stands in the page {text.count(old)} times, and not once")
+        sys.exit(f"single.py: {old!r} is in the page {text.count(old)} times, and not once")
     return text.replace(old, new)
 
 

@@ -13,7 +13,7 @@ export class Tokens {
   constructor(found) {
     this.rows = found.rows;
     this.count = found.count;
-    // Whether the text ends behind the last token.
+    // Whether the text ends after the last token.
     this.isWhole = found.ending === 'whole';
   }
 
@@ -43,7 +43,7 @@ export class Tokens {
     return this.isWhole && this.count > 0 && place === this.end(this.count - 1) ? this.count - 1 : -1;
   }
 
-  // The parenthesis behind or before a place, and the one that it belongs to.
+  // The parenthesis after or before a place, and the one that it belongs to.
   pair(place) {
     const here = this.parenthesisAt(place);
     if (here < 0) return [];
@@ -52,8 +52,8 @@ export class Tokens {
   }
 
   parenthesisAt(place) {
-    const behind = this.at(place), before = this.at(place - 1);
-    if (behind < this.count && this.isParenthesis(behind) && this.start(behind) === place) return behind;
+    const after = this.at(place), before = this.at(place - 1);
+    if (after < this.count && this.isParenthesis(after) && this.start(after) === place) return after;
     return place > 0 && before < this.count && this.isParenthesis(before) && this.end(before) === place ? before : -1;
   }
 

@@ -34,7 +34,7 @@ class Reading {
     return decoder.decode(this.bytes.subarray(this.tokens.start(token), this.tokens.end(token)));
   }
 
-  // Whether a group of this word stands here.
+  // Whether a group of this word is here.
   isGroup(word) {
     const from = this.next;
     const isGroup = this.isAt('LParen') && this.take('LParen') && this.isAt('Keyword') && this.take('Keyword') === word;
@@ -56,7 +56,7 @@ class Reading {
     return values;
   }
 
-  // Takes a name where one stands, and tells whether.
+  // Takes a name where one is, and answers whether.
   name() {
     if (!this.isAt('Id')) return false;
     if (!nameOf(this.take('Id'))) throw new NoTypes();
@@ -117,7 +117,7 @@ export function compileTypes(tokens, bytes) {
 
 const hex = (number, digits) => number.toString(16).padStart(digits, '0');
 
-// Lines of sixteen bytes, each behind the place of its first, at most so many.
+// Lines of sixteen bytes, each after the place of its first, at most so many.
 export function dumped(bytes, most) {
   const lines = [];
   for (let at = 0; at < bytes.length && lines.length < most; at += 16) {

@@ -1,6 +1,6 @@
 #!/usr/bin/env bash
-# Proves and builds a program of the repository, and prints where it lies: tools/build.sh NAME
+# Proves and builds a program of the repository, and prints where it is: tools/build.sh NAME. Where BUILT is set, it has been built already.
 set -eu
 cd "$(dirname "$0")/.."
-(cd "crates/$1" && rt run < stdin > /dev/null)
+[ -n "${BUILT:-}" ] || (cd "crates/$1" && rt run < stdin > /dev/null)
 echo "crates/$1/out/$1"

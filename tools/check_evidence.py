@@ -19,9 +19,7 @@ import rattle_source
 from rattle_source import OPEN, items_of, past_group, split_at, tokens_of, uses_of, written
 
 # Crates of tests, and the programs that refuse requests from outside. No other crate may use one of them.
-HARNESS = set(
-    "wat_command_tests wat_response_tests wat_lex_requests wat_lex_tests wat_requests wat_row_tests wat_type_tests".split()
-)
+HARNESS = {"wat_command_tests", "wat_response_tests"}
 
 # A place is a file, a function of it, and what is there, once. Functions of an `impl` have the type's name in front, and the trait's.
 # The places that may make a refusal.

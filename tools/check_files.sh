@@ -1,5 +1,5 @@
 #!/usr/bin/env bash
-# Runs the program on all texts below a folder at once, and on each by itself: what is written and reported must be the same, one behind the
+# Runs the program on all texts below a folder at once, and on each by itself: what is written and reported must be the same, one after the
 # other, and the exit status the greatest. Without a file, what is written of a text on standard input must be the same again.
 #
 # usage: tools/check_files.sh FOLDER [PROGRAM]

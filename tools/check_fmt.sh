@@ -41,7 +41,7 @@ run() {
 # can_be_plain: whether the program can be run as that user
 can_be_plain() {
     "${plain_user[@]}" "$program" --version > /dev/null 2>&1 || {
-        echo 'check_fmt.sh: the program can not be run as another user here, so what that may not do is left out'
+        echo 'check_fmt.sh: what another user may not do is left out, as the program can not be run as one here'
         return 1
     }
 }
@@ -81,14 +81,14 @@ run 1 fmt --check faulty
 expect '--check of a fault' $'unexpected end-of-file\n     --> faulty:1:4\n      |\n    1 | a "\n      |    ^' "$(cat err)"
 run 2 fmt bytes neat
 expect 'report of bytes' 'wat_tokens: bytes: input is not UTF-8 at byte 2' "$(cat err)"
-expect 'the file behind them' "$(cat neat)" "$(cat out)"
+expect 'the file after them' "$(cat neat)" "$(cat out)"
 run 2 fmt missing
 expect 'report of a missing file' 'wat_tokens: missing: open failed: no such file or directory' "$(cat err)"
 run 2 fmt --check missing messy
 expect '--check goes on' messy "$(cat out)"
 run 2 fmt --no-such-option
 run 2 fmt messy --check
-expect 'an option behind a file' 'wat_tokens: --check comes too late' "$(head -1 err)"
+expect 'an option after a file' 'wat_tokens: --check comes too late' "$(head -1 err)"
 run 2 fmt --check --write
 run 2 --json fmt
 for words in '--write' '--write -' '--write -- -'; do

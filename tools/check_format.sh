@@ -1,5 +1,5 @@
 #!/usr/bin/env bash
-# Compares the layouts of crates/wat_format, by the program wat_format_rows, with those of tools/layout.py, which is written anew from the
+# Compares the layouts of crates/wat_format, by the program wat_format_rows, with those of tools/layout.py, which is written from the
 # definition. Files that are named, as WebAssembly text, are laid out by `fmt` of wat_tokens and compared too, and what wat2wasm writes for them
 # before and after.
 #

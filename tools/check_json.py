@@ -2,7 +2,7 @@
 """Reads what the program writes with --json by Python's own parser of JSON, and compares each object with the row of the plain list and with
 the text: offset, length, kind and text, and line and column, which are counted here once more. Report and exit status must be those of the plain
 list, and after the last token an object of the fault must say what the report says. The texts are those of crates/wat_tokens/agreement, generated ones, and some with each byte that is escaped. At some tokens of
-plain ASCII the text is cut and a fault put behind it, whose message must tell the object's line and column.
+plain ASCII the text is cut and a fault put after it, whose message must have the object's line and column.
 
 usage: tools/check_json.py PROGRAM [FILE..]     these files in place of the texts
 """
@@ -44,8 +44,8 @@ def faults(text, rows, lines):
         start, end = int(start), int(end)
         number = bisect.bisect(starts, start)
         wanted = [start, end - start, kind.decode(), text[start:end].decode(), number, start - starts[number - 1] + 1]
-        told = json.loads(line.decode())
-        if list(told) != MEMBERS or list(told.values()) != wanted:
+        found = json.loads(line.decode())
+        if list(found) != MEMBERS or list(found.values()) != wanted:
             yield f"{line!r} in place of {wanted}"
 
 
@@ -69,11 +69,11 @@ def places(program, text, lines):
     """Of some tokens of a text of plain ASCII the object, and the message of a fault that is put in the token's place."""
     plain = all(byte in (10, 13) or 32 <= byte < 127 for byte in text)
     for line in lines[:: max(1, len(lines) // 8)] if plain else []:
-        told = json.loads(line.decode())
-        message = run(program, [], text[: told["offset"]] + b"\x7f")[1].decode()
+        found = json.loads(line.decode())
+        message = run(program, [], text[: found["offset"]] + b"\x7f")[1].decode()
         # A line comment goes on where its line end is taken away, and far to the right a message has another form.
-        if message and told["column"] <= 500:
-            yield told, message
+        if message and found["column"] <= 500:
+            yield found, message
 
 
 def check(program, name, text):
@@ -81,9 +81,9 @@ def check(program, name, text):
     wrong, objects, messages = [], 0, 0
     for command in (["list"], ["sig"], ["--allow-confusing", "sig", "a"]):
         status, report, rows = run(program, command, text)
-        told, reported, lines = run(program, ["--json", *command], text)
-        if (told, reported) != (status, report):
-            wrong.append(f"status {told} in place of {status}, or another report")
+        ended, reported, lines = run(program, ["--json", *command], text)
+        if (ended, reported) != (status, report):
+            wrong.append(f"status {ended} in place of {status}, or another report")
         lines = lines.splitlines(keepends=True)
         if status == 1:
             wrong += fault_faults(text, report, lines.pop() if lines else b"{}")
@@ -121,10 +121,10 @@ def main():
         return 2
     wrong, objects, messages, count = [], 0, 0, 0
     for name, text in texts(sys.argv[2:]):
-        found, lines, told = check(sys.argv[1], name, text)
+        found, lines, shown = check(sys.argv[1], name, text)
         wrong += found
         objects += lines
-        messages += told
+        messages += shown
         count += 1
     print("\n".join([*wrong[:20], f"check_json.py: {objects} objects of {count} texts, {messages} messages, {len(wrong)} faults"]))
     return 1 if wrong or not objects else 0

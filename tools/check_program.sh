@@ -451,7 +451,8 @@ case $help in
 esac
 expect 'help' 0 "$help\n" '' "$program" --help < /dev/null
 expect 'help, short' 0 "$help\n" '' "$program" -h sig < /dev/null
-expect 'version' 0 'wat_tokens 0.1.0, of wast 263.0.0\n' '' "$program" --version < /dev/null
+version=$(sed -n 's/^version = "\(.*\)"/\1/p' rust/Cargo.toml)
+expect 'version' 0 "wat_tokens $version, of wast 263.0.0\n" '' "$program" --version < /dev/null
 output=/dev/full expect 'help, no room' 2 '' 'wat_tokens: write failed\n' "$program" --help < /dev/null
 
 # expect_wrong COMPLAINT WORDS..: words beyond those that were asked for, and what is said of them

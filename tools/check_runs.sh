@@ -1,6 +1,6 @@
 #!/usr/bin/env bash
 # Runs the program with each request for memory refused, each read of standard input and each write on standard output failed, and these of
-# one byte each, and prints how many runs there were. A run gives its whole answer, or the line and status 2 of what failed; then nothing stands on standard output, but
+# one byte each, and prints how many runs there were. A run gives its whole answer, or the line and status 2 of what failed; then nothing is on standard output, but
 # for the bytes before a failed write.
 #
 # usage: tools/check_runs.sh [PROGRAM]
@@ -67,7 +67,7 @@ first() {
     echo $((library ? library + ${#words[@]} + 1 : 1))
 }
 
-# refuse_each VARIABLE=N..: refuses each request for memory alone, and each with all behind it, in such a run
+# refuse_each VARIABLE=N..: refuses each request for memory alone, and each with all after it, in such a run
 refuse_each() {
     local n
     for ((n = $(first); n <= requests; n++)); do

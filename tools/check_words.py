@@ -1,7 +1,7 @@
 #!/usr/bin/env python3
 """Checks the standard words, without a proof: the tables of wat_words are those of standard_words.txt, where a stretch of lines has the
 keywords and the next one the names of annotations; and each word has one type, at its place, whose name and comment are of that word. That the
-type of a place reads the word at that place is proved; which words there are, and which name stands for which place, is not.
+type of a place reads the word at that place is proved; which words there are, and which name is for which place, is not.
 
 usage: tools/check_words.py
 """
@@ -23,7 +23,7 @@ TYPE = re.compile(r"/// The (?:keyword|annotation) `(@?)([^`]*)`\.\npub type (\w
 
 
 def words_of(macro):
-    """The words of a table, in their order, behind the sign that stands before them."""
+    """The words of a table, in their order, after the sign that is before them."""
     body = re.search(rf"macro_rules! {macro} \{{.*?\$entries! \{{(.*?)\}}", TABLE.read_text(encoding="utf-8"), re.DOTALL)
     return re.findall(r'"([^"]*)"', body[1])[1:]
 
@@ -43,11 +43,11 @@ def faults(file, macro, wanted):
         yield f"{file}: a type is not written as the others are"
     if len(found) != len(words):
         yield f"{file}: {len(found)} types for {len(words)} words"
-    for place, (word, (sign, told, name, kind, std, at)) in enumerate(zip(words, found)):
+    for place, (word, (sign, said, name, kind, std, at)) in enumerate(zip(words, found)):
         if (sign, kind, std, int(at)) != (*wanted, place):
-            yield f"{file}: {name} is {kind}<{std}<{at}>>, and stands at place {place}"
-        if (told, name) != (word, name_of(word)):
-            yield f"{file}: {name}, told to be `{told}`, stands for `{word}`"
+            yield f"{file}: {name} is {kind}<{std}<{at}>>, and is at place {place}"
+        if (said, name) != (word, name_of(word)):
+            yield f"{file}: {name}, said to be `{said}`, is for `{word}`"
 
 
 def main():

@@ -1,7 +1,7 @@
 #!/usr/bin/env python3
 """Compares the declarations of the C header with those of the library, in Rattle and in the Rust that tools/erase makes of it. Compared are the
-names and types of arguments and of the fields of structs, in their order, the types of answers, the numbers of faults and of kinds of tokens, and
-the version. A slice of Rattle is a pointer and a length in C and in Rust, and its allocator no argument.
+names and types of arguments and of the fields of structs, in their order, the types of answers, and the numbers of faults and of kinds of
+tokens. A slice of Rattle is a pointer and a length in C and in Rust, and its allocator no argument.
 
 usage: compare_declarations.py
 """
@@ -11,7 +11,6 @@ from pathlib import Path
 
 PROJECT = Path(__file__).resolve().parent.parent
 HEADER = PROJECT / "include/wat.h"
-PACKAGE = PROJECT / "rust/Cargo.toml"
 RUST = sorted((PROJECT / "rust/wat-c/src").rglob("*.rs"))
 RATTLE = sorted(path for name in ("wat_parser_c", "wat_rows") for path in (PROJECT / "crates" / name / "src").rglob("*.rt"))
 NUMBERS = {"uint8_t": "u8", "uint32_t": "u32", "uint64_t": "u64", "size_t": "usize", "bool": "bool"}
@@ -98,25 +97,10 @@ def compare(language, library, header):
     return differ
 
 
-def versions(header_text, header):
-    """The version in each of its places, as a number."""
-    yield header[2]["VERSION"]
-    for text in (re.search(r'WAT_VERSION_TEXT "(.*)"', header_text)[1], re.search(r'^version = "(.*)"', PACKAGE.read_text(), re.M)[1]):
-        first, second, third = map(int, text.split("."))
-        yield 10000 * first + 100 * second + third
-    for path in (RUST[0].parent / "proved/version.rs", PROJECT / "crates/wat_parser_c/src/version.rt"):
-        yield int(re.search(r"^    (\d+)$", path.read_text(), re.M)[1])
-
-
 def main():
-    text = HEADER.read_text()
-    header = read_header(text)
+    header = read_header(HEADER.read_text())
     libraries = {language: read_library("\n".join(path.read_text() for path in paths)) for language, paths in (("Rust", RUST), ("Rattle", RATTLE))}
     differ = sum(compare(language, library, header) for language, library in libraries.items())
-    found = list(versions(text, header))
-    if len(set(found)) > 1:
-        differ += 1
-        print(f"compare_declarations.py: the versions are {found}")
     sys.exit(1 if differ else 0)
 
 

@@ -95,7 +95,7 @@ def file_texts(names):
             try:
                 yield file.read().decode()
             except UnicodeDecodeError:
-                print(f"{name}: not UTF-8, left out")
+                print(f"{name}: left out, as it is not UTF-8")
 
 
 def compare_files(command, names):

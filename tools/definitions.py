@@ -150,7 +150,7 @@ def looked_up(words, module, path):
 
 
 def bound(definition, module):
-    """The names that a definition binds: arguments, fields, and what stands in patterns."""
+    """The names that a definition binds: arguments, fields, and what is in patterns."""
     text = "\n".join(definition.lines)
     groups = re.findall(r"λ ([^.]*)\.\s", text) + re.findall(r"[({]([^(){}:]*?) : ", text)
     groups += re.findall(r"let (\S+) =", text) + re.findall(r"[|\[] ([^|↦]*?) ↦", text)

@@ -1,5 +1,5 @@
 #!/usr/bin/env python3
-"""The layout of crates/wat_format/specs/Layout.antt anew, over a lexer of its own, for comparison with the crate.
+"""The layout of crates/wat_format/specs/Layout.antt once more, over a lexer of its own, for comparison with the crate.
 
 tools/layout.py < TEXT writes the text laid out, and ends with status 1 where the text has a lexical fault.
 """
@@ -23,7 +23,7 @@ class Fault(Exception):
 
 
 def string_end(text, at):
-    """The place behind a string whose quote stands at a place."""
+    """The place after a string whose quote is at a place."""
     at += 1
     while at < len(text) and text[at] != '"':
         element = ELEMENT.match(text, at)
@@ -41,7 +41,7 @@ def string_end(text, at):
 
 
 def block_comment_end(text, at):
-    """The place behind a block comment that begins at a place."""
+    """The place after a block comment that begins at a place."""
     depth = 0
     while True:
         if text.startswith("(;", at):
@@ -57,7 +57,7 @@ def block_comment_end(text, at):
 
 
 def run_end(text, at):
-    """The place behind idchars and strings."""
+    """The place after idchars and strings."""
     while at < len(text):
         word = IDCHARS.match(text, at)
         if word is not None:

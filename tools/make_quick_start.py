@@ -5,10 +5,10 @@ from C and Rust into README.md and the README of wat-c.
 usage: tools/make_quick_start.py [--check | --self-test]
 
 A file, or some lines of it, goes between `<!-- file PATH [FIRST-LAST] -->` and `<!-- end -->`, and all files of a folder that are not empty,
-each behind its name, between `<!-- files FOLDER -->` and `<!-- end -->`. Between `<!-- laws -->` and `<!-- end -->` stands a table of words, each with
+each after its name, between `<!-- files FOLDER -->` and `<!-- end -->`. Between `<!-- laws -->` and `<!-- end -->` is a table of words, each with
 what it reads; its last column is the law that the specs have of the word. With --check nothing is written, and the status is 1 where a
-page differs from the files. It is also 1 where the table lacks a word that has a law, and where a file of the crate is not shown whole.
---self-test shows that each file of the crate is missed where its part is taken out of the page, or shows only some of its lines.
+page differs from the files. It is also 1 where the table lacks a word that has a law, and where a file of the crate is neither shown whole nor linked.
+--self-test shows that each file of the crate is missed where its part or link is taken out of the page, or its part shows only some of its lines.
 """
 import pathlib
 import re
@@ -57,22 +57,26 @@ def shown_whole(text):
 
 
 def missed(text):
-    """The files of the crate that its page does not show whole."""
-    return sorted({str(file) for file in files_of(CRATE)} - shown_whole(text))
+    """The files of the crate that its page neither shows whole nor links."""
+    linked = {str(file) for file in files_of(CRATE) if f"](../{file})" in text}
+    return sorted({str(file) for file in files_of(CRATE)} - shown_whole(text) - linked)
 
 
 def self_test():
     """Takes each part of the crate out of its page, and shows only the first line of each file."""
     page = (ROOT / ITS_PAGE).read_text()
-    parts = [match for match in PART.finditer(page) if str(match["path"] or match["folder"]).startswith(CRATE + "/")]
+    parts = [match for match in PART.finditer(page) if str(match["path"] or match["folder"]).startswith(CRATE + "/") and not match["first"]]
+    links = [str(file) for file in files_of(CRATE) if f"](../{file})" in page]
     for match in parts:
         wanted = sorted(map(str, files_of(match["folder"]))) if match["folder"] else [match["path"]]
         assert missed(page.replace(match[0], "")) == wanted, f"{match[1]} is taken out, and {wanted} are not all that is missed"
         if match["path"]:
             cut = match[0].replace(match["path"] + " -->", match["path"] + " 1-1 -->")
             assert missed(page.replace(match[0], cut)) == wanted, f"{match[1]} is cut, and not missed"
+    for file in links:
+        assert missed(page.replace(f"](../{file})", "")) == [file], f"{file} is neither shown nor linked, and not missed"
     assert missed(page) == [] and len(parts) > 1, "the page lacks a file of its crate"
-    print(f"make_quick_start.py: each of {len(parts)} parts of {CRATE} is missed where it is not shown")
+    print(f"make_quick_start.py: each of {len(parts)} parts and {len(links)} links of {CRATE} is missed where it is not there")
 
 
 def laws():
@@ -100,7 +104,7 @@ def table(body):
 
 
 def part(match):
-    """A marked part of the page, with what stands in it now."""
+    """A marked part of the page, with what is in it now."""
     start = match[0].split("\n", 1)[0]
     if match["path"]:
         body = fenced(match["path"], match["first"], match["last"])
@@ -116,7 +120,7 @@ def main():
         return self_test()
     lacks = missed((ROOT / ITS_PAGE).read_text())
     if lacks:
-        sys.exit(f"make_quick_start.py: {ITS_PAGE} does not show whole: {', '.join(lacks)}")
+        sys.exit(f"make_quick_start.py: {ITS_PAGE} neither shows whole nor links: {', '.join(lacks)}")
     for name in PAGES:
         page = ROOT / name
         old = page.read_text()

@@ -2,7 +2,7 @@
 # Measures this project's calls beside those of the crate wast 263.0.0, in one program (tools/measure) over the loops of tools/measure/rattle: times
 # in turn, pass by pass, by the processor time of a thread that is pinned to one processor, and instructions by callgrind; so too the static
 # library. Writes Markdown
-# tables for docs/SPEED.md to WORK/table.md, and each contender's quartiles to WORK/times.tsv. Texts that are in WORK already are not made anew.
+# tables for docs/SPEED.md to WORK/table.md, and each contender's quartiles to WORK/times.tsv. Texts that are in WORK already are not made again.
 #
 # usage: [NAME=VALUE ..] tools/measure.sh WORK
 #

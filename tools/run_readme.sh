@@ -1,7 +1,7 @@
 #!/usr/bin/env bash
 # Runs the commands of README.md and docs/COMMAND-LINE.md in a clone, and compares what they print. A command is a block ```sh, run from the
-# top of the clone; what it writes to standard output must be the block ```text behind it, where there is one, and its status 0. A block
-# behind the line `<!-- slow -->` proves, or needs what was proved; --quick leaves it out. Each block that is run or left out is told.
+# top of the clone; what it writes to standard output must be the block ```text after it, where there is one, and its status 0. A block
+# after the line `<!-- slow -->` proves, or needs what was proved; --quick leaves it out. Each block that is run or left out is reported.
 #
 # usage: tools/run_readme.sh [--quick] [CLONE]     (no CLONE: one of HEAD is made in a temporary folder)
 set -eu
@@ -54,12 +54,11 @@ for document in README.md docs/COMMAND-LINE.md; do
         [ -e "$block" ] || continue
         if $quick && [ "${block##*.}" = slow ]; then
             left=$((left + 1))
-            echo 'run_readme.sh: left out:'
-            sed 's/^/    /' "$block"
+            echo "run_readme.sh: left out, as it proves: $(head -n 1 "$block")"
         else
             run "$block"
         fi
     done
 done
-echo "run_readme.sh: $ran ran, $left left out, $differences other than they must be"
+echo "run_readme.sh: $ran commands ran, $differences are not as they must be; $left are left out"
 [ "$ran" -gt 0 ] && [ "$differences" = 0 ]

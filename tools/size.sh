@@ -30,5 +30,14 @@ row 'tools' "$(find tools -mindepth 1 -maxdepth 1 | wc -l)"
 row 'words of documents, README and docs' "$(cat ./*.md docs/*.md | wc -w)"
 row 'words of the READMEs of crates and packages' "$(find crates rust -name README.md -print0 | xargs -0 -r cat | wc -w)"
 row 'lines of README' "$(wc -l < README.md)"
-row "'behind', 'told', 'stands', 'anew' in documents" "$(cat ./*.md docs/*.md | grep -owE 'behind|told|stands|anew' | wc -l)"
-row 'the same in sources' "$(find crates -name '*.rt' -print0 | xargs -0 cat | grep -owE 'behind|told|stands|anew' | wc -l)"
+
+# words WHAT PATTERN FOLDER..: how often the words that we write no more are in the files of a name
+words() {
+    row "$1" "$(find "${@:3}" -type f -name "$2" -print0 | xargs -0 -r cat | grep -aowE 'behind|told|stands|anew' | wc -l)"
+}
+
+words "'behind', 'told', 'stands', 'anew' in documents" '*.md' ./*.md docs
+words 'the same in .rt' '*.rt' crates
+words 'the same in .antt' '*.antt' crates
+words 'the same in tools' '*' tools
+words 'the same in page' '*' page

@@ -1,6 +1,6 @@
 /* Prints floating-point numbers, hexadecimal and decimal, each with the bits that `strtof` and `strtod` read, or `-` where they read
  * infinity: a line for each. Many lie at midpoints, among the subnormal numbers, and about the greatest ones. In place of a hexadecimal one
- * that is subnormal stands `?`: the GNU C library rounds some of them the wrong way (its bug 30220).
+ * that is subnormal comes `?`: the GNU C library rounds some of them the wrong way (its bug 30220).
  *
  * usage: floats COUNT
  */

@@ -92,17 +92,17 @@ static struct wat_answer read_row(unsigned reader, struct setting s, const struc
 /* What a reader answers by row is what it answers at the place. */
 static void compare_readers(unsigned reader, struct setting s, const struct wat_row *row) {
     uint8_t none = 0;
-    struct wat_answer told = read_by(reader, s, row->offset, &none, 0);
-    uint8_t *at_place = room_of(told.needed), *by_row = room_of(told.needed);
-    struct wat_answer given = read_row(reader, s, row, by_row, told.needed);
-    read_by(reader, s, row->offset, at_place, told.needed);
-    expect(given.needed == told.needed && given.status == told.status, "a reader answers otherwise by row", row->offset);
-    expect(memcmp(at_place, by_row, told.needed) == 0, "a reader gives other bytes by row", row->offset);
+    struct wat_answer first = read_by(reader, s, row->offset, &none, 0);
+    uint8_t *at_place = room_of(first.needed), *by_row = room_of(first.needed);
+    struct wat_answer given = read_row(reader, s, row, by_row, first.needed);
+    read_by(reader, s, row->offset, at_place, first.needed);
+    expect(given.needed == first.needed && given.status == first.status, "a reader answers otherwise by row", row->offset);
+    expect(memcmp(at_place, by_row, first.needed) == 0, "a reader gives other bytes by row", row->offset);
     free(at_place);
     free(by_row);
 }
 
-/* Where a value stands is what the readers give, where no escape stands in it. */
+/* Where a value is, is what the readers give, where no escape is in it. */
 static void compare_word(struct setting s, const struct wat_row *row) {
     unsigned reader = row->kind.code == WAT_STRING ? 1 : 2;
     struct wat_word word = wat_word(s.text, s.len, row);
@@ -110,12 +110,12 @@ static void compare_word(struct setting s, const struct wat_row *row) {
     struct wat_answer given = read_row(reader, s, row, value, row->len);
     switch (word.status) {
     case WAT_GIVEN:
-        expect(word.start > row->offset && word.len < row->len, "a word stands outside of its token", row->offset);
+        expect(word.start > row->offset && word.len < row->len, "a word is outside of its token", row->offset);
         expect(given.status == WAT_GIVEN && given.needed == word.len, "a word has another length", row->offset);
         expect(memcmp(value, s.text + word.start, word.len) == 0, "a word is no value", row->offset);
         break;
     case WAT_ESCAPED:
-        expect(memchr(s.text + row->offset, '\\', row->len) != NULL, "no escape stands in a word", row->offset);
+        expect(memchr(s.text + row->offset, '\\', row->len) != NULL, "no escape is in a word", row->offset);
         break;
     default:
         expect(given.status == word.status, "a word has another fault", row->offset);
@@ -172,7 +172,7 @@ static void look_by_row(struct setting s, struct wat_found found) {
     }
 }
 
-/* The comment at a place is what stands there, or behind white space. */
+/* The comment at a place is what is there, or after white space. */
 static void look_for_comment(struct setting s, size_t pos, struct wat_found found) {
     struct wat_word word = wat_comment(s.text, s.len, pos, s.allow, s.strict);
     if (found.token.kind.code == WAT_WHITESPACE) {
@@ -181,7 +181,7 @@ static void look_for_comment(struct setting s, size_t pos, struct wat_found foun
     if (found.token.kind.code == WAT_LINE_COMMENT || found.token.kind.code == WAT_BLOCK_COMMENT) {
         expect(word.status == WAT_GIVEN && word.start == found.token.offset && word.len == found.token.len, "a comment is another", pos);
     } else {
-        expect(word.status == (found.fault == WAT_NO_FAULT ? (uint32_t)WAT_ABSENT : found.fault), "a comment where none stands", pos);
+        expect(word.status == (found.fault == WAT_NO_FAULT ? (uint32_t)WAT_ABSENT : found.fault), "a comment where none is", pos);
     }
 }
 
@@ -190,13 +190,13 @@ static void print_error(struct setting s, size_t offset, const uint8_t *message,
     static const uint8_t name[] = "a longer name", anonymous[] = "<anon>";
     size_t named_len = whole_len + sizeof name - sizeof anonymous, at = len;
     uint8_t *plain = room_of(whole_len), *named = room_of(named_len);
-    struct wat_answer told = wat_print(s.text, s.len, offset, message, len, anonymous, 0, plain, whole_len);
-    expect(told.status == WAT_GIVEN && told.needed == whole_len && memcmp(plain, whole, whole_len) == 0, "an error is printed otherwise", offset);
-    told = wat_print(s.text, s.len, offset, message, 2, anonymous, 0, plain, whole_len - len + 2);
-    expect(told.status == WAT_GIVEN && told.needed == whole_len - len + 2, "a short error has another length", offset);
+    struct wat_answer first = wat_print(s.text, s.len, offset, message, len, anonymous, 0, plain, whole_len);
+    expect(first.status == WAT_GIVEN && first.needed == whole_len && memcmp(plain, whole, whole_len) == 0, "an error is printed otherwise", offset);
+    first = wat_print(s.text, s.len, offset, message, 2, anonymous, 0, plain, whole_len - len + 2);
+    expect(first.status == WAT_GIVEN && first.needed == whole_len - len + 2, "a short error has another length", offset);
     expect(memcmp(plain, whole, 2) == 0 && memcmp(plain + 2, whole + len, whole_len - len) == 0, "a short error is printed otherwise", offset);
-    told = wat_print(s.text, s.len, offset, message, len, name, sizeof name - 1, named, named_len);
-    expect(told.status == WAT_GIVEN && told.needed == named_len, "an error in a file has another length", offset);
+    first = wat_print(s.text, s.len, offset, message, len, name, sizeof name - 1, named, named_len);
+    expect(first.status == WAT_GIVEN && first.needed == named_len, "an error in a file has another length", offset);
     while (at < whole_len && memcmp(whole + at, anonymous, sizeof anonymous - 1) != 0) {
         at++;
     }
@@ -210,19 +210,19 @@ static void print_error(struct setting s, size_t offset, const uint8_t *message,
 /* What a fault prints begins with its message. */
 static void read_message(struct setting s, size_t pos, struct wat_found found) {
     uint8_t none = 0;
-    struct wat_answer told = wat_message(found.fault, found.found, found.wanted, &none, 0);
+    struct wat_answer first = wat_message(found.fault, found.found, found.wanted, &none, 0);
     struct wat_answer shown = wat_fault(s.text, s.len, pos, s.allow, s.strict, &none, 0);
-    uint8_t *message = room_of(told.needed), *whole = room_of(shown.needed);
-    wat_message(found.fault, found.found, found.wanted, message, told.needed);
+    uint8_t *message = room_of(first.needed), *whole = room_of(shown.needed);
+    wat_message(found.fault, found.found, found.wanted, message, first.needed);
     wat_fault(s.text, s.len, pos, s.allow, s.strict, whole, shown.needed);
-    expect(told.status == WAT_GIVEN && told.needed > 0 && told.needed < shown.needed, "a fault has no message", pos);
-    expect(told.needed < shown.needed && memcmp(message, whole, told.needed) == 0, "a message is another", pos);
-    print_error(s, found.token.offset, message, told.needed, whole, shown.needed);
+    expect(first.status == WAT_GIVEN && first.needed > 0 && first.needed < shown.needed, "a fault has no message", pos);
+    expect(first.needed < shown.needed && memcmp(message, whole, first.needed) == 0, "a message is another", pos);
+    print_error(s, found.token.offset, message, first.needed, whole, shown.needed);
     free(message);
     free(whole);
 }
 
-/* Whether the reader reads what stands there; all others answer WAT_OTHER. */
+/* Whether the reader reads what is there; all others answer WAT_OTHER. */
 static bool may_read(unsigned reader, struct wat_found found) {
     uint8_t code = found.token.kind.code;
     switch (reader) {
@@ -242,18 +242,18 @@ static bool may_read(unsigned reader, struct wat_found found) {
 
 static void read_value(unsigned reader, struct setting s, size_t pos) {
     uint8_t none = 0;
-    struct wat_answer told = read_by(reader, s, pos, &none, 0);
-    uint8_t *exact = room_of(told.needed), *shorter;
-    struct wat_answer given = read_by(reader, s, pos, exact, told.needed);
+    struct wat_answer first = read_by(reader, s, pos, &none, 0);
+    uint8_t *exact = room_of(first.needed), *shorter;
+    struct wat_answer given = read_by(reader, s, pos, exact, first.needed);
     size_t i;
-    expect(given.needed == told.needed && given.status == told.status, "two answers differ", pos);
-    expect(told.status == WAT_GIVEN || told.needed == 0, "a length without bytes", pos);
-    expect(told.status != WAT_OTHER && told.status != WAT_NO_MEMORY, "a token is not read", pos);
-    if (told.needed > 0) {
-        shorter = room_of(told.needed - 1);
-        given = read_by(reader, s, pos, shorter, told.needed - 1);
-        expect(given.needed == told.needed && given.status == WAT_GIVEN, "a shorter buffer changes the answer", pos);
-        for (i = 0; i + 1 < told.needed; i++) {
+    expect(given.needed == first.needed && given.status == first.status, "two answers differ", pos);
+    expect(first.status == WAT_GIVEN || first.needed == 0, "a length without bytes", pos);
+    expect(first.status != WAT_OTHER && first.status != WAT_NO_MEMORY, "a token is not read", pos);
+    if (first.needed > 0) {
+        shorter = room_of(first.needed - 1);
+        given = read_by(reader, s, pos, shorter, first.needed - 1);
+        expect(given.needed == first.needed && given.status == WAT_GIVEN, "a shorter buffer changes the answer", pos);
+        for (i = 0; i + 1 < first.needed; i++) {
             expect(shorter[i] == UNTOUCHED, "a buffer that is too short has changed", pos);
         }
         free(shorter);
@@ -267,7 +267,7 @@ static bool are_same(struct wat_token a, struct wat_token b) {
            a.kind.has_underscores == b.kind.has_underscores && a.kind.hex == b.kind.hex;
 }
 
-/* What stands at a place, by every function. */
+/* What is at a place, by every function. */
 static struct wat_found look(struct setting s, size_t pos) {
     struct wat_found found = wat_scan(s.text, s.len, pos, s.allow, s.strict);
     struct wat_token token = wat_token_at(s.text, s.len, pos, s.allow, s.strict);
@@ -303,8 +303,8 @@ static void read_text(struct setting s) {
         expect(filled.count <= ROOM && (filled.why == WAT_FULL) == (filled.count == ROOM), "the count of rows", at);
         for (i = 0; i < filled.count; i++) {
             struct wat_found found = look(s, at);
-            expect(rows[i].offset == at && rows[i].len > 0, "a row is not behind the last", at);
-            expect(are_same(found.token, rows[i]), "a row is not what stands there", at);
+            expect(rows[i].offset == at && rows[i].len > 0, "a row is not after the last", at);
+            expect(are_same(found.token, rows[i]), "a row is not what is there", at);
             at += rows[i].len;
             tokens_seen++;
         }
@@ -354,7 +354,7 @@ static struct rows rows_of(struct setting s) {
     return all;
 }
 
-/* Each row is the token that stands there, and a `)` closes the group that is open behind the rows which link to it. */
+/* Each row is the token that is there, and a `)` closes the group that is open after the rows which link to it. */
 static void compare_rows(struct setting s, struct rows all) {
     size_t i, link;
     for (i = 0; i < all.count; i++) {
@@ -363,11 +363,11 @@ static void compare_rows(struct setting s, struct rows all) {
         wanted.link = all.rows[i].link;
         link = wanted.link;
         expect(memcmp(&wanted, &all.rows[i], sizeof wanted) == 0, "a row that counts is another token", all.rows[i].offset);
-        expect(wat_after(all.rows, all.count, i + 1) == (size_t)wanted.offset + wanted.len, "behind a row", wanted.offset);
+        expect(wat_after(all.rows, all.count, i + 1) == (size_t)wanted.offset + wanted.len, "after a row", wanted.offset);
         expect(link == 0 || (link > i + 1 && link <= all.count), "a link goes back", wanted.offset);
         expect(link == 0 || all.rows[link - 1].kind.code == WAT_RPAREN, "a link goes to no parenthesis", wanted.offset);
     }
-    expect(wat_after(all.rows, all.count, 0) == 0, "behind no row", 0);
+    expect(wat_after(all.rows, all.count, 0) == 0, "after no row", 0);
 }
 
 /* Looks at each row, under these names. */
@@ -391,15 +391,15 @@ static void look_at_rows(struct setting s, struct rows all, const char *names, c
 /* What is printed of a message at each byte, with and without a name. */
 static void print_at(struct setting s, size_t offset, const char *message, const char *file) {
     uint8_t *text = room_of(strlen(message) + strlen(file)), none = 0, *out;
-    struct wat_answer told, given;
+    struct wat_answer first, given;
     size_t long_message = strlen(message), long_file = strlen(file);
     memcpy(text, message, long_message);
     memcpy(text + long_message, file, long_file);
-    told = wat_print(s.text, s.len, offset, text, long_message, text + long_message, long_file, &none, 0);
-    expect(told.status == WAT_GIVEN && told.needed > long_message, "an error prints less than its message", offset);
-    out = room_of(told.needed);
-    given = wat_print(s.text, s.len, offset, text, long_message, text + long_message, long_file, out, told.needed);
-    expect(given.status == WAT_GIVEN && given.needed == told.needed, "an error prints otherwise", offset);
+    first = wat_print(s.text, s.len, offset, text, long_message, text + long_message, long_file, &none, 0);
+    expect(first.status == WAT_GIVEN && first.needed > long_message, "an error prints less than its message", offset);
+    out = room_of(first.needed);
+    given = wat_print(s.text, s.len, offset, text, long_message, text + long_message, long_file, out, first.needed);
+    expect(given.status == WAT_GIVEN && given.needed == first.needed, "an error prints otherwise", offset);
     expect(memcmp(out, message, long_message) == 0, "an error does not begin with its message", offset);
     free(out);
     free(text);
@@ -441,7 +441,7 @@ static const char *const pieces[] = {"(;",  ";)",     ";;", "\n",   "\"",       
                                      "$",   "$\"a\"", "@",  "@\"",  "0x",        "1_0",       "-0x1.8p-3", "nan:0x7f", "+inf",
                                      "1e5", "_",      ",",  "\xe2\x80\xae", "\xc3\xa9", "\xf0\x9f\x98\x80", "\t",  "(@a)",  ""};
 
-/* A few bytes of the text are replaced, taken out, or stand behind another piece. */
+/* A few bytes of the text are replaced, taken out, or come after another piece. */
 static void mutate(const uint8_t *bytes, size_t len) {
     uint8_t *mutant = room_of(len + 64);
     unsigned turns = 1 + (unsigned)(next_random() % 4);

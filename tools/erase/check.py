@@ -503,7 +503,7 @@ def committed_faults():
             if path.is_file() and path not in wanted:
                 yield f"{path}: made of no source"
     if not has_rustfmt:
-        print("check.py: the layout is not compared, as no rustfmt is here")
+        print("check.py: the layout is left out, as no rustfmt is here")
 
 
 def made_faults():

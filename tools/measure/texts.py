@@ -3,7 +3,7 @@
 
 usage: texts.py FOLDER GENERATED
 
-annotated     GENERATED with a group of an annotation behind each tenth line
+annotated     GENERATED with a group of an annotation after each tenth line
 dense         10 MB of short lines with such groups, nested and quoted ones among them
 u32_..        a million integers of 32 bits: decimal, hexadecimal, and in all spellings
 groups        300,000 groups

@@ -11,3 +11,5 @@
 #[allow(unsafe_code)]
 pub mod proved;
 pub mod rows;
+#[cfg(test)]
+mod tests;

@@ -1,13 +1,13 @@
 //! Measures this project's calls beside those of the crate `wast`, in one process: in each pass every contender runs once, in turn, the first of them
 //! another in each pass. A time is the processor time of the thread, and a ratio that of the medians, the crate's to ours: above 1 ours is faster.
-//! Ours and the crate's have to answer the same sum, and not 0, which stands for a text that is refused.
+//! Ours and the crate's have to answer the same sum, and not 0, which is for a text that is refused.
 //!
 //! usage: measure PASSES lexing|library|parser|numbers|groups|places|errors TEXT..    the rows of a Markdown table
 //!        measure functions SUITE                                             the functions of a suite: ours, and the crate's or -
 //!        measure once FUNCTION TEXT [BYTES]                                  one call on the text, or on its front: the sum, and by how many
 //!                                                                            bytes the process grew
 //!
-//! In `errors` the fault stands at the text's last byte. Each contender's best, median and quartiles go to standard error.
+//! In `errors` the fault is at the text's last byte. Each contender's best, median and quartiles go to standard error.
 
 mod library;
 mod measure;

@@ -35,7 +35,7 @@ fn list(text: &str, allow_confusing: bool) -> io::Result<(Vec<u8>, Option<wast::
     let mut lexer = Lexer::new(text);
     lexer.allow_confusing_unicode(allow_confusing);
     let mut lines = Vec::new();
-    // `iter` may go on behind a fault, or repeat it without end.
+    // `iter` may go on after a fault, or repeat it without end.
     for token in lexer.iter(0) {
         match token {
             Ok(token) => write_line(&mut lines, &token)?,

@@ -65,6 +65,23 @@ pub fn without_memory<T>(call: impl FnOnce() -> T) -> T {
     answer
 }
 
+/// What a call answers and leaves of what it is given, with its first request refused, its second and so on; and the same with none refused.
+pub fn refusing_in_turn<S, T>(
+    given: impl Fn() -> S,
+    call: impl Fn(&mut S) -> T,
+) -> (Vec<(T, S)>, (T, S)) {
+    let mut refused = Vec::new();
+    loop {
+        let mut left = given();
+        let (answer, asked) = granting(refused.len(), || call(&mut left));
+        if asked <= refused.len() {
+            assert!(!refused.is_empty(), "no request was made");
+            return (refused, (answer, left));
+        }
+        refused.push((answer, left));
+    }
+}
+
 /// Grants the requests from here on, within a call of [`granting`].
 pub fn grant_all() {
     GRANTED.set(usize::MAX);

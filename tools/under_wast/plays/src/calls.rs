@@ -64,12 +64,12 @@ fn calls(parser: Parser<'_>, count: usize, depth: usize) -> Result<()> {
     Ok(())
 }
 
-/// What a cursor takes, and where it stands then.
+/// What a cursor takes, and where it is then.
 macro_rules! take {
-    ($parser:ident, $taker:ident, $value:ident => $told:expr) => {
+    ($parser:ident, $taker:ident, $value:ident => $found:expr) => {
         tell($parser.step(|cursor| {
             Ok(match cursor.$taker()? {
-                Some(($value, rest)) => (Some(($told, rest.cur_span())), rest),
+                Some(($value, rest)) => (Some(($found, rest.cur_span())), rest),
                 None => (None, cursor),
             })
         }))
@@ -173,16 +173,16 @@ fn group(parser: Parser<'_>, depth: usize) -> Result<Span> {
     })
 }
 
-/// The cursor behind a word, and whether there was one.
+/// The cursor after a word, and whether there was one.
 fn past_word(cursor: Cursor<'_>) -> Result<(bool, Cursor<'_>)> {
-    let behind = match cursor.keyword()? {
+    let after = match cursor.keyword()? {
         Some((_, rest)) => Some(rest),
         None => match cursor.string()? {
             Some((_, rest)) => Some(rest),
             None => cursor.integer()?.map(|(_, rest)| rest),
         },
     };
-    Ok(behind.map_or((false, cursor), |rest| (true, rest)))
+    Ok(after.map_or((false, cursor), |rest| (true, rest)))
 }
 
 fn errors(parser: Parser<'_>) {

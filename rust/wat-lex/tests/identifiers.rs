@@ -1,0 +1,201 @@
+//! Places, identifiers, indices, and identifiers that a program makes.
+
+mod refusing;
+
+use refusing::refusing_in_turn;
+use std::fmt::Debug;
+use std::hash::{DefaultHasher, Hash, Hasher};
+use wat_lex::proved::gensym::{FillError, Gensym, GensymFull};
+use wat_lex::proved::token::{Id, Index, LineIndex, Span};
+use wat_lex::shim::alloc::Global;
+use wat_lex::shim::borrow::CowStr;
+
+fn at(offset: usize) -> Span {
+    Span::from_offset(offset)
+}
+
+fn owned<'a>(name: &str, span: Span) -> Id<'a> {
+    Id::from_cow(CowStr::Owned(name.to_string().into()), span)
+}
+
+/// The first identifier that a program makes.
+fn made<'a>(span: Span) -> Id<'a> {
+    Gensym::new().generate(span).unwrap()
+}
+
+fn hash_of(value: &impl Hash) -> u64 {
+    let mut hasher = DefaultHasher::new();
+    value.hash(&mut hasher);
+    hasher.finish()
+}
+
+/// The values and their hashes are equal, or neither is.
+fn are_equal_if<T: Hash + PartialEq + Debug>(equal: bool, a: &T, b: &T) {
+    assert_eq!(a == b, equal, "{a:?} {b:?}");
+    assert_eq!(hash_of(a) == hash_of(b), equal, "{a:?} {b:?}");
+}
+
+#[test]
+fn places_are_ordered_by_their_offsets() {
+    for (a, b) in [(0, 0), (0, 1), (1, 0), (7, usize::MAX)] {
+        let (first, second) = (at(a), at(b));
+        assert_eq!(first.offset(), a);
+        assert_eq!(first < second, a < b, "{a} {b}");
+        assert_eq!(first.cmp(&second), a.cmp(&b), "{a} {b}");
+        are_equal_if(a == b, &first, &second);
+    }
+}
+
+/// Line and column of a place of a text.
+fn place(text: &str, offset: usize) -> (usize, usize) {
+    let place = at(offset).linecol_in(text);
+    let lines = LineIndex::new(Global, text).unwrap();
+    assert_eq!(lines.linecol(at(offset)), place, "{offset}");
+    place
+}
+
+#[test]
+fn places_are_lines_and_columns() {
+    let shown = |offset| {
+        let (line, column) = place("(a\n\r\n  b", offset);
+        format!("{line}:{column} ")
+    };
+    let places: String = (0..10).map(shown).collect();
+    assert_eq!(places, "0:0 0:1 0:2 1:0 1:1 2:0 2:1 2:2 2:3 3:0 ");
+    assert_eq!([0, usize::MAX].map(|offset| place("", offset)), [(0, 0); 2]);
+}
+
+#[test]
+fn places_are_those_of_a_long_text() {
+    let count = 1_100_000;
+    let text = "a".repeat(count) + "\nb";
+    let places = [0, count, count + 1, count + 2].map(|offset| place(&text, offset));
+    assert_eq!(places, [(0, 0), (0, count), (1, 0), (1, 1)]);
+}
+
+#[test]
+fn identifiers_are_equal_at_any_place() {
+    let ids = |span| {
+        [
+            Id::new("x", span),
+            owned("x", span),
+            made(span),
+            Id::new("gensym", span),
+            Id::new("y", span),
+        ]
+    };
+    // The first two are equal, and no others.
+    for (number, near) in ids(at(0)).iter().enumerate() {
+        for (other, far) in ids(at(9)).iter().enumerate() {
+            are_equal_if(number.max(1) == other.max(1), near, far);
+        }
+    }
+}
+
+#[test]
+fn indices_are_equal_at_any_place() {
+    let indices = |span| {
+        [
+            Index::Num(0, span),
+            Index::Num(12, span),
+            Index::Num(13, span),
+            Index::Id(Id::new("x", span)),
+            Id::new("y", span).into(),
+        ]
+    };
+    for (number, near) in indices(at(0)).iter().enumerate() {
+        for (other, far) in indices(at(9)).iter().enumerate() {
+            are_equal_if(number == other, near, far);
+        }
+    }
+}
+
+#[test]
+fn copies_keep_name_and_place() {
+    let long = "n".repeat(1_100_000);
+    for name in ["a", "", "\u{6f22}", &long] {
+        for id in [Id::new(name, at(9)), owned(name, at(9))] {
+            let copy = id.clone(Global).unwrap();
+            assert!(copy.name() == name && copy == id);
+            assert_eq!(copy.span(), at(9));
+        }
+    }
+    for index in [
+        Index::Id(Id::new("a", at(9))),
+        Index::Id(owned("a", at(9))),
+        Index::Num(12, at(9)),
+    ] {
+        let copy = index.clone(Global).unwrap();
+        assert_eq!((&copy, copy.span()), (&index, at(9)));
+    }
+}
+
+#[test]
+fn an_identifier_shows_its_name_or_its_generation() {
+    let rows = [
+        (Id::new("x", at(9)), "\"x\""),
+        (owned("a\"b", at(9)), "\"a\\\"b\""),
+        (made(at(9)), "Id { generation: 1 }"),
+    ];
+    for (id, shown) in rows {
+        assert_eq!(format!("{id:?}"), shown);
+    }
+}
+
+#[test]
+fn made_identifiers_differ_until_the_counter_is_reset() {
+    let mut gensym = Gensym::new();
+    let [first, second] = [at(9), at(9)].map(|span| gensym.generate(span).unwrap());
+    assert_ne!(first, second);
+    assert_eq!((first.name(), first.span()), ("gensym", at(9)));
+    gensym.reset();
+    let again = gensym.generate(at(0)).unwrap();
+    assert_eq!((&again, again.span()), (&first, at(0)));
+}
+
+#[test]
+fn the_last_generation_is_followed_by_none() {
+    let mut gensym = Gensym::with_generation(u32::MAX - 1);
+    let mut slot = Some(gensym.generate(at(0)).unwrap());
+    assert_eq!(gensym.generate(at(0)), Err(GensymFull));
+    let copy = gensym.fill(Global, at(0), &mut slot).unwrap();
+    assert_eq!(format!("{copy:?}"), "Id { generation: 4294967295 }");
+    let mut slot = None;
+    assert_eq!(gensym.fill(Global, at(0), &mut slot), Err(FillError::Full));
+    assert_eq!(slot, None);
+    assert_eq!(gensym.generate(at(0)), Err(GensymFull));
+}
+
+#[test]
+fn an_empty_slot_is_filled_once() {
+    let (mut gensym, mut slot) = (Gensym::new(), None);
+    let first = gensym.fill(Global, at(9), &mut slot).unwrap();
+    assert_eq!((&first, first.span()), (&made(at(0)), at(9)));
+    let again = gensym.fill(Global, at(0), &mut slot).unwrap();
+    assert_eq!((&again, again.span()), (&first, at(9)));
+    assert_ne!(gensym.generate(at(9)).unwrap(), first);
+}
+
+#[test]
+fn a_full_slot_is_copied() {
+    let (mut gensym, mut slot) = (Gensym::new(), Some(Id::new("x", at(0))));
+    let copy = gensym.fill(Global, at(9), &mut slot).unwrap();
+    assert_eq!((copy.name(), copy.span()), ("x", at(0)));
+    assert_eq!(slot, Some(copy));
+    assert_eq!(gensym.generate(at(0)).unwrap(), made(at(0)));
+}
+
+#[test]
+fn a_refused_copy_leaves_slot_and_counter() {
+    let given = || (Gensym::with_generation(7), Some(owned("x", at(0))));
+    let call =
+        |(gensym, slot): &mut (Gensym, Option<Id<'static>>)| gensym.fill(Global, at(9), slot);
+    let (refused, (answer, _)) = refusing_in_turn(given, call);
+    assert_eq!(answer, Ok(Id::new("x", at(0))));
+    for (answer, (mut gensym, slot)) in refused {
+        assert_eq!(answer, Err(FillError::Memory));
+        assert_eq!(slot, Some(Id::new("x", at(0))));
+        let next = Gensym::with_generation(7).generate(at(0));
+        assert_eq!(gensym.generate(at(0)), next);
+    }
+}

@@ -1,0 +1,77 @@
+//! The number words of `tests/numbers.txt`, and words that are nearly numbers, each with what it is and reads as.
+
+use wat_lex::proved::lexer::{Float, Lexer, Token, TokenKind};
+use wat_lex::shim::alloc::Global;
+use wat_lex::shim::borrow::CowStr;
+
+const WORDS: &str = include_str!("../../../tests/numbers.txt");
+
+/// What may follow a word: nothing, and what ends a block of 16 bytes after it or goes on past its end.
+const FOLLOWING: [&str; 3] = ["", " ", ")5.5e5 and some bytes more"];
+
+fn part<'a>(digits: &'a Option<CowStr<'_>>) -> &'a str {
+    digits.as_ref().map_or("_", |digits| digits.as_str())
+}
+
+fn shown_float(float: Float<'_>) -> String {
+    let sign = |negative| if negative { "-" } else { "" };
+    match float {
+        Float::Inf { negative } => sign(negative).to_string() + "inf",
+        Float::Nan { val, negative } => match val {
+            Some(payload) => format!("{}nan {payload}", sign(negative)),
+            None => sign(negative).to_string() + "nan",
+        },
+        Float::Val {
+            hex,
+            integral,
+            fractional,
+            exponent,
+        } => {
+            let base = if hex { 16 } else { 10 };
+            let (fractional, exponent) = (part(&fractional), part(&exponent));
+            format!("float {base} {integral} {fractional} {exponent}")
+        }
+    }
+}
+
+/// What a word is, as the table has it: the base and the digits of an integer; the base of a float, its digits before and after the dot and those
+/// of its exponent, where `_` is for none; the payload of a `nan`.
+fn shown(token: Token, text: &str) -> String {
+    match token.kind {
+        TokenKind::Integer(kind) => {
+            let integer = token.integer(Global, text, kind).unwrap();
+            let (digits, base) = integer.val();
+            format!("integer {base} {digits}")
+        }
+        TokenKind::Float(kind) => shown_float(token.float(Global, text, kind).unwrap()),
+        TokenKind::Keyword => "keyword".to_string(),
+        TokenKind::Reserved => "reserved".to_string(),
+        kind => format!("{kind:?}"),
+    }
+}
+
+#[test]
+fn numbers_at_the_ends_of_blocks() {
+    for row in WORDS.lines() {
+        let (word, wanted) = row.split_once(' ').expect("a word and what it is");
+        for following in FOLLOWING {
+            let text = format!("{word}{following}");
+            let lexer = Lexer::new(&text);
+            let token = lexer.scan(0).unwrap().expect("a token");
+            assert_eq!(shown(token, &text), wanted, "{text}");
+            assert_eq!(token.len as usize, word.len(), "{text}");
+            assert_eq!(lexer.scan_by_byte(0), Ok(Some(token)), "{text}");
+        }
+    }
+}
+
+#[test]
+fn an_integer_that_is_read_twice_is_the_same() {
+    let text = "-0xa_b";
+    let token = Lexer::new(text).scan(0).unwrap().unwrap();
+    let TokenKind::Integer(kind) = token.kind else {
+        panic!("{:?}", token.kind)
+    };
+    let read = || token.integer(Global, text, kind).unwrap();
+    assert_eq!(read(), read());
+}

@@ -1,0 +1,83 @@
+//! A second reader of type sections, to compare with.
+
+use wat_lex::{Lexer, TokenKind};
+
+/// The section of a text's types, empty where it has none; `None` where the text is no module of types. It is for sections of less than 128 bytes.
+pub fn section(text: &str) -> Option<Vec<u8>> {
+    let words = words(text)?;
+    let (mut rest, mut count, mut types) = match words.as_slice() {
+        ["(", "module", rest @ .., ")"] => (rest, 0, Vec::new()),
+        _ => return None,
+    };
+    while !rest.is_empty() {
+        let (function, after) = function_type(rest)?;
+        (count, rest) = (count + 1, after);
+        types.extend(function);
+    }
+    if count == 0 {
+        return Some(types);
+    }
+    types.insert(0, count);
+    Some([&[0x01, types.len() as u8], types.as_slice()].concat())
+}
+
+/// The words of a text that count: no white space, no comments, and no annotations. `None` where it has a fault, an identifier without a name or an
+/// annotation that is not closed.
+fn words(text: &str) -> Option<Vec<&str>> {
+    let mut words = Vec::new();
+    let mut depth = 0;
+    let tokens: Vec<_> = Lexer::new(text).iter(0).collect::<Result<_, _>>().ok()?;
+    for (number, token) in tokens.iter().enumerate() {
+        let is_marked = |next: &wat_lex::Token| next.kind == TokenKind::Annotation;
+        let opens = depth > 0 || tokens.get(number + 1).is_some_and(is_marked);
+        match token.kind {
+            TokenKind::LParen if opens => depth += 1,
+            TokenKind::RParen if depth > 0 => depth -= 1,
+            TokenKind::Whitespace | TokenKind::LineComment | TokenKind::BlockComment => {}
+            _ if depth == 0 => words.push(token.src(text)),
+            _ => {}
+        }
+    }
+    (depth == 0 && !words.contains(&"$")).then_some(words)
+}
+
+/// The bytes of the function type that words begin with, and the words after it.
+fn function_type<'a, 'w>(words: &'w [&'a str]) -> Option<(Vec<u8>, &'w [&'a str])> {
+    let words = words.strip_prefix(&["(", "type"])?;
+    let words = match words {
+        [name, after @ ..] if name.starts_with('$') => after,
+        _ => words,
+    };
+    let words = words.strip_prefix(&["(", "func"])?;
+    let (params, words) = values(words, "param")?;
+    let (results, words) = values(words, "result")?;
+    let after = words.strip_prefix(&[")", ")"])?;
+    Some(([&[0x60], params.as_slice(), &results].concat(), after))
+}
+
+/// The number types in the groups of a name that words begin with, after their count, and the words after them.
+fn values<'a, 'w>(mut words: &'w [&'a str], name: &str) -> Option<(Vec<u8>, &'w [&'a str])> {
+    let mut types = vec![0];
+    while let ["(", first, group @ ..] = words {
+        if *first != name {
+            break;
+        }
+        let end = group.iter().position(|word| *word == ")")?;
+        let named = match &group[..end] {
+            [id, value] if name == "param" && id.starts_with('$') => &[*value],
+            values => values,
+        };
+        for word in named {
+            types.push(value_type(word)?);
+        }
+        words = &group[end + 1..];
+    }
+    types[0] = types.len() as u8 - 1;
+    Some((types, words))
+}
+
+fn value_type(word: &str) -> Option<u8> {
+    let types = ["f64", "f32", "i64", "i32"];
+    let place = types.iter().position(|name| *name == word)?;
+    Some(0x7c + place as u8)
+}

@@ -1,0 +1,87 @@
+#!/usr/bin/env python3
+"""Compares each place that has the version of this project with `version` in rust/Cargo.toml, which is the one to change.
+
+usage: check_version.py [--self-test]
+"""
+import pathlib
+import re
+import sys
+
+PROJECT = pathlib.Path(__file__).resolve().parents[1]
+SOURCE = ("rust/Cargo.toml", r'^version = "(.*)"$')
+PROGRAM = r'"wat_tokens ([^ ]*), of '
+# The other places, and how the version is found there.
+TEXTS = [
+    ("rust/Cargo.lock", r'^name = "wat-.*"\nversion = "(.*)"$'),
+    ("rust/wat-parser/Cargo.toml", r'^wat-lex = \{ version = "([^"]*)"'),
+    ("include/wat.h", r'^#define WAT_VERSION_TEXT "(.*)"$'),
+    ("crates/wat_commands/src/help.rt", PROGRAM),
+    ("crates/wat_commands/specs/Help.antt", PROGRAM),
+    ("rust/wat-tokens/src/commands/help.rs", PROGRAM),
+]
+# Those that have it as a number.
+NUMBERS = [
+    ("include/wat.h", r"^#define WAT_VERSION (\d+)$"),
+    ("crates/wat_parser_c/src/version.rt", r"ensures \{ result ≡ (\d+) \}"),
+    ("crates/wat_parser_c/src/version.rt", r"^    (\d+)$"),
+    ("rust/wat-c/src/proved/version.rs", r"^    (\d+)$"),
+]
+
+
+def read(path):
+    return (PROJECT / path).read_text(encoding="utf-8")
+
+
+def number(version):
+    """10000 times the first part of a version, 100 times the second, and the third."""
+    first, second, third = (int(part) for part in version.split("."))
+    return str(10000 * first + 100 * second + third)
+
+
+def found(text, pattern):
+    return re.findall(pattern, text, re.M)
+
+
+def faults(read):
+    """The places that have another version, or none."""
+    versions = found(read(SOURCE[0]), SOURCE[1])
+    if len(versions) != 1:
+        return [f"{SOURCE[0]} has the versions {versions}"]
+    places = [(*place, versions[0]) for place in TEXTS] + [(*place, number(versions[0])) for place in NUMBERS]
+    return [f"{path} has {found(read(path), pattern)}, not {wanted}" for path, pattern, wanted in places if set(found(read(path), pattern)) != {wanted}]
+
+
+def changed(path, pattern):
+    """Reads as `read` does, but for the last version at a place, which is another one."""
+    def with_another(other):
+        text = read(other)
+        if other != path:
+            return text
+        last = list(re.finditer(pattern, text, re.M))[-1]
+        return text[: last.start(1)] + "7" + text[last.start(1) :]
+
+    return with_another
+
+
+def self_test():
+    """Whether another version is seen at each place."""
+    places = [SOURCE, *TEXTS, *NUMBERS]
+    unseen = [path for path, pattern in places if not faults(changed(path, pattern))]
+    for path in unseen:
+        print(f"check_version.py: another version is not seen in {path}")
+    print(f"check_version.py: another version is seen at {len(places) - len(unseen)} of {len(places)} places")
+    return bool(unseen)
+
+
+def main():
+    if sys.argv[1:] == ["--self-test"]:
+        return self_test()
+    wrong = faults(read)
+    for fault in wrong:
+        print(f"check_version.py: {fault}")
+    print(f"check_version.py: {1 + len(TEXTS) + len(NUMBERS)} places, {len(wrong)} faults")
+    return bool(wrong)
+
+
+if __name__ == "__main__":
+    sys.exit(main())
