@@ -18,7 +18,7 @@ import tempfile
 import rattle_source
 from rattle_source import OPEN, items_of, past_group, split_at, tokens_of, uses_of, written
 
-# Crates of tests, and the programs that refuse requests from outside. No other crate may use one of them.
+# Crates of tests. No other crate may use one of them.
 HARNESS = {"wat_command_tests", "wat_response_tests"}
 
 # A place is a file, a function of it, and what is there, once. Functions of an `impl` have the type's name in front, and the trait's.

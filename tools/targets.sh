@@ -73,7 +73,7 @@ sum() {
 # A test that starts itself again can't do so in a machine that is emulated.
 alone=(-- --skip a_refused_request_ends_the_program)
 crates=(-p wat-lex -p wat-parser -p wat-c)
-requests=(-p wat-tokens --test table_of_requests)
+requests=(-p wat-tokens --test requests)
 
 if part oldest "$host" "${OLDEST:-cargo +1.85}"; then
     try "${crates[@]}"
