@@ -50,7 +50,6 @@ WRITTEN = {
     "format!(in": "try_format!(",
     "vec![in": "try_vec![",
     ".join(alloc,": ".join_in(alloc,",
-    ".to_string(alloc)": ".to_string_in(alloc)",
     # A clone of any type can't be refused in Rust.
     ".kind.clone()?": ".kind.clone()",
     # A formatter has its writer as a parameter in Rattle, and none in Rust.
