@@ -1,8 +1,8 @@
 #!/usr/bin/env bash
 # Builds the program, proved, and runs it: its exit status, standard output and standard error must be the ones that stand here. First come the runs
 # that it was asked for: over standard input, with no word, `sig` or `play`, and the two options. Then what it has beyond these, which is known
-# by its words: JSON, blank, types, files, help. An input that is too long is left out, since it takes 4 GiB of memory; a test of wat_response_tests
-# has its line and status.
+# by its words: JSON, blank, types, files, help. An input that is too long is left out, since it takes 4 GiB of memory; a test of
+# rust/wat-tokens/tests/outcomes.rs has its line and status.
 #
 # usage: tools/check_program.sh [PROGRAM]
 # Where BY_CARGO is set the program is the one that cargo builds, and a standard input that is closed is an empty one: Rust's library opens

@@ -147,6 +147,7 @@ fn made_identifiers_differ_until_the_counter_is_reset() {
     let mut gensym = Gensym::new();
     let [first, second] = [at(9), at(9)].map(|span| gensym.generate(span).unwrap());
     assert_ne!(first, second);
+    assert_ne!(second, Id::new("gensym", at(9)));
     assert_eq!((first.name(), first.span()), ("gensym", at(9)));
     gensym.reset();
     let again = gensym.generate(at(0)).unwrap();

@@ -78,7 +78,7 @@ fn edits(text: &str) -> Vec<String> {
         let (before, after) = (words[..at].concat(), words[at + 1..].concat());
         let word = words[at];
         edits.push(format!("{before}{after}"));
-        edits.push(format!("{before}{word}{word}{after}"));
+        edits.push(format!("{before}{word} {word}{after}"));
         if let [next, rest @ ..] = &words[at + 1..] {
             edits.push(format!("{before}{next}{word}{}", rest.concat()));
         }

@@ -1,4 +1,4 @@
--- How long what is printed of a place can be.
+-- How a place and its line are shown, and how long that can be.
 use Rattle.std.proofs.Common.{◌≡◌, ◌≤◌, ◌<◌, ◌+◌, ◌-◌, ◌*◌, ◌/◌, ◌%◌, ℕ, zero, suc, Bool, true, false, List, [], ◌∷◌, ◌++◌, length, take, true≢false, eq-eqb, arith, ap, sym, ◌∙◌, subst, length-append, inl, inr, le-leb}
 use Rattle.std.specs.Prelude.{◌==◌, codes, flat_map, replicate, unwrap_or, slice_get, slice_index, if◌then◌else◌}
 use Rattle.std.specs.Fmt.{decimal, digits, digits_onto, digit_glyph}
@@ -12,9 +12,9 @@ use Rattle.std.proofs.lemmas.Str.{encodes-append, length-encode, len_utf8_bounds
 use lib.Utf8.{encode, encodes}
 use Rattle.wat_lex.specs.grammar.Classes.{is_confusing}
 use Rattle.wat_lex.specs.errors.Positions.{line_and_column}
-use Rattle.wat_lex.specs.errors.Rendering.{Excerpt, excerpt, shown, shown_line, shown_place, right_in}
+use Rattle.wat_lex.specs.errors.Rendering.{Excerpt, excerpt, shown_in_line, shown_line, shown_place, right_in}
 
-length_if : (b : Bool) (x y : List ℕ) (n : ℕ) → length x ≤ n → length y ≤ n → length (if b then x else y) ≤ n
+pub length_if : (b : Bool) (x y : List ℕ) (n : ℕ) → length x ≤ n → length y ≤ n → length (if b then x else y) ≤ n
 length_if true x y n h k = h
 length_if false x y n h k = k
 
@@ -26,31 +26,31 @@ length_onto (suc k) base n acc =
     let glyph = digit_glyph false (n % base) in
     length_if (n / base == 0) (glyph ∷ acc) (digits_onto k base false (n / base) (glyph ∷ acc)) (suc k + length acc) (omega arith) (omega (arith, length_onto k base (n / base) (glyph ∷ acc)))
 
-length_digits : (base n : ℕ) → length (digits base false n) ≤ 64
+pub length_digits : (base n : ℕ) → length (digits base false n) ≤ 64
 unfolding digits
 length_digits base n = length_onto 64 base n []
 
 -- ---- what is shown
 
-not_tab : (c : ℕ) → (c ≡ 9 → ⊥) → shown c ≡ (if is_confusing c then [] else c ∷ [])
+not_tab : (c : ℕ) → (c ≡ 9 → ⊥) → shown_in_line c ≡ (if is_confusing c then [] else c ∷ [])
 not_tab c n = ap (λ b. if b then codes "    " else if is_confusing c then [] else c ∷ []) (ne_eqb c 9 n)
 
-shown_tab : (c : ℕ) → c ≡ 9 → codes "    " ≡ shown c
-shown_tab c h = sym (ap shown h)
+pub shown_tab : (c : ℕ) → c ≡ 9 → codes "    " ≡ shown_in_line c
+shown_tab c h = sym (ap shown_in_line h)
 
-shown_none : (c : ℕ) → (c ≡ 9 → ⊥) → is_confusing c ≡ true → [] ≡ shown c
+pub shown_none : (c : ℕ) → (c ≡ 9 → ⊥) → is_confusing c ≡ true → [] ≡ shown_in_line c
 shown_none c n k = sym (not_tab c n ∙ ap (λ b. if b then [] else c ∷ []) k)
 
-shown_self : (c : ℕ) → (c ≡ 9 → ⊥) → is_confusing c ≡ false → c ∷ [] ≡ shown c
+pub shown_self : (c : ℕ) → (c ≡ 9 → ⊥) → is_confusing c ≡ false → c ∷ [] ≡ shown_in_line c
 shown_self c n k = sym (not_tab c n ∙ ap (λ b. if b then [] else c ∷ []) k)
 
-shown_near : (e : Excerpt) → e.column ≤ 500 → shown_place e ≡ codes "\n     --> " ++ (codes "<anon>:" ++ decimal e.line ++ codes ":" ++ decimal e.column) ++ codes "\n      |" ++ codes "\n " ++ right_in 4 (decimal e.line) ++ codes " | " ++ e.snippet ++ codes "\n      | " ++ right_in e.column (codes "^")
+pub shown_near : (e : Excerpt) → e.column ≤ 500 → shown_place e ≡ codes "\n     --> " ++ (codes "<anon>:" ++ decimal e.line ++ codes ":" ++ decimal e.column) ++ codes "\n      |" ++ codes "\n " ++ right_in 4 (decimal e.line) ++ codes " | " ++ e.snippet ++ codes "\n      | " ++ right_in e.column (codes "^")
 shown_near e l =
     let place = codes "<anon>:" ++ decimal e.line ++ codes ":" ++ decimal e.column in
     ap (λ b. if b then codes " at " ++ place else codes "\n     --> " ++ place ++ codes "\n      |" ++ codes "\n " ++ right_in 4 (decimal e.line) ++ codes " | " ++ e.snippet ++ codes "\n      | " ++ right_in e.column (codes "^"))
     (lt-leb 501 e.column (omega (arith, l)))
 
-shown_far : (e : Excerpt) → 500 < e.column → shown_place e ≡ codes " at " ++ (codes "<anon>:" ++ decimal e.line ++ codes ":" ++ decimal e.column)
+pub shown_far : (e : Excerpt) → 500 < e.column → shown_place e ≡ codes " at " ++ (codes "<anon>:" ++ decimal e.line ++ codes ":" ++ decimal e.column)
 shown_far e l =
     let place = codes "<anon>:" ++ decimal e.line ++ codes ":" ++ decimal e.column in
     ap (λ b. if b then codes " at " ++ place else codes "\n     --> " ++ place ++ codes "\n      |" ++ codes "\n " ++ right_in 4 (decimal e.line) ++ codes " | " ++ e.snippet ++ codes "\n      | " ++ right_in e.column (codes "^"))
@@ -76,7 +76,7 @@ length_tab = omega arith
 length_self : (c : ℕ) → length (encodes (c ∷ [])) ≤ 4
 length_self c = let bounds = len_utf8_bounds c in omega (arith, length-append (encode c) [], length-encode c, bounds.1)
 
-length_shown : (c : ℕ) → length (encodes (shown c)) ≤ 4
+length_shown : (c : ℕ) → length (encodes (shown_in_line c)) ≤ 4
 length_shown c =
     elim (cases_Bool (c == 9)) [
       | inl t ↦ subst (λ s. length (encodes s) ≤ 4) (shown_tab c (eqb-true c 9 t)) length_tab
@@ -87,10 +87,10 @@ length_shown c =
           ]
     ]
 
-length_shown_all : (cs : List ℕ) → length (encodes (flat_map shown cs)) ≤ 4 * length cs
+length_shown_all : (cs : List ℕ) → length (encodes (flat_map shown_in_line cs)) ≤ 4 * length cs
 length_shown_all [] = omega arith
 length_shown_all (c ∷ cs) =
-    let parts = ap length (encodes-append (shown c) (flat_map shown cs)) ∙ length-append (encodes (shown c)) (encodes (flat_map shown cs)) in
+    let parts = ap length (encodes-append (shown_in_line c) (flat_map shown_in_line cs)) ∙ length-append (encodes (shown_in_line c)) (encodes (flat_map shown_in_line cs)) in
     omega (arith, parts, length_shown c, length_shown_all cs)
 
 length_shown_line : (line : List ℕ) → length (shown_line line) ≤ 4 * length line

@@ -2,8 +2,8 @@ use Rattle.std.proofs.Common.{sym, ap, ◌∙◌, [], ◌∷◌, length}
 use Rattle.std.specs.Str.Iter.{chars_rest}
 use Rattle.wat_lex.specs.inside.ScannedStrings.{escape_bytes}
 use Rattle.wat_lex.proofs.inside.StringSteps.{Took, took, refused, digits_missing, digits_wrong, escaped_on, breaks_on, if_ok, if_err}
-use Rattle.wat_lex.proofs.lexer.scan.strings.digits.Goals as goal
-use Rattle.wat_lex.proofs.lexer.scan.strings.digits.Goals.{In-Some}
+use Rattle.wat_lex.proofs.lexer.scan.strings.braced_number.Goals as goal
+use Rattle.wat_lex.proofs.lexer.scan.strings.braced_number.Goals.{In-Some}
 
 first : (c : In-Some) → Took (chars_rest c.args.it.now) c.in-Some.c (chars_rest c.next.new.self)
 first c = took (chars_rest c.args.it.now) (chars_rest c.next.new.self) c.in-Some.c c.requires.utf8 c.in-Some.ensures.steps.0

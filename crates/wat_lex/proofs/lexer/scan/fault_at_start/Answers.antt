@@ -1,8 +1,8 @@
 use Rattle.std.proofs.Common.{sym, ◌∙◌, ◌≡◌, ap, ℕ, List, get_or}
 use Rattle.wat_lex.specs.grammar.Classes.{is_run_char}
 use Rattle.wat_lex.proofs.inside.Outlines.{word_no_fault, run_no_fault, refused_some, refused_other}
-use Rattle.wat_lex.proofs.lexer.scan.first_fault.Goals as goal
-use Rattle.wat_lex.proofs.lexer.scan.first_fault.Goals.{else-first-eq40-via-then-first-eq40+else-second-eq59, else-first-eq40-via-else-first-eq40, else-first-eq59-via-then-first-eq59+else-second-eq59-2, else-first-eq59-via-else-first-eq59}
+use Rattle.wat_lex.proofs.lexer.scan.fault_at_start.Goals as goal
+use Rattle.wat_lex.proofs.lexer.scan.fault_at_start.Goals.{else-first-eq40-via-then-first-eq40+else-second-eq59, else-first-eq40-via-else-first-eq40, else-first-eq59-via-then-first-eq59+else-second-eq59-2, else-first-eq59-via-else-first-eq59}
 
 reads : (text bs : List ℕ) (i x : ℕ) → bs ≡ text → x ≡ get_or bs i 0 → get_or text i 0 ≡ x
 reads text bs i x e f = ap (λ t. get_or t i 0) (sym e) ∙ sym f

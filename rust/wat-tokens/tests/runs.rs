@@ -1,0 +1,223 @@
+//! The table of runs: over the program that cargo builds, and over the calls that list, show and play.
+
+#[path = "../../wat-lex/tests/refusing/mod.rs"]
+mod refusing;
+mod table;
+
+use refusing::granting;
+use std::fs;
+use std::io::{self, Read, Write};
+use std::path::{Path, PathBuf};
+use std::process::{Command, Stdio};
+use table::{Answer, Record, Table};
+use wat_lex::proved::error::Error;
+use wat_parser::proved::parser::Call;
+use wat_tokens::commands::Settings;
+use wat_tokens::commands::run::{RunError, run_list, run_play, run_sig};
+use wat_tokens::lines::ends::Plain;
+use wat_tokens::lists::calls::read_call;
+use wat_tokens::shim::alloc::Global;
+use wat_tokens::shim::prelude::String as Word;
+
+/// A folder with the files of the table, which goes where it is dropped.
+struct Folder(PathBuf);
+
+impl Folder {
+    fn of(table: &Table) -> Folder {
+        let path = std::env::temp_dir().join(format!("wat_tokens-{}-runs", std::process::id()));
+        fs::create_dir(&path).unwrap();
+        for (name, text) in &table.files {
+            fs::write(path.join(name), text).unwrap();
+        }
+        Folder(path)
+    }
+
+    fn text(&self, name: &str) -> Vec<u8> {
+        fs::read(self.0.join(name)).unwrap()
+    }
+}
+
+impl Drop for Folder {
+    fn drop(&mut self) {
+        let _ = fs::remove_dir_all(&self.0);
+    }
+}
+
+fn run_program(words: &[String], input: &[u8], folder: &Path) -> Answer {
+    let mut running = Command::new(env!("CARGO_BIN_EXE_wat_tokens"))
+        .args(words)
+        .current_dir(folder)
+        .stdin(Stdio::piped())
+        .stdout(Stdio::piped())
+        .stderr(Stdio::piped())
+        .spawn()
+        .unwrap();
+    // Words that ask for nothing leave it unread.
+    let _ = running.stdin.take().unwrap().write_all(input);
+    let done = running.wait_with_output().unwrap();
+    Answer {
+        status: done.status.code().unwrap().try_into().unwrap(),
+        output: done.stdout,
+        report: done.stderr,
+    }
+}
+
+#[test]
+fn the_program_does_what_the_table_says() {
+    let table = Table::read();
+    let folder = Folder::of(&table);
+    for (words, record) in table.runs() {
+        let answer = run_program(words, &record.input, &folder.0);
+        assert_eq!(answer, record.answer, "{words:?}");
+    }
+    let stays = |(name, text): &(String, Vec<u8>)| folder.text(name) == *text;
+    assert!(table.files.iter().all(stays), "a file is other than it was");
+}
+
+/// One of the three calls, and what it takes beside the text.
+enum Asked {
+    List,
+    Sig(Vec<Word>),
+    Play(Vec<Call>),
+}
+
+/// The settings that words begin with, and the words after them.
+fn settings_of(words: &[String]) -> (Settings, &[String]) {
+    let is_setting =
+        |word: &&String| matches!(word.as_str(), "--allow-confusing" | "--strict-underscores");
+    let count = words.iter().take_while(is_setting).count();
+    let (given, rest) = words.split_at(count);
+    let settings = Settings {
+        allow: given.contains(&"--allow-confusing".to_owned()),
+        strict: given.contains(&"--strict-underscores".to_owned()),
+    };
+    (settings, rest)
+}
+
+/// The call that words stand for, where they are those of one.
+fn asked(words: &[String]) -> Option<Asked> {
+    let Some((verb, rest)) = words.split_first() else {
+        return Some(Asked::List);
+    };
+    match verb.as_str() {
+        "list" if rest.is_empty() => Some(Asked::List),
+        "sig" => Some(Asked::Sig(rest.iter().cloned().map(Word::from).collect())),
+        "play" => {
+            let calls = rest.iter().map(|word| read_call(Global, word).unwrap());
+            calls.collect::<Option<_>>().map(Asked::Play)
+        }
+        _ => None,
+    }
+}
+
+/// A text that is read so many bytes a call.
+struct Text<'a> {
+    rest: &'a [u8],
+    most: usize,
+}
+
+impl Read for Text<'_> {
+    fn read(&mut self, buffer: &mut [u8]) -> io::Result<usize> {
+        let most = self.most.min(buffer.len());
+        self.rest.read(&mut buffer[..most])
+    }
+}
+
+/// How a call ends, and what it writes to the room.
+fn run_call(
+    asked: &Asked,
+    settings: Settings,
+    text: Text,
+    room: Vec<u8>,
+) -> (Result<Option<Error>, RunError>, Vec<u8>) {
+    let (mut input, mut output) = (Plain::new(text), Plain::new(room));
+    let (from, to) = (&mut input, &mut output);
+    let ended = match asked {
+        Asked::List => run_list(Global, from, to, settings),
+        Asked::Sig(names) => run_sig(Global, from, to, settings, names),
+        Asked::Play(calls) => run_play(Global, from, to, settings, calls).map(|()| None),
+    };
+    (ended, output.into_inner())
+}
+
+/// What the program makes of how a call ends.
+fn answer_of((ended, output): (Result<Option<Error>, RunError>, Vec<u8>)) -> Answer {
+    let (status, report) = match ended {
+        Ok(None) => (0, String::new()),
+        Ok(Some(error)) => (1, format!("{error}\n")),
+        Err(error) => (2, format!("wat_tokens: {error}\n")),
+    };
+    Answer {
+        status,
+        output,
+        report: report.into_bytes(),
+    }
+}
+
+/// A run of the table that is one of the three calls.
+struct Case<'a> {
+    words: &'a [String],
+    asked: Asked,
+    settings: Settings,
+    record: &'a Record,
+}
+
+impl Case<'_> {
+    /// The answer where so many bytes are read a call and so many requests for memory granted, and how many there are.
+    fn answer(&self, most: usize, granted: usize) -> (Answer, usize) {
+        let rest = &self.record.input;
+        let room = Vec::with_capacity(self.record.answer.output.len());
+        let run = || run_call(&self.asked, self.settings, Text { rest, most }, room);
+        let (ended, requests) = granting(granted, run);
+        (answer_of(ended), requests)
+    }
+}
+
+fn cases(table: &Table) -> Vec<Case<'_>> {
+    let is_asked = |record: &Record| !record.answer.report.starts_with(b"usage");
+    let cases = table.runs().filter(|(_, record)| is_asked(record));
+    let cases = cases.filter_map(|(words, record)| {
+        let (settings, rest) = settings_of(words);
+        Some(Case {
+            words,
+            asked: asked(rest)?,
+            settings,
+            record,
+        })
+    });
+    let cases: Vec<Case> = cases.collect();
+    assert!(cases.len() > 60, "{}", cases.len());
+    cases
+}
+
+#[test]
+fn the_calls_do_what_the_table_says_however_short_the_reads_are() {
+    for case in cases(&Table::read()) {
+        let answers = [1, 2, 7, usize::MAX].map(|most| case.answer(most, usize::MAX).0);
+        let is_wanted = answers.iter().all(|answer| *answer == case.record.answer);
+        assert!(is_wanted, "{:?}: {answers:?}", case.words);
+    }
+}
+
+/// Refuses each request of a run with all after it.
+fn refuse_each(case: &Case) {
+    let (_, requests) = case.answer(usize::MAX, usize::MAX);
+    let refused = Answer {
+        status: 2,
+        output: Vec::new(),
+        report: b"wat_tokens: out of memory\n".to_vec(),
+    };
+    for granted in 0..requests {
+        let (answer, _) = case.answer(usize::MAX, granted);
+        assert_eq!(
+            answer, refused,
+            "{:?}, {granted} of {requests} granted",
+            case.words
+        );
+    }
+}
+
+#[test]
+fn a_call_that_gets_no_memory_has_written_nothing() {
+    cases(&Table::read()).iter().for_each(refuse_each);
+}

@@ -1,0 +1,129 @@
+//! The table of runs, `tests/runs.txt` at the root.
+
+use std::fmt;
+use std::fs::read_to_string;
+
+const TABLE: &str = concat!(env!("CARGO_MANIFEST_DIR"), "/../../tests/runs.txt");
+
+/// The files that each run finds, and the runs.
+#[derive(Default)]
+pub struct Table {
+    pub files: Vec<(String, Vec<u8>)>,
+    records: Vec<Record>,
+}
+
+/// The words of runs that come to the same, their standard input, and what they come to.
+#[derive(Default)]
+pub struct Record {
+    runs: Vec<Vec<String>>,
+    pub input: Vec<u8>,
+    pub answer: Answer,
+}
+
+/// What a run comes to.
+#[derive(Default, PartialEq)]
+pub struct Answer {
+    pub status: u8,
+    pub output: Vec<u8>,
+    pub report: Vec<u8>,
+}
+
+impl fmt::Debug for Answer {
+    fn fmt(&self, f: &mut fmt::Formatter<'_>) -> fmt::Result {
+        let (output, report) = (self.output.escape_ascii(), self.report.escape_ascii());
+        let status = self.status;
+        write!(
+            f,
+            "status {status}, output \"{output}\", report \"{report}\""
+        )
+    }
+}
+
+impl Table {
+    pub fn read() -> Table {
+        let text = read_to_string(TABLE).expect("the table is a text");
+        let mut table = Table::default();
+        for paragraph in text.split("\n\n") {
+            let record = table.record_of(paragraph);
+            table.records.push(record);
+        }
+        assert!(table.runs().count() > 250 && table.files.len() > 10);
+        table
+    }
+
+    /// The words of each run, and its record.
+    pub fn runs(&self) -> impl Iterator<Item = (&[String], &Record)> {
+        self.records
+            .iter()
+            .flat_map(|record| record.runs.iter().map(move |words| (&words[..], record)))
+    }
+
+    /// The record that a paragraph is; its files are those of the table.
+    fn record_of(&mut self, paragraph: &str) -> Record {
+        let mut record = Record::default();
+        for line in paragraph.lines() {
+            let (kind, text) = line.split_once(' ').unwrap_or((line, ""));
+            match kind {
+                "#" => {}
+                "@" => {
+                    let (name, text) = text.split_once(' ').unwrap_or((text, ""));
+                    self.files.push((name.to_owned(), bytes_of(text)));
+                }
+                "$" => record
+                    .runs
+                    .push(text.split_whitespace().map(word_of).collect()),
+                "<" => record.input.extend(bytes_of(text)),
+                ">" => record.answer.output.extend(bytes_of(text)),
+                "!" => record.answer.report.extend(bytes_of(text)),
+                "=" => record.answer.status = text.parse().expect("a status"),
+                _ => panic!("no line of a record: {line}"),
+            }
+        }
+        record
+    }
+}
+
+fn word_of(text: &str) -> String {
+    if text == "\"\"" {
+        String::new()
+    } else {
+        text.to_owned()
+    }
+}
+
+/// The bytes that a text with escapes stands for.
+fn bytes_of(text: &str) -> Vec<u8> {
+    let mut bytes = Vec::new();
+    let mut rest = text;
+    while let Some((plain, escape)) = rest.split_once('\\') {
+        bytes.extend(plain.as_bytes());
+        rest = push_escape(&mut bytes, escape);
+    }
+    bytes.extend(rest.as_bytes());
+    bytes
+}
+
+/// Adds what the escape at the start of a text stands for, and answers the text after it.
+fn push_escape<'a>(bytes: &mut Vec<u8>, text: &'a str) -> &'a str {
+    let (kind, rest) = text.split_at(1);
+    match kind {
+        "n" => bytes.push(b'\n'),
+        "r" => bytes.push(b'\r'),
+        "t" => bytes.push(b'\t'),
+        "0" => bytes.push(0),
+        "\\" => bytes.push(b'\\'),
+        "x" => {
+            let (digits, rest) = rest.split_at(2);
+            bytes.push(u8::from_str_radix(digits, 16).unwrap());
+            return rest;
+        }
+        "u" => {
+            let (digits, rest) = rest[1..].split_once('}').unwrap();
+            let c = char::from_u32(u32::from_str_radix(digits, 16).unwrap()).unwrap();
+            bytes.extend(c.to_string().as_bytes());
+            return rest;
+        }
+        _ => panic!("no escape: \\{text}"),
+    }
+    rest
+}
