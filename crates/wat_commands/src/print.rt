@@ -26,7 +26,7 @@ use wat_lines::row::object_open;
 use wat_lists::blank::write_blanked;
 use wat_lists::input::text_of;
 use wat_lists::json::{push_report, show_json, write_json};
-use wat_lists::list::{fault_of, lexer_of, write_lines};
+use wat_lists::list::write_lines;
 use wat_lists::play::play;
 use wat_lists::show::{Showing, show};
 use wat_types::compile_types;
@@ -46,11 +46,12 @@ fn error_of(alloc: Global, lexer: &Lexer<'_>) -> Result<Option<Error>, RunFailur
     ensures error { IfOk result (ReportsEnd lexer.now) }
     ensures refused { IfErr result (λ e. e ≡ RunFailure.Memory alloc_error) }
 {
-    let Some(fault) = fault_of(lexer) else {
+    let text = lexer.input();
+    let Some(fault) = lexer.first_fault(0) else {
         return Ok(None);
     };
     let span = Span::from_offset(fault.offset);
-    let error = Error::lex(alloc, span, lexer.input(), fault.error);
+    let error = Error::lex(alloc, span, text, fault.error);
     match error.alloc_error() {
         Some(refused) => Err(RunFailure::from(refused)),
         None => Ok(Some(error)),
@@ -71,7 +72,7 @@ fn print_raw<W: Sink>(
     ensures refused { IfErr result (λ e. IsFailedWrite e ⊎ (e ≡ RunFailure.Memory alloc_error)) }
 {
     wat_lex::laws::one_tiling();
-    let lexer = lexer_of(text, settings);
+    let lexer = Lexer::with_settings(text, settings);
     let error = error_of(alloc, &lexer)?;
     answer(write_lines(&lexer, output), error)
 }
@@ -129,7 +130,7 @@ fn print_json<W: Sink>(
     ensures refused { IfErr result (λ e. IsFailedWrite e ⊎ (e ≡ RunFailure.Memory alloc_error)) }
 {
     wat_lex::laws::one_tiling();
-    let lexer = lexer_of(text, settings);
+    let lexer = Lexer::with_settings(text, settings);
     let begin = object_open(alloc, file)?;
     let error = error_of(alloc, &lexer)?;
     let last = json_end(alloc, text, &begin, &error)?;
@@ -150,7 +151,7 @@ fn print_blank<W: Sink>(
 {
     wat_lex::laws::one_tiling();
     laws::blank_texts();
-    let lexer = lexer_of(text, settings);
+    let lexer = Lexer::with_settings(text, settings);
     if let Some(error) = error_of(alloc, &lexer)? {
         return Ok(Some(error));
     }

@@ -4,12 +4,13 @@ use Rattle.std.specs.Prelude.{Option, Some, None}
 use Rattle.std.specs.Str.{IsCharBoundary}
 use Rattle.wat_lex.specs.tokens.Faults.{FaultAt}
 use Rattle.wat_lex.specs.tokens.Setting.{Setting}
+use Rattle.wat_lex.specs.tokens.UniqueTilings.{EndsFrom}
 use Rattle.wat_lex.specs.tokens.Tiling.{TokenAt, MaximalTiling, EndsAt}
 use Rattle.wat_lex.specs.declared.lexer.faults.LexFault.{LexFault}
 use Rattle.wat_lex.specs.declared.lexer.kinds.Token.{Token}
 use Rattle.wat_format.specs.Formatting.{Formatted, Refuses}
 use Rattle.wat_format.specs.Layout.{State, start, laid, layout}
-use Rattle.wat_format.specs.inside.Steps.{Lays, EndsFrom, EndsSo, Formats}
+use Rattle.wat_format.specs.inside.Steps.{Lays, EndsSo, Formats}
 use Rattle.wat_format.specs.declared.error.Error.{Error}
 use Rattle.wat_format.specs.declared.error.Error.TheVariants.{Memory, Fault, TooLong}
 

@@ -7,7 +7,7 @@ use Rattle.std.specs.Io.KnownBytes.{Appends}
 use Rattle.wat_lex.specs.tokens.EverySetting.{OneThingIsAt}
 use Rattle.wat_lex.specs.tokens.Setting.{Setting}
 use Rattle.wat_lex.specs.tokens.Tiling.{TokenAt, MaximalTiling}
-use Rattle.wat_lex.specs.tokens.UniqueTilings.{AnswerAt}
+use Rattle.wat_lex.specs.tokens.UniqueTilings.{AnswerAt, EndsFrom}
 use Rattle.wat_lex.specs.declared.lexer.faults.LexFault.{LexFault}
 use Rattle.wat_lex.specs.declared.lexer.kinds.Token.{Token}
 use Rattle.wat_format.specs.Formatting.{Formatted}
@@ -18,7 +18,7 @@ use Rattle.wat_lines.specs.lemmas.KnownBytes.{appends_none, appends_more}
 use Rattle.wat_format.specs.Streams.{AppendsLayout, AppendsPart}
 use Rattle.wat_format.specs.declared.stream.WriteError.{WriteError}
 use Rattle.wat_format.specs.declared.stream.WriteError.TheVariants.{Memory, Fault, Failed}
-use Rattle.wat_format.specs.inside.Steps.{Lays, EndsFrom}
+use Rattle.wat_format.specs.inside.Steps.{Lays}
 use Rattle.wat_format.specs.inside.Writing.{Drains, Remains, StopsShort, CutsShort}
 
 answers : (s : Setting) (p : ℕ) (ts : List Token) → MaximalTiling s p ts None → (r : Result (Option Token) LexFault) × AnswerAt s p r

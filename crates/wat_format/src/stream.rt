@@ -3,11 +3,10 @@ ghost use Rattle.std.specs.Prelude.{◌≡◌, ◌<◌, ◌^◌, length, None, O
 ghost use Rattle.std.specs.Prelude.{string_bytes};
 ghost use Rattle.std.specs.Io.KnownBytes.{Appends};
 ghost use Rattle.std.specs.Str.{IsCharBoundary};
+ghost use Rattle.wat_lex.specs.tokens.UniqueTilings.{EndsFrom};
 ghost use Rattle.wat_format.specs.Streams.{AppendsLayout, RefusesToWrite, failed_after};
-ghost use Rattle.wat_format.specs.inside.Steps.{EndsFrom};
 ghost use Rattle.wat_format.specs.inside.Writing.{CutsShort, Drains, TokenIsAt, StopsShort};
 
-use crate::format::{fault_from, lexer_of};
 use crate::formatter::Formatter;
 use std::alloc::{AllocError, Global};
 use std::fmt;
@@ -75,9 +74,8 @@ pub fn format_to<W: Sink>(
     // `Failed` comes exactly where a call of the sink failed, with its failure.
     ensures failed { W.failure output.new ≡ failed_after (W.failure output.old) result }
 {
-    let lexer = lexer_of(text, settings);
-    let _ = lexer.input();
-    match fault_from(&lexer, 0) {
+    let lexer = Lexer::with_settings(text, settings);
+    match lexer.first_fault(0) {
         Some(fault) => Err(WriteError::Fault(fault)),
         None => write_laid(alloc, &lexer, output),
     }

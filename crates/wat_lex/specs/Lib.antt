@@ -4,4 +4,5 @@ pub mod values
 pub mod errors
 pub mod identifiers
 pub mod binary
+pub mod lemmas
 pub mod inside

@@ -6,7 +6,7 @@ ghost use Rattle.wat_lex.specs.tokens.Faults.{FaultAt};
 ghost use Rattle.wat_lex.specs.tokens.Raw.{ErrorAt};
 ghost use Rattle.wat_lex.specs.tokens.ReadableTokens.{IsTokenOf};
 ghost use Rattle.wat_lex.specs.tokens.Tiling.{TokenAt};
-ghost use Rattle.wat_lex.specs.tokens.UniqueTilings.{AnswerAt};
+ghost use Rattle.wat_lex.specs.tokens.UniqueTilings.{AnswerAt, EndsFrom};
 
 use crate::error::Error;
 use crate::token::Span;
@@ -26,7 +26,7 @@ pub use read::numbers::{Float, Integer, magnitude};
 pub(crate) use scan::blocks::block_at;
 pub(crate) use scan::classes::is_confusing;
 pub(crate) use scan::comments::first_confusing;
-use scan::{first_fault, first_found};
+use scan::{fault_at_start, first_found};
 pub use settings::Settings;
 
 /// A lexer over a text: it cuts the text into tokens, whitespace and comments, and accounts for
@@ -58,13 +58,20 @@ impl<'a> Lexer<'a> {
         } }
         ensures start { IsCharBoundary input.now 0 }
     {
-        Lexer {
-            input,
-            settings: Settings {
-                allow: false,
-                strict: false,
-            },
-        }
+        let settings = Settings {
+            allow: false,
+            strict: false,
+        };
+        Lexer::with_settings(input, settings)
+    }
+
+    /// A lexer over a text of at most `u32::MAX` bytes, with these settings.
+    pub fn with_settings(input: &'a str, settings: Settings) -> Lexer<'a>
+        requires { length input.now < 2 ^ 32 }
+        ensures setting { result ≡ record { text = input.now; flags = settings } }
+        ensures start { IsCharBoundary input.now 0 }
+    {
+        Lexer { input, settings }
     }
 
     /// The text.
@@ -176,6 +183,23 @@ impl<'a> Lexer<'a> {
         }
     }
 
+    /// The first fault from a byte of the text on, or None where there is none.
+    pub fn first_fault(&self, pos: usize) -> Option<LexFault>
+        requires { IsCharBoundary self.now.text pos }
+        ensures ends { EndsFrom self.now pos result }
+        ensures one { (ending : Option LexFault) → EndsFrom self.now pos ending →
+            ending ≡ result }
+    {
+        let mut at = pos;
+        'tokens: loop {
+            match self.scan(at) {
+                Ok(Some(token)) => at = token.offset + token.len as usize,
+                Ok(None) => return None,
+                Err(fault) => return Some(fault),
+            }
+        }
+    }
+
     ghost use Rattle.std.specs.Prelude.{drop};
     ghost use Rattle.wat_lex.specs.inside.Outlines.{FoundIn, IsRefused};
     ghost use Rattle.wat_lex.specs.inside.ScannedLexemes.{LexemeFound};
@@ -218,7 +242,7 @@ impl<'a> Lexer<'a> {
         requires refused { IsRefused self.now.flags (drop pos self.now.text) }
         ensures { FaultAt self.now pos result }
     {
-        let fault = first_fault(&self.input[pos..], self.settings);
+        let fault = fault_at_start(&self.input[pos..], self.settings);
         LexFault {
             offset: pos + fault.offset,
             error: fault.error,

@@ -3,7 +3,6 @@ mod Bits
 mod CommentLaws
 mod IntegerRows
 mod Joined
-mod Lengths
 mod MessageBytes
 mod OneFinding
 mod OneOfRow

@@ -15,8 +15,8 @@ use Rattle.std.specs.Char.{len_utf8}
 use lib.Dec.{T, ltb, ltb→lt, leb→le}
 use lib.Utf8.{encode, encodes, next, scalar, scalars}
 use Rattle.wat_lex.specs.grammar.Classes.{is_confusing}
-use Rattle.wat_lex.specs.errors.Rendering.{shown, shown_line, is_boundary}
-use Rattle.wat_lex.proofs.errors.Rendering.{shown_tab, shown_none, shown_self}
+use Rattle.wat_lex.specs.errors.Rendering.{shown_in_line, shown_line, is_boundary}
+use Rattle.wat_lex.specs.lemmas.Lengths.{shown_tab, shown_none, shown_self}
 use Rattle.wat_lex.proofs.errors.ShownLines.{all_shown, first_off, last_off, spaces}
 
 -- the characters before the place are shown in all of the bytes but the missing ones
@@ -31,7 +31,7 @@ walked_start line bytes u = record {
   range = omega arith;
   before = IsUtf8-nil;
   after = u;
-  shown = sym (ap (λ cs. length (encodes (flat_map shown cs)) + bytes) chars-nil ∙ omega arith);
+  shown = sym (ap (λ cs. length (encodes (flat_map shown_in_line cs)) + bytes) chars-nil ∙ omega arith);
 }
 
 -- ---- the bytes of a character
@@ -79,14 +79,14 @@ first_byte c =
     (λ a b d. grind (arith, nat_tests))
 
 -- a character that is shown, and is no TAB, is shown as it is
-shown_bytes : (c : ℕ) → (c ≡ 9 → ⊥) → 0 < length (encodes (shown c)) → encodes (shown c) ≡ encode c
+shown_bytes : (c : ℕ) → (c ≡ 9 → ⊥) → 0 < length (encodes (shown_in_line c)) → encodes (shown_in_line c) ≡ encode c
 shown_bytes c n l =
     elim (cases_Bool (is_confusing c)) [
       | inl t ↦ absurd (omega (arith, l, ap (λ s. length (encodes s)) (shown_none c n t)))
       | inr f ↦ ap encodes (sym (shown_self c n f)) ∙ append-nil (encode c)
     ]
 
-pub tab_bytes : (c : ℕ) → c ≡ 9 → encodes (shown c) ≡ spaces 4
+pub tab_bytes : (c : ℕ) → c ≡ 9 → encodes (shown_in_line c) ≡ spaces 4
 unfolding encode
 tab_bytes c e = ap encodes (sym (shown_tab c e))
 
@@ -119,81 +119,81 @@ module _ (line rest : List ℕ) (at c missing bytes : ℕ) (whole : IsUtf8 line)
       take-add at (len_utf8 c) line ∙ ap (λ x. take at line ++ take (len_utf8 c) x) here
       ∙ ap (λ n. take at line ++ take n (encode c ++ rest)) (sym (length-encode c)) ∙ ap (λ x. take at line ++ x) (take-append_seam (encode c) rest)
 
-  shown_through : all_shown (take (at + len_utf8 c) line) ≡ all_shown (take at line) ++ shown c
+  shown_through : all_shown (take (at + len_utf8 c) line) ≡ all_shown (take at line) ++ shown_in_line c
   shown_through = last_off (take (at + len_utf8 c) line) (take at line) c (IsUtf8-take line (at + len_utf8 c) whole boundary) through
 
-  pub walked_past : (len : ℕ) → len ≡ length (encodes (shown c)) → len ≤ missing → Walked line (at + len_utf8 c) (missing - len) bytes
+  pub walked_past : (len : ℕ) → len ≡ length (encodes (shown_in_line c)) → len ≤ missing → Walked line (at + len_utf8 c) (missing - len) bytes
   walked_past len e l = record {
     range = boundary.0;
     before = IsUtf8-take line (at + len_utf8 c) whole boundary;
     after = subst IsUtf8 (sym (drop_past_char line rest at c here)) (IsUtf8-past_char (drop at line) rest c w.after here);
     shown =
-        let more : length (encodes (all_shown (take (at + len_utf8 c) line))) ≡ length (encodes (all_shown (take at line))) + length (encodes (shown c)) =
-        ap (λ s. length (encodes s)) shown_through ∙ ap length (encodes-append (all_shown (take at line)) (shown c)) ∙ length-append (encodes (all_shown (take at line))) (encodes (shown c)) in
+        let more : length (encodes (all_shown (take (at + len_utf8 c) line))) ≡ length (encodes (all_shown (take at line))) + length (encodes (shown_in_line c)) =
+        ap (λ s. length (encodes s)) shown_through ∙ ap length (encodes-append (all_shown (take at line)) (shown_in_line c)) ∙ length-append (encodes (all_shown (take at line))) (encodes (shown_in_line c)) in
         omega (arith, more, w.shown, e, l);
   }
 
   -- the line as it is shown, cut at the character
-  pub cut_here : shown_line line ≡ encodes (all_shown (take at line)) ++ (encodes (shown c) ++ encodes (all_shown rest))
+  pub cut_here : shown_line line ≡ encodes (all_shown (take at line)) ++ (encodes (shown_in_line c) ++ encodes (all_shown rest))
   cut_here =
-      ap (λ t. encodes (all_shown t)) (sym (take-append-drop at line)) ∙ ap (λ cs. encodes (flat_map shown cs)) (chars-append (take at line) (drop at line) w.before)
-      ∙ ap encodes (flat_map-append shown (chars (take at line)) (chars (drop at line))) ∙ encodes-append (all_shown (take at line)) (all_shown (drop at line))
-      ∙ ap (λ x. encodes (all_shown (take at line)) ++ encodes x) (first_off (drop at line) rest c w.after here) ∙ ap (λ x. encodes (all_shown (take at line)) ++ x) (encodes-append (shown c) (all_shown rest))
+      ap (λ t. encodes (all_shown t)) (sym (take-append-drop at line)) ∙ ap (λ cs. encodes (flat_map shown_in_line cs)) (chars-append (take at line) (drop at line) w.before)
+      ∙ ap encodes (flat_map-append shown_in_line (chars (take at line)) (chars (drop at line))) ∙ encodes-append (all_shown (take at line)) (all_shown (drop at line))
+      ∙ ap (λ x. encodes (all_shown (take at line)) ++ encodes x) (first_off (drop at line) rest c w.after here) ∙ ap (λ x. encodes (all_shown (take at line)) ++ x) (encodes-append (shown_in_line c) (all_shown rest))
 
-  byte_here : get_or (shown_line line) bytes 0 ≡ get_or (encodes (shown c) ++ encodes (all_shown rest)) missing 0
+  byte_here : get_or (shown_line line) bytes 0 ≡ get_or (encodes (shown_in_line c) ++ encodes (all_shown rest)) missing 0
   byte_here =
-      ap (λ s. get_or s bytes 0) cut_here ∙ ap (λ n. get_or (encodes (all_shown (take at line)) ++ (encodes (shown c) ++ encodes (all_shown rest))) n 0) w.shown
-      ∙ get_or-append-add (encodes (all_shown (take at line))) (encodes (shown c) ++ encodes (all_shown rest)) missing 0
+      ap (λ s. get_or s bytes 0) cut_here ∙ ap (λ n. get_or (encodes (all_shown (take at line)) ++ (encodes (shown_in_line c) ++ encodes (all_shown rest))) n 0) w.shown
+      ∙ get_or-append-add (encodes (all_shown (take at line))) (encodes (shown_in_line c) ++ encodes (all_shown rest)) missing 0
 
-  take_here : take bytes (shown_line line) ≡ encodes (all_shown (take at line)) ++ take missing (encodes (shown c) ++ encodes (all_shown rest))
+  take_here : take bytes (shown_line line) ≡ encodes (all_shown (take at line)) ++ take missing (encodes (shown_in_line c) ++ encodes (all_shown rest))
   take_here =
-      ap (λ s. take bytes s) cut_here ∙ ap (λ n. take n (encodes (all_shown (take at line)) ++ (encodes (shown c) ++ encodes (all_shown rest)))) w.shown
-      ∙ take-append-add (encodes (all_shown (take at line))) (encodes (shown c) ++ encodes (all_shown rest)) missing
+      ap (λ s. take bytes s) cut_here ∙ ap (λ n. take n (encodes (all_shown (take at line)) ++ (encodes (shown_in_line c) ++ encodes (all_shown rest)))) w.shown
+      ∙ take-append-add (encodes (all_shown (take at line))) (encodes (shown_in_line c) ++ encodes (all_shown rest)) missing
 
   -- cut inside the character
-  pub inside_char : 0 < missing → missing < length (encodes (shown c)) → (c ≡ 9 → ⊥) → is_boundary (shown_line line) bytes ≡ false
+  pub inside_char : 0 < missing → missing < length (encodes (shown_in_line c)) → (c ≡ 9 → ⊥) → is_boundary (shown_line line) bytes ≡ false
   inside_char low high n =
-      let plain : encodes (shown c) ≡ encode c = shown_bytes c n (omega (arith, low, high)) in
+      let plain : encodes (shown_in_line c) ≡ encode c = shown_bytes c n (omega (arith, low, high)) in
       let inside : missing < length (encode c) = subst (λ s. missing < length s) plain high in
       let byte : get_or (shown_line line) bytes 0 ≡ get_or (encode c) missing 0 =
       byte_here ∙ ap (λ s. get_or (s ++ encodes (all_shown rest)) missing 0) plain ∙ get_or_append_left (encode c) (encodes (all_shown rest)) 0 missing inside in
       ap (λ b. nat_le bytes (length (shown_line line)) && is_char_start b) byte ∙ ap (λ b. nat_le bytes (length (shown_line line)) && b) (later_byte c missing low inside) ∙ and-false _
 
-  long_enough : missing < length (encodes (shown c)) → nat_le bytes (length (shown_line line)) ≡ true
+  long_enough : missing < length (encodes (shown_in_line c)) → nat_le bytes (length (shown_line line)) ≡ true
   long_enough l =
-      let whole_length = ap length cut_here ∙ length-append (encodes (all_shown (take at line))) (encodes (shown c) ++ encodes (all_shown rest)) in
-      let part_length = length-append (encodes (shown c)) (encodes (all_shown rest)) in
+      let whole_length = ap length cut_here ∙ length-append (encodes (all_shown (take at line))) (encodes (shown_in_line c) ++ encodes (all_shown rest)) in
+      let part_length = length-append (encodes (shown_in_line c)) (encodes (all_shown rest)) in
       le-leb bytes (length (shown_line line)) (omega (arith, whole_length, part_length, w.shown, l))
 
   -- cut before the character, or between the spaces of a TAB
   abbrev pub CutThere : Type 0
   CutThere = (is_boundary (shown_line line) bytes ≡ true) × (encodes (all_shown (take at line) ++ spaces missing) ≡ take bytes (shown_line line))
 
-  cut_there : missing < length (encodes (shown c)) → is_char_start (get_or (encodes (shown c) ++ encodes (all_shown rest)) missing 0) ≡ true → take missing (encodes (shown c) ++ encodes (all_shown rest)) ≡ spaces missing → CutThere
+  cut_there : missing < length (encodes (shown_in_line c)) → is_char_start (get_or (encodes (shown_in_line c) ++ encodes (all_shown rest)) missing 0) ≡ true → take missing (encodes (shown_in_line c) ++ encodes (all_shown rest)) ≡ spaces missing → CutThere
   cut_there l start front = (
     ap (λ b. b && is_char_start (get_or (shown_line line) bytes 0)) (long_enough l) ∙ ap is_char_start byte_here ∙ start,
     encodes-append (all_shown (take at line)) (spaces missing) ∙ ap (λ x. encodes (all_shown (take at line)) ++ x) (space_bytes missing ∙ sym front) ∙ sym take_here,
   )
 
-  cut_in_tab : missing < length (encodes (shown c)) → c ≡ 9 → CutThere
+  cut_in_tab : missing < length (encodes (shown_in_line c)) → c ≡ 9 → CutThere
   cut_in_tab l e =
-      let four : encodes (shown c) ≡ spaces 4 = tab_bytes c e in
+      let four : encodes (shown_in_line c) ≡ spaces 4 = tab_bytes c e in
       let below : missing < 4 = omega (arith, l, ap length four) in
       cut_there l
       (ap (λ s. is_char_start (get_or (s ++ encodes (all_shown rest)) missing 0)) four ∙ ap is_char_start (space_at missing 4 (encodes (all_shown rest)) below))
       (ap (λ s. take missing (s ++ encodes (all_shown rest))) four ∙ take_spaces missing 4 (encodes (all_shown rest)) (omega (arith, below)))
 
-  cut_before : missing < length (encodes (shown c)) → (c ≡ 9 → ⊥) → missing ≡ 0 → CutThere
+  cut_before : missing < length (encodes (shown_in_line c)) → (c ≡ 9 → ⊥) → missing ≡ 0 → CutThere
   cut_before l n z =
-      let some : 0 < length (encodes (shown c)) = omega (arith, l) in
-      let plain : encodes (shown c) ≡ encode c = shown_bytes c n some in
+      let some : 0 < length (encodes (shown_in_line c)) = omega (arith, l) in
+      let plain : encodes (shown_in_line c) ≡ encode c = shown_bytes c n some in
       cut_there l
-      (ap (λ k. is_char_start (get_or (encodes (shown c) ++ encodes (all_shown rest)) k 0)) z
+      (ap (λ k. is_char_start (get_or (encodes (shown_in_line c) ++ encodes (all_shown rest)) k 0)) z
       ∙ ap (λ s. is_char_start (get_or (s ++ encodes (all_shown rest)) 0 0)) plain
       ∙ ap is_char_start (get_or_append_left (encode c) (encodes (all_shown rest)) 0 0 (subst (λ s. 0 < length s) plain some)) ∙ first_byte c)
-      (ap (λ k. take k (encodes (shown c) ++ encodes (all_shown rest))) z ∙ ap spaces (sym z))
+      (ap (λ k. take k (encodes (shown_in_line c) ++ encodes (all_shown rest))) z ∙ ap spaces (sym z))
 
-  pub cut_at_boundary : missing < length (encodes (shown c)) → ((c ≡ 9 → ⊥) → missing ≡ 0) → CutThere
+  pub cut_at_boundary : missing < length (encodes (shown_in_line c)) → ((c ≡ 9 → ⊥) → missing ≡ 0) → CutThere
   cut_at_boundary l h =
       elim (cases_Bool (c == 9)) [
         | inl t ↦ cut_in_tab l (eqb-true c 9 t)
@@ -215,7 +215,7 @@ taken_back left (c ∷ cs) end h e =
 
 -- ---- what is shown is a text
 
-scalars_space : (c : ℕ) (cs : List ℕ) → scalars (c ∷ []) ≡ true → scalars cs ≡ true → scalars (shown c ++ cs) ≡ true
+scalars_space : (c : ℕ) (cs : List ℕ) → scalars (c ∷ []) ≡ true → scalars cs ≡ true → scalars (shown_in_line c ++ cs) ≡ true
 scalars_space c cs h k =
     elim (cases_Bool (c == 9)) [
       | inl tab ↦ ap (λ x. scalars (x ++ cs)) (sym (shown_tab c (eqb-true c 9 tab))) ∙ k
@@ -227,11 +227,11 @@ scalars_space c cs h k =
           ]
     ]
 
-scalars_shown : (cs : List ℕ) → scalars cs ≡ true → scalars (flat_map shown cs) ≡ true
+scalars_shown : (cs : List ℕ) → scalars cs ≡ true → scalars (flat_map shown_in_line cs) ≡ true
 scalars_shown [] h = refl
 scalars_shown (c ∷ cs) h =
     let parts = and_parts (scalar c) (scalars cs) h in
-    scalars_space c (flat_map shown cs) (ap (λ b. b && true) parts.0) (scalars_shown cs parts.1)
+    scalars_space c (flat_map shown_in_line cs) (ap (λ b. b && true) parts.0) (scalars_shown cs parts.1)
 
 pub shown_utf8 : (line : List ℕ) → IsUtf8 line → IsUtf8 (shown_line line)
 shown_utf8 line u = (all_shown line, (scalars_shown (chars line) (scalars-chars line u), refl))

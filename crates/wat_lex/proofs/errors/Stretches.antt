@@ -18,10 +18,10 @@ use Rattle.memchr.specs.Find.{IsFirstByte, is_byte}
 use Rattle.unicode_width.specs.Width.{str_width}
 use Rattle.unicode_width.proofs.Rules.{str_width-printable}
 use Rattle.wat_lex.specs.errors.LineBytes.{is_kept, is_by_columns}
-use Rattle.wat_lex.specs.errors.Rendering.{shown, shown_line, is_boundary, columns}
+use Rattle.wat_lex.specs.errors.Rendering.{shown_in_line, shown_line, is_boundary, columns}
 use Rattle.wat_lex.specs.grammar.Classes.{is_confusing}
 use Rattle.wat_lex.specs.inside.ScannedLexemes.{FirstConfusing}
-use Rattle.wat_lex.proofs.errors.Rendering.{shown_tab, shown_none, shown_self}
+use Rattle.wat_lex.specs.lemmas.Lengths.{shown_tab, shown_none, shown_self}
 use Rattle.wat_lex.proofs.errors.ShownBytes.{shown_utf8}
 use Rattle.wat_lex.proofs.errors.ShownLines.{all_shown, first_off}
 use Rattle.wat_lex.proofs.inside.Confusing.{Leadless, clear_text, encode_some, lead}
@@ -30,17 +30,17 @@ use Rattle.wat_lex.proofs.inside.Confusing.{Leadless, clear_text, encode_some, l
 
 pub shown_append : (xs ys : List ℕ) → IsUtf8 xs → shown_line (xs ++ ys) ≡ shown_line xs ++ shown_line ys
 shown_append xs ys u =
-    ap (λ cs. encodes (flat_map shown cs)) (chars-append xs ys u) ∙ ap encodes (flat_map-append shown (chars xs) (chars ys)) ∙ encodes-append (all_shown xs) (all_shown ys)
+    ap (λ cs. encodes (flat_map shown_in_line cs)) (chars-append xs ys u) ∙ ap encodes (flat_map-append shown_in_line (chars xs) (chars ys)) ∙ encodes-append (all_shown xs) (all_shown ys)
 
 pub shown_nothing : (line : List ℕ) → length line ≡ 0 → shown_line line ≡ []
-shown_nothing line e = ap shown_line (nil_from_length line e) ∙ ap (λ cs. encodes (flat_map shown cs)) chars-nil
+shown_nothing line e = ap shown_line (nil_from_length line e) ∙ ap (λ cs. encodes (flat_map shown_in_line cs)) chars-nil
 
 -- ---- characters that are shown as they are
 
-kept_chars : (cs : List ℕ) → NonePass (λ c. c == 9) cs → NonePass is_confusing cs → flat_map shown cs ≡ cs
+kept_chars : (cs : List ℕ) → NonePass (λ c. c == 9) cs → NonePass is_confusing cs → flat_map shown_in_line cs ≡ cs
 kept_chars [] h k = refl
 kept_chars (c ∷ cs) h k =
-    ap (λ x. x ++ flat_map shown cs) (sym (shown_self c (λ e. true≢false (sym (eq-eqb c 9 e) ∙ h.0)) k.0)) ∙ ap (λ x. c ∷ x) (kept_chars cs h.1 k.1)
+    ap (λ x. x ++ flat_map shown_in_line cs) (sym (shown_self c (λ e. true≢false (sym (eq-eqb c 9 e) ∙ h.0)) k.0)) ∙ ap (λ x. c ∷ x) (kept_chars cs h.1 k.1)
 
 abbrev Tabless : List ℕ → Type 0
 Tabless bs = (k : ℕ) → k < length bs → get_or bs k 0 ≢ 9
@@ -104,18 +104,18 @@ module _ (line rest : List ℕ) (c : ℕ) (u : IsUtf8 line) (here : line ≡ enc
   pub shorter_after : length (drop (len_utf8 c) line) < length line
   shorter_after = omega (arith, ap length here, length-append (encode c) rest, encode_some c, ap length after_first)
 
-  first_shown : shown_line line ≡ encodes (shown c) ++ shown_line (drop (len_utf8 c) line)
-  first_shown = ap encodes (first_off line rest c u here) ∙ encodes-append (shown c) (all_shown rest) ∙ ap (λ x. encodes (shown c) ++ shown_line x) (sym after_first)
+  first_shown : shown_line line ≡ encodes (shown_in_line c) ++ shown_line (drop (len_utf8 c) line)
+  first_shown = ap encodes (first_off line rest c u here) ∙ encodes-append (shown_in_line c) (all_shown rest) ∙ ap (λ x. encodes (shown_in_line c) ++ shown_line x) (sym after_first)
 
-  pub first_as : (s : List ℕ) → encodes (shown c) ≡ s → shown_line line ≡ s ++ shown_line (drop (len_utf8 c) line)
+  pub first_as : (s : List ℕ) → encodes (shown_in_line c) ≡ s → shown_line line ≡ s ++ shown_line (drop (len_utf8 c) line)
   first_as s e = first_shown ∙ ap (λ x. x ++ shown_line (drop (len_utf8 c) line)) e
 
-  pub own_bytes : (c ≡ 9 → ⊥) → is_confusing c ≡ false → encodes (shown c) ≡ take (len_utf8 c) line
+  pub own_bytes : (c ≡ 9 → ⊥) → is_confusing c ≡ false → encodes (shown_in_line c) ≡ take (len_utf8 c) line
   own_bytes n f =
       ap encodes (sym (shown_self c n f)) ∙ append-nil (encode c) ∙ sym (take-append_seam (encode c) rest)
       ∙ ap (λ k. take k (encode c ++ rest)) (length-encode c) ∙ ap (take (len_utf8 c)) (sym here)
 
-  pub no_bytes : (c ≡ 9 → ⊥) → is_confusing c ≡ true → encodes (shown c) ≡ []
+  pub no_bytes : (c ≡ 9 → ⊥) → is_confusing c ≡ true → encodes (shown_in_line c) ≡ []
   no_bytes n t = ap encodes (sym (shown_none c n t))
 
 -- ---- a column a byte
@@ -171,11 +171,11 @@ record InColumns (s : List ℕ) : Type 0 where
   printable : list_all (is_in_range 0x20 0x7E) s ≡ true
   some : 0 < length s
 
-byte_columns : (b : ℕ) → is_by_columns b ≡ true → InColumns (shown b)
+byte_columns : (b : ℕ) → is_by_columns b ≡ true → InColumns (shown_in_line b)
 byte_columns b h =
     elim (or_cases (is_in_range 0x20 0x7E b) (b == 9) h) [
       | inl p ↦
-          let one : b ∷ [] ≡ shown b = shown_self b (no_tab b p) (small_clear b (printable_small b p)) in
+          let one : b ∷ [] ≡ shown_in_line b = shown_self b (no_tab b p) (small_clear b (printable_small b p)) in
           subst InColumns one (record { printable = ap (λ x. x && true) p; some = omega arith })
       | inr t ↦ subst InColumns (shown_tab b (eqb-true b 9 t)) (record { printable = refl; some = omega arith })
     ]
@@ -184,15 +184,15 @@ record InColumnsAll (bs s : List ℕ) : Type 0 where
   printable : list_all (is_in_range 0x20 0x7E) s ≡ true
   long : length bs ≤ length s
 
-in_columns : (bs : List ℕ) → list_all is_by_columns bs ≡ true → InColumnsAll bs (flat_map shown bs)
+in_columns : (bs : List ℕ) → list_all is_by_columns bs ≡ true → InColumnsAll bs (flat_map shown_in_line bs)
 in_columns [] e = record { printable = refl; long = omega arith }
 in_columns (b ∷ bs) e =
     let parts = and_parts (is_by_columns b) (list_all is_by_columns bs) e in
     let first = byte_columns b parts.0 in
     let rest = in_columns bs parts.1 in
     record {
-      printable = all_append (is_in_range 0x20 0x7E) (shown b) (flat_map shown bs) first.printable rest.printable;
-      long = omega (arith, first.some, rest.long, length-append (shown b) (flat_map shown bs));
+      printable = all_append (is_in_range 0x20 0x7E) (shown_in_line b) (flat_map shown_in_line bs) first.printable rest.printable;
+      long = omega (arith, first.some, rest.long, length-append (shown_in_line b) (flat_map shown_in_line bs));
     }
 
 either_way : (b : Bool) (w n : ℕ) → w ≡ n → (if b then w else n) ≡ n
@@ -202,7 +202,7 @@ either_way false w n e = refl
 pub columns_are_bytes : (line : List ℕ) (n : ℕ) → n ≤ length line → n ≡ prefix_len is_by_columns (take n line) → columns (shown_line line) n ≡ n
 columns_are_bytes line n l e =
     let front = take n line in
-    let s = flat_map shown front in
+    let s = flat_map shown_in_line front in
     let size : length front ≡ n = length-take-le n line l in
     let all = all_pass is_by_columns front (sym e ∙ sym size) in
     let ascii : IsAscii front = all_ascii is_by_columns by_columns_small front all in
@@ -210,7 +210,7 @@ columns_are_bytes line n l e =
     let printable = shape.printable in
     let s_ascii : IsAscii s = all_ascii (is_in_range 0x20 0x7E) printable_small s printable in
     let room : n ≤ length s = let long = shape.long in omega (arith, long, size) in
-    let shown_front : shown_line front ≡ s = ap (λ cs. encodes (flat_map shown cs)) (chars-IsAscii front ascii) ∙ encodes-IsAscii s s_ascii in
+    let shown_front : shown_line front ≡ s = ap (λ cs. encodes (flat_map shown_in_line cs)) (chars-IsAscii front ascii) ∙ encodes-IsAscii s s_ascii in
     let whole : shown_line line ≡ s ++ shown_line (drop n line) =
     ap shown_line (sym (take-append-drop n line)) ∙ shown_append front (drop n line) (IsUtf8-from_ascii front ascii) ∙ ap (λ x. x ++ shown_line (drop n line)) shown_front in
     let first : take n (shown_line line) ≡ take n s = ap (take n) whole ∙ take-append-le n s (shown_line (drop n line)) room in

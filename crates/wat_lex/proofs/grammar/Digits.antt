@@ -65,9 +65,6 @@ pub record Row (hex : Bool) (text rest : List ℕ) : Type 0 where
   pub on : (r : List ℕ) → Digits hex rest r → Digits hex text r
   pub back : (r : List ℕ) → Stops hex r → Digits hex text r → Digits hex rest r
 
-pub row_start : (hex : Bool) (text : List ℕ) → Row hex text text
-row_start hex text = record { on = λ r h. h; back = λ r s h. h }
-
 row_parted : (hex : Bool) (text t : List ℕ) (d : ℕ) → is_digit hex d ≡ true → Row hex text (d ∷ 95 ∷ t) → Row hex text t
 row_parted hex text t d a h = record { on = λ r k. h.on r (parted a k); back = λ r s k. digits_parted hex d t r (h.back r s k) s }
 

@@ -60,14 +60,6 @@ kind_of_many (Idchar c ∷ Quoted v ∷ []) h (inr m) = absurd (omega (arith, m)
 kind_of_many (Idchar c ∷ Quoted v ∷ p ∷ ps) h m = refl
 kind_of_many (Idchar c ∷ Idchar d ∷ ps) h m = subst (λ o. MatchOption o (Reserved ≡ Reserved) (λ x. WordKind x Reserved)) (sym (some_string (Idchar c ∷ Idchar d ∷ ps) h)) refl
 
--- one string alone
-pub kind_of_string : (ps : List Piece) → string_count ps ≡ 1 → idchar_count ps ≡ 0 → RunKind ps String
-kind_of_string [] h m = absurd (omega (arith, h))
-kind_of_string (Quoted v ∷ []) h m = refl
-kind_of_string (Quoted v ∷ Quoted u ∷ ps) h m = absurd (omega (arith, h))
-kind_of_string (Quoted v ∷ Idchar c ∷ ps) h m = absurd (omega (arith, m))
-kind_of_string (Idchar c ∷ ps) h m = absurd (omega (arith, m))
-
 first_idchar : (flags : Settings) (w : List ℕ) (c : ℕ) (ps : List Piece) → Run flags w (Idchar c ∷ ps) [] → (rest : List ℕ) × (encodes w ≡ c ∷ rest)
 first_idchar flags w c ps (idchar {t = t} h k) = (encodes t, ap (λ x. x ++ encodes t) (encode_ascii c (idchar_ascii c h)))
 

@@ -67,9 +67,6 @@ NonePass-append : (p : ℕ → Bool) (xs ys : List ℕ) → NonePass p xs → No
 NonePass-append p [] ys h g = g
 NonePass-append p (x ∷ xs) ys h g = (h.0, NonePass-append p xs ys h.1 g)
 
-pub searched_none : (text : List ℕ) → IsUtf8 text → Searched text 0
-searched_none text u = record { prefix = []; cut = refl; clear = tt; place = refl; range = omega arith; utf8 = u }
-
 -- bytes that begin no confusing character are passed over
 pub searched_skip : (text : List ℕ) (at n : ℕ) → Searched text at → IsCharBoundary (drop at text) n → Leadless (take n (drop at text)) → Searched text (at + n)
 searched_skip text at n h b l =

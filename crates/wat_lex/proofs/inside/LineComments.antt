@@ -206,11 +206,6 @@ first_place p bs (Some n) h =
     let b = h.0 in
     sym (prefix_len_is (λ c. not (p c)) bs n 0 (let a = b.high in omega arith) (λ k l. ap not (fails_at p (get_or bs k 0) (b.before k (omega arith) l))) (λ _. ap not h.1))
 
-same_tests : (a b : Bool) → (a ≡ true → b ≡ true) → (b ≡ true → a ≡ true) → a ≡ b
-same_tests true b f g = sym (f refl)
-same_tests false true f g = g refl
-same_tests false false f g = refl
-
 line_end_bytes : (c : ℕ) → is_byte2 10 13 c ≡ is_line_end c
 line_end_bytes c = grind (arith, nat_tests)
 

@@ -10,11 +10,10 @@ use Rattle.wat_lex.specs.grammar.Classes.{Begins, is_idchar, is_run_char, is_whi
 use Rattle.wat_lex.specs.grammar.Runs.{WordKind, RunKind, named_kind}
 use Rattle.wat_lex.specs.tokens.Faults.{Fault, begins_word, unexpected, dangling, confusing, in_string}
 use Rattle.wat_lex.specs.tokens.Setting.{allowing}
-use Rattle.wat_lex.specs.inside.ScannedLexemes.{LexemeFound, Refused}
+use Rattle.wat_lex.specs.inside.ScannedLexemes.{LexemeFound}
 use Rattle.wat_lex.specs.inside.ScannedRuns.{RunFound, IsKindOfRun}
 use Rattle.wat_lex.specs.inside.Outlines.{HasKind, IsRefused, Outlined, BeginsWord, IsShapeOfRun}
 use Rattle.wat_lex.specs.declared.lexer.settings.Settings.{Settings}
-use Rattle.wat_lex.specs.declared.lexer.faults.LexFault.{LexFault}
 use Rattle.wat_lex.specs.declared.lexer.faults.LexError.{LexError}
 use Rattle.wat_lex.specs.declared.lexer.kinds.Shape.{Shape}
 use Rattle.wat_lex.specs.declared.lexer.kinds.Shape.TheVariants as shape
@@ -28,9 +27,6 @@ use Rattle.wat_lex.proofs.grammar.SomeRun.{some_kind}
 use Rattle.wat_lex.proofs.inside.LineComments.{found_whitespace, found_unexpected, run_char_ascii, word_ascii}
 use Rattle.wat_lex.proofs.inside.RunSteps.{joined_start, joined_end}
 use Rattle.wat_lex.proofs.tokens.OneFault.{CommentStart, block, line, comment_start, run_begins, no_word_at_fault, fault_some}
-
-pub outlined_fault : (flags : Settings) (text : List ℕ) (f : LexFault) → Refused flags text f → Outlined flags text (record { shape = shape.Fault; len = 0 })
-outlined_fault flags text f h = record { fits = omega arith; word = λ k g. absurd g; fault = λ _. (f, h) }
 
 first_passes : (p : ℕ → Bool) (text : List ℕ) → 0 < length text → p (get_or text 0 0) ≡ true → prefix_len p text ≡ 1 + prefix_len p (drop 1 text)
 first_passes p [] l e = absurd (omega arith)

@@ -8,7 +8,7 @@ use Rattle.std.proofs.lemmas.List.{append_cancel_right, length-take-le}
 use Rattle.wat_lex.specs.grammar.Classes.{Begins, is_whitespace, is_line_end, open_paren, semicolon}
 use Rattle.wat_lex.specs.grammar.Comments.{BlockComment as Commented, opened, LineComment as CommentedLine, begun}
 use Rattle.wat_lex.specs.grammar.Words.{Word, MayFollow, WordIsAt}
-use Rattle.wat_lex.specs.tokens.Blanking.{AreBlanksOf, overwritten, with_text}
+use Rattle.wat_lex.specs.tokens.Blanking.{AreBlanksOf, overwritten, with_other_text}
 use Rattle.wat_lex.specs.tokens.Faults.{IsComment, Fault}
 use Rattle.wat_lex.specs.tokens.Setting.{Setting}
 use Rattle.wat_lex.specs.tokens.Tiling.{TokenAt, Tiling, EndsAt}
@@ -90,7 +90,7 @@ follows_blanks k w (d ∷ m) x c t i n o h = follows_first k w d m x (c ∷ t) h
 
 -- the text with these bytes over the comment, with the flags
 abbrev pub over : Setting → Token → List ℕ → Setting
-over s c white = with_text s (overwritten s.text c white)
+over s c white = with_other_text s (overwritten s.text c white)
 
 -- a comment at its place in a text, and white bytes as many as it has
 pub record CommentIn (s : Setting) (c : Token) (white : List ℕ) : Type 0 where

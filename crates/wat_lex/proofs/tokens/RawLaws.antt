@@ -7,7 +7,7 @@ use Rattle.std.proofs.lemmas.Str.{IsCharBoundary-from_rest}
 use Rattle.std.specs.Str.{IsUtf8, IsCharBoundary}
 use Rattle.wat_lex.specs.tokens.Setting.{Setting}
 use Rattle.wat_lex.specs.tokens.Tiling.{TokenAt, Tiling, EndsAt, MaximalTiling}
-use Rattle.wat_lex.specs.tokens.Raw.{Item, Spells, Raw}
+use Rattle.wat_lex.specs.tokens.Raw.{Item, AreItemsOf, Raw}
 use Rattle.wat_lex.specs.tokens.ReadableTokens.{IsTokenOf, token_text}
 use Rattle.wat_lex.specs.tokens.Laws.{AreTokens, EachToken, joined_texts, Laws}
 use Rattle.wat_lex.specs.declared.lexer.kinds.Token.{Token}
@@ -27,7 +27,7 @@ token_some s p t h = let k = some_size h.word (word_some t.kind h.word s.flags h
 pub after : (s : Setting) (p : ℕ) (t : Token) → IsUtf8 s.text → IsCharBoundary s.text p → TokenAt s p t → IsCharBoundary s.text (t.offset + t.len)
 after s p t u b h = token_past s.text t u (token_of s p t b h)
 
-few : (s : Setting) (from to : ℕ) (tokens : List Token) (ending : Option LexFault) (items : List Item) → IsUtf8 s.text → IsCharBoundary s.text from → Tiling s from to tokens → Spells s.text tokens ending items → from + length items ≤ length s.text + 1
+few : (s : Setting) (from to : ℕ) (tokens : List Token) (ending : Option LexFault) (items : List Item) → IsUtf8 s.text → IsCharBoundary s.text from → Tiling s from to tokens → AreItemsOf s.text tokens ending items → from + length items ≤ length s.text + 1
 few s from to [] None items u b t h = omega (arith, b.0, ap length h)
 few s from to [] (Some f) items u b t h = omega (arith, b.0, ap length h.1)
 few s from to (t ∷ ts) ending items u b h k =
@@ -36,7 +36,7 @@ few s from to (t ∷ ts) ending items u b h k =
     let l = token_some s from t h.0 in
     omega (arith, ap length k.1, r, o, l)
 
-tokens_of : (s : Setting) (from to : ℕ) (tokens : List Token) (ending : Option LexFault) (items : List Item) → IsUtf8 s.text → IsCharBoundary s.text from → Tiling s from to tokens → Spells s.text tokens ending items → EachToken (λ t. IsTokenOf s.text t × (0 < t.len)) items
+tokens_of : (s : Setting) (from to : ℕ) (tokens : List Token) (ending : Option LexFault) (items : List Item) → IsUtf8 s.text → IsCharBoundary s.text from → Tiling s from to tokens → AreItemsOf s.text tokens ending items → EachToken (λ t. IsTokenOf s.text t × (0 < t.len)) items
 tokens_of s from to [] None items u b t h = subst (EachToken (λ t. IsTokenOf s.text t × (0 < t.len))) (sym h) tt
 tokens_of s from to [] (Some f) items u b t h = subst (EachToken (λ t. IsTokenOf s.text t × (0 < t.len))) (sym h.1) tt
 tokens_of s from to (t ∷ ts) ending items u b h k = subst (EachToken (λ t. IsTokenOf s.text t × (0 < t.len))) (sym k.1)
@@ -48,7 +48,7 @@ next_text text from t rest o e =
     let step : drop (t.offset + t.len) text ≡ drop t.len (drop t.offset text) = sym (drop-drop t.len t.offset text) in
     ap (λ x. token_text text t ++ x) (e ∙ step) ∙ take-append-drop t.len (drop t.offset text) ∙ ap (λ x. drop x text) o
 
-whole : (s : Setting) (from to : ℕ) (tokens : List Token) (ending : Option LexFault) (items : List Item) → Tiling s from to tokens → EndsAt s to ending → Spells s.text tokens ending items → AreTokens items → joined_texts s.text items ≡ drop from s.text
+whole : (s : Setting) (from to : ℕ) (tokens : List Token) (ending : Option LexFault) (items : List Item) → Tiling s from to tokens → EndsAt s to ending → AreItemsOf s.text tokens ending items → AreTokens items → joined_texts s.text items ≡ drop from s.text
 whole s from to [] None items t e h a = ap (joined_texts s.text) h ∙ sym (ap (λ x. drop x s.text) (t ∙ e) ∙ drop-length s.text)
 whole s from to [] (Some f) items t e h a = absurd (subst AreTokens h.1 a)
 whole s from to (t ∷ ts) ending items h e k a =
@@ -64,11 +64,11 @@ unstrict_tiling s from to (t ∷ ts) h =
       unstrict_tiling s (t.offset + t.len) to ts h.1,
     )
 
-no_fault : (text : List ℕ) (tokens : List Token) (f : LexFault) (items : List Item) → Spells text tokens (Some f) items → AreTokens items → ⊥
+no_fault : (text : List ℕ) (tokens : List Token) (f : LexFault) (items : List Item) → AreItemsOf text tokens (Some f) items → AreTokens items → ⊥
 no_fault text [] f items h a = subst AreTokens h.1 a
 no_fault text (t ∷ ts) f items h a = no_fault text ts f h.0 h.2 (subst AreTokens h.1 a)
 
-unstrict_by : (s : Setting) (from : ℕ) (items : List Item) (tokens : List Token) (ending : Option LexFault) → MaximalTiling s from tokens ending → Spells s.text tokens ending items → AreTokens items → Raw (record s { flags = record s.flags { strict = false } }) from items
+unstrict_by : (s : Setting) (from : ℕ) (items : List Item) (tokens : List Token) (ending : Option LexFault) → MaximalTiling s from tokens ending → AreItemsOf s.text tokens ending items → AreTokens items → Raw (record s { flags = record s.flags { strict = false } }) from items
 unstrict_by s from items tokens None m h a = record {
   tokens = tokens;
   ending = None;

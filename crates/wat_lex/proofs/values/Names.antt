@@ -1,6 +1,6 @@
 -- The words of strings and names.
 use Rattle.std.proofs.Common.{◌≡◌, ◌≢◌, ◌<◌, ◌≤◌, length, ◌++◌, ◌⊎◌, drop, arith, ℕ, List, [], ◌∷◌, refl, ap, sym, ◌∙◌, subst, Bool, true, false, cond, inl, inr}
-use Rattle.std.specs.Prelude.{Some, None, Option, MatchOption, Result, Ok, Err, IfErr, IsErrAnd, IsTrue, ◌==◌, ◌&&◌, nat_le}
+use Rattle.std.specs.Prelude.{Some, None, Option, MatchOption, IsTrue, ◌==◌, ◌&&◌, nat_le}
 use Rattle.std.specs.Option.{option_map}
 use Rattle.std.proofs.lemmas.Bool.{both_ways, ne_eqb, false≢true}
 use Rattle.std.proofs.lemmas.List.{nil_from_length}
@@ -8,8 +8,7 @@ use Rattle.std.proofs.lemmas.Str.{chars_past_char, encode_ascii, encodes-chars}
 use Rattle.std.specs.Str.{chars, IsUtf8, IsCharBoundary}
 use lib.Utf8.{encodes}
 use Rattle.wat_lex.specs.grammar.Classes.{Each, is_idchar}
-use Rattle.wat_lex.specs.values.Names.{Name, Named, bare, quoted as named_string, HasNone, HasNoEscape, IsNamed, IsQuoted, NameFault, no_name, not_utf8, NameError}
-use Rattle.wat_lex.specs.errors.Errors.{Report, lexical, IsUnlessMemory}
+use Rattle.wat_lex.specs.values.Names.{Name, Named, bare, quoted as named_string, HasNone, HasNoEscape, IsNamed, IsQuoted, NameFault, no_name, not_utf8}
 use Rattle.wat_lex.specs.grammar.Numbers.{Number}
 use Rattle.wat_lex.specs.grammar.Runs.{Piece, Idchar, Quoted, Run, none, idchar, string, idchars, RunKind, RunWord, WordKind, named_kind, kind_by_first}
 use Rattle.wat_lex.specs.tokens.Setting.{lenient}
@@ -264,15 +263,6 @@ no_quotes (c ∷ cs) h = (ne_eqb c 34 (λ e. both_ways (is_idchar c) (ap is_idch
 
 pub bare_free : (cs : List ℕ) → Each is_idchar cs → HasNoEscape cs
 bare_free cs h = inl (no_quotes cs h)
-
--- the error of a name: an out-of-memory error, or what is wrong with it
-pub memory_error : {T : Type 0} (r : Result T (Option Report)) (text : List ℕ) (empty : LexError) (offset : ℕ) (w : List ℕ) → IsErrAnd r (λ e. e ≡ None) → (HasNoEscape w → ⊥) → IfErr r (NameError text empty offset w)
-memory_error (Ok x) text empty offset w h n = tt
-memory_error (Err e) text empty offset w h n = subst (NameError text empty offset w) (sym h) (λ free. absurd (n free))
-
-pub fault_error : (r : Option Report) (text : List ℕ) (empty error : LexError) (offset span : ℕ) (w : List ℕ) → NameFault empty w error → span ≡ offset → IsUnlessMemory r (lexical text (record { offset = span; error = error })) → NameError text empty offset w r
-fault_error None text empty error offset span w f s e = λ free. (error, f)
-fault_error (Some r) text empty error offset span w f s e = (error, f, e ∙ ap (λ x. lexical text (record { offset = x; error = error })) s)
 
 pub empty_fault : (empty error : LexError) (text rest bytes : List ℕ) → NameTail text → rest ≡ drop 1 text → Named (chars rest) bytes → length bytes ≤ 0 → error ≡ empty → NameFault empty (chars text) error
 empty_fault empty error text rest bytes t e h l k =

@@ -1,11 +1,11 @@
 -- What the words of numbers read as.
-use Rattle.std.proofs.Common.{◌≡◌, ◌≤◌, ℕ, List, [], ◌∷◌, length, refl, arith, ap, sym, ◌∙◌, subst, Bool, true, false, cond, not, ◌||◌}
+use Rattle.std.proofs.Common.{◌≡◌, ℕ, List, [], ◌∷◌, refl, arith, ap, sym, ◌∙◌, subst, Bool, true, false, cond, not, ◌||◌}
 use Rattle.std.specs.Prelude.{◌==◌}
 use Rattle.std.proofs.lemmas.Bool.{eqb-true, or_parts}
 use Rattle.std.proofs.lemmas.Str.{IsAscii-drop}
 use Rattle.std.specs.List.{list_any}
 use Rattle.std.specs.Str.{IsAscii}
-use Rattle.wat_lex.specs.grammar.Numbers.{IntegralPart, hexadecimal, unsigned, has_underscores}
+use Rattle.wat_lex.specs.grammar.Numbers.{unsigned, has_underscores}
 use Rattle.wat_lex.specs.inside.ScannedNumbers.{without_plus}
 use Rattle.wat_lex.specs.values.NumberValues.{joined, after_prefix, number_text}
 
@@ -23,12 +23,6 @@ prefix_ascii false s h = h
 
 pub digits_ascii : (hex : Bool) (w s t : List ℕ) → IsAscii w → s ≡ unsigned w → t ≡ after_prefix hex s → IsAscii t
 digits_ascii hex w s t h e f = subst IsAscii (sym (f ∙ ap (after_prefix hex) e)) (prefix_ascii hex (unsigned w) (unsigned_ascii w h))
-
-pub integral_long : (hex : Bool) (s : List ℕ) → IntegralPart hex s [] → hex ≡ true → 2 ≤ length s
-integral_long hex s h e = by s (subst (λ b. IntegralPart b s []) e h)
-  where
-    by : (s : List ℕ) → IntegralPart true s [] → 2 ≤ length s
-    by s (hexadecimal k) = omega arith
 
 -- with no underscore nothing is left out
 pub joined_same : (s : List ℕ) → list_any (λ c. c == 95) s ≡ false → joined s ≡ s

@@ -1,12 +1,12 @@
 -- Each word reads as one value.
-use Rattle.std.proofs.Common.{◌≡◌, ◌≢◌, ◌⊎◌, ℕ, List, [], ◌∷◌, ◌++◌, refl, ap, sym, ◌∙◌, subst, Bool, true, false, cond, ◌||◌, inl, inr}
+use Rattle.std.proofs.Common.{◌≡◌, ◌≢◌, ℕ, List, [], ◌∷◌, ◌++◌, refl, ap, sym, ◌∙◌, subst, Bool, true, false, cond, ◌||◌, inl, inr}
 use Rattle.std.specs.Prelude.{◌==◌, Option, Some}
 use Rattle.std.specs.Str.{IsUtf8}
 use Rattle.std.proofs.lemmas.Bool.{false≢true}
 use Rattle.std.proofs.lemmas.List.{append_cancel_right}
 use Rattle.std.proofs.lemmas.Str.{IsUtf8-nil}
 use Rattle.wat_lex.specs.values.Names.{Name, Named, bare, quoted as named_string, NameFault, no_name, not_utf8}
-use Rattle.wat_lex.specs.grammar.Numbers.{Digits, last, next, parted, IntegralPart, decimal, hexadecimal, Fraction, bare as dot_alone, filled as dot_filled, Exponent, exponent, fraction, power, both, unsigned}
+use Rattle.wat_lex.specs.grammar.Numbers.{Digits, last, next, parted, IntegralPart, decimal, hexadecimal, Fraction, bare as dot_alone, filled as dot_filled, exponent, fraction, power, both, unsigned}
 use Rattle.wat_lex.specs.inside.ScannedNumbers.{Stops, Follows}
 use Rattle.wat_lex.specs.values.NumberValues.{Point, no_point, bare as point_bare, filled, Power, no_power, present, FloatParts}
 use Rattle.wat_lex.specs.values.UniqueValues.{OneValue, OneName, OneCut}
@@ -70,11 +70,6 @@ unsigned_on hex (c ∷ t) q r h = by (c == 43 || c == 45)
     by : (b : Bool) → cond b (t ++ r) (c ∷ t ++ r) ≡ cond b t (c ∷ t) ++ r
     by true = refl
     by false = refl
-
--- what follows first digits, by its parts
-power_ends : (hex : Bool) (r : List ℕ) (x : Option (List ℕ)) → Power hex r x → (r ≡ []) ⊎ Exponent hex r
-power_ends hex r x no_power = inl refl
-power_ends hex r x (present h k) = inr (exponent h k)
 
 power_stops : (hex : Bool) (r : List ℕ) (x : Option (List ℕ)) → Power hex r x → Stops hex r
 power_stops hex r x no_power = stops_nil hex

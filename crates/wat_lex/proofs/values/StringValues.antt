@@ -9,7 +9,7 @@ use Rattle.std.specs.List.{prefix_len}
 use lib.Utf8.{encode, encodes}
 use Rattle.memchr.specs.Find.{IsFirstByte, is_byte}
 use Rattle.wat_lex.specs.grammar.Classes.{size, Each, Begins}
-use Rattle.wat_lex.specs.values.Names.{HasNone, IsQuoted}
+use Rattle.wat_lex.specs.values.Names.{HasNone}
 use Rattle.wat_lex.specs.inside.ScannedStrings.{Escaped, Breaks}
 use Rattle.wat_lex.specs.tokens.Setting.{lenient}
 use Rattle.wat_lex.specs.grammar.Strings.{Element, raw, letter, byte, unicode, Quoted, ends, more}
@@ -178,9 +178,6 @@ pub record Reading (start rest done : List ℕ) : Type 0 where
   pub left : Quoted lenient (chars rest) value []
   pub whole : Quoted lenient (chars start) (done ++ value) []
   pub utf8 : IsUtf8 rest
-
-pub reading_begins : (start : List ℕ) → IsUtf8 start → IsQuoted (chars start) → Reading start start []
-reading_begins start u h = record { value = h.0; left = h.1; whole = h.1; utf8 = u }
 
 -- an element whose value is known, and what follows it
 record FirstElement (s u t v : List ℕ) : Type 0 where

@@ -14,12 +14,12 @@ pub record Excerpt : Type 0 where
   pub snippet : List ℕ
 
 -- a TAB is four spaces, and a character that can make a text look other than it is is dropped
-abbrev pub shown : ℕ → List ℕ
-shown c = if c == 9 then codes "    " else if is_confusing c then [] else c ∷ []
+abbrev pub shown_in_line : ℕ → List ℕ
+shown_in_line c = if c == 9 then codes "    " else if is_confusing c then [] else c ∷ []
 
 -- a line as it is shown
 abbrev pub shown_line : List ℕ → List ℕ
-shown_line line = encode_utf8_all (flat_map shown (chars line))
+shown_line line = encode_utf8_all (flat_map shown_in_line (chars line))
 
 -- the first n bytes are there, and do not end inside a character
 abbrev pub is_boundary : List ℕ → ℕ → Bool

@@ -29,8 +29,8 @@ abbrev pub blanked : List ℕ → Token → List ℕ
 blanked text t = overwritten text t (replicate t.len space)
 
 -- another text that is read with the same flags
-abbrev pub with_text : Setting → List ℕ → Setting
-with_text s text = record s { text = text }
+abbrev pub with_other_text : Setting → List ℕ → Setting
+with_other_text s text = record s { text = text }
 
 -- at most one token, which is white space
 abbrev pub AtMostOneSpace : List Token → Type 0
@@ -65,7 +65,7 @@ pub record IsRawComment (s : Setting) (p : ℕ) (comment : Token) : Type 0 where
 -- Where white bytes are in place of a comment, the raw tokens are spaced and end as they did.
 abbrev pub BlanksAreSpace : Type 0
 BlanksAreSpace = (s : Setting) (p : ℕ) (comment : Token) (white : List ℕ) → IsUtf8 s.text → IsCharBoundary s.text p → AreBlanksOf comment white → (raw : IsRawComment s p comment)
-    → (us : List Token) × MaximalTiling (with_text s (overwritten s.text comment white)) p us raw.ending × Spaced s.text (overwritten s.text comment white) comment raw.tokens us
+    → (us : List Token) × MaximalTiling (with_other_text s (overwritten s.text comment white)) p us raw.ending × Spaced s.text (overwritten s.text comment white) comment raw.tokens us
 
 -- The text with the white bytes is as long, and one of UTF-8.
 abbrev pub BlanksAreText : Type 0

@@ -14,17 +14,17 @@ abbrev pub Item : Type 0
 Item = Result Token (Option Report)
 
 -- the items are these tokens, and then the error of the fault of the text if there is one
-abbrev pub Spells : List ℕ → List Token → Option LexFault → List Item → Type 0
-Spells text [] None items = items ≡ []
-Spells text [] (Some f) items = (e : Option Report) × (items ≡ Err e ∷ []) × IsUnlessMemory e (lexical text f)
-Spells text (t ∷ ts) ending items = (rest : List Item) × (items ≡ Ok t ∷ rest) × Spells text ts ending rest
+abbrev pub AreItemsOf : List ℕ → List Token → Option LexFault → List Item → Type 0
+AreItemsOf text [] None items = items ≡ []
+AreItemsOf text [] (Some f) items = (e : Option Report) × (items ≡ Err e ∷ []) × IsUnlessMemory e (lexical text f)
+AreItemsOf text (t ∷ ts) ending items = (rest : List Item) × (items ≡ Ok t ∷ rest) × AreItemsOf text ts ending rest
 
 -- the items are a maximal tiling from the place, with its ending
 pub record Raw (s : Setting) (from : ℕ) (items : List Item) : Type 0 where
   pub tokens : List Token
   pub ending : Option LexFault
   pub tiling : MaximalTiling s from tokens ending
-  pub spelled : Spells s.text tokens ending items
+  pub spelled : AreItemsOf s.text tokens ending items
 
 -- at the place there is no word, and this is the error of the fault there, or an out-of-memory error
 pub record ErrorAt (s : Setting) (p : ℕ) (e : Option Report) : Type 0 where

@@ -14,6 +14,11 @@ AnswerAt s p r = MatchResult r (λ found. MatchOption found (p ≡ length s.text
 abbrev pub SomeTiling : Setting → ℕ → Type 0
 SomeTiling s p = (ts : List Token) × (e : Option LexFault) × MaximalTiling s p ts e
 
+-- the tokens from the place on end so: at the text's end, or in the fault
+pub record EndsFrom (s : Setting) (from : ℕ) (ending : Option LexFault) : Type 0 where
+  pub tokens : List Token
+  pub tiling : MaximalTiling s from tokens ending
+
 -- any two maximal tilings from the place have the same tokens and the same ending
 abbrev pub OneTiling : Setting → ℕ → Type 0
 OneTiling s p = (ts us : List Token) (e f : Option LexFault) → MaximalTiling s p ts e → MaximalTiling s p us f → (ts ≡ us) × (e ≡ f)

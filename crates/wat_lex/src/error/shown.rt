@@ -1,7 +1,7 @@
 //! A line as it is shown.
 ghost use Rattle.std.specs.Prelude.{◌≡◌, ◌*◌, ◌^◌, ◌<◌, ◌≤◌, true, false, length, take, IsTrue, MatchOption};
 ghost use Rattle.std.specs.Prelude.{encode_utf8_all};
-ghost use Rattle.wat_lex.specs.errors.Rendering.{columns, shown, shown_line, is_boundary};
+ghost use Rattle.wat_lex.specs.errors.Rendering.{columns, shown_in_line, shown_line, is_boundary};
 
 use crate::error::stretches::{by_columns_len, is_shown_as_it_is, split_shown};
 use crate::lexer::is_confusing;
@@ -178,7 +178,7 @@ fn front(line: &str, bytes: usize) -> Option<Shown<'_>>
 
 /// How many bytes a character is shown in.
 fn shown_len(c: char) -> usize
-    ensures { result ≡ length (encode_utf8_all (shown c)) }
+    ensures { result ≡ length (encode_utf8_all (shown_in_line c)) }
 {
     match c {
         '\t' => TAB,

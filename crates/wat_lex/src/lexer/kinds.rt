@@ -1,6 +1,7 @@
 //! Tokens and their kinds.
-ghost use Rattle.std.specs.Prelude.{◌≡◌};
+ghost use Rattle.std.specs.Prelude.{◌≡◌, ◌<◌, ◌^◌};
 ghost use Rattle.wat_lex.specs.grammar.Numbers.{sign_token};
+ghost use Rattle.wat_lex.specs.tokens.Blanks.{is_blank, is_marked};
 ghost use Rattle.wat_lex.specs.values.IntegerFacts.{kind_sign, kind_has_underscores, kind_hex};
 ghost use Rattle.wat_lex.specs.values.KindNumbers.{kind_number};
 
@@ -14,6 +15,20 @@ pub struct Token {
     pub len: u32,
     /// What kind of token this is.
     pub kind: TokenKind,
+}
+
+impl Token {
+    /// Whether `@` comes directly after the first byte of the token, as in `(@`.
+    #[inline]
+    pub fn is_marked(&self, s: &str) -> bool
+        requires { self.now.offset < 2 ^ 32 }
+        ensures { result ≡ is_marked s.now self.now }
+    {
+        match s.as_bytes().get(self.offset + 1) {
+            Some(byte) => *byte == b'@',
+            None => false,
+        }
+    }
 }
 
 /// The kinds of tokens, whitespace and comments among them.
@@ -70,6 +85,17 @@ impl TokenKind {
             TokenKind::Float(FloatKind::Nan { .. }) => 13,
             TokenKind::Float(FloatKind::NanVal { .. }) => 14,
             TokenKind::Float(FloatKind::Normal { .. }) => 15,
+        }
+    }
+
+    /// Whether it is white space or a comment.
+    #[inline]
+    pub fn is_blank(self) -> bool
+        ensures { result ≡ is_blank self }
+    {
+        match self {
+            TokenKind::Whitespace | TokenKind::LineComment | TokenKind::BlockComment => true,
+            _ => false,
         }
     }
 }

@@ -156,9 +156,9 @@ fn word(text: &[u8], start: Start, stride: Stride) -> Option<Lexeme>
     }
 }
 
-/// What the outline of a run at the start tells of the text.
+/// What is at the start of a text that begins with a run, by the run's outline.
 #[inline(always)]
-fn known(text: &str, outline: Outline) -> Found
+fn found_by_outline(text: &str, outline: Outline) -> Found
     requires { outline.len ≤ length text.now }
     ensures { (flags : Settings) → Outlined flags text.now outline → FoundIn flags text.now result }
 {
@@ -184,7 +184,7 @@ fn run_found(text: &str, start: Start, flags: &Settings, stride: Stride) -> Foun
 {
     match word(text.as_bytes(), start, stride) {
         Some(lexeme) => Found::Lexeme(lexeme),
-        None => known(text, run_outline(text, *flags)),
+        None => found_by_outline(text, run_outline(text, *flags)),
     }
 }
 
@@ -265,7 +265,7 @@ fn unexpected(text: &str) -> LexFault
 /// no token pays for it.
 #[cold]
 #[inline(never)]
-pub fn first_fault(text: &str, flags: Settings) -> LexFault
+pub fn fault_at_start(text: &str, flags: Settings) -> LexFault
     requires { IsRefused flags text.now }
     ensures { Refused flags text.now result }
 {

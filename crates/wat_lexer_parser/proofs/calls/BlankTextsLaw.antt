@@ -9,7 +9,7 @@ use Rattle.std.proofs.lemmas.List.Elements.{All-nil, All-cons, recursion_from_Al
 use Rattle.std.proofs.lemmas.Str.{IsCharBoundary-start}
 use Rattle.std.proofs.Math.Seq.{drop-length}
 use Rattle.std.specs.List.{AllByRecursion}
-use Rattle.wat_lex.specs.tokens.Blanking.{AreBlanksOf, overwritten, with_text, AtMostOneSpace, Spaced, IsRawComment, BlanksAreSpace, BlanksAreText}
+use Rattle.wat_lex.specs.tokens.Blanking.{AreBlanksOf, overwritten, with_other_text, AtMostOneSpace, Spaced, IsRawComment, BlanksAreSpace, BlanksAreText}
 use Rattle.wat_lex.specs.tokens.EverySetting.{TokensEndAtBoundaries}
 use Rattle.wat_lex.specs.tokens.Faults.{IsComment}
 use Rattle.wat_lex.specs.tokens.ReadableTokens.{token_text}
@@ -161,7 +161,7 @@ blanks_are text c fits = record {
 
 -- One comment is blanked, and then all in the text that this gives: the bytes are those with all blanked at once.
 module _ (s : Setting) (c : Token) (white : List ℕ) (ts us : List Token) (comment : is_comment c.kind ≡ true) (is_white : white ≡ blanks_of s.text c)
-    (was : MaximalTiling s 0 ts None) (now : MaximalTiling (with_text s (overwritten s.text c white)) 0 us None) (g : Spaced s.text (overwritten s.text c white) c ts us) where
+    (was : MaximalTiling s 0 ts None) (now : MaximalTiling (with_other_text s (overwritten s.text c white)) 0 us None) (g : Spaced s.text (overwritten s.text c white) c ts us) where
   abbrev other : List ℕ
   other = overwritten s.text c white
 
@@ -187,7 +187,7 @@ module _ (s : Setting) (c : Token) (white : List ℕ) (ts us : List Token) (comm
   -- what the white space token has
   middle : token_text other g.white ≡ joined s.text g.left ++ (white ++ joined s.text g.right)
   middle =
-      let all : joined other us ≡ other = to_end (with_text s other) 0 now.to us now.tiling now.ends in
+      let all : joined other us ≡ other = to_end (with_other_text s other) 0 now.to us now.tiling now.ends in
       let cut : joined other us ≡ joined s.text g.before ++ (token_text other g.white ++ joined s.text g.after) =
       ap (joined other) g.is ∙ flat_map-append (token_text other) g.before (g.white ∷ g.after)
       ∙ ap (λ x. x ++ (token_text other g.white ++ joined other g.after)) before_is
@@ -216,8 +216,8 @@ module _ (s : Setting) (c : Token) (white : List ℕ) (ts us : List Token) (comm
 -- what is proved comment by comment
 record Blanked (s : Setting) (other : List ℕ) : Type 0 where
   utf8 : IsUtf8 other
-  no_comment : HasNoComment (with_text s other)
-  same : ShowTheSame s (with_text s other)
+  no_comment : HasNoComment (with_other_text s other)
+  same : ShowTheSame s (with_other_text s other)
 
 nothing_to_do : (s : Setting) (ts : List Token) → IsUtf8 s.text → MaximalTiling s 0 ts None → All (λ t. IsFalse (is_comment t.kind)) ts → Blanked s (blank_texts s.text ts)
 nothing_to_do s ts utf8 h none =
@@ -237,10 +237,10 @@ module _ (laws : OneBlanked) where
       let start = IsCharBoundary-start s.text utf8 in
       let blanks = blanks_are s.text c (comment_bounds laws.boundary laws.tokens s c utf8 raw).1.0 in
       let k = laws.tokens s 0 c white utf8 start blanks raw in
-      let rest = next (with_text s other) k.0 (fewer s.text other c ts k.0 f.2 k.2) (laws.text s 0 c white utf8 start blanks raw).1 k.1 in
+      let rest = next (with_other_text s other) k.0 (fewer s.text other c ts k.0 f.2 k.2) (laws.text s 0 c white utf8 start blanks raw).1 k.1 in
       let first = laws.same s.text c white utf8 blanks s.flags raw in
       let all : Blanked s (blank_texts other k.0) =
-      record { utf8 = rest.utf8; no_comment = rest.no_comment; same = same_through s (with_text s other) (with_text s (blank_texts other k.0)) first rest.same } in
+      record { utf8 = rest.utf8; no_comment = rest.no_comment; same = same_through s (with_other_text s other) (with_other_text s (blank_texts other k.0)) first rest.same } in
       subst (Blanked s) (same_bytes s c white ts k.0 f.2 refl h k.1 k.2) all
 
   -- at most so many comments

@@ -7,7 +7,7 @@ use Rattle.std.proofs.lemmas.List.{length-replicate}
 use Rattle.std.proofs.lemmas.List.Elements.{All-from_recursion, recursion_from_All}
 use Rattle.std.proofs.lemmas.Str.{IsCharBoundary-start}
 use Rattle.wat_lex.specs.grammar.Classes.{Each, is_whitespace}
-use Rattle.wat_lex.specs.tokens.Blanking.{space, AreBlanksOf, overwritten, with_text, AtMostOneSpace, Spaced, IsRawComment, BlanksAreSpace, BlanksAreText}
+use Rattle.wat_lex.specs.tokens.Blanking.{space, AreBlanksOf, overwritten, with_other_text, AtMostOneSpace, Spaced, IsRawComment, BlanksAreSpace, BlanksAreText}
 use Rattle.wat_lex.specs.tokens.EverySetting.{TilingsAreOne, TokensEndAtBoundaries}
 use Rattle.wat_lex.specs.tokens.Faults.{IsComment}
 use Rattle.wat_lex.specs.tokens.Setting.{Setting}
@@ -123,14 +123,14 @@ module _ (laws : Laws) (s : Setting) (utf8 : IsUtf8 s.text) (c : Token) (white :
   blanked_utf8 = (laws.text s 0 c white utf8 start blanks raw).1
 
   -- what is shown of the tokens is shown of those that are spaced
-  spaced_shows : (us : List Token) → MaximalTiling (with_text s (overwritten s.text c white)) 0 us raw.ending → Spaced s.text (overwritten s.text c white) c raw.tokens us → (n : Names) (vs : List Token) (last : Option Fault) → AllShown s.text raw.ending n raw.tokens vs last
+  spaced_shows : (us : List Token) → MaximalTiling (with_other_text s (overwritten s.text c white)) 0 us raw.ending → Spaced s.text (overwritten s.text c white) c raw.tokens us → (n : Names) (vs : List Token) (last : Option Fault) → AllShown s.text raw.ending n raw.tokens vs last
       → AllShown (overwritten s.text c white) raw.ending n us vs last × AllByRecursion (SameText s.text (overwritten s.text c white)) vs
   spaced_shows us m g n vs last h =
       let to = raw.tiling.to in
       let f = first_blank g.left c g.right in
       let v = f.0 in
       let a = f.1 in
-      let source : Source = record { setting = with_text s (overwritten s.text c white); track = false; tokens = us; ending = raw.ending } in
+      let source : Source = record { setting = with_other_text s (overwritten s.text c white); track = false; tokens = us; ending = raw.ending } in
       let tiling = subst (Tiling s 0 to) g.was raw.tiling.tiling in
       let k = parts laws.boundary s utf8 c white blanks g.left g.right g.after 0 to g.before start tiling in
       let before = same_before laws.boundary s utf8 c white blanks g.left g.right g.after 0 to g.before start tiling (recursion_from_All (SameText s.text (overwritten s.text c white)) g.before g.texts_before) in
@@ -149,25 +149,25 @@ module _ (laws : Laws) (s : Setting) (utf8 : IsUtf8 s.text) (c : Token) (white :
       let e = laws.one_tiling s 0 h.tokens raw.tokens h.ending raw.ending h.tiling raw.tiling in
       subst (λ y. AllShown s.text raw.ending n y vs last) e.0 (subst (λ y. AllShown s.text y n h.tokens vs last) e.1 h.all)
 
-  shows_blanked : (n : Names) (vs : List Token) (last : Option Fault) → TextShows s n vs last → TextShows (with_text s (overwritten s.text c white)) n vs last × AllByRecursion (SameText s.text (overwritten s.text c white)) vs
+  shows_blanked : (n : Names) (vs : List Token) (last : Option Fault) → TextShows s n vs last → TextShows (with_other_text s (overwritten s.text c white)) n vs last × AllByRecursion (SameText s.text (overwritten s.text c white)) vs
   shows_blanked n vs last h =
       let b = laws.tokens s 0 c white utf8 start blanks raw in
       let g = spaced_shows b.0 b.1 b.2 n vs last (raw_shows n vs last h) in
       (record { tokens = b.0; ending = raw.ending; tiling = b.1; all = g.0 }, g.1)
 
   -- there is something that the text shows, and so the blanked text shows nothing else
-  blanked_shows : (n : Names) (vs : List Token) (last : Option Fault) → TextShows (with_text s (overwritten s.text c white)) n vs last → TextShows s n vs last
+  blanked_shows : (n : Names) (vs : List Token) (last : Option Fault) → TextShows (with_other_text s (overwritten s.text c white)) n vs last → TextShows s n vs last
   blanked_shows n vs last h =
       let source : Source = record { setting = s; track = false; tokens = raw.tokens; ending = raw.ending } in
       let a = laws.all_some source n 0 utf8 raw.tiling in
       let was : TextShows s n a.0 a.1 = record { tokens = raw.tokens; ending = raw.ending; tiling = raw.tiling; all = a.2 } in
       let now = (shows_blanked n a.0 a.1 was).0 in
-      let e = laws.one_tiling (with_text s (overwritten s.text c white)) 0 now.tokens h.tokens now.ending h.ending now.tiling h.tiling in
+      let e = laws.one_tiling (with_other_text s (overwritten s.text c white)) 0 now.tokens h.tokens now.ending h.ending now.tiling h.tiling in
       let there = subst (λ y. AllShown (overwritten s.text c white) h.ending n y a.0 a.1) e.0 (subst (λ y. AllShown (overwritten s.text c white) y n now.tokens a.0 a.1) e.1 now.all) in
       let o = laws.all_one (overwritten s.text c white) h.ending n h.tokens a.0 vs a.1 last there h.all in
       subst (λ y. TextShows s n y last) o.0 (subst (TextShows s n a.0) o.1 was)
 
-  same_shown : ShowTheSame s (with_text s (overwritten s.text c white))
+  same_shown : ShowTheSame s (with_other_text s (overwritten s.text c white))
   same_shown = record {
     tokens = λ n vs last. (λ h. (shows_blanked n vs last h).0, λ h. blanked_shows n vs last h);
     texts = λ n vs last h. All-from_recursion (SameText s.text (overwritten s.text c white)) vs (shows_blanked n vs last h).1;

@@ -4,7 +4,7 @@ use Rattle.std.specs.Prelude.{◌≡◌, ◌↔◌, ℕ, List, length, map, flat
 use Rattle.std.specs.List.{All}
 use Rattle.std.specs.Str.{IsUtf8}
 use Rattle.wat_lex.specs.grammar.Classes.{is_line_end}
-use Rattle.wat_lex.specs.tokens.Blanking.{space, with_text}
+use Rattle.wat_lex.specs.tokens.Blanking.{space, with_other_text}
 use Rattle.wat_lex.specs.tokens.ReadableTokens.{token_text}
 use Rattle.wat_lex.specs.tokens.Setting.{Setting}
 use Rattle.wat_lex.specs.tokens.Tiling.{MaximalTiling}
@@ -39,8 +39,8 @@ pub record IsBlanked (s : Setting) (other : List ℕ) : Type 0 where
   pub utf8 : IsUtf8 other
   pub long : length other ≡ length s.text
   pub line_ends : SameLineEnds s.text other
-  pub no_comment : HasNoComment (with_text s other)
-  pub same : ShowTheSame s (with_text s other)
+  pub no_comment : HasNoComment (with_other_text s other)
+  pub same : ShowTheSame s (with_other_text s other)
 
 -- The text without its comments, where it has no fault.
 abbrev pub BlankTextsShowTheSame : Type 0

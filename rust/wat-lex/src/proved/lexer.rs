@@ -19,7 +19,7 @@ pub use read::numbers::{Float, Integer, magnitude};
 pub(crate) use scan::blocks::block_at;
 pub(crate) use scan::classes::is_confusing;
 pub(crate) use scan::comments::first_confusing;
-use scan::{first_fault, first_found};
+use scan::{fault_at_start, first_found};
 pub use settings::Settings;
 
 /// A lexer over a text: it cuts the text into tokens, whitespace and comments, and accounts for
@@ -44,13 +44,24 @@ impl<'a> Lexer<'a> {
     /// ensures start { IsCharBoundary input.now 0 }
     /// ```
     pub fn new(input: &'a str) -> Lexer<'a> {
-        Lexer {
-            input,
-            settings: Settings {
-                allow: false,
-                strict: false,
-            },
-        }
+        let settings = Settings {
+            allow: false,
+            strict: false,
+        };
+        Lexer::with_settings(input, settings)
+    }
+
+    /// A lexer over a text of at most `u32::MAX` bytes, with these settings.
+    ///
+    /// # Proved
+    ///
+    /// ```text
+    /// requires { length input.now < 2 ^ 32 }
+    /// ensures setting { result ≡ record { text = input.now; flags = settings } }
+    /// ensures start { IsCharBoundary input.now 0 }
+    /// ```
+    pub fn with_settings(input: &'a str, settings: Settings) -> Lexer<'a> {
+        Lexer { input, settings }
     }
 
     /// The text.
@@ -188,6 +199,27 @@ impl<'a> Lexer<'a> {
         }
     }
 
+    /// The first fault from a byte of the text on, or None where there is none.
+    ///
+    /// # Proved
+    ///
+    /// ```text
+    /// requires { IsCharBoundary self.now.text pos }
+    /// ensures ends { EndsFrom self.now pos result }
+    /// ensures one { (ending : Option LexFault) → EndsFrom self.now pos ending →
+    ///     ending ≡ result }
+    /// ```
+    pub fn first_fault(&self, pos: usize) -> Option<LexFault> {
+        let mut at = pos;
+        'tokens: loop {
+            match self.scan(at) {
+                Ok(Some(token)) => at = token.offset + token.len as usize,
+                Ok(None) => return None,
+                Err(fault) => return Some(fault),
+            }
+        }
+    }
+
     /// What is at a byte of the text.
     ///
     /// # Proved
@@ -238,7 +270,7 @@ impl<'a> Lexer<'a> {
     #[cold]
     #[inline(never)]
     fn fault(&self, pos: usize) -> LexFault {
-        let fault = first_fault(&self.input[pos..], self.settings);
+        let fault = fault_at_start(&self.input[pos..], self.settings);
         LexFault {
             offset: pos + fault.offset,
             error: fault.error,

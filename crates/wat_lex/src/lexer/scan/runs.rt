@@ -26,7 +26,7 @@ pub struct Pieces {
 }
 
 /// The fault, reported so many bytes further on.
-fn further(fault: LexFault, by: usize) -> LexFault
+fn fault_moved(fault: LexFault, by: usize) -> LexFault
     requires { by + fault.offset < 2 ^ 64 }
     ensures { result ≡ record { offset = by + fault.offset; error = fault.error } }
 {
@@ -48,7 +48,7 @@ pub fn run(text: &str, flags: Settings) -> Result<Pieces, LexFault>
     while len < bytes.len() && bytes[len] == b'"' {
         let taken = match string_len(&text[len + 1..], flags) {
             Ok(taken) => taken,
-            Err(fault) => return Err(further(fault, len + 1)),
+            Err(fault) => return Err(fault_moved(fault, len + 1)),
         };
         strings += 1;
         len += 1 + taken;

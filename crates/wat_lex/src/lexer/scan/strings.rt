@@ -107,7 +107,7 @@ fn row_value(n: u32, underscore: bool, last: usize) -> Result<char, Broken>
 }
 
 /// The escape of a number's character, unless another character than a brace follows the digits.
-fn ended(c: char, left: usize, value: char) -> Result<EscapeValue, Broken>
+fn closing_brace(c: char, left: usize, value: char) -> Result<EscapeValue, Broken>
     ensures { Ends c left value result }
 {
     if c != '}' {
@@ -159,7 +159,7 @@ fn number(it: &mut Chars<'_>, first: char, flags: Settings) -> Result<EscapeValu
         if is_hex(c) {
             n = with_digit(n, c, left)?;
         } else if c != '_' {
-            return ended(c, left, row_value(n, underscore, last)?);
+            return closing_brace(c, left, row_value(n, underscore, last)?);
         }
         underscore = c == '_';
         last = left;
@@ -167,7 +167,7 @@ fn number(it: &mut Chars<'_>, first: char, flags: Settings) -> Result<EscapeValu
 }
 
 /// What follows `\u{`.
-fn digits(it: &mut Chars<'_>, flags: Settings) -> Result<EscapeValue, Broken>
+fn braced_number(it: &mut Chars<'_>, flags: Settings) -> Result<EscapeValue, Broken>
     requires utf8 { IsUtf8 (chars_rest it.old) }
     ensures ok { IfOk result (λ e.
         Escaped flags (92 ∷ 117 ∷ 123 ∷ [])
@@ -203,7 +203,7 @@ fn braced(it: &mut Chars<'_>, flags: Settings) -> Result<EscapeValue, Broken>
         };
         return refuse(left, error);
     }
-    digits(it, flags)
+    braced_number(it, flags)
 }
 
 /// What follows a backslash.

@@ -2,7 +2,7 @@ use Rattle.std.proofs.Common.{◌≡◌, ◌+◌, ◌++◌, [], drop, length, ar
 use Rattle.wat_lex.specs.errors.Rendering.{excerpt, shown_place}
 use Rattle.wat_parser_c.specs.Answers.{Answers}
 use Rattle.wat_parser_c.specs.Printing.{Prints}
-use Rattle.wat_parser_c.proofs.Lengths.{length_excerpt}
+use Rattle.wat_lex.specs.lemmas.Lengths.{length_excerpt}
 use Rattle.wat_parser_c.proofs.PrintedErrors.{fits_put, short_put}
 use Rattle.wat_parser_c.proofs.printing.give_long.Goals as goal
 

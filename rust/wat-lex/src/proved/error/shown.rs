@@ -173,7 +173,7 @@ fn front(line: &str, bytes: usize) -> Option<Shown<'_>> {
 /// # Proved
 ///
 /// ```text
-/// ensures { result ≡ length (encode_utf8_all (shown c)) }
+/// ensures { result ≡ length (encode_utf8_all (shown_in_line c)) }
 /// ```
 fn shown_len(c: char) -> usize {
     match c {

@@ -14,6 +14,24 @@ pub struct Token {
     pub kind: TokenKind,
 }
 
+impl Token {
+    /// Whether `@` comes directly after the first byte of the token, as in `(@`.
+    ///
+    /// # Proved
+    ///
+    /// ```text
+    /// requires { self.now.offset < 2 ^ 32 }
+    /// ensures { result ≡ is_marked s.now self.now }
+    /// ```
+    #[inline]
+    pub fn is_marked(&self, s: &str) -> bool {
+        match s.as_bytes().get(self.offset + 1) {
+            Some(byte) => *byte == b'@',
+            None => false,
+        }
+    }
+}
+
 /// The kinds of tokens, whitespace and comments among them.
 #[derive(Clone, Copy, Debug, PartialEq)]
 pub enum TokenKind {
@@ -72,6 +90,21 @@ impl TokenKind {
             TokenKind::Float(FloatKind::Nan { .. }) => 13,
             TokenKind::Float(FloatKind::NanVal { .. }) => 14,
             TokenKind::Float(FloatKind::Normal { .. }) => 15,
+        }
+    }
+
+    /// Whether it is white space or a comment.
+    ///
+    /// # Proved
+    ///
+    /// ```text
+    /// ensures { result ≡ is_blank self }
+    /// ```
+    #[inline]
+    pub fn is_blank(self) -> bool {
+        match self {
+            TokenKind::Whitespace | TokenKind::LineComment | TokenKind::BlockComment => true,
+            _ => false,
         }
     }
 }

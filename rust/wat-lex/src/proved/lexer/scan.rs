@@ -183,7 +183,7 @@ fn word(text: &[u8], start: Start, stride: Stride) -> Option<Lexeme> {
     }
 }
 
-/// What the outline of a run at the start tells of the text.
+/// What is at the start of a text that begins with a run, by the run's outline.
 ///
 /// # Proved
 ///
@@ -192,7 +192,7 @@ fn word(text: &[u8], start: Start, stride: Stride) -> Option<Lexeme> {
 /// ensures { (flags : Settings) → Outlined flags text.now outline → FoundIn flags text.now result }
 /// ```
 #[inline(always)]
-fn known(text: &str, outline: Outline) -> Found {
+fn found_by_outline(text: &str, outline: Outline) -> Found {
     let kind = match outline.shape {
         Shape::String => TokenKind::String,
         Shape::Id => TokenKind::Id,
@@ -218,7 +218,7 @@ fn known(text: &str, outline: Outline) -> Found {
 fn run_found(text: &str, start: Start, flags: &Settings, stride: Stride) -> Found {
     match word(text.as_bytes(), start, stride) {
         Some(lexeme) => Found::Lexeme(lexeme),
-        None => known(text, run_outline(text, *flags)),
+        None => found_by_outline(text, run_outline(text, *flags)),
     }
 }
 
@@ -320,7 +320,7 @@ fn unexpected(text: &str) -> LexFault {
 /// ```
 #[cold]
 #[inline(never)]
-pub fn first_fault(text: &str, flags: Settings) -> LexFault {
+pub fn fault_at_start(text: &str, flags: Settings) -> LexFault {
     let bytes = text.as_bytes();
     let first = byte_at(bytes, 0);
     if is_run_char(first) {

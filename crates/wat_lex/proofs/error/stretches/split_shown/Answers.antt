@@ -7,7 +7,7 @@ use Rattle.std.specs.Str.Iter.{chars_rest}
 use Rattle.std.specs.Char.{len_utf8}
 use lib.Utf8.{encode, encodes}
 use Rattle.wat_lex.specs.errors.LineBytes.{is_kept}
-use Rattle.wat_lex.specs.errors.Rendering.{shown, shown_line}
+use Rattle.wat_lex.specs.errors.Rendering.{shown_in_line, shown_line}
 use Rattle.wat_lex.proofs.errors.ShownBytes.{tab_bytes}
 use Rattle.wat_lex.proofs.errors.Stretches.{kept_boundary, kept_front, shown_nothing, past_first, shorter_after, after_first, first_as, own_bytes, no_bytes}
 use Rattle.wat_lex.proofs.error.stretches.split_shown.Goals as goal
@@ -45,7 +45,7 @@ returns c =
     let here : line ≡ encode x ++ rest = sym c.chars.ensures.rest ∙ c.in_ok-c.ensures.steps.0 in
     let after : c.split_at-2.result.1.now ≡ drop (len_utf8 x) line = c.split_at-2.ensures.back ∙ ap (λ n. drop n line) c.len_utf8.ensures.value in
     let own : c.split_at-2.result.0.now ≡ take (len_utf8 x) line = c.split_at-2.ensures.front ∙ ap (λ n. take n line) c.len_utf8.ensures.value in
-    let shown : encodes (shown x) ≡ c.if-c-eq9.shown.now =
+    let shown : encodes (shown_in_line x) ≡ c.if-c-eq9.shown.now =
     elim c.if-c-eq9.branch [
       | then-c-eq9 w ↦ tab_bytes x w.if-c-eq9.true ∙ ap (λ s. s.now) (sym w.shown-is)
       | else-c-eq9+then-is_confusing w ↦ no_bytes line rest x c.utf8.line here w.if-c-eq9.false (sym w.is_confusing.ensures ∙ w.if-is_confusing.true) ∙ ap (λ s. s.now) (sym w.shown-is)

@@ -10,4 +10,4 @@ returns-in-Some c =
     idchars_there c.args.flags.now text c.in-Some.lexeme.kind c.in-Some.lexeme.len c.utf8.text c.requires.some c.requires.run there.len there.ends there.kind
 
 pub returns-in-None : goal.returns-in-None
-returns-in-None c = c.known.ensures c.args.flags.now c.run_outline.ensures
+returns-in-None c = c.found_by_outline.ensures c.args.flags.now c.run_outline.ensures

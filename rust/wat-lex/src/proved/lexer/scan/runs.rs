@@ -27,7 +27,7 @@ pub struct Pieces {
 /// requires { by + fault.offset < 2 ^ 64 }
 /// ensures { result ≡ record { offset = by + fault.offset; error = fault.error } }
 /// ```
-fn further(fault: LexFault, by: usize) -> LexFault {
+fn fault_moved(fault: LexFault, by: usize) -> LexFault {
     LexFault {
         offset: by + fault.offset,
         error: fault.error,
@@ -50,7 +50,7 @@ pub fn run(text: &str, flags: Settings) -> Result<Pieces, LexFault> {
     while len < bytes.len() && bytes[len] == b'"' {
         let taken = match string_len(&text[len + 1..], flags) {
             Ok(taken) => taken,
-            Err(fault) => return Err(further(fault, len + 1)),
+            Err(fault) => return Err(fault_moved(fault, len + 1)),
         };
         strings += 1;
         len += 1 + taken;

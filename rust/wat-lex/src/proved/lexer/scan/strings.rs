@@ -125,7 +125,7 @@ fn row_value(n: u32, underscore: bool, last: usize) -> Result<char, Broken> {
 /// ```text
 /// ensures { Ends c left value result }
 /// ```
-fn ended(c: char, left: usize, value: char) -> Result<EscapeValue, Broken> {
+fn closing_brace(c: char, left: usize, value: char) -> Result<EscapeValue, Broken> {
     if c != '}' {
         let error = LexError::Expected {
             wanted: '}',
@@ -183,7 +183,7 @@ fn number(it: &mut Chars<'_>, first: char, flags: Settings) -> Result<EscapeValu
         if is_hex(c) {
             n = with_digit(n, c, left)?;
         } else if c != '_' {
-            return ended(c, left, row_value(n, underscore, last)?);
+            return closing_brace(c, left, row_value(n, underscore, last)?);
         }
         underscore = c == '_';
         last = left;
@@ -201,7 +201,7 @@ fn number(it: &mut Chars<'_>, first: char, flags: Settings) -> Result<EscapeValu
 ///     (chars_rest it.old) (chars_rest it.new) (escape_bytes e)) }
 /// ensures err { IfErr result (Breaks flags (92 ∷ 117 ∷ 123 ∷ []) (chars_rest it.old)) }
 /// ```
-fn digits(it: &mut Chars<'_>, flags: Settings) -> Result<EscapeValue, Broken> {
+fn braced_number(it: &mut Chars<'_>, flags: Settings) -> Result<EscapeValue, Broken> {
     let left = it.as_str().len();
     let Some(c) = it.next() else {
         return refuse(0, LexError::UnexpectedEof);
@@ -235,7 +235,7 @@ fn braced(it: &mut Chars<'_>, flags: Settings) -> Result<EscapeValue, Broken> {
         };
         return refuse(left, error);
     }
-    digits(it, flags)
+    braced_number(it, flags)
 }
 
 /// What follows a backslash.

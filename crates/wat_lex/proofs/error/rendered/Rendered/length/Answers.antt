@@ -1,7 +1,8 @@
 use Rattle.std.proofs.Common.{◌∙◌, length, arith, ap}
 use Rattle.wat_lex.specs.errors.Messages.{message}
 use Rattle.wat_lex.specs.errors.Rendering.{shown_place}
-use Rattle.wat_lex.proofs.errors.Lengths.{length_message, length_excerpt}
+use Rattle.wat_lex.specs.lemmas.Lengths.{length_excerpt}
+use Rattle.wat_lex.proofs.errors.Lengths.{length_message}
 use Rattle.wat_lex.proofs.error.rendered.Rendered.length.Goals as goal
 
 pub length_of-requires : goal.length_of-requires

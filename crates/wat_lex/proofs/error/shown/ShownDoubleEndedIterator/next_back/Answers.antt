@@ -1,6 +1,6 @@
 use Rattle.std.proofs.Common.{Some, None, rules, tests, arith, ap, sym, ◌∙◌, ◌∷◌, ◌++◌, [], length, length-append}
 use Rattle.std.specs.Str.Iter.{chars_rest}
-use Rattle.wat_lex.proofs.errors.Rendering.{shown_tab, shown_self}
+use Rattle.wat_lex.specs.lemmas.Lengths.{shown_tab, shown_self}
 use Rattle.wat_lex.proofs.errors.ShownLines.{all_shown, found_last, last_between, last_tab, front_space, none_between}
 use Rattle.wat_lex.proofs.error.shown.ShownDoubleEndedIterator.next_back.Goals as goal
 

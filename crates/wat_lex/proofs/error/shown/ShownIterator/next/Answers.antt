@@ -1,6 +1,6 @@
 use Rattle.std.proofs.Common.{rules, tests, arith, ap, sym, ◌∙◌, ◌∷◌, ◌++◌, [], length}
 use Rattle.std.specs.Str.Iter.{chars_rest}
-use Rattle.wat_lex.proofs.errors.Rendering.{shown_tab, shown_self}
+use Rattle.wat_lex.specs.lemmas.Lengths.{shown_tab, shown_self}
 use Rattle.wat_lex.proofs.errors.ShownLines.{all_shown, found_first, first_between, first_tab, back_space, none_between}
 use Rattle.wat_lex.proofs.error.shown.ShownIterator.next.Goals as goal
 

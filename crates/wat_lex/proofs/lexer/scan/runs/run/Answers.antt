@@ -30,7 +30,7 @@ range_from-requires c = λ _.
 pub returns-in-Err-clause-err : goal.returns-in-Err-clause-err
 returns-in-Err-clause-err c =
     let q = quote (goal.at.returns-in-Err-clause-err c).Then-bytes-len-eq34 in
-    rw c.further.ensures
+    rw c.fault_moved.ensures
     (joined_wrong c.args.flags c.args.text.now c.loop-len.len c.loop-len.idchars c.loop-len.strings c.in-Err.fault c.loop-len.invariant q.inside q.byte
     (subst (λ x. StringRefused c.args.flags x c.in-Err.fault) c.range_from.ensures.value c.in-Err.ensures.err))
 

@@ -11,14 +11,14 @@ first c = took (chars_rest c.args.it.now) (chars_rest c.next.new.self) c.in-Some
 was : (c : In-Some) → c.in-Some.c ≡ 123 → Took (chars_rest c.args.it.now) 123 (chars_rest c.next.new.self)
 was c e = subst (λ x. Took (chars_rest c.args.it.now) x (chars_rest c.next.new.self)) e (first c)
 
-pub digits-requires : goal.digits-requires
-digits-requires c = let t = first (goal.at.digits-requires c).In-Some in record { utf8 = t.utf8 }
+pub braced_number-requires : goal.braced_number-requires
+braced_number-requires c = let t = first (goal.at.braced_number-requires c).In-Some in record { utf8 = t.utf8 }
 
 pub returns-clause-ok : goal.returns-clause-ok
-returns-clause-ok c = if_ok c.digits.result _ _ (λ e. escaped_on _ (92 ∷ 117 ∷ []) (chars_rest c.args.it.now) (chars_rest c.next.new.self) (chars_rest c.digits.new.it) (escape_bytes e) 123 (was (goal.at.returns-clause-ok c).In-Some c.if-c-ne123.false)) c.digits.ensures.ok
+returns-clause-ok c = if_ok c.braced_number.result _ _ (λ e. escaped_on _ (92 ∷ 117 ∷ []) (chars_rest c.args.it.now) (chars_rest c.next.new.self) (chars_rest c.braced_number.new.it) (escape_bytes e) 123 (was (goal.at.returns-clause-ok c).In-Some c.if-c-ne123.false)) c.braced_number.ensures.ok
 
 pub returns-clause-err : goal.returns-clause-err
-returns-clause-err c = if_err c.digits.result _ _ (λ f. breaks_on _ (92 ∷ 117 ∷ []) (chars_rest c.args.it.now) (chars_rest c.next.new.self) 123 f (was (goal.at.returns-clause-err c).In-Some c.if-c-ne123.false)) c.digits.ensures.err
+returns-clause-err c = if_err c.braced_number.result _ _ (λ f. breaks_on _ (92 ∷ 117 ∷ []) (chars_rest c.args.it.now) (chars_rest c.next.new.self) 123 f (was (goal.at.returns-clause-err c).In-Some c.if-c-ne123.false)) c.braced_number.ensures.err
 
 pub returns-in_default-clause-err : goal.returns-in_default-clause-err
 returns-in_default-clause-err c = refused _ _ _ c.refuse.ensures (open_missing _ _ c.in_default.ensures.steps.0.0)

@@ -6,7 +6,7 @@ use Rattle.wat_lex.specs.grammar.Classes.{is_hex}
 use Rattle.wat_lex.proofs.inside.StringSteps.{Took, took, refused}
 use Rattle.wat_lex.proofs.inside.HexRows.{Reading, row_begins, row_underscore, row_doubled, row_digit, row_too_big, row_ends, row_good, row_no_more, row_stops, stops_end, stops_at}
 use Rattle.wat_lex.proofs.lexer.scan.strings.number.Goals as goal
-use Rattle.wat_lex.proofs.lexer.scan.strings.number.Goals.{In-Some, After-ended, then-is_hex+in_ok-n, else-is_hex+else-c-ne95, else-c-eq95-via-then-c-eq95+then-underscore+else-flags, else-c-eq95-via-then-c-eq95+else-underscore, else-c-eq95-via-else-c-eq95}
+use Rattle.wat_lex.proofs.lexer.scan.strings.number.Goals.{In-Some, After-closing_brace, then-is_hex+in_ok-n, else-is_hex+else-c-ne95, else-c-eq95-via-then-c-eq95+then-underscore+else-flags, else-c-eq95-via-then-c-eq95+else-underscore, else-c-eq95-via-else-c-eq95}
 
 first_of : (c : In-Some) → Took (chars_rest c.row.it) c.in-Some.c (chars_rest c.next.new.self)
 first_of c = let u = c.row.invariant in took (chars_rest c.row.it) (chars_rest c.next.new.self) c.in-Some.c u.utf8 c.in-Some.ensures.steps.0
@@ -46,10 +46,10 @@ returns-in_err-row_value-2-clause-err c =
     (row_ends c.args.flags c.args.first _ (chars_rest c.row.it) c.row.n c.row.last c.row.underscore _ c.row.invariant
     (stops_at _ _ _ (first_of (goal.at.returns-in_err-row_value-2-clause-err c).In-Some) (sym c.is_hex.ensures ∙ c.if-is_hex.false) c.if-c-ne95.true) c.in_err-row_value-2.ensures)
 
-stopped : (c : After-ended) → Reading c.args.flags (92 ∷ 117 ∷ 123 ∷ c.args.first ∷ []) (chars_rest c.args.it.now) (chars_rest c.next.new.self) c.ended.result
+stopped : (c : After-closing_brace) → Reading c.args.flags (92 ∷ 117 ∷ 123 ∷ c.args.first ∷ []) (chars_rest c.args.it.now) (chars_rest c.next.new.self) c.closing_brace.result
 stopped c =
-    row_stops c.args.flags c.args.first (chars_rest c.args.it.now) (chars_rest c.row.it) (chars_rest c.next.new.self) c.row.n c.row.last _ c.in-Some.c c.row.underscore c.in_ok-row_value-2.field-0 c.ended.result c.row.invariant
-    (took (chars_rest c.row.it) (chars_rest c.next.new.self) c.in-Some.c (let u = c.row.invariant in u.utf8) c.in-Some.ensures.steps.0) (ap length c.as_str-left.ensures) (sym c.is_hex.ensures ∙ c.if-is_hex.false) c.if-c-ne95.true c.in_ok-row_value-2.ensures c.ended.ensures
+    row_stops c.args.flags c.args.first (chars_rest c.args.it.now) (chars_rest c.row.it) (chars_rest c.next.new.self) c.row.n c.row.last _ c.in-Some.c c.row.underscore c.in_ok-row_value-2.field-0 c.closing_brace.result c.row.invariant
+    (took (chars_rest c.row.it) (chars_rest c.next.new.self) c.in-Some.c (let u = c.row.invariant in u.utf8) c.in-Some.ensures.steps.0) (ap length c.as_str-left.ensures) (sym c.is_hex.ensures ∙ c.if-is_hex.false) c.if-c-ne95.true c.in_ok-row_value-2.ensures c.closing_brace.ensures
 
 pub returns-then-c-ne95-clause-ok : goal.returns-then-c-ne95-clause-ok
 returns-then-c-ne95-clause-ok c = (stopped c).0
