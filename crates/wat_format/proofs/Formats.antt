@@ -24,9 +24,6 @@ tiled_with s pos t ts e k m = record { to = m.to; tiling = (k, m.tiling); ends =
 tiled_at_end : (s : Setting) (pos : ℕ) (e : Option LexFault) → EndsAt s pos e → MaximalTiling s pos [] e
 tiled_at_end s pos e h = record { to = pos; tiling = refl; ends = h }
 
-pub ends_before : (s : Setting) (pos : ℕ) (t : Token) (e : Option LexFault) → TokenAt s pos t → EndsFrom s (t.offset + t.len) e → EndsFrom s pos e
-ends_before s pos t e k h = record { tokens = t ∷ h.tokens; tiling = tiled_with s pos t h.tokens e k h.tiling }
-
 pub formats_start : (s : Setting) (state : State) (out : List ℕ) → state ≡ start → out ≡ [] → Formats s 0 state out
 formats_start s state out e k ts ending m = record {
   all = ts;
