@@ -59,5 +59,5 @@ for file in "${files[@]}"; do
     "$program" < "$file" > "$room/all_output" 2> "$room/errors" || true
     cmp "$room/each_output" "$room/all_output" || differences=$((differences + 1))
 done
-echo "check_files: $differences differences"
+echo "check_files: ${#files[@]} files, together and one by one, $differences differences"
 [ "$differences" = 0 ]

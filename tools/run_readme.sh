@@ -54,7 +54,7 @@ for document in README.md docs/COMMAND-LINE.md; do
         [ -e "$block" ] || continue
         if $quick && [ "${block##*.}" = slow ]; then
             left=$((left + 1))
-            echo "run_readme.sh: left out, as it proves: $(head -n 1 "$block")"
+            echo "run_readme.sh: left out, as it proves: $(tr '\n' ';' < "$block" | cut -c 1-100)"
         else
             run "$block"
         fi
