@@ -100,6 +100,13 @@ json_cut one settings file text begin last error old new u l reports b e h = rec
   appended = h.appended;
 }
 
+-- the lines of the tokens, and then the last one
+pub rows_alone : (begin last : List ℕ) (s : Setting) (old new : Option (List ℕ)) → last ≡ [] → AppendsEach (json_line begin s.text) s old new → AppendsRows begin last s old new
+rows_alone begin last s old new e h = record { tokens = h.tokens; ending = h.ending; tiling = h.tiling; appended = subst (λ x. Appends old new x) (sym (ap (λ x. json_lines begin s.text h.tokens ++ x) e ∙ append-nil (json_lines begin s.text h.tokens))) h.appended }
+
+pub rows_and_last : (begin last : List ℕ) (s : Setting) (old mid new : Option (List ℕ)) → AppendsEach (json_line begin s.text) s old mid → Appends mid new last → AppendsRows begin last s old new
+rows_and_last begin last s old mid new h k = record { tokens = h.tokens; ending = h.ending; tiling = h.tiling; appended = appends_more old mid new (json_lines begin s.text h.tokens) last (json_lines begin s.text h.tokens ++ last) h.appended k refl }
+
 pub rows_cut : (begin last : List ℕ) (s : Setting) (old new : Option (List ℕ)) → AppendsEachCut (json_line begin s.text) s old new → AppendsRowsCut begin last s old new
 rows_cut begin last s old new h = record { tokens = h.tokens; ending = h.ending; tiling = h.tiling; appended = cut_longer old new (json_lines begin s.text h.tokens) last (json_lines begin s.text h.tokens ++ last) h.appended refl }
 

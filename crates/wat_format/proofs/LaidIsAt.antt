@@ -172,6 +172,20 @@ module _ (flags : Settings) (x p : Piece) (ps rest : List Piece) (s : State) (b 
     follows_gap pr l (gap_before y s) (sym (ap (λ z. gap_after z y s.gap) b.sort)),
   )
 
+-- white space after a word
+apart_by : (x : Piece) (s : State) (bytes : List ℕ) (ps : List Piece) → IsUtf8 (joined ps) → chars bytes ≢ [] → chars bytes ≡ bytes → Each is_whitespace bytes → (Begins is_whitespace (chars (joined ps)) → ⊥) → Prior x s ((Whitespace, bytes) ∷ ps) → Prior x (record s { gap = gap_of bytes }) ps
+apart_by x s [] ps u n e h k pr = absurd (n e)
+apart_by x s (c ∷ w) ps u n e h k (Prior.direct g m) =
+    let v = after_white c (w ++ joined ps) h.0 (IsUtf8-append w (joined ps) (white_utf8 w h.1) u) in
+    let broken = λ (i : x.0 ≡ LineComment). elim (subst (λ z. MayFollow z (chars x.1) (chars (joined ((Whitespace, c ∷ w) ∷ ps)))) i m) as (λ _. is_break (gap_of (c ∷ w)) ≡ true) [
+      | inl a ↦ absurd cc
+      | inr a ↦ breaks c w (subst (λ z. Begins is_line_end z) v a)
+    ] in
+    Prior.apart (white_is_apart c w) broken k
+apart_by x s (c ∷ w) ps u n e h k (Prior.apart g i m) =
+    let v = after_white c (w ++ joined ps) h.0 (IsUtf8-append w (joined ps) (white_utf8 w h.1) u) in
+    absurd (m (subst (λ z. Begins is_whitespace z) (sym v) h.0))
+
 pub apart_kind : (x : Piece) (s : State) (kind : TokenKind) (bytes : List ℕ) (ps : List Piece) (flags : Settings) → is_white kind ≡ true → IsAt flags kind bytes (joined ps) → AllLegal flags ps → Prior x s ((kind, bytes) ∷ ps) → Prior x (record s { gap = gap_of bytes }) ps
 apart_kind x s Whitespace bytes ps flags e h a pr =
     let i = white_bytes bytes h.utf8 h.word.1 in

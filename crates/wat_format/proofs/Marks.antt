@@ -42,6 +42,11 @@ run_kind_at (Idchar d ∷ qs) h = at_by (idchars (Idchar d ∷ qs)) h
     at_by (Some cs) (inl k) = k
     at_by (Some cs) (inr k) = let e = k.1 in cc
 
+run_at : {flags : Settings} {w r : List ℕ} {ps : List RunPiece} (t : List ℕ) → Run flags w ps r → ps ≢ [] → w ≡ at_sign ∷ t → RunKind ps Keyword → ⊥
+run_at t (Run.none) n e h = n refl
+run_at t (Run.idchar {c = c} {ps = ps} i k) n e h = let f : c ≡ at_sign = cc in run_kind_at ps (subst (λ x. RunKind (Idchar x ∷ ps) Keyword) f h)
+run_at t (Run.string i k) n e h = let f : ◌≡◌ {A = ℕ} quote at_sign = cc in omega arith
+
 -- the first byte of a word that may touch the `(` before it
 pub first_byte : (b c : ℕ) (bytes others : List ℕ) → IsUtf8 (b ∷ bytes) → chars (b ∷ bytes) ≡ c ∷ others → b < 128 → c ≡ b
 first_byte b c bytes others u e lt = char_from_byte (b ∷ bytes) (encode_utf8_all others) c (sym (encodes-chars (b ∷ bytes) u) ∙ ap encode_utf8_all e) lt (omega arith)
@@ -63,6 +68,9 @@ no_at before Keyword flags bytes u e w n =
     let c = first_byte at_sign f.char bytes f.others u f.cut (omega arith) in
     run_at f.others w.2 w.1 (f.cut ∙ ap (λ x. x ∷ f.others) c) w.3
 no_at before kind flags bytes u e w n = n
+
+no_at_byte : (b : ℕ) → (b ≡ at_sign → ⊥) → eqb b at_sign ≡ false
+no_at_byte b n = elim (bool_cases (eqb b at_sign)) [ inl e ↦ absurd (n (let k : b ≡ at_sign = grind (arith, nat_tests) in k)) | inr e ↦ e ]
 
 pub no_characters : (bytes : List ℕ) (c : ℕ) (others : List ℕ) → bytes ≡ [] → chars bytes ≡ c ∷ others → ⊥
 no_characters bytes c others e h = let k : chars [] ≡ c ∷ others = subst (λ x. chars x ≡ c ∷ others) e h in let n = chars-nil in cc

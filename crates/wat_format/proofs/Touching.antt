@@ -43,6 +43,22 @@ first_semicolon (Float f) w c h b = run_char c h b
 mark_cases : (c : ℕ) → IsTrue (is_punctuation c || eqb c semicolon) → (c ≡ 44) ⊎ ((c ≡ 91) ⊎ ((c ≡ 93) ⊎ ((c ≡ 123) ⊎ ((c ≡ 125) ⊎ (c ≡ 59)))))
 mark_cases c h = grind (arith, nat_tests)
 
+-- a reserved character begins no run
+mark_no_run : (c : ℕ) → IsTrue (is_punctuation c || eqb c semicolon) → IsTrue (is_run_char c) → ⊥
+mark_no_run c h k = elim (mark_cases c h) [
+  | inl e ↦ false≢true (subst (λ x. is_run_char x ≡ true) e k)
+  | inr f ↦ elim f [
+    | inl e ↦ false≢true (subst (λ x. is_run_char x ≡ true) e k)
+    | inr g ↦ elim g [
+      | inl e ↦ false≢true (subst (λ x. is_run_char x ≡ true) e k)
+      | inr i ↦ elim i [
+        | inl e ↦ false≢true (subst (λ x. is_run_char x ≡ true) e k)
+        | inr j ↦ elim j [ inl e ↦ false≢true (subst (λ x. is_run_char x ≡ true) e k) | inr e ↦ false≢true (subst (λ x. is_run_char x ≡ true) e k) ]
+      ]
+    ]
+  ]
+]
+
 abbrev head_of : ℕ → List ℕ → ℕ
 head_of d [] = d
 head_of d (x ∷ xs) = x

@@ -124,6 +124,9 @@ no_line_ends : (n p : ℕ) → line_ends p (replicate n 32) ≡ 0
 no_line_ends zero p = refl
 no_line_ends (suc n) p = let h = no_line_ends n 32 in omega arith
 
+blank_gap : (w : List ℕ) → line_ends 0 w ≡ 0 → eqb (length w) 0 ≡ false → gap_of w ≡ Blanks (length w)
+blank_gap w e f = rw (e, f) refl
+
 one_end_gap : (w : List ℕ) → line_ends 0 w ≡ 1 → gap_of w ≡ LineEnd
 one_end_gap w e = rw e refl
 
