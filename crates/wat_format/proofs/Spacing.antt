@@ -121,13 +121,13 @@ empty_or_not : (w : List ℕ) → (w ≡ []) ⊎ (w ≢ [])
 empty_or_not [] = inl refl
 empty_or_not (c ∷ w) = inr (λ e. cc)
 
-legal : (flags : Settings) (xs : List Spaced) → AreSpaced flags xs → AllLegal flags (to_pieces xs) → AreLegal xs
-legal flags [] h a = tt
-legal flags (x ∷ []) h a = λ k. elim (empty_or_not x.white) [
+words_legal : (flags : Settings) (xs : List Spaced) → AreSpaced flags xs → AllLegal flags (to_pieces xs) → AreLegal xs
+words_legal flags [] h a = tt
+words_legal flags (x ∷ []) h a = λ k. elim (empty_or_not x.white) [
   | inl e ↦ inl e
   | inr n ↦ inr (white_ended flags (chars x.bytes) x.white [] h.0.white IsUtf8-nil n (subst (λ z. MayFollow z (chars x.bytes) (chars (joined (gapped x.white [])))) k a.0.ends))
 ]
-legal flags (x ∷ y ∷ ys) h a =
+words_legal flags (x ∷ y ∷ ys) h a =
     let ps : List Piece = to_pieces (y ∷ ys) in
     let all = tail_is_at flags x.white ps a.1 in
     let u = utf8_joined flags (gapped y.white (to_pieces ys)) all.1 in
@@ -142,7 +142,7 @@ legal flags (x ∷ y ∷ ys) h a =
           | inr n ↦ white_ended flags (chars x.bytes) x.white ps h.0.white (utf8_joined flags ps all) n (subst (λ z. MayFollow z (chars x.bytes) (chars (joined (gapped x.white ps)))) k a.0.ends)
         ];
       },
-      legal flags (y ∷ ys) h.1 all,
+      words_legal flags (y ∷ ys) h.1 all,
     )
 
 -- Pieces with these words, joined to this text, are these.
@@ -298,7 +298,7 @@ module _ (flags : Settings) where
     same_pieces r = only (pieces s.text r.tokens) front xs (cut r).legal (cut r).whole (sym (words_of_pieces s.text r.tokens) ∙ r.same) white h
 
     are_legal : ReadsAsWords s xs → AreLegal xs
-    are_legal r = legal flags xs h (tail_is_at flags front (to_pieces xs) (subst (AllLegal flags) (same_pieces r) (cut r).legal))
+    are_legal r = words_legal flags xs h (tail_is_at flags front (to_pieces xs) (subst (AllLegal flags) (same_pieces r) (cut r).legal))
 
     pub exact : AreLegal xs ↔ ReadsAsWords s xs
     exact = (reads, are_legal)
