@@ -71,10 +71,10 @@ fn made(alloc: Global) -> bool {
 
 /// Calls that do nothing.
 fn sound(buffer: &ParseBuffer<'_>, parser: &mut Parser<'_>) -> bool {
-    buffer.is_sound();
-    parser.is_sound();
+    buffer.lemma_sound();
+    parser.lemma_sound();
     let result = parser.step(|cursor| {
-        cursor.is_sound();
+        cursor.lemma_sound();
         Ok(((), cursor))
     });
     result.is_ok() && parser.prev_span().offset() == 0
