@@ -1,5 +1,5 @@
 #!/usr/bin/env -S node --experimental-wasm-memory64
-// Answers the layout of each line of standard input as a line, or `fault`, as the program wat_format_rows does: so tools/compare_layouts.py
+// Answers the layout of each line of standard input as a line, or `fault`, as rust/wat-tokens/examples/layouts.rs does: so tools/compare_layouts.py
 // compares the page's layouts too. In a line `\n`, `\r`, `\t` and `\\` stand for line feed, carriage return, tab and backslash.
 // usage: laid.mjs < TEXTS, once build.sh has made the module
 import { readFileSync } from 'node:fs';

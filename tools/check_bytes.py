@@ -7,7 +7,7 @@ Where BY_CARGO is set the program is the one that cargo builds, and Rust's libra
 
 Each run has a bound of the bytes for each byte of its text, and of the writes; it ends in time; and what it writes is compared with what is put
 together here, or with a run that has to answer the same. Nothing may be held at the end. The counts are those of tools/refuse_requests.c, which is
-loaded in front of the C library. Of the rows of crates/wat_requests, tools/check_requests.sh counts the same.
+loaded in front of the C library.
 """
 import os
 import pathlib

@@ -5,7 +5,7 @@ usage: tools/check_evidence.py [--self-test] [CRATES]
 
 It goes by the tokens of each source that is built into a library or program, and finds, outside the places that stand in its lists with a reason:
 values that mean a refusal; requests for memory whose size is no single item and no given text; requests whose refusal is not handed on, or
-whose room is not used; values that mean a failed call; and words that keep memory for good. Contracts, comments, strings, the crates of tests
+whose room is not used; values that mean a failed call; and words that keep memory for good. Contracts, comments, strings
 and what comes after `#[cfg(test)]` are left out. docs/MEMORY.md says what it does not see. CRATES is the folder of the crates.
 """
 import collections
@@ -17,9 +17,6 @@ import tempfile
 
 import rattle_source
 from rattle_source import OPEN, items_of, past_group, split_at, tokens_of, uses_of, written
-
-# Crates of tests, and the programs that refuse requests from outside. No other crate may use one of them.
-HARNESS = set("wat_answers wat_lex_answers wat_lex_requests wat_requests".split())
 
 # A place is a file, a function of it, and what is there, once. Functions of an `impl` have the type's name in front, and the trait's.
 # The places that may make a refusal.
@@ -484,9 +481,9 @@ def modules(file, items):
 
 
 def sources(crates):
-    """The sources of the crates that are no tests, by name: those that a library or a program has as its modules."""
+    """The sources by name: those that a library or a program has as its modules."""
     files, todo = {}, []
-    for crate in sorted(it for it in crates.iterdir() if it.name not in HARNESS):
+    for crate in sorted(crates.iterdir()):
         todo += [it for it in (crate / "src/lib.rt", crate / "src/main.rt") if it.exists()]
     while todo:
         file = todo.pop()
@@ -494,16 +491,6 @@ def sources(crates):
         files[file.relative_to(crates).as_posix()] = text
         todo += modules(file, items_of(tokens_of(text)))
     return files
-
-
-def harness_faults(crates):
-    """The crates that use one of tests, though they are none themselves."""
-    listed = crates.parent / "crates.txt"
-    for line in listed.read_text(encoding="utf-8").splitlines() if listed.exists() else []:
-        crate, _, below = line.partition(":")
-        for name in set(below.split()) & HARNESS:
-            if crate.split()[0] not in HARNESS:
-                yield ("crates.txt", 0, f"{crate.split()[0]} is over the tests of {name}")
 
 
 # Bodies of a function that make a refusal or a failure of their own, or ask for more than an item or a text: each has to be found.
@@ -698,7 +685,7 @@ def main():
         return 2
     crates = pathlib.Path(sys.argv[1]) if sys.argv[1:] else rattle_source.CRATES
     files = sources(crates)
-    found = searched(files) + list(harness_faults(crates))
+    found = searched(files)
     for file, line, what in found:
         print(f"crates/{file}:{line}: {what}")
     print(f"check_evidence.py: {len(files)} sources, {len(found)} faults")

@@ -1,11 +1,11 @@
 #!/usr/bin/env python3
-"""Compares the layouts of `wat_format_rows` with those of `tools/layout.py`, on all joins of a few hostile pieces, on longer random joins, and
+"""Compares the layouts of a program, by lines, with those of `tools/layout.py`, on all joins of a few hostile pieces, on longer random joins, and
 on the files that are named.
 
 Of each answer it also asks what the layout promises: the same raw tokens but for white space, no blank before a line end, and the same answer
 when it is laid out again. Where `wat2wasm` is there and takes a file, it has to write the same bytes for the answer.
 
-With --command the files are laid out by `fmt` of that program, however long they are; `wat_format_rows` takes a million bytes. --alone leaves
+PROGRAM is rust/wat-tokens/examples/layouts.rs, or page/laid.mjs. With --command the files are laid out by `fmt` of that program. --alone leaves
 `wat2wasm` out.
 
 usage: compare_layouts.py [--joins LENGTH] [--random COUNT] [--command WAT_TOKENS] [--alone] PROGRAM [FILE..]

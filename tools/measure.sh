@@ -1,5 +1,5 @@
 #!/usr/bin/env bash
-# Measures this project's calls beside those of the crate wast 263.0.0, in one program (tools/measure) over the loops of crates/wat_measure: times
+# Measures this project's calls beside those of the crate wast 263.0.0, in one program (tools/measure) over the loops of tools/measure/rattle: times
 # in turn, pass by pass, by the processor time of a thread that is pinned to one processor, and instructions by callgrind; so too the static
 # library. Writes Markdown
 # tables for docs/SPEED.md to WORK/table.md, and each contender's quartiles to WORK/times.tsv. Texts that are in WORK already are not made again.
@@ -35,13 +35,27 @@ has() {
     command -v "$1" > /dev/null
 }
 
+# build_loops: proves and builds the loops, in a copy in which they are a crate, so that they are none where CI proves all
+build_loops() {
+    local file
+    rm -rf "$copy"
+    mkdir -p "$copy"
+    cp -r crates crates.txt HANDLES "$copy/"
+    echo 'wat_measure staticlib: wat_lexer_parser wat_lex wat_words' >> "$copy/crates.txt"
+    while read -r file; do
+        install -D -m 644 "tools/measure/rattle/$file" "$copy/crates/wat_measure/${file%.in}"
+    done < <(cd tools/measure/rattle && find . -name '*.in')
+    (cd "$copy/crates/wat_measure" && rt lib)
+}
+
 # The archives.
+copy=$work/copy
 if [ -z "${ARCHIVES:-}" ]; then
     ARCHIVES=$work/archives
     mkdir -p "$ARCHIVES"
-    (cd crates/wat_measure && rt lib) >&2
     tools/build_c.sh >&2
-    cp crates/wat_measure/out/libwat_measure.a crates/wat_parser_c/out/libwat_parser_c.a crates/wat_parser_c/out/liblibc_c.a "$ARCHIVES/"
+    build_loops >&2
+    cp "$copy/crates/wat_measure/out/libwat_measure.a" crates/wat_parser_c/out/{libwat_parser_c,liblibc_c}.a "$ARCHIVES/"
 fi
 export ARCHIVES
 

@@ -73,7 +73,7 @@ sum() {
 # A test that starts itself again can't do so in a machine that is emulated.
 alone=(-- --skip a_refused_request_ends_the_program)
 crates=(-p wat-lex -p wat-parser -p wat-c)
-requests=(-p wat-tokens --test table_of_requests)
+requests=(-p wat-tokens --test requests)
 
 if part oldest "$host" "${OLDEST:-cargo +1.85}"; then
     try "${crates[@]}"
@@ -104,7 +104,7 @@ for feature in -simd128 +simd128; do
     if RUSTFLAGS=$flags part "wasm $feature" wasm32-wasip1 "${WASM:-cargo}"; then
         export RUSTFLAGS=$flags
         try -p wat-lex --lib --test agreement --test stored --test random --test shim --test traits --test refusals "${alone[@]}"
-        try -p wat-parser --test answers --test floats --test table_of_answers
+        try -p wat-parser --test answers --test floats
         try "${requests[@]}"
         sum
         unset RUSTFLAGS

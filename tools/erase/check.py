@@ -38,8 +38,6 @@ WRITTEN = [
     ("<W: fmt::Write>", ""),
     ("fmt::Formatter<W>", "fmt::Formatter<'_>"),
     (".join(alloc,", ".join_in(alloc,"),
-    (".to_string(alloc)", ".to_string_in(alloc)"),
-    (".repeat(run.alloc(),", ".repeat_in(run.alloc(),"),
     (".kind.clone()?", ".kind.clone()"),
     ("pub(crate) offset: usize", "#[doc(hidden)] pub offset: usize"),
     ("println!(rt;", "try_println!(rt;"),
@@ -58,8 +56,6 @@ PLACES = {
     "wat_lex": ("wat_lex::proved", "crate::proved"),
     "wat_words": ("wat_parser::words", "crate::words"),
     "wat_lexer_parser": ("wat_parser::proved", "crate::proved"),
-    "wat_lex_answers": ("", "crate::lex_answers"),
-    "wat_answers": ("", "crate::answers"),
     "wat_rows": ("", "crate::rows"),
     "wat_parser_c": ("", "crate::proved"),
     "wat_format": ("wat_tokens::format", "crate::format"),
@@ -68,14 +64,11 @@ PLACES = {
     "wat_types": ("wat_tokens::types", "crate::types"),
     "wat_commands": ("wat_tokens::commands", "crate::commands"),
     "wat_tokens": ("wat_tokens::program", "crate::program"),
-    "wat_lex_requests": ("", "crate::lex_requests"),
     "wat_imports": ("", "crate::imports"),
-    "wat_requests": ("", "crate::requests"),
 }
 # Crates that are compiled together see each other as they see themselves.
 PROGRAM = {"wat_format", "wat_lines", "wat_lists", "wat_types", "wat_commands", "wat_tokens"}
-REQUESTS = {"wat_lex_requests", "wat_imports", "wat_requests"}
-TOGETHER = [{"wat_words", "wat_lexer_parser"}, {"wat_lex_answers", "wat_answers"}, {"wat_rows", "wat_parser_c"}, PROGRAM, REQUESTS]
+TOGETHER = [{"wat_words", "wat_lexer_parser"}, {"wat_rows", "wat_parser_c"}, PROGRAM]
 # Of a function that C calls, with a space between tokens: what C passes of a slice, and the statements that its body begins with.
 PASSED = re.compile(r"(\w+) : \* (const|mut) (\w+) , \1_len : usize")
 MADE = re.compile(
@@ -90,12 +83,12 @@ def place(crate, seen_from):
 
 
 def shim_place(crate):
-    return "crate::shim" if crate in {"wat_lex"} | PROGRAM | REQUESTS else "wat_lex::shim"
+    return "crate::shim" if crate in {"wat_lex"} | PROGRAM else "wat_lex::shim"
 
 
 def std_place(crate):
     """Where the rest of Rattle's `std` is. The shims of programs have all of it."""
-    return "crate::shim" if crate in PROGRAM | REQUESTS else "core"
+    return "crate::shim" if crate in PROGRAM else "core"
 
 
 class Fault(Exception):
@@ -492,16 +485,9 @@ def made_today():
         yield source.read_text(encoding="utf-8"), crate, str(source.relative_to(erase.PROJECT)), target, erase.made(source, crate)
 
 
-def written_by_hand():
-    """The files in place of those that the sources leave out."""
-    for left_out in erase.LEFT_OUT:
-        crate, _, *inside = left_out.split("/")
-        yield erase.RUST.joinpath(erase.MODULES[crate], *inside).with_suffix(".rs")
-
-
 def committed_faults():
     """The committed files are what the tool makes today, by their bytes where rustfmt is here, and there are no others."""
-    wanted, has_rustfmt = set(written_by_hand()), shutil.which("rustfmt") is not None
+    wanted, has_rustfmt = set(), shutil.which("rustfmt") is not None
     for source, crate, name, target, made in made_today():
         wanted.add(target)
         if not target.exists():
@@ -566,7 +552,7 @@ PLANTED = [
     ("a link leads elsewhere", "wat_lex/src/token.rt", "](crate::proved::gensym::Gensym)", "](crate::gensym::Gensym)"),
     ("an operator is another one", "wat_lex/src/token.rt", "self.name() == other.name() && self", "self.name() == other.name() || self"),
     ("a function is there twice", "wat_words/src/table.rt", "fn entry_at", "fn entry_at() {}\nfn entry_at"),
-    ("a comment is dropped", "wat_lex/src/lexer/scan/starts.rt", "// Bytes that are neighbours stand", "// Bytes"),
+    ("a comment is dropped", "wat_lex/src/lexer/scan/starts.rt", "// Bytes that are neighbours", "// Bytes"),
     ("a line goes out by Rust's macro", "wat_tokens/src/report.rt", "match try_println!(rt;", "match println!(rt;"),
     ("files are Rust's own", "wat_tokens/src/replace.rt", "use crate::shim::fs::{File", "use std::fs::{File"),
     ("a bound is gained", "wat_format/src/sink.rt", "type Failure;", "type Failure: Copy;"),

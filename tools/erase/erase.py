@@ -17,8 +17,6 @@ MODULES = {
     "wat_lex": "wat-lex/src/proved",
     "wat_words": "wat-parser/src/words",
     "wat_lexer_parser": "wat-parser/src/proved",
-    "wat_lex_answers": "wat-parser/tests/table_of_answers/lex_answers",
-    "wat_answers": "wat-parser/tests/table_of_answers/answers",
     "wat_rows": "wat-c/src/rows",
     "wat_parser_c": "wat-c/src/proved",
     "wat_format": "wat-tokens/src/format",
@@ -27,14 +25,10 @@ MODULES = {
     "wat_types": "wat-tokens/src/types",
     "wat_commands": "wat-tokens/src/commands",
     "wat_tokens": "wat-tokens/src/program",
-    "wat_lex_requests": "wat-tokens/tests/table_of_requests/lex_requests",
-    "wat_imports": "wat-tokens/tests/table_of_requests/imports",
-    "wat_requests": "wat-tokens/tests/table_of_requests/requests",
+    "wat_imports": "wat-tokens/tests/requests/imports",
 }
 # What is compiled with a shim of its own.
-WITH_SHIM = [("wat-lex", "src"), ("wat-tokens", "src"), ("wat-tokens", "table_of_requests")]
-# What takes Rattle's streams is written in Rust, and so are rows in which a name of a type is printed.
-LEFT_OUT = {"wat_answers/src/main.rt", "wat_requests/src/rows.rt"}
+WITH_SHIM = [("wat-lex", "src"), ("wat-tokens", "src")]
 # What is written otherwise: the closed list. The first entry that fits counts. SHIM is the path of the shim, STD that of what it leaves to Rust,
 # SELF that of the source's crate.
 WRITTEN = {
@@ -56,8 +50,6 @@ WRITTEN = {
     "format!(in": "try_format!(",
     "vec![in": "try_vec![",
     ".join(alloc,": ".join_in(alloc,",
-    ".to_string(alloc)": ".to_string_in(alloc)",
-    ".repeat(run.alloc(),": ".repeat_in(run.alloc(),",
     # A clone of any type can't be refused in Rust.
     ".kind.clone()?": ".kind.clone()",
     # A formatter has its writer as a parameter in Rattle, and none in Rust.
@@ -379,8 +371,7 @@ def sources():
         folder = PROJECT / "crates" / crate / "src"
         for source in sorted(folder.rglob("*.rt")):
             inside = source.relative_to(folder).with_suffix(".rs")
-            if f"{crate}/src/{source.relative_to(folder)}" not in LEFT_OUT:
-                yield source, crate, RUST / (f"{module}.rs" if str(inside) in ("lib.rs", "main.rs") else f"{module}/{inside}")
+            yield source, crate, RUST / (f"{module}.rs" if str(inside) in ("lib.rs", "main.rs") else f"{module}/{inside}")
 
 
 def made(source, crate):

@@ -205,28 +205,27 @@ const RUNS: [(&str, Run, &str); 3] = [
     ),
 ];
 
+/// Fails each read of a call that gets so many bytes a read, and then none.
+fn fail_each_read((name, run, lines): (&str, Run, &str), most: usize) {
+    let reads = TEXT.len().div_ceil(most) + 1;
+    for fails_in in 0..=reads {
+        let (mut input, mut output) = (Pieces::new(TEXT, most, fails_in), Room::new(false));
+        let answer = run(&mut input, &mut output);
+        let (wanted, lines) = if fails_in == reads {
+            (Ok(()), lines)
+        } else {
+            (Err(RunError::Read), "")
+        };
+        let which = format!("{name}, {most} bytes a read, read {fails_in} fails");
+        assert_eq!(answer, wanted, "{which}");
+        assert_eq!(output.held, lines.as_bytes(), "{which}");
+    }
+}
+
 #[test]
 fn a_source_may_fail_at_each_call_and_then_nothing_is_written() {
-    for (name, run, lines) in RUNS {
-        for most in 1..=TEXT.len() {
-            let reads = TEXT.len().div_ceil(most) + 1;
-            for fails_in in 0..=reads {
-                let (mut input, mut output) = (Pieces::new(TEXT, most, fails_in), Room::new(false));
-                let is_whole = fails_in == reads;
-                let answer = if is_whole {
-                    Ok(())
-                } else {
-                    Err(RunError::Read)
-                };
-                let which = format!("{name}, {most} bytes a call, call {fails_in} fails");
-                assert_eq!(run(&mut input, &mut output), answer, "{which}");
-                assert_eq!(
-                    output.held,
-                    if is_whole { lines } else { "" }.as_bytes(),
-                    "{which}"
-                );
-            }
-        }
+    for run in RUNS {
+        (1..=TEXT.len()).for_each(|most| fail_each_read(run, most));
     }
 }
 
@@ -333,23 +332,23 @@ fn a_run_ends_at_a_failed_write() {
 
 #[test]
 fn each_output_ends_in_one_flush() {
-    for (text, lines, writes) in [("x", "0..1 Keyword\n", 4), ("", "", 0)] {
-        for flush_fails in [false, true] {
-            let mut writer = Writer::new(4, usize::MAX);
-            writer.flush_fails = flush_fails;
-            let (ended, writer) = list(text, writer);
-            let answer = if flush_fails {
-                Err(RunError::Write)
-            } else {
-                Ok(false)
-            };
-            assert_eq!(
-                (ended, &writer.held[..]),
-                (answer, lines.as_bytes()),
-                "{text}"
-            );
-            assert_eq!((writer.writes, writer.flushes), (writes, 1), "{text}");
-        }
+    for (text, lines, writes, flush_fails) in [
+        ("x", "0..1 Keyword\n", 4, false),
+        ("x", "0..1 Keyword\n", 4, true),
+        ("", "", 0, false),
+        ("", "", 0, true),
+    ] {
+        let mut writer = Writer::new(4, usize::MAX);
+        writer.flush_fails = flush_fails;
+        let (ended, writer) = list(text, writer);
+        let wanted = if flush_fails {
+            Err(RunError::Write)
+        } else {
+            Ok(false)
+        };
+        assert_eq!(ended, wanted, "{text}, the flush fails: {flush_fails}");
+        assert_eq!(writer.held, lines.as_bytes(), "{text}");
+        assert_eq!((writer.writes, writer.flushes), (writes, 1), "{text}");
     }
 }
 

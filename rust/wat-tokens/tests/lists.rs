@@ -281,9 +281,9 @@ fn cut(text: &str, settings: Settings) {
 
 #[test]
 fn the_list_of_a_text_that_is_cut_begins_that_of_the_whole() {
-    for settings in EACH {
-        TEXTS.iter().for_each(|text| cut(text, settings));
-        cut(&long_line(), settings);
+    let long = long_line();
+    for text in TEXTS.iter().copied().chain([long.as_str()]) {
+        EACH.into_iter().for_each(|settings| cut(text, settings));
     }
 }
 

@@ -104,6 +104,15 @@ const ASKED: &[(&str, u8, &[&str])] = &[
         &["Check false false a", "Check false false b"],
     ),
     (
+        "fmt --check 1 a 3",
+        1,
+        &[
+            "Check false false 1",
+            "Check false false a",
+            "Check false false 3",
+        ],
+    ),
+    (
         "fmt --write b a bad c",
         2,
         &[

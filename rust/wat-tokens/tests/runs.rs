@@ -5,12 +5,11 @@ mod refusing;
 mod table;
 
 use refusing::granting;
-use std::fmt;
 use std::fs;
 use std::io::{self, Read, Write};
 use std::path::{Path, PathBuf};
 use std::process::{Command, Stdio};
-use table::{Record, Table};
+use table::{Answer, Record, Table};
 use wat_lex::proved::error::Error;
 use wat_parser::proved::parser::Call;
 use wat_tokens::commands::Settings;
@@ -19,37 +18,6 @@ use wat_tokens::lines::ends::Plain;
 use wat_tokens::lists::calls::read_call;
 use wat_tokens::shim::alloc::Global;
 use wat_tokens::shim::prelude::String as Word;
-
-/// What a run comes to.
-#[derive(PartialEq)]
-struct Answer {
-    status: u8,
-    output: Vec<u8>,
-    report: Vec<u8>,
-}
-
-impl fmt::Debug for Answer {
-    fn fmt(&self, f: &mut fmt::Formatter<'_>) -> fmt::Result {
-        let Answer {
-            status,
-            output,
-            report,
-        } = self;
-        let (output, report) = (output.escape_ascii(), report.escape_ascii());
-        write!(
-            f,
-            "status {status}, output \"{output}\", report \"{report}\""
-        )
-    }
-}
-
-fn wanted(record: &Record) -> Answer {
-    Answer {
-        status: record.status,
-        output: record.output.clone(),
-        report: record.report.clone(),
-    }
-}
 
 /// A folder with the files of the table, which goes where it is dropped.
 struct Folder(PathBuf);
@@ -62,6 +30,10 @@ impl Folder {
             fs::write(path.join(name), text).unwrap();
         }
         Folder(path)
+    }
+
+    fn text(&self, name: &str) -> Vec<u8> {
+        fs::read(self.0.join(name)).unwrap()
     }
 }
 
@@ -94,19 +66,12 @@ fn run_program(words: &[String], input: &[u8], folder: &Path) -> Answer {
 fn the_program_does_what_the_table_says() {
     let table = Table::read();
     let folder = Folder::of(&table);
-    for record in &table.records {
-        for words in &record.runs {
-            let answer = run_program(words, &record.input, &folder.0);
-            assert_eq!(answer, wanted(record), "{words:?}");
-        }
+    for (words, record) in table.runs() {
+        let answer = run_program(words, &record.input, &folder.0);
+        assert_eq!(answer, record.answer, "{words:?}");
     }
-    for (name, text) in &table.files {
-        assert_eq!(
-            &fs::read(folder.0.join(name)).unwrap(),
-            text,
-            "the file {name} stays"
-        );
-    }
+    let stays = |(name, text): &(String, Vec<u8>)| folder.text(name) == *text;
+    assert!(table.files.iter().all(stays), "a file is other than it was");
 }
 
 /// One of the three calls, and what it takes beside the text.
@@ -158,27 +123,21 @@ impl Read for Text<'_> {
     }
 }
 
-/// How a call ends, and what it writes, which has room of the length of what is wanted.
+/// How a call ends, and what it writes to the room.
 fn run_call(
     asked: &Asked,
     settings: Settings,
-    record: &Record,
-    most: usize,
+    text: Text,
+    room: Vec<u8>,
 ) -> (Result<Option<Error>, RunError>, Vec<u8>) {
-    let input = &mut Plain::new(Text {
-        rest: &record.input,
-        most,
-    });
-    let output = &mut Plain::new(Vec::with_capacity(record.output.len()));
+    let (mut input, mut output) = (Plain::new(text), Plain::new(room));
+    let (from, to) = (&mut input, &mut output);
     let ended = match asked {
-        Asked::List => run_list(Global, input, output, settings),
-        Asked::Sig(names) => run_sig(Global, input, output, settings, names),
-        Asked::Play(calls) => run_play(Global, input, output, settings, calls).map(|()| None),
+        Asked::List => run_list(Global, from, to, settings),
+        Asked::Sig(names) => run_sig(Global, from, to, settings, names),
+        Asked::Play(calls) => run_play(Global, from, to, settings, calls).map(|()| None),
     };
-    (
-        ended,
-        std::mem::replace(output, Plain::new(Vec::new())).into_inner(),
-    )
+    (ended, output.into_inner())
 }
 
 /// What the program makes of how a call ends.
@@ -195,54 +154,70 @@ fn answer_of((ended, output): (Result<Option<Error>, RunError>, Vec<u8>)) -> Ans
     }
 }
 
-/// The calls that the table has the words of, each with its settings and its record.
-fn calls(table: &Table) -> Vec<(Asked, Settings, &Record)> {
-    let mut calls = Vec::new();
-    for record in &table.records {
-        for words in &record.runs {
-            let (settings, rest) = settings_of(words);
-            if let Some(asked) = asked(rest).filter(|_| !record.report.starts_with(b"usage")) {
-                calls.push((asked, settings, record));
-            }
-        }
+/// A run of the table that is one of the three calls.
+struct Case<'a> {
+    words: &'a [String],
+    asked: Asked,
+    settings: Settings,
+    record: &'a Record,
+}
+
+impl Case<'_> {
+    /// The answer where so many bytes are read a call and so many requests for memory granted, and how many there are.
+    fn answer(&self, most: usize, granted: usize) -> (Answer, usize) {
+        let rest = &self.record.input;
+        let room = Vec::with_capacity(self.record.answer.output.len());
+        let run = || run_call(&self.asked, self.settings, Text { rest, most }, room);
+        let (ended, requests) = granting(granted, run);
+        (answer_of(ended), requests)
     }
-    assert!(calls.len() > 60, "{}", calls.len());
-    calls
+}
+
+fn cases(table: &Table) -> Vec<Case<'_>> {
+    let is_asked = |record: &Record| !record.answer.report.starts_with(b"usage");
+    let cases = table.runs().filter(|(_, record)| is_asked(record));
+    let cases = cases.filter_map(|(words, record)| {
+        let (settings, rest) = settings_of(words);
+        Some(Case {
+            words,
+            asked: asked(rest)?,
+            settings,
+            record,
+        })
+    });
+    let cases: Vec<Case> = cases.collect();
+    assert!(cases.len() > 60, "{}", cases.len());
+    cases
 }
 
 #[test]
 fn the_calls_do_what_the_table_says_however_short_the_reads_are() {
-    for (asked, settings, record) in calls(&Table::read()) {
-        for most in [1, 2, 7, usize::MAX] {
-            let answer = answer_of(run_call(&asked, settings, record, most));
-            assert_eq!(
-                answer,
-                wanted(record),
-                "{:?}, {most} bytes a read",
-                record.runs
-            );
-        }
+    for case in cases(&Table::read()) {
+        let answers = [1, 2, 7, usize::MAX].map(|most| case.answer(most, usize::MAX).0);
+        let is_wanted = answers.iter().all(|answer| *answer == case.record.answer);
+        assert!(is_wanted, "{:?}: {answers:?}", case.words);
+    }
+}
+
+/// Refuses each request of a run with all after it.
+fn refuse_each(case: &Case) {
+    let (_, requests) = case.answer(usize::MAX, usize::MAX);
+    let refused = Answer {
+        status: 2,
+        output: Vec::new(),
+        report: b"wat_tokens: out of memory\n".to_vec(),
+    };
+    for granted in 0..requests {
+        let (answer, _) = case.answer(usize::MAX, granted);
+        assert_eq!(
+            answer, refused,
+            "{:?}, {granted} of {requests} granted",
+            case.words
+        );
     }
 }
 
 #[test]
 fn a_call_that_gets_no_memory_has_written_nothing() {
-    for (asked, settings, record) in calls(&Table::read()) {
-        let run = |granted| granting(granted, || run_call(&asked, settings, record, usize::MAX));
-        let (_, requests) = run(usize::MAX);
-        // The first is for the room of what is written.
-        for granted in 1..requests {
-            let ((ended, output), _) = run(granted);
-            let which = format!("{:?}, {granted} of {requests} granted", record.runs);
-            match ended {
-                Err(error) => {
-                    assert_eq!((error, output), (RunError::Memory, Vec::new()), "{which}")
-                }
-                Ok(error) => {
-                    let refused = error.expect("a refused request is reported");
-                    assert!(refused.is_out_of_memory(), "{which}");
-                }
-            }
-        }
-    }
+    cases(&Table::read()).iter().for_each(refuse_each);
 }

@@ -1,4 +1,4 @@
-//! The other loops of `crates/wat_measure`, over the crate `wast`. Their names stay as they are, for callgrind.
+//! The other loops of `tools/measure/rattle`, over the crate `wast`. Their names stay as they are, for callgrind.
 
 use crate::theirs::weight;
 use wast::lexer::{Lexer, Token};

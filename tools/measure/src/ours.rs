@@ -1,4 +1,4 @@
-//! The loops of `crates/wat_measure`, made safe. The program `one` has some of them alone.
+//! The loops of `tools/measure/rattle`, made safe. The program `one` has some of them alone.
 #![allow(dead_code)]
 
 /// A loop over a text.

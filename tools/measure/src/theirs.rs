@@ -1,4 +1,4 @@
-//! The first loop of `crates/wat_measure` once more, over the crate `wast`. Its name stays as it is, for callgrind.
+//! The first loop of `tools/measure/rattle` once more, over the crate `wast`. Its name stays as it is, for callgrind.
 
 use wast::lexer::{Lexer, TokenKind};
 

@@ -1,5 +1,6 @@
 //! The table of runs, `tests/runs.txt` at the root.
 
+use std::fmt;
 use std::fs::read_to_string;
 
 const TABLE: &str = concat!(env!("CARGO_MANIFEST_DIR"), "/../../tests/runs.txt");
@@ -8,17 +9,34 @@ const TABLE: &str = concat!(env!("CARGO_MANIFEST_DIR"), "/../../tests/runs.txt")
 #[derive(Default)]
 pub struct Table {
     pub files: Vec<(String, Vec<u8>)>,
-    pub records: Vec<Record>,
+    records: Vec<Record>,
 }
 
-/// The words of runs that come to the same, and what that is.
+/// The words of runs that come to the same, their standard input, and what they come to.
 #[derive(Default)]
 pub struct Record {
-    pub runs: Vec<Vec<String>>,
+    runs: Vec<Vec<String>>,
     pub input: Vec<u8>,
+    pub answer: Answer,
+}
+
+/// What a run comes to.
+#[derive(Default, PartialEq)]
+pub struct Answer {
+    pub status: u8,
     pub output: Vec<u8>,
     pub report: Vec<u8>,
-    pub status: u8,
+}
+
+impl fmt::Debug for Answer {
+    fn fmt(&self, f: &mut fmt::Formatter<'_>) -> fmt::Result {
+        let (output, report) = (self.output.escape_ascii(), self.report.escape_ascii());
+        let status = self.status;
+        write!(
+            f,
+            "status {status}, output \"{output}\", report \"{report}\""
+        )
+    }
 }
 
 impl Table {
@@ -27,12 +45,17 @@ impl Table {
         let mut table = Table::default();
         for paragraph in text.split("\n\n") {
             let record = table.record_of(paragraph);
-            if !record.runs.is_empty() {
-                table.records.push(record);
-            }
+            table.records.push(record);
         }
-        assert!(table.records.len() > 100 && table.files.len() > 10);
+        assert!(table.runs().count() > 250 && table.files.len() > 10);
         table
+    }
+
+    /// The words of each run, and its record.
+    pub fn runs(&self) -> impl Iterator<Item = (&[String], &Record)> {
+        self.records
+            .iter()
+            .flat_map(|record| record.runs.iter().map(move |words| (&words[..], record)))
     }
 
     /// The record that a paragraph is; its files are those of the table.
@@ -50,9 +73,9 @@ impl Table {
                     .runs
                     .push(text.split_whitespace().map(word_of).collect()),
                 "<" => record.input.extend(bytes_of(text)),
-                ">" => record.output.extend(bytes_of(text)),
-                "!" => record.report.extend(bytes_of(text)),
-                "=" => record.status = text.parse().expect("a status"),
+                ">" => record.answer.output.extend(bytes_of(text)),
+                "!" => record.answer.report.extend(bytes_of(text)),
+                "=" => record.answer.status = text.parse().expect("a status"),
                 _ => panic!("no line of a record: {line}"),
             }
         }

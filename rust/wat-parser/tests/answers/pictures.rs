@@ -1,0 +1,53 @@
+//! Characters that a line can't hold, as pictures of them.
+
+const PICTURES: [(char, char); 6] = [
+    ('⏎', '\n'),
+    ('␍', '\r'),
+    ('␉', '\t'),
+    ('␟', '\x1f'),
+    ('␡', '\x7f'),
+    ('␠', ' '),
+];
+
+/// The text of a row, with what its pictures and its `‹..›` are for.
+pub fn spelled(row: &str) -> String {
+    let plain = |c| {
+        let pictured = PICTURES.iter().find(|(picture, _)| *picture == c);
+        pictured.map_or(c, |(_, plain)| *plain)
+    };
+    let plain: String = row.chars().map(plain).collect();
+    let mut parts = plain.split('‹');
+    let before = parts.next().unwrap_or_default().to_owned();
+    parts
+        .map(spelled_part)
+        .fold(before, |text, part| text + &part)
+}
+
+/// A part that was after `‹`: the number of a character, or a count and what is repeated, then `›` and plain text.
+fn spelled_part(part: &str) -> String {
+    let (spelled, after) = part.split_once('›').expect("an end of what is spelled");
+    let text = match spelled.split_once('×') {
+        Some((count, piece)) => piece.repeat(count.parse().expect("a count")),
+        None => {
+            let number = u32::from_str_radix(spelled, 16).expect("a number");
+            char::from_u32(number).expect("a character").to_string()
+        }
+    };
+    text + after
+}
+
+/// An answer as its line shows it, also where it is empty or ends in a space.
+pub fn drawn(answer: &str) -> String {
+    if answer.is_empty() {
+        return "nothing".to_owned();
+    }
+    let picture = |c| {
+        let drawn = PICTURES.iter().find(|(_, plain)| *plain == c && c != ' ');
+        drawn.map_or(c, |(picture, _)| *picture)
+    };
+    let line: String = answer.chars().map(picture).collect();
+    match line.strip_suffix(' ') {
+        Some(before) => format!("{before}␠"),
+        None => line,
+    }
+}

@@ -1,0 +1,93 @@
+//! Calls of long texts, or deep in groups. Their answers are lengths.
+
+use super::parsing::blanked_at;
+use crate::row::Row;
+use wat_lex::proved::error::Error;
+use wat_lex::proved::token::Span;
+use wat_lex::shim::alloc::{AllocError, Global};
+use wat_lex::shim::string::String as Text;
+use wat_lex::shim::vec::Vec as Calls;
+use wat_parser::proved::parser::{Call, ParseBuffer, Parser, parse, replay};
+
+/// The string that is the whole text.
+fn string(text: &str) -> Result<String, Error> {
+    let buffer = ParseBuffer::new(Global, text)?;
+    Ok(format!(
+        "a string of {} bytes",
+        parse::<Text>(&buffer)?.len()
+    ))
+}
+
+/// Registers the words of a text as names, and counts those that are registered then.
+fn names(text: &str) -> Result<String, Error> {
+    let buffer = ParseBuffer::new(Global, "")?;
+    let mut parser = buffer.parser();
+    for name in text.split(' ') {
+        parser.register_annotation(name)?;
+    }
+    let registered = text.split(' ').filter(|name| parser.is_registered(name));
+    Ok(format!("{} names", registered.count()))
+}
+
+/// The message of an error of a parser.
+fn message(text: &str) -> Result<String, Error> {
+    let buffer = ParseBuffer::new(Global, "")?;
+    let error = buffer.parser().error_at(Span::from_offset(0), text);
+    Ok(format!(
+        "a message of {} bytes",
+        error.message(Global)?.len()
+    ))
+}
+
+/// Looks so many times at what a parser shows first.
+fn looks(text: &str, count: usize) -> Result<String, Error> {
+    let buffer = ParseBuffer::new(Global, text)?;
+    let mut parser = buffer.parser();
+    let mut calls = Calls::new(Global);
+    for _ in 0..count {
+        calls.push(Call::Look).map_err(AllocError::from)?;
+    }
+    let replies = replay(Global, &mut parser, &calls)?.len();
+    Ok(format!(
+        "{replies} replies, place {}",
+        parser.prev_span().offset()
+    ))
+}
+
+/// How many replies a look has in so many groups, each in the one before.
+fn look_within(parser: &mut Parser, count: usize) -> Result<usize, Error> {
+    if count == 0 {
+        return Ok(replay(Global, parser, &[Call::Look])?.len());
+    }
+    parser.parens(|parser: &mut Parser| look_within(parser, count - 1))
+}
+
+fn deep_look(text: &str, count: usize) -> Result<String, Error> {
+    let buffer = ParseBuffer::new(Global, text)?;
+    let replies = look_within(&mut buffer.parser(), count)?;
+    Ok(format!("{replies} replies in {count} groups"))
+}
+
+/// The text with spaces over the comment that it begins with.
+fn blanked(text: &str) -> Result<String, Error> {
+    let Some((_, other)) = blanked_at(text, 0)? else {
+        return Ok("no comment".to_owned());
+    };
+    let (all, rest) = (other.len(), other.trim_start_matches(' ').len());
+    Ok(format!(
+        "a text of {all} bytes, {rest} of them after spaces"
+    ))
+}
+
+pub fn answer(row: &Row) -> Option<Result<String, Error>> {
+    let text = &row.text;
+    Some(match row.call {
+        "long-string" => string(text),
+        "long-names" => names(text),
+        "long-message" => message(text),
+        "many-looks" => looks(text, row.at()),
+        "deep-look" => deep_look(text, row.at()),
+        "long-blanked" => blanked(text),
+        _ => return None,
+    })
+}

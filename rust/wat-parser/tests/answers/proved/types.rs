@@ -1,0 +1,53 @@
+//! Whole texts that are read as a type.
+
+use super::lexing;
+use crate::printed::printed;
+use crate::row::Row;
+use std::fmt::Debug;
+use wat_lex::proved::error::Error;
+use wat_lex::shim::alloc::Global;
+use wat_parser::proved::parser::{Parse, ParseBuffer, parse};
+use wat_parser::proved::token::{Id, ReservedSymbol, Word};
+use wat_parser::proved::{annotation, kw};
+
+/// The reserved symbol `<=>`.
+#[derive(Clone, Copy, Debug)]
+pub struct Spaceship;
+
+impl Word for Spaceship {
+    const AT: bool = false;
+
+    fn word() -> &'static str {
+        "<=>"
+    }
+
+    fn display() -> &'static str {
+        "`<=>`"
+    }
+}
+
+/// The value that a whole text is read as.
+fn value<'a, T: Parse<'a> + Debug>(buffer: &'a ParseBuffer<'a>) -> Result<String, Error> {
+    Ok(printed(&parse::<T>(buffer)?))
+}
+
+/// Types at the ends of their lists, one with a word of one's own, a number and an optional identifier.
+pub fn answer(row: &Row) -> Option<Result<String, Error>> {
+    let buffer = &ParseBuffer::new_with_lexer(Global, lexing::lexer(row)).expect("memory");
+    Some(match row.call {
+        "u32" | "u32-strict" => value::<u32>(buffer),
+        "Option<Id>" => value::<Option<Id>>(buffer),
+        "kw::after" => value::<kw::after>(buffer),
+        "kw::nan_arithmetic" => value::<kw::nan_arithmetic>(buffer),
+        "kw::string_latin1_utf16" => value::<kw::string_latin1_utf16>(buffer),
+        "kw::external_id" => value::<kw::external_id>(buffer),
+        "annotation::custom" => value::<annotation::custom>(buffer),
+        "annotation::producers" => value::<annotation::producers>(buffer),
+        "annotation::dylink_0" => value::<annotation::dylink_0>(buffer),
+        "annotation::metadata_code_branch_hint" => {
+            value::<annotation::metadata_code_branch_hint>(buffer)
+        }
+        "ReservedSymbol<Spaceship>" => value::<ReservedSymbol<Spaceship>>(buffer),
+        _ => return None,
+    })
+}

@@ -1,0 +1,54 @@
+//! Prints the layout of each line of standard input as a line, or `fault`, for `tools/compare_layouts.py`. In a line `\n`, `\r`, `\t` and `\\`
+//! are a line feed, a carriage return, a tab and a backslash.
+
+use std::io::{self, Write};
+use wat_lex::proved::lexer::Settings;
+use wat_tokens::format::error::Error;
+use wat_tokens::format::format::format;
+use wat_tokens::shim::alloc::Global;
+
+/// The text of a line.
+fn unescaped(line: &str) -> String {
+    let mut text = String::new();
+    let mut letters = line.chars();
+    while let Some(letter) = letters.next() {
+        text.extend(match letter {
+            '\\' => letters.next().map(|escaped| match escaped {
+                'n' => '\n',
+                'r' => '\r',
+                't' => '\t',
+                other => other,
+            }),
+            plain => Some(plain),
+        });
+    }
+    text
+}
+
+/// The line of a text.
+fn escaped(text: &str) -> String {
+    text.replace('\\', "\\\\")
+        .replace('\n', "\\n")
+        .replace('\r', "\\r")
+        .replace('\t', "\\t")
+}
+
+fn layout(line: &str) -> String {
+    let settings = Settings {
+        allow: false,
+        strict: false,
+    };
+    match format(Global, &unescaped(line), settings) {
+        Ok(layout) => escaped(&layout),
+        Err(Error::Fault(_)) => "fault".to_owned(),
+        Err(error) => error.to_string(),
+    }
+}
+
+fn main() -> io::Result<()> {
+    let mut output = io::BufWriter::new(io::stdout().lock());
+    for line in io::stdin().lines() {
+        writeln!(output, "{}", layout(&line?))?;
+    }
+    output.flush()
+}

@@ -1,0 +1,66 @@
+//! Buffers of texts, a text with spaces over a comment, and modules, from text to bytes.
+
+use crate::refusing::ended;
+use crate::row::{Ending, Row};
+use wat_lex::proved::error::Error;
+use wat_lex::proved::lexer::Lexer;
+use wat_lex::shim::alloc::Global;
+use wat_parser::proved::laws;
+use wat_parser::proved::parser::ParseBuffer;
+use wat_tokens::types::compile_types;
+
+fn lexer(row: &Row) -> Lexer<'_> {
+    let mut lexer = Lexer::new(&row.text);
+    lexer.allow_confusing_unicode(row.of != "plain");
+    lexer
+}
+
+/// How a buffer was made: how many raw tokens it has, and which fault.
+fn made(row: &Row, buffer: Result<ParseBuffer, Error>) -> Ending {
+    let buffer = ended(buffer);
+    let made = buffer.map(|buffer| (buffer.raw().len(), buffer.lex_fault()));
+    row.ending(&made)
+}
+
+/// The text with spaces over its second raw token, which is a comment.
+fn blanked(row: &Row) -> Result<Ending, Error> {
+    let buffer = ParseBuffer::new_with_lexer(Global, lexer(row))?;
+    let other = ended(laws::blanked(Global, &row.text, &buffer.raw()[1]));
+    Ok(row.ending(&other.map_err(Error::from)))
+}
+
+/// What a buffer of a word and a fault answers, and a parser of it.
+fn asked(row: &Row) -> Result<Ending, Error> {
+    let buffer = ParseBuffer::new(Global, &row.text)?;
+    let parser = buffer.parser();
+    let _lookahead = parser.lookahead1();
+    let read = (buffer.raw().len(), buffer.lex_fault().is_some());
+    let place = (parser.prev_span().offset(), parser.parens_depth());
+    let answers = (parser.has_meaningful_tokens(), parser.track_instr_spans());
+    let is_shallow = ended(parser.depth_check().is_ok());
+    assert_eq!(
+        (read, place, answers, is_shallow),
+        ((2, true), (0, 0), (true, false), true)
+    );
+    Ok(Ending::Answer)
+}
+
+/// A buffer that tracks spans.
+fn tracked(row: &Row) -> Result<Ending, Error> {
+    let mut buffer = ParseBuffer::new(Global, &row.text)?;
+    buffer.track_instr_spans(true);
+    assert!(ended(buffer.parser().track_instr_spans()), "{}", row.name);
+    Ok(Ending::Answer)
+}
+
+pub fn ending(row: &Row) -> Result<Ending, Error> {
+    match row.of {
+        "plain" => Ok(made(row, ParseBuffer::new(Global, &row.text))),
+        "with-lexer" => Ok(made(row, ParseBuffer::new_with_lexer(Global, lexer(row)))),
+        "blanked" => blanked(row),
+        "asked" => asked(row),
+        "tracked" => tracked(row),
+        "compile" => Ok(row.ending(&ended(compile_types(Global, &row.text)))),
+        of => panic!("{}: no {of}", row.name),
+    }
+}

@@ -1,0 +1,56 @@
+//! Calls of a parser that take no memory.
+
+use crate::refusing::ended;
+use crate::row::{Ending, Row};
+use wat_lex::proved::error::Error;
+use wat_lex::proved::lexer::{Float, Integer};
+use wat_lex::shim::borrow::{CowSlice, CowStr};
+use wat_parser::proved::parser::Parser;
+
+/// Where a parser is, by the calls that answer no error.
+fn place(row: &Row, parser: &Parser) -> Ending {
+    row.ending(&Ok(ended((parser.is_empty(), parser.cur_span().offset()))))
+}
+
+/// A group of a type, and one that is taken by a function.
+fn groups(row: &Row, parser: &mut Parser) -> Ending {
+    let first = parser.parens_of::<u32>();
+    let second = ended(parser.parens(|parser| parser.parse::<u32>()));
+    assert!(matches!((first, second), (Ok(12), Ok(13))), "{}", row.name);
+    assert_eq!(parser.prev_span().offset(), 9, "{}", row.name);
+    Ending::Answer
+}
+
+/// A value of each kind, one after the other.
+type Values<'a> = (
+    Float<'a>,
+    Integer<'a>,
+    CowStr<'a>,
+    CowSlice<'a, u8>,
+    CowStr<'a>,
+);
+
+fn values<'a>(parser: &mut Parser<'a>) -> Result<Values<'a>, Error> {
+    let float = parser.step(|cursor| Ok(cursor.float()?.expect("a float")))?;
+    let integer = parser.step(|cursor| Ok(cursor.integer()?.expect("an integer")))?;
+    let id = parser.step(|cursor| Ok(cursor.id()?.expect("an identifier")))?;
+    let string = parser.step(|cursor| Ok(cursor.string()?.expect("a string")))?;
+    let name = parser.step(|cursor| Ok(cursor.annotation()?.expect("a name")))?;
+    Ok((float, integer, id, string, name))
+}
+
+/// Takes a value of each kind, each of which is a part of the text.
+fn steps(row: &Row, parser: &mut Parser) -> Ending {
+    let values = ended(values(parser));
+    assert_eq!(parser.prev_span().offset(), row.place, "{}", row.name);
+    row.ending(&values)
+}
+
+pub fn ending(row: &Row, parser: &mut Parser) -> Ending {
+    match row.of {
+        "place" => place(row, parser),
+        "groups" => groups(row, parser),
+        "steps" => steps(row, parser),
+        of => panic!("{}: no {of}", row.name),
+    }
+}

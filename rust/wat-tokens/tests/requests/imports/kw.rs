@@ -1,0 +1,78 @@
+// Made by tools/erase from crates/wat_imports/src/kw.rt; do not edit.
+//! The keywords of import lists.
+
+use wat_lex::shim::prelude::*;
+use wat_parser::proved::token::{Keyword, Word};
+
+/// The word `imports`.
+#[derive(Clone, Copy, Debug)]
+pub struct Imports;
+
+impl Word for Imports {
+    const AT: bool = false;
+
+    fn word() -> &'static str {
+        "imports"
+    }
+
+    fn display() -> &'static str {
+        "`imports`"
+    }
+}
+
+/// The word `entry`.
+#[derive(Clone, Copy, Debug)]
+pub struct Entry;
+
+impl Word for Entry {
+    const AT: bool = false;
+
+    fn word() -> &'static str {
+        "entry"
+    }
+
+    fn display() -> &'static str {
+        "`entry`"
+    }
+}
+
+/// The word `code`.
+#[derive(Clone, Copy, Debug)]
+pub struct Code;
+
+impl Word for Code {
+    const AT: bool = false;
+
+    fn word() -> &'static str {
+        "code"
+    }
+
+    fn display() -> &'static str {
+        "`code`"
+    }
+}
+
+/// The word `pages`.
+#[derive(Clone, Copy, Debug)]
+pub struct Pages;
+
+impl Word for Pages {
+    const AT: bool = false;
+
+    fn word() -> &'static str {
+        "pages"
+    }
+
+    fn display() -> &'static str {
+        "`pages`"
+    }
+}
+
+/// The keyword `imports`.
+pub type imports = Keyword<Imports>;
+/// The keyword `entry`.
+pub type entry = Keyword<Entry>;
+/// The keyword `code`.
+pub type code = Keyword<Code>;
+/// The keyword `pages`.
+pub type pages = Keyword<Pages>;

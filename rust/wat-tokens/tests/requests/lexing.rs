@@ -1,0 +1,108 @@
+//! The calls of the lexer, and the readers of its tokens.
+
+use crate::refusing::ended;
+use crate::row::{Ending, Row};
+use wat_lex::proved::error::Error;
+use wat_lex::proved::lexer::{Lexer, Token, TokenKind};
+use wat_lex::shim::alloc::Global;
+
+/// One call at the start of the text, which leaves the position where it reports a fault.
+fn parse(row: &Row) -> Ending {
+    let mut pos = 0;
+    let result = ended(Lexer::new(&row.text).parse(Global, &mut pos));
+    assert_eq!(pos, row.place, "{}", row.name);
+    row.ending(&result)
+}
+
+/// The fault after all tokens of the text, after which nothing comes.
+fn fault(row: &Row) -> Ending {
+    let lexer = Lexer::new(&row.text);
+    let mut tokens = lexer.iter(Global, 0);
+    let fault = ended(tokens.find_map(Result::err));
+    assert!(tokens.next().is_none(), "{}", row.name);
+    row.refusal(&fault.expect("a fault"))
+}
+
+fn count(row: &Row) -> Ending {
+    let count = ended(Lexer::new(&row.text).iter(Global, 0).count());
+    row.ending(&Ok(count))
+}
+
+fn annotation(row: &Row) -> Ending {
+    row.ending(&ended(Lexer::new(&row.text).annotation(Global, 0)))
+}
+
+/// An annotation, and a word that is none.
+fn annotations(row: &Row) -> Ending {
+    let lexer = Lexer::new("@a x");
+    let (found, other) = ended((lexer.annotation(Global, 0), lexer.annotation(Global, 3)));
+    assert!(
+        matches!((found, other), (Ok(Some(_)), Ok(None))),
+        "{}",
+        row.name
+    );
+    Ending::Answer
+}
+
+fn scan(row: &Row) -> Ending {
+    row.ending(&Ok(ended(Lexer::new(&row.text).scan(0))))
+}
+
+fn settings(row: &Row) -> Ending {
+    let mut lexer = Lexer::new("ab");
+    lexer.allow_confusing_unicode(true).strict_underscores(true);
+    let (input, settings) = ended((lexer.input(), lexer.settings()));
+    assert!(
+        input == "ab" && settings.allow && settings.strict,
+        "{}",
+        row.name
+    );
+    Ending::Answer
+}
+
+fn first(row: &Row) -> Token {
+    let first = Lexer::new(&row.text).scan(0);
+    first.expect("no fault").expect("a token")
+}
+
+/// Reads the first word by the reader of its kind.
+fn read(row: &Row) -> Ending {
+    let (token, text) = (first(row), row.text.as_str());
+    match token.kind {
+        TokenKind::String => row.ending(&ended(token.string(Global, text)).map_err(Error::from)),
+        TokenKind::Id => row.ending(&ended(token.id(Global, text))),
+        TokenKind::Annotation => row.ending(&ended(token.annotation(Global, text))),
+        TokenKind::Integer(kind) => {
+            let integer = ended(token.integer(Global, text, kind));
+            let value = integer.as_ref().map(|integer| integer.val());
+            row.ending(&value.map_err(|refused| Error::from(*refused)))
+        }
+        TokenKind::Float(kind) => {
+            row.ending(&ended(token.float(Global, text, kind)).map_err(Error::from))
+        }
+        TokenKind::Keyword => row.ending(&Ok(ended(token.keyword(text)))),
+        TokenKind::Reserved => row.ending(&Ok(ended(token.reserved(text)))),
+        _ => row.ending(&Ok(ended(token.src(text)))),
+    }
+}
+
+/// Reads the name of an identifier, without an error of its own.
+fn name(row: &Row) -> Ending {
+    let name = ended(first(row).name(Global, &row.text));
+    row.ending(&name.map_err(Error::from))
+}
+
+pub fn ending(row: &Row) -> Result<Ending, Error> {
+    Ok(match row.of {
+        "parse" => parse(row),
+        "fault" => fault(row),
+        "count" => count(row),
+        "annotation" => annotation(row),
+        "annotations" => annotations(row),
+        "scan" => scan(row),
+        "settings" => settings(row),
+        "read" => read(row),
+        "name" => name(row),
+        of => panic!("{}: no {of}", row.name),
+    })
+}

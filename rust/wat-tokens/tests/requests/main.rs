@@ -1,0 +1,207 @@
+//! `tests/requests.txt`: each row is a call, of which each request for memory is refused in turn, alone and with all after it.
+
+mod buffers;
+mod cursors;
+mod encoding;
+mod errors;
+mod free;
+mod identifiers;
+// A format has more than its rows ask.
+#[allow(dead_code, non_camel_case_types, unused_imports)]
+mod imports;
+mod lexing;
+mod lists;
+mod lookaheads;
+mod names;
+mod peeks;
+#[path = "../../../wat-parser/tests/answers/pictures.rs"]
+mod pictures;
+#[path = "../../../wat-parser/tests/answers/printed.rs"]
+mod printed;
+mod refusing;
+mod replays;
+mod row;
+mod types;
+mod words;
+
+use refusing::{Counts, Refused, refusing};
+use row::{Ending, Row};
+use std::panic::{AssertUnwindSafe, catch_unwind};
+use wat_lex::proved::error::Error;
+use wat_lex::shim::alloc::Global;
+use wat_parser::proved::parser::{ParseBuffer, Parser};
+
+const TABLE: &str = include_str!("../../../../tests/requests.txt");
+/// More requests than any row makes.
+const MOST_REQUESTS: usize = 500;
+
+fn rows() -> impl Iterator<Item = Row> {
+    TABLE.lines().skip(1).map(Row::read)
+}
+
+/// How a call of a parser ended that is at the start of the row's text.
+fn ending_of(row: &Row, parser: &mut Parser) -> Result<Ending, Error> {
+    match row.call {
+        "look" => Ok(cursors::look(row, parser)),
+        "step" => Ok(cursors::refused_step(row, parser)),
+        "names" => names::ending(row, parser),
+        "optional-name" => Ok(names::optional(row, parser)),
+        "group" | "group-of" | "list" => Ok(lists::ending(row, parser)),
+        "part" => Ok(types::part_ending(row, parser)),
+        "peek" => Ok(peeks::ending(row, parser)),
+        "lookahead" => lookaheads::ending(row, parser),
+        "replay" => replays::ending(row, parser),
+        "free" => Ok(free::ending(row, parser)),
+        call => panic!("{}: no call {call}", row.name),
+    }
+}
+
+/// How the call of a row ended; an error where what it needs could not be made.
+fn ending(row: &Row) -> Result<Ending, Error> {
+    match row.call {
+        "lexer" => lexing::ending(row),
+        "error" => errors::ending(row),
+        "identifier" => identifiers::ending(row),
+        "encode" => encoding::ending(row),
+        "buffer" => buffers::ending(row),
+        "whole" => types::whole_ending(row),
+        "words" => words::ending(row),
+        _ => {
+            let buffer = ParseBuffer::new(Global, &row.text)?;
+            let mut parser = buffer.parser();
+            for name in row.names.split_terminator(' ') {
+                parser.register_annotation(name)?;
+            }
+            ending_of(row, &mut parser)
+        }
+    }
+}
+
+#[derive(Clone, Copy, Debug, PartialEq, Eq)]
+enum Word {
+    /// A request before the call was refused.
+    SetUp,
+    /// One of the call was, which said so.
+    Memory,
+    /// None was, or the call did without it.
+    Answer,
+    /// One after the call would have been.
+    After,
+}
+
+/// How a row ends where these requests are refused, and what it asks for.
+fn run(row: &Row, refused: Refused) -> (Word, Counts) {
+    let (ended, counts) = refusing(refused, || ending(row));
+    let is_refused = match refused {
+        Refused::None => false,
+        Refused::At(number) | Refused::From(number) => counts.requests >= number,
+    };
+    let word = match ended {
+        Ok(Ending::Memory) => Word::Memory,
+        Ok(Ending::Answer) if is_refused || matches!(refused, Refused::None) => Word::Answer,
+        Ok(Ending::Answer) => Word::After,
+        Err(error) if error.is_out_of_memory() => Word::SetUp,
+        Err(error) => panic!("{}: {error} before its call", row.name),
+    };
+    let wants = matches!(word, Word::SetUp | Word::Memory);
+    assert!(
+        is_refused || !wants,
+        "{}: {word:?}, but no request was refused",
+        row.name
+    );
+    (word, counts)
+}
+
+fn word(row: &Row, refused: Refused) -> Word {
+    let (word, counts) = run(row, refused);
+    assert_eq!(
+        counts.held, 0,
+        "{}, {refused:?}: bytes that are held",
+        row.name
+    );
+    word
+}
+
+/// The requests before a row's call, and those of the call.
+#[derive(Default)]
+struct Requests {
+    set_up: usize,
+    memory: usize,
+    answer: usize,
+}
+
+impl Requests {
+    /// Refuses each request alone.
+    fn of(row: &Row) -> Requests {
+        let mut requests = Requests::default();
+        for number in 1..MOST_REQUESTS {
+            match word(row, Refused::At(number)) {
+                Word::SetUp => {
+                    requests.set_up += 1;
+                    assert_eq!(
+                        requests.set_up, number,
+                        "{}: its set-up comes first",
+                        row.name
+                    );
+                }
+                Word::Memory => requests.memory += 1,
+                Word::Answer => requests.answer += 1,
+                Word::After => return requests,
+            }
+        }
+        panic!("{} makes too many requests", row.name);
+    }
+
+    fn of_call(&self) -> usize {
+        self.memory + self.answer
+    }
+
+    /// Refuses all requests from each one of the call's on, and at last all after the call.
+    fn refuse_rest(&self, row: &Row) {
+        let after = self.set_up + self.of_call() + 1;
+        for number in self.set_up + 1..after {
+            let word = word(row, Refused::From(number));
+            assert!(
+                matches!(word, Word::Memory | Word::After),
+                "{} from {number} on: {word:?}",
+                row.name
+            );
+        }
+        assert_eq!(word(row, Refused::From(after)), Word::After, "{}", row.name);
+    }
+}
+
+/// Tries all rows, and names those that fail.
+fn try_each(check: impl Fn(&Row)) {
+    let fails = |row: &Row| catch_unwind(AssertUnwindSafe(|| check(row))).is_err();
+    let failed: Vec<&str> = rows().filter(fails).map(|row| row.name).collect();
+    assert!(failed.is_empty(), "{failed:?}");
+}
+
+#[test]
+fn each_row_has_its_answer_within_its_bounds() {
+    try_each(|row| {
+        let (word, counts) = run(row, Refused::None);
+        assert_eq!(word, Word::Answer, "{}", row.name);
+        assert_eq!(counts.held, 0, "{}: bytes that are held", row.name);
+        let (asked, most) = (counts.asked, row.bytes);
+        assert!(asked <= most, "{}: {asked} bytes, of {most}", row.name);
+    });
+}
+
+#[test]
+fn each_request_is_refused_in_turn() {
+    try_each(|row| {
+        let requests = Requests::of(row);
+        requests.refuse_rest(row);
+        assert_eq!(requests.of_call(), row.requests, "{}: requests", row.name);
+        let is_free = row.name.starts_with("free-");
+        assert_eq!(row.requests == 0, is_free, "{}: requests", row.name);
+        assert_eq!(
+            requests.memory == 0,
+            is_free,
+            "{}: want of memory",
+            row.name
+        );
+    });
+}

@@ -1,0 +1,97 @@
+//! Words of one's own, and syntax that is made without a text.
+
+use crate::refusing::ended;
+use crate::row::{Ending, Row};
+use wat_lex::proved::error::Error;
+use wat_lex::shim::alloc::Global;
+use wat_lex::shim::borrow::CowStr;
+use wat_lex::shim::string::String as Text;
+use wat_parser::proved::parser::ParseBuffer;
+use wat_parser::proved::token::{Id, Index, ItemRef, NameAnnotation, ReservedSymbol, Span, Word};
+use wat_parser::proved::{annotation, kw};
+
+/// The reserved symbol `,`.
+#[derive(Clone, Copy, Debug)]
+pub struct Comma;
+
+impl Word for Comma {
+    const AT: bool = false;
+
+    fn word() -> &'static str {
+        ","
+    }
+
+    fn display() -> &'static str {
+        "`,`"
+    }
+}
+
+/// `(func $f)`, whose name is at byte 7.
+fn item(name: CowStr<'_>) -> ItemRef<'_, kw::func> {
+    ItemRef {
+        kind: kw::func::new(Span::from_offset(2)),
+        idx: Index::Id(Id::from_cow(name, Span::from_offset(7))),
+    }
+}
+
+fn is_copy(item: &ItemRef<kw::func>, copy: &ItemRef<kw::func>) -> bool {
+    copy.kind.span == item.kind.span && copy.idx == item.idx
+}
+
+/// A copy of a reference whose name is owned.
+fn item_copy(row: &Row) -> Result<Ending, Error> {
+    let item = item(CowStr::Owned(Text::from_str(Global, "f")?));
+    let copy = ended(item.clone(Global));
+    assert_eq!(item.idx.span().offset(), 7, "{}", row.name);
+    let Ok(copy) = copy else {
+        return Ok(Ending::Memory);
+    };
+    assert!(is_copy(&item, &copy), "{}", row.name);
+    Ok(Ending::Answer)
+}
+
+/// A copy of a name that is owned.
+fn name_copy(row: &Row) -> Result<Ending, Error> {
+    let name = NameAnnotation {
+        name: CowStr::Owned(Text::from_str(Global, "m")?),
+    };
+    let copy = ended(name.clone(Global));
+    assert_eq!(name.name.as_str(), "m", "{}", row.name);
+    let Ok(copy) = copy else {
+        return Ok(Ending::Memory);
+    };
+    assert!(copy == name, "{}", row.name);
+    Ok(Ending::Answer)
+}
+
+/// A copy of a reference whose name is borrowed, words at a place, and calls that do nothing.
+fn made(row: &Row) -> Result<Ending, Error> {
+    let buffer = ParseBuffer::new(Global, &row.text)?;
+    let (mut parser, at) = (buffer.parser(), Span::from_offset(2));
+    let item = item(CowStr::Borrowed("f"));
+    let copy = item.clone(Global);
+    let words = (ReservedSymbol::<Comma>::new(at), annotation::name::new(at));
+    buffer.is_sound();
+    parser.is_sound();
+    let step = ended(parser.step(|cursor| {
+        cursor.is_sound();
+        Ok(((), cursor))
+    }));
+    assert!(copy.is_ok_and(|copy| is_copy(&item, &copy)), "{}", row.name);
+    assert!(words.0.span == at && words.1.span == at && item.kind.span == at);
+    assert!(
+        step.is_ok() && parser.prev_span().offset() == 0,
+        "{}",
+        row.name
+    );
+    Ok(Ending::Answer)
+}
+
+pub fn ending(row: &Row) -> Result<Ending, Error> {
+    match row.of {
+        "name-clone" => name_copy(row),
+        "item-clone" => item_copy(row),
+        "made" => made(row),
+        of => panic!("{}: no {of}", row.name),
+    }
+}
