@@ -95,7 +95,7 @@ fn lines_from<'p, 'a, F: Form + Drop>(
     ensures refused { IfErr result (λ e. e ≡ None) }
 {
     laws::all_shown();
-    from.is_sound();
+    from.lemma_sound();
     let mut form = form;
     let mut lines = Vec::new(alloc);
     let mut cursor = from;

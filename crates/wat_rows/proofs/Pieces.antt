@@ -10,7 +10,7 @@ use Rattle.wat_lex.specs.tokens.Setting.{Setting}
 use Rattle.wat_lex.specs.tokens.Tiling.{EndsAt, Tiling, TokenAt}
 use Rattle.wat_lex.specs.declared.lexer.faults.LexFault.{LexFault}
 use Rattle.wat_lex.specs.declared.lexer.kinds.Token.{Token}
-use Rattle.wat_lexer_parser.specs.groups.Sorts.{is_blank}
+use Rattle.wat_lex.specs.tokens.Blanks.{is_blank}
 use Rattle.wat_lexer_parser.specs.laws.Counting.{CountingShowsTheSame, PlainTokensAreShown, counting}
 use Rattle.wat_lexer_parser.specs.shown.Showing.{OneThingShown, SomethingShown}
 use Rattle.wat_rows.specs.Counting.{StopsCounting, StopsCounting.ended, StopsCounting.full, StopsCounting.faulty, row_of}

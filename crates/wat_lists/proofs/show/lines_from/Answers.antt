@@ -7,8 +7,8 @@ push-requires g c =
     let s = c.args.from.parser.now.source in
     let token = rw (c.in-Ok-Some.is, c.in-Ok-Some.field-0-is, c.tokens.invariant.parser) at c.any.ensures.reader in
     record {
-      inside = inside_where_known (g.F.Form.text c.args.form) _ s.setting.text c.in-Ok-Some.token c.is_sound.ensures.sound.utf8 token c.requires c.tokens.invariant.text;
-      short = readable_short s.setting.text c.in-Ok-Some.token c.is_sound.ensures.sound.utf8 c.is_sound.ensures.sound.short token;
+      inside = inside_where_known (g.F.Form.text c.args.form) _ s.setting.text c.in-Ok-Some.token c.lemma_sound.ensures.sound.utf8 token c.requires c.tokens.invariant.text;
+      short = readable_short s.setting.text c.in-Ok-Some.token c.lemma_sound.ensures.sound.utf8 c.lemma_sound.ensures.sound.short token;
     }
 
 pub tokens-preserved : goal.tokens-preserved
@@ -23,7 +23,7 @@ tokens-preserved g c =
       on = omega (arith, on, c.tokens.invariant.on);
       each = c.in_ok-push-in-Ok-Some.ensures.same ∙ c.tokens.invariant.each;
       text = c.in_ok-push-in-Ok-Some.ensures.same_text ∙ c.tokens.invariant.text;
-      shown = shown_more c.all_shown.ensures.looks (g.F.Form.each c.args.form) s names c.args.from.at c.tokens.cursor.at c.in-Ok-Some.next.at c.tokens.lines.items c.push.new.lines.items c.in-Ok-Some.token c.is_sound.ensures.sound.utf8 c.is_sound.ensures.sound.read
+      shown = shown_more c.all_shown.ensures.looks (g.F.Form.each c.args.form) s names c.args.from.at c.tokens.cursor.at c.in-Ok-Some.next.at c.tokens.lines.items c.push.new.lines.items c.in-Ok-Some.token c.lemma_sound.ensures.sound.utf8 c.lemma_sound.ensures.sound.read
           c.tokens.invariant.shown (seen_found s names c.tokens.cursor.at _ value) (rw c.tokens.invariant.each at c.in_ok-push-in-Ok-Some.ensures.lines);
     }
 
@@ -32,9 +32,9 @@ returns-in-Ok-None-clause-shown g c =
     let s = c.args.from.parser.now.source in
     let names = c.args.from.parser.now.names in
     let value = rw (c.in-Ok-None.is, c.in-Ok-None.field-0-is, c.tokens.invariant.parser) at c.any.ensures.value in
-    shown_end c.all_shown.ensures.looks (g.F.Form.each c.args.form) s names c.args.from.at c.tokens.cursor.at c.tokens.lines.items c.is_sound.ensures.sound.utf8 c.is_sound.ensures.sound.read c.tokens.invariant.shown (seen_found s names c.tokens.cursor.at _ value)
+    shown_end c.all_shown.ensures.looks (g.F.Form.each c.args.form) s names c.args.from.at c.tokens.cursor.at c.tokens.lines.items c.lemma_sound.ensures.sound.utf8 c.lemma_sound.ensures.sound.read c.tokens.invariant.shown (seen_found s names c.tokens.cursor.at _ value)
 
 pub returns-in-Err-2-clause-shown : goal.returns-in-Err-2-clause-shown
 returns-in-Err-2-clause-shown g c =
-    shown_reported c.all_shown.ensures.looks (g.F.Form.each c.args.form) c.tokens.cursor.parser.now c.args.from.parser.now c.args.from.at c.tokens.cursor.at c.tokens.lines.items _ c.any.result c.in-Err.error c.is_out_of_memory.result c.is_sound.ensures.sound.utf8 c.is_sound.ensures.sound.read
+    shown_reported c.all_shown.ensures.looks (g.F.Form.each c.args.form) c.tokens.cursor.parser.now c.args.from.parser.now c.args.from.at c.tokens.cursor.at c.tokens.lines.items _ c.any.result c.in-Err.error c.is_out_of_memory.result c.lemma_sound.ensures.sound.utf8 c.lemma_sound.ensures.sound.read
     c.tokens.invariant.shown c.any.ensures.value c.in-Err.is (ap (λ p. p.now) c.tokens.invariant.parser) c.if-is_out_of_memory.false c.is_out_of_memory.ensures.1

@@ -1,0 +1,1 @@
+use Rattle.wat_rows.proofs.looks.step.Goals as goal
