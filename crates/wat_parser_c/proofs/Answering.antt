@@ -1,5 +1,5 @@
 -- An answer that tells what was found, and gives it where it fits.
-use Rattle.std.proofs.Common.{◌≡◌, ◌≢◌, ℕ, List, refl, sym, subst, arith}
+use Rattle.std.proofs.Common.{◌≡◌, ◌≢◌, ℕ, List, refl, sym, subst, ap, ◌∙◌, arith}
 use Rattle.std.specs.Prelude.{Result, Ok, Err}
 use Rattle.wat_lex.specs.tokens.Setting.{Setting}
 use Rattle.wat_parser_c.specs.Readings.{FindsFault}
@@ -20,3 +20,7 @@ free_of s p (Err Other) h e = absurd (omega (arith, e))
 free_of s p (Err (Memory refused)) h e = h
 free_of s p (Err Absent) h e = h
 free_of s p (Err (Fault f)) h e = h
+
+-- a fault's printing takes no memory
+pub fault_free : (s : Setting) (p : ℕ) (old new : List ℕ) (answer : Answer) → Answers (FindsFault s p) old new answer → answer.status ≢ 2
+fault_free s p old new answer h e = free_of s p h.found h.reads (sym (ap (λ a. a.status) h.known) ∙ e)

@@ -123,7 +123,7 @@ fn step_by(number: usize, row: Row, why: u32, meaning: NameMeaning) -> Step
 /// What a look does at the row of a number.
 // Most rows are answered by their code, without a call.
 #[inline(always)]
-fn step(
+fn step_at(
     alloc: Global,
     text: &str,
     rows: &[Row],
@@ -176,7 +176,7 @@ pub fn look_at(
 {
     let mut number = place;
     'rows: loop {
-        match step(alloc, text, rows, why, number, names, ends) {
+        match step_at(alloc, text, rows, why, number, names, ends) {
             Step::Answer(answer) => return answer,
             Step::Skip(next) => number = next,
         }

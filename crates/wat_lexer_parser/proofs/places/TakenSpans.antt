@@ -1,8 +1,10 @@
 -- Where a token is shown, the current span is its byte.
-use Rattle.std.proofs.Common.{◌≡◌, ℕ, List, Some, Ok, Err}
+use Rattle.std.proofs.Common.{◌≡◌, ℕ, List, ap, Some, Ok, Err}
 use Rattle.wat_lex.specs.declared.lexer.kinds.Token.{Token}
 use Rattle.wat_lexer_parser.specs.names.RegisteredNames.{Names}
 use Rattle.wat_lexer_parser.specs.parser.State.{seen, known}
+use Rattle.wat_lexer_parser.specs.lemmas.Parts.{span_of}
+use Rattle.wat_lexer_parser.specs.places.Places.{current_span}
 use Rattle.wat_lexer_parser.specs.places.Source.{Source}
 use Rattle.wat_lexer_parser.specs.shown.Showing.{Look, shown}
 
@@ -14,3 +16,8 @@ same_look text (Err f) t q e = cc
 pub seen_is_shown : (s : Source) (p : ℕ) (names : Names) (t : Token) (q : ℕ) → seen s p names ≡ Ok (Some (t, q)) → shown s p names ≡ Ok (Some (t, q))
 unfolding seen
 seen_is_shown s p names t q e = same_look s.setting.text (shown s p names) t q e
+
+-- the current span is the byte of the token
+pub taken_span : (s : Source) (p : ℕ) (names : Names) (t : Token) (q : ℕ) → seen s p names ≡ Ok (Some (t, q)) → current_span s p names ≡ t.offset
+unfolding current_span
+taken_span s p names t q e = ap (span_of s p) (seen_is_shown s p names t q e)

@@ -1,1 +1,0 @@
-use Rattle.wat_rows.proofs.looks.step.Goals as goal
