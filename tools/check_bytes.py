@@ -42,7 +42,7 @@ class Room:
     def __init__(self, program, folder):
         self.program, self.folder = pathlib.Path(program).resolve(), pathlib.Path(folder)
         self.library = self.folder / "refuse.so"
-        self.faults = []
+        self.faults, self.runs = [], 0
         command = [compiler(), "-O1", "-fPIC", "-shared", "-nostdlib", "-o", self.library, TOOLS / "refuse_requests.c"]
         subprocess.run(command, check=True)
 
@@ -68,6 +68,7 @@ class Room:
     def check(self, name, words, text=b"", *, size=None, times, writes, opens=0, wanted=None, status=0):
         """A run whose bytes, writes and opened files stay within bounds, and which answers what is wanted; answers what it wrote."""
         got, written, reported, counted = self.run(words, text)
+        self.runs += 1
         size = len(text) if size is None else size
         say = lambda what: self.faults.append(f"{name}: {what}")
         if got is None:
@@ -215,7 +216,7 @@ def main():
             part(room)
     for fault in room.faults:
         print(f"check_bytes.py: {fault}")
-    print(f"check_bytes.py: {len(room.faults)} faults")
+    print(f"check_bytes.py: {room.runs} runs, {len(room.faults)} faults")
     return 1 if room.faults else 0
 
 

@@ -11,6 +11,10 @@ room=$(mktemp -d)
 trap 'rm -rf "$room"' EXIT
 cd "$folder"
 mapfile -t files < <(find . -name '*.wat' -o -name '*.wast' | sort)
+options=()
+for file in "${files[@]}"; do
+    options+=(--file "$file")
+done
 differences=0
 
 # each WORD..: the words on each file by itself
@@ -20,7 +24,7 @@ each() {
     : > "$room/each_errors"
     for file in "${files[@]}"; do
         status=0
-        "$program" "$@" "$file" >> "$room/each_output" 2>> "$room/each_errors" || status=$?
+        "$program" --file "$file" "$@" >> "$room/each_output" 2>> "$room/each_errors" || status=$?
         [ "$status" -le "$greatest" ] || greatest=$status
     done
     echo "$greatest" > "$room/each_status"
@@ -29,7 +33,7 @@ each() {
 # all WORD..: the words on all files
 all() {
     local status=0
-    "$program" "$@" "${files[@]}" > "$room/all_output" 2> "$room/all_errors" || status=$?
+    "$program" "${options[@]}" "$@" > "$room/all_output" 2> "$room/all_errors" || status=$?
     echo "$status" > "$room/all_status"
 }
 
@@ -41,6 +45,7 @@ compare() {
             differences=$((differences + 1))
         fi
     done
+    [ -s "$room/all_output" ] || differences=$((differences + 1))
     echo "check_files: $1, ${#files[@]} files, $(wc -l < "$room/all_output") lines, $(wc -l < "$room/all_errors") lines of reports, status $(cat "$room/all_status")"
 }
 
@@ -51,13 +56,13 @@ fi
 each list
 all list
 compare list
-each sig --
-all sig --
+each sig custom
+all sig custom
 compare sig
 for file in "${files[@]}"; do
     "$program" list "$file" > "$room/each_output" 2> "$room/errors" || true
     "$program" < "$file" > "$room/all_output" 2> "$room/errors" || true
     cmp "$room/each_output" "$room/all_output" || differences=$((differences + 1))
 done
-echo "check_files: $differences differences"
+echo "check_files: ${#files[@]} files, together and one by one, $differences differences"
 [ "$differences" = 0 ]

@@ -9,7 +9,7 @@ room=$(mktemp -d)
 trap 'rm -rf "$room"' EXIT
 mkdir "$room/files"
 cd "$room/files"
-faults=0
+faults=0 compared=0
 
 # how the program is run as a user who may not do all, which root may
 plain_user=()
@@ -24,6 +24,7 @@ user=()
 
 # expect WHAT WANTED GOT
 expect() {
+    compared=$((compared + 1))
     if [ "$2" != "$3" ]; then
         printf 'check_fmt.sh: %s: wanted %q, got %q\n' "$1" "$2" "$3"
         faults=$((faults + 1))
@@ -396,5 +397,5 @@ printf ';;\342\200\256' > confusing
 run 1 fmt confusing
 run 0 --allow-confusing fmt confusing
 "$program" fmt messy | true || expect 'a pipe that nobody reads' 0 $?
-echo "check_fmt.sh: $faults faults"
+echo "check_fmt.sh: $compared comparisons, $faults faults"
 [ "$faults" = 0 ]

@@ -1,10 +1,10 @@
 #!/usr/bin/env python3
 """Compares `wat_tokens types` with the reference tool `wat2wasm` (Debian's package wabt) on generated modules of function types.
 
-Fifty modules of up to forty types each have to get the same bytes from both. Then both read one module of 100,000 types, in turn, and the
-best times are printed.
+Fifty modules of up to forty types each have to get the same bytes from both. With --times both then read one module of 100,000 types, in turn,
+and the best times are printed: wat2wasm takes a minute for each.
 
-usage: compare_types.py PROGRAM
+usage: compare_types.py PROGRAM [--times]
 """
 
 import random
@@ -62,23 +62,37 @@ def reference(text, room):
     return compiled(["wat2wasm", f"{room}/module.wat", "--output=-"], "")
 
 
-def main(program):
+def compare(program, rng, room):
+    """Compares many modules."""
+    types = 0
+    for place in range(MODULES):
+        count = rng.randrange(MOST_TYPES + 1)
+        text = module(rng, count)
+        if compiled([program, "types"], text)[0] != reference(text, room)[0]:
+            sys.exit(f"module {place} has other bytes:\n{text}")
+        types += count
+    print(f"compare_types.py: {MODULES} modules with {types} types: the same bytes")
+
+
+def measure(program, rng, room):
+    """Compares one large module, and prints the best times."""
+    text = module(rng, MANY_TYPES)
+    ours, theirs = [], []
+    for _ in range(PASSES):
+        ours.append(compiled([program, "types"], text))
+        theirs.append(reference(text, room))
+    if ours[0][0] != theirs[0][0]:
+        sys.exit("the large module has other bytes")
+    best = [1000 * min(it[1] for it in passes) for passes in (ours, theirs)]
+    print(f"{MANY_TYPES} types, {len(text)} bytes: {best[0]:.0f} ms; wat2wasm {best[1]:.0f} ms; the same {len(ours[0][0])} bytes")
+
+
+def main(program, *options):
     rng = random.Random(1)
     with tempfile.TemporaryDirectory() as room:
-        for place in range(MODULES):
-            text = module(rng, rng.randrange(MOST_TYPES + 1))
-            if compiled([program, "types"], text)[0] != reference(text, room)[0]:
-                sys.exit(f"module {place} has other bytes:\n{text}")
-        print(f"{MODULES} modules: the same bytes")
-        text = module(rng, MANY_TYPES)
-        ours, theirs = [], []
-        for _ in range(PASSES):
-            ours.append(compiled([program, "types"], text))
-            theirs.append(reference(text, room))
-        if ours[0][0] != theirs[0][0]:
-            sys.exit("the large module has other bytes")
-        best = [1000 * min(it[1] for it in passes) for passes in (ours, theirs)]
-        print(f"{MANY_TYPES} types, {len(text)} bytes: {best[0]:.0f} ms; wat2wasm {best[1]:.0f} ms; the same {len(ours[0][0])} bytes")
+        compare(program, rng, room)
+        if options == ("--times",):
+            measure(program, rng, room)
 
 
 main(*sys.argv[1:])

@@ -166,58 +166,32 @@ fn seen(cursor: Cursor) -> Result<String, Error> {
         .join(", "))
 }
 
-/// What each taker answers: the kind, the value, and what is shown after it.
-fn takers<'a>(cursor: Cursor<'a>) -> Result<Vec<(&'static str, String, Cursor<'a>)>, Error> {
-    let mut taken = Vec::new();
-    taken.extend(
-        cursor
-            .lparen()?
-            .map(|next| ("lparen", "(".to_owned(), next)),
-    );
-    taken.extend(
-        cursor
-            .rparen()?
-            .map(|next| ("rparen", ")".to_owned(), next)),
-    );
-    taken.extend(
-        cursor
-            .id()?
-            .map(|(name, next)| ("id", name.to_owned(), next)),
-    );
-    taken.extend(
-        cursor
-            .annotation()?
-            .map(|(name, next)| ("annotation", name.to_owned(), next)),
-    );
-    taken.extend(
-        cursor
-            .keyword()?
-            .map(|(word, next)| ("keyword", word.to_owned(), next)),
-    );
-    taken.extend(
-        cursor
-            .reserved()?
-            .map(|(word, next)| ("reserved", word.to_owned(), next)),
-    );
-    taken.extend(
-        cursor
-            .string()?
-            .map(|(value, next)| ("string", format!("{value:?}"), next)),
-    );
-    taken.extend(cursor.integer()?.map(|(integer, next)| {
+/// The kind of a token that was taken, its value, and what is shown after it.
+type Taken<'a> = (&'static str, String, Cursor<'a>);
+
+/// What each taker answers.
+fn takers<'a>(cursor: Cursor<'a>) -> Result<Vec<Taken<'a>>, Error> {
+    let sign = |kind, value: &str, next| (kind, value.to_owned(), next);
+    let word = |kind| move |(value, next): (&'a str, _)| (kind, value.to_owned(), next);
+    let integer = cursor.integer()?.map(|(integer, next)| {
         let (digits, base) = integer.val();
-        (
-            "integer",
-            format!("{digits} {base} {:?}", integer.sign()),
-            next,
-        )
-    }));
-    taken.extend(
-        cursor
-            .float()?
-            .map(|(float, next)| ("float", format!("{float:?}"), next)),
-    );
-    Ok(taken)
+        let value = format!("{digits} {base} {:?}", integer.sign());
+        ("integer", value, next)
+    });
+    let string = cursor.string()?;
+    let float = cursor.float()?;
+    let taken = [
+        cursor.lparen()?.map(|next| sign("lparen", "(", next)),
+        cursor.rparen()?.map(|next| sign("rparen", ")", next)),
+        cursor.id()?.map(word("id")),
+        cursor.annotation()?.map(word("annotation")),
+        cursor.keyword()?.map(word("keyword")),
+        cursor.reserved()?.map(word("reserved")),
+        string.map(|(value, next)| ("string", format!("{value:?}"), next)),
+        integer,
+        float.map(|(float, next)| ("float", format!("{float:?}"), next)),
+    ];
+    Ok(taken.into_iter().flatten().collect())
 }
 
 fn taken(cursor: Cursor) -> Result<String, Error> {

@@ -46,7 +46,7 @@ pub fn ending(row: &Row) -> Result<Ending, Error> {
         "u64" => value(row, u64::MAX),
         "i64" => value(row, -1i64),
         "usize" => value(row, 300usize),
-        "reference" => value(row, &300u32),
+        "reference" => value::<&u32>(row, &300),
         "pair" => value(row, (5u8, -64i32)),
         "triple" => value(row, (1u8, -1i64, 128usize)),
         "vec" => value(row, numbers()?),

@@ -22,40 +22,30 @@ pub fn seen(cursor: Cursor) -> Result<String, Error> {
 
 /// What each taker answers, and what is shown after it.
 pub fn taken(cursor: Cursor) -> Result<String, Error> {
-    let then = |next: Cursor| format!(", then {}", next.cur_span().offset());
+    let then = |kind, value: &str, next: Cursor| {
+        let place = next.cur_span().offset();
+        format!("{kind} {value}, then {place}")
+    };
     let integer = cursor.integer()?.map(|(integer, next)| {
         let (digits, base) = integer.val();
-        let sign = integer.sign();
-        format!("integer {digits} {base} {sign:?}{}", then(next))
+        let value = format!("{digits} {base} {:?}", integer.sign());
+        then("integer", &value, next)
     });
-    let words = [
-        cursor
-            .lparen()?
-            .map(|next| format!("lparen ({}", then(next))),
-        cursor
-            .rparen()?
-            .map(|next| format!("rparen ){}", then(next))),
-        cursor
-            .id()?
-            .map(|(name, next)| format!("id {}{}", name.as_str(), then(next))),
-        cursor
-            .annotation()?
-            .map(|(name, next)| format!("annotation {}{}", name.as_str(), then(next))),
-        cursor
-            .keyword()?
-            .map(|(word, next)| format!("keyword {word}{}", then(next))),
-        cursor
-            .reserved()?
-            .map(|(word, next)| format!("reserved {word}{}", then(next))),
-        cursor
-            .string()?
-            .map(|(value, next)| format!("string {:?}{}", value.as_slice(), then(next))),
+    let (id, annotation) = (cursor.id()?, cursor.annotation()?);
+    let (keyword, reserved) = (cursor.keyword()?, cursor.reserved()?);
+    let (string, float) = (cursor.string()?, cursor.float()?);
+    let taken = [
+        cursor.lparen()?.map(|next| then("lparen", "(", next)),
+        cursor.rparen()?.map(|next| then("rparen", ")", next)),
+        id.map(|(name, next)| then("id", name.as_str(), next)),
+        annotation.map(|(name, next)| then("annotation", name.as_str(), next)),
+        keyword.map(|(word, next)| then("keyword", word, next)),
+        reserved.map(|(word, next)| then("reserved", word, next)),
+        string.map(|(value, next)| then("string", &format!("{:?}", value.as_slice()), next)),
         integer,
-        cursor
-            .float()?
-            .map(|(float, next)| format!("float {float:?}{}", then(next))),
+        float.map(|(float, next)| then("float", &format!("{float:?}"), next)),
     ];
-    let taken: Vec<String> = words.into_iter().flatten().collect();
+    let taken: Vec<String> = taken.into_iter().flatten().collect();
     Ok(taken.join(", "))
 }
 
