@@ -87,7 +87,10 @@ pub extern "C" fn wat_scan(text: &[u8], pos: usize, allow: bool, strict: bool) -
     ensures one { (row : FoundRow) → FoundAt (setting text.now allow strict) pos row → row ≡ result }
 {
     let text = unsafe { str::from_utf8_unchecked(text) };
-    found_row(pos, Lexer::with_settings(text, Settings { allow, strict }).scan(pos))
+    found_row(
+        pos,
+        Lexer::with_settings(text, Settings { allow, strict }).scan(pos),
+    )
 }
 
 /// The token of what `wat_scan` answers, which C is handed in registers. Its length is 0 where the

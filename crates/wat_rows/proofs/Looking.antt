@@ -24,8 +24,8 @@ use Rattle.wat_rows.specs.Links.{ClosedWithin, IsLink, codes_of}
 use Rattle.wat_rows.specs.Looks.{Looks, Looks.token, Looks.end, Looks.fault, Looks.unclosed, Looks.misnamed, Looks.memory, shown_after}
 use Rattle.wat_rows.specs.Places.{AreRowsOf, ending_code, raw_place}
 use Rattle.wat_rows.specs.Rows.{fault_code}
-use Rattle.wat_rows.specs.inside.Naming.{IsWithin, NameMeans, annotation_of, not_closed, not_shown}
-use Rattle.wat_rows.specs.inside.Steps.{IsStepWithin, Steps, step_by}
+use Rattle.wat_rows.specs.inside.Naming.{NameMeans, annotation_of, not_closed, not_shown}
+use Rattle.wat_rows.specs.inside.Steps.{Steps, step_by}
 use Rattle.wat_rows.specs.inside.Naming.{NameMeans.registered as means_registered, NameMeans.other as means_other}
 use Rattle.wat_rows.specs.inside.Naming.{NameMeans.misnamed as means_misnamed, NameMeans.memory as means_memory}
 use Rattle.wat_rows.specs.declared.counting.Row.{Row}
@@ -272,19 +272,3 @@ looks_before s n place number a on e (memory m) = memory (record {
   escape = m.escape;
   same = e ∙ m.same;
 })
-
-closed_within : (rows number why : ℕ) → number < rows → IsWithin rows (Err (not_closed why number))
-closed_within rows number why l = elim (cases_Bool (why == 0)) [
-  | inl z ↦ subst (λ b. IsWithin rows (Err (if b then unseen.Unclosed number else unseen.TextFault))) (sym z) l
-  | inr f ↦ subst (λ b. IsWithin rows (Err (if b then unseen.Unclosed number else unseen.TextFault))) (sym f) tt
-]
-
-pub step_within : (rows number why : ℕ) (row : Row) (m : NameMeaning) → number + 1 < rows → (row.link ≢ 0 → number < row.link)
-    → IsStepWithin rows number (step_by number row why m)
-step_within rows number why row named.Registered l forward = omega (arith, l)
-step_within rows number why row named.Misnamed l forward = l
-step_within rows number why row (named.Memory refused) l forward = tt
-step_within rows number why row named.Other l forward = elim (cases_Bool (row.link == 0)) [
-  | inl z ↦ subst (λ b. IsStepWithin rows number (if b then step.Answer (Err (not_closed why number)) else step.Skip row.link)) (sym z) (closed_within rows number why (omega (arith, l)))
-  | inr f ↦ subst (λ b. IsStepWithin rows number (if b then step.Answer (Err (not_closed why number)) else step.Skip row.link)) (sym f) (omega (arith, l), forward (linked row.link f))
-]

@@ -159,7 +159,7 @@ fn step_by(number: usize, row: Row, why: u32, meaning: NameMeaning) -> Step {
 /// ensures within { IsStepWithin (length rows.now) number result }
 /// ```
 #[inline(always)]
-fn step(
+fn step_at(
     alloc: Global,
     text: &str,
     rows: &[Row],
@@ -210,7 +210,7 @@ pub fn look_at(
 ) -> Result<usize, NotShown> {
     let mut number = place;
     'rows: loop {
-        match step(alloc, text, rows, why, number, names, ends) {
+        match step_at(alloc, text, rows, why, number, names, ends) {
             Step::Answer(answer) => return answer,
             Step::Skip(next) => number = next,
         }
