@@ -14,7 +14,7 @@ use crate::lines::row::object_open;
 use crate::lists::blank::write_blanked;
 use crate::lists::input::text_of;
 use crate::lists::json::{push_report, show_json, write_json};
-use crate::lists::list::{fault_of, lexer_of, write_lines};
+use crate::lists::list::write_lines;
 use crate::lists::play::play;
 use crate::lists::show::{Showing, show};
 use crate::types::compile_types;
@@ -42,11 +42,12 @@ fn answer(written: Result<(), Failed>, error: Option<Error>) -> Result<Option<Er
 /// ensures refused { IfErr result (λ e. e ≡ RunFailure.Memory alloc_error) }
 /// ```
 fn error_of(alloc: Global, lexer: &Lexer<'_>) -> Result<Option<Error>, RunFailure> {
-    let Some(fault) = fault_of(lexer) else {
+    let text = lexer.input();
+    let Some(fault) = lexer.first_fault(0) else {
         return Ok(None);
     };
     let span = Span::from_offset(fault.offset);
-    let error = Error::lex(alloc, span, lexer.input(), fault.error);
+    let error = Error::lex(alloc, span, text, fault.error);
     match error.alloc_error() {
         Some(refused) => Err(RunFailure::from(refused)),
         None => Ok(Some(error)),
@@ -71,7 +72,7 @@ fn print_raw<W: Sink>(
     output: &mut W,
 ) -> Result<Option<Error>, RunFailure> {
     wat_lex::proved::laws::one_tiling();
-    let lexer = lexer_of(text, settings);
+    let lexer = Lexer::with_settings(text, settings);
     let error = error_of(alloc, &lexer)?;
     answer(write_lines(&lexer, output), error)
 }
@@ -141,7 +142,7 @@ fn print_json<W: Sink>(
     output: &mut W,
 ) -> Result<Option<Error>, RunFailure> {
     wat_lex::proved::laws::one_tiling();
-    let lexer = lexer_of(text, settings);
+    let lexer = Lexer::with_settings(text, settings);
     let begin = object_open(alloc, file)?;
     let error = error_of(alloc, &lexer)?;
     let last = json_end(alloc, text, &begin, &error)?;
@@ -166,7 +167,7 @@ fn print_blank<W: Sink>(
 ) -> Result<Option<Error>, RunFailure> {
     wat_lex::proved::laws::one_tiling();
     laws::blank_texts();
-    let lexer = lexer_of(text, settings);
+    let lexer = Lexer::with_settings(text, settings);
     if let Some(error) = error_of(alloc, &lexer)? {
         return Ok(Some(error));
     }

@@ -2,7 +2,6 @@
 //! Formatting a text into a sink, a block at a time.
 
 use crate::shim::prelude::*;
-use crate::format::format::{fault_from, lexer_of};
 use crate::format::formatter::Formatter;
 use crate::shim::alloc::{AllocError, Global};
 use crate::shim::fmt;
@@ -62,9 +61,8 @@ pub fn format_to<W: Sink>(
     settings: Settings,
     output: &mut W,
 ) -> Result<(), WriteError> {
-    let lexer = lexer_of(text, settings);
-    let _ = lexer.input();
-    match fault_from(&lexer, 0) {
+    let lexer = Lexer::with_settings(text, settings);
+    match lexer.first_fault(0) {
         Some(fault) => Err(WriteError::Fault(fault)),
         None => write_laid(alloc, &lexer, output),
     }

@@ -86,7 +86,7 @@ pub(crate) fn register_all(parser: &mut Parser<'_>, names: &[String]) -> Result<
 ///
 /// ```text
 /// requires { IfSome (F.text form) (λ t. t ≡ from.parser.now.source.setting.text) }
-/// ensures shown { IfOk result (λ r. ShownFrom (F.each form.entry)
+/// ensures shown { IfOk result (λ r. ShownFrom (F.each form)
 ///     from.entry.parser.now.source from.entry.parser.now.names from.entry.at
 ///     r.0.lines.items r.0.error) }
 /// ensures parser { IfOk result (λ r. r.1.parser ≡ from.entry.parser) }
@@ -99,7 +99,7 @@ fn lines_from<'p, 'a, F: Form>(
     from: Cursor<'p, 'a>,
 ) -> Result<(Showing, Cursor<'p, 'a>), Error> {
     laws::all_shown();
-    from.is_sound();
+    from.lemma_sound();
     let mut form = form;
     let mut lines = Vec::new(alloc);
     let mut cursor = from;
@@ -127,7 +127,7 @@ fn lines_from<'p, 'a, F: Form>(
 /// ```text
 /// requires short { length text.now < 2 ^ 32 }
 /// requires text { IfSome (F.text form) (λ t. t ≡ text.now) }
-/// ensures { IfOk result (λ s. ShownText (F.each form.entry)
+/// ensures { IfOk result (λ s. ShownText (F.each form)
 ///     (record { text = text.now; flags = settings }) names.now s.lines.items s.error) }
 /// ```
 pub(crate) fn show_in<F: Form>(
