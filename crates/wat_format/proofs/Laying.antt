@@ -1,11 +1,11 @@
 -- What one token adds to a layout.
-use Rattle.std.proofs.Common.{◌≡◌, ◌+◌, ◌-◌, ◌≤◌, ◌<◌, ℕ, true, false, List, [], ◌∷◌, ◌++◌, take, drop, refl, sym, ap, ◌∙◌, subst, arith, append_assoc}
+use Rattle.std.proofs.Common.{◌≡◌, ◌+◌, ◌-◌, ◌≤◌, ◌<◌, ℕ, false, List, [], ◌∷◌, ◌++◌, take, drop, refl, sym, ap, ◌∙◌, subst, arith, append_assoc}
 use Rattle.std.proofs.lemmas.List.Elements.{All-weaker, All-cons, All-head, All-tail, All-nil}
 use Rattle.std.specs.Prelude.{Result, Ok, Err, OnOk}
 use Rattle.std.specs.List.{All}
 use Rattle.wat_lex.specs.tokens.ReadableTokens.{token_text}
 use Rattle.wat_lex.specs.declared.lexer.kinds.Token.{Token}
-use Rattle.wat_format.specs.Gaps.{gap_of, gap_text}
+use Rattle.wat_format.specs.Gaps.{gap_text}
 use Rattle.wat_format.specs.Layout.{State, Groups, laid, gap_before, line_level, after, groups_after, closed, is_white, start}
 use Rattle.wat_format.specs.Sorts.{sort_of}
 use Rattle.wat_format.specs.inside.Steps.{HasFew, Few, Writes, Lays}

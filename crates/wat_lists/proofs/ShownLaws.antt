@@ -1,7 +1,6 @@
 -- What is shown from a place on, so far.
 use Rattle.std.proofs.Common.{◌≡◌, ◌≤◌, ◌<◌, ◌+◌, ◌^◌, ◌∙◌, ℕ, List, [], ◌∷◌, ◌++◌, length, take, drop, get_or, sym, ap, subst, refl, arith, append_assoc, length-append, length-drop, Bool, true, false}
 use Rattle.std.specs.Prelude.{flat_map, Option, Some, None, Result, Ok, Err, IfSome, IsNone, IsTrue, String, string_bytes}
-use Rattle.std.specs.Option.{option_map}
 use Rattle.std.specs.Str.{IsUtf8}
 use Rattle.std.specs.declared.alloc.Global.{Global}
 use Rattle.std.proofs.lemmas.List.{append-nil, take_more}

@@ -1,16 +1,12 @@
 -- The rows of a text so far.
 use Rattle.std.proofs.Common.{◌≡◌, ◌<◌, ◌≤◌, ◌+◌, ◌++◌, ℕ, suc, List, [], ◌∷◌, length, drop, map, refl, arith, ap, sym, ◌∙◌, subst, slice_set, get_or, append_assoc, length-append, drop-cons, length-drop}
-use Rattle.std.specs.Prelude.{Some}
 use Rattle.std.specs.Str.{IsCharBoundary, IsUtf8}
 use Rattle.std.proofs.lemmas.List.{map-append, length-map}
 use Rattle.std.proofs.lemmas.Str.{IsCharBoundary-start}
 use Rattle.wat_lex.specs.tokens.Setting.{Setting}
-use Rattle.wat_lex.specs.tokens.Tiling.{TokenAt, Tiling, EndsAt}
+use Rattle.wat_lex.specs.tokens.Tiling.{TokenAt, Tiling}
 use Rattle.wat_lex.specs.declared.lexer.kinds.Token.{Token}
-use Rattle.wat_lex.specs.declared.lexer.faults.LexFault.{LexFault}
 use Rattle.wat_page.specs.Endings.{row_of}
-use Rattle.wat_page.specs.Reports.{Filled}
-use Rattle.wat_page.specs.declared.report.Ending.TheVariants.{Whole, Faulty, Full}
 use Rattle.wat_page.specs.declared.rows.Row.{Row}
 
 -- the rows of the tokens up to a place lie over the old ones
