@@ -120,7 +120,7 @@ FAILURES = [
 # Files in which a status is a plain number.
 STATUSES = {
     "wat_parser_c/src/answers.rt",
-    "wat_parser_c/src/given.rt",
+    "wat_parser_c/src/by_place.rt",
     "wat_parser_c/src/comments.rt",
     "wat_parser_c/src/messages.rt",
     "wat_parser_c/src/printing.rt",
@@ -624,7 +624,7 @@ CHANGED = [
         "if words.len() > 13 {\n        return Outcome::Kept.exit(false);\n    }\n    match read_words(alloc, words) {",
     ),
     (
-        "wat_parser_c/src/given.rt",
+        "wat_parser_c/src/by_place.rt",
         "match string_at(alloc, text, pos, settings) {",
         "if pos > 4096 {\n        return Answer {\n            needed: 0,\n            status: 2,\n        };\n    }\n    match string_at(alloc, text, pos, settings) {",
     ),

@@ -7,7 +7,7 @@ use Rattle.wat_lex.specs.errors.Rendering.{excerpt}
 use Rattle.wat_lex.specs.tokens.ReadableTokens.{token_text}
 use Rattle.wat_lex.specs.declared.lexer.kinds.Token.{Token}
 use Rattle.wat_lex.specs.declared.lexer.kinds.TokenKind.TheVariants.{LParen}
-use Rattle.wat_lexer_parser.specs.groups.Sorts.{is_marked}
+use Rattle.wat_lex.specs.tokens.Blanks.{is_marked}
 use Rattle.wat_lexer_parser.specs.parser.State.{State, at_place}
 use Rattle.wat_lexer_parser.specs.places.Places.{offset_at}
 use Rattle.wat_lexer_parser.specs.places.Source.{Source, IsRead}

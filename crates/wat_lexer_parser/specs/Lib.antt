@@ -1,3 +1,4 @@
+pub mod Cases
 pub mod groups
 pub mod names
 pub mod shown

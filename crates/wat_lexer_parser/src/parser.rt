@@ -49,12 +49,12 @@ pub use whole::parse;
 /// A parser over a buffer: a place in its text, and the names of annotations that are registered.
 #[derive(Drop)]
 pub struct Parser<'a> {
-    pub(crate) table: TableRef<'a>,
-    pub(crate) place: usize,
-    pub(crate) depth: usize,
-    pub(crate) names: Names,
+    table: TableRef<'a>,
+    place: usize,
+    depth: usize,
+    names: Names,
     /// The number of the token that is shown at the place, where that is known.
-    pub(crate) next: Option<usize>,
+    next: Option<usize>,
 }
 
 impl<'a> Model for Parser<'a> {
@@ -184,13 +184,13 @@ impl<'a> Parser<'a> {
     /// What holds of every parser: its tokens are those of its text, which is UTF-8 and of fewer than
     /// 2^32 bytes. So the laws of the module [`laws`](crate::laws) hold of what it shows. The call
     /// does nothing; it is for the proofs of crates above.
-    pub fn is_sound(&self)
+    pub fn lemma_sound(&self)
         ensures sound { IsSound self.now }
     {
         let table = &self.table;
-        table.is_read();
+        table.lemma_read();
         let _text = table.text();
-        self.names.are_positive();
+        self.names.lemma_positive();
     }
 
     /// Whether the end or `)` is shown, so that a list ends here; false at a fault.
@@ -199,7 +199,7 @@ impl<'a> Parser<'a> {
             empty_of (shown self.now.source self.now.place self.now.names) }
         ensures sound { IsSound self.now }
     {
-        self.is_sound();
+        self.lemma_sound();
         self.is_empty_from(self.place)
     }
 
@@ -439,7 +439,7 @@ impl<'a> Parser<'a> {
     {
         let place = self.place;
         let depth = self.depth;
-        self.table.is_read();
+        self.table.lemma_read();
         self.open()?;
         self.depth += 1;
         match f(self) {

@@ -75,7 +75,7 @@ fn rows_from<'p, 'a>(
     ensures refused { IfErr result (λ e. e ≡ None) }
 {
     laws::all_shown();
-    from.is_sound();
+    from.lemma_sound();
     let mut positions = Positions::new(text);
     let mut lines = Vec::new(alloc);
     let mut cursor = from;

@@ -55,7 +55,7 @@ fn lines_from<'p, 'a>(
     ensures refused { IfErr result (λ e. e ≡ None) }
 {
     laws::all_shown();
-    from.is_sound();
+    from.lemma_sound();
     let mut lines = Vec::new(alloc);
     let mut cursor = from;
     'tokens: loop {

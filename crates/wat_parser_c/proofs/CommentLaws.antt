@@ -8,7 +8,7 @@ use Rattle.wat_lex.specs.tokens.Tiling.{TokenAt, Tiling, MaximalTiling, EndsAt}
 use Rattle.wat_lex.specs.tokens.UniqueTilings.{AnswerAt}
 use Rattle.wat_lex.specs.declared.lexer.faults.LexFault.{LexFault}
 use Rattle.wat_lex.specs.declared.lexer.kinds.Token.{Token}
-use Rattle.wat_lexer_parser.specs.groups.Sorts.{is_space, is_comment}
+use Rattle.wat_lex.specs.tokens.Blanks.{is_space, is_comment}
 use Rattle.wat_lexer_parser.specs.places.Places.{offset_at, past_space, comment_in, comment_at}
 use Rattle.wat_lexer_parser.specs.places.Source.{Source, IsRead}
 use Rattle.wat_lexer_parser.specs.shown.Showing.{placed}

@@ -4,9 +4,9 @@ use Rattle.std.specs.Prelude.{codes, nat_lt, nat_le, if◌then◌else◌, Ok, Er
 use Rattle.std.specs.Fmt.{decimal}
 use Rattle.std.proofs.lemmas.Bool.Decides.{nat_tests}
 use Rattle.std.proofs.lemmas.List.{take_all, drop_all, drop_at, append-nil, length-take-le}
-use Rattle.wat_lex.specs.errors.Rendering.{Excerpt, shown_place, laid_over, right_in}
+use Rattle.wat_lex.specs.errors.Rendering.{Excerpt, laid_over, right_in}
 use Rattle.wat_parser_c.specs.Answers.{Answers}
-use Rattle.wat_parser_c.specs.Printing.{Prints, printed_in, shown_in}
+use Rattle.wat_parser_c.specs.Printing.{Prints, printed_in}
 use Rattle.wat_parser_c.specs.declared.answers.Refusal.TheVariants.{Other, Memory, Absent, Fault}
 use Rattle.wat_parser_c.proofs.MessageBytes.{put_there}
 use Rattle.wat_parser_c.proofs.OneFinding.{One}
@@ -24,10 +24,6 @@ message_over m out w post all other place long o e f room none =
     let same : take i out ++ (w ++ post) ≡ (take i out ++ other) ++ place =
     ap (λ x. take i out ++ (w ++ x)) none ∙ ap (λ x. take i out ++ x) (append-nil w ∙ f ∙ e) ∙ sym (append_assoc (take i out) other place) in
     ap (λ x. m ++ x) (ap (drop (length m)) same ∙ drop_at (take i out ++ other) place (length m) front)
-
--- without a name a place is shown as the lexer shows it
-pub nameless_place : (e : Excerpt) → shown_place e ≡ shown_in (codes "<anon>") e
-nameless_place e = refl
 
 pub one_print : (text : List ℕ) (offset : ℕ) (message file : List ℕ) → One (Prints text offset message file)
 one_print text offset message file (Ok a) (Ok b) h k n m = ap Ok (h ∙ sym k)
@@ -48,22 +44,6 @@ after_far e = codes ":" ++ (decimal e.line ++ (codes ":" ++ decimal e.column))
 abbrev pub after_near : Excerpt → List ℕ
 after_near e =
     codes ":" ++ (decimal e.line ++ (codes ":" ++ (decimal e.column ++ (codes "\n      |" ++ (codes "\n " ++ (right_in 4 (decimal e.line) ++ (codes " | " ++ (e.snippet ++ (codes "\n      | " ++ right_in e.column (codes "^"))))))))))
-
-far_in : (name : List ℕ) (e : Excerpt) → nat_lt 500 e.column ≡ true → shown_in name e ≡ codes " at " ++ (name ++ after_far e)
-far_in name e h =
-    let place = name ++ codes ":" ++ decimal e.line ++ codes ":" ++ decimal e.column in
-    let same : place ≡ name ++ after_far e = simp append_assoc in
-    ap (λ b. if b then codes " at " ++ place else codes "\n     --> " ++ place ++ codes "\n      |" ++ codes "\n " ++ right_in 4 (decimal e.line) ++ codes " | " ++ e.snippet ++ codes "\n      | " ++ right_in e.column (codes "^")) h
-    ∙ ap (λ x. codes " at " ++ x) same
-
-near_in : (name : List ℕ) (e : Excerpt) → nat_lt 500 e.column ≡ false → shown_in name e ≡ codes "\n     --> " ++ (name ++ after_near e)
-near_in name e h =
-    let place = name ++ codes ":" ++ decimal e.line ++ codes ":" ++ decimal e.column in
-    let line = right_in 4 (decimal e.line) in
-    let mark = right_in e.column (codes "^") in
-    let same : place ++ codes "\n      |" ++ codes "\n " ++ line ++ codes " | " ++ e.snippet ++ codes "\n      | " ++ mark ≡ name ++ after_near e = simp append_assoc in
-    ap (λ b. if b then codes " at " ++ place else codes "\n     --> " ++ place ++ codes "\n      |" ++ codes "\n " ++ line ++ codes " | " ++ e.snippet ++ codes "\n      | " ++ mark) h
-    ∙ ap (λ x. codes "\n     --> " ++ x) same
 
 -- the bytes of a place by the first of them
 pub record Around (shown : List ℕ) (e : Excerpt) (near : Bool) : Type 0 where

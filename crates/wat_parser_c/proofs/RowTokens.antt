@@ -1,5 +1,5 @@
 -- The token that a row of a text tells, and that it may be read.
-use Rattle.std.proofs.Common.{◌≡◌, ◌≢◌, ◌<◌, ◌≤◌, ◌+◌, ◌⊎◌, ℕ, List, length, refl, ap, sym, ◌∙◌, subst, arith, inl, inr, Bool, true, false}
+use Rattle.std.proofs.Common.{◌≡◌, ◌≢◌, ◌≤◌, ◌+◌, ℕ, List, length, refl, ap, sym, ◌∙◌, subst, inl, inr, Bool, true, false}
 use Rattle.std.specs.Prelude.{◌==◌, if◌then◌else◌}
 use Rattle.std.specs.Str.{IsUtf8, IsCharBoundary}
 use Rattle.wat_lex.specs.grammar.Numbers.{sign_token}
@@ -13,13 +13,13 @@ use Rattle.wat_lex.specs.declared.lexer.kinds.Sign.TheVariants as sign
 use Rattle.wat_lex.specs.declared.lexer.kinds.Token.{Token}
 use Rattle.wat_lex.specs.declared.lexer.kinds.TokenKind.{TokenKind}
 use Rattle.wat_lex.specs.declared.lexer.kinds.TokenKind.TheVariants as kind
-use Rattle.wat_lexer_parser.specs.groups.Sorts.{is_marked}
+use Rattle.wat_lex.specs.tokens.Blanks.{is_marked}
 use Rattle.wat_rows.specs.Counting.{IsRow, kind_beside, opens_at}
 use Rattle.wat_rows.specs.Rows.{kind_row, plain, sign_code, minus_code}
 use Rattle.wat_rows.specs.declared.counting.Row.{Row}
 use Rattle.wat_rows.specs.declared.rows.KindRow.{KindRow}
 use Rattle.wat_parser_c.specs.ByRow.{kind_of, kind_known, sign_known, token_of}
-use Rattle.wat_parser_c.specs.Readings.{IsNamed, IsInteger, IsFloat}
+use Rattle.wat_parser_c.specs.Readings.{IsNamed, IsInteger}
 
 sign_back : (s : Sign) → sign_known (sign_code (sign_token s)) ≡ s
 sign_back sign.None = refl
@@ -121,25 +121,8 @@ name_by_code k x (inr e) h = annotation_by_code k (h ∙ ap kind_number e) ∙ s
 pub not_string : (text : List ℕ) (row : Row) → IsRow text row → row.kind.code ≢ 6 → kind_of row.kind ≡ kind.String → ⊥
 not_string text row h n e = n (code_of_row text row kind.String h e (λ x. cc))
 
-pub not_named : (text : List ℕ) (row : Row) → IsRow text row → row.kind.code ≢ 7 → row.kind.code ≢ 9 → IsNamed (kind_of row.kind) → ⊥
-not_named text row h n m (inl e) = n (code_of_row text row kind.Id h e (λ x. cc))
-not_named text row h n m (inr e) = m (code_of_row text row kind.Annotation h e (λ x. cc))
-
 pub not_integer : (text : List ℕ) (row : Row) → IsRow text row → row.kind.code ≢ 11 → IsInteger (kind_of row.kind) → ⊥
 not_integer text row h n (k, e) = n (code_of_row text row (kind.Integer k) h e (λ x. cc))
-
-pub not_float : (text : List ℕ) (row : Row) → IsRow text row → (row.kind.code < 12) ⊎ (15 < row.kind.code) → IsFloat (kind_of row.kind) → ⊥
-not_float text row h out (f, e) = by f (code_of_row text row (kind.Float f) h e (λ x. cc)) out
-  where
-    by : (f : FloatKind) → row.kind.code ≡ kind_number (kind.Float f) → (row.kind.code < 12) ⊎ (15 < row.kind.code) → ⊥
-    by (Inf n) c (inl l) = absurd (omega (arith, c, l))
-    by (Inf n) c (inr l) = absurd (omega (arith, c, l))
-    by (Nan n) c (inl l) = absurd (omega (arith, c, l))
-    by (Nan n) c (inr l) = absurd (omega (arith, c, l))
-    by (NanVal n u) c (inl l) = absurd (omega (arith, c, l))
-    by (NanVal n u) c (inr l) = absurd (omega (arith, c, l))
-    by (Normal u x) c (inl l) = absurd (omega (arith, c, l))
-    by (Normal u x) c (inr l) = absurd (omega (arith, c, l))
 
 pub row_ends : TokensEndAtBoundaries → (text : List ℕ) (row : Row) → IsUtf8 text → IsRow text row → row.offset + row.len ≤ length text
 row_ends ends text row u h =

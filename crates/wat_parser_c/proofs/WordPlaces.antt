@@ -262,10 +262,6 @@ bare_or b u (quoted_name c s sign ce be f) k = absurd (both_ways (get_or b 1 0 =
 found_quote : (b : List ℕ) (c : ℕ) (s : List ℕ) → IsSign c → chars b ≡ c ∷ 34 ∷ s → contains 34 (chars b) ≡ true
 found_quote b c s sign e = ap (contains 34) e ∙ ap (λ x. x || true) (sign_no_quote c sign)
 
-sign_no_backslash : (c : ℕ) → IsSign c → (c == 92) ≡ false
-sign_no_backslash c (inl e) = ap (λ x. x == 92) e
-sign_no_backslash c (inr e) = ap (λ x. x == 92) e
-
 pub quoted_or : (b : List ℕ) → IsUtf8 b → NameBytes b → (get_or b 1 0 == 34) ≡ true → HasNone 92 (chars b) → NameAt b 2 1 × (contains 34 (chars b) ≡ true)
 quoted_or b u (bare_name c v s e q h n) k free = absurd (q (sym (ap (λ x. get_or x 1 0) e) ∙ eqb-true (get_or b 1 0) 34 k))
 quoted_or b u (quoted_name c s sign ce be f) k free =

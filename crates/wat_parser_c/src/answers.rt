@@ -21,7 +21,7 @@ pub struct Answer {
 
 impl Answer {
     /// The answer that there are so many bytes.
-    pub(crate) fn given(needed: usize) -> Answer
+    pub(crate) fn of_len(needed: usize) -> Answer
         ensures { result ≡ record { needed = needed; status = 0 } }
     {
         Answer { needed, status: 0 }
@@ -73,5 +73,5 @@ pub fn give(bytes: &[u8], out: &mut [u8]) -> Answer
     if needed <= out.len() {
         out[..needed].copy_from_slice(bytes);
     }
-    Answer::given(needed)
+    Answer::of_len(needed)
 }

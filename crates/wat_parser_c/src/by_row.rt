@@ -1,4 +1,4 @@
-//! What the readers find of the token that a row tells, which is not scanned again.
+//! What the readers find of a row's token, which is not scanned again.
 ghost use Rattle.std.specs.Prelude.{◌≡◌, ◌≢◌, ◌<◌, ◌⊎◌, ℕ, IfOk, IfErr, IfSome, IfNone, Ok, Err};
 ghost use Rattle.std.specs.Prelude.{◌^◌, length};
 ghost use Rattle.std.specs.Str.{IsUtf8};
@@ -21,7 +21,7 @@ use wat_lex::lexer::{Float, FloatKind, Token, TokenKind};
 use wat_rows::counting::Row;
 use wat_rows::rows::KindRow;
 
-/// The token of a row that tells one of this kind.
+/// A row's token, where it is of this kind.
 pub(crate) fn token_of(row: Row, kind: TokenKind) -> Token
     ensures { result ≡ record { offset = row.offset; len = row.len; kind = kind } }
 {

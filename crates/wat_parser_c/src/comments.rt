@@ -8,8 +8,8 @@ ghost use Rattle.wat_rows.specs.Rows.{setting};
 use crate::laws::comments_are_parsers;
 use crate::words::Word;
 use std::str;
-use wat_lex::lexer::{LexFault, Settings, Token, TokenKind};
-use wat_rows::rows::{fault_code, lexer_of};
+use wat_lex::lexer::{LexFault, Lexer, Settings, Token, TokenKind};
+use wat_rows::rows::fault_code;
 
 /// What comes after at most one white space token.
 fn past_space(text: &str, pos: usize, settings: Settings) -> Result<Option<Token>, LexFault>
@@ -18,7 +18,7 @@ fn past_space(text: &str, pos: usize, settings: Settings) -> Result<Option<Token
     ensures past { IsPast (record { text = text.now; flags = settings }) pos result }
     ensures short { IfOk result (λ found. IfSome found (λ t. t.offset + t.len < 2 ^ 32)) }
 {
-    let lexer = lexer_of(text, settings);
+    let lexer = Lexer::with_settings(text, settings);
     match lexer.scan(pos) {
         Ok(Some(token)) => match token.kind {
             TokenKind::Whitespace => lexer.scan(token.offset + token.len as usize),
@@ -28,7 +28,7 @@ fn past_space(text: &str, pos: usize, settings: Settings) -> Result<Option<Token
     }
 }
 
-/// What is reported of the token that is there.
+/// Where the comment is that is there.
 fn comment_known(found: Result<Option<Token>, LexFault>) -> Word
     requires { IfOk found (λ found. IfSome found (λ t. t.offset + t.len < 2 ^ 32)) }
     ensures { result ≡ comment_known found }

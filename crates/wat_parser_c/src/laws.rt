@@ -50,7 +50,7 @@ pub fn one_answer_of_row()
     wat_lex::laws::floats();
 }
 
-/// What is reported of a value's place is one thing. It does nothing either.
+/// A value is at one place. The call does nothing either.
 pub fn one_word()
     ensures { (text : List ℕ) (t : Token) → OneWord text t }
 {
@@ -63,8 +63,7 @@ pub fn faults_are_known()
     ensures { FaultsAreKnown }
 {}
 
-/// The comment that is reported of a place is one thing, and the one that a parser finds there. It does
-/// nothing either.
+/// At a place one comment is found, the one that a parser finds there. The call does nothing either.
 pub fn comments_are_parsers()
     ensures one { CommentsAreOne }
     ensures parsers { CommentsAreParsers }

@@ -12,9 +12,9 @@ ghost use Rattle.wat_rows.specs.Rows.{FoundAt, TokenFoundAt, Fills, OneFill, set
 ghost use Rattle.wat_rows.specs.declared.rows.Found.{Found as FoundRow};
 
 pub mod answers;
+mod by_place;
 pub mod by_row;
 pub mod comments;
-mod given;
 mod laws;
 pub mod looks;
 pub mod messages;
@@ -25,16 +25,16 @@ pub mod version;
 pub mod words;
 
 use answers::Answer;
-use given::{give_fault, give_float, give_integer, give_name, give_name_fault, give_string};
+use by_place::{give_fault, give_float, give_integer, give_name, give_name_fault, give_string};
 use laws::one_answer;
 use std::alloc::Global;
 use std::str;
-use wat_lex::lexer::Settings;
+use wat_lex::lexer::{Lexer, Settings};
 use wat_lex::token::Span;
 use wat_rows::at::token_at;
 use wat_rows::fill::fill;
 use wat_rows::laws::one_fill;
-use wat_rows::rows::{Filled, Found, TokenRow, found_row, lexer_of};
+use wat_rows::rows::{Filled, Found, TokenRow, found_row};
 
 /// Whether the bytes are a text that the other functions take.
 #[unsafe(no_mangle)]
@@ -87,7 +87,10 @@ pub extern "C" fn wat_scan(text: &[u8], pos: usize, allow: bool, strict: bool) -
     ensures one { (row : FoundRow) → FoundAt (setting text.now allow strict) pos row → row ≡ result }
 {
     let text = unsafe { str::from_utf8_unchecked(text) };
-    found_row(pos, lexer_of(text, Settings { allow, strict }).scan(pos))
+    found_row(
+        pos,
+        Lexer::with_settings(text, Settings { allow, strict }).scan(pos),
+    )
 }
 
 /// The token of what `wat_scan` answers, which C is handed in registers. Its length is 0 where the

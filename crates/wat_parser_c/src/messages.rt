@@ -67,7 +67,7 @@ fn give_message(error: LexError, out: &mut [u8]) -> Answer
 {
     let rendered = Rendered::new("", LexFault { offset: 0, error });
     let needed = rendered.length() - place_length("", 0);
-    let answer = Answer::given(needed);
+    let answer = Answer::of_len(needed);
     if needed <= out.len() {
         rendered.write_to(&mut out[..needed]);
     }

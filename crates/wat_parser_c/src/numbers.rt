@@ -187,7 +187,7 @@ fn give_signed(digits: &[u8], minus: bool, out: &mut [u8]) -> Answer
     if needed <= out.len() {
         write_signed(digits, minus, out);
     }
-    Answer::given(needed)
+    Answer::of_len(needed)
 }
 
 /// The digits of an integer's row.

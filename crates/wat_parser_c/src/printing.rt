@@ -44,7 +44,7 @@ fn give_long(text: &str, offset: usize, message: &[u8], out: &mut [u8]) -> Answe
     ensures { Answers (Prints text.now offset message.now []) out.old out.new result }
 {
     let needed = message.len() + place_length(text, offset);
-    let answer = Answer::given(needed);
+    let answer = Answer::of_len(needed);
     if needed <= out.len() {
         write_long(text, offset, message, &mut out[..needed]);
     }

@@ -11,8 +11,7 @@ ghost use Rattle.wat_parser_c.specs.Readings.{FindsFault, ReadsNameFault, shown_
 use crate::answers::Refusal;
 use std::alloc::{AllocError, Global};
 use std::borrow::{CowSlice, CowStr};
-use wat_lex::lexer::{Float, Integer, LexFault, Settings, TokenKind};
-use wat_rows::rows::lexer_of;
+use wat_lex::lexer::{Float, Integer, LexFault, Lexer, Settings, TokenKind};
 
 impl From<AllocError> for Refusal {
     ghost use Rattle.wat_parser_c.specs.declared.answers.Refusal.TheVariants.{Memory};
@@ -38,7 +37,7 @@ pub fn string_at<'a>(
     ensures refused { IfErr result (λ refusal. Finds IsString ReadsString
         (record { text = text.now; flags = settings }) pos (Err refusal)) }
 {
-    let Ok(Some(token)) = lexer_of(text, settings).scan(pos) else {
+    let Ok(Some(token)) = Lexer::with_settings(text, settings).scan(pos) else {
         return Err(Refusal::Other);
     };
     match token.kind {
@@ -61,7 +60,7 @@ pub fn name_at<'a>(
     ensures refused { IfErr result (λ refusal. Finds IsNamed ReadsName
         (record { text = text.now; flags = settings }) pos (Err refusal)) }
 {
-    let Ok(Some(token)) = lexer_of(text, settings).scan(pos) else {
+    let Ok(Some(token)) = Lexer::with_settings(text, settings).scan(pos) else {
         return Err(Refusal::Other);
     };
     match token.kind {
@@ -87,7 +86,7 @@ pub fn integer_at<'a>(
     ensures refused { IfErr result (λ refusal. Finds IsInteger ReadsInteger
         (record { text = text.now; flags = settings }) pos (Err refusal)) }
 {
-    let Ok(Some(token)) = lexer_of(text, settings).scan(pos) else {
+    let Ok(Some(token)) = Lexer::with_settings(text, settings).scan(pos) else {
         return Err(Refusal::Other);
     };
     match token.kind {
@@ -110,7 +109,7 @@ pub fn float_at<'a>(
         (refusal ≢ Refusal.Absent) × ((part : ℕ) → Finds IsFloat (ReadsFloat part)
         (record { text = text.now; flags = settings }) pos (Err refusal))) }
 {
-    let Ok(Some(token)) = lexer_of(text, settings).scan(pos) else {
+    let Ok(Some(token)) = Lexer::with_settings(text, settings).scan(pos) else {
         return Err(Refusal::Other);
     };
     match token.kind {
@@ -141,7 +140,7 @@ pub fn fault_at(text: &str, pos: usize, settings: Settings) -> Result<LexFault, 
     ensures refused { IfErr result (λ refusal. FindsFault
         (record { text = text.now; flags = settings }) pos (Err refusal)) }
 {
-    match lexer_of(text, settings).scan(pos) {
+    match Lexer::with_settings(text, settings).scan(pos) {
         Ok(_) => Err(Refusal::Other),
         Err(fault) => Ok(fault),
     }
@@ -161,7 +160,7 @@ pub fn name_fault_at(
     ensures refused { IfErr result (λ refusal. Finds IsNamed ReadsNameFault
         (record { text = text.now; flags = settings }) pos (Err refusal)) }
 {
-    let Ok(Some(token)) = lexer_of(text, settings).scan(pos) else {
+    let Ok(Some(token)) = Lexer::with_settings(text, settings).scan(pos) else {
         return Err(Refusal::Other);
     };
     match token.kind {

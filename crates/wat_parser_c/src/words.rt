@@ -104,7 +104,7 @@ fn empty_name(kind: TokenKind) -> LexError
     }
 }
 
-/// What is reported of a name that comes after so many bytes of its word and before so many.
+/// Where a name is that comes after so many bytes of its word and before so many.
 fn name_within(row: Row, kind: TokenKind, before: u32, after: u32) -> Word
     requires fits { before + after ≤ row.len }
     requires ends { row.offset + row.len < 2 ^ 32 }

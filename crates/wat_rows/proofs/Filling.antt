@@ -42,9 +42,6 @@ listed_more s from at old out count t row h b k e r = record {
   rest = rest_more old out count row b h.rest;
 }
 
-pub listed_start : (s : Setting) (from : ℕ) (old : List TokenRow) → IsCharBoundary s.text from → Listed s from from old old 0
-listed_start s from old b = record { tokens = []; tiling = refl; rows = refl; boundary = b; bound = omega arith; rest = refl }
-
 pub listed_fills : (s : Setting) (from at room : ℕ) (old out : List TokenRow) (count why : ℕ) → Listed s from at old out count
     → Stops s at room count why → Fills s from room (take count out) (record { count = count; at = at; why = why })
 listed_fills s from at room old out count why h stops = record {

@@ -1,7 +1,8 @@
 -- What a look at a row answers.
-use Rattle.std.proofs.Common.{◌≡◌, ◌≢◌, ◌≤◌, ◌<◌, ◌+◌, ◌-◌, ℕ, zero, suc, List, [], ◌∷◌, false, refl, sym, ap, ◌∙◌, subst, arith, length, drop}
+use Rattle.std.proofs.Common.{◌≡◌, ◌≢◌, ◌≤◌, ◌<◌, ◌+◌, ◌-◌, ℕ, zero, suc, List, [], ◌∷◌, false, refl, sym, ap, ◌∙◌, subst, arith, length, drop, inl, inr, true≢false, eq-eqb}
 use Rattle.std.proofs.Common.{drop-drop, length-drop, Some, None, Ok, Err}
-use Rattle.std.specs.Prelude.{Option, slice_get, IsTrue, IsFalse, ◌==◌, if◌then◌else◌}
+use Rattle.std.specs.Prelude.{Option, Result, slice_get, IsTrue, IsFalse, ◌==◌, if◌then◌else◌}
+use Rattle.std.proofs.lemmas.Bool.{cases_Bool, eqb-true}
 use Rattle.std.specs.Str.{IsUtf8}
 use Rattle.std.proofs.lemmas.List.{drop_all, drop-map}
 use Rattle.std.proofs.lemmas.Option.{slice_get_within}
@@ -24,12 +25,15 @@ use Rattle.wat_rows.specs.Looks.{Looks, Looks.token, Looks.end, Looks.fault, Loo
 use Rattle.wat_rows.specs.Places.{AreRowsOf, ending_code, raw_place}
 use Rattle.wat_rows.specs.Rows.{fault_code}
 use Rattle.wat_rows.specs.inside.Naming.{NameMeans, annotation_of, not_closed, not_shown}
+use Rattle.wat_rows.specs.inside.Steps.{Steps, step_by}
 use Rattle.wat_rows.specs.inside.Naming.{NameMeans.registered as means_registered, NameMeans.other as means_other}
 use Rattle.wat_rows.specs.inside.Naming.{NameMeans.misnamed as means_misnamed, NameMeans.memory as means_memory}
 use Rattle.wat_rows.specs.declared.counting.Row.{Row}
-use Rattle.wat_rows.specs.declared.looks.Named.{Named}
-use Rattle.wat_rows.specs.declared.looks.Named.TheVariants as named
+use Rattle.wat_rows.specs.declared.looks.NameMeaning.{NameMeaning}
+use Rattle.wat_rows.specs.declared.looks.NameMeaning.TheVariants as named
+use Rattle.wat_rows.specs.declared.answers.NotShown.{NotShown}
 use Rattle.wat_rows.specs.declared.answers.NotShown.TheVariants as unseen
+use Rattle.wat_rows.specs.declared.looks.Step.TheVariants as step
 use Rattle.wat_rows.proofs.CodedGroups.{codes_closed, tokens_closed}
 use Rattle.wat_rows.proofs.Coding.{code_annotation, code_marked, code_of, codes, marked_kind}
 use Rattle.wat_rows.proofs.Fronts.{front, none_past}
@@ -39,27 +43,27 @@ use Rattle.wat_rows.proofs.RawPlaces.{counts}
 use Rattle.wat_rows.proofs.Known.{Tells, annotation_known, code_known, codes_known, length_known, tells}
 
 -- what each answer on a name says
-pub is_taken : (x : List ℕ) (t : Token) (n : Names) (m : Named) → NameMeans x t n m → m ≡ named.Registered
+pub is_taken : (x : List ℕ) (t : Token) (n : Names) (m : NameMeaning) → NameMeans x t n m → m ≡ named.Registered
     → (bytes : List ℕ) × HasName x t bytes × IsTrue (is_registered n bytes)
 is_taken x t n m (means_registered {x = bytes} h i) e = (bytes, h, i)
 is_taken x t n m (means_other h i) e = cc
 is_taken x t n m (means_misnamed w) e = cc
 is_taken x t n m (means_memory w) e = cc
 
-pub is_skipped : (x : List ℕ) (t : Token) (n : Names) (m : Named) → NameMeans x t n m → m ≡ named.Other
+pub is_skipped : (x : List ℕ) (t : Token) (n : Names) (m : NameMeaning) → NameMeans x t n m → m ≡ named.Other
     → (bytes : List ℕ) × HasName x t bytes × IsFalse (is_registered n bytes)
 is_skipped x t n m (means_registered h i) e = cc
 is_skipped x t n m (means_other {x = bytes} h i) e = (bytes, h, i)
 is_skipped x t n m (means_misnamed w) e = cc
 is_skipped x t n m (means_memory w) e = cc
 
-pub is_refused : (x : List ℕ) (t : Token) (n : Names) (m : Named) → NameMeans x t n m → m ≡ named.Misnamed → (f : LexError) × IsMisnamed x t f
+pub is_refused : (x : List ℕ) (t : Token) (n : Names) (m : NameMeaning) → NameMeans x t n m → m ≡ named.Misnamed → (f : LexError) × IsMisnamed x t f
 is_refused x t n m (means_registered h i) e = cc
 is_refused x t n m (means_other h i) e = cc
 is_refused x t n m (means_misnamed {e = f} w) e = (f, w)
 is_refused x t n m (means_memory w) e = cc
 
-pub is_escaped : (x : List ℕ) (t : Token) (n : Names) (m : Named) (a : AllocError) → NameMeans x t n m → m ≡ named.Memory a
+pub is_escaped : (x : List ℕ) (t : Token) (n : Names) (m : NameMeaning) (a : AllocError) → NameMeans x t n m → m ≡ named.Memory a
     → HasNoEscape (word_of x t) → ⊥
 is_escaped x t n m a (means_registered h i) e = cc
 is_escaped x t n m a (means_other h i) e = cc
@@ -84,6 +88,9 @@ numbered lex.InvalidUtf8Id = refl
 numbered lex.EmptyId = refl
 numbered lex.EmptyAnnotation = refl
 
+linked : (link : ℕ) → (link == 0) ≡ false → link ≢ 0
+linked link f z = true≢false (sym (eq-eqb link 0 z) ∙ f)
+
 pub link_forward : (s : Source) (rows : List Row) (why number : ℕ) (row : Row) → AreRowsOf s rows why → slice_get rows number ≡ Some row
     → row.link ≢ 0 → number < row.link
 link_forward s rows why number row are there n = (elim row.link as (λ l. IsLink (codes_of rows) number l → l ≢ 0 → number < l) [
@@ -92,41 +99,40 @@ link_forward s rows why number row are there n = (elim row.link as (λ l. IsLink
 ]) (are.linked number row (omega arith) there) n
 
 module _ (some : SomethingShown) (one : OneThingShown) (same : CountingShowsTheSame) (s : Source) (utf8 : IsUtf8 s.setting.text) (rows : List Row)
-    (why : ℕ) (are : AreRowsOf s rows why) (n : Names)
-    (place number : ℕ) (on : place ≤ number) (to : look_in s n place ≡ look_in s n number) where
+    (why : ℕ) (are : AreRowsOf s rows why) (n : Names) (number : ℕ) where
   abbrev cs : List Token
   cs = counting s.tokens
 
-  shown_as : (a : Finding) → look_in s n number ≡ a → shown_after s place n ≡ lifted s.tokens a
-  shown_as a e = shown_lifted some one same s utf8 are.read n place ∙ ap (lifted s.tokens) (to ∙ e)
+  shown_as : (a : Finding) → look_in s n number ≡ a → shown_after s number n ≡ lifted s.tokens a
+  shown_as a e = shown_lifted some one same s utf8 are.read n number ∙ ap (lifted s.tokens) e
 
-  answer_token : (t : Token) → slice_get cs number ≡ Some t → look_in s n number ≡ Ok (Some (t, drop (number + 1) cs)) → Looks s place n (Ok number)
+  answer_token : (t : Token) → slice_get cs number ≡ Some t → look_in s n number ≡ Ok (Some (t, drop (number + 1) cs)) → Looks s number n (Ok number)
   answer_token t h e =
       let k : length cs - length (drop (number + 1) cs) ≡ number + 1 = omega (arith, slice_get_within cs number t h, length-drop (number + 1) cs) in
       token h (shown_as (Ok (Some (t, drop (number + 1) cs))) e ∙ ap (λ m. Ok (Some (t, raw_place s.tokens m))) k)
 
-  ended_by : (z : Option LexFault) → s.ending ≡ z → why ≡ ending_code z → shown_after s place n ≡ lifted s.tokens (ended z)
-      → Looks s place n (Err (not_shown why))
-  ended_by None e f h = subst (λ w. Looks s place n (Err (not_shown w))) (sym f) (end e h)
+  ended_by : (z : Option LexFault) → s.ending ≡ z → why ≡ ending_code z → shown_after s number n ≡ lifted s.tokens (ended z)
+      → Looks s number n (Err (not_shown why))
+  ended_by None e f h = subst (λ w. Looks s number n (Err (not_shown w))) (sym f) (end e h)
   ended_by (Some z) e f h =
-      subst (λ w. Looks s place n (Err (not_shown w))) (sym f)
-      (subst (λ b. Looks s place n (Err (if b then unseen.TextEnd else unseen.TextFault))) (sym (numbered z.error)) (fault e h))
+      subst (λ w. Looks s number n (Err (not_shown w))) (sym f)
+      (subst (λ b. Looks s number n (Err (if b then unseen.TextEnd else unseen.TextFault))) (sym (numbered z.error)) (fault e h))
 
-  answer_ended : look_in s n number ≡ ended s.ending → Looks s place n (Err (not_shown why))
+  answer_ended : look_in s n number ≡ ended s.ending → Looks s number n (Err (not_shown why))
   answer_ended e = ended_by s.ending refl are.ends (shown_as (ended s.ending) e)
 
   left_by : (z : Option LexFault) (t : Token) → s.ending ≡ z → why ≡ ending_code z → slice_get cs number ≡ Some t → IsMarked s.setting.text t
-      → shown_after s place n ≡ lifted s.tokens (left_open z t) → Looks s place n (Err (not_closed why number))
-  left_by None t e f k m h = subst (λ w. Looks s place n (Err (not_closed w number))) (sym f) (unclosed e k m h)
+      → shown_after s number n ≡ lifted s.tokens (left_open z t) → Looks s number n (Err (not_closed why number))
+  left_by None t e f k m h = subst (λ w. Looks s number n (Err (not_closed w number))) (sym f) (unclosed e k m h)
   left_by (Some z) t e f k m h =
-      subst (λ w. Looks s place n (Err (not_closed w number))) (sym f)
-      (subst (λ b. Looks s place n (Err (if b then unseen.Unclosed number else unseen.TextFault))) (sym (numbered z.error)) (fault e h))
+      subst (λ w. Looks s number n (Err (not_closed w number))) (sym f)
+      (subst (λ b. Looks s number n (Err (if b then unseen.Unclosed number else unseen.TextFault))) (sym (numbered z.error)) (fault e h))
 
   by_shown : (a : Finding) → Shown s.setting.text s.ending n (drop number cs) a → look_in s n number ≡ a
   by_shown a h = sym (one s.setting.text s.ending n (drop number cs) a h)
 
   -- no row has the number
-  pub answer_past : slice_get rows number ≡ None → Looks s place n (Err (not_shown why))
+  pub answer_past : slice_get rows number ≡ None → Looks s number n (Err (not_shown why))
   answer_past e =
       let k = drop_all number cs (omega (arith, none_past rows number e, length_known s.setting.text rows cs are.known)) in
       answer_ended (by_shown (ended s.ending) (subst (λ r. Shown s.setting.text s.ending n r (ended s.ending)) (sym k) none_left))
@@ -135,7 +141,7 @@ module _ (some : SomethingShown) (one : OneThingShown) (same : CountingShowsTheS
     abbrev at_row : Tells s.setting.text cs number row
     at_row = tells s.setting.text rows cs number row are.known there
 
-    pub answer_plain : PlainTokensAreShown → row.kind.code ≢ 16 → Looks s place n (Ok number)
+    pub answer_plain : PlainTokensAreShown → row.kind.code ≢ 16 → Looks s number n (Ok number)
     answer_plain plain other =
         let t = at_row.token in
         let unmarked : IsMarked s.setting.text t
@@ -149,7 +155,7 @@ module _ (some : SomethingShown) (one : OneThingShown) (same : CountingShowsTheS
       marked = let k = marked_kind s.setting.text at_row.token at_row.token.kind (sym (code_known s.setting.text cs number row at_row)
           ∙ code) in (k.0, k.1)
 
-      pub answer_last : slice_get rows (number + 1) ≡ None → Looks s place n (Err (not_shown why))
+      pub answer_last : slice_get rows (number + 1) ≡ None → Looks s number n (Err (not_shown why))
       answer_last e =
           let t = at_row.token in
           let k = drop_all (number + 1) cs (omega (arith, none_past rows (number + 1) e, length_known s.setting.text rows cs are.known)) in
@@ -168,39 +174,38 @@ module _ (some : SomethingShown) (one : OneThingShown) (same : CountingShowsTheS
             by_shown (a (drop (number + 1) cs)) (subst (λ r. Shown s.setting.text s.ending n r (a (drop (number + 1) cs))) (sym
             (front cs number at_row.token at_row.there)) k)
 
-        pub answer_other : word.kind.code ≢ 9 → Looks s place n (Ok number)
+        pub answer_other : word.kind.code ≢ 9 → Looks s number n (Ok number)
         answer_other other =
             answer_token at_row.token at_row.there (two (λ r. Ok (Some (at_row.token, r))) (takes_other marked (λ e. other
             (code_known s.setting.text cs (number + 1) word at_word ∙ code_annotation s.setting.text at_word.token e))))
 
-        module _ (nine : word.kind.code ≡ 9) (m : Named) (given : NameMeans s.setting.text (annotation_of word) n m) where
+        module _ (nine : word.kind.code ≡ 9) (m : NameMeaning) (given : NameMeans s.setting.text (annotation_of word) n m) where
           means : NameMeans s.setting.text at_word.token n m
           means = subst (λ t. NameMeans s.setting.text t n m) (annotation_known s.setting.text cs (number + 1) word at_word nine) given
 
-          pub answer_taken : m ≡ named.Registered → Looks s place n (Ok number)
+          pub answer_taken : m ≡ named.Registered → Looks s number n (Ok number)
           answer_taken e =
               let k = is_taken s.setting.text at_word.token n m means e in
               answer_token at_row.token at_row.there (two (λ r. Ok (Some (at_row.token, r))) (takes marked k.1 k.2))
 
-          pub answer_refused : m ≡ named.Misnamed → Looks s place n (Err (unseen.Misnamed (number + 1)))
+          pub answer_refused : m ≡ named.Misnamed → Looks s number n (Err (unseen.Misnamed (number + 1)))
           answer_refused e =
               let k = is_refused s.setting.text at_word.token n m means e in
               let a = Err (record { offset = at_word.token.offset; kind = Lex k.0 }) in
               misnamed at_word.there k.1 (shown_as a (two (λ r. a) (refuses marked k.1)))
 
-          pub answer_memory : (a : AllocError) → m ≡ named.Memory a → Looks s place n (Err (unseen.Memory a))
+          pub answer_memory : (a : AllocError) → m ≡ named.Memory a → Looks s number n (Err (unseen.Memory a))
           answer_memory a e = memory (record {
             number = number;
             paren = at_row.token;
             word = at_word.token;
-            on = on;
+            on = omega arith;
             opens = at_row.there;
             marked = marked;
             after = at_word.there;
             annotation = sym (ap (λ (t : Token). t.kind) (annotation_known s.setting.text cs (number + 1) word at_word nine));
             escape = is_escaped s.setting.text at_word.token n m a means e;
-            same = shown_lifted some one same s utf8 are.read n place ∙ ap (lifted s.tokens) to
-                ∙ sym (shown_lifted some one same s utf8 are.read n number);
+            same = refl;
           })
 
           link : IsLink (codes s.setting.text cs) number row.link
@@ -224,15 +229,46 @@ module _ (some : SomethingShown) (one : OneThingShown) (same : CountingShowsTheS
           at_front : (r : List Token → Type 0) → r (drop (number + 1) cs) → r (at_word.token ∷ drop (number + 1 + 1) cs)
           at_front r h = subst r (front cs (number + 1) at_word.token at_word.there) h
 
-          pub answer_unclosed : m ≡ named.Other → row.link ≡ 0 → Looks s place n (Err (not_closed why number))
+          pub answer_unclosed : m ≡ named.Other → row.link ≡ 0 → Looks s number n (Err (not_closed why number))
           answer_unclosed e z =
               let k = is_skipped s.setting.text at_word.token n m means e in
               let h = leaves_open marked k.1 k.2 (at_front NoGroup (no_group z)) in
               left_by s.ending at_row.token refl are.ends at_row.there marked (shown_as (left_open s.ending at_row.token) (two
               (λ r. left_open s.ending at_row.token) h))
 
-          pub look_after : m ≡ named.Other → row.link ≢ 0 → look_in s n place ≡ look_in s n row.link
-          look_after e z =
+          go_on : m ≡ named.Other → row.link ≢ 0 → shown_after s number n ≡ shown_after s row.link n
+          go_on e z =
               let k = is_skipped s.setting.text at_word.token n m means e in
               let g = at_front (λ r. Group r (drop row.link cs)) (group_by row.link link z) in
-              to ∙ two (λ r. look_in s n row.link) (skips marked k.1 k.2 g (shows some one same s utf8 are.read n row.link))
+              shown_as (look_in s n row.link) (two (λ r. look_in s n row.link) (skips marked k.1 k.2 g (shows some one same s utf8 are.read n row.link)))
+              ∙ sym (shown_lifted some one same s utf8 are.read n row.link)
+
+          pub steps_by : (k : NameMeaning) → m ≡ k → Steps s number n (step_by number row why k)
+          steps_by named.Registered e = answer_taken e
+          steps_by named.Misnamed e = answer_refused e
+          steps_by (named.Memory refused) e = answer_memory refused e
+          steps_by named.Other e = elim (cases_Bool (row.link == 0)) [
+            | inl z ↦ subst (λ b. Steps s number n (if b then step.Answer (Err (not_closed why number)) else step.Skip row.link)) (sym z) (answer_unclosed e (eqb-true row.link 0 z))
+            | inr f ↦ subst (λ b. Steps s number n (if b then step.Answer (Err (not_closed why number)) else step.Skip row.link)) (sym f) (go_on e (linked row.link f))
+          ]
+
+-- a look that answers from a later row where the same is shown
+pub looks_before : (s : Source) (n : Names) (place number : ℕ) (a : Result ℕ NotShown) → place ≤ number → shown_after s place n ≡ shown_after s number n
+    → Looks s number n a → Looks s place n a
+looks_before s n place number a on e (token h k) = token h (e ∙ k)
+looks_before s n place number a on e (end h k) = end h (e ∙ k)
+looks_before s n place number a on e (fault h k) = fault h (e ∙ k)
+looks_before s n place number a on e (unclosed h i m k) = unclosed h i m (e ∙ k)
+looks_before s n place number a on e (misnamed h m k) = misnamed h m (e ∙ k)
+looks_before s n place number a on e (memory m) = memory (record {
+  number = m.number;
+  paren = m.paren;
+  word = m.word;
+  on = omega (arith, on, m.on);
+  opens = m.opens;
+  marked = m.marked;
+  after = m.after;
+  annotation = m.annotation;
+  escape = m.escape;
+  same = e ∙ m.same;
+})

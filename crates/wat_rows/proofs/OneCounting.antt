@@ -7,7 +7,7 @@ use Rattle.wat_lex.specs.tokens.Setting.{Setting}
 use Rattle.wat_lex.specs.tokens.Tiling.{TokenAt, Tiling}
 use Rattle.wat_lex.specs.tokens.UniqueTilings.{AnswerAt}
 use Rattle.wat_lex.specs.declared.lexer.kinds.Token.{Token}
-use Rattle.wat_lexer_parser.specs.groups.Sorts.{is_blank}
+use Rattle.wat_lex.specs.tokens.Blanks.{is_blank}
 use Rattle.wat_lexer_parser.specs.laws.Counting.{counting}
 use Rattle.wat_rows.specs.Counting.{EndsCounting, OneFillCounting, StopsCounting, StopsCounting.ended, StopsCounting.full, StopsCounting.faulty}
 use Rattle.wat_rows.specs.Counting.{row_of}

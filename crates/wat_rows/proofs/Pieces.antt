@@ -1,5 +1,5 @@
 -- Rows of a text that was read in pieces.
-use Rattle.std.proofs.Common.{◌≡◌, ◌≢◌, ◌+◌, ◌++◌, ℕ, zero, suc, List, [], ◌∷◌, false, refl, sym, ap, ◌∙◌, subst, inl, inr, arith, Some, None}
+use Rattle.std.proofs.Common.{◌≡◌, ◌≢◌, ◌+◌, ◌++◌, ℕ, zero, suc, List, [], ◌∷◌, false, refl, sym, ap, ◌∙◌, subst, inl, inr, Some, None}
 use Rattle.std.specs.Prelude.{Option, map, slice_get}
 use Rattle.std.specs.Str.{IsUtf8, IsCharBoundary}
 use Rattle.std.proofs.lemmas.Bool.{cases_Bool}
@@ -10,7 +10,7 @@ use Rattle.wat_lex.specs.tokens.Setting.{Setting}
 use Rattle.wat_lex.specs.tokens.Tiling.{EndsAt, Tiling, TokenAt}
 use Rattle.wat_lex.specs.declared.lexer.faults.LexFault.{LexFault}
 use Rattle.wat_lex.specs.declared.lexer.kinds.Token.{Token}
-use Rattle.wat_lexer_parser.specs.groups.Sorts.{is_blank}
+use Rattle.wat_lex.specs.tokens.Blanks.{is_blank}
 use Rattle.wat_lexer_parser.specs.laws.Counting.{CountingShowsTheSame, PlainTokensAreShown, counting}
 use Rattle.wat_lexer_parser.specs.shown.Showing.{OneThingShown, SomethingShown}
 use Rattle.wat_rows.specs.Counting.{StopsCounting, StopsCounting.ended, StopsCounting.full, StopsCounting.faulty, row_of}
@@ -141,4 +141,4 @@ rows_tell_tokens ends s rows number row utf8 h e =
 
 pub plain_rows_are_shown : SomethingShown → OneThingShown → CountingShowsTheSame → PlainTokensAreShown → PlainRowsAreShown
 plain_rows_are_shown some one same plain s rows why number row names utf8 are there other =
-    answer_plain some one same s utf8 rows why are names number number (omega arith) refl row there plain other
+    answer_plain some one same s utf8 rows why are names number row there plain other

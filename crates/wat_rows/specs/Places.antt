@@ -3,7 +3,7 @@
 use Rattle.std.specs.Prelude.{◌≡◌, ℕ, zero, suc, List, [], ◌∷◌, map, if◌then◌else◌, Option, Some, None}
 use Rattle.wat_lex.specs.declared.lexer.faults.LexFault.{LexFault}
 use Rattle.wat_lex.specs.declared.lexer.kinds.Token.{Token}
-use Rattle.wat_lexer_parser.specs.groups.Sorts.{is_blank}
+use Rattle.wat_lex.specs.tokens.Blanks.{is_blank}
 use Rattle.wat_lexer_parser.specs.places.Source.{Source, IsRead}
 use Rattle.wat_lexer_parser.specs.laws.Counting.{counting}
 use Rattle.wat_rows.specs.Counting.{row_of}

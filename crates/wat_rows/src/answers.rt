@@ -1,5 +1,5 @@
-//! What a look answers. Its fields are private, so that each look is made here, and tells want of
-//! memory only of a refusal in hand.
+//! What a look answers. Its fields are private, so that each look is made here, and answers out of
+//! memory only with a refusal in hand.
 ghost use Rattle.std.specs.Prelude.{◌≡◌, ◌<◌, ◌^◌};
 ghost use Rattle.wat_rows.specs.Looks.{look_row};
 ghost use Rattle.wat_rows.specs.inside.Naming.{IsWithin};

@@ -4,10 +4,10 @@ ghost use Rattle.std.specs.Str.{IsCharBoundary};
 ghost use Rattle.wat_rows.specs.Rows.{FoundAt, TokenFoundAt};
 ghost use Rattle.wat_rows.specs.declared.rows.Found.{Found as FoundRow};
 
-use crate::one_byte::alone;
-use crate::rows::{TokenRow, found_row, lexer_of};
+use crate::one_byte::one_byte_token;
+use crate::rows::{TokenRow, found_row};
 use wat_lex::laws::one_answer;
-use wat_lex::lexer::Settings;
+use wat_lex::lexer::{Lexer, Settings};
 
 /// The token of what is at a place. Its length is 0 where the text ends or has a fault.
 // Neither way is a call, as a row that a call writes would be read back from memory.
@@ -20,8 +20,8 @@ pub fn token_at(text: &str, pos: usize, settings: Settings) -> TokenRow
         FoundAt (record { text = text.now; flags = settings }) pos row → row.token ≡ result }
 {
     one_answer();
-    match alone(text, pos) {
+    match one_byte_token(text, pos) {
         Some(row) => row,
-        None => found_row(pos, lexer_of(text, settings).scan(pos)).token,
+        None => found_row(pos, Lexer::with_settings(text, settings).scan(pos)).token,
     }
 }

@@ -1,11 +1,10 @@
 //! Rows of the tokens that count: of no white space and no comment.
 ghost use Rattle.std.specs.Prelude.{◌≡◌, ◌≤◌, ◌<◌, ◌^◌, ◌+◌, length, take, drop};
 ghost use Rattle.std.specs.Str.{IsCharBoundary};
-ghost use Rattle.wat_lexer_parser.specs.groups.Sorts.{is_blank, is_marked};
 ghost use Rattle.wat_rows.specs.Counting.{FillsCounting, kind_beside, row_of};
 
-use crate::rows::{Filled, KindRow, fault_code, kind_row, lexer_of, plain};
-use wat_lex::lexer::{Settings, Token, TokenKind};
+use crate::rows::{Filled, KindRow, fault_code, kind_row, plain};
+use wat_lex::lexer::{Lexer, Settings, Token, TokenKind};
 
 /// A token that counts, in 16 bytes.
 #[repr(C)]
@@ -21,35 +20,14 @@ pub struct Row {
     pub link: u32,
 }
 
-/// Whether tokens of the kind do not count.
-fn is_blank(kind: TokenKind) -> bool
-    ensures { result ≡ is_blank kind }
-{
-    match kind {
-        TokenKind::Whitespace | TokenKind::LineComment | TokenKind::BlockComment => true,
-        _ => false,
-    }
-}
-
-/// Whether the byte after the token's first is `@`.
-fn is_marked(text: &str, token: Token) -> bool
-    requires { token.offset < 2 ^ 32 }
-    ensures { result ≡ is_marked text.now token }
-{
-    match text.as_bytes().get(token.offset + 1) {
-        Some(byte) => *byte == b'@',
-        None => false,
-    }
-}
-
-/// A token's kind, which tells a `(` with `@` directly after it.
+/// The row of a token's kind. A `(` with `@` directly after it has a kind of its own.
 fn kind_beside(text: &str, token: Token) -> KindRow
     requires { token.offset < 2 ^ 32 }
     ensures { result ≡ kind_beside text.now token token.kind }
 {
     match token.kind {
         TokenKind::LParen => {
-            if is_marked(text, token) {
+            if token.is_marked(text) {
                 plain(16)
             } else {
                 kind_row(token.kind)
@@ -83,14 +61,14 @@ pub fn fill_counting(text: &str, pos: usize, settings: Settings, out: &mut [Row]
     ensures count { result.count ≤ length out.old }
     ensures rest { drop result.count out.new ≡ drop result.count out.old }
 {
-    let lexer = lexer_of(text, settings);
+    let lexer = Lexer::with_settings(text, settings);
     let mut at = pos;
     let mut count = 0;
     'rows: while count < out.len() {
         match lexer.scan(at) {
             Ok(Some(token)) => {
                 at = token.offset + token.len as usize;
-                if is_blank(token.kind) {
+                if token.kind.is_blank() {
                     continue 'rows;
                 }
                 out[count] = row_of(text, token);

@@ -3,9 +3,9 @@ ghost use Rattle.std.specs.Prelude.{◌≡◌, ◌≤◌, ◌<◌, ◌^◌, leng
 ghost use Rattle.std.specs.Str.{IsCharBoundary};
 ghost use Rattle.wat_rows.specs.Rows.{Fills};
 
-use crate::one_byte::alone;
-use crate::rows::{Filled, TokenRow, fault_code, lexer_of, token_row};
-use wat_lex::lexer::Settings;
+use crate::one_byte::one_byte_token;
+use crate::rows::{Filled, TokenRow, fault_code, token_row};
+use wat_lex::lexer::{Lexer, Settings};
 
 /// Writes the tokens from a byte of the text on, as many as there are or as there is room for.
 pub fn fill(text: &str, pos: usize, settings: Settings, out: &mut [TokenRow]) -> Filled
@@ -17,11 +17,11 @@ pub fn fill(text: &str, pos: usize, settings: Settings, out: &mut [TokenRow]) ->
     ensures count { result.count ≤ length out.old }
     ensures rest { drop result.count out.new ≡ drop result.count out.old }
 {
-    let lexer = lexer_of(text, settings);
+    let lexer = Lexer::with_settings(text, settings);
     let mut at = pos;
     let mut count = 0;
     'rows: while count < out.len() {
-        if let Some(row) = alone(text, at) {
+        if let Some(row) = one_byte_token(text, at) {
             out[count] = row;
             count += 1;
             at += 1;

@@ -6,6 +6,7 @@ ghost use Rattle.wat_lexer_parser.specs.names.RegisteredNames.{is_registered};
 ghost use Rattle.wat_lexer_parser.specs.places.Source.{Source};
 ghost use Rattle.wat_rows.specs.Looks.{Looks, LooksInNumbers, names_of};
 ghost use Rattle.wat_rows.specs.inside.Naming.{IsWithin, NameMeans, annotation_of, is_between, not_closed, not_shown};
+ghost use Rattle.wat_rows.specs.inside.Steps.{IsStepWithin, Steps, step_by};
 ghost use Rattle.wat_rows.specs.Places.{AreRowsOf, RowsOf};
 
 use crate::answers::{Look, NotShown};
@@ -16,7 +17,7 @@ use wat_lex::lexer::{Token, TokenKind};
 
 /// What the name of an annotation means.
 #[derive(Clone, Copy)]
-enum Named {
+enum NameMeaning {
     Registered,
     Other,
     Misnamed,
@@ -45,7 +46,7 @@ fn is_registered(name: &[u8], names: &[u8], ends: &[usize]) -> bool
 }
 
 /// What the name of the annotation means.
-fn meaning_of(alloc: Global, text: &str, token: Token, names: &[u8], ends: &[usize]) -> Named
+fn meaning_of(alloc: Global, text: &str, token: Token, names: &[u8], ends: &[usize]) -> NameMeaning
     requires token { IsTokenOf text.now token }
     requires kind { token.kind ≡ Annotation }
     ensures { NameMeans text.now token (names_of names.now ends.now) result }
@@ -53,13 +54,13 @@ fn meaning_of(alloc: Global, text: &str, token: Token, names: &[u8], ends: &[usi
     match token.name(alloc, text) {
         Ok(Ok(name)) => {
             if is_registered(name.as_str().as_bytes(), names, ends) {
-                Named::Registered
+                NameMeaning::Registered
             } else {
-                Named::Other
+                NameMeaning::Other
             }
         }
-        Ok(Err(_)) => Named::Misnamed,
-        Err(refused) => Named::Memory(refused),
+        Ok(Err(_)) => NameMeaning::Misnamed,
+        Err(refused) => NameMeaning::Memory(refused),
     }
 }
 
@@ -96,6 +97,66 @@ fn not_closed(why: u32, number: usize) -> NotShown
     }
 }
 
+/// What a look does at a row.
+#[derive(Clone, Copy)]
+enum Step {
+    /// It answers so.
+    Answer(Result<usize, NotShown>),
+    /// It goes on from the row of this number.
+    Skip(usize),
+}
+
+/// What a look does at a `(@`, by what the name after it means.
+fn step_by(number: usize, row: Row, why: u32, meaning: NameMeaning) -> Step
+    requires { number < 2 ^ 63 }
+    ensures { result ≡ step_by number row why meaning }
+{
+    match meaning {
+        NameMeaning::Registered => Step::Answer(Ok(number)),
+        NameMeaning::Misnamed => Step::Answer(Err(NotShown::Misnamed(number + 1))),
+        NameMeaning::Memory(refused) => Step::Answer(Err(NotShown::Memory(refused))),
+        NameMeaning::Other if row.link == 0 => Step::Answer(Err(not_closed(why, number))),
+        NameMeaning::Other => Step::Skip(row.link as usize),
+    }
+}
+
+/// What a look does at the row of a number.
+// Most rows are answered by their code, without a call.
+#[inline(always)]
+fn step_at(
+    alloc: Global,
+    text: &str,
+    rows: &[Row],
+    why: u32,
+    number: usize,
+    names: &[u8],
+    ends: &[usize],
+) -> Step
+    requires short { length text.now < 2 ^ 32 }
+    requires rows { RowsOf text.now rows.now why }
+    ensures steps { (s : Source) → s.setting.text ≡ text.now → AreRowsOf s rows.now why →
+        Steps s number (names_of names.now ends.now) result }
+    ensures within { IsStepWithin (length rows.now) number result }
+{
+    wat_lex::laws::tokens();
+    wat_lexer_parser::laws::shown();
+    wat_lexer_parser::laws::counting();
+    let Some(row) = row_at(rows, number) else {
+        return Step::Answer(Err(not_shown(why)));
+    };
+    if row.kind.code != 16 {
+        return Step::Answer(Ok(number));
+    }
+    let Some(word) = row_at(rows, number + 1) else {
+        return Step::Answer(Err(not_shown(why)));
+    };
+    if word.kind.code != 9 {
+        return Step::Answer(Ok(number));
+    }
+    let meaning = meaning_of(alloc, text, annotation_of(word), names, ends);
+    step_by(number, row, why, meaning)
+}
+
 /// The number of the row that is shown from the row of a number on, under the names that are between the ends. `why` is 0 where the
 /// text ends after the rows, otherwise the number of its fault. It takes memory only where an escape is in an annotation's name.
 pub fn look_at(
@@ -113,29 +174,13 @@ pub fn look_at(
         Looks s place (names_of names.now ends.now) result }
     ensures within { IsWithin (length rows.now) result }
 {
-    wat_lex::laws::tokens();
-    wat_lexer_parser::laws::shown();
-    wat_lexer_parser::laws::counting();
     let mut number = place;
-    'rows: while let Some(row) = row_at(rows, number) {
-        if row.kind.code != 16 {
-            return Ok(number);
-        }
-        let Some(word) = row_at(rows, number + 1) else {
-            return Err(not_shown(why));
-        };
-        if word.kind.code != 9 {
-            return Ok(number);
-        }
-        match meaning_of(alloc, text, annotation_of(word), names, ends) {
-            Named::Registered => return Ok(number),
-            Named::Misnamed => return Err(NotShown::Misnamed(number + 1)),
-            Named::Memory(refused) => return Err(NotShown::Memory(refused)),
-            Named::Other if row.link == 0 => return Err(not_closed(why, number)),
-            Named::Other => number = row.link as usize,
+    'rows: loop {
+        match step_at(alloc, text, rows, why, number, names, ends) {
+            Step::Answer(answer) => return answer,
+            Step::Skip(next) => number = next,
         }
     }
-    Err(not_shown(why))
 }
 
 /// What [`look_at`] answers, in numbers.

@@ -63,10 +63,10 @@ fn row_alone(byte: u8, at: usize) -> TokenRow
     }
 }
 
-/// The row of the token of one byte at a place, where its first two bytes tell that one is there.
+/// The row of the token of one byte at a place, where its first two bytes say that one is there.
 // Found so, a token of one byte takes half of the instructions of a scan.
 #[inline(always)]
-pub fn alone(text: &str, at: usize) -> Option<TokenRow>
+pub fn one_byte_token(text: &str, at: usize) -> Option<TokenRow>
     requires short { length text.now < 2 ^ 32 }
     requires boundary { IsCharBoundary text.now at }
     ensures { IfSome result (IsRowAlone text.now at) }

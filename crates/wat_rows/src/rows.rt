@@ -1,10 +1,10 @@
 //! What C sees of a token, of the text's end and of a fault.
-ghost use Rattle.std.specs.Prelude.{◌≡◌, ◌<◌, ◌≤◌, ◌^◌, ◌+◌, length};
+ghost use Rattle.std.specs.Prelude.{◌≡◌, ◌<◌, ◌≤◌, ◌+◌};
 ghost use Rattle.std.specs.Str.{IsCharBoundary};
 ghost use Rattle.wat_rows.specs.Rows.{float_row, kind_row, sign_code, minus_code, plain, token_row};
 ghost use Rattle.wat_rows.specs.Rows.{place_row, fault_code, fault_found, fault_wanted, found_row};
 
-use wat_lex::lexer::{FloatKind, LexError, LexFault, Lexer, Settings, SignToken, Token, TokenKind};
+use wat_lex::lexer::{FloatKind, LexError, LexFault, SignToken, Token, TokenKind};
 
 /// A token's kind, and what it says of a number token.
 #[repr(C)]
@@ -265,16 +265,4 @@ pub fn found_row(pos: usize, answer: Result<Option<Token>, LexFault>) -> Found
             wanted: 0,
         },
     }
-}
-
-/// The lexer over a text with these settings.
-pub fn lexer_of<'a>(text: &'a str, settings: Settings) -> Lexer<'a>
-    requires { length text.now < 2 ^ 32 }
-    ensures { result ≡ record { text = text.now; flags = settings } }
-{
-    let mut lexer = Lexer::new(text);
-    lexer
-        .allow_confusing_unicode(settings.allow)
-        .strict_underscores(settings.strict);
-    lexer
 }

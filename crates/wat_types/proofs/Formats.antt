@@ -20,7 +20,7 @@ number_type v w rest = choice (a_keyword w) (quoted false w) (mapped (λ at. v) 
 unfoldable pub val : Format ValType
 val = one_of (number_type I32 (codes "i32") (number_type I64 (codes "i64") (number_type F32 (codes "f32") (number_type F64 (codes "f64") nothing_else))))
 
-pub val_takes : val.takes ≡ true
+pub val_takes : val.takes_token ≡ true
 unfolding val
 val_takes = refl
 

@@ -14,7 +14,7 @@ use Rattle.wat_lex.specs.declared.lexer.kinds.TokenKind.TheVariants.{Keyword, Id
 use Rattle.wat_lexer_parser.specs.groups.Sorts.{is_close}
 use Rattle.wat_lexer_parser.specs.parser.Takers.{as_id, as_keyword, name_or_report, name_takes}
 use Rattle.wat_lexer_parser.specs.readings.Types.{Spelled, spelling, as_owned_id, named_by}
-use Rattle.wat_lexer_parser.specs.rules.Rules.{Ground, Rule, Telling, One, one, Group, While, known_word, tells_kind, tells_second, tells_more}
+use Rattle.wat_lexer_parser.specs.rules.Rules.{Ground, Rule, Telling, One, one, InGroup, While, known_word, tells_kind, tells_second, tells_more}
 use Rattle.wat_lexer_parser.specs.rules.Rules as rules
 use Rattle.wat_types.proofs.Formats.{val, vals, name, named_or_all, param, returns, func, definition, module_types}
 use Rattle.wat_types.specs.Signatures.{Signature}
@@ -109,13 +109,13 @@ vals_is : (g : Ground) (ts : List Token) (vs : List ValType) (r : List Token) �
 vals_is g ts vs r w = star_of g tells_more val.rule (Val g.text) (val_is g) ts vs r w
 
 -- (result val*)
-returns_is : (g : Ground) (ts : List Token) (vs : List ValType) (r : List Token) → Group returns.rule g ts vs r → Returns g.text ts vs r
+returns_is : (g : Ground) (ts : List Token) (vs : List ValType) (r : List Token) → InGroup returns.rule g ts vs r → Returns g.text ts vs r
 unfolding returns
 returns_is g _ vs r (rules.group {o = o} {c = c} {ts = ts} opens h closes) =
     let w = word_of_rule g (codes "result") ts h.0 h.1 h.2 in
     subst (λ ts. Returns g.text (o ∷ ts) vs r) w.1 (returned opens w.2 (vals_is g h.1 vs (c ∷ r) h.3) closes)
 
-is_returns : (g : Ground) (ts : List Token) (vs : List ValType) (r : List Token) → Returns g.text ts vs r → Group returns.rule g ts vs r × (tells_more g ts ≡ Ok true)
+is_returns : (g : Ground) (ts : List Token) (vs : List ValType) (r : List Token) → Returns g.text ts vs r → InGroup returns.rule g ts vs r × (tells_more g ts ≡ Ok true)
 unfolding returns
 is_returns g _ vs r (returned {w = w} {c = c} {ts = ts} opens h vals closes) =
     (rules.group opens (w.offset, ts, rule_of_word g (codes "result") w ts h, while_of g tells_more val.rule (Val g.text) (λ ts v r k. (is_val g ts v r k, val_more g ts v r k)) ts vs (c ∷ r) (ap (λ k. Ok (not (is_close k))) closes) vals) closes, ap (λ k. Ok (not (is_close k))) opens)
@@ -159,14 +159,14 @@ param_by g o w c ts us None vs r opens word closes h k = elim h [
   | inr h ↦ grammar.listed opens word (subst (λ ts. Star (Val g.text) ts vs (c ∷ r)) (sym h.1.1) (vals_is g us vs (c ∷ r) k)) closes
 ]
 
-param_is : (g : Ground) (ts : List Token) (vs : List ValType) (r : List Token) → Group param.rule g ts vs r → Param g.text ts vs r
+param_is : (g : Ground) (ts : List Token) (vs : List ValType) (r : List Token) → InGroup param.rule g ts vs r → Param g.text ts vs r
 unfolding param
 param_is g _ vs r (rules.group {o = o} {c = c} {ts = ts} opens h closes) =
     let w = word_of_rule g (codes "param") ts h.0 h.1 h.2 in
     subst (λ ts. Param g.text (o ∷ ts) vs r) w.1 (param_by g o w.0 c h.1 h.3.1 h.3.0 vs r opens w.2 closes h.3.2 h.3.3)
 
 -- (func param* result*)
-func_is : (g : Ground) (ts : List Token) (f : Signature) (r : List Token) → Group func.rule g ts f r → Func g.text ts f r
+func_is : (g : Ground) (ts : List Token) (f : Signature) (r : List Token) → InGroup func.rule g ts f r → Func g.text ts f r
 unfolding func
 func_is g _ f r (rules.group {o = o} {c = c} {ts = ts} opens h closes) =
     let w = word_of_rule g (codes "func") ts h.0 h.1 h.2 in
@@ -175,9 +175,9 @@ func_is g _ f r (rules.group {o = o} {c = c} {ts = ts} opens h closes) =
     let is : f ≡ signature_of ps.0 rs.1.0 =
     sym rs.2 ∙ ap (λ x. record { params = x; results = rs.0 }) (sym ps.2) ∙ ap (λ x. record { params = flat_map (λ vs. vs) ps.0; results = x }) (sym rs.1.2) in
     subst (λ ts. Func g.text (o ∷ ts) f r) w.1
-    (grammar.func opens w.2 (star_of g _ (Group param.rule) (Param g.text) (param_is g) h.1 ps.0 h.3.1 ps.1) (star_of g tells_more (Group returns.rule) (Returns g.text) (returns_is g) h.3.1 rs.1.0 (c ∷ r) rs.1.1) closes is)
+    (grammar.func opens w.2 (star_of g _ (InGroup param.rule) (Param g.text) (param_is g) h.1 ps.0 h.3.1 ps.1) (star_of g tells_more (InGroup returns.rule) (Returns g.text) (returns_is g) h.3.1 rs.1.0 (c ∷ r) rs.1.1) closes is)
 
-definition_is : (g : Ground) (ts : List Token) (f : Signature) (r : List Token) → Group definition.rule g ts f r → Definition g.text ts f r
+definition_is : (g : Ground) (ts : List Token) (f : Signature) (r : List Token) → InGroup definition.rule g ts f r → Definition g.text ts f r
 unfolding definition
 definition_is g _ f r (rules.group {o = o} {c = c} {ts = ts} opens h closes) =
     let w = word_of_rule g (codes "type") ts h.0 h.1 h.2 in
@@ -189,7 +189,7 @@ definition_is g _ f r (rules.group {o = o} {c = c} {ts = ts} opens h closes) =
 pub module_is : (g : Ground) (ts : List Token) (fs : List Signature) → module_types.rule g ts fs [] → Module g.text ts fs
 module_is g _ fs (rules.group {o = o} {c = c} {ts = ts} opens h closes) =
     let w = word_of_rule g (codes "module") ts h.0 h.1 h.2 in
-    subst (λ ts. Module g.text (o ∷ ts) fs) w.1 (grammar.definitions opens w.2 (star_of g tells_more (Group definition.rule) (Definition g.text) (definition_is g) h.1 fs (c ∷ []) h.3) closes)
+    subst (λ ts. Module g.text (o ∷ ts) fs) w.1 (grammar.definitions opens w.2 (star_of g tells_more (InGroup definition.rule) (Definition g.text) (definition_is g) h.1 fs (c ∷ []) h.3) closes)
 
 -- The other way round.
 
@@ -225,7 +225,7 @@ rule_of_name g t r h =
 abbrev after_open : Telling
 after_open = tells_second (a_keyword (codes "param")).look
 
-is_param : (g : Ground) (ts : List Token) (vs : List ValType) (r : List Token) → Param g.text ts vs r → Group param.rule g ts vs r × (after_open g ts ≡ Ok true)
+is_param : (g : Ground) (ts : List Token) (vs : List ValType) (r : List Token) → Param g.text ts vs r → InGroup param.rule g ts vs r × (after_open g ts ≡ Ok true)
 unfolding param
 is_param g _ _ r (grammar.named {w = w} {n = n} {c = c} {ts = ts} {v = v} opens h i k closes) =
     (rules.group opens (w.offset, n ∷ ts, rule_of_word g (codes "param") w (n ∷ ts) h, (Some (identified_by g i.name n), ts, rule_of_name g n ts i, (v, is_val g ts v (c ∷ r) k, refl))) closes, sees_other g (codes "param") (codes "param") true w (n ∷ ts) refl h)
@@ -237,11 +237,11 @@ returns_no_param : (g : Ground) (ts : List Token) (rs : List (List ValType)) (c 
 returns_no_param g _ _ c r e grammar.none = e
 returns_no_param g _ _ c r e (grammar.more (returned {w = w} {ts = ts} opens h listed closes) others) = sees_other g (codes "param") (codes "result") false w ts refl h
 
-is_func : (g : Ground) (ts : List Token) (f : Signature) (r : List Token) → (a_keyword (codes "param")).look g r ≡ Ok false → Func g.text ts f r → Group func.rule g ts f r
+is_func : (g : Ground) (ts : List Token) (f : Signature) (r : List Token) → (a_keyword (codes "param")).look g r ≡ Ok false → Func g.text ts f r → InGroup func.rule g ts f r
 unfolding func
 is_func g _ f r e (grammar.func {w = w} {c = c} {ts = ts} {us = us} {ps = ps} {rs = rs} opens h params results closes is) =
-    let first = while_of g after_open (Group param.rule) (Param g.text) (is_param g) ts ps us (returns_no_param g us rs c r e results) params in
-    let others = while_of g tells_more (Group returns.rule) (Returns g.text) (is_returns g) us rs (c ∷ r) (ap (λ k. Ok (not (is_close k))) closes) results in
+    let first = while_of g after_open (InGroup param.rule) (Param g.text) (is_param g) ts ps us (returns_no_param g us rs c r e results) params in
+    let others = while_of g tells_more (InGroup returns.rule) (Returns g.text) (is_returns g) us rs (c ∷ r) (ap (λ k. Ok (not (is_close k))) closes) results in
     rules.group opens (w.offset, ts, rule_of_word g (codes "func") w ts h, (flat_map (λ vs. vs) ps, us, (ps, first, refl), (flat_map (λ vs. vs) rs, (rs, others, refl), sym is))) closes
 
 no_word_at : (g : Ground) (c : Token) (r : List Token) → IsClose c → (a_keyword (codes "param")).look g (c ∷ r) ≡ Ok false
@@ -250,7 +250,7 @@ no_word_at g c r closes = ap (λ k. known_word (spelling as_keyword (codes "para
 func_no_name : (g : Ground) (ts : List Token) (f : Signature) (r : List Token) → Func g.text ts f r → tells_kind as_id g ts ≡ Ok false
 func_no_name g _ f r (grammar.func {o = o} opens h params results closes is) = ap (no_name_by g o) opens
 
-is_definition : (g : Ground) (ts : List Token) (f : Signature) (r : List Token) → Definition g.text ts f r → Group definition.rule g ts f r × (tells_more g ts ≡ Ok true)
+is_definition : (g : Ground) (ts : List Token) (f : Signature) (r : List Token) → Definition g.text ts f r → InGroup definition.rule g ts f r × (tells_more g ts ≡ Ok true)
 unfolding definition
 is_definition g _ f r (grammar.identified {w = w} {n = n} {c = c} {ts = ts} opens h i k closes) =
     (rules.group opens (w.offset, n ∷ ts, rule_of_word g (codes "type") w (n ∷ ts) h, (Some (identified_by g i.name n), ts, rule_of_name g n ts i, is_func g ts f (c ∷ r) (no_word_at g c r closes) k)) closes, ap (λ k. Ok (not (is_close k))) opens)
@@ -259,4 +259,4 @@ is_definition g _ f r (grammar.plain {w = w} {c = c} {ts = ts} opens h k closes)
 
 pub is_module : (g : Ground) (ts : List Token) (fs : List Signature) → Module g.text ts fs → module_types.rule g ts fs []
 is_module g _ fs (grammar.definitions {w = w} {c = c} {ts = ts} opens h types closes) =
-    rules.group opens (w.offset, ts, rule_of_word g (codes "module") w ts h, while_of g tells_more (Group definition.rule) (Definition g.text) (is_definition g) ts fs (c ∷ []) (ap (λ k. Ok (not (is_close k))) closes) types) closes
+    rules.group opens (w.offset, ts, rule_of_word g (codes "module") w ts h, while_of g tells_more (InGroup definition.rule) (Definition g.text) (is_definition g) ts fs (c ∷ []) (ap (λ k. Ok (not (is_close k))) closes) types) closes

@@ -4,9 +4,9 @@
 
 use wat_lex::shim::prelude::*;
 pub mod answers;
+mod by_place;
 pub mod by_row;
 pub mod comments;
-mod given;
 mod laws;
 pub mod looks;
 pub mod messages;
@@ -17,16 +17,16 @@ pub mod version;
 pub mod words;
 
 use answers::Answer;
-use given::{give_fault, give_float, give_integer, give_name, give_name_fault, give_string};
+use by_place::{give_fault, give_float, give_integer, give_name, give_name_fault, give_string};
 use laws::one_answer;
 use wat_lex::shim::alloc::Global;
 use core::str;
-use wat_lex::proved::lexer::Settings;
+use wat_lex::proved::lexer::{Lexer, Settings};
 use wat_lex::proved::token::Span;
 use crate::rows::at::token_at;
 use crate::rows::fill::fill;
 use crate::rows::laws::one_fill;
-use crate::rows::rows::{Filled, Found, TokenRow, found_row, lexer_of};
+use crate::rows::rows::{Filled, Found, TokenRow, found_row};
 
 /// Whether the bytes are a text that the other functions take.
 ///
@@ -120,7 +120,10 @@ pub unsafe extern "C" fn wat_scan(
 
     // SAFETY: rule 2 of wat.h.
     let text = unsafe { str::from_utf8_unchecked(text) };
-    found_row(pos, lexer_of(text, Settings { allow, strict }).scan(pos))
+    found_row(
+        pos,
+        Lexer::with_settings(text, Settings { allow, strict }).scan(pos),
+    )
 }
 
 /// The token of what `wat_scan` answers, which C is handed in registers. Its length is 0 where the

@@ -14,7 +14,7 @@ use Rattle.wat_lexer_parser.specs.declared.parser.fault.FaultKind.{FaultKind}
 use Rattle.wat_lexer_parser.specs.declared.parser.fault.FaultKind.TheVariants.{Lex, Unclosed}
 use Rattle.wat_lexer_parser.specs.declared.parser.fault.Step.{Step}
 use Rattle.wat_lexer_parser.specs.declared.parser.fault.Step.TheVariants.{Pass, Take, Finish, Refuse, Skip}
-use Rattle.wat_lexer_parser.specs.groups.Sorts.{is_blank, is_marked}
+use Rattle.wat_lex.specs.tokens.Blanks.{is_blank, is_marked}
 use Rattle.wat_lexer_parser.specs.lemmas.After.{does}
 use Rattle.wat_lexer_parser.specs.names.RegisteredNames.{Names, is_registered}
 use Rattle.wat_lexer_parser.specs.places.Source.{Source, IsRead}

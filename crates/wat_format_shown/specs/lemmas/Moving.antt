@@ -4,7 +4,7 @@ use Rattle.std.specs.Prelude.{Option, Result, cond, if◌then◌else◌, map, na
 use Rattle.std.specs.Option.{option_map}
 use Rattle.wat_lex.specs.errors.Errors.{Report}
 use Rattle.wat_lex.specs.declared.lexer.kinds.Token.{Token}
-use Rattle.wat_lexer_parser.specs.groups.Sorts.{is_blank}
+use Rattle.wat_lex.specs.tokens.Blanks.{is_blank}
 use Rattle.wat_lexer_parser.specs.lemmas.RuleLaws.{checked_got, shown_token, taken_token, token_got}
 use Rattle.wat_lexer_parser.specs.names.RegisteredNames.{count, is_registered, more, most_often}
 use Rattle.wat_lexer_parser.specs.parser.Closures.{opened, closed, inside}

@@ -7,7 +7,7 @@ use Rattle.std.specs.Str.{is_utf8}
 use Rattle.wat_lexer_parser.specs.parser.Sights.{Sight, second}
 use Rattle.wat_lexer_parser.specs.parser.Takers.{Reader, as_annotation, as_id, as_integer, as_keyword, as_string}
 use Rattle.wat_lexer_parser.specs.readings.Readings.{Reading, give, group, joined_while, mapped, refuse, refuse_after, spanned, token, where_seen, while_seen}
-use Rattle.wat_lexer_parser.specs.readings.Types.{Reference, Named, Number, Spelled, an_identifier, an_index, an_integer, annotation, bytes, identifier, integer, keyword, name_annotation, optional_name, owned_text, sees_annotation, spelling, text, u32, under_standard, unsigned_below, utf8_or_refused, word, as_owned_id}
+use Rattle.wat_lexer_parser.specs.readings.Types.{Reference, ByName, Number, Spelled, an_identifier, an_index, an_integer, annotation, bytes, identifier, integer, keyword, name_annotation, optional_name, owned_text, sees_annotation, spelling, text, u32, under_standard, unsigned_below, utf8_or_refused, word, as_owned_id}
 use Rattle.wat_words.specs.Words.{annotation_word, quoted}
 use Rattle.wat_format_shown.specs.Reads.{Moves, MovesReader, MovesSight}
 use Rattle.wat_format_shown.specs.lemmas.Moving.{moves_allocated, moves_and_then, moves_as, moves_checked, moves_give, moves_group, moves_mapped, moves_optional, moves_refuse, moves_refuse_after, moves_spanned, moves_token, moves_under, moves_where_seen, moves_while, needs_checked, needs_token, spanned_moved}
@@ -23,7 +23,7 @@ spelled_moved move i = record i { span = move i.span }
 
 abbrev pub reference_moved : (ℕ → ℕ) → Reference → Reference
 reference_moved move (Number n span) = Number n (move span)
-reference_moved move (Named i) = Named (spelled_moved move i)
+reference_moved move (ByName i) = ByName (spelled_moved move i)
 
 -- the byte at which something is
 abbrev pub span_moved : (ℕ → ℕ) → ℕ → ℕ
@@ -54,11 +54,11 @@ moves_u32 laws = moves_number laws (codes "u32") (unsigned_below (2 ^ 32))
 
 pub moves_index : ShownLaws → Moves 1 reference_moved an_index
 moves_index laws =
-    let named : Reading Reference = mapped Named identifier in
+    let named : Reading Reference = mapped ByName identifier in
     let number : Reading Reference = mapped (λ v. Number v.0 v.1) (spanned u32) in
     let other : Reading Reference = refuse (codes "unexpected token, expected an index or an identifier") in
     let numbered : Moves 1 reference_moved number = moves_mapped (spanned_moved stays) reference_moved (λ v. Number v.0 v.1) 1 (spanned u32) (λ move v. refl) (moves_spanned laws stays 1 u32 needs_u32 (moves_u32 laws)) in
-    moves_where_seen reference_moved 1 an_identifier named (where_seen an_integer number other) (moves_sight_of laws stays as_id moves_id) (moves_mapped spelled_moved reference_moved Named 1 identifier (λ move v. refl) (moves_identifier laws))
+    moves_where_seen reference_moved 1 an_identifier named (where_seen an_integer number other) (moves_sight_of laws stays as_id moves_id) (moves_mapped spelled_moved reference_moved ByName 1 identifier (λ move v. refl) (moves_identifier laws))
     (moves_where_seen reference_moved 1 an_integer number other (moves_sight_of laws stays as_integer moves_integer) numbered (moves_refuse laws reference_moved 1 (codes "unexpected token, expected an index or an identifier")))
 
 moves_word_at : ShownLaws → (read : Reader (List ℕ)) (w expected : List ℕ) → MovesReader stays read → Moves 1 span_moved (word read w expected)

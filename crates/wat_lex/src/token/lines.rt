@@ -76,7 +76,7 @@ impl<'a> LineIndex<'a> {
         })
     }
 
-    /// Line and column of a place in the text, as [`Span::linecol_in`] tells them: both from 0, and
+    /// Line and column of a place in the text, as [`Span::linecol_in`] answers them: both from 0, and
     /// a column is a number of bytes.
     pub fn linecol(&self, span: Span) -> (usize, usize)
         ensures { result ≡ line_and_column self.now span }

@@ -1,8 +1,6 @@
 -- What a list of calls replies and leaves, a call at a time.
-use Rattle.std.proofs.Common.{◌≡◌, ℕ, ◌+◌, ◌<◌, ◌≤◌, List, [], ◌∷◌, ◌++◌, refl, sym, ap, ◌∙◌, length, get_or, take, arith, Some}
-use Rattle.std.specs.Prelude.{slice_get}
-use Rattle.std.proofs.lemmas.Option.{get_or_from_slice_get, slice_get_within}
-use Rattle.std.proofs.lemmas.List.{take_more, take_all}
+use Rattle.std.proofs.Common.{◌≡◌, ℕ, ◌+◌, ◌<◌, List, [], ◌∷◌, ◌++◌, refl, sym, ap, ◌∙◌, length, get_or, take}
+use Rattle.std.proofs.lemmas.List.{take_more}
 use Rattle.wat_lexer_parser.specs.declared.parser.calls.Call.{Call}
 use Rattle.wat_lexer_parser.specs.declared.parser.calls.Reply.{Reply}
 use Rattle.wat_lexer_parser.specs.calls.Calls.{AfterSome, answer, replies, state_after}
@@ -25,16 +23,6 @@ replies_more s cs k c h = ap (replies s) (take_more cs k c h) ∙ replies_push s
 pub state_more : (s : State) (cs : List Call) (k : ℕ) (c : Call) → k < length cs → state_after s (take (k + 1) cs) ≡ (answer (state_after s (take k cs)) (get_or cs k c)).1
 state_more s cs k c h = ap (state_after s) (take_more cs k c h) ∙ state_push s (take k cs) (get_or cs k c)
 
-pub replies_at : (s : State) (cs : List Call) (k : ℕ) (c : Call) → slice_get cs k ≡ Some c → replies s (take (k + 1) cs) ≡ replies s (take k cs) ++ ((answer (state_after s (take k cs)) c).0 ∷ [])
-replies_at s cs k c e = replies_more s cs k c (slice_get_within cs k c e) ∙ ap (λ d. replies s (take k cs) ++ ((answer (state_after s (take k cs)) d).0 ∷ [])) (get_or_from_slice_get cs k c c e)
-
-pub state_at : (s : State) (cs : List Call) (k : ℕ) (c : Call) → slice_get cs k ≡ Some c → state_after s (take (k + 1) cs) ≡ (answer (state_after s (take k cs)) c).1
-state_at s cs k c e = state_more s cs k c (slice_get_within cs k c e) ∙ ap (λ d. (answer (state_after s (take k cs)) d).1) (get_or_from_slice_get cs k c c e)
-
--- a beginning that is as long as the list is the list
-pub all_taken : (cs : List Call) → take (length cs) cs ≡ cs
-all_taken cs = take_all (length cs) cs (omega arith)
-
 -- the first k of the calls were made: the replies so far, and the state
 pub record Played (s : State) (cs : List Call) (k : ℕ) (given : List Reply) (now : State) : Type 0 where
   pub replied : given ≡ replies s (take k cs)
@@ -53,9 +41,6 @@ play_more s cs k given now c r next h e f p = record {
       ∙ sym (replies_more s cs k c h);
   reached = f ∙ ap (λ x. (answer x (get_or cs k c)).1) p.reached ∙ sym (state_more s cs k c h);
 }
-
-pub play_end : (s : State) (cs : List Call) (k : ℕ) (given : List Reply) (now : State) → length cs ≤ k → Played s cs k given now → (given ≡ replies s cs) × (now ≡ state_after s cs)
-play_end s cs k given now h p = let e = take_all k cs h in (p.replied ∙ ap (replies s) e, p.reached ∙ ap (state_after s) e)
 
 pub play_begins : (s : State) (cs : List Call) (k : ℕ) (given : List Reply) (now : State) → Played s cs k given now → AfterSome s cs now
 play_begins s cs k given now p = (k, p.reached)

@@ -18,7 +18,7 @@ use Rattle.wat_lex.specs.tokens.Tiling.{Tiling, MaximalTiling}
 use Rattle.wat_lex.specs.declared.lexer.kinds.Token.{Token}
 use Rattle.wat_lex.specs.declared.lexer.kinds.TokenKind.{TokenKind}
 use Rattle.wat_lex.specs.declared.lexer.kinds.TokenKind.TheVariants.{LineComment, BlockComment, Whitespace, LParen, RParen, String, Id, Keyword, Annotation, Reserved, Integer, Float}
-use Rattle.wat_lexer_parser.specs.groups.Sorts.{is_comment}
+use Rattle.wat_lex.specs.tokens.Blanks.{is_comment}
 use Rattle.wat_lexer_parser.specs.laws.Blanking.{ShowTheSame, BlankingShowsTheSame}
 use Rattle.wat_lexer_parser.specs.laws.BlankTexts.{blank_byte, blank_text, blank_texts, HasNoComment, BlankTextsShowTheSame}
 use Rattle.wat_lexer_parser.proofs.calls.AllShownBlanked.{SameText}

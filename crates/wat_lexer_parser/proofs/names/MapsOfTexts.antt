@@ -66,11 +66,6 @@ is_there m s x is h = subst IsSome (ap (λ n. finmap.get n x) (sym is) ∙ get-n
 pub set-count : {Z : Type 0} (m n : BTreeMap (String Z) ℕ) (s : Names) (x : List ℕ) (v : ℕ) → names_of m.entries ≡ s → UpdatesBy string_cmp (λ k. slice_cmp nat_cmp x (string_bytes k)) m n (Some v) → names_of n.entries ≡ finmap.insert s x v
 set-count m n s x v is u = names-set m n x v u ∙ ap (λ t. finmap.insert t x v) is
 
-pub taken-many : {Z : Type 0} (m n : BTreeMap (String Z) ℕ) (s : Names) (x : List ℕ) (k : ℕ) → names_of m.entries ≡ s → k ≡ count s x → 1 < k → UpdatesBy string_cmp (λ k. slice_cmp nat_cmp x (string_bytes k)) m n (Some (k - 1)) → names_of n.entries ≡ fewer s x
-taken-many m n s x k is e h u =
-    set-count m n s x (k - 1) is u ∙ ap (λ j. finmap.insert s x (j - 1)) e
-    ∙ sym (ap (λ b. cond b (finmap.insert s x (count s x - 1)) (finmap.remove s x)) (lt-ltb 1 (count s x) (rw (← e) h)))
-
 pub taken-last : {Z : Type 0} (m n : BTreeMap (String Z) ℕ) (s : Names) (x : List ℕ) (k : ℕ) → names_of m.entries ≡ s → k ≡ count s x → k ≤ 1 → UpdatesBy string_cmp (λ k. slice_cmp nat_cmp x (string_bytes k)) m n None → names_of n.entries ≡ fewer s x
 taken-last m n s x k is e h u =
     names-removed m n x u ∙ ap (λ t. finmap.remove t x) is
@@ -145,10 +140,6 @@ positive-remove n x p q = λ e. positive_none (eq_by_cmp (slice_cmp nat_cmp) q x
 
 pub positive-empty : IsPositive finmap.empty
 positive-empty q = λ e. positive_none true None (λ f. cc) (sym (get-empty (slice_cmp nat_cmp) q) ∙ e)
-
-positive-cond : (b : Bool) (m n : Names) → IsPositive m → IsPositive n → IsPositive (cond b m n)
-positive-cond true m n p q = p
-positive-cond false m n p q = q
 
 pub counted : (n : Names) (x : List ℕ) (v : ℕ) → 0 < v → 0 < count (finmap.insert n x v) x
 counted n x v h = subst (λ o. 0 < unwrap_or o 0) (sym (get-same n x v)) h

@@ -4,7 +4,7 @@ use Rattle.std.specs.Prelude.{slice_get, if◌then◌else◌}
 use Rattle.std.proofs.lemmas.List.{drop_more}
 use Rattle.std.proofs.lemmas.Option.{slice_get_within, get_or_from_slice_get}
 use Rattle.wat_lex.specs.declared.lexer.kinds.Token.{Token}
-use Rattle.wat_lexer_parser.specs.groups.Sorts.{is_space, is_comment}
+use Rattle.wat_lex.specs.tokens.Blanks.{is_space, is_comment}
 use Rattle.wat_lexer_parser.specs.places.Places.{past_space, comment_in, comment_at}
 use Rattle.wat_lexer_parser.specs.places.Source.{Source}
 use Rattle.wat_lexer_parser.specs.shown.Shown.{ended}

@@ -8,7 +8,7 @@ use Rattle.wat_lex.specs.grammar.Classes.{Each, is_whitespace, is_line_end}
 use Rattle.wat_lex.specs.tokens.Blanking.{space}
 use Rattle.wat_lex.specs.tokens.ReadableTokens.{token_text}
 use Rattle.wat_lex.specs.declared.lexer.kinds.Token.{Token}
-use Rattle.wat_lexer_parser.specs.groups.Sorts.{is_comment}
+use Rattle.wat_lex.specs.tokens.Blanks.{is_comment}
 use Rattle.wat_lexer_parser.specs.laws.BlankTexts.{blank_byte, blank_text, blank_texts, SameLineEnds}
 
 kept : (b : ℕ) → is_line_end b ≡ true → blank_byte b ≡ b

@@ -14,7 +14,7 @@ use Rattle.wat_lex.specs.tokens.Tiling.{TokenAt}
 use Rattle.wat_lex.specs.declared.lexer.settings.Settings.{Settings}
 use Rattle.wat_lex.specs.declared.lexer.kinds.Token.{Token}
 use Rattle.wat_lex.specs.declared.lexer.kinds.TokenKind.TheVariants.{Annotation}
-use Rattle.wat_lexer_parser.specs.groups.Sorts.{is_marked}
+use Rattle.wat_lex.specs.tokens.Blanks.{is_marked}
 use Rattle.wat_lexer_parser.specs.lemmas.Parts.{is_mark}
 
 -- an element is the first of those from there on

@@ -12,7 +12,7 @@ use Rattle.wat_lex.specs.declared.lexer.kinds.TokenKind.TheVariants.{LineComment
 use Rattle.wat_lexer_parser.specs.declared.parser.fault.Fault.{Fault}
 use Rattle.wat_lexer_parser.specs.declared.parser.fault.Step.{Step}
 use Rattle.wat_lexer_parser.specs.declared.parser.fault.Step.TheVariants.{Pass, Take, Finish, Refuse, Skip}
-use Rattle.wat_lexer_parser.specs.groups.Sorts.{is_blank, is_marked}
+use Rattle.wat_lex.specs.tokens.Blanks.{is_blank, is_marked}
 use Rattle.wat_lexer_parser.specs.lemmas.Parts.{is_paren}
 use Rattle.wat_lexer_parser.specs.lemmas.After.{does}
 use Rattle.wat_lexer_parser.specs.names.RegisteredNames.{Names}

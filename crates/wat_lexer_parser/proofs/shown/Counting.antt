@@ -6,7 +6,8 @@ use Rattle.wat_lex.specs.declared.lexer.faults.LexFault.{LexFault}
 use Rattle.wat_lex.specs.declared.lexer.kinds.Token.{Token}
 use Rattle.wat_lex.specs.declared.lexer.kinds.TokenKind.{TokenKind}
 use Rattle.wat_lex.specs.declared.lexer.kinds.TokenKind.TheVariants.{LineComment, BlockComment, Whitespace, LParen, RParen, String, Id, Keyword, Annotation, Reserved, Integer, Float}
-use Rattle.wat_lexer_parser.specs.groups.Sorts.{Group, NoGroup, is_blank, is_marked}
+use Rattle.wat_lexer_parser.specs.groups.Sorts.{Group, NoGroup}
+use Rattle.wat_lex.specs.tokens.Blanks.{is_blank, is_marked}
 use Rattle.wat_lexer_parser.specs.lemmas.Parts.{is_paren}
 use Rattle.wat_lexer_parser.specs.names.RegisteredNames.{Names}
 use Rattle.wat_lexer_parser.specs.laws.Counting.{counting, counting_after}

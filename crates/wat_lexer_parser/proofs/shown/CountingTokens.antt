@@ -15,7 +15,7 @@ use Rattle.wat_lex.specs.declared.lexer.settings.Settings.{Settings}
 use Rattle.wat_lex.specs.declared.lexer.kinds.Token.{Token}
 use Rattle.wat_lex.specs.declared.lexer.kinds.TokenKind.{TokenKind}
 use Rattle.wat_lex.specs.declared.lexer.kinds.TokenKind.TheVariants.{LineComment, BlockComment, Whitespace, LParen, RParen, String, Id, Keyword, Annotation, Reserved, Integer, Float}
-use Rattle.wat_lexer_parser.specs.groups.Sorts.{is_blank, is_marked}
+use Rattle.wat_lex.specs.tokens.Blanks.{is_blank, is_marked}
 use Rattle.wat_lexer_parser.specs.lemmas.Parts.{is_mark}
 use Rattle.wat_lexer_parser.specs.laws.Counting.{CountingShowsTheSame, PlainTokensAreShown}
 use Rattle.wat_lexer_parser.specs.shown.Shown.{other, unmarked}

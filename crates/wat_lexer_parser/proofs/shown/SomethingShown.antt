@@ -19,7 +19,7 @@ use Rattle.wat_lexer_parser.specs.names.RegisteredNames.{Names, is_registered}
 use Rattle.wat_lexer_parser.specs.places.Source.{Source, IsRead}
 use Rattle.wat_lexer_parser.specs.shown.Shown.{HasName, IsMisnamed, Shown, none_left, blank, other, unmarked, none_follows, no_annotation, misnamed, registered, skipped, unclosed}
 use Rattle.wat_lexer_parser.specs.inside.ShownIn.{Showing, shown_in, first}
-use Rattle.wat_lexer_parser.specs.groups.Sorts.{is_blank, is_marked}
+use Rattle.wat_lex.specs.tokens.Blanks.{is_blank, is_marked}
 use Rattle.wat_lexer_parser.proofs.groups.Closing.{closed_from, group_from, closed_shorter}
 use Rattle.wat_lexer_parser.proofs.groups.Closing.{Closed, close, beyond, nested}
 use Rattle.wat_lexer_parser.proofs.shown.Skipping.{past_closed, closes_or_not}

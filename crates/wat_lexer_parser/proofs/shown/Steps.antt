@@ -14,7 +14,7 @@ use Rattle.wat_lexer_parser.specs.groups.Sorts.{Group}
 use Rattle.wat_lexer_parser.specs.names.RegisteredNames.{Names, is_registered}
 use Rattle.wat_lexer_parser.specs.shown.Shown.{Finding, HasName, IsMisnamed, Shown, none_left, blank, other, unmarked, none_follows, no_annotation, misnamed, registered, skipped, unclosed, left_open}
 use Rattle.wat_lexer_parser.specs.inside.ShownIn.{Showing, Inside, shown_in, first, step_of, step_kind, step_next, step_named, name_by, name_at}
-use Rattle.wat_lexer_parser.specs.groups.Sorts.{is_blank, is_marked}
+use Rattle.wat_lex.specs.tokens.Blanks.{is_blank, is_marked}
 use Rattle.wat_lexer_parser.proofs.groups.Closing.{closed_from, group_from}
 use Rattle.wat_lexer_parser.proofs.shown.Skipping.{past_closed, closes_or_not}
 use Rattle.wat_lexer_parser.proofs.shown.Looks.{step_at}

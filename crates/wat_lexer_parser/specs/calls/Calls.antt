@@ -6,7 +6,8 @@ use Rattle.wat_lexer_parser.specs.declared.parser.calls.Reply.{Reply}
 use Rattle.wat_lexer_parser.specs.declared.parser.calls.Reply.TheVariants as reply
 use Rattle.wat_lexer_parser.specs.groups.Sorts.{is_open, is_close}
 use Rattle.wat_lexer_parser.specs.names.RegisteredNames.{Names, most_often, count, more, fewer, is_registered}
-use Rattle.wat_lexer_parser.specs.parser.State.{State, Source, TokenKind, Fault, Look, shown, comment_at, current_span, cases_of}
+use Rattle.wat_lexer_parser.specs.parser.State.{State, Source, TokenKind, Fault, Look, shown, comment_at, current_span}
+use Rattle.wat_lexer_parser.specs.Cases.{cases_of}
 
 abbrev pub fault_reply : Fault → Reply
 fault_reply f = reply.Fault f.offset f.kind

@@ -1,22 +1,6 @@
--- WebAssembly specification, text format, lexical format: tokens, white space, comments; annotations, whose tokens are balanced. The
--- sorts of tokens that a parser tells apart, and groups in parentheses, over raw tokens.
-use Rattle.std.specs.Prelude.{◌≡◌, ℕ, ◌+◌, ◌==◌, Bool, true, false, ◌||◌, IsFalse}
-use Rattle.std.specs.Prelude.{List, [], ◌∷◌, ◌++◌, slice_get, option_map, unwrap_or}
-use Rattle.wat_lex.specs.grammar.Classes.{at_sign}
-use Rattle.wat_lexer_parser.specs.places.Source.{Token, TokenKind, LineComment, BlockComment, Whitespace, LParen, RParen}
-
-abbrev pub is_space : TokenKind → Bool
-is_space Whitespace = true
-is_space kind = false
-
-abbrev pub is_comment : TokenKind → Bool
-is_comment LineComment = true
-is_comment BlockComment = true
-is_comment kind = false
-
--- never shown
-abbrev pub is_blank : TokenKind → Bool
-is_blank kind = is_space kind || is_comment kind
+-- WebAssembly specification, text format, lexical format: annotations, whose tokens are balanced. Groups in parentheses, over raw tokens.
+use Rattle.std.specs.Prelude.{◌≡◌, Bool, true, false, ◌||◌, IsFalse, List, [], ◌∷◌, ◌++◌}
+use Rattle.wat_lexer_parser.specs.places.Source.{Token, TokenKind, LParen, RParen}
 
 abbrev pub is_open : TokenKind → Bool
 is_open LParen = true
@@ -25,10 +9,6 @@ is_open kind = false
 abbrev pub is_close : TokenKind → Bool
 is_close RParen = true
 is_close kind = false
-
--- the byte of the text after the token's first is `@`
-abbrev pub is_marked : List ℕ → Token → Bool
-is_marked text t = unwrap_or (option_map (λ b. b == at_sign) (slice_get text (t.offset + 1))) false
 
 -- each parenthesis is matched
 pub data Balanced : List Token → Type 0 where

@@ -9,7 +9,7 @@ use Rattle.wat_lex.specs.tokens.ReadableTokens.{token_text}
 use Rattle.wat_lex.specs.tokens.Setting.{Setting}
 use Rattle.wat_lex.specs.tokens.Tiling.{MaximalTiling}
 use Rattle.wat_lex.specs.declared.lexer.kinds.Token.{Token}
-use Rattle.wat_lexer_parser.specs.groups.Sorts.{is_comment}
+use Rattle.wat_lex.specs.tokens.Blanks.{is_comment}
 use Rattle.wat_lexer_parser.specs.laws.Blanking.{ShowTheSame}
 
 -- a line end, or a space in place of another byte

@@ -7,7 +7,7 @@ use Rattle.wat_lexer_parser.specs.parser.State.{Report, Seen}
 use Rattle.wat_lexer_parser.specs.parser.Takers.{Reader, word_takes}
 use Rattle.wat_lexer_parser.specs.places.Places.{offset_at}
 use Rattle.wat_lexer_parser.specs.places.Source.{Source, Token, TokenKind}
-use Rattle.wat_lexer_parser.specs.shown.Shown.{cases_of}
+use Rattle.wat_lexer_parser.specs.Cases.{cases_of}
 use Rattle.wat_lexer_parser.specs.shown.Showing.{Look}
 
 -- of `Balanced`: the kinds of tokens that it tells apart

@@ -8,8 +8,8 @@ use Rattle.wat_lex.specs.declared.lexer.kinds.TokenKind.{TokenKind}
 use Rattle.wat_lex.specs.declared.lexer.kinds.TokenKind.TheVariants.{LParen, RParen}
 use Rattle.wat_lexer_parser.specs.groups.Sorts.{is_close}
 use Rattle.wat_lexer_parser.specs.lemmas.After.{same_token, forward_shown}
-use Rattle.wat_lexer_parser.specs.names.RegisteredNames.{Names, is_registered}
-use Rattle.wat_lexer_parser.specs.parser.State.{State, Seen, seen, known, report_here, message_at, registered, at_place, seen_at}
+use Rattle.wat_lexer_parser.specs.names.RegisteredNames.{Names}
+use Rattle.wat_lexer_parser.specs.parser.State.{State, Seen, seen, known, report_here, message_at, at_place, seen_at}
 use Rattle.wat_lexer_parser.specs.parser.Takers.{Reader, taken, taken_by, as_annotation, as_open, as_close, taken_at, may_take_at}
 use Rattle.wat_lexer_parser.specs.lemmas.Parts.{sees, taken_or}
 use Rattle.wat_lexer_parser.specs.places.Places.{current_span, empty_of}
@@ -17,11 +17,11 @@ use Rattle.wat_lexer_parser.specs.lemmas.Parts as parts
 use Rattle.wat_lexer_parser.specs.places.Source.{Source}
 use Rattle.wat_lexer_parser.specs.shown.Showing.{Look, shown}
 use Rattle.wat_lexer_parser.specs.readings.Choices.{one_after}
-use Rattle.wat_lexer_parser.specs.readings.Readings.{Outcome, Reading, on, refused, given, give, refuse, refuse_after, token, token_by, also_taking, after, and_then, and_then_by, known_as, mapped, spanned, allocated, passed_by, checked_by, checked, where_seen_by, where_seen, also_first, up_to, while_seen, closed_by, inside_by, opened_by, group, under, under_by, start, at_end, whole_by, whole, more_comes}
+use Rattle.wat_lexer_parser.specs.readings.Readings.{Outcome, Reading, on, refused, given, give, refuse, refuse_after, token, token_by, also_taking, after, and_then, and_then_by, known_as, mapped, spanned, allocated, passed_by, checked_by, checked, where_seen_by, where_seen, also_first, up_to, while_seen, closed_by, inside_by, opened_by, group, start, at_end, whole_by, whole, more_comes}
 use Rattle.wat_lexer_parser.specs.parser.Sights.{Sight, sight_of, seen_after, second}
 use Rattle.wat_lexer_parser.specs.readings.Types.{after_open, is_taken, sees_annotation, sees_word, spelling}
 use Rattle.wat_lexer_parser.specs.parser.Closures.{opened, closed, inside}
-use Rattle.wat_lexer_parser.specs.rules.Rules.{End, Ground, Rule, Telling, unless_fault, Nothing, Never, One, one, Then, Known, span_of, Spanned, Checked, Seen as SeenRule, Group, Shrinks, While, none, more, known_word, after_kind, tells_kind, tells_word, tells_second, tells_after_open, tells_more}
+use Rattle.wat_lexer_parser.specs.rules.Rules.{End, Ground, Rule, Telling, unless_fault, Nothing, Never, One, one, Then, Known, span_of, Spanned, Checked, WhereSeen, InGroup, Shrinks, While, none, more, known_word, after_kind, tells_kind, tells_word, tells_second, tells_after_open, tells_more}
 use Rattle.wat_lexer_parser.specs.rules.Rules as rules
 
 -- these tokens are shown one after another from a place on, and then what the ending says
@@ -275,7 +275,7 @@ seen_got (Ok true) takes o other v e = inl (refl, e, refl)
 seen_got (Ok false) takes o other v e = inr (refl, e, refl)
 seen_got (Err f) takes o other v e = cc
 
-pub follows_where_seen : {V : Type 0} (sight : Sight) (look : Telling) (m n : Reading V) (R S : Rule V) → Agrees sight look → Follows m R → Follows n S → Follows (where_seen sight m n) (SeenRule look R S)
+pub follows_where_seen : {V : Type 0} (sight : Sight) (look : Telling) (m n : Reading V) (R S : Rule V) → Agrees sight look → Follows m R → Follows n S → Follows (where_seen sight m n) (WhereSeen look R S)
 follows_where_seen sight look m n R S t f g = record {
   sound = λ a e us v at got. elim (seen_got (sight a).known (sight a).takes (m a) (n a) v got) [
     | inl h ↦ let k = f.sound a e us v at h.1 in (k.0, move a.source a.names e (a.place + (m a).passed) (a.place + (where_seen sight m n a).passed) k.0 (omega (arith, h.2)) k.1, inl (sym (t a e us at) ∙ h.0, k.2))
@@ -309,7 +309,7 @@ follows_none V missed = record {
 
 abbrev pub UpTo : {V : Type 0} → ℕ → Telling → Rule V → Rule (List V)
 UpTo zero look R = Never
-UpTo (suc n) look R = SeenRule look (Then R (λ v. Known (λ vs. v ∷ vs) (UpTo n look R))) (Nothing [])
+UpTo (suc n) look R = WhereSeen look (Then R (λ v. Known (λ vs. v ∷ vs) (UpTo n look R))) (Nothing [])
 
 follows_up_to : {V : Type 0} (n : ℕ) (sight : Sight) (look : Telling) (m : Reading V) (R : Rule V) → Agrees sight look → Follows m R → Follows (up_to n sight m) (UpTo n look R)
 follows_up_to {V} zero sight look m R t f = follows_refuse (List V) []
@@ -357,7 +357,7 @@ close_kind : (x : List ℕ) (t : Token) (k : TokenKind) (v : Unit {0}) → as_cl
 close_kind x t RParen v e = refl
 close_kind x t k v e = cc
 
-grouped : {V : Type 0} (R : Rule V) (g : Ground) (us ts r q : List Token) (u w : Unit {0}) (v : V) → One as_open g us u ts → R g ts v r → One as_close g r w q → Group R g us v q
+grouped : {V : Type 0} (R : Rule V) (g : Ground) (us ts r q : List Token) (u w : Unit {0}) (v : V) → One as_open g us u ts → R g ts v r → One as_close g r w q → InGroup R g us v q
 grouped R g _ ts _ q u w v (one {t = o} e) h (one {t = c} f) = rules.group (open_kind g.text o o.kind u e) h (close_kind g.text c c.kind w f)
 
 taken_got : (f : Report) (x : Result (Option (Unit {0} × ℕ)) Report) (q : ℕ) → taken_or f x ≡ Ok q → (u : Unit {0}) × (x ≡ Ok (Some (u, q)))
@@ -419,7 +419,7 @@ group_passed m a v got =
     let u = taken_token as_close a.source.setting.text (seen_at b) c.0 k.1 c.1 in
     omega (arith, k.5, (forward_shown a.source a.place a.names t.0 k.0 (shown_token a t.0 k.0 t.1)).0, (forward_shown b.source b.place b.names u.0 k.1 (shown_token b u.0 k.1 u.1)).0)
 
-pub follows_group : {V : Type 0} (m : Reading V) (R : Rule V) → Follows m R → Follows (group m) (Group R)
+pub follows_group : {V : Type 0} (m : Reading V) (R : Rule V) → Follows m R → Follows (group m) (InGroup R)
 follows_group {V} m R f = record {
   sound = λ a e us v at got.
       let k = group_got (opened a.source a.place a.names) m a v got in
@@ -433,7 +433,7 @@ follows_group {V} m R f = record {
   complete = λ a e us v r at g. reads a e us v r at g;
 }
   where
-    reads : (a : State) (e : End) (us : List Token) (v : V) (r : List Token) → From a e us → Group R (ground a e) us v r → ((group m a).answer ≡ Ok v) × From (on a (group m a).passed) e r
+    reads : (a : State) (e : End) (us : List Token) (v : V) (r : List Token) → From a e us → InGroup R (ground a e) us v r → ((group m a).answer ≡ Ok v) × From (on a (group m a).passed) e r
     reads a e us v r at (rules.group {o = o} {c = c} {ts = ts} opens h closes) =
         let text = a.source.setting.text in
         let p = taken_paren as_open a e o ts at (ap (as_open text o) opens) in
@@ -486,15 +486,6 @@ whole_is_spelled m R f s e us v at h =
     let l = left_none s e k.0 v j.0 (sym (ended_left (on (start s) o.passed) e j.0 k.0 s j.1) ∙ k.2) in
     (l.0, subst (λ r. R (ground (start s) e) us v r) l.2 (subst (λ v. R (ground (start s) e) us v j.0) l.1 j.2))
 
--- Rules alone: an alternative that a look tells apart.
-
-pub either_is_seen : {V : Type 0} (look : Telling) (R S : Rule V) (g : Ground) (ts : List Token) (v : V) (r : List Token) → (R g ts v r → look g ts ≡ Ok true) → (S g ts v r → look g ts ≡ Ok false)
-    → R g ts v r ⊎ S g ts v r → SeenRule look R S g ts v r
-either_is_seen look R S g ts v r f h k = elim k [
-  | inl k ↦ inl (f k, k)
-  | inr k ↦ inr (h k, k)
-]
-
 -- Advancing: of the first token alone.
 
 pub advances_token : {V : Type 0} (read : Reader V) (message : List ℕ) → ((a : State) (v : V) → (token read message a).answer ≡ Ok v → 0 < (token read message a).passed)
@@ -505,8 +496,3 @@ advances_token read message a v e =
 
 pub shrinks_one : {V : Type 0} (read : Reader V) → Shrinks (One read)
 shrinks_one read g _ v r (one e) = omega arith
-
--- Outermost: a name more. What is read goes by the tokens that are shown with it, of which the tokens without it say nothing.
-pub under_spelled : {V : Type 0} (x : List ℕ) (m : Reading V) (R : Rule V) → Follows m R → (a b : State) (e : End) (us : List Token) (v : V) → registered a x ≡ Ok b → (under x m a).answer ≡ Ok v → From b e us
-    → (r : List Token) × From (on b (m b).passed) e r × R (ground b e) us v r
-under_spelled x m R f a b e us v is got at = f.sound b e us v at (sym (ap (λ o. (under_by o (not (is_registered a.names x)) m).answer) is) ∙ got)

@@ -7,7 +7,7 @@ use Rattle.wat_lexer_parser.specs.readings.Attempts.{attempts_held}
 use Rattle.wat_lexer_parser.specs.readings.Choices.{Choice, one_after, one_of}
 use Rattle.wat_lexer_parser.specs.readings.Readings.{Reading, also_taking, token, refuse, mapped, pair, spanned, where_seen}
 use Rattle.wat_lexer_parser.specs.readings.Reads.{Advances}
-use Rattle.wat_lexer_parser.specs.readings.Types.{Reference, Number, Named, Spelled, identifier, an_identifier, integer, an_integer, u32, unsigned_below, an_index, item, bytes, text, utf8_or_refused, spelling, word, keyword, reserved_symbol, annotation, name_annotation, as_owned_id}
+use Rattle.wat_lexer_parser.specs.readings.Types.{Reference, Number, ByName, Spelled, identifier, an_identifier, integer, an_integer, u32, unsigned_below, an_index, item, bytes, text, utf8_or_refused, spelling, word, keyword, reserved_symbol, annotation, name_annotation, as_owned_id}
 use Rattle.wat_words.specs.Words.{quoted, annotation_word}
 
 -- each of several alternatives takes a token
@@ -39,7 +39,7 @@ advances_index =
     let number : Reading Reference = mapped (λ v. Number v.0 v.1) (spanned u32) in
     let other : Reading Reference = refuse (codes "unexpected token, expected an index or an identifier") in
     let numbered : Advances number = advances_mapped (λ v. Number v.0 v.1) (spanned u32) (advances_spanned u32 advances_u32) in
-    advances_where_seen an_identifier (mapped Named identifier) (where_seen an_integer number other) (advances_mapped Named identifier advances_identifier)
+    advances_where_seen an_identifier (mapped ByName identifier) (where_seen an_integer number other) (advances_mapped ByName identifier advances_identifier)
     (advances_where_seen an_integer number other numbered (advances_refuse Reference (codes "unexpected token, expected an index or an identifier")))
 
 pub advances_item : {V : Type 0} (m : Reading V) → Advances (item m)

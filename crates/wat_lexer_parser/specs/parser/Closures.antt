@@ -1,6 +1,7 @@
 -- What calls with closures answer, and what taking a parenthesis does. No part of the standard.
 use Rattle.std.specs.Prelude.{ℕ, ◌+◌, ◌≡◌, ◌<◌, ◌⊎◌, codes, Option, Result, Ok, Err}
-use Rattle.wat_lexer_parser.specs.parser.State.{State, IsRefusal, report_here, seen, Report, Names, Source, cases_of}
+use Rattle.wat_lexer_parser.specs.parser.State.{State, IsRefusal, report_here, seen, Report, Names, Source}
+use Rattle.wat_lexer_parser.specs.Cases.{cases_of}
 use Rattle.wat_lexer_parser.specs.parser.Takers.{taken, as_open, as_close}
 
 -- the place after the `(` that is shown, or the refusal

@@ -1,6 +1,7 @@
 -- What peeking tells: whether a type is seen, here or after the token that is shown. No part of the standard.
 use Rattle.std.specs.Prelude.{ℕ, Bool, false, Option, Result, Ok, Err}
-use Rattle.wat_lexer_parser.specs.parser.State.{State, Answers, at_place, seen_at, Report, cases_of}
+use Rattle.wat_lexer_parser.specs.parser.State.{State, Answers, at_place, seen_at, Report}
+use Rattle.wat_lexer_parser.specs.Cases.{cases_of}
 use Rattle.wat_lexer_parser.specs.parser.Takers.{Reader, sees_at}
 
 -- whether a type is seen, or the report of the fault that is shown; and whether reporting it may take memory

@@ -4,7 +4,7 @@ use Rattle.std.specs.Prelude.{◌≡◌, is_err, IsErrAnd, IsTrue, IsUtf8, Optio
 use Rattle.wat_lexer_parser.specs.names.RegisteredNames.{IsPositive, count, more, most_often}
 pub use Rattle.wat_lex.specs.errors.Errors.{Report, Custom, lexical, report_in, IsUnlessMemory}
 pub use Rattle.wat_lexer_parser.specs.places.Places.{current_span, offset_at, comment_at}
-pub use Rattle.wat_lexer_parser.specs.shown.Showing.{Look, shown, cases_of, Names, Source, IsRead, Token, TokenKind, Fault, Lex, Unclosed}
+pub use Rattle.wat_lexer_parser.specs.shown.Showing.{Look, shown, Names, Source, IsRead, Token, TokenKind, Fault, Lex, Unclosed}
 
 -- a parser, as its callers see it
 pub record State : Type 0 where

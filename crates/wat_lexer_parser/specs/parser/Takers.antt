@@ -11,7 +11,8 @@ use Rattle.wat_lex.specs.declared.lexer.kinds.SignToken.{SignToken}
 use Rattle.wat_lex.specs.declared.lexer.kinds.SignToken.TheVariants.{Minus}
 use Rattle.wat_lex.specs.declared.lexer.kinds.TokenKind.TheVariants.{String, Id, Keyword, Reserved, Integer, Float}
 use Rattle.wat_lex.specs.declared.lexer.read.numbers.Integer.{Integer as Number}
-use Rattle.wat_lexer_parser.specs.parser.State.{State, Seen, seen_at, known, Report, lexical, comment_at, cases_of}
+use Rattle.wat_lexer_parser.specs.parser.State.{State, Seen, seen_at, known, Report, lexical, comment_at}
+use Rattle.wat_lexer_parser.specs.Cases.{cases_of}
 use Rattle.wat_lexer_parser.specs.places.Source.{Token, TokenKind, LParen, RParen, Annotation, LexError, EmptyId, EmptyAnnotation, token_text, word_of}
 
 -- how tokens of one kind are read: None for another kind, else a value or a refusal

@@ -3,8 +3,10 @@
 use Rattle.std.specs.Prelude.{ℕ, zero, suc, ◌+◌, Bool, true, false, ◌||◌, not, if◌then◌else◌, List, [], ◌∷◌, length, drop, slice_get}
 use Rattle.std.specs.Prelude.{Option, Some, None, Ok, is_some, option_map, unwrap_or}
 use Rattle.std.specs.List.{list_any}
-use Rattle.wat_lexer_parser.specs.groups.Sorts.{is_space, is_comment, is_close, is_blank}
-use Rattle.wat_lexer_parser.specs.shown.Showing.{Look, placed, shown, Finding, ended, cases_of, Names, Source, Token, LexFault}
+use Rattle.wat_lexer_parser.specs.groups.Sorts.{is_close}
+use Rattle.wat_lex.specs.tokens.Blanks.{is_space, is_comment, is_blank}
+use Rattle.wat_lexer_parser.specs.shown.Showing.{Look, placed, shown, Finding, ended, Names, Source, Token, LexFault}
+use Rattle.wat_lexer_parser.specs.Cases.{cases_of}
 
 -- the byte of a place: 0, or the end of the last token before it. Past the tokens it is 0 and means nothing; `IsSound` has no such place.
 abbrev pub offset_at : List Token → ℕ → ℕ

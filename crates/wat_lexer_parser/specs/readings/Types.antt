@@ -70,15 +70,15 @@ an_integer = sight_of as_integer
 
 pub data Reference : Type 0 where
   Number : ℕ → ℕ → Reference
-  Named : Spelled → Reference
+  ByName : Spelled → Reference
 
 abbrev pub reference : Index → Reference
 reference (index.Num n span) = Number n span
-reference (index.Id i) = Named (spelled i)
+reference (index.Id i) = ByName (spelled i)
 
 abbrev pub an_index : Reading Reference
 an_index =
-    where_seen an_identifier (mapped Named identifier)
+    where_seen an_identifier (mapped ByName identifier)
     (where_seen an_integer (mapped (λ v. Number v.0 v.1) (spanned u32))
     (refuse (codes "unexpected token, expected an index or an identifier")))
 

@@ -6,7 +6,7 @@ use Rattle.std.specs.Str.{is_utf8}
 use Rattle.wat_lexer_parser.specs.parser.Takers.{Reader, as_keyword, as_integer, as_open, as_id, as_string, as_annotation}
 use Rattle.wat_lexer_parser.specs.rules.Formats.{Format, Lookout, a_token, a_word, a_named, as_read, token, mapped, spanned, checked, and_then, give, refuse, refuse_after, allocated, where_seen, optional, group, second}
 use Rattle.wat_lexer_parser.specs.readings.Readings as words
-use Rattle.wat_lexer_parser.specs.readings.Types.{Reference, Named, Number, Spelled, spelling, unsigned_below, utf8_or_refused, as_owned_id}
+use Rattle.wat_lexer_parser.specs.readings.Types.{Reference, ByName, Number, Spelled, spelling, unsigned_below, utf8_or_refused, as_owned_id}
 use Rattle.wat_lexer_parser.specs.readings.Types as types
 use Rattle.wat_words.specs.Words.{annotation_word, quoted}
 
@@ -82,7 +82,7 @@ a_keyword w = a_word as_keyword w
 -- an identifier, or a number of 32 bits with the byte at which it is
 abbrev pub an_index : Format Reference
 an_index =
-    where_seen an_identifier (mapped Named identifier)
+    where_seen an_identifier (mapped ByName identifier)
     (where_seen an_integer (mapped (λ v. Number v.0 v.1) (spanned u32)) (refuse (codes "unexpected token, expected an index or an identifier")))
 
 -- the name that an annotation gives, in a group, where `@name` is the second token

@@ -12,21 +12,21 @@ use Rattle.wat_lexer_parser.specs.readings.Readings.{Reading, also_taking, on}
 use Rattle.wat_lexer_parser.specs.readings.Readings as words
 use Rattle.wat_lexer_parser.specs.readings.Reads.{Advances}
 use Rattle.wat_lexer_parser.specs.lemmas.RuleLaws.{Follows, Agrees, follows_give, follows_refuse, follows_refuse_after, follows_none, follows_token, follows_and_then, follows_mapped, follows_spanned, follows_checked, follows_also, follows_where_seen, follows_while, follows_group, agrees_kind, agrees_word, agrees_annotation, agrees_second, agrees_after_open, agrees_more, advances_token, shrinks_one, known_as_got, checked_got, seen_got, group_passed, then_got}
-use Rattle.wat_lexer_parser.specs.rules.Rules.{Ground, Rule, Telling, Keeps, Shrinks, While, none, more, One, Group, Then, Known, Spanned, Checked, Seen, Nothing, Never, tells_kind, tells_word, tells_second, tells_after_open, tells_more}
+use Rattle.wat_lexer_parser.specs.rules.Rules.{Ground, Rule, Telling, Keeps, Shrinks, While, none, more, One, InGroup, Then, Known, Spanned, Checked, WhereSeen, Nothing, Never, tells_kind, tells_word, tells_second, tells_after_open, tells_more}
 use Rattle.wat_lexer_parser.specs.rules.Rules as rules
 use Rattle.wat_lexer_parser.specs.parser.Sights.{Sight}
 use Rattle.wat_lexer_parser.specs.parser.Sights as sights
 use Rattle.wat_lexer_parser.specs.readings.Types as types
 
--- `takes` tells that a value takes a token at least
+-- `takes_token`: a value takes a token at least
 pub record Format (V : Type 0) : Type 1 where
   pub reading : Reading V
   pub rule : Rule V
-  pub takes : Bool
+  pub takes_token : Bool
   pub law : Follows reading rule
   pub keeps : Keeps rule
-  pub shrinks : takes ≡ true → Shrinks rule
-  pub advances : takes ≡ true → Advances reading
+  pub shrinks : takes_token ≡ true → Shrinks rule
+  pub advances : takes_token ≡ true → Advances reading
 
 -- a look of a parser, and what it tells of the tokens that are shown
 pub record Lookout : Type 0 where
@@ -65,7 +65,7 @@ abbrev pub give : {V : Type 0} → V → Format V
 give v = record {
   reading = words.give v;
   rule = Nothing v;
-  takes = false;
+  takes_token = false;
   law = follows_give v;
   keeps = λ g ts w r h. omega (arith, ap length h.1);
   shrinks = never_takes;
@@ -76,7 +76,7 @@ abbrev pub refuse : {V : Type 0} → List ℕ → Format V
 refuse {V} message = record {
   reading = words.refuse message;
   rule = Never;
-  takes = true;
+  takes_token = true;
   law = follows_refuse V message;
   keeps = λ g ts w r h. absurd h;
   shrinks = λ e g ts w r h. absurd h;
@@ -87,7 +87,7 @@ abbrev pub refuse_after : {V : Type 0} → List ℕ → Format V
 refuse_after {V} message = record {
   reading = words.refuse_after message;
   rule = Never;
-  takes = true;
+  takes_token = true;
   law = follows_refuse_after V message;
   keeps = λ g ts w r h. absurd h;
   shrinks = λ e g ts w r h. absurd h;
@@ -99,7 +99,7 @@ abbrev pub as_read : {V : Type 0} → (m : Format V) (n : Reading V) → m.readi
 as_read m n e = record {
   reading = n;
   rule = m.rule;
-  takes = m.takes;
+  takes_token = m.takes_token;
   law = subst (λ n. Follows n m.rule) e m.law;
   keeps = m.keeps;
   shrinks = m.shrinks;
@@ -110,7 +110,7 @@ abbrev pub token : {V : Type 0} → Reader V → List ℕ → Format V
 token read message = record {
   reading = words.token read message;
   rule = One read;
-  takes = true;
+  takes_token = true;
   law = follows_token read message;
   keeps = λ g ts v r h. omega (arith, shrinks_one read g ts v r h);
   shrinks = λ e. shrinks_one read;
@@ -121,7 +121,7 @@ abbrev pub mapped : {V W : Type 0} → (V → W) → Format V → Format W
 mapped f m = record {
   reading = words.mapped f m.reading;
   rule = Known f m.rule;
-  takes = m.takes;
+  takes_token = m.takes_token;
   law = follows_mapped f m.reading m.rule m.law;
   keeps = λ g ts w r h. m.keeps g ts h.0 r h.1;
   shrinks = λ e g ts w r h. m.shrinks e g ts h.0 r h.1;
@@ -132,7 +132,7 @@ abbrev pub spanned : {V : Type 0} → Format V → Format (V × ℕ)
 spanned {V} m = record {
   reading = words.spanned m.reading;
   rule = Spanned m.rule;
-  takes = m.takes;
+  takes_token = m.takes_token;
   law = follows_spanned m.reading m.rule m.law;
   keeps = λ g ts w r h. m.keeps g ts h.0 r h.1;
   shrinks = λ e g ts w r h. m.shrinks e g ts h.0 r h.1;
@@ -143,7 +143,7 @@ abbrev pub checked : {V W : Type 0} → (V → Option W) → List ℕ → Format
 checked check message m = record {
   reading = words.checked check message m.reading;
   rule = Checked check m.rule;
-  takes = m.takes;
+  takes_token = m.takes_token;
   law = follows_checked check message m.reading m.rule m.law;
   keeps = λ g ts w r h. m.keeps g ts h.0 r h.1;
   shrinks = λ e g ts w r h. m.shrinks e g ts h.0 r h.1;
@@ -157,7 +157,7 @@ abbrev pub also : {V : Type 0} → Bool → Format V → Format V
 also takes m = record {
   reading = λ a. also_taking takes (m.reading a);
   rule = m.rule;
-  takes = m.takes;
+  takes_token = m.takes_token;
   law = follows_also takes m.reading m.rule m.law;
   keeps = m.keeps;
   shrinks = m.shrinks;
@@ -171,7 +171,7 @@ abbrev pub and_then : {V W : Type 0} → Format V → (V → Format W) → Forma
 and_then m next = record {
   reading = words.and_then m.reading (λ v. (next v).reading);
   rule = Then m.rule (λ v. (next v).rule);
-  takes = m.takes;
+  takes_token = m.takes_token;
   law = follows_and_then m.reading (λ v. (next v).reading) m.rule (λ v. (next v).rule) m.law (λ v. (next v).law);
   keeps = λ g ts w r h. omega (arith, m.keeps g ts h.0 h.1 h.2, (next h.0).keeps g h.1 w r h.3);
   shrinks = λ e g ts w r h. omega (arith, m.shrinks e g ts h.0 h.1 h.2, (next h.0).keeps g h.1 w r h.3);
@@ -189,16 +189,16 @@ abbrev pub followed_by : {V W : Type 0} → Format V → Format W → Format W
 followed_by {V} {W} m n = record {
   reading = words.and_then m.reading (λ v. n.reading);
   rule = Then m.rule (λ v. n.rule);
-  takes = m.takes || n.takes;
+  takes_token = m.takes_token || n.takes_token;
   law = follows_and_then m.reading (λ v. n.reading) m.rule (λ v. n.rule) m.law (λ v. n.law);
   keeps = λ g ts w r h. omega (arith, m.keeps g ts h.0 h.1 h.2, n.keeps g h.1 w r h.3);
-  shrinks = λ e g ts w r h. elim (one_true m.takes n.takes e) [
+  shrinks = λ e g ts w r h. elim (one_true m.takes_token n.takes_token e) [
     | inl k ↦ omega (arith, m.shrinks k g ts h.0 h.1 h.2, n.keeps g h.1 w r h.3)
     | inr k ↦ omega (arith, m.keeps g ts h.0 h.1 h.2, n.shrinks k g h.1 w r h.3)
   ];
   advances = λ e a w h.
       let k = then_got {W = W} (m.reading a).answer (m.reading a).passed (m.reading a).takes_memory (λ v. n.reading) a w h in
-      elim (one_true m.takes n.takes e) [
+      elim (one_true m.takes_token n.takes_token e) [
         | inl j ↦ omega (arith, m.advances j a k.0 k.1, k.2)
         | inr j ↦ omega (arith, n.advances j (on a (m.reading a).passed) w k.3, k.2)
       ];
@@ -211,20 +211,20 @@ both_true false b e = cc
 abbrev pub where_seen : {V : Type 0} → Lookout → Format V → Format V → Format V
 where_seen l m n = record {
   reading = words.where_seen l.sight m.reading n.reading;
-  rule = Seen l.look m.rule n.rule;
-  takes = m.takes && n.takes;
+  rule = WhereSeen l.look m.rule n.rule;
+  takes_token = m.takes_token && n.takes_token;
   law = follows_where_seen l.sight l.look m.reading n.reading m.rule n.rule l.agrees m.law n.law;
   keeps = λ g ts v r h. elim h [
     | inl k ↦ m.keeps g ts v r k.1
     | inr k ↦ n.keeps g ts v r k.1
   ];
   shrinks = λ e g ts v r h. elim h [
-    | inl k ↦ m.shrinks (both_true m.takes n.takes e).0 g ts v r k.1
-    | inr k ↦ n.shrinks (both_true m.takes n.takes e).1 g ts v r k.1
+    | inl k ↦ m.shrinks (both_true m.takes_token n.takes_token e).0 g ts v r k.1
+    | inr k ↦ n.shrinks (both_true m.takes_token n.takes_token e).1 g ts v r k.1
   ];
   advances = λ e a v h. elim (seen_got (l.sight a).known (l.sight a).takes (m.reading a) (n.reading a) v h) [
-    | inl k ↦ omega (arith, k.2, m.advances (both_true m.takes n.takes e).0 a v k.1)
-    | inr k ↦ omega (arith, k.2, n.advances (both_true m.takes n.takes e).1 a v k.1)
+    | inl k ↦ omega (arith, k.2, m.advances (both_true m.takes_token n.takes_token e).0 a v k.1)
+    | inr k ↦ omega (arith, k.2, n.advances (both_true m.takes_token n.takes_token e).1 a v k.1)
   ];
 }
 
@@ -236,11 +236,11 @@ while_keeps look R k g ts _ _ (none e) = omega arith
 while_keeps look R k g ts _ r (more {r = us} {v = v} {vs = vs} e h w) = omega (arith, k g ts v us h, while_keeps look R k g us vs r w)
 
 -- all as long as it is seen, of a format that takes a token
-abbrev pub while_seen : {V : Type 0} → Lookout → (m : Format V) → m.takes ≡ true → Format (List V)
+abbrev pub while_seen : {V : Type 0} → Lookout → (m : Format V) → m.takes_token ≡ true → Format (List V)
 while_seen l m e = record {
   reading = words.while_seen l.sight m.reading;
   rule = While l.look m.rule;
-  takes = false;
+  takes_token = false;
   law = follows_while l.sight l.look m.reading m.rule (m.shrinks e) l.agrees m.law;
   keeps = while_keeps l.look m.rule m.keeps;
   shrinks = never_takes;
@@ -248,21 +248,21 @@ while_seen l m e = record {
 }
 
 -- all before `)` or the end
-abbrev pub many : {V : Type 0} → (m : Format V) → m.takes ≡ true → Format (List V)
+abbrev pub many : {V : Type 0} → (m : Format V) → m.takes_token ≡ true → Format (List V)
 many m e = while_seen more_comes m e
 
 -- the values of lists, in one list
-abbrev pub joined_while : {V : Type 0} → Lookout → (m : Format (List V)) → m.takes ≡ true → Format (List V)
+abbrev pub joined_while : {V : Type 0} → Lookout → (m : Format (List V)) → m.takes_token ≡ true → Format (List V)
 joined_while l m e = mapped (λ vss. flat_map (λ vs. vs) vss) (while_seen l m e)
 
-pub group_shrinks : {V : Type 0} (R : Rule V) → Keeps R → (g : Ground) (ts : List Token) (v : V) (r : List Token) → Group R g ts v r → length r < length ts
+pub group_shrinks : {V : Type 0} (R : Rule V) → Keeps R → (g : Ground) (ts : List Token) (v : V) (r : List Token) → InGroup R g ts v r → length r < length ts
 group_shrinks R k g _ v r (rules.group {c = c} {ts = ts} o h e) = omega (arith, k g ts v (c ∷ r) h)
 
 abbrev pub group : {V : Type 0} → Format V → Format V
 group m = record {
   reading = words.group m.reading;
-  rule = Group m.rule;
-  takes = true;
+  rule = InGroup m.rule;
+  takes_token = true;
   law = follows_group m.reading m.rule m.law;
   keeps = λ g ts v r h. omega (arith, group_shrinks m.rule m.keeps g ts v r h);
   shrinks = λ e. group_shrinks m.rule m.keeps;
@@ -279,7 +279,7 @@ abbrev pub one_after : {V : Type 0} → List (List ℕ) → Choices V → Format
 one_after {V} missed nothing_else = record {
   reading = choices.one_after missed [];
   rule = Never;
-  takes = true;
+  takes_token = true;
   law = follows_none V missed;
   keeps = λ g ts w r h. absurd h;
   shrinks = λ e g ts w r h. absurd h;

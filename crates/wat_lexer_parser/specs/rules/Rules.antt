@@ -60,8 +60,8 @@ abbrev pub Checked : {V W : Type 0} → (V → Option W) → Rule V → Rule W
 Checked {V} check R g ts w r = (v : V) × R g ts v r × (check v ≡ Some w)
 
 -- one where a look tells so, and else the other
-abbrev pub Seen : {V : Type 0} → Telling → Rule V → Rule V → Rule V
-Seen look R S g ts v r = ((look g ts ≡ Ok true) × R g ts v r) ⊎ ((look g ts ≡ Ok false) × S g ts v r)
+abbrev pub WhereSeen : {V : Type 0} → Telling → Rule V → Rule V → Rule V
+WhereSeen look R S g ts v r = ((look g ts ≡ Ok true) × R g ts v r) ⊎ ((look g ts ≡ Ok false) × S g ts v r)
 
 abbrev pub Either : {V : Type 0} → Rule V → Rule V → Rule V
 Either R S g ts v r = R g ts v r ⊎ S g ts v r
@@ -72,8 +72,8 @@ pub data While {V : Type 0} (look : Telling) (R : Rule V) (g : Ground) : List To
   more : {ts r q : List Token} {v : V} {vs : List V} → look g ts ≡ Ok true → R g ts v r → While look R g r vs q → While look R g ts (v ∷ vs) q
 
 -- a group: `(`, what is within it, `)`
-pub data Group {V : Type 0} (R : Rule V) (g : Ground) : List Token → V → List Token → Type 0 where
-  group : {o c : Token} {ts r : List Token} {v : V} → o.kind ≡ LParen → R g ts v (c ∷ r) → c.kind ≡ RParen → Group R g (o ∷ ts) v r
+pub data InGroup {V : Type 0} (R : Rule V) (g : Ground) : List Token → V → List Token → Type 0 where
+  group : {o c : Token} {ts r : List Token} {v : V} → o.kind ≡ LParen → R g ts v (c ∷ r) → c.kind ≡ RParen → InGroup R g (o ∷ ts) v r
 
 -- no token comes back
 abbrev pub Keeps : {V : Type 0} → Rule V → Type 0

@@ -3,7 +3,8 @@ use Rattle.std.specs.Prelude.{◌≡◌, ℕ, List, ◌-◌, length, drop, Optio
 use Rattle.wat_lexer_parser.specs.inside.ShownIn.{Showing, shown_in}
 pub use Rattle.wat_lexer_parser.specs.names.RegisteredNames.{Names}
 pub use Rattle.wat_lexer_parser.specs.places.Source.{Source, IsRead, Token, TokenKind, LexFault, Fault, Lex, Unclosed}
-pub use Rattle.wat_lexer_parser.specs.shown.Shown.{Finding, Shown, ended, cases_of}
+use Rattle.wat_lexer_parser.specs.Cases.{cases_of}
+pub use Rattle.wat_lexer_parser.specs.shown.Shown.{Finding, Shown, ended}
 
 -- a token with the place after it, or None, or a fault
 abbrev pub Look : Type 0

@@ -3,15 +3,10 @@
 -- standard.
 use Rattle.std.specs.Prelude.{◌≡◌, ◌≢◌, ℕ, List, [], ◌∷◌, ◌+◌, Option, Some, None, Result, Ok, Err, IsTrue, IsFalse, IsUtf8}
 use Rattle.wat_lex.specs.values.Names.{Name, NameFault}
-use Rattle.wat_lexer_parser.specs.groups.Sorts.{Group, NoGroup, is_blank, is_marked}
+use Rattle.wat_lexer_parser.specs.groups.Sorts.{Group, NoGroup}
+use Rattle.wat_lex.specs.tokens.Blanks.{is_blank, is_marked}
 use Rattle.wat_lexer_parser.specs.names.RegisteredNames.{Names, is_registered}
 use Rattle.wat_lexer_parser.specs.places.Source.{Token, LParen, Annotation, LexError, EmptyAnnotation, LexFault, Fault, Lex, Unclosed, word_of}
-
--- what is made of the end, of a token with what comes after it, and of a fault
-abbrev pub cases_of : {A B E V : Type 0} → Result (Option (A × B)) E → V → (A → B → V) → (E → V) → V
-cases_of (Ok None) at_end at_token at_fault = at_end
-cases_of (Ok (Some (t, after))) at_end at_token at_fault = at_token t after
-cases_of (Err f) at_end at_token at_fault = at_fault f
 
 -- a token and the tokens after it, or None at the end, or a fault
 abbrev pub Finding : Type 0

@@ -121,8 +121,8 @@ impl<'a> ParseBuffer<'a> {
     }
 
     /// What holds of every buffer: its tokens are those of its text, which is UTF-8 and of fewer than
-    /// 2^32 bytes. The call does nothing, as [`Parser::is_sound`], which says the same of a parser.
-    pub fn is_sound(&self)
+    /// 2^32 bytes. The call does nothing, as [`Parser::lemma_sound`], which says the same of a parser.
+    pub fn lemma_sound(&self)
         ensures read { IsRead self.now }
         ensures utf8 { IsUtf8 self.now.setting.text }
         ensures short { length self.now.setting.text < 2 ^ 32 }
@@ -131,8 +131,8 @@ impl<'a> ParseBuffer<'a> {
         let _text = table.text();
     }
 
-    /// The tokens are those of the text, which has no others.
-    pub(crate) fn is_only(&self)
+    /// The tokens are those of the text, which has no others. A lemma: the call does nothing.
+    pub(crate) fn lemma_only(&self)
         ensures only { (s : Source) → IsRead s → s.setting ≡ self.now.setting →
             s.track ≡ self.now.track → s ≡ self.now }
         ensures read { IsRead self.now }

@@ -160,7 +160,7 @@ impl<'a> Parser<'a> {
         }
     }
 
-    /// Replies to a call, and does it. Where memory is wanting it is not done.
+    /// Makes a call, and answers its reply. Out of memory, it is not made.
     fn answer(&mut self, call: &Call) -> Result<Reply, AllocError>
         ensures reply { IfOk result (λ reply. reply ≡ (answer self.old call.now).0) }
         ensures state { OnOk result (self.new ≡ (answer self.old call.now).1) }
@@ -219,8 +219,8 @@ impl<'a> Parser<'a> {
     }
 }
 
-/// Makes the calls of a list one after another, and answers the replies. Where memory is wanting
-/// the parser is after some beginning of the list.
+/// Makes the calls of a list one after another, and answers the replies. Out of memory, the first
+/// calls of the list were made, and the others not.
 pub fn replay<'a>(
     alloc: Global,
     parser: &mut Parser<'a>,

@@ -101,14 +101,14 @@ impl<'p, 'a> Cursor<'p, 'a> {
         }
     }
 
-    /// What holds of every cursor: what [`Parser::is_sound`] says of its parser, and it is among
+    /// What holds of every cursor: what [`Parser::lemma_sound`] says of its parser, and it is among
     /// the tokens. The call does nothing.
-    pub fn is_sound(&self)
+    pub fn lemma_sound(&self)
         ensures sound { IsSound self.now.parser.now }
         ensures within { self.now.at ≤ length self.now.parser.now.source.tokens }
     {
         let parser = self.parser;
-        parser.is_sound();
+        parser.lemma_sound();
     }
 
     /// The current span: that of the token that is shown, the text's length at the end, or the
@@ -118,7 +118,7 @@ impl<'p, 'a> Cursor<'p, 'a> {
             self.now.parser.now.names }
         ensures sound { IsSound self.now.parser.now }
     {
-        self.is_sound();
+        self.lemma_sound();
         let parser = self.parser;
         parser.span_from(self.at)
     }

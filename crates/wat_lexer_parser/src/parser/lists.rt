@@ -80,10 +80,10 @@ impl<'a> Parser<'a> {
             result self.new.place }
     {
         let mut values = Vec::new(self.alloc());
-        self.is_sound();
+        self.lemma_sound();
         'each: while self.peek::<P>()? {
             let value = self.parse::<T>()?;
-            self.is_sound();
+            self.lemma_sound();
             values.push(value)?;
         }
         Ok(values)

@@ -85,8 +85,8 @@ impl Names {
         }
     }
 
-    /// No name has a count of 0.
-    pub fn are_positive(&self)
+    /// No name has a count of 0. A lemma: the call does nothing.
+    pub fn lemma_positive(&self)
         ensures { IsPositive self.now }
     {
         let _names = self.counts.len();

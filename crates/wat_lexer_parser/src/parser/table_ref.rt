@@ -12,7 +12,7 @@ ghost use Rattle.wat_lex.specs.declared.lexer.kinds.Token.{Token};
 ghost use Rattle.wat_lex.specs.declared.lexer.kinds.TokenKind.TheVariants.{Annotation, LParen};
 ghost use Rattle.wat_lexer_parser.specs.declared.parser.fault.FaultKind.TheVariants.{Lex};
 ghost use Rattle.wat_lexer_parser.specs.declared.parser.fault.Step.TheVariants.{Refuse, Skip, Take};
-ghost use Rattle.wat_lexer_parser.specs.groups.Sorts.{is_blank, is_comment, is_marked, is_space};
+ghost use Rattle.wat_lex.specs.tokens.Blanks.{is_blank, is_comment, is_space};
 ghost use Rattle.wat_lexer_parser.specs.inside.Next.{IsNext};
 ghost use Rattle.wat_lexer_parser.specs.inside.Table.{HeadsAnnotation, IsTable, Pair};
 ghost use Rattle.wat_lexer_parser.specs.inside.TableNames.{name_view, written_view};
@@ -112,8 +112,8 @@ impl<'a> TableRef<'a> {
         }
     }
 
-    /// The tokens are those of the text, and so many at most.
-    pub fn is_read(&self)
+    /// The tokens are those of the text, and so many at most. A lemma: the call does nothing.
+    pub fn lemma_read(&self)
         ensures read { IsRead self.now }
         ensures small { length self.now.tokens < 2 ^ 63 }
     {
@@ -149,21 +149,11 @@ fn lexical(fault: LexFault) -> Fault
     }
 }
 
-/// Whether tokens of the kind are never shown.
-fn is_blank(kind: TokenKind) -> bool
-    ensures { result ≡ is_blank kind }
-{
-    match kind {
-        TokenKind::Whitespace | TokenKind::LineComment | TokenKind::BlockComment => true,
-        _ => false,
-    }
-}
-
 /// Whether a token is neither white space nor a comment.
 fn any_counts(tokens: &[Token]) -> bool
     ensures { result ≡ list_any (λ t. not (is_blank t.kind)) tokens.now }
 {
-    tokens.iter().any(|token| !is_blank(token.kind))
+    tokens.iter().any(|token| !token.kind.is_blank())
 }
 
 fn is_space(kind: TokenKind) -> bool
@@ -220,24 +210,13 @@ impl<'a> TableRef<'a> {
         self.table.tokens.get(place).copied()
     }
 
-    /// The token at a place is one for the readers.
-    pub fn is_readable(&self, place: usize, token: Token)
+    /// The token at a place is one for the readers. A lemma: the call does nothing.
+    pub fn lemma_readable(&self, place: usize, token: Token)
         requires { slice_get self.now.tokens place ≡ Some token }
         ensures token { IsTokenOf self.now.setting.text token }
         ensures short { token.offset + token.len < 2 ^ 32 }
     {
         let _count = self.table.tokens.len();
-    }
-
-    /// Whether the byte after the token's first is `@`.
-    fn is_marked(&self, token: Token) -> bool
-        requires { token.offset < 2 ^ 32 }
-        ensures { result ≡ is_marked self.now.setting.text token }
-    {
-        match self.text().as_bytes().get(token.offset + 1) {
-            Some(byte) => *byte == b'@',
-            None => false,
-        }
     }
 
     /// What the name of an annotation means that is a part of the text.
@@ -266,7 +245,7 @@ impl<'a> TableRef<'a> {
         let Some(token) = self.token_at(place + 1) else {
             return Step::Finish;
         };
-        self.is_readable(place + 1, token);
+        self.lemma_readable(place + 1, token);
         match find(&self.table.opens, &self.table.starts, place) {
             Some(i) => match &self.table.names[i] {
                 Some(name) => step_written(name, token, names),
@@ -276,8 +255,8 @@ impl<'a> TableRef<'a> {
         }
     }
 
-    /// Whether the annotation at a place is skipped since no name is registered and it has one. It is
-    /// known without its name, and false tells nothing.
+    /// Whether the annotation at a place is skipped since no name is registered and it has one. Its
+    /// name is not read for that; false says nothing.
     fn is_unregistered(&self, place: usize, token: Token, names: &Names) -> bool
         requires token { slice_get self.now.tokens place ≡ Some token }
         requires kind { token.kind ≡ Annotation }
@@ -286,7 +265,7 @@ impl<'a> TableRef<'a> {
     {
         wat_lex::laws::names();
         wat_lex::laws::tokens();
-        self.is_readable(place, token);
+        self.lemma_readable(place, token);
         if token.len < 2 {
             return false;
         }
@@ -316,7 +295,7 @@ impl<'a> TableRef<'a> {
         match self.token_at(place + 1) {
             Some(next) => match next.kind {
                 TokenKind::Annotation => {
-                    if !self.is_marked(token) {
+                    if !token.is_marked(self.text()) {
                         Step::Take
                     } else if self.is_unregistered(place + 1, next, names) {
                         Step::Skip
@@ -327,7 +306,7 @@ impl<'a> TableRef<'a> {
                 _ => Step::Take,
             },
             None => {
-                if self.is_marked(token) {
+                if token.is_marked(self.text()) {
                     Step::Finish
                 } else {
                     Step::Take
@@ -386,7 +365,7 @@ impl<'a> TableRef<'a> {
         let mut i = place;
         while i < self.table.tokens.len() {
             let token = self.table.tokens[i];
-            self.is_readable(i, token);
+            self.lemma_readable(i, token);
             match self.step(i, token, names) {
                 Step::Pass => i += 1,
                 Step::Take => return Ok(Some((token, i + 1))),
@@ -408,7 +387,7 @@ impl<'a> TableRef<'a> {
             shown self.now place names ≡ shown self.now result names }
     {
         let mut i = place;
-        while i < self.table.tokens.len() && is_blank(self.table.tokens[i].kind) {
+        while i < self.table.tokens.len() && self.table.tokens[i].kind.is_blank() {
             i += 1;
         }
         i
@@ -478,7 +457,7 @@ impl<'a> TableRef<'a> {
         ensures reader { IsTokenOf self.now.setting.text result.0 }
     {
         let token = self.table.tokens[number];
-        self.is_readable(number, token);
+        self.lemma_readable(number, token);
         (token, number + 1)
     }
 
@@ -509,7 +488,7 @@ impl<'a> TableRef<'a> {
         let at = self.past_space(place);
         match self.token_at(at) {
             Some(token) if is_comment(token.kind) => {
-                self.is_readable(at, token);
+                self.lemma_readable(at, token);
                 Ok(Some((token, at + 1)))
             }
             Some(_) => Ok(None),
@@ -533,7 +512,7 @@ impl<'a> TableRef<'a> {
         }
         match self.token_at(place - 1) {
             Some(token) => {
-                self.is_readable(place - 1, token);
+                self.lemma_readable(place - 1, token);
                 token.offset + token.len as usize
             }
             None => 0,

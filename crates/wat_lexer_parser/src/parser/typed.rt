@@ -77,7 +77,7 @@ impl<'a> Parser<'a> {
     {
         let place = self.place;
         let depth = self.depth;
-        self.table.is_read();
+        self.table.lemma_read();
         self.open()?;
         self.depth += 1;
         let result = self.parse::<T>();

@@ -18,7 +18,7 @@ pub fn parse<'a, T: Parse<'a>>(buffer: &'a ParseBuffer<'a>) -> Result<T, Error>
         Answers (whole_takes T.meaning s) T.value (whole T.meaning s) result }
     ensures read { IsRead buffer.now }
 {
-    buffer.is_only();
+    buffer.lemma_only();
     read(buffer)
 }
 

@@ -10,13 +10,13 @@ use Rattle.wat_lex.specs.declared.lexer.kinds.TokenKind.TheVariants.{Annotation}
 use Rattle.wat_lexer_parser.specs.names.RegisteredNames.{Names, is_registered}
 use Rattle.wat_lexer_parser.specs.shown.Shown.{HasName, IsMisnamed}
 use Rattle.wat_rows.specs.declared.counting.Row.{Row}
-use Rattle.wat_rows.specs.declared.looks.Named.{Named}
-use Rattle.wat_rows.specs.declared.looks.Named.TheVariants as named
+use Rattle.wat_rows.specs.declared.looks.NameMeaning.{NameMeaning}
+use Rattle.wat_rows.specs.declared.looks.NameMeaning.TheVariants as named
 use Rattle.wat_rows.specs.declared.answers.NotShown.{NotShown}
 use Rattle.wat_rows.specs.declared.answers.NotShown.TheVariants as unseen
 
 -- what the name of this annotation means
-pub data NameMeans (text : List ℕ) (t : Token) (names : Names) : Named → Type 0 where
+pub data NameMeans (text : List ℕ) (t : Token) (names : Names) : NameMeaning → Type 0 where
   registered : {x : List ℕ} → HasName text t x → IsTrue (is_registered names x) → NameMeans text t names named.Registered
   other : {x : List ℕ} → HasName text t x → IsFalse (is_registered names x) → NameMeans text t names named.Other
   misnamed : {e : LexError} → IsMisnamed text t e → NameMeans text t names named.Misnamed

@@ -27,7 +27,7 @@ impl Answer {
     /// ```text
     /// ensures { result ≡ record { needed = needed; status = 0 } }
     /// ```
-    pub(crate) fn given(needed: usize) -> Answer {
+    pub(crate) fn of_len(needed: usize) -> Answer {
         Answer { needed, status: 0 }
     }
 }
@@ -88,5 +88,5 @@ pub fn give(bytes: &[u8], out: &mut [u8]) -> Answer {
     if needed <= out.len() {
         out[..needed].copy_from_slice(bytes);
     }
-    Answer::given(needed)
+    Answer::of_len(needed)
 }

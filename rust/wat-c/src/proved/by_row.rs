@@ -1,5 +1,5 @@
 // Made by tools/erase from crates/wat_parser_c/src/by_row.rt; do not edit.
-//! What the readers find of the token that a row tells, which is not scanned again.
+//! What the readers find of a row's token, which is not scanned again.
 
 use wat_lex::shim::prelude::*;
 use crate::proved::answers::{Answer, Refusal, give};
@@ -12,7 +12,7 @@ use wat_lex::proved::lexer::{Float, FloatKind, Token, TokenKind};
 use crate::rows::counting::Row;
 use crate::rows::rows::KindRow;
 
-/// The token of a row that tells one of this kind.
+/// A row's token, where it is of this kind.
 ///
 /// # Proved
 ///

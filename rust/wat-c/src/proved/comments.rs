@@ -5,8 +5,8 @@ use wat_lex::shim::prelude::*;
 use crate::proved::laws::comments_are_parsers;
 use crate::proved::words::Word;
 use core::str;
-use wat_lex::proved::lexer::{LexFault, Settings, Token, TokenKind};
-use crate::rows::rows::{fault_code, lexer_of};
+use wat_lex::proved::lexer::{LexFault, Lexer, Settings, Token, TokenKind};
+use crate::rows::rows::fault_code;
 
 /// What comes after at most one white space token.
 ///
@@ -19,7 +19,7 @@ use crate::rows::rows::{fault_code, lexer_of};
 /// ensures short { IfOk result (λ found. IfSome found (λ t. t.offset + t.len < 2 ^ 32)) }
 /// ```
 fn past_space(text: &str, pos: usize, settings: Settings) -> Result<Option<Token>, LexFault> {
-    let lexer = lexer_of(text, settings);
+    let lexer = Lexer::with_settings(text, settings);
     match lexer.scan(pos) {
         Ok(Some(token)) => match token.kind {
             TokenKind::Whitespace => lexer.scan(token.offset + token.len as usize),
@@ -29,7 +29,7 @@ fn past_space(text: &str, pos: usize, settings: Settings) -> Result<Option<Token
     }
 }
 
-/// What is reported of the token that is there.
+/// Where the comment is that is there.
 ///
 /// # Proved
 ///

@@ -47,7 +47,7 @@ pub fn one_answer_of_row() {
     wat_lex::proved::laws::floats();
 }
 
-/// What is reported of a value's place is one thing. It does nothing either.
+/// A value is at one place. The call does nothing either.
 ///
 /// # Proved
 ///
@@ -68,8 +68,7 @@ pub fn one_word() {
 /// ```
 pub fn faults_are_known() {}
 
-/// The comment that is reported of a place is one thing, and the one that a parser finds there. It does
-/// nothing either.
+/// At a place one comment is found, the one that a parser finds there. The call does nothing either.
 ///
 /// # Proved
 ///

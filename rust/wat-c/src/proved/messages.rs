@@ -83,7 +83,7 @@ pub fn place_length(text: &str, offset: usize) -> usize {
 fn give_message(error: LexError, out: &mut [u8]) -> Answer {
     let rendered = Rendered::new("", LexFault { offset: 0, error });
     let needed = rendered.length() - place_length("", 0);
-    let answer = Answer::given(needed);
+    let answer = Answer::of_len(needed);
     if needed <= out.len() {
         rendered.write_to(&mut out[..needed]);
     }

@@ -52,7 +52,7 @@ fn write_long(text: &str, offset: usize, message: &[u8], out: &mut [u8]) {
 /// ```
 fn give_long(text: &str, offset: usize, message: &[u8], out: &mut [u8]) -> Answer {
     let needed = message.len() + place_length(text, offset);
-    let answer = Answer::given(needed);
+    let answer = Answer::of_len(needed);
     if needed <= out.len() {
         write_long(text, offset, message, &mut out[..needed]);
     }

@@ -5,8 +5,7 @@ use wat_lex::shim::prelude::*;
 use crate::proved::answers::Refusal;
 use wat_lex::shim::alloc::{AllocError, Global};
 use wat_lex::shim::borrow::{CowSlice, CowStr};
-use wat_lex::proved::lexer::{Float, Integer, LexFault, Settings, TokenKind};
-use crate::rows::rows::lexer_of;
+use wat_lex::proved::lexer::{Float, Integer, LexFault, Lexer, Settings, TokenKind};
 
 impl From<AllocError> for Refusal {
     fn from(refused: AllocError) -> Refusal {
@@ -32,7 +31,7 @@ pub fn string_at<'a>(
     pos: usize,
     settings: Settings,
 ) -> Result<CowSlice<'a, u8>, Refusal> {
-    let Ok(Some(token)) = lexer_of(text, settings).scan(pos) else {
+    let Ok(Some(token)) = Lexer::with_settings(text, settings).scan(pos) else {
         return Err(Refusal::Other);
     };
     match token.kind {
@@ -59,7 +58,7 @@ pub fn name_at<'a>(
     pos: usize,
     settings: Settings,
 ) -> Result<CowStr<'a>, Refusal> {
-    let Ok(Some(token)) = lexer_of(text, settings).scan(pos) else {
+    let Ok(Some(token)) = Lexer::with_settings(text, settings).scan(pos) else {
         return Err(Refusal::Other);
     };
     match token.kind {
@@ -86,7 +85,7 @@ pub fn integer_at<'a>(
     pos: usize,
     settings: Settings,
 ) -> Result<Integer<'a>, Refusal> {
-    let Ok(Some(token)) = lexer_of(text, settings).scan(pos) else {
+    let Ok(Some(token)) = Lexer::with_settings(text, settings).scan(pos) else {
         return Err(Refusal::Other);
     };
     match token.kind {
@@ -113,7 +112,7 @@ pub fn float_at<'a>(
     pos: usize,
     settings: Settings,
 ) -> Result<Float<'a>, Refusal> {
-    let Ok(Some(token)) = lexer_of(text, settings).scan(pos) else {
+    let Ok(Some(token)) = Lexer::with_settings(text, settings).scan(pos) else {
         return Err(Refusal::Other);
     };
     match token.kind {
@@ -152,7 +151,7 @@ pub fn part_of<'s>(float: &'s Float<'_>, part: u32) -> Option<&'s str> {
 ///     (record { text = text.now; flags = settings }) pos (Err refusal)) }
 /// ```
 pub fn fault_at(text: &str, pos: usize, settings: Settings) -> Result<LexFault, Refusal> {
-    match lexer_of(text, settings).scan(pos) {
+    match Lexer::with_settings(text, settings).scan(pos) {
         Ok(_) => Err(Refusal::Other),
         Err(fault) => Ok(fault),
     }
@@ -176,7 +175,7 @@ pub fn name_fault_at(
     pos: usize,
     settings: Settings,
 ) -> Result<LexFault, Refusal> {
-    let Ok(Some(token)) = lexer_of(text, settings).scan(pos) else {
+    let Ok(Some(token)) = Lexer::with_settings(text, settings).scan(pos) else {
         return Err(Refusal::Other);
     };
     match token.kind {

@@ -115,7 +115,7 @@ fn empty_name(kind: TokenKind) -> LexError {
     }
 }
 
-/// What is reported of a name that comes after so many bytes of its word and before so many.
+/// Where a name is that comes after so many bytes of its word and before so many.
 ///
 /// # Proved
 ///

@@ -1,6 +1,6 @@
 // Made by tools/erase from crates/wat_rows/src/answers.rt; do not edit.
-//! What a look answers. Its fields are private, so that each look is made here, and tells want of
-//! memory only of a refusal in hand.
+//! What a look answers. Its fields are private, so that each look is made here, and answers out of
+//! memory only with a refusal in hand.
 
 use wat_lex::shim::prelude::*;
 use wat_lex::shim::alloc::AllocError;

@@ -2,10 +2,10 @@
 //! The token at a place.
 
 use wat_lex::shim::prelude::*;
-use crate::rows::one_byte::alone;
-use crate::rows::rows::{TokenRow, found_row, lexer_of};
+use crate::rows::one_byte::one_byte_token;
+use crate::rows::rows::{TokenRow, found_row};
 use wat_lex::proved::laws::one_answer;
-use wat_lex::proved::lexer::Settings;
+use wat_lex::proved::lexer::{Lexer, Settings};
 
 /// The token of what is at a place. Its length is 0 where the text ends or has a fault.
 // Neither way is a call, as a row that a call writes would be read back from memory.
@@ -21,8 +21,8 @@ use wat_lex::proved::lexer::Settings;
 #[inline(always)]
 pub fn token_at(text: &str, pos: usize, settings: Settings) -> TokenRow {
     one_answer();
-    match alone(text, pos) {
+    match one_byte_token(text, pos) {
         Some(row) => row,
-        None => found_row(pos, lexer_of(text, settings).scan(pos)).token,
+        None => found_row(pos, Lexer::with_settings(text, settings).scan(pos)).token,
     }
 }

@@ -2,8 +2,8 @@
 //! Rows of the tokens that count: of no white space and no comment.
 
 use wat_lex::shim::prelude::*;
-use crate::rows::rows::{Filled, KindRow, fault_code, kind_row, lexer_of, plain};
-use wat_lex::proved::lexer::{Settings, Token, TokenKind};
+use crate::rows::rows::{Filled, KindRow, fault_code, kind_row, plain};
+use wat_lex::proved::lexer::{Lexer, Settings, Token, TokenKind};
 
 /// A token that counts, in 16 bytes.
 #[repr(C)]
@@ -19,36 +19,7 @@ pub struct Row {
     pub link: u32,
 }
 
-/// Whether tokens of the kind do not count.
-///
-/// # Proved
-///
-/// ```text
-/// ensures { result ≡ is_blank kind }
-/// ```
-fn is_blank(kind: TokenKind) -> bool {
-    match kind {
-        TokenKind::Whitespace | TokenKind::LineComment | TokenKind::BlockComment => true,
-        _ => false,
-    }
-}
-
-/// Whether the byte after the token's first is `@`.
-///
-/// # Proved
-///
-/// ```text
-/// requires { token.offset < 2 ^ 32 }
-/// ensures { result ≡ is_marked text.now token }
-/// ```
-fn is_marked(text: &str, token: Token) -> bool {
-    match text.as_bytes().get(token.offset + 1) {
-        Some(byte) => *byte == b'@',
-        None => false,
-    }
-}
-
-/// A token's kind, which tells a `(` with `@` directly after it.
+/// The row of a token's kind. A `(` with `@` directly after it has a kind of its own.
 ///
 /// # Proved
 ///
@@ -59,7 +30,7 @@ fn is_marked(text: &str, token: Token) -> bool {
 fn kind_beside(text: &str, token: Token) -> KindRow {
     match token.kind {
         TokenKind::LParen => {
-            if is_marked(text, token) {
+            if token.is_marked(text) {
                 plain(16)
             } else {
                 kind_row(token.kind)
@@ -101,14 +72,14 @@ fn row_of(text: &str, token: Token) -> Row {
 /// ensures rest { drop result.count out.new ≡ drop result.count out.old }
 /// ```
 pub fn fill_counting(text: &str, pos: usize, settings: Settings, out: &mut [Row]) -> Filled {
-    let lexer = lexer_of(text, settings);
+    let lexer = Lexer::with_settings(text, settings);
     let mut at = pos;
     let mut count = 0;
     'rows: while count < out.len() {
         match lexer.scan(at) {
             Ok(Some(token)) => {
                 at = token.offset + token.len as usize;
-                if is_blank(token.kind) {
+                if token.kind.is_blank() {
                     continue 'rows;
                 }
                 out[count] = row_of(text, token);

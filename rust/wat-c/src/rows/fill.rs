@@ -2,9 +2,9 @@
 //! Many tokens at once.
 
 use wat_lex::shim::prelude::*;
-use crate::rows::one_byte::alone;
-use crate::rows::rows::{Filled, TokenRow, fault_code, lexer_of, token_row};
-use wat_lex::proved::lexer::Settings;
+use crate::rows::one_byte::one_byte_token;
+use crate::rows::rows::{Filled, TokenRow, fault_code, token_row};
+use wat_lex::proved::lexer::{Lexer, Settings};
 
 /// Writes the tokens from a byte of the text on, as many as there are or as there is room for.
 ///
@@ -20,11 +20,11 @@ use wat_lex::proved::lexer::Settings;
 /// ensures rest { drop result.count out.new ≡ drop result.count out.old }
 /// ```
 pub fn fill(text: &str, pos: usize, settings: Settings, out: &mut [TokenRow]) -> Filled {
-    let lexer = lexer_of(text, settings);
+    let lexer = Lexer::with_settings(text, settings);
     let mut at = pos;
     let mut count = 0;
     'rows: while count < out.len() {
-        if let Some(row) = alone(text, at) {
+        if let Some(row) = one_byte_token(text, at) {
             out[count] = row;
             count += 1;
             at += 1;

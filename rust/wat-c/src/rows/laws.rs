@@ -25,7 +25,7 @@ pub fn one_fill_counting() {
 }
 
 /// Rows that are filled in pieces, one after the other, and then linked are those of the whole text. Whatever links they have, they are rows of
-/// its tokens, and each tells one.
+/// its tokens, each of one.
 ///
 /// # Proved
 ///

@@ -71,7 +71,7 @@ fn row_alone(byte: u8, at: usize) -> TokenRow {
     }
 }
 
-/// The row of the token of one byte at a place, where its first two bytes tell that one is there.
+/// The row of the token of one byte at a place, where its first two bytes say that one is there.
 // Found so, a token of one byte takes half of the instructions of a scan.
 /// # Proved
 ///
@@ -81,7 +81,7 @@ fn row_alone(byte: u8, at: usize) -> TokenRow {
 /// ensures { IfSome result (IsRowAlone text.now at) }
 /// ```
 #[inline(always)]
-pub fn alone(text: &str, at: usize) -> Option<TokenRow> {
+pub fn one_byte_token(text: &str, at: usize) -> Option<TokenRow> {
     let bytes = text.as_bytes();
     if at + 1 < bytes.len() && longer_before(bytes[at]) & sorts(bytes[at + 1]) == 0 {
         return Some(row_alone(bytes[at], at));

@@ -2,9 +2,7 @@
 //! What C sees of a token, of the text's end and of a fault.
 
 use wat_lex::shim::prelude::*;
-use wat_lex::proved::lexer::{
-    FloatKind, LexError, LexFault, Lexer, Settings, SignToken, Token, TokenKind,
-};
+use wat_lex::proved::lexer::{FloatKind, LexError, LexFault, SignToken, Token, TokenKind};
 
 /// A token's kind, and what it says of a number token.
 #[repr(C)]
@@ -314,20 +312,4 @@ pub fn found_row(pos: usize, answer: Result<Option<Token>, LexFault>) -> Found {
             wanted: 0,
         },
     }
-}
-
-/// The lexer over a text with these settings.
-///
-/// # Proved
-///
-/// ```text
-/// requires { length text.now < 2 ^ 32 }
-/// ensures { result ≡ record { text = text.now; flags = settings } }
-/// ```
-pub fn lexer_of<'a>(text: &'a str, settings: Settings) -> Lexer<'a> {
-    let mut lexer = Lexer::new(text);
-    lexer
-        .allow_confusing_unicode(settings.allow)
-        .strict_underscores(settings.strict);
-    lexer
 }

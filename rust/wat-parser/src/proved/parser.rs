@@ -35,12 +35,12 @@ pub use whole::parse;
 
 /// A parser over a buffer: a place in its text, and the names of annotations that are registered.
 pub struct Parser<'a> {
-    pub(crate) table: TableRef<'a>,
-    pub(crate) place: usize,
-    pub(crate) depth: usize,
-    pub(crate) names: Names,
+    table: TableRef<'a>,
+    place: usize,
+    depth: usize,
+    names: Names,
     /// The number of the token that is shown at the place, where that is known.
-    pub(crate) next: Option<usize>,
+    next: Option<usize>,
 }
 
 impl<'a> Parser<'a> {
@@ -182,11 +182,11 @@ impl<'a> Parser<'a> {
     /// ```text
     /// ensures sound { IsSound self.now }
     /// ```
-    pub fn is_sound(&self) {
+    pub fn lemma_sound(&self) {
         let table = &self.table;
-        table.is_read();
+        table.lemma_read();
         let _text = table.text();
-        self.names.are_positive();
+        self.names.lemma_positive();
     }
 
     /// Whether the end or `)` is shown, so that a list ends here; false at a fault.
@@ -199,7 +199,7 @@ impl<'a> Parser<'a> {
     /// ensures sound { IsSound self.now }
     /// ```
     pub fn is_empty(&self) -> bool {
-        self.is_sound();
+        self.lemma_sound();
         self.is_empty_from(self.place)
     }
 
@@ -507,7 +507,7 @@ impl<'a> Parser<'a> {
     ) -> Result<T, Error> {
         let place = self.place;
         let depth = self.depth;
-        self.table.is_read();
+        self.table.lemma_read();
         self.open()?;
         self.depth += 1;
         match f(self) {

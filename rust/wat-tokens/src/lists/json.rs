@@ -83,7 +83,7 @@ fn rows_from<'p, 'a>(
     from: Cursor<'p, 'a>,
 ) -> Result<(Showing, Cursor<'p, 'a>), Error> {
     laws::all_shown();
-    from.is_sound();
+    from.lemma_sound();
     let mut positions = Positions::new(text);
     let mut lines = Vec::new(alloc);
     let mut cursor = from;

@@ -66,7 +66,7 @@ fn lines_from<'p, 'a>(
     from: Cursor<'p, 'a>,
 ) -> Result<(Showing, Cursor<'p, 'a>), Error> {
     laws::all_shown();
-    from.is_sound();
+    from.lemma_sound();
     let mut lines = Vec::new(alloc);
     let mut cursor = from;
     'tokens: loop {

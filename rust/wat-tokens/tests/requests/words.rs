@@ -71,10 +71,10 @@ fn made(row: &Row) -> Result<Ending, Error> {
     let item = item(CowStr::Borrowed("f"));
     let copy = item.clone(Global);
     let words = (ReservedSymbol::<Comma>::new(at), annotation::name::new(at));
-    buffer.is_sound();
-    parser.is_sound();
+    buffer.lemma_sound();
+    parser.lemma_sound();
     let step = ended(parser.step(|cursor| {
-        cursor.is_sound();
+        cursor.lemma_sound();
         Ok(((), cursor))
     }));
     assert!(copy.is_ok_and(|copy| is_copy(&item, &copy)), "{}", row.name);

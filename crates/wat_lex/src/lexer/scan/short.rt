@@ -1,4 +1,4 @@
-//! Numbers without underscores that one block tells.
+//! Numbers without underscores that one block holds.
 ghost use Rattle.std.specs.Prelude.{◌≡◌, ◌≤◌, ◌<◌, ℕ, Bool, List, IsTrue, IfSome, length, take, drop};
 ghost use Rattle.std.specs.Char.{is_ascii_digit};
 ghost use Rattle.std.specs.List.{prefix_len};
@@ -115,7 +115,7 @@ pub enum Prefixed {
     Float,
     /// A NaN with a payload, without sign and underscores.
     Payload,
-    /// What one block does not tell.
+    /// What is not known from one block.
     Other,
 }
 

@@ -6,7 +6,7 @@ use Rattle.wat_lex.specs.tokens.Tiling.{TokenAt}
 use Rattle.wat_lex.specs.tokens.UniqueTilings.{AnswerAt}
 use Rattle.wat_lex.specs.declared.lexer.faults.LexFault.{LexFault}
 use Rattle.wat_lex.specs.declared.lexer.kinds.Token.{Token}
-use Rattle.wat_lexer_parser.specs.groups.Sorts.{is_space}
+use Rattle.wat_lex.specs.tokens.Blanks.{is_space}
 use Rattle.wat_parser_c.specs.CommentPlaces.{IsPast, after}
 use Rattle.wat_parser_c.proofs.comments.past_space.Goals as goal
 
@@ -17,9 +17,9 @@ answer_at s p (Err fault) t e f = f
 
 pub returns-in-Whitespace-clause-past : goal.returns-in-Whitespace-clause-past
 returns-in-Whitespace-clause-past c =
-    let lexer = c.lexer_of-lexer.result in
+    let lexer = c.with_settings-lexer.result in
     let token = c.in-Ok-Some.token in
     let at = rw c.in-Ok-Some.field-0-is at c.in-Ok-Some.ensures.token in
     let more = answer_at lexer (token.offset + token.len) c.scan-in-Whitespace.result c.scan-in-Whitespace.ensures.token c.scan-in-Whitespace.ensures.end c.scan-in-Whitespace.ensures.fault in
     let space : is_space token.kind ≡ true = ap is_space c.in-Whitespace.is in
-    subst (λ s. IsPast s c.args.pos c.scan-in-Whitespace.result) c.lexer_of-lexer.ensures (after token at space more)
+    subst (λ s. IsPast s c.args.pos c.scan-in-Whitespace.result) c.with_settings-lexer.ensures.setting (after token at space more)

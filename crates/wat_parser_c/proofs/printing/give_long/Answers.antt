@@ -14,7 +14,7 @@ returns-then-needed-out c =
     let m = c.args.message.now in
     let place = shown_place (excerpt c.args.text.now c.args.offset) in
     let n : length m + c.place_length.result ≡ length (m ++ place) = omega (arith, c.place_length.ensures, length-append m place) in
-    subst (Answers (Prints c.args.text.now c.args.offset m []) c.args.out.now (c.write_long.new.out ++ drop (length m + c.place_length.result) c.args.out.now)) (sym c.given-answer.ensures)
+    subst (Answers (Prints c.args.text.now c.args.offset m []) c.args.out.now (c.write_long.new.out ++ drop (length m + c.place_length.result) c.args.out.now)) (sym c.of_len-answer.ensures)
     (fits_put c.args.text.now c.args.offset m [] c.args.out.now c.write_long.new.out (length m + c.place_length.result) refl n c.write_long.ensures c.if-needed-out.true)
 
 pub returns-else-needed-out : goal.returns-else-needed-out
@@ -22,5 +22,5 @@ returns-else-needed-out c =
     let m = c.args.message.now in
     let place = shown_place (excerpt c.args.text.now c.args.offset) in
     let n : length m + c.place_length.result ≡ length (m ++ place) = omega (arith, c.place_length.ensures, length-append m place) in
-    subst (Answers (Prints c.args.text.now c.args.offset m []) c.args.out.now c.args.out.now) (sym c.given-answer.ensures)
+    subst (Answers (Prints c.args.text.now c.args.offset m []) c.args.out.now c.args.out.now) (sym c.of_len-answer.ensures)
     (short_put c.args.text.now c.args.offset m [] c.args.out.now (length m + c.place_length.result) n c.if-needed-out.false)

@@ -73,7 +73,7 @@ impl<'a> LineIndex<'a> {
         })
     }
 
-    /// Line and column of a place in the text, as [`Span::linecol_in`] tells them: both from 0, and
+    /// Line and column of a place in the text, as [`Span::linecol_in`] answers them: both from 0, and
     /// a column is a number of bytes.
     ///
     /// # Proved

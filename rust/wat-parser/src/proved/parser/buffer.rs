@@ -116,7 +116,7 @@ impl<'a> ParseBuffer<'a> {
     }
 
     /// What holds of every buffer: its tokens are those of its text, which is UTF-8 and of fewer than
-    /// 2^32 bytes. The call does nothing, as [`Parser::is_sound`], which says the same of a parser.
+    /// 2^32 bytes. The call does nothing, as [`Parser::lemma_sound`], which says the same of a parser.
     ///
     /// # Proved
     ///
@@ -125,12 +125,12 @@ impl<'a> ParseBuffer<'a> {
     /// ensures utf8 { IsUtf8 self.now.setting.text }
     /// ensures short { length self.now.setting.text < 2 ^ 32 }
     /// ```
-    pub fn is_sound(&self) {
+    pub fn lemma_sound(&self) {
         let table = self.table_ref();
         let _text = table.text();
     }
 
-    /// The tokens are those of the text, which has no others.
+    /// The tokens are those of the text, which has no others. A lemma: the call does nothing.
     ///
     /// # Proved
     ///
@@ -139,7 +139,7 @@ impl<'a> ParseBuffer<'a> {
     ///     s.track ≡ self.now.track → s ≡ self.now }
     /// ensures read { IsRead self.now }
     /// ```
-    pub(crate) fn is_only(&self) {
+    pub(crate) fn lemma_only(&self) {
         wat_lex::proved::laws::one_tiling();
         let _table = self.table_ref();
     }

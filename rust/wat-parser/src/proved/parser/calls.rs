@@ -177,7 +177,7 @@ impl<'a> Parser<'a> {
         }
     }
 
-    /// Replies to a call, and does it. Where memory is wanting it is not done.
+    /// Makes a call, and answers its reply. Out of memory, it is not made.
     ///
     /// # Proved
     ///
@@ -246,8 +246,8 @@ impl<'a> Parser<'a> {
     }
 }
 
-/// Makes the calls of a list one after another, and answers the replies. Where memory is wanting
-/// the parser is after some beginning of the list.
+/// Makes the calls of a list one after another, and answers the replies. Out of memory, the first
+/// calls of the list were made, and the others not.
 ///
 /// # Proved
 ///

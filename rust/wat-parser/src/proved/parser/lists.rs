@@ -79,10 +79,10 @@ impl<'a> Parser<'a> {
     /// ```
     pub fn all_while<P: Peek, T: Parse<'a>>(&mut self) -> Result<Vec<T>, Error> {
         let mut values = Vec::new(self.alloc());
-        self.is_sound();
+        self.lemma_sound();
         'each: while self.peek::<P>()? {
             let value = self.parse::<T>()?;
-            self.is_sound();
+            self.lemma_sound();
             values.push(value)?;
         }
         Ok(values)

@@ -54,14 +54,14 @@ impl Names {
         }
     }
 
-    /// No name has a count of 0.
+    /// No name has a count of 0. A lemma: the call does nothing.
     ///
     /// # Proved
     ///
     /// ```text
     /// ensures { IsPositive self.now }
     /// ```
-    pub fn are_positive(&self) {
+    pub fn lemma_positive(&self) {
         let _names = self.counts.len();
     }
 

@@ -60,7 +60,7 @@ impl<'a> TableRef<'a> {
         }
     }
 
-    /// The tokens are those of the text, and so many at most.
+    /// The tokens are those of the text, and so many at most. A lemma: the call does nothing.
     ///
     /// # Proved
     ///
@@ -68,7 +68,7 @@ impl<'a> TableRef<'a> {
     /// ensures read { IsRead self.now }
     /// ensures small { length self.now.tokens < 2 ^ 63 }
     /// ```
-    pub fn is_read(&self) {
+    pub fn lemma_read(&self) {
         let _count = self.table.tokens.len();
     }
 
@@ -111,20 +111,6 @@ fn lexical(fault: LexFault) -> Fault {
     }
 }
 
-/// Whether tokens of the kind are never shown.
-///
-/// # Proved
-///
-/// ```text
-/// ensures { result ≡ is_blank kind }
-/// ```
-fn is_blank(kind: TokenKind) -> bool {
-    match kind {
-        TokenKind::Whitespace | TokenKind::LineComment | TokenKind::BlockComment => true,
-        _ => false,
-    }
-}
-
 /// Whether a token is neither white space nor a comment.
 ///
 /// # Proved
@@ -133,7 +119,7 @@ fn is_blank(kind: TokenKind) -> bool {
 /// ensures { result ≡ list_any (λ t. not (is_blank t.kind)) tokens.now }
 /// ```
 fn any_counts(tokens: &[Token]) -> bool {
-    tokens.iter().any(|token| !is_blank(token.kind))
+    tokens.iter().any(|token| !token.kind.is_blank())
 }
 
 /// # Proved
@@ -212,7 +198,7 @@ impl<'a> TableRef<'a> {
         self.table.tokens.get(place).copied()
     }
 
-    /// The token at a place is one for the readers.
+    /// The token at a place is one for the readers. A lemma: the call does nothing.
     ///
     /// # Proved
     ///
@@ -221,23 +207,8 @@ impl<'a> TableRef<'a> {
     /// ensures token { IsTokenOf self.now.setting.text token }
     /// ensures short { token.offset + token.len < 2 ^ 32 }
     /// ```
-    pub fn is_readable(&self, place: usize, token: Token) {
+    pub fn lemma_readable(&self, place: usize, token: Token) {
         let _count = self.table.tokens.len();
-    }
-
-    /// Whether the byte after the token's first is `@`.
-    ///
-    /// # Proved
-    ///
-    /// ```text
-    /// requires { token.offset < 2 ^ 32 }
-    /// ensures { result ≡ is_marked self.now.setting.text token }
-    /// ```
-    fn is_marked(&self, token: Token) -> bool {
-        match self.text().as_bytes().get(token.offset + 1) {
-            Some(byte) => *byte == b'@',
-            None => false,
-        }
     }
 
     /// What the name of an annotation means that is a part of the text.
@@ -273,7 +244,7 @@ impl<'a> TableRef<'a> {
         let Some(token) = self.token_at(place + 1) else {
             return Step::Finish;
         };
-        self.is_readable(place + 1, token);
+        self.lemma_readable(place + 1, token);
         match find(&self.table.opens, &self.table.starts, place) {
             Some(i) => match &self.table.names[i] {
                 Some(name) => step_written(name, token, names),
@@ -283,8 +254,8 @@ impl<'a> TableRef<'a> {
         }
     }
 
-    /// Whether the annotation at a place is skipped since no name is registered and it has one. It is
-    /// known without its name, and false tells nothing.
+    /// Whether the annotation at a place is skipped since no name is registered and it has one. Its
+    /// name is not read for that; false says nothing.
     ///
     /// # Proved
     ///
@@ -297,7 +268,7 @@ impl<'a> TableRef<'a> {
     fn is_unregistered(&self, place: usize, token: Token, names: &Names) -> bool {
         wat_lex::proved::laws::names();
         wat_lex::proved::laws::tokens();
-        self.is_readable(place, token);
+        self.lemma_readable(place, token);
         if token.len < 2 {
             return false;
         }
@@ -335,7 +306,7 @@ impl<'a> TableRef<'a> {
         match self.token_at(place + 1) {
             Some(next) => match next.kind {
                 TokenKind::Annotation => {
-                    if !self.is_marked(token) {
+                    if !token.is_marked(self.text()) {
                         Step::Take
                     } else if self.is_unregistered(place + 1, next, names) {
                         Step::Skip
@@ -346,7 +317,7 @@ impl<'a> TableRef<'a> {
                 _ => Step::Take,
             },
             None => {
-                if self.is_marked(token) {
+                if token.is_marked(self.text()) {
                     Step::Finish
                 } else {
                     Step::Take
@@ -419,7 +390,7 @@ impl<'a> TableRef<'a> {
         let mut i = place;
         while i < self.table.tokens.len() {
             let token = self.table.tokens[i];
-            self.is_readable(i, token);
+            self.lemma_readable(i, token);
             match self.step(i, token, names) {
                 Step::Pass => i += 1,
                 Step::Take => return Ok(Some((token, i + 1))),
@@ -445,7 +416,7 @@ impl<'a> TableRef<'a> {
     /// ```
     fn past_blanks(&self, place: usize) -> usize {
         let mut i = place;
-        while i < self.table.tokens.len() && is_blank(self.table.tokens[i].kind) {
+        while i < self.table.tokens.len() && self.table.tokens[i].kind.is_blank() {
             i += 1;
         }
         i
@@ -534,7 +505,7 @@ impl<'a> TableRef<'a> {
     /// ```
     pub fn numbered(&self, number: usize) -> (Token, usize) {
         let token = self.table.tokens[number];
-        self.is_readable(number, token);
+        self.lemma_readable(number, token);
         (token, number + 1)
     }
 
@@ -571,7 +542,7 @@ impl<'a> TableRef<'a> {
         let at = self.past_space(place);
         match self.token_at(at) {
             Some(token) if is_comment(token.kind) => {
-                self.is_readable(at, token);
+                self.lemma_readable(at, token);
                 Ok(Some((token, at + 1)))
             }
             Some(_) => Ok(None),
@@ -603,7 +574,7 @@ impl<'a> TableRef<'a> {
         }
         match self.token_at(place - 1) {
             Some(token) => {
-                self.is_readable(place - 1, token);
+                self.lemma_readable(place - 1, token);
                 token.offset + token.len as usize
             }
             None => 0,

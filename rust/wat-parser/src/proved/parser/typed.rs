@@ -65,7 +65,7 @@ impl<'a> Parser<'a> {
     pub fn parens_of<T: Parse<'a>>(&mut self) -> Result<T, Error> {
         let place = self.place;
         let depth = self.depth;
-        self.table.is_read();
+        self.table.lemma_read();
         self.open()?;
         self.depth += 1;
         let result = self.parse::<T>();

@@ -20,7 +20,7 @@ use wat_lex::proved::token::Span;
 /// ensures read { IsRead buffer.now }
 /// ```
 pub fn parse<'a, T: Parse<'a>>(buffer: &'a ParseBuffer<'a>) -> Result<T, Error> {
-    buffer.is_only();
+    buffer.lemma_only();
     read(buffer)
 }
 

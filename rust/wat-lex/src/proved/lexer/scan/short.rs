@@ -1,5 +1,5 @@
 // Made by tools/erase from crates/wat_lex/src/lexer/scan/short.rt; do not edit.
-//! Numbers without underscores that one block tells.
+//! Numbers without underscores that one block holds.
 
 use crate::shim::prelude::*;
 use crate::proved::lexer::kinds::{FloatKind, IntegerKind, Sign, TokenKind};
@@ -131,7 +131,7 @@ pub enum Prefixed {
     Float,
     /// A NaN with a payload, without sign and underscores.
     Payload,
-    /// What one block does not tell.
+    /// What is not known from one block.
     Other,
 }
 

@@ -18,7 +18,7 @@ pub enum Start {
     Number(Sign),
     /// The first letter of `inf` or of `nan`, with which keywords begin too.
     Letter,
-    /// Any other idchar, which alone tells the kind of a word.
+    /// Any other idchar. The kind of the word is known from it.
     Keyword,
     Id,
     Annotation,
@@ -29,7 +29,7 @@ pub enum Start {
 
 /// What a text begins with, by its first byte.
 // Bytes that are neighbours are in patterns of their own: as one they would be a range, and ranges
-// are compared one after the other where one jump tells the rest.
+// are compared one after the other where one jump would do.
 /// # Proved
 ///
 /// ```text

@@ -11,5 +11,5 @@ returns-then-are_none c unquoted =
     let plain : is_quoted text c.args.token ≡ false = search rules in
     let long : 1 < c.args.token.len = omega arith in
     let none : c.args.names.now ≡ no_names = search rules in
-    let name = plain_value c.tokens.ensures.word c.names.ensures.value text c.args.token c.text.ensures.utf8 c.is_readable.ensures.token c.requires.kind plain long in
+    let name = plain_value c.tokens.ensures.word c.names.ensures.value text c.args.token c.text.ensures.utf8 c.lemma_readable.ensures.token c.requires.kind plain long in
     skipped text c.args.names.now c.args.token name.0 none c.requires.kind name.1

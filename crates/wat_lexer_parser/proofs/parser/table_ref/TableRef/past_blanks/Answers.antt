@@ -1,6 +1,6 @@
 use Rattle.std.proofs.Common.{◌≡◌, ◌<◌, ◌+◌, ◌∙◌, sym, arith, rules, get_or, length, true}
 use Rattle.std.specs.Prelude.{slice_get}
-use Rattle.wat_lexer_parser.specs.groups.Sorts.{is_blank}
+use Rattle.wat_lex.specs.tokens.Blanks.{is_blank}
 use Rattle.wat_lexer_parser.proofs.shown.Looks.{blank_passes, shown_pass}
 use Rattle.wat_lexer_parser.proofs.parser.table_ref.TableRef.past_blanks.Goals as goal
 

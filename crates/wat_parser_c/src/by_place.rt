@@ -145,5 +145,5 @@ fn give_shown(text: &str, fault: LexFault, out: &mut [u8]) -> Answer
     if needed <= out.len() {
         rendered.write_to(out);
     }
-    Answer::given(needed)
+    Answer::of_len(needed)
 }

@@ -5,7 +5,7 @@ use Rattle.wat_lex.specs.tokens.Tiling.{MaximalTiling}
 use Rattle.wat_lex.specs.declared.lexer.faults.LexFault.{LexFault}
 use Rattle.wat_lex.specs.declared.lexer.kinds.Token.{Token}
 use Rattle.wat_lexer_parser.specs.places.Source.{Source}
-use Rattle.wat_lexer_parser.proofs.parser.buffer.ParseBuffer.is_only.Goals as goal
+use Rattle.wat_lexer_parser.proofs.parser.buffer.ParseBuffer.lemma_only.Goals as goal
 
 same : (x y : Setting) (b c : Bool) (ts us : List Token) (e f : Option LexFault) → x ≡ y → b ≡ c → ts ≡ us → e ≡ f
     → ◌≡◌ {A = Source} (record { setting = x; track = b; tokens = ts; ending = e }) (record { setting = y; track = c; tokens = us; ending = f })

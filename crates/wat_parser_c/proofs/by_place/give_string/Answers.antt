@@ -1,7 +1,7 @@
 use Rattle.std.specs.Cow.{cow_slice_items}
 use Rattle.wat_parser_c.specs.Readings.{Finds, IsString, ReadsString}
 use Rattle.wat_parser_c.proofs.Answering.{given}
-use Rattle.wat_parser_c.proofs.given.give_string.Goals as goal
+use Rattle.wat_parser_c.proofs.by_place.give_string.Goals as goal
 
 pub returns-in-Ok : goal.returns-in-Ok
 returns-in-Ok c =

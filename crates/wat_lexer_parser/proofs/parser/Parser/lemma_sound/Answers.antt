@@ -1,5 +1,5 @@
 use Rattle.std.proofs.Common.{rules}
-use Rattle.wat_lexer_parser.proofs.parser.Parser.is_sound.Goals as goal
+use Rattle.wat_lexer_parser.proofs.parser.Parser.lemma_sound.Goals as goal
 
 pub returns : goal.returns
 returns c = record {

@@ -2,7 +2,7 @@ use Rattle.std.proofs.Common.{◌∙◌}
 use Rattle.std.specs.Cow.{cow_str_bytes}
 use Rattle.wat_parser_c.specs.Readings.{Finds, IsNamed, ReadsName}
 use Rattle.wat_parser_c.proofs.Answering.{given}
-use Rattle.wat_parser_c.proofs.given.give_name.Goals as goal
+use Rattle.wat_parser_c.proofs.by_place.give_name.Goals as goal
 
 pub returns-in-Ok : goal.returns-in-Ok
 returns-in-Ok c =

@@ -4,7 +4,7 @@ use Rattle.wat_parser_c.specs.Readings.{Finds, IsFloat, ReadsFloat}
 use Rattle.wat_parser_c.specs.declared.answers.Refusal.TheVariants.{Absent}
 use Rattle.wat_parser_c.proofs.Answering.{given, refused}
 use Rattle.wat_parser_c.proofs.Parts.{part_found, part_missing}
-use Rattle.wat_parser_c.proofs.given.give_float.Goals as goal
+use Rattle.wat_parser_c.proofs.by_place.give_float.Goals as goal
 
 pub returns-in-Some : goal.returns-in-Some
 returns-in-Some c =

@@ -3,7 +3,7 @@ use Rattle.std.specs.Prelude.{slice_get}
 use Rattle.wat_lex.specs.tokens.ReadableTokens.{IsTokenOf}
 use Rattle.wat_lexer_parser.specs.places.Source.{Source}
 use Rattle.wat_lexer_parser.proofs.inside.Filling.{readable_at}
-use Rattle.wat_lexer_parser.proofs.parser.table_ref.TableRef.is_readable.Goals as goal
+use Rattle.wat_lexer_parser.proofs.parser.table_ref.TableRef.lemma_readable.Goals as goal
 
 pub returns-clause-token : goal.returns-clause-token
 returns-clause-token c =

@@ -2,7 +2,7 @@ use Rattle.std.proofs.Common.{◌≡◌, ◌<◌, ◌+◌, ◌∙◌, length, ge
 use Rattle.std.specs.Int.Bits.{bit_and}
 use Rattle.wat_rows.specs.inside.OneByte.{sorts, longer_before}
 use Rattle.wat_rows.proofs.OneByte.{is_at_alone}
-use Rattle.wat_rows.proofs.one_byte.alone.Goals as goal
+use Rattle.wat_rows.proofs.one_byte.one_byte_token.Goals as goal
 
 pub returns-then-longer_before-sorts-eq0 : goal.returns-then-longer_before-sorts-eq0
 returns-then-longer_before-sorts-eq0 c =

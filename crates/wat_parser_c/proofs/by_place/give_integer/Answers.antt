@@ -2,7 +2,7 @@ use Rattle.std.proofs.Common.{◌∙◌}
 use Rattle.wat_lex.specs.values.NumberValues.{integer_digits}
 use Rattle.wat_parser_c.specs.Readings.{Finds, IsInteger, ReadsInteger}
 use Rattle.wat_parser_c.proofs.Answering.{given}
-use Rattle.wat_parser_c.proofs.given.give_integer.Goals as goal
+use Rattle.wat_parser_c.proofs.by_place.give_integer.Goals as goal
 
 pub returns-in-Ok : goal.returns-in-Ok
 returns-in-Ok c =

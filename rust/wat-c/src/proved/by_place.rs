@@ -1,4 +1,4 @@
-// Made by tools/erase from crates/wat_parser_c/src/given.rt; do not edit.
+// Made by tools/erase from crates/wat_parser_c/src/by_place.rt; do not edit.
 //! What the readers find, into a caller's buffer.
 
 use wat_lex::shim::prelude::*;
@@ -165,5 +165,5 @@ fn give_shown(text: &str, fault: LexFault, out: &mut [u8]) -> Answer {
     if needed <= out.len() {
         rendered.write_to(out);
     }
-    Answer::given(needed)
+    Answer::of_len(needed)
 }
