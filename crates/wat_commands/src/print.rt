@@ -19,14 +19,13 @@ use crate::run::RunFailure;
 use std::alloc::{AllocError, Global};
 use wat_lex::error::Error;
 use wat_lex::lexer::{Lexer, Settings};
-use wat_lex::token::Span;
 use wat_lexer_parser::laws;
 use wat_lines::ends::{Failed, Sink};
 use wat_lines::row::object_open;
 use wat_lists::blank::write_blanked;
 use wat_lists::input::text_of;
 use wat_lists::json::{push_report, show_json, write_json};
-use wat_lists::list::write_lines;
+use wat_lists::list::{error_of, write_lines};
 use wat_lists::play::play;
 use wat_lists::show::{Showing, show};
 use wat_types::compile_types;
@@ -42,19 +41,14 @@ fn answer(written: Result<(), Failed>, error: Option<Error>) -> Result<Option<Er
 }
 
 /// The error of the fault of a lexer's text, where it has one.
-fn error_of(alloc: Global, lexer: &Lexer<'_>) -> Result<Option<Error>, RunFailure>
+fn error_in(alloc: Global, lexer: &Lexer<'_>) -> Result<Option<Error>, RunFailure>
     ensures error { IfOk result (ReportsEnd lexer.now) }
     ensures refused { IfErr result (λ e. e ≡ RunFailure.Memory alloc_error) }
 {
     let text = lexer.input();
-    let Some(fault) = lexer.first_fault(0) else {
-        return Ok(None);
-    };
-    let span = Span::from_offset(fault.offset);
-    let error = Error::lex(alloc, span, text, fault.error);
-    match error.alloc_error() {
-        Some(refused) => Err(RunFailure::from(refused)),
-        None => Ok(Some(error)),
+    match lexer.first_fault(0) {
+        Some(fault) => Ok(Some(error_of(alloc, text, fault)?)),
+        None => Ok(None),
     }
 }
 
@@ -73,7 +67,7 @@ fn print_raw<W: Sink>(
 {
     wat_lex::laws::one_tiling();
     let lexer = Lexer::with_settings(text, settings);
-    let error = error_of(alloc, &lexer)?;
+    let error = error_in(alloc, &lexer)?;
     answer(write_lines(&lexer, output), error)
 }
 
@@ -132,7 +126,7 @@ fn print_json<W: Sink>(
     wat_lex::laws::one_tiling();
     let lexer = Lexer::with_settings(text, settings);
     let begin = object_open(alloc, file)?;
-    let error = error_of(alloc, &lexer)?;
+    let error = error_in(alloc, &lexer)?;
     let last = json_end(alloc, text, &begin, &error)?;
     answer(write_rows(&lexer, &begin, &last, output), error)
 }
@@ -152,7 +146,7 @@ fn print_blank<W: Sink>(
     wat_lex::laws::one_tiling();
     laws::blank_texts();
     let lexer = Lexer::with_settings(text, settings);
-    if let Some(error) = error_of(alloc, &lexer)? {
+    if let Some(error) = error_in(alloc, &lexer)? {
         return Ok(Some(error));
     }
     answer(write_blanked(&lexer, output), None)

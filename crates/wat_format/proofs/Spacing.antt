@@ -110,7 +110,7 @@ legal flags (x ∷ y ∷ ys) h l =
     (touch_in x.kind (chars x.bytes) y.kind (chars y.bytes) g.others (g.others ++ chars (joined (gapped y.white (to_pieces ys)))) g.char h.0.no_white (λ k. subst (Begins is_line_end) e (l.0.ended k)) g.cut g.is (l.0.apart e)))
     (λ n e. l.0.ended e)
 
--- what is there is legal
+-- words whose pieces are legal are legal
 white_ended : (flags : Settings) (v white : List ℕ) (ps : List Piece) → Each is_whitespace white → IsUtf8 (joined ps) → white ≢ [] → MayFollow LineComment v (chars (joined (gapped white ps))) → Begins is_line_end white
 white_ended flags v [] ps h u n m = absurd (n refl)
 white_ended flags v (c ∷ w) ps h u n m =

@@ -2,7 +2,6 @@
 ghost use Rattle.std.specs.Prelude.{◌≡◌, ◌⊎◌, ◌↔◌, ◌<◌, ◌^◌, ℕ, true, None, Some, length};
 ghost use Rattle.std.specs.Prelude.{alloc_error, IfOk, OnOk, OnErr, IfErr, IfSome, IsErrOf};
 ghost use Rattle.std.specs.Str.{IsValidUpTo};
-ghost use Rattle.wat_lex.specs.errors.Errors.{lexical};
 ghost use Rattle.wat_lines.specs.declared.failed.Failed.{Failed};
 ghost use Rattle.wat_lists.specs.Inputs.{ReadsPast, ReadsShort, HasEnded};
 ghost use Rattle.wat_lists.specs.Layouts.{Compares, WritesLayout, WritesPart};
@@ -10,13 +9,13 @@ ghost use Rattle.wat_lists.specs.Refusals.{IsNotUtf8, IsFailedWrite, failure_aft
 ghost use Rattle.wat_lists.specs.Refusals.{read_failure, write_failure};
 
 use crate::input::{RunFailure, read_whole, text_of};
+use crate::list::error_of;
 use std::alloc::Global;
 use wat_format::error::Error as FormatError;
 use wat_format::format::format;
 use wat_format::stream::{WriteError, format_to};
 use wat_lex::error::Error;
-use wat_lex::lexer::{LexFault, Settings};
-use wat_lex::token::Span;
+use wat_lex::lexer::Settings;
 use wat_lines::ends::{Sink, Source};
 
 /// What comes of comparing a text with its layout.
@@ -30,19 +29,6 @@ pub enum Compared {
     Longer,
     /// It has a fault, with this error.
     Faulty(Error),
-}
-
-/// The error of a text's fault.
-fn error_of(alloc: Global, text: &str, fault: LexFault) -> Result<Error, RunFailure>
-    requires { length text.now < 2 ^ 32 }
-    ensures error { IfOk result (λ error. error ≡ Some (lexical text.now fault)) }
-    ensures refused { IfErr result (λ e. e ≡ RunFailure.Memory alloc_error) }
-{
-    let error = Error::lex(alloc, Span::from_offset(fault.offset), text, fault.error);
-    match error.alloc_error() {
-        Some(refused) => Err(RunFailure::from(refused)),
-        None => Ok(error),
-    }
 }
 
 /// Writes the layout of a text, or answers the error of its fault.

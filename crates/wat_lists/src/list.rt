@@ -1,13 +1,17 @@
 //! The list of a text's raw tokens.
-ghost use Rattle.std.specs.Prelude.{◌≡◌, ◌++◌, ◌+◌, ◌<◌, ◌^◌, length, IfOk, OnOk, OnErr, IsNone};
+ghost use Rattle.std.specs.Prelude.{◌≡◌, ◌++◌, ◌+◌, ◌<◌, ◌^◌, length, Some, alloc_error};
+ghost use Rattle.std.specs.Prelude.{IfOk, IfErr, OnOk, OnErr, IsNone};
+ghost use Rattle.wat_lex.specs.errors.Errors.{lexical};
 ghost use Rattle.wat_lexer_parser.specs.places.Source.{IsRead};
 ghost use Rattle.wat_lines.specs.Blocks.{AppendsEach, AppendsEachCut};
 ghost use Rattle.wat_lines.specs.Lines.{line};
 ghost use Rattle.wat_lines.specs.Streams.{failure_after};
 
+use crate::input::RunFailure;
 use std::alloc::{AllocError, Global};
 use wat_lex::error::Error;
-use wat_lex::lexer::{Lexer, Settings, Token};
+use wat_lex::lexer::{LexFault, Lexer, Settings, Token};
+use wat_lex::token::Span;
 use wat_lexer_parser::parser::ParseBuffer;
 use wat_lines::block::Block;
 use wat_lines::ends::{Failed, Sink};
@@ -28,6 +32,19 @@ pub(crate) fn refusal_of(error: &Error) -> AllocError
     requires { IsNone error.now }
 {
     error.alloc_error().unwrap()
+}
+
+/// The error of a text's fault.
+pub fn error_of(alloc: Global, text: &str, fault: LexFault) -> Result<Error, RunFailure>
+    requires { length text.now < 2 ^ 32 }
+    ensures error { IfOk result (λ error. error ≡ Some (lexical text.now fault)) }
+    ensures refused { IfErr result (λ e. e ≡ RunFailure.Memory alloc_error) }
+{
+    let error = Error::lex(alloc, Span::from_offset(fault.offset), text, fault.error);
+    match error.alloc_error() {
+        Some(refused) => Err(RunFailure::from(refused)),
+        None => Ok(error),
+    }
 }
 
 /// The buffer of a text that is read with these settings.

@@ -7,14 +7,13 @@ use crate::commands::run::RunFailure;
 use crate::shim::alloc::{AllocError, Global};
 use wat_lex::proved::error::Error;
 use wat_lex::proved::lexer::{Lexer, Settings};
-use wat_lex::proved::token::Span;
 use wat_parser::proved::laws;
 use crate::lines::ends::{Failed, Sink};
 use crate::lines::row::object_open;
 use crate::lists::blank::write_blanked;
 use crate::lists::input::text_of;
 use crate::lists::json::{push_report, show_json, write_json};
-use crate::lists::list::write_lines;
+use crate::lists::list::{error_of, write_lines};
 use crate::lists::play::play;
 use crate::lists::show::{Showing, show};
 use crate::types::compile_types;
@@ -41,16 +40,11 @@ fn answer(written: Result<(), Failed>, error: Option<Error>) -> Result<Option<Er
 /// ensures error { IfOk result (ReportsEnd lexer.now) }
 /// ensures refused { IfErr result (λ e. e ≡ RunFailure.Memory alloc_error) }
 /// ```
-fn error_of(alloc: Global, lexer: &Lexer<'_>) -> Result<Option<Error>, RunFailure> {
+fn error_in(alloc: Global, lexer: &Lexer<'_>) -> Result<Option<Error>, RunFailure> {
     let text = lexer.input();
-    let Some(fault) = lexer.first_fault(0) else {
-        return Ok(None);
-    };
-    let span = Span::from_offset(fault.offset);
-    let error = Error::lex(alloc, span, text, fault.error);
-    match error.alloc_error() {
-        Some(refused) => Err(RunFailure::from(refused)),
-        None => Ok(Some(error)),
+    match lexer.first_fault(0) {
+        Some(fault) => Ok(Some(error_of(alloc, text, fault)?)),
+        None => Ok(None),
     }
 }
 
@@ -73,7 +67,7 @@ fn print_raw<W: Sink>(
 ) -> Result<Option<Error>, RunFailure> {
     wat_lex::proved::laws::one_tiling();
     let lexer = Lexer::with_settings(text, settings);
-    let error = error_of(alloc, &lexer)?;
+    let error = error_in(alloc, &lexer)?;
     answer(write_lines(&lexer, output), error)
 }
 
@@ -144,7 +138,7 @@ fn print_json<W: Sink>(
     wat_lex::proved::laws::one_tiling();
     let lexer = Lexer::with_settings(text, settings);
     let begin = object_open(alloc, file)?;
-    let error = error_of(alloc, &lexer)?;
+    let error = error_in(alloc, &lexer)?;
     let last = json_end(alloc, text, &begin, &error)?;
     answer(write_rows(&lexer, &begin, &last, output), error)
 }
@@ -168,7 +162,7 @@ fn print_blank<W: Sink>(
     wat_lex::proved::laws::one_tiling();
     laws::blank_texts();
     let lexer = Lexer::with_settings(text, settings);
-    if let Some(error) = error_of(alloc, &lexer)? {
+    if let Some(error) = error_in(alloc, &lexer)? {
         return Ok(Some(error));
     }
     answer(write_blanked(&lexer, output), None)

@@ -3,13 +3,13 @@
 
 use crate::shim::prelude::*;
 use crate::lists::input::{RunFailure, read_whole, text_of};
+use crate::lists::list::error_of;
 use crate::shim::alloc::Global;
 use crate::format::error::Error as FormatError;
 use crate::format::format::format;
 use crate::format::stream::{WriteError, format_to};
 use wat_lex::proved::error::Error;
-use wat_lex::proved::lexer::{LexFault, Settings};
-use wat_lex::proved::token::Span;
+use wat_lex::proved::lexer::Settings;
 use crate::lines::ends::{Sink, Source};
 
 /// What comes of comparing a text with its layout.
@@ -22,23 +22,6 @@ pub enum Compared {
     Longer,
     /// It has a fault, with this error.
     Faulty(Error),
-}
-
-/// The error of a text's fault.
-///
-/// # Proved
-///
-/// ```text
-/// requires { length text.now < 2 ^ 32 }
-/// ensures error { IfOk result (λ error. error ≡ Some (lexical text.now fault)) }
-/// ensures refused { IfErr result (λ e. e ≡ RunFailure.Memory alloc_error) }
-/// ```
-fn error_of(alloc: Global, text: &str, fault: LexFault) -> Result<Error, RunFailure> {
-    let error = Error::lex(alloc, Span::from_offset(fault.offset), text, fault.error);
-    match error.alloc_error() {
-        Some(refused) => Err(RunFailure::from(refused)),
-        None => Ok(error),
-    }
 }
 
 /// Writes the layout of a text, or answers the error of its fault.

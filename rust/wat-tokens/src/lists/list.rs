@@ -2,9 +2,11 @@
 //! The list of a text's raw tokens.
 
 use crate::shim::prelude::*;
+use crate::lists::input::RunFailure;
 use crate::shim::alloc::{AllocError, Global};
 use wat_lex::proved::error::Error;
-use wat_lex::proved::lexer::{Lexer, Settings, Token};
+use wat_lex::proved::lexer::{LexFault, Lexer, Settings, Token};
+use wat_lex::proved::token::Span;
 use wat_parser::proved::parser::ParseBuffer;
 use crate::lines::block::Block;
 use crate::lines::ends::{Failed, Sink};
@@ -33,6 +35,23 @@ pub(crate) fn push_line(lines: &mut Vec<u8>, token: &Token) -> Result<(), AllocE
 /// ```
 pub(crate) fn refusal_of(error: &Error) -> AllocError {
     error.alloc_error().unwrap()
+}
+
+/// The error of a text's fault.
+///
+/// # Proved
+///
+/// ```text
+/// requires { length text.now < 2 ^ 32 }
+/// ensures error { IfOk result (λ error. error ≡ Some (lexical text.now fault)) }
+/// ensures refused { IfErr result (λ e. e ≡ RunFailure.Memory alloc_error) }
+/// ```
+pub fn error_of(alloc: Global, text: &str, fault: LexFault) -> Result<Error, RunFailure> {
+    let error = Error::lex(alloc, Span::from_offset(fault.offset), text, fault.error);
+    match error.alloc_error() {
+        Some(refused) => Err(RunFailure::from(refused)),
+        None => Ok(error),
+    }
 }
 
 /// The buffer of a text that is read with these settings.
