@@ -80,7 +80,7 @@ REQUESTS = [
         "wat_format/src/format.rt",
         "format",
         "String::with_capacity(alloc, text.len())",
-        "let lexer = lexer_of(text, settings); let mut formatter = Formatter::new(alloc); let mut out =",
+        "let lexer = Lexer::with_settings(text, settings); let mut formatter = Formatter::new(alloc); let mut out =",
         "a text as long as the one given",
     ),
     (

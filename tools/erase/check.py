@@ -49,7 +49,6 @@ WRITTEN = [
     ("+ Drop", ""),
     (": Drop,", ","),
     (": Drop>", ">"),
-    (": Drop;", ";"),
 ]
 # Where each crate is found by the others, and by itself.
 PLACES = {
@@ -555,7 +554,7 @@ PLANTED = [
     ("a comment is dropped", "wat_lex/src/lexer/scan/starts.rt", "// Bytes that are neighbours", "// Bytes"),
     ("a line goes out by Rust's macro", "wat_tokens/src/report.rt", "match try_println!(rt;", "match println!(rt;"),
     ("files are Rust's own", "wat_tokens/src/replace.rt", "use crate::shim::fs::{File", "use std::fs::{File"),
-    ("a bound is gained", "wat_format/src/sink.rt", "type Failure;", "type Failure: Copy;"),
+    ("a bound is gained", "wat_commands/src/respond.rt", "type Input: Source", "type Input: Source + Copy"),
     ("a block is smaller", "wat_lines/src/block.rt", "const BLOCK: usize = 65_536;", "const BLOCK: usize = 65_535;"),
     ("the end is lost", "wat_lex/src/gensym.rt", "Ok(Id::gensym(span, self.generation))\n    }\n}", ""),
     ("C passes the length first", "wat_parser_c/src/lib.rt", "(text: *const u8, text_len: usize)", "(text_len: usize, text: *const u8)"),

@@ -37,7 +37,6 @@ WRITTEN = {
     "+ Drop": "",
     ": Drop,": ",",
     ": Drop>": ">",
-    ": Drop;": ";",
     # What takes memory from an allocator, and may be refused, is the shim's.
     "std::alloc": "SHIM::alloc",
     "std::borrow": "SHIM::borrow",

@@ -1,10 +1,10 @@
-//! Finds the static library of loops and the small C library of Rattle's kit, in the folder that `ARCHIVES` names.
+//! Finds the static libraries of loops and for C, and the small C library of Rattle's kit, in the folder that `ARCHIVES` names.
 
 fn main() {
     println!("cargo::rerun-if-env-changed=ARCHIVES");
     let folder = std::env::var("ARCHIVES").expect("ARCHIVES names the folder of libwat_measure.a");
     println!("cargo::rustc-link-search=native={folder}");
-    for archive in ["wat_measure", "libc_c"] {
+    for archive in ["wat_measure", "wat_parser_c", "libc_c"] {
         println!("cargo::rerun-if-changed={folder}/lib{archive}.a");
         println!("cargo::rustc-link-lib=static={archive}");
     }

@@ -10,7 +10,7 @@ use Rattle.wat_lexer_parser.specs.parser.State.{Answers}
 use Rattle.wat_lexer_parser.specs.places.Source.{Source, IsRead}
 use Rattle.wat_commands.specs.Compiles.{RefusedText}
 use Rattle.wat_types.specs.Binary.{Fits, content, module_bytes}
-use Rattle.wat_types.specs.Compiling.{Spells, compiled, compiled_text, plain, too_long}
+use Rattle.wat_types.specs.Compiling.{SpellsTypes, compiled, compiled_text, plain, too_long}
 use Rattle.wat_types.specs.Signatures.{Signature}
 
 compiled_fits : (types : List Signature) → Fits types → compiled types ≡ Ok (module_bytes types)
@@ -18,7 +18,7 @@ compiled_fits types h = ap (λ b. if b then Ok (module_bytes types) else Err too
 
 -- an error other than out of memory is the refusal of the text
 pub refused_text : {T E : Type 0} → EachPlaceIsTiled → (text : List ℕ) (f : T → List ℕ) (error : Option Report) (memory : Option E) → IsUtf8 text
-    → ((types : List Signature) → Spells text types → Answers {T = T} true f (compiled types) (Err error))
+    → ((types : List Signature) → SpellsTypes text types → Answers {T = T} true f (compiled types) (Err error))
     → ((s : Source) → IsRead s → s.setting ≡ plain text → s.track ≡ false → Answers {T = T} true f (compiled_text s) (Err error))
     → memory ≡ None → (IsNone error → IsSome memory) → RefusedText text [] error
 refused_text tiled text f None None u spelled refused n some = absurd (let d : false ≡ true = some refl in cc)

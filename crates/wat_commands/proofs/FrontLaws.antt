@@ -5,8 +5,8 @@ use Rattle.std.proofs.lemmas.List.{nil_from_length}
 use Rattle.wat_commands.specs.Options.{Word, Front, spells, flag_of, flag_or, front_of, no_options, same_flag, with_flag, with_file, times, times_in}
 use Rattle.wat_commands.specs.OptionSteps.{IsNext, IsStep, once_for}
 use Rattle.wat_commands.specs.declared.options.Flag.{Flag}
-use Rattle.wat_commands.specs.declared.options.Given.{Given}
-use Rattle.wat_commands.specs.declared.options.Given.TheVariants as given
+use Rattle.wat_commands.specs.declared.options.GivenOption.{GivenOption}
+use Rattle.wat_commands.specs.declared.options.GivenOption.TheVariants as given
 
 front_empty : front_of [] ≡ no_options []
 unfolding front_of
@@ -55,11 +55,11 @@ step_file words ws w n name e f s t = record { gives = (n, t, ap front_of e ∙ 
 counted : (f g : Flag) (front : Front) → times f (with_flag g front) ≡ (if same_flag f g then 1 else 0) + times f front
 counted f g front = refl
 
-pub times_step : (f : Flag) (words ws : List Word) (g : Given) → IsStep words g ws → times f (front_of words) ≡ once_for f g + times f (front_of ws)
+pub times_step : (f : Flag) (words ws : List Word) (g : GivenOption) → IsStep words g ws → times f (front_of words) ≡ once_for f g + times f (front_of ws)
 times_step f words ws (given.Flag h) s = ap (times f) s.gives ∙ counted f h (front_of ws)
 times_step f words ws (given.File name) s = omega (arith, ap (times f) s.gives.2)
 
-pub rest_step : (words ws : List Word) (g : Given) → IsStep words g ws → (front_of words).rest ≡ (front_of ws).rest
+pub rest_step : (words ws : List Word) (g : GivenOption) → IsStep words g ws → (front_of words).rest ≡ (front_of ws).rest
 rest_step words ws (given.Flag h) s = ap (λ f. f.rest) s.gives
 rest_step words ws (given.File name) s = ap (λ f. f.rest) s.gives.2
 

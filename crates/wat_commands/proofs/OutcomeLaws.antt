@@ -6,7 +6,7 @@ use Rattle.std.specs.Io.KnownBytes.{Appends, Keeps}
 use Rattle.wat_lex.specs.errors.Errors.{Report}
 use Rattle.wat_lines.specs.declared.failed.Failed.{Failed}
 use Rattle.wat_lists.specs.Places.{of_file}
-use Rattle.wat_lists.specs.Refusals.{IsWrite, refusal}
+use Rattle.wat_lists.specs.Refusals.{IsFailedWrite, refusal}
 use Rattle.wat_lists.specs.declared.input.RunFailure.{RunFailure}
 use Rattle.wat_lists.specs.declared.input.RunFailure.TheVariants.{Read, TooLong, NotUtf8, Write, Memory}
 use Rattle.wat_commands.specs.Outcomes.{is_unread, outcome_of, refused, Responds, Ran, TellsFault}
@@ -18,13 +18,13 @@ keeps_same : (a b : Option (List ℕ)) → b ≡ a → Keeps a b
 keeps_same None b e = tt
 keeps_same (Some xs) b e = subst (λ v. Keeps (Some xs) v) (sym e) refl
 
-kept : {S : Type 0} (held : S → Option (List ℕ)) (old new : S) (e : RunFailure) → ¬ IsWrite e → IsWrite e ⊎ (new ≡ old) → Keeps (held old) (held new)
+kept : {S : Type 0} (held : S → Option (List ℕ)) (old new : S) (e : RunFailure) → ¬ IsFailedWrite e → IsFailedWrite e ⊎ (new ≡ old) → Keeps (held old) (held new)
 kept held old new e other h = elim h [ inl w ↦ absurd (other w) | inr same ↦ keeps_same (held old) (held new) (ap held same) ]
 
 pub run_responds : {S : Type 0} (held : S → Option (List ℕ)) (old new : S) (prints : List ℕ → List ℕ → Option (Option Report) → Type 0) (left : Option (List ℕ)) (run : Result (Option (Option Report)) RunFailure) →
     IfOk run (λ error. IfSome left (λ bytes. AppendsText (prints bytes) error (held old) (held new))) →
     ((failed : Failed) → IsErrOf run (Write failed) → IfSome left (λ bytes. AppendsCut (prints bytes) (held old) (held new))) →
-    IfErr run (λ e. IsWrite e ⊎ (new ≡ old)) →
+    IfErr run (λ e. IsFailedWrite e ⊎ (new ≡ old)) →
     IfSome left (λ bytes. Responds (prints bytes) (outcome_of run) (held old) (held new))
 run_responds held old new prints None run listed cut unwritten = tt
 run_responds held old new prints (Some bytes) (Ok None) listed cut unwritten = listed

@@ -130,23 +130,6 @@ blanks same settings text ts u l tiling = record {
 tiled_whole : TilingsAreOne → (s : Setting) (reports : ReportsEnd s None) (ts : List Token) (f : Option LexFault) → MaximalTiling s 0 ts f → MaximalTiling s 0 ts None
 tiled_whole one s reports ts f tiling = subst (MaximalTiling s 0 ts) (no_ending s.text f (same_ending one s None reports (ts, f, tiling))) tiling
 
-pub blanks_written : TilingsAreOne → BlankTextsShowTheSame → (settings : Settings) (text : List ℕ) (old new : Option (List ℕ)) → IsUtf8 text → length text < 2 ^ 32 → ReportsEnd (setting settings text) None
-    → AppendsEach (blank_text text) (setting settings text) old new → AppendsText (Blanks settings text) None old new
-blanks_written one same settings text old new u l reports each = record {
-  text = flat_map (blank_text text) each.tokens;
-  printed = blanks same settings text each.tokens u l (tiled_whole one (setting settings text) reports each.tokens each.ending each.tiling);
-  appended = each.appended;
-}
-
-pub blanks_cut : TilingsAreOne → BlankTextsShowTheSame → (settings : Settings) (text : List ℕ) (old new : Option (List ℕ)) → IsUtf8 text → length text < 2 ^ 32 → ReportsEnd (setting settings text) None
-    → AppendsEachCut (blank_text text) (setting settings text) old new → AppendsCut (Blanks settings text) old new
-blanks_cut one same settings text old new u l reports each = record {
-  text = flat_map (blank_text text) each.tokens;
-  error = None;
-  printed = blanks same settings text each.tokens u l (tiled_whole one (setting settings text) reports each.tokens each.ending each.tiling);
-  appended = each.appended;
-}
-
 faulty : (settings : Settings) (text : List ℕ) (ending : Option LexFault) (ts : List Token) (e : Option Report) → IsUtf8 text → length text < 2 ^ 32 → MaximalTiling (setting settings text) 0 ts ending → Some e ≡ report_of text ending → Blanks settings text [] (Some e)
 faulty settings text None ts e u l tiling r = absurd (let d : Some e ≡ None = r in cc)
 faulty settings text (Some f) ts e u l tiling r = record {

@@ -7,7 +7,7 @@ use Rattle.wat_lex.specs.declared.lexer.settings.Settings.{Settings}
 use Rattle.wat_lexer_parser.specs.declared.parser.calls.Call.{Call}
 use Rattle.wat_lines.specs.declared.failed.Failed.{Failed}
 use Rattle.wat_lists.specs.Inputs.{ReadsPast}
-use Rattle.wat_lists.specs.Refusals.{IsWrite, error_of, read_failure, write_failure}
+use Rattle.wat_lists.specs.Refusals.{IsFailedWrite, error_of, read_failure, write_failure}
 use Rattle.wat_lists.specs.Replies.{Plays}
 use Rattle.wat_lists.specs.declared.input.RunError.{RunError}
 use Rattle.wat_lists.specs.declared.input.RunError.TheVariants as error
@@ -72,7 +72,7 @@ as_ended : (P : Type 0) (r : Run) → OnOk r P → OnOk (without_cause r) P
 as_ended P (Ok e) h = h
 as_ended P (Err f) h = tt
 
-as_unwritten : (P : Type 0) (r : Run) → IfErr r (λ e. IsWrite e ⊎ P) → IfErr (without_cause r) (λ e. (e ≡ error.Write) ⊎ P)
+as_unwritten : (P : Type 0) (r : Run) → IfErr r (λ e. IsFailedWrite e ⊎ P) → IfErr (without_cause r) (λ e. (e ≡ error.Write) ⊎ P)
 as_unwritten P (Ok e) h = tt
 as_unwritten P (Err f) h = elim h [ inl w ↦ inl (ap error_of w.1) | inr p ↦ inr p ]
 

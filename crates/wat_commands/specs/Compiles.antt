@@ -7,19 +7,19 @@ use Rattle.wat_lex.specs.tokens.Tiling.{MaximalTiling}
 use Rattle.wat_lex.specs.declared.lexer.faults.LexFault.{LexFault}
 use Rattle.wat_lex.specs.declared.lexer.kinds.Token.{Token}
 use Rattle.wat_types.specs.Binary.{Fits, module_bytes}
-use Rattle.wat_types.specs.Compiling.{Spells, compiled_text, plain}
+use Rattle.wat_types.specs.Compiling.{SpellsTypes, compiled_text, plain}
 use Rattle.wat_types.specs.Signatures.{Signature}
 
 -- The text spells function types that fit, and these are the bytes of their module.
 pub record CompiledText (text written : List ℕ) : Type 0 where
   pub types : List Signature
-  pub spelled : Spells text types
+  pub spelled : SpellsTypes text types
   pub fit : Fits types
   pub bytes : written ≡ module_bytes types
 
--- The text spells no function types that fit, nothing is written, and this is the error of its refusal, which its raw tokens tell.
+-- The text spells no function types that fit, nothing is written, and this is the error of its refusal, which follows from its raw tokens.
 pub record RefusedText (text written : List ℕ) (error : Option Report) : Type 0 where
-  pub unspelled : (types : List Signature) → Spells text types → ¬ Fits types
+  pub unspelled : (types : List Signature) → SpellsTypes text types → ¬ Fits types
   pub nothing : written ≡ []
   pub tokens : List Token
   pub ending : Option LexFault

@@ -2,21 +2,21 @@
 use Rattle.std.specs.Prelude.{◌≡◌, ◌<◌, ℕ, List, ◌∷◌, length, string_bytes, if◌then◌else◌}
 use Rattle.wat_commands.specs.Options.{Word, front_of, same_flag, with_flag, with_file}
 use Rattle.wat_commands.specs.declared.options.Flag.{Flag}
-use Rattle.wat_commands.specs.declared.options.Given.{Given}
-use Rattle.wat_commands.specs.declared.options.Given.TheVariants as given
+use Rattle.wat_commands.specs.declared.options.GivenOption.{GivenOption}
+use Rattle.wat_commands.specs.declared.options.GivenOption.TheVariants as given
 
 -- the options go on so after this one
-abbrev pub Gives : List Word → Given → List Word → Type 0
+abbrev pub Gives : List Word → GivenOption → List Word → Type 0
 Gives words (given.Flag f) rest = front_of words ≡ with_flag f (front_of rest)
 Gives words (given.File name) rest = (word : Word) × (string_bytes word ≡ name.now) × (front_of words ≡ with_file word (front_of rest))
 
 -- the words begin with this option, and go on so
-pub record IsStep (words : List Word) (g : Given) (rest : List Word) : Type 0 where
+pub record IsStep (words : List Word) (g : GivenOption) (rest : List Word) : Type 0 where
   pub gives : Gives words g rest
   pub shorter : length rest < length words
 
 -- once, where the option is this flag
-abbrev pub once_for : Flag → Given → ℕ
+abbrev pub once_for : Flag → GivenOption → ℕ
 once_for f (given.Flag g) = if same_flag f g then 1 else 0
 once_for f (given.File name) = 0
 

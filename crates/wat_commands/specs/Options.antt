@@ -6,6 +6,8 @@ use Rattle.std.specs.declared.alloc.Global.{Global}
 use Rattle.wat_lex.specs.declared.lexer.settings.Settings.{Settings}
 use Rattle.wat_lexer_parser.specs.declared.parser.calls.Call.{Call}
 use Rattle.wat_lists.specs.Calls.{SpellsCall}
+use Rattle.wat_commands.specs.declared.options.Calls.{Calls}
+use Rattle.wat_commands.specs.declared.options.Calls.TheVariants.{Owned, Borrowed}
 use Rattle.wat_commands.specs.declared.options.Command.{Command}
 use Rattle.wat_commands.specs.declared.options.Command.TheVariants as command
 use Rattle.wat_commands.specs.declared.options.FileNames.{FileNames}
@@ -150,13 +152,18 @@ SpellsCalls [] (call ∷ calls) = ⊥
 SpellsCalls (word ∷ words) [] = ⊥
 SpellsCalls (word ∷ words) (call ∷ calls) = SpellsCall (string_bytes word) call × SpellsCalls words calls
 
+-- the calls that words spelled, or a caller's
+abbrev pub calls_of : Calls → List Call
+calls_of (Owned calls) = calls.items
+calls_of (Borrowed calls) = calls.now
+
 -- a command and the words after its name ask for this; and whether the lists are to be JSON, which else there is none of
 abbrev pub AsksTask : Verb → Bool → List Word → Task → Type 0
 AsksTask v json words task.List = (v ≡ verb.List) × (json ≡ false)
 AsksTask v json words (task.Sig names) = (v ≡ verb.Sig) × (json ≡ false) × (names.now ≡ words)
 AsksTask v json words task.JsonList = (v ≡ verb.List) × (json ≡ true)
 AsksTask v json words (task.JsonSig names) = (v ≡ verb.Sig) × (json ≡ true) × (names.now ≡ words)
-AsksTask v json words (task.Play calls) = (v ≡ verb.Play) × (json ≡ false) × SpellsCalls words calls.items
+AsksTask v json words (task.Play calls) = (v ≡ verb.Play) × (json ≡ false) × SpellsCalls words (calls_of calls)
 AsksTask v json words task.Blank = (v ≡ verb.Blank) × (json ≡ false)
 AsksTask v json words task.Types = (v ≡ verb.Types) × (json ≡ false)
 

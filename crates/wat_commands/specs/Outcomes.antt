@@ -4,24 +4,15 @@ use Rattle.std.specs.Io.KnownBytes.{Appends, Keeps}
 use Rattle.wat_lex.specs.errors.Errors.{Report, lex_error_of, offset_of}
 use Rattle.wat_lex.specs.declared.lexer.faults.LexError.{LexError}
 use Rattle.wat_lex.specs.declared.lexer.faults.LexError.TheVariants.{Unexpected}
-use Rattle.wat_lex.specs.declared.lexer.settings.Settings.{Settings}
 use Rattle.wat_lines.specs.Causes.{cause, is_closed_pipe}
 use Rattle.wat_lines.specs.declared.failed.Failed.{Failed}
-use Rattle.wat_lists.specs.Blanks.{Blanks}
-use Rattle.wat_lists.specs.JsonLists.{JsonLists, JsonShows}
-use Rattle.wat_lists.specs.Lists.{Lists}
 use Rattle.wat_lists.specs.Places.{shown_in, of_file}
 use Rattle.wat_lists.specs.Refusals.{bare_refusal, error_of, refusal}
-use Rattle.wat_lists.specs.Replies.{Plays}
-use Rattle.wat_lists.specs.Shows.{Shows}
 use Rattle.wat_lists.specs.declared.input.RunFailure.{RunFailure}
 use Rattle.wat_lists.specs.declared.input.RunFailure.TheVariants.{Read, TooLong, NotUtf8, Write, Memory}
-use Rattle.wat_commands.specs.Compiles.{Compiles}
 use Rattle.wat_commands.specs.Complaints.{complaint}
 use Rattle.wat_commands.specs.Printed.{Prints, AppendsText, AppendsCut}
 use Rattle.wat_commands.specs.Runs.{RunsWithCause}
-use Rattle.wat_commands.specs.declared.options.Task.{Task}
-use Rattle.wat_commands.specs.declared.options.Task.TheVariants as task
 use Rattle.wat_commands.specs.declared.outcome.Exit.{Exit}
 use Rattle.wat_commands.specs.declared.outcome.Outcome.{Outcome}
 use Rattle.wat_commands.specs.declared.outcome.Outcome.TheVariants.{Listed, Faulty, Refused, Unopened, Wrong, Differs, Kept}
@@ -114,16 +105,6 @@ Responds prints (Unopened failed) old new = ⊥
 Responds prints (Wrong words) old new = ⊥
 Responds prints Differs old new = ⊥
 Responds prints Kept old new = ⊥
-
--- what a task prints, of the text of a file of this name, if it has one
-abbrev pub task_prints : Settings → Option (List ℕ) → Task → Prints
-task_prints s file task.List = Lists s
-task_prints s file (task.Sig names) = Shows s names.now
-task_prints s file task.JsonList = JsonLists s file
-task_prints s file (task.JsonSig names) = JsonShows s file names.now
-task_prints s file (task.Play calls) = Plays s calls.items
-task_prints s file task.Blank = Blanks s
-task_prints s file task.Types = Compiles
 
 -- What is known of a run that ended in this outcome.
 pub record Ran {S T : Type 0} (left : S → Option (List ℕ)) (read_failed : S → Option Failed) (has_ended : S → Bool) (held : T → Option (List ℕ)) (write_failed : T → Option Failed) (prints : Prints) (input input' : S) (output output' : T) (outcome : Outcome) : Type 0 where

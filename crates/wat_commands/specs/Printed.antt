@@ -1,7 +1,6 @@
 -- What a run writes of the bytes that it has read: one of the texts that are printed of them, with the error that is reported. No
 -- part of the standard.
 use Rattle.std.specs.Prelude.{ℕ, List, Option}
-use Rattle.std.specs.Option.{option_map}
 use Rattle.std.specs.Io.KnownBytes.{Appends}
 use Rattle.wat_lex.specs.errors.Errors.{Report}
 use Rattle.wat_lex.specs.declared.lexer.settings.Settings.{Settings}
@@ -12,22 +11,23 @@ use Rattle.wat_lists.specs.Lists.{Lists}
 use Rattle.wat_lists.specs.Replies.{Plays}
 use Rattle.wat_lists.specs.Shows.{Shows}
 use Rattle.wat_commands.specs.Compiles.{Compiles}
-use Rattle.wat_commands.specs.declared.print.Printing.{Printing}
-use Rattle.wat_commands.specs.declared.print.Printing.TheVariants as printing
+use Rattle.wat_commands.specs.Options.{calls_of}
+use Rattle.wat_commands.specs.declared.options.Task.{Task}
+use Rattle.wat_commands.specs.declared.options.Task.TheVariants as task
 
 -- a text is printed of bytes, and an error is answered, if there is one
 abbrev pub Prints : Type 1
 Prints = List ℕ → List ℕ → Option (Option Report) → Type 0
 
--- what is printed
-abbrev pub prints : Settings → Printing → Prints
-prints s printing.Raw = Lists s
-prints s (printing.Shown names) = Shows s names.now
-prints s (printing.JsonRaw file) = JsonLists s (option_map (λ f. f.now) file)
-prints s (printing.JsonShown names file) = JsonShows s (option_map (λ f. f.now) file) names.now
-prints s (printing.Replies calls) = Plays s calls.now
-prints s printing.Blank = Blanks s
-prints s printing.Types = Compiles
+-- what a task prints, of the text of a file of this name, if it has one
+abbrev pub task_prints : Settings → Option (List ℕ) → Task → Prints
+task_prints s file task.List = Lists s
+task_prints s file (task.Sig names) = Shows s names.now
+task_prints s file task.JsonList = JsonLists s file
+task_prints s file (task.JsonSig names) = JsonShows s file names.now
+task_prints s file (task.Play calls) = Plays s (calls_of calls)
+task_prints s file task.Blank = Blanks s
+task_prints s file task.Types = Compiles
 
 -- Known bytes grow by a text that is printed with this error.
 pub record AppendsText (prints : List ℕ → Option (Option Report) → Type 0) (error : Option (Option Report)) (old new : Option (List ℕ)) : Type 0 where

@@ -1,11 +1,11 @@
--- What is known of a run over a source and a sink. A source tells what it has left, the failure of a read, and whether the last one gave the
+-- What is known of a run over a source and a sink. A source shows what it has left, the failure of a read, and whether the last one gave the
 -- end; a sink what it holds, and the failure of a write. No part of the standard.
 use Rattle.std.specs.Prelude.{◌≡◌, ◌⊎◌, ◌↔◌, ℕ, Bool, true, List, Option, None, IsSome, IfSome, Result, Ok, Err, IfOk, IfErr, OnOk, IsErrOf}
 use Rattle.std.specs.Str.{IsValidUpTo}
 use Rattle.wat_lex.specs.errors.Errors.{Report}
 use Rattle.wat_lines.specs.declared.failed.Failed.{Failed}
 use Rattle.wat_lists.specs.Inputs.{HasEnded, ReadsPast, ReadsShort}
-use Rattle.wat_lists.specs.Refusals.{IsWrite, error_of, read_failure, write_failure}
+use Rattle.wat_lists.specs.Refusals.{IsFailedWrite, error_of, read_failure, write_failure}
 use Rattle.wat_lists.specs.declared.input.RunError.{RunError}
 use Rattle.wat_lists.specs.declared.input.RunError.TheVariants as error
 use Rattle.wat_lists.specs.declared.input.RunFailure.{RunFailure}
@@ -34,7 +34,7 @@ pub record RunsWithCause {S T : Type 0} (left : S → Option (List ℕ)) (read_f
   -- the text was written, or a prefix of it where the write failed, and else nothing
   pub written : IfOk run (λ error. IfSome (left input) (λ bytes. AppendsText (prints bytes) error (held output) (held output')))
   pub cut : (failed : Failed) → IsErrOf run (Write failed) → IfSome (left input) (λ bytes. AppendsCut (prints bytes) (held output) (held output'))
-  pub unwritten : IfErr run (λ e. IsWrite e ⊎ (output' ≡ output))
+  pub unwritten : IfErr run (λ e. IsFailedWrite e ⊎ (output' ≡ output))
   -- these come only once the source was read to its end
   pub ended : OnOk run (HasEnded (left input') (has_ended input'))
   pub not_utf8_ended : (offset : ℕ) → IsErrOf run (NotUtf8 offset) → HasEnded (left input') (has_ended input')

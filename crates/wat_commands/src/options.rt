@@ -10,7 +10,7 @@ ghost use Rattle.wat_commands.specs.declared.options.Command.{Command};
 ghost use Rattle.wat_commands.specs.declared.options.Mode.{Mode};
 ghost use Rattle.wat_commands.specs.declared.options.Task.{Task};
 ghost use Rattle.wat_commands.specs.declared.options.Verb.TheVariants as verbs;
-ghost use Rattle.wat_commands.specs.Options.{front_of, flag_of, no_options, times, wants_json, Selects};
+ghost use Rattle.wat_commands.specs.Options.{calls_of, front_of, flag_of, no_options, times, wants_json, Selects};
 ghost use Rattle.wat_commands.specs.Options.{spells, verb_named, verb_of, after_verb, mode_named, mode_of};
 ghost use Rattle.wat_commands.specs.Options.{after_mode, own_len, own_words, last_words, is_file};
 ghost use Rattle.wat_commands.specs.Options.{owns_words, takes_many, file_names, SpellsCalls, AsksTask};
@@ -24,6 +24,25 @@ use wat_lex::lexer::Settings;
 use wat_lexer_parser::parser::Call;
 use wat_lists::calls::read_call;
 
+/// The calls of a parser: those that words spelled, or a caller's.
+#[derive(Drop)]
+pub enum Calls<'a> {
+    Owned(Vec<Call>),
+    Borrowed(&'a [Call]),
+}
+
+impl Calls<'_> {
+    /// The calls, in their order.
+    pub fn as_slice(&self) -> &[Call]
+        ensures { result.now ≡ calls_of self.now }
+    {
+        match self {
+            Calls::Owned(calls) => calls,
+            Calls::Borrowed(calls) => calls,
+        }
+    }
+}
+
 /// What to write of a text.
 #[derive(Drop)]
 pub enum Task<'a> {
@@ -36,7 +55,7 @@ pub enum Task<'a> {
     /// The tokens that are shown where these names are registered, as JSON.
     JsonSig(&'a [String]),
     /// The replies to these calls.
-    Play(Vec<Call>),
+    Play(Calls<'a>),
     /// The text with its comments blanked.
     Blank,
     /// The bytes of the module that the text spells.
@@ -99,20 +118,20 @@ pub(crate) enum Flag {
 
 /// An option.
 #[derive(Clone, Copy)]
-pub(crate) enum Given<'a> {
+pub(crate) enum GivenOption<'a> {
     Flag(Flag),
     /// The name of a file.
     File(&'a str),
 }
 
-impl Given<'_> {
+impl GivenOption<'_> {
     /// One where it is this flag, and else zero.
     fn once_for(self, flag: Flag) -> usize
         ensures { result ≡ once_for flag self.entry }
     {
         match self {
-            Given::Flag(given) if given == flag => 1,
-            Given::Flag(_) | Given::File(_) => 0,
+            GivenOption::Flag(given) if given == flag => 1,
+            GivenOption::Flag(_) | GivenOption::File(_) => 0,
         }
     }
 }
@@ -137,7 +156,7 @@ fn is_file_option(word: &String) -> bool
 }
 
 /// The option that the words begin with, and the words after it.
-fn next_option(words: &[String]) -> Option<(Given<'_>, &[String])>
+fn next_option(words: &[String]) -> Option<(GivenOption<'_>, &[String])>
     ensures { MatchOption result (front_of words.now ≡ no_options words.now)
         (λ r. IsStep words.now r.0 r.1.now) }
 {
@@ -145,7 +164,7 @@ fn next_option(words: &[String]) -> Option<(Given<'_>, &[String])>
         return None;
     };
     if let Some(flag) = flag_named(word) {
-        return Some((Given::Flag(flag), rest));
+        return Some((GivenOption::Flag(flag), rest));
     }
     if !is_file_option(word) {
         return None;
@@ -153,7 +172,7 @@ fn next_option(words: &[String]) -> Option<(Given<'_>, &[String])>
     let Some((name, after)) = rest.split_first() else {
         return None;
     };
-    Some((Given::File(name.as_str()), after))
+    Some((GivenOption::File(name.as_str()), after))
 }
 
 /// How often a flag is given before the other words.
@@ -207,7 +226,7 @@ impl<'a> FileNames<'a> {
     {
         while let Some((given, rest)) = next_option(self.options) {
             self.options = rest;
-            if let Given::File(name) = given {
+            if let GivenOption::File(name) = given {
                 return Some(name);
             }
         }
@@ -408,7 +427,7 @@ fn task_of<'a>(
     Ok(match verb {
         Verb::List => Some(Task::List),
         Verb::Sig => Some(Task::Sig(words)),
-        Verb::Play => read_calls(alloc, words)?.map(|calls| Task::Play(calls)),
+        Verb::Play => read_calls(alloc, words)?.map(|calls| Task::Play(Calls::Owned(calls))),
         Verb::Blank => Some(Task::Blank),
         Verb::Types => Some(Task::Types),
         Verb::Fmt => None,

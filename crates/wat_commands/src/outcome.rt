@@ -4,12 +4,13 @@ ghost use Rattle.std.specs.Io.KnownBytes.{Appends};
 ghost use Rattle.std.specs.Option.{option_map};
 ghost use Rattle.wat_lex.specs.declared.lexer.settings.Settings.{Settings};
 ghost use Rattle.wat_commands.specs.Outcomes.{exit_code, is_marked, is_unread, outcome_of, hint};
-ghost use Rattle.wat_commands.specs.Outcomes.{refused, Ran, status, task_prints, Tells};
+ghost use Rattle.wat_commands.specs.Outcomes.{refused, Ran, status, Tells};
 ghost use Rattle.wat_commands.specs.Outcomes.{TellsFault};
+ghost use Rattle.wat_commands.specs.Printed.{task_prints};
 
 use crate::complaint::Complaint;
 use crate::options::Task;
-use crate::run::{Printing, RunError, RunFailure, run};
+use crate::run::{RunError, RunFailure, run};
 use std::alloc::Global;
 use std::{fmt, io};
 use wat_lex::error::Error;
@@ -131,24 +132,7 @@ pub fn carry_out<R: Source, W: Sink>(
         (task_prints settings (option_map (λ f. f.now) file.entry) task.now)
         input.old input.new output.old output.new result }
 {
-    match task {
-        Task::List => Outcome::of_run(run(alloc, input, output, settings, Printing::Raw)),
-        Task::Sig(names) => {
-            Outcome::of_run(run(alloc, input, output, settings, Printing::Shown(names)))
-        }
-        Task::JsonList => {
-            Outcome::of_run(run(alloc, input, output, settings, Printing::JsonRaw(file)))
-        }
-        Task::JsonSig(names) => {
-            let printing = Printing::JsonShown(names, file);
-            Outcome::of_run(run(alloc, input, output, settings, printing))
-        }
-        Task::Play(calls) => {
-            Outcome::of_run(run(alloc, input, output, settings, Printing::Replies(calls)))
-        }
-        Task::Blank => Outcome::of_run(run(alloc, input, output, settings, Printing::Blank)),
-        Task::Types => Outcome::of_run(run(alloc, input, output, settings, Printing::Types)),
-    }
+    Outcome::of_run(run(alloc, input, output, settings, task, file))
 }
 
 impl<'a> Outcome<'a> {

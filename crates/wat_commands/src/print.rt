@@ -8,48 +8,27 @@ ghost use Rattle.wat_lists.specs.Blanks.{Blanks};
 ghost use Rattle.wat_lines.specs.Streams.{failure_after};
 ghost use Rattle.wat_lists.specs.JsonLists.{JsonLists, json_report};
 ghost use Rattle.wat_lists.specs.Lists.{Lists};
-ghost use Rattle.wat_lists.specs.Refusals.{IsNotUtf8, IsWrite, answered};
+ghost use Rattle.wat_lists.specs.Refusals.{IsNotUtf8, IsFailedWrite, answered};
 ghost use Rattle.wat_commands.specs.Compiles.{Compiles};
-ghost use Rattle.wat_commands.specs.Printed.{prints};
+ghost use Rattle.wat_commands.specs.Printed.{task_prints};
 ghost use Rattle.wat_commands.specs.JsonWrites.{AppendsRows, AppendsRowsCut};
 ghost use Rattle.wat_commands.specs.Writes.{Writes};
 
+use crate::options::Task;
 use crate::run::RunFailure;
 use std::alloc::{AllocError, Global};
 use wat_lex::error::Error;
 use wat_lex::lexer::{Lexer, Settings};
-use wat_lex::token::Span;
 use wat_lexer_parser::laws;
-use wat_lexer_parser::parser::Call;
 use wat_lines::ends::{Failed, Sink};
 use wat_lines::row::object_open;
 use wat_lists::blank::write_blanked;
 use wat_lists::input::text_of;
 use wat_lists::json::{push_report, show_json, write_json};
-use wat_lists::list::{fault_of, lexer_of, write_lines};
+use wat_lists::list::{error_of, write_lines};
 use wat_lists::play::play;
 use wat_lists::show::{Showing, show};
 use wat_types::compile_types;
-
-/// What to print of a text.
-#[derive(Clone, Copy)]
-pub enum Printing<'a> {
-    /// Its raw tokens.
-    Raw,
-    /// The tokens that are shown where these names are registered.
-    Shown(&'a [String]),
-    /// Its raw tokens as JSON, with the name of its file, if there is one.
-    JsonRaw(Option<&'a str>),
-    /// The tokens that are shown where these names are registered, as JSON, with the name of its
-    /// file, if there is one.
-    JsonShown(&'a [String], Option<&'a str>),
-    /// The replies to these calls.
-    Replies(&'a [Call]),
-    /// The text with its comments blanked.
-    Blank,
-    /// The bytes of the module that it spells.
-    Types,
-}
 
 /// The error of what was written, or that the write failed.
 fn answer(written: Result<(), Failed>, error: Option<Error>) -> Result<Option<Error>, RunFailure>
@@ -62,18 +41,14 @@ fn answer(written: Result<(), Failed>, error: Option<Error>) -> Result<Option<Er
 }
 
 /// The error of the fault of a lexer's text, where it has one.
-fn error_of(alloc: Global, lexer: &Lexer<'_>) -> Result<Option<Error>, RunFailure>
+fn error_in(alloc: Global, lexer: &Lexer<'_>) -> Result<Option<Error>, RunFailure>
     ensures error { IfOk result (ReportsEnd lexer.now) }
     ensures refused { IfErr result (λ e. e ≡ RunFailure.Memory alloc_error) }
 {
-    let Some(fault) = fault_of(lexer) else {
-        return Ok(None);
-    };
-    let span = Span::from_offset(fault.offset);
-    let error = Error::lex(alloc, span, lexer.input(), fault.error);
-    match error.alloc_error() {
-        Some(refused) => Err(RunFailure::from(refused)),
-        None => Ok(Some(error)),
+    let text = lexer.input();
+    match lexer.first_fault(0) {
+        Some(fault) => Ok(Some(error_of(alloc, text, fault)?)),
+        None => Ok(None),
     }
 }
 
@@ -88,11 +63,11 @@ fn print_raw<W: Sink>(
     requires text { length text.now < 2 ^ 32 }
     requires output { W.failure output.old ≡ None }
     ensures printed { Writes W.held W.failure (Lists settings text.now) output.old output.new result }
-    ensures refused { IfErr result (λ e. IsWrite e ⊎ (e ≡ RunFailure.Memory alloc_error)) }
+    ensures refused { IfErr result (λ e. IsFailedWrite e ⊎ (e ≡ RunFailure.Memory alloc_error)) }
 {
     wat_lex::laws::one_tiling();
-    let lexer = lexer_of(text, settings);
-    let error = error_of(alloc, &lexer)?;
+    let lexer = Lexer::with_settings(text, settings);
+    let error = error_in(alloc, &lexer)?;
     answer(write_lines(&lexer, output), error)
 }
 
@@ -146,12 +121,12 @@ fn print_json<W: Sink>(
     requires output { W.failure output.old ≡ None }
     ensures printed { Writes W.held W.failure
         (JsonLists settings (option_map (λ f. f.now) file.entry) text.now) output.old output.new result }
-    ensures refused { IfErr result (λ e. IsWrite e ⊎ (e ≡ RunFailure.Memory alloc_error)) }
+    ensures refused { IfErr result (λ e. IsFailedWrite e ⊎ (e ≡ RunFailure.Memory alloc_error)) }
 {
     wat_lex::laws::one_tiling();
-    let lexer = lexer_of(text, settings);
+    let lexer = Lexer::with_settings(text, settings);
     let begin = object_open(alloc, file)?;
-    let error = error_of(alloc, &lexer)?;
+    let error = error_in(alloc, &lexer)?;
     let last = json_end(alloc, text, &begin, &error)?;
     answer(write_rows(&lexer, &begin, &last, output), error)
 }
@@ -166,12 +141,12 @@ fn print_blank<W: Sink>(
     requires text { length text.now < 2 ^ 32 }
     requires output { W.failure output.old ≡ None }
     ensures printed { Writes W.held W.failure (Blanks settings text.now) output.old output.new result }
-    ensures refused { IfErr result (λ e. IsWrite e ⊎ (e ≡ RunFailure.Memory alloc_error)) }
+    ensures refused { IfErr result (λ e. IsFailedWrite e ⊎ (e ≡ RunFailure.Memory alloc_error)) }
 {
     wat_lex::laws::one_tiling();
     laws::blank_texts();
-    let lexer = lexer_of(text, settings);
-    if let Some(error) = error_of(alloc, &lexer)? {
+    let lexer = Lexer::with_settings(text, settings);
+    if let Some(error) = error_in(alloc, &lexer)? {
         return Ok(Some(error));
     }
     answer(write_blanked(&lexer, output), None)
@@ -186,7 +161,7 @@ fn print_text<W: Sink>(
     requires { W.failure output.old ≡ None }
     ensures printed { Writes W.held W.failure
         (λ bytes e. (bytes ≡ text.now) × (e ≡ error)) output.old output.new result }
-    ensures refused { IfErr result IsWrite }
+    ensures refused { IfErr result IsFailedWrite }
 {
     answer(output.write_all(text), error)
 }
@@ -200,7 +175,7 @@ fn print_types<W: Sink>(
     requires text { length text.now < 2 ^ 32 }
     requires output { W.failure output.old ≡ None }
     ensures printed { Writes W.held W.failure (Compiles text.now) output.old output.new result }
-    ensures refused { IfErr result (λ e. IsWrite e ⊎ (e ≡ RunFailure.Memory alloc_error)) }
+    ensures refused { IfErr result (λ e. IsFailedWrite e ⊎ (e ≡ RunFailure.Memory alloc_error)) }
 {
     wat_lex::laws::one_tiling();
     match compile_types(alloc, text) {
@@ -212,59 +187,63 @@ fn print_types<W: Sink>(
     }
 }
 
-/// Writes what is printed of a text, and answers the error of its fault or refusal.
+/// Writes what a task prints of the text of a file of this name, if it has one, and answers the error of its fault or refusal.
 fn print_of<W: Sink>(
     alloc: Global,
     text: &str,
     settings: Settings,
-    printing: Printing<'_>,
+    task: &Task<'_>,
+    file: Option<&str>,
     output: &mut W,
 ) -> Result<Option<Error>, RunFailure>
     requires text { length text.now < 2 ^ 32 }
     requires output { W.failure output.old ≡ None }
-    ensures printed { Writes W.held W.failure (prints settings printing.entry text.now)
+    ensures printed { Writes W.held W.failure
+        (task_prints settings (option_map (λ f. f.now) file.entry) task.now text.now)
         output.old output.new result }
-    ensures refused { IfErr result (λ e. IsWrite e ⊎ (e ≡ RunFailure.Memory alloc_error)) }
+    ensures refused { IfErr result (λ e. IsFailedWrite e ⊎ (e ≡ RunFailure.Memory alloc_error)) }
 {
-    match printing {
-        Printing::Raw => print_raw(alloc, text, settings, output),
-        Printing::Shown(names) => {
+    match task {
+        Task::List => print_raw(alloc, text, settings, output),
+        Task::Sig(names) => {
             let Showing { lines, error } = show(alloc, text, settings, names)?;
             print_text(&lines, error, output)
         }
-        Printing::JsonRaw(file) => print_json(alloc, text, settings, file, output),
-        Printing::JsonShown(names, file) => {
+        Task::JsonList => print_json(alloc, text, settings, file, output),
+        Task::JsonSig(names) => {
             let Showing { lines: rows, error } = show_json(alloc, text, settings, file, names)?;
             print_text(&rows, error, output)
         }
-        Printing::Replies(calls) => {
-            let replies = play(alloc, text, settings, calls)?;
+        Task::Play(calls) => {
+            let replies = play(alloc, text, settings, calls.as_slice())?;
             print_text(&replies, None, output)
         }
-        Printing::Blank => print_blank(alloc, text, settings, output),
-        Printing::Types => print_types(alloc, text, output),
+        Task::Blank => print_blank(alloc, text, settings, output),
+        Task::Types => print_types(alloc, text, output),
     }
 }
 
-/// Writes what is printed of bytes, and answers the error of the fault or refusal of the text.
+/// Writes what a task prints of bytes, and answers the error of the fault or refusal of the text.
 pub fn print<W: Sink>(
     alloc: Global,
     bytes: &[u8],
     settings: Settings,
-    printing: Printing<'_>,
+    task: &Task<'_>,
+    file: Option<&str>,
     output: &mut W,
 ) -> Result<Option<Error>, RunFailure>
     requires bytes { length bytes.now < 2 ^ 32 }
     requires output { W.failure output.old ≡ None }
-    ensures printed { Writes W.held W.failure (prints settings printing.entry bytes.now)
+    ensures printed { Writes W.held W.failure
+        (task_prints settings (option_map (λ f. f.now) file.entry) task.now bytes.now)
         output.old output.new result }
     ensures not_utf8 { (offset : ℕ) →
         IsErrOf result (RunFailure.NotUtf8 offset) ↔ IsValidUpTo bytes.now offset }
     ensures refused { IfErr result (λ e. IsNotUtf8 e ⊎
-        (IsWrite e ⊎ (e ≡ RunFailure.Memory alloc_error))) }
+        (IsFailedWrite e ⊎ (e ≡ RunFailure.Memory alloc_error))) }
 {
     match text_of(bytes) {
-        Ok(text) => print_of(alloc, text, settings, printing, output),
+        Ok(text) => print_of(alloc, text, settings, task, file, output),
         Err(error) => Err(error),
     }
 }

@@ -3,7 +3,8 @@ ghost use Rattle.std.specs.Prelude.{◌≡◌, ◌⊎◌, ℕ, List, Bool, Optio
 ghost use Rattle.std.specs.Prelude.{nat_lt, length};
 ghost use Rattle.std.specs.Option.{option_map};
 ghost use Rattle.wat_commands.specs.Options.{file_names};
-ghost use Rattle.wat_commands.specs.Outcomes.{exit_code, status, task_prints};
+ghost use Rattle.wat_commands.specs.Outcomes.{exit_code, status};
+ghost use Rattle.wat_commands.specs.Printed.{task_prints};
 ghost use Rattle.wat_commands.specs.Responses.{Found, Gives, Fails, IsMeant, IsNotMeant, name_of};
 ghost use Rattle.wat_commands.specs.Responses.{Acted, LaidOutAll, LaidOutEach, RanFile, RanFileOf};
 ghost use Rattle.wat_commands.specs.Responses.{RanAll, RanFiles, RanWith, Responded, Says, label};

@@ -1,17 +1,18 @@
 //! From a source of bytes to what is printed on a sink.
 ghost use Rattle.std.specs.Prelude.{◌≡◌, ◌⊎◌, ◌↔◌, ℕ, true, None};
 ghost use Rattle.std.specs.Prelude.{IfOk, OnOk, IfErr, IfSome, IsErrOf};
+ghost use Rattle.std.specs.Option.{option_map};
 ghost use Rattle.std.specs.Str.{IsValidUpTo};
 ghost use Rattle.wat_lines.specs.declared.failed.Failed.{Failed};
 ghost use Rattle.wat_lists.specs.Inputs.{ReadsPast, ReadsShort, HasEnded};
 ghost use Rattle.wat_lists.specs.Lists.{Lists};
-ghost use Rattle.wat_lists.specs.Refusals.{IsWrite, read_failure, write_failure};
+ghost use Rattle.wat_lists.specs.Refusals.{IsFailedWrite, read_failure, write_failure};
 ghost use Rattle.wat_lists.specs.Replies.{Plays};
 ghost use Rattle.wat_lists.specs.Shows.{Shows};
-ghost use Rattle.wat_commands.specs.Printed.{prints, AppendsText, AppendsCut};
+ghost use Rattle.wat_commands.specs.Printed.{task_prints, AppendsText, AppendsCut};
 ghost use Rattle.wat_commands.specs.Runs.{Runs, RunsWithCause, without_cause, without_error};
 
-pub use crate::print::Printing;
+use crate::options::{Calls, Task};
 use crate::print::print;
 use std::alloc::Global;
 use wat_lex::error::Error;
@@ -21,18 +22,19 @@ use wat_lines::ends::{Sink, Source};
 use wat_lists::input::read_whole;
 pub use wat_lists::input::{RunError, RunFailure};
 
-/// Reads all that the source has left, and writes what is printed of it.
+/// Reads all that the source has left, and writes what the task prints of it.
 fn read_and_print<R: Source, W: Sink>(
     alloc: Global,
     input: &mut R,
     output: &mut W,
     settings: Settings,
-    printing: Printing<'_>,
+    task: &Task<'_>,
+    file: Option<&str>,
 ) -> Result<Option<Error>, RunFailure>
     requires input { R.failure input.old ≡ None }
     requires output { W.failure output.old ≡ None }
     ensures written { IfOk result (λ error. IfSome (R.left input.old) (λ bytes.
-        AppendsText (prints settings printing.entry bytes) error
+        AppendsText (task_prints settings (option_map (λ f. f.now) file.entry) task.now bytes) error
         (W.held output.old) (W.held output.new))) }
 
     // These come only once the source was read to its end.
@@ -55,29 +57,31 @@ fn read_and_print<R: Source, W: Sink>(
 
     // A failed write has written a prefix of what is printed, and each other refusal nothing.
     ensures cut { (failed : Failed) → IsErrOf result (RunFailure.Write failed) →
-        IfSome (R.left input.old) (λ bytes. AppendsCut (prints settings printing.entry bytes)
+        IfSome (R.left input.old) (λ bytes.
+        AppendsCut (task_prints settings (option_map (λ f. f.now) file.entry) task.now bytes)
         (W.held output.old) (W.held output.new)) }
-    ensures unwritten { IfErr result (λ e. IsWrite e ⊎ (output.new ≡ output.old)) }
+    ensures unwritten { IfErr result (λ e. IsFailedWrite e ⊎ (output.new ≡ output.old)) }
 {
     let bytes = read_whole(alloc, input)?;
-    print(alloc, &bytes, settings, printing, output)
+    print(alloc, &bytes, settings, task, file, output)
 }
 
-/// Writes what is printed of all that the source has left, and answers the error of its fault; or the
-/// cause of a refusal.
+/// Writes what the task prints of all that the source has left, the text of a file of this name, if it
+/// has one; and answers the error of its fault, or the cause of a refusal.
 pub fn run<R: Source, W: Sink>(
     alloc: Global,
     input: &mut R,
     output: &mut W,
     settings: Settings,
-    printing: Printing<'_>,
+    task: &Task<'_>,
+    file: Option<&str>,
 ) -> Result<Option<Error>, RunFailure>
     requires input { R.failure input.old ≡ None }
     requires output { W.failure output.old ≡ None }
     ensures { RunsWithCause R.left R.failure R.has_ended W.held W.failure
-        (prints settings printing.entry) input.old input.new output.old output.new result }
+        (task_prints settings (option_map (λ f. f.now) file.entry) task.now) input.old input.new output.old output.new result }
 {
-    read_and_print(alloc, input, output, settings, printing)
+    read_and_print(alloc, input, output, settings, task, file)
 }
 
 /// The answer of a run without the cause of its refusal.
@@ -103,7 +107,7 @@ pub fn run_list<R: Source, W: Sink>(
     ensures { Runs R.left R.failure R.has_ended W.held W.failure (Lists settings)
         input.old input.new output.old output.new result }
 {
-    without_cause(run(alloc, input, output, settings, Printing::Raw))
+    without_cause(run(alloc, input, output, settings, &Task::List, None))
 }
 
 /// Writes the list of the tokens that count, those that a parser shows where these names are
@@ -120,7 +124,7 @@ pub fn run_sig<R: Source, W: Sink>(
     ensures { Runs R.left R.failure R.has_ended W.held W.failure (Shows settings names.now)
         input.old input.new output.old output.new result }
 {
-    without_cause(run(alloc, input, output, settings, Printing::Shown(names)))
+    without_cause(run(alloc, input, output, settings, &Task::Sig(names), None))
 }
 
 /// Writes a parser's replies to calls from the start of the text.
@@ -136,7 +140,8 @@ pub fn run_play<R: Source, W: Sink>(
     ensures { Runs R.left R.failure R.has_ended W.held W.failure (Plays settings calls.now)
         input.old input.new output.old output.new (without_error result) }
 {
-    match run(alloc, input, output, settings, Printing::Replies(calls)) {
+    let task = Task::Play(Calls::Borrowed(calls));
+    match run(alloc, input, output, settings, &task, None) {
         Ok(_) => Ok(()),
         Err(failure) => Err(RunError::from(failure)),
     }

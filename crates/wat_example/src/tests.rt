@@ -30,7 +30,7 @@ const GROUPS: &str = "\
     (\" -> unexpected end-of-file at 2, 0\x1e\
     (a (@ -> empty annotation id at 4, 0";
 
-/// What a group reads of a text, and the place behind it.
+/// What a group reads of a text, and the place after it.
 fn read(rt: &impl Abort, alloc: Global, text: &str) -> Result<String, Fail> {
     assert!(rt; text.len() < 1000);
     let buffer = ParseBuffer::new(alloc, text)?;
@@ -69,7 +69,7 @@ fn keywords(rt: HostRuntime) -> Result<(), Fail> {
     Ok(())
 }
 
-/// Whether a text opens a group where `a` is registered, which it is no longer behind that.
+/// Whether a text opens a group where `a` is registered, which it is no longer after that.
 fn opens(rt: &impl Abort, alloc: Global, text: &str) -> Result<bool, Fail> {
     assert!(rt; text.len() < 1000);
     let buffer = ParseBuffer::new(alloc, text)?;

@@ -156,13 +156,6 @@ first_is_plain (c ∷ w) = mark_is_plain (eqb c 64) (is_mark_byte c)
 plain_is_no : (y z : Sort) → (IsPlain z → ⊥) → IsPlain y → y ≡ z → ⊥
 plain_is_no y z n h e = n (subst IsPlain e h)
 
-pub kind_of_comment : (before : Option Sort) (kind : TokenKind) (w : List ℕ) → sort_of before kind w ≡ Comment → kind ≡ LineComment
-kind_of_comment before LineComment w e = refl
-kind_of_comment before LParen w e = absurd cc
-kind_of_comment before RParen w e = absurd cc
-kind_of_comment before Keyword w e = absurd (plain_is_no _ Comment (λ h. h) (keyword_is_plain before w) e)
-kind_of_comment before kind w e = absurd (plain_is_no _ Comment (λ h. h) (first_is_plain w) e)
-
 pub kind_of_open : (before : Option Sort) (kind : TokenKind) (w : List ℕ) → sort_of before kind w ≡ Open → kind ≡ LParen
 kind_of_open before LParen w e = refl
 kind_of_open before LineComment w e = absurd cc

@@ -4,12 +4,13 @@ use Rattle.std.specs.Prelude.{Option, Some, None}
 use Rattle.std.specs.Str.{IsCharBoundary}
 use Rattle.wat_lex.specs.tokens.Faults.{FaultAt}
 use Rattle.wat_lex.specs.tokens.Setting.{Setting}
+use Rattle.wat_lex.specs.tokens.UniqueTilings.{EndsFrom}
 use Rattle.wat_lex.specs.tokens.Tiling.{TokenAt, MaximalTiling, EndsAt}
 use Rattle.wat_lex.specs.declared.lexer.faults.LexFault.{LexFault}
 use Rattle.wat_lex.specs.declared.lexer.kinds.Token.{Token}
 use Rattle.wat_format.specs.Formatting.{Formatted, Refuses}
 use Rattle.wat_format.specs.Layout.{State, start, laid, layout}
-use Rattle.wat_format.specs.inside.Steps.{Lays, EndsFrom, EndsSo, Formats}
+use Rattle.wat_format.specs.inside.Steps.{Lays, EndsSo, Formats}
 use Rattle.wat_format.specs.declared.error.Error.{Error}
 use Rattle.wat_format.specs.declared.error.Error.TheVariants.{Memory, Fault, TooLong}
 
@@ -22,12 +23,6 @@ tiled_with s pos t ts e k m = record { to = m.to; tiling = (k, m.tiling); ends =
 
 tiled_at_end : (s : Setting) (pos : ℕ) (e : Option LexFault) → EndsAt s pos e → MaximalTiling s pos [] e
 tiled_at_end s pos e h = record { to = pos; tiling = refl; ends = h }
-
-pub ends_here : (s : Setting) (pos : ℕ) (e : Option LexFault) → EndsAt s pos e → EndsFrom s pos e
-ends_here s pos e h = record { tokens = []; tiling = tiled_at_end s pos e h }
-
-pub ends_before : (s : Setting) (pos : ℕ) (t : Token) (e : Option LexFault) → TokenAt s pos t → EndsFrom s (t.offset + t.len) e → EndsFrom s pos e
-ends_before s pos t e k h = record { tokens = t ∷ h.tokens; tiling = tiled_with s pos t h.tokens e k h.tiling }
 
 pub formats_start : (s : Setting) (state : State) (out : List ℕ) → state ≡ start → out ≡ [] → Formats s 0 state out
 formats_start s state out e k ts ending m = record {

@@ -14,7 +14,7 @@ use Rattle.wat_lex.specs.declared.lexer.kinds.TokenKind.{TokenKind}
 use Rattle.wat_lex.specs.declared.lexer.kinds.TokenKind.TheVariants.{Whitespace}
 use Rattle.wat_format.specs.Formatting.{Formatted, Refuses}
 use Rattle.wat_format.specs.Gaps.{gap_of, gap_text}
-use Rattle.wat_format.specs.Laws.{EachTextIsAnswered, LayoutsAreOne, LayoutsHaveNoFault, words, EndsClean, Written, WhiteIsWritten, over, Keeps, LayoutsKeepTokens, LayoutsAreUtf8, LayoutsStay}
+use Rattle.wat_format.specs.Laws.{EachTextIsAnswered, LayoutsAreOne, LayoutsHaveNoFault, words, EndsClean, Written, WhiteIsWritten, over, KeepsTokens, LayoutsKeepTokens, LayoutsAreUtf8, LayoutsStay}
 use Rattle.wat_format.specs.Layout.{State, start, layout, is_white, gap_before, line_level, after}
 use Rattle.wat_format.specs.Sorts.{sort_of}
 use Rattle.wat_format.specs.declared.error.Error.TheVariants.{Fault}
@@ -117,7 +117,7 @@ module _ (bounds : TokensEndAtBoundaries) (s : Setting) (ts : List Token) (utf8 
   pub again : answer ≡ layout answer (placed 0 out)
   again = sym whole ∙ ap joined (sym (laid_again start (pieces s.text ts) tt)) ∙ ap (λ x. joined (laid_pieces start x)) (sym pieces_of) ∙ joined_laid answer start (placed 0 out)
 
-  keeps : Keeps s ts (placed 0 out) None
+  keeps : KeepsTokens s ts (placed 0 out) None
   keeps = record {
     no_fault = refl;
     same = words_of_pieces answer (placed 0 out) ∙ ap no_white pieces_of ∙ words_laid start (pieces s.text ts) ∙ sym (words_of_pieces s.text ts);
@@ -126,10 +126,10 @@ module _ (bounds : TokensEndAtBoundaries) (s : Setting) (ts : List Token) (utf8 
     white = white_of_pieces answer (placed 0 out) (subst AllWritten (sym pieces_of) (written_laid start (pieces s.text ts)));
   }
 
-  pub kept : TilingsAreOne → (us : List Token) (e : Option LexFault) → MaximalTiling (over s answer) 0 us e → Keeps s ts us e
+  pub kept : TilingsAreOne → (us : List Token) (e : Option LexFault) → MaximalTiling (over s answer) 0 us e → KeepsTokens s ts us e
   kept one us e n =
       let k = one (over s answer) 0 (placed 0 out) us None e tiling n in
-      subst (λ x. Keeps s ts us x) k.1 (subst (λ x. Keeps s ts x None) k.0 keeps)
+      subst (λ x. KeepsTokens s ts us x) k.1 (subst (λ x. KeepsTokens s ts x None) k.0 keeps)
 
 pub layouts_keep : TokensEndAtBoundaries → TilingsAreOne → LayoutsKeepTokens
 layouts_keep bounds one s ts us e u m n = kept bounds s ts u m one us e n

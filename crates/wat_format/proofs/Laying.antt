@@ -1,11 +1,11 @@
 -- What one token adds to a layout.
-use Rattle.std.proofs.Common.{◌≡◌, ◌+◌, ◌-◌, ◌≤◌, ◌<◌, ℕ, true, false, List, [], ◌∷◌, ◌++◌, take, drop, refl, sym, ap, ◌∙◌, subst, arith, append_assoc}
+use Rattle.std.proofs.Common.{◌≡◌, ◌+◌, ◌-◌, ◌≤◌, ◌<◌, ℕ, false, List, [], ◌∷◌, ◌++◌, take, drop, refl, sym, ap, ◌∙◌, subst, arith, append_assoc}
 use Rattle.std.proofs.lemmas.List.Elements.{All-weaker, All-cons, All-head, All-tail, All-nil}
 use Rattle.std.specs.Prelude.{Result, Ok, Err, OnOk}
 use Rattle.std.specs.List.{All}
 use Rattle.wat_lex.specs.tokens.ReadableTokens.{token_text}
 use Rattle.wat_lex.specs.declared.lexer.kinds.Token.{Token}
-use Rattle.wat_format.specs.Gaps.{gap_of, gap_text}
+use Rattle.wat_format.specs.Gaps.{gap_text}
 use Rattle.wat_format.specs.Layout.{State, Groups, laid, gap_before, line_level, after, groups_after, closed, is_white, start}
 use Rattle.wat_format.specs.Sorts.{sort_of}
 use Rattle.wat_format.specs.inside.Steps.{HasFew, Few, Writes, Lays}
@@ -23,9 +23,6 @@ token_cut text t =
     let n : (t.offset + t.len) - t.offset ≡ t.len = omega arith in
     ap (λ n. take n (drop t.offset text)) n
 
-pub lays_white : (text : List ℕ) (s : State) (t : Token) (out w : List ℕ) → is_white t.kind ≡ true → w ≡ token_text text t → Lays text s t (record s { gap = gap_of w }) out out
-lays_white text s t out w e k ts = rw (e, k) refl
-
 pub lays_token : (text : List ℕ) (s s' : State) (t : Token) (out out' w : List ℕ) → is_white t.kind ≡ false → w ≡ token_text text t → Writes t.kind w s s' out out' → Lays text s t s' out out'
 lays_token text s s' t out out' w e k h ts =
     let y : Sort = sort_of s.before t.kind (token_text text t) in
@@ -38,9 +35,6 @@ lays_token text s s' t out out' w e k h ts =
 
 few_around : (n m : ℕ) (gs : List Group) → n ≤ m → All (HasFew n) gs → All (HasFew m) gs
 few_around n m gs le h = All-weaker (HasFew n) (HasFew m) (λ g. λ (k : HasFew n g). let l : g.blocks ≤ n = k in omega arith) gs h
-
-pub few_white : (n m : ℕ) (s : State) (w : List ℕ) → n ≤ m → Few n s → Few m (record s { gap = gap_of w })
-few_white n m s w le h = record { open_group = omega (arith, h.open_group); around = few_around n m s.groups.around le h.around }
 
 few_closed : (n m : ℕ) (g : Group) (gs : List Group) → n ≤ m → HasFew n g → All (HasFew n) gs → HasFew m (closed g gs).open_group × All (HasFew m) (closed g gs).around
 few_closed n m g [] le h k = (omega (arith, h), few_around n m [] le k)

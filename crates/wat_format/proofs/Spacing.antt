@@ -13,7 +13,7 @@ use Rattle.wat_lex.specs.declared.lexer.kinds.TokenKind.TheVariants.{LineComment
 use Rattle.wat_lex.specs.declared.lexer.settings.Settings.{Settings}
 use Rattle.wat_format.specs.Laws.{begins_at, is_opening, marks}
 use Rattle.wat_format.specs.Layout.{is_white}
-use Rattle.wat_format.specs.Spaces.{Spaced, spread, words_of, IsSpaced, AreSpaced, AreLegal, Reads, GapsAreExact, touches, touch_marks, MarksGoByGaps}
+use Rattle.wat_format.specs.Spaces.{Spaced, spread, words_of, IsSpaced, AreSpaced, AreLegal, ReadsAsWords, GapsAreExact, touches, touch_marks, MarksGoByGaps}
 use Rattle.wat_format.proofs.FirstCharacters.{First, first_of_word, first_is_no_white}
 use Rattle.wat_format.proofs.KeptTokens.{words_of_pieces}
 use Rattle.wat_format.proofs.LaidPieces.{gapped, bool_cases, joined_gapped, no_white, no_white_gapped}
@@ -110,7 +110,7 @@ legal flags (x ∷ y ∷ ys) h l =
     (touch_in x.kind (chars x.bytes) y.kind (chars y.bytes) g.others (g.others ++ chars (joined (gapped y.white (to_pieces ys)))) g.char h.0.no_white (λ k. subst (Begins is_line_end) e (l.0.ended k)) g.cut g.is (l.0.apart e)))
     (λ n e. l.0.ended e)
 
--- what is there is legal
+-- words whose pieces are legal are legal
 white_ended : (flags : Settings) (v white : List ℕ) (ps : List Piece) → Each is_whitespace white → IsUtf8 (joined ps) → white ≢ [] → MayFollow LineComment v (chars (joined (gapped white ps))) → Begins is_line_end white
 white_ended flags v [] ps h u n m = absurd (n refl)
 white_ended flags v (c ∷ w) ps h u n m =
@@ -121,13 +121,13 @@ empty_or_not : (w : List ℕ) → (w ≡ []) ⊎ (w ≢ [])
 empty_or_not [] = inl refl
 empty_or_not (c ∷ w) = inr (λ e. cc)
 
-legal : (flags : Settings) (xs : List Spaced) → AreSpaced flags xs → AllLegal flags (to_pieces xs) → AreLegal xs
-legal flags [] h a = tt
-legal flags (x ∷ []) h a = λ k. elim (empty_or_not x.white) [
+words_legal : (flags : Settings) (xs : List Spaced) → AreSpaced flags xs → AllLegal flags (to_pieces xs) → AreLegal xs
+words_legal flags [] h a = tt
+words_legal flags (x ∷ []) h a = λ k. elim (empty_or_not x.white) [
   | inl e ↦ inl e
   | inr n ↦ inr (white_ended flags (chars x.bytes) x.white [] h.0.white IsUtf8-nil n (subst (λ z. MayFollow z (chars x.bytes) (chars (joined (gapped x.white [])))) k a.0.ends))
 ]
-legal flags (x ∷ y ∷ ys) h a =
+words_legal flags (x ∷ y ∷ ys) h a =
     let ps : List Piece = to_pieces (y ∷ ys) in
     let all = tail_is_at flags x.white ps a.1 in
     let u = utf8_joined flags (gapped y.white (to_pieces ys)) all.1 in
@@ -142,7 +142,7 @@ legal flags (x ∷ y ∷ ys) h a =
           | inr n ↦ white_ended flags (chars x.bytes) x.white ps h.0.white (utf8_joined flags ps all) n (subst (λ z. MayFollow z (chars x.bytes) (chars (joined (gapped x.white ps)))) k a.0.ends)
         ];
       },
-      legal flags (y ∷ ys) h.1 all,
+      words_legal flags (y ∷ ys) h.1 all,
     )
 
 -- Pieces with these words, joined to this text, are these.
@@ -195,10 +195,6 @@ pieces_no_white flags (p ∷ ps) a n b = elim (bool_cases (is_white p.0)) [
   | inl e ↦ (let w = white_of flags p.0 p.1 (joined ps) e a.0 in n (white_begins p.1 (joined ps) w.some w.each (utf8_joined flags ps a.1)))
   | inr e ↦ no_white_word flags p.0 p.1 (joined ps) e a.0.utf8 a.0.word b
 ]
-
-gapped_some : (w : List ℕ) (ps : List Piece) → w ≢ [] → gapped w ps ≡ (Whitespace, w) ∷ ps
-gapped_some [] ps n = absurd (n refl)
-gapped_some (c ∷ w) ps n = refl
 
 no_white_of_white : (p : Piece) (ps : List Piece) → is_white p.0 ≡ true → no_white (p ∷ ps) ≡ no_white ps
 no_white_of_white p ps e = ap (λ b. if b then no_white ps else p ∷ no_white ps) e
@@ -285,7 +281,7 @@ module _ (flags : Settings) where
     utf8 : IsUtf8 s.text
     utf8 = IsUtf8-append front (spread xs) (white_utf8 front white) (spread_utf8 xs h)
 
-    reads : AreLegal xs → Reads s xs
+    reads : AreLegal xs → ReadsAsWords s xs
     reads l =
         let all = legal flags xs h l in
         let is_at = gapped_legal flags front (to_pieces xs) white all (no_white_in_front xs h all) in
@@ -295,19 +291,19 @@ module _ (flags : Settings) where
           same = words_of_pieces s.text (placed 0 out) ∙ ap no_white (pieces_placed s 0 out (sym whole)) ∙ no_white_gapped front (to_pieces xs) ∙ no_white_spread flags xs h;
         }
 
-    cut : (r : Reads s xs) → Cut s 0 r.tokens
+    cut : (r : ReadsAsWords s xs) → Cut s 0 r.tokens
     cut r = cut_text s utf8 bounds 0 r.tiling.to r.tokens (IsCharBoundary-start s.text utf8) r.tiling.tiling r.tiling.ends
 
-    same_pieces : (r : Reads s xs) → pieces s.text r.tokens ≡ out
+    same_pieces : (r : ReadsAsWords s xs) → pieces s.text r.tokens ≡ out
     same_pieces r = only (pieces s.text r.tokens) front xs (cut r).legal (cut r).whole (sym (words_of_pieces s.text r.tokens) ∙ r.same) white h
 
-    are_legal : Reads s xs → AreLegal xs
-    are_legal r = legal flags xs h (tail_is_at flags front (to_pieces xs) (subst (AllLegal flags) (same_pieces r) (cut r).legal))
+    are_legal : ReadsAsWords s xs → AreLegal xs
+    are_legal r = words_legal flags xs h (tail_is_at flags front (to_pieces xs) (subst (AllLegal flags) (same_pieces r) (cut r).legal))
 
-    pub exact : AreLegal xs ↔ Reads s xs
+    pub exact : AreLegal xs ↔ ReadsAsWords s xs
     exact = (reads, are_legal)
 
-    pub marked : (r : Reads s xs) → marks s.text r.tokens ≡ touch_marks xs
+    pub marked : (r : ReadsAsWords s xs) → marks s.text r.tokens ≡ touch_marks xs
     marked r =
         marks_of_text s utf8 bounds 0 r.tiling.to r.tokens (IsCharBoundary-start s.text utf8) r.tiling.tiling r.tiling.ends ∙ ap mark_list (same_pieces r) ∙ mark_gapped front (to_pieces xs)
         ∙ touch_marks_of xs h

@@ -1,45 +1,25 @@
 -- A layout that is written a block at a time.
-use Rattle.std.proofs.Common.{◌≡◌, ◌+◌, ℕ, List, [], ◌∷◌, ◌++◌, length, take, drop, refl, sym, ap, ◌∙◌, subst, append_assoc}
-use Rattle.std.proofs.lemmas.List.{append-nil, take-append-drop}
+use Rattle.std.proofs.Common.{◌≡◌, ◌+◌, ℕ, List, [], ◌∷◌, ◌++◌, length, take, refl, sym, ap, ◌∙◌, subst, append_assoc}
+use Rattle.std.proofs.Math.Seq.{take-append_seam}
+use Rattle.std.proofs.lemmas.List.{append-nil}
 use Rattle.std.specs.Prelude.{Option, Some, None, Result, Ok, Err, IfErr, IsErrAnd}
-use Rattle.std.specs.Io.KnownBytes.{Appends, Keeps}
+use Rattle.std.specs.Io.KnownBytes.{Appends}
 use Rattle.wat_lex.specs.tokens.EverySetting.{OneThingIsAt}
 use Rattle.wat_lex.specs.tokens.Setting.{Setting}
 use Rattle.wat_lex.specs.tokens.Tiling.{TokenAt, MaximalTiling}
-use Rattle.wat_lex.specs.tokens.UniqueTilings.{AnswerAt}
+use Rattle.wat_lex.specs.tokens.UniqueTilings.{AnswerAt, EndsFrom}
 use Rattle.wat_lex.specs.declared.lexer.faults.LexFault.{LexFault}
 use Rattle.wat_lex.specs.declared.lexer.kinds.Token.{Token}
 use Rattle.wat_format.specs.Formatting.{Formatted}
 use Rattle.wat_format.specs.Layout.{State, start, laid, layout}
-use Rattle.wat_format.specs.Streams.{AppendsLayout, AppendsPrefix, AppendsPart}
+use Rattle.wat_lines.specs.Streams.{AppendsPrefix}
+use Rattle.wat_lines.specs.lemmas.BlockLaws.{cut_after, cut_longer}
+use Rattle.wat_lines.specs.lemmas.KnownBytes.{appends_none, appends_more}
+use Rattle.wat_format.specs.Streams.{AppendsLayout, AppendsPart}
 use Rattle.wat_format.specs.declared.stream.WriteError.{WriteError}
 use Rattle.wat_format.specs.declared.stream.WriteError.TheVariants.{Memory, Fault, Failed}
-use Rattle.wat_format.specs.inside.Steps.{Lays, EndsFrom}
-use Rattle.wat_format.specs.inside.Writing.{Moves, Remains, StopsShort, CutsShort}
-
-pub appends_none : (a : Option (List ℕ)) → Appends a a []
-appends_none None = tt
-appends_none (Some xs) = sym (append-nil xs)
-
-pub appends_more : (a b c : Option (List ℕ)) (xs ys zs : List ℕ) → Appends a b xs → Appends b c ys → zs ≡ xs ++ ys → Appends a c zs
-appends_more None b c xs ys zs h g e = tt
-appends_more (Some x) None c xs ys zs h g e = absurd h
-appends_more (Some x) (Some y) None xs ys zs h g e = absurd g
-appends_more (Some x) (Some y) (Some z) xs ys zs h g e = g ∙ ap (λ v. v ++ ys) h ∙ append_assoc x xs ys ∙ ap (λ v. x ++ v) (sym e)
-
-pub appends_kept : (a b c : Option (List ℕ)) (xs : List ℕ) → Appends a b xs → Keeps b c → Appends a c xs
-appends_kept None b c xs h k = tt
-appends_kept (Some x) None c xs h k = absurd h
-appends_kept (Some x) (Some y) None xs h k = absurd k
-appends_kept (Some x) (Some y) (Some z) xs h k = k ∙ h
-
-pub keeps_itself : (a : Option (List ℕ)) → Keeps a a
-keeps_itself None = tt
-keeps_itself (Some xs) = refl
-
--- what a write took of some bytes
-pub prefix_of : (a b : Option (List ℕ)) (n : ℕ) (bytes : List ℕ) → Appends a b (take n bytes) → AppendsPrefix a b bytes
-prefix_of a b n bytes h = record { first = take n bytes; rest = drop n bytes; all = sym (take-append-drop n bytes); appended = h }
+use Rattle.wat_format.specs.inside.Steps.{Lays}
+use Rattle.wat_format.specs.inside.Writing.{Drains, Remains, StopsShort, CutsShort}
 
 answers : (s : Setting) (p : ℕ) (ts : List Token) → MaximalTiling s p ts None → (r : Result (Option Token) LexFault) × AnswerAt s p r
 answers s p [] m = (Ok None, m.tiling ∙ m.ends)
@@ -70,8 +50,8 @@ module _ (s : Setting) (answer : List ℕ) (p : ℕ) (state : State) (old new : 
   remains_next one block block' state' t h k l = next_by one h.written block block' state' h.tokens t h.appended h.tiling h.rest k l
 
   -- the first bytes of a block are written
-  pub remains_moved : (new' : Option (List ℕ)) (block block' : List ℕ) → Remains s answer p state old new block → Moves new new' block block' → Remains s answer p state old new' block'
-  remains_moved new' block block' h k =
+  pub remains_drained : (new' : Option (List ℕ)) (block block' : List ℕ) → Remains s answer p state old new block → Drains new new' block block' → Remains s answer p state old new' block'
+  remains_drained new' block block' h k =
       let rest : List ℕ = laid s.text state h.tokens in
       record {
         written = h.written ++ k.first;
@@ -86,17 +66,15 @@ module _ (s : Setting) (answer : List ℕ) (p : ℕ) (state : State) (old new : 
   part_only block f h = record {
     answer = answer;
     formatted = f;
-    appended = record { first = h.written; rest = block ++ laid s.text state h.tokens; all = h.rest; appended = h.appended };
+    appended = record { n = length h.written; appended = subst (λ x. Appends old new x) (sym (ap (λ x. take (length h.written) x) h.rest ∙ take-append_seam h.written (block ++ laid s.text state h.tokens))) h.appended };
   }
 
   part_more : (new' : Option (List ℕ)) (written block more : List ℕ) → Formatted s answer → Appends old new written → answer ≡ written ++ (block ++ more) → AppendsPrefix new new' block → AppendsPart s old new'
-  part_more new' written block more f a e k =
-      let whole : answer ≡ (written ++ k.first) ++ (k.rest ++ more) = e ∙ ap (λ x. written ++ (x ++ more)) k.all ∙ ap (λ x. written ++ x) (append_assoc k.first k.rest more) ∙ sym (append_assoc written k.first (k.rest ++ more)) in
-      record {
-        answer = answer;
-        formatted = f;
-        appended = record { first = written ++ k.first; rest = k.rest ++ more; all = whole; appended = appends_more old new new' written k.first (written ++ k.first) a k.appended refl };
-      }
+  part_more new' written block more f a e k = record {
+    answer = answer;
+    formatted = f;
+    appended = cut_after old new new' written (block ++ more) answer a (cut_longer new new' block more (block ++ more) k refl) e;
+  }
 
   -- a part of a block is written
   pub part_of_block : (new' : Option (List ℕ)) (block : List ℕ) → Formatted s answer → Remains s answer p state old new block → AppendsPrefix new new' block → AppendsPart s old new'
@@ -133,24 +111,24 @@ remains_start s state old block h e k = record {
 pub formatted_from : (s : Setting) → (h : EndsFrom s 0 None) → Formatted s (layout s.text h.tokens)
 formatted_from s h = record { tokens = h.tokens; tiling = h.tiling; laid = refl }
 
--- nothing was moved, or all
-pub moves_none : (a : Option (List ℕ)) (block : List ℕ) → Moves a a block block
-moves_none a block = record { first = []; all = refl; appended = appends_none a }
+-- nothing was written, or all
+pub drains_none : (a : Option (List ℕ)) (block : List ℕ) → Drains a a block block
+drains_none a block = record { first = []; all = refl; appended = appends_none a }
 
-pub moves_all : (a b : Option (List ℕ)) (block block' : List ℕ) → Appends a b block → block' ≡ [] → Moves a b block block'
-moves_all a b block block' h e = record { first = block; all = sym (ap (λ x. block ++ x) e ∙ append-nil block); appended = h }
+pub drains_all : (a b : Option (List ℕ)) (block block' : List ℕ) → Appends a b block → block' ≡ [] → Drains a b block block'
+drains_all a b block block' h e = record { first = block; all = sym (ap (λ x. block ++ x) e ∙ append-nil block); appended = h }
 
 -- the error of a sink, where a part of some bytes is a part of the layout
-pub cuts_short : {F : Type 0} (s : Setting) (old new new' : Option (List ℕ)) (bytes : List ℕ) (e : WriteError F) → (AppendsPrefix new new' bytes → AppendsPart s old new') → StopsShort new new' bytes e → CutsShort s old new' e
+pub cuts_short : (s : Setting) (old new new' : Option (List ℕ)) (bytes : List ℕ) (e : WriteError) → (AppendsPrefix new new' bytes → AppendsPart s old new') → StopsShort new new' bytes e → CutsShort s old new' e
 cuts_short s old new new' bytes (Memory r) f h = absurd h
 cuts_short s old new new' bytes (Fault r) f h = absurd h
 cuts_short s old new new' bytes (Failed r) f h = f h
 
-pub on_error : {T F : Type 0} {P Q : WriteError F → Type 0} → (r : Result T (WriteError F)) → ((e : WriteError F) → P e → Q e) → IfErr r P → IfErr r Q
+pub on_error : {T : Type 0} {P Q : WriteError → Type 0} → (r : Result T WriteError) → ((e : WriteError) → P e → Q e) → IfErr r P → IfErr r Q
 on_error (Ok x) f h = tt
 on_error (Err e) f h = f e h
 
 -- an error that `?` hands on as it is
-pub passed_on : {T F : Type 0} (P : WriteError F → Type 0) (r : Result T (WriteError F)) (e : WriteError F) → IsErrAnd r (λ x. x ≡ e) → P e → IfErr r P
+pub passed_on : {T : Type 0} (P : WriteError → Type 0) (r : Result T WriteError) (e : WriteError) → IsErrAnd r (λ x. x ≡ e) → P e → IfErr r P
 passed_on P (Ok x) e h k = tt
 passed_on P (Err x) e h k = subst P (sym h) k

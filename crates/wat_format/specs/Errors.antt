@@ -15,7 +15,7 @@ printed (Memory refused) = codes "out of memory"
 printed (Fault fault) = faulty fault
 printed TooLong = codes "the formatted text would be longer than 4294967295 bytes"
 
-abbrev pub printed_of_writing : {F : Type 0} → WriteError F → List ℕ
+abbrev pub printed_of_writing : WriteError → List ℕ
 printed_of_writing (write.Memory refused) = codes "out of memory"
 printed_of_writing (write.Fault fault) = faulty fault
 printed_of_writing (write.Failed cause) = codes "write failed"

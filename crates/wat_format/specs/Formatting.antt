@@ -14,7 +14,7 @@ pub record Formatted (s : Setting) (answer : List ℕ) : Type 0 where
   pub tiling : MaximalTiling s 0 tokens None
   pub laid : answer ≡ layout s.text tokens
 
--- Why a text is refused: it has this fault, or else its layout has more than 2^32-1 bytes. Memory may be wanting for any text.
+-- Why a text is refused: it has this fault, or else its layout has more than 2^32-1 bytes. Any text may run out of memory.
 abbrev pub Refuses : Setting → Error → Type 0
 Refuses s (Memory refused) = Unit {0}
 Refuses s (Fault fault) = (tokens : List Token) × MaximalTiling s 0 tokens (Some fault)

@@ -67,14 +67,14 @@ over s answer = record s { text = answer }
 
 -- These are the raw tokens of the layout: there is no fault, without white space they are those of the text, kind by kind and byte by byte in
 -- their order, what is marked stays marked, and each white space token is a gap as it is written.
-pub record Keeps (s : Setting) (tokens : List Token) (laid : List Token) (ending : Option LexFault) : Type 0 where
+pub record KeepsTokens (s : Setting) (tokens : List Token) (laid : List Token) (ending : Option LexFault) : Type 0 where
   pub no_fault : ending ≡ None
   pub same : words (layout s.text tokens) laid ≡ words s.text tokens
   pub marked : marks (layout s.text tokens) laid ≡ marks s.text tokens
   pub white : WhiteIsWritten (layout s.text tokens) laid
 
 abbrev pub LayoutsKeepTokens : Type 0
-LayoutsKeepTokens = (s : Setting) (tokens laid : List Token) (ending : Option LexFault) → IsUtf8 s.text → MaximalTiling s 0 tokens None → MaximalTiling (over s (layout s.text tokens)) 0 laid ending → Keeps s tokens laid ending
+LayoutsKeepTokens = (s : Setting) (tokens laid : List Token) (ending : Option LexFault) → IsUtf8 s.text → MaximalTiling s 0 tokens None → MaximalTiling (over s (layout s.text tokens)) 0 laid ending → KeepsTokens s tokens laid ending
 
 abbrev pub LayoutsAreUtf8 : Type 0
 LayoutsAreUtf8 = (s : Setting) (answer : List ℕ) → IsUtf8 s.text → Formatted s answer → IsUtf8 answer

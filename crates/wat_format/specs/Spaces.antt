@@ -74,14 +74,14 @@ AreLegal (x ∷ []) = IsLegalEnd x
 AreLegal (x ∷ y ∷ ys) = IsLegal x y × AreLegal (y ∷ ys)
 
 -- the text has no fault, and these are its words
-pub record Reads (s : Setting) (xs : List Spaced) : Type 0 where
+pub record ReadsAsWords (s : Setting) (xs : List Spaced) : Type 0 where
   pub tokens : List Token
   pub tiling : MaximalTiling s 0 tokens None
   pub same : words s.text tokens ≡ words_of xs
 
 -- Words with white space between them, and in front, are read as these words exactly where each gap is legal.
 abbrev pub GapsAreExact : Type 0
-GapsAreExact = (flags : Settings) (front : List ℕ) (xs : List Spaced) → Each is_whitespace front → AreSpaced flags xs → AreLegal xs ↔ Reads (record { text = front ++ spread xs; flags = flags }) xs
+GapsAreExact = (flags : Settings) (front : List ℕ) (xs : List Spaced) → Each is_whitespace front → AreSpaced flags xs → AreLegal xs ↔ ReadsAsWords (record { text = front ++ spread xs; flags = flags }) xs
 
 -- of each `(`, whether it touches a word that begins with `@`
 abbrev pub touches : List ℕ → List Spaced → Bool
@@ -96,4 +96,4 @@ touch_marks (x ∷ xs) = if is_opening x.kind then touches x.white xs ∷ touch_
 -- Where the words are read so, this is which parentheses are marked. So a gap between `(` and `@` may neither be opened nor closed.
 abbrev pub MarksGoByGaps : Type 0
 MarksGoByGaps = (flags : Settings) (front : List ℕ) (xs : List Spaced) → Each is_whitespace front → AreSpaced flags xs
-    → (reads : Reads (record { text = front ++ spread xs; flags = flags }) xs) → marks (front ++ spread xs) reads.tokens ≡ touch_marks xs
+    → (reads : ReadsAsWords (record { text = front ++ spread xs; flags = flags }) xs) → marks (front ++ spread xs) reads.tokens ≡ touch_marks xs

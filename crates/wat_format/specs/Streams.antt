@@ -1,9 +1,11 @@
 -- What formatting a text into a sink adds to the bytes that the sink holds. No part of the standard.
-use Rattle.std.specs.Prelude.{◌≡◌, ◌++◌, ℕ, List, Option, Some, Result, Ok, Err}
+use Rattle.std.specs.Prelude.{ℕ, List, Option, Some, Result, Ok, Err}
 use Rattle.std.specs.Io.KnownBytes.{Appends, Keeps}
 use Rattle.wat_lex.specs.tokens.Setting.{Setting}
 use Rattle.wat_lex.specs.tokens.Tiling.{MaximalTiling}
 use Rattle.wat_lex.specs.declared.lexer.kinds.Token.{Token}
+use Rattle.wat_lines.specs.Streams.{AppendsPrefix}
+use Rattle.wat_lines.specs.declared.failed.Failed.{Failed as Failure}
 use Rattle.wat_format.specs.Formatting.{Formatted}
 use Rattle.wat_format.specs.declared.stream.WriteError.{WriteError}
 use Rattle.wat_format.specs.declared.stream.WriteError.TheVariants.{Memory, Fault, Failed}
@@ -14,33 +16,21 @@ pub record AppendsLayout (s : Setting) (old new : Option (List ℕ)) : Type 0 wh
   pub formatted : Formatted s answer
   pub appended : Appends old new answer
 
--- known bytes grow by a first part of these, and by nothing else
-pub record AppendsPrefix (old new : Option (List ℕ)) (bytes : List ℕ) : Type 0 where
-  pub first : List ℕ
-  pub rest : List ℕ
-  pub all : bytes ≡ first ++ rest
-  pub appended : Appends old new first
-
 -- known bytes grow by a first part of the layout of the text, which has no fault
 pub record AppendsPart (s : Setting) (old new : Option (List ℕ)) : Type 0 where
   pub answer : List ℕ
   pub formatted : Formatted s answer
   pub appended : AppendsPrefix old new answer
 
--- Where the text has this fault nothing is written. Where memory is wanting or a write fails, the text has no fault and a first part of its layout
+-- Where the text has this fault nothing is written. Where memory runs out or a write fails, the text has no fault and a first part of its layout
 -- is written.
-abbrev pub RefusesToWrite : {F : Type 0} → Setting → Option (List ℕ) → Option (List ℕ) → WriteError F → Type 0
+abbrev pub RefusesToWrite : Setting → Option (List ℕ) → Option (List ℕ) → WriteError → Type 0
 RefusesToWrite s old new (Memory refused) = AppendsPart s old new
 RefusesToWrite s old new (Fault fault) = ((tokens : List Token) × MaximalTiling s 0 tokens (Some fault)) × Keeps old new
 RefusesToWrite s old new (Failed cause) = AppendsPart s old new
 
--- the failure of the last call that failed, after a write
-abbrev pub failure_after : {F : Type 0} → Option F → Result (Unit {0}) F → Option F
-failure_after before (Ok u) = before
-failure_after before (Err failure) = Some failure
-
--- and after formatting, which may be refused for other reasons
-abbrev pub failed_after : {F : Type 0} → Option F → Result (Unit {0}) (WriteError F) → Option F
+-- the failure of the last call that failed, after formatting, which may be refused for other reasons
+abbrev pub failed_after : Option Failure → Result (Unit {0}) WriteError → Option Failure
 failed_after before (Ok u) = before
 failed_after before (Err (Memory refused)) = before
 failed_after before (Err (Fault fault)) = before

@@ -2,42 +2,15 @@
 ghost use Rattle.std.specs.Prelude.{◌≡◌, ◌≤◌, ◌<◌, ◌^◌, length, IfOk, IfErr, string_bytes};
 ghost use Rattle.std.specs.Str.{IsCharBoundary};
 ghost use Rattle.wat_format.specs.Formatting.{Formatted, Refuses};
-ghost use Rattle.wat_format.specs.inside.Steps.{EndsFrom, EndsSo};
+ghost use Rattle.wat_format.specs.inside.Steps.{EndsSo};
 
 use crate::error::Error;
 use crate::formatter::Formatter;
 use std::alloc::Global;
-use wat_lex::lexer::{LexFault, Lexer, Settings};
+use wat_lex::lexer::{Lexer, Settings};
 
 /// The most bytes that an answer has, since places in it are to be `u32`.
 const MOST: usize = 4_294_967_295;
-
-/// The lexer of a text that is read with these settings.
-pub(crate) fn lexer_of<'a>(text: &'a str, settings: Settings) -> Lexer<'a>
-    requires { length text.now < 2 ^ 32 }
-    ensures { result ≡ record { text = text.now; flags = settings } }
-{
-    let mut lexer = Lexer::new(text);
-    lexer
-        .allow_confusing_unicode(settings.allow)
-        .strict_underscores(settings.strict);
-    lexer
-}
-
-/// The fault of a lexer's text from a place on, where it has one there.
-pub(crate) fn fault_from(lexer: &Lexer<'_>, start: usize) -> Option<LexFault>
-    requires { IsCharBoundary lexer.now.text start }
-    ensures { EndsFrom lexer.now start result }
-{
-    let mut pos = start;
-    'tokens: loop {
-        match lexer.scan(pos) {
-            Ok(Some(token)) => pos = token.offset + token.len as usize,
-            Ok(None) => return None,
-            Err(fault) => return Some(fault),
-        }
-    }
-}
 
 /// The text laid out.
 pub fn format(alloc: Global, text: &str, settings: Settings) -> Result<String, Error>
@@ -47,7 +20,7 @@ pub fn format(alloc: Global, text: &str, settings: Settings) -> Result<String, E
     ensures short { IfOk result (λ answer. length (string_bytes answer) < 2 ^ 32) }
     ensures refused { IfErr result (Refuses (record { text = text.now; flags = settings })) }
 {
-    let lexer = lexer_of(text, settings);
+    let lexer = Lexer::with_settings(text, settings);
     let mut formatter = Formatter::new(alloc);
     let mut out = String::with_capacity(alloc, text.len())?;
     let mut pos = 0;
@@ -76,7 +49,7 @@ fn too_long(lexer: &Lexer<'_>, pos: usize) -> Error
     requires { IsCharBoundary lexer.now.text pos }
     ensures { EndsSo lexer.now pos result }
 {
-    match fault_from(lexer, pos) {
+    match lexer.first_fault(pos) {
         Some(fault) => Error::Fault(fault),
         None => Error::TooLong,
     }

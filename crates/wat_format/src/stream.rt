@@ -3,40 +3,39 @@ ghost use Rattle.std.specs.Prelude.{◌≡◌, ◌<◌, ◌^◌, length, None, O
 ghost use Rattle.std.specs.Prelude.{string_bytes};
 ghost use Rattle.std.specs.Io.KnownBytes.{Appends};
 ghost use Rattle.std.specs.Str.{IsCharBoundary};
+ghost use Rattle.wat_lex.specs.tokens.UniqueTilings.{EndsFrom};
 ghost use Rattle.wat_format.specs.Streams.{AppendsLayout, RefusesToWrite, failed_after};
-ghost use Rattle.wat_format.specs.inside.Steps.{EndsFrom};
-ghost use Rattle.wat_format.specs.inside.Writing.{CutsShort, Moves, TokenIsAt, StopsShort};
+ghost use Rattle.wat_format.specs.inside.Writing.{CutsShort, Drains, TokenIsAt, StopsShort};
 
-use crate::format::{fault_from, lexer_of};
 use crate::formatter::Formatter;
-use crate::sink::Sink;
 use std::alloc::{AllocError, Global};
 use std::fmt;
 use wat_lex::lexer::{LexFault, Lexer, Settings, Token};
+use wat_lines::ends::{Failed, Sink};
 
 /// Why a text was not written.
 #[derive(Debug, Drop)]
-pub enum WriteError<F> {
+pub enum WriteError {
     /// A request for memory was refused, by this refusal.
     Memory(AllocError),
     /// The text has this fault, and nothing was written.
     Fault(LexFault),
     /// A write failed, for this reason.
-    Failed(F),
+    Failed(Failed),
 }
 
-impl<F> From<AllocError> for WriteError<F> {
+impl From<AllocError> for WriteError {
     ghost use Rattle.std.specs.Prelude.{◌≡◌};
     ghost use Rattle.wat_format.specs.declared.stream.WriteError.TheVariants.{Memory};
 
     ghost from_gives = { λ refused e. e ≡ Memory refused };
 
-    fn from(refused: AllocError) -> WriteError<F> {
+    fn from(refused: AllocError) -> WriteError {
         WriteError::Memory(refused)
     }
 }
 
-impl<F> fmt::Display for WriteError<F> {
+impl fmt::Display for WriteError {
     ghost use Rattle.std.specs.Prelude.{Some};
     ghost use Rattle.wat_format.specs.Errors.{printed_of_writing};
 
@@ -65,7 +64,7 @@ pub fn format_to<W: Sink>(
     text: &str,
     settings: Settings,
     output: &mut W,
-) -> Result<(), WriteError<W::Failure>>
+) -> Result<(), WriteError>
     requires { length text.now < 2 ^ 32 }
     ensures written { OnOk result (AppendsLayout (record { text = text.now; flags = settings })
         (W.held output.old) (W.held output.new)) }
@@ -75,20 +74,15 @@ pub fn format_to<W: Sink>(
     // `Failed` comes exactly where a call of the sink failed, with its failure.
     ensures failed { W.failure output.new ≡ failed_after (W.failure output.old) result }
 {
-    let lexer = lexer_of(text, settings);
-    let _ = lexer.input();
-    match fault_from(&lexer, 0) {
+    let lexer = Lexer::with_settings(text, settings);
+    match lexer.first_fault(0) {
         Some(fault) => Err(WriteError::Fault(fault)),
         None => write_laid(alloc, &lexer, output),
     }
 }
 
 /// Writes the layout of a lexer's text that has no fault.
-fn write_laid<W: Sink>(
-    alloc: Global,
-    lexer: &Lexer<'_>,
-    output: &mut W,
-) -> Result<(), WriteError<W::Failure>>
+fn write_laid<W: Sink>(alloc: Global, lexer: &Lexer<'_>, output: &mut W) -> Result<(), WriteError>
     requires { EndsFrom lexer.now 0 None }
     ensures written { OnOk result
         (AppendsLayout lexer.now (W.held output.old) (W.held output.new)) }
@@ -123,8 +117,8 @@ fn next_token(lexer: &Lexer<'_>, pos: usize) -> Option<Token>
 }
 
 /// Writes a block, and makes it empty, where it is full.
-fn write_if_full<W: Sink>(output: &mut W, block: &mut String) -> Result<(), WriteError<W::Failure>>
-    ensures moved { OnOk result (Moves (W.held output.old) (W.held output.new)
+fn write_if_full<W: Sink>(output: &mut W, block: &mut String) -> Result<(), WriteError>
+    ensures drained { OnOk result (Drains (W.held output.old) (W.held output.new)
         (string_bytes block.old) (string_bytes block.new)) }
     ensures cut { IfErr result
         (StopsShort (W.held output.old) (W.held output.new) (string_bytes block.old)) }
@@ -139,7 +133,7 @@ fn write_if_full<W: Sink>(output: &mut W, block: &mut String) -> Result<(), Writ
 }
 
 /// Writes all the bytes.
-fn write_bytes<W: Sink>(output: &mut W, bytes: &[u8]) -> Result<(), WriteError<W::Failure>>
+fn write_bytes<W: Sink>(output: &mut W, bytes: &[u8]) -> Result<(), WriteError>
     ensures bytes { OnOk result (Appends (W.held output.old) (W.held output.new) bytes.now) }
     ensures cut { IfErr result (StopsShort (W.held output.old) (W.held output.new) bytes.now) }
     ensures failed { W.failure output.new ≡ failed_after (W.failure output.old) result }

@@ -7,7 +7,7 @@ use Rattle.wat_format_shown.specs.lemmas.Types.{spelled_moved}
 use Rattle.wat_imports.specs.Imports.{Read}
 use Rattle.wat_lex.specs.tokens.Tiling.{MaximalTiling}
 use Rattle.wat_lex.specs.declared.lexer.kinds.Token.{Token}
-use Rattle.wat_types.specs.Compiling.{Spells, plain}
+use Rattle.wat_types.specs.Compiling.{SpellsTypes, plain}
 use Rattle.wat_types.specs.Signatures.{Signature}
 
 -- the identifier of an entry is moved, and nothing else
@@ -19,4 +19,4 @@ imports_moved move = map (entry_moved move)
 
 -- A layout spells the function types that the text spells.
 abbrev pub LayoutsSpellTheSame : Type 0
-LayoutsSpellTheSame = (text : List ℕ) (tokens : List Token) (fs : List Signature) → IsUtf8 text → MaximalTiling (plain text) 0 tokens None → Spells text fs ↔ Spells (layout text tokens) fs
+LayoutsSpellTheSame = (text : List ℕ) (tokens : List Token) (fs : List Signature) → IsUtf8 text → MaximalTiling (plain text) 0 tokens None → SpellsTypes text fs ↔ SpellsTypes (layout text tokens) fs

@@ -20,7 +20,7 @@ use Rattle.wat_lexer_parser.specs.shown.Shown.{Shown}
 use Rattle.wat_lexer_parser.specs.laws.ShownLaws.{SomethingIsAllShown}
 use Rattle.wat_lexer_parser.specs.shown.Showing.{OneThingShown}
 use Rattle.wat_lexer_parser.specs.inside.ShownIn.{Showing, shown_in}
-use Rattle.wat_format.specs.Laws.{over, Keeps, LayoutsKeepTokens, LayoutsAreUtf8}
+use Rattle.wat_format.specs.Laws.{over, KeepsTokens, LayoutsKeepTokens, LayoutsAreUtf8}
 use Rattle.wat_format.specs.Layout.{layout}
 use Rattle.wat_format_shown.specs.Moved.{fault_moved, ShowsMoved, LayoutsShowTheSame}
 use Rattle.wat_format_shown.proofs.Alike.{twins}
@@ -67,7 +67,7 @@ module _ (laws : Laws) (s : Setting) (ts : List Token) (utf8 : IsUtf8 s.text) (m
   abbrev us : List Token
   us = raw.0
 
-  keeps : Keeps s ts us raw.1
+  keeps : KeepsTokens s ts us raw.1
   keeps = laws.keep s ts us raw.1 utf8 m raw.2
 
   tiling : MaximalTiling r 0 us None

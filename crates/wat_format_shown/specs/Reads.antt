@@ -23,8 +23,8 @@ OutcomeMoved moved n s ts o q = AnswerMoved moved n s ts o.answer o.passed q
 
 -- A reading goes by the tokens that count, and by where they are only as the value's spans do, which `moved` moves by a map. It takes n tokens
 -- at least.
-abbrev pub Moves : {V : Type 0} → ℕ → ((ℕ → ℕ) → V → V) → Reading V → Type 0
-Moves n moved m = (s : Sides) (ts : List Token) → Alike s ts → OutcomeMoved (moved s.move) n s ts (m s.here) (m s.there)
+abbrev pub MovesReading : {V : Type 0} → ℕ → ((ℕ → ℕ) → V → V) → Reading V → Type 0
+MovesReading n moved m = (s : Sides) (ts : List Token) → Alike s ts → OutcomeMoved (moved s.move) n s ts (m s.here) (m s.there)
 
 -- The same of a look,
 abbrev pub KnownMoved : Sides → Result Bool Report → Result Bool Report → Type 0

@@ -2,7 +2,7 @@
 //! is the law.
 ghost use Rattle.std.specs.Prelude.{ℕ};
 ghost use Rattle.wat_format_shown.specs.Moved.{LayoutsShowTheSame};
-ghost use Rattle.wat_format_shown.specs.Reads.{LayoutsAreSameTexts, LayoutsReadTheSame, MapsAreOne, Moves};
+ghost use Rattle.wat_format_shown.specs.Reads.{LayoutsAreSameTexts, LayoutsReadTheSame, MapsAreOne, MovesReading};
 
 use wat_lexer_parser::parser::Parse;
 
@@ -24,7 +24,7 @@ pub fn shown()
 /// and so does each word of the language of readings (`specs/lemmas`).
 pub fn read<'a, T: Parse<'a>>()
     ensures { (n : ℕ) (moved : (ℕ → ℕ) → T.Value → T.Value) →
-        Moves n moved T.meaning → LayoutsReadTheSame moved T.meaning }
+        MovesReading n moved T.meaning → LayoutsReadTheSame moved T.meaning }
 {
     same_texts();
     wat_lexer_parser::laws::shown();

@@ -4,6 +4,7 @@ use Rattle.std.specs.Option.{option_map}
 use Rattle.std.specs.Io.KnownBytes.{Appends}
 use Rattle.wat_lex.specs.errors.Errors.{Report, lexical}
 use Rattle.wat_lex.specs.tokens.Setting.{Setting}
+use Rattle.wat_lex.specs.tokens.UniqueTilings.{EndsFrom}
 use Rattle.wat_lex.specs.tokens.Tiling.{MaximalTiling}
 use Rattle.wat_lex.specs.declared.lexer.faults.LexFault.{LexFault}
 use Rattle.wat_lex.specs.declared.lexer.kinds.Token.{Token}
@@ -14,11 +15,6 @@ pub record Puts (old new : Option (List ℕ)) (block block' bytes : List ℕ) : 
   pub written : List ℕ
   pub appended : Appends old new written
   pub all : written ++ block' ≡ block ++ bytes
-
--- the raw tokens of a text end so: in a fault, or at the text's end
-pub record EndsIn (s : Setting) (ending : Option LexFault) : Type 0 where
-  pub tokens : List Token
-  pub tiling : MaximalTiling s 0 tokens ending
 
 -- known bytes grow by those of each raw token of a text
 pub record AppendsEach (each : Token → List ℕ) (s : Setting) (old new : Option (List ℕ)) : Type 0 where
@@ -37,5 +33,5 @@ pub record AppendsEachCut (each : Token → List ℕ) (s : Setting) (old new : O
 -- the error is that of the fault of a text, where it has one
 pub record ReportsEnd (s : Setting) (error : Option (Option Report)) : Type 0 where
   pub ending : Option LexFault
-  pub ends : EndsIn s ending
+  pub ends : EndsFrom s 0 ending
   pub reported : error ≡ option_map (λ f. Some (lexical s.text f)) ending

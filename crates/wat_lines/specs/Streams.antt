@@ -5,7 +5,7 @@ use Rattle.std.specs.Io.KnownBytes.{Appends, Consumes, IsAtEnd}
 use Rattle.wat_lines.specs.declared.failed.Failed.{Failed}
 
 -- n bytes were read into the buffer, in their order; none, although there was room, only at the end
-pub record Reads (old new : Option (List ℕ)) (buffer : List ℕ) (n : ℕ) : Type 0 where
+pub record ReadsInto (old new : Option (List ℕ)) (buffer : List ℕ) (n : ℕ) : Type 0 where
   pub few : n ≤ length buffer
   pub given : Consumes old new (take n buffer)
   pub ended : n ≡ 0 → 0 < length buffer → IsAtEnd new

@@ -2,14 +2,13 @@
 ghost use Rattle.std.specs.Prelude.{◌≡◌, ℕ, Bool, false, List, Option, None, IfOk, OnOk, OnErr};
 ghost use Rattle.std.specs.Prelude.{is_some};
 ghost use Rattle.std.specs.Io.KnownBytes.{Appends, Keeps};
-ghost use Rattle.wat_lines.specs.Streams.{Reads, AppendsPrefix, failure_after, gave_end};
+ghost use Rattle.wat_lines.specs.Streams.{ReadsInto, AppendsPrefix, failure_after, gave_end};
 ghost use Rattle.wat_lines.specs.Plain.{plain_inner, plain_failure, plain_ended};
 ghost use Rattle.wat_lines.specs.declared.failed.Failed.{Failed};
 
 pub use crate::failed::Failed;
 use crate::failed::taken;
 use std::io;
-use wat_format::sink;
 
 /// What a text is read from.
 pub trait Source {
@@ -24,7 +23,7 @@ pub trait Source {
     /// Reads some bytes into the buffer, and answers how many; none for a buffer that is not empty
     /// is the end. Where it fails, nothing of what is left is taken.
     fn read(&mut self, buffer: &mut [u8]) -> Result<usize, Failed>
-        ensures bytes { IfOk result (Reads (left self.old) (left self.new) buffer.new) }
+        ensures bytes { IfOk result (ReadsInto (left self.old) (left self.new) buffer.new) }
         ensures unread { OnErr result (Keeps (left self.old) (left self.new)) }
         ensures failed { failure self.new ≡ failure_after (failure self.old) result }
         ensures ended { has_ended self.new ≡ gave_end result buffer.new };
@@ -38,7 +37,7 @@ pub trait Source {
         ensures { result ≡ has_ended self.now };
 }
 
-/// What lines are written to.
+/// What lines and layouts are written to.
 pub trait Sink {
     // The bytes that it holds, where they are known.
     ghost held: { Self → Option (List ℕ) };
@@ -135,19 +134,6 @@ impl<T: io::Write> Sink for Plain<T> {
 
     fn failed(&self) -> bool {
         self.failure.is_some()
-    }
-}
-
-impl<T: io::Write> sink::Sink for Plain<T> {
-    type Failure = Failed;
-
-    ghost held = { λ p. T.contents (plain_inner p) };
-
-    ghost failure = { λ p. plain_failure p };
-
-    #[tactic(auto, using(crate::specs::lemmas::KnownBytes::as_first))]
-    fn write_all(&mut self, bytes: &[u8]) -> Result<(), Failed> {
-        <Plain<T> as Sink>::write_all(self, bytes)
     }
 }
 

@@ -76,7 +76,7 @@ impl Digits {
     }
 
     /// The first sixteen bytes.
-    fn piece(&self) -> &[u8]
+    fn first_16_bytes(&self) -> &[u8]
         ensures piece { result.now ≡ take 16 self.now }
         ensures len { length result.now ≡ 16 }
     {
@@ -159,11 +159,11 @@ impl Place {
     }
 
     /// The digits, two dots after them, and what fills the piece.
-    fn piece(&self) -> &[u8]
+    fn first_16_bytes(&self) -> &[u8]
         ensures piece { result.now ≡ take 16 (decimal self.now ++ codes "..00000000000000") }
         ensures len { length result.now ≡ 16 }
     {
-        self.digits.piece()
+        self.digits.first_16_bytes()
     }
 
     /// How many digits there are.
@@ -231,9 +231,9 @@ pub fn put_line(room: &mut [u8], place: &mut Place, token: &Token) -> usize
     ensures room { length room.new ≡ length room.old }
 {
     place.move_to(token.offset as u32);
-    let dots = put_piece(room, 0, place.piece(), place.count() + 2);
+    let dots = put_piece(room, 0, place.first_16_bytes(), place.count() + 2);
     place.move_to((token.offset + token.len as usize) as u32);
-    let name = put_piece(room, dots, place.piece(), place.count());
+    let name = put_piece(room, dots, place.first_16_bytes(), place.count());
     let (padded, count) = padded_end(token.kind);
     put_piece(room, name, padded.as_bytes(), count)
 }

@@ -50,7 +50,7 @@ impl<'a> Positions<'a> {
         self.text
     }
 
-    /// Line and column of a place, as [`Span::linecol_in`] tells them: both from 0, and a column is a
+    /// Line and column of a place, as [`Span::linecol_in`] has them: both from 0, and a column is a
     /// number of bytes.
     pub fn linecol(&mut self, offset: usize) -> (usize, usize)
         requires { IsCharBoundary self.old offset }

@@ -1,6 +1,6 @@
 -- The lists that the program writes as JSON: a line for each raw token, or for each token that counts, and one for the fault in which they end, if
 -- they end in one. No part of the standard.
-use Rattle.std.specs.Prelude.{◌≡◌, ◌<◌, ◌^◌, ◌++◌, ℕ, List, [], length, drop, Option, Some, None}
+use Rattle.std.specs.Prelude.{◌≡◌, ◌<◌, ◌^◌, ◌++◌, ℕ, List, [], length, Option, Some, None}
 use Rattle.std.specs.Option.{option_map}
 use Rattle.std.specs.Str.{IsUtf8}
 use Rattle.std.specs.Prelude.{String}
@@ -11,13 +11,8 @@ use Rattle.wat_lex.specs.tokens.Tiling.{MaximalTiling}
 use Rattle.wat_lex.specs.declared.lexer.faults.LexFault.{LexFault}
 use Rattle.wat_lex.specs.declared.lexer.kinds.Token.{Token}
 use Rattle.wat_lex.specs.declared.lexer.settings.Settings.{Settings}
-use Rattle.wat_lexer_parser.specs.declared.parser.fault.Fault.{Fault}
-use Rattle.wat_lexer_parser.specs.names.RegisteredNames.{Names, no_names}
-use Rattle.wat_lexer_parser.specs.parser.State.{report_of}
-use Rattle.wat_lexer_parser.specs.places.Source.{Source, IsRead}
-use Rattle.wat_lexer_parser.specs.laws.AllShown.{AllShown}
-use Rattle.wat_lines.specs.JsonRows.{json_fault, json_lines, json_open}
-use Rattle.wat_lists.specs.Shows.{with_names}
+use Rattle.wat_lines.specs.JsonRows.{json_fault, json_line, json_lines, json_open}
+use Rattle.wat_lists.specs.Shows.{ShownText}
 
 -- the line of a fault of a text, where there is one
 abbrev pub json_report : List ℕ → List ℕ → Option (Option Report) → List ℕ
@@ -35,25 +30,11 @@ pub record JsonLists (settings : Settings) (file : Option (List ℕ)) (bytes tex
   pub lines : text ≡ json_lines (json_open file) bytes tokens ++ json_report (json_open file) bytes error
   pub reported : error ≡ option_map (λ f. Some (lexical bytes f)) fault
 
--- The lines of the tokens that are shown from a place on, and the error of the fault after them where there is one.
-pub record JsonShownFrom (s : Source) (names : Names) (place : ℕ) (begin text : List ℕ) (error : Option (Option Report)) : Type 0 where
-  pub tokens : List Token
-  pub fault : Option Fault
-  pub shown : AllShown s.setting.text s.ending names (drop place s.tokens) tokens fault
-  pub lines : text ≡ json_lines begin s.setting.text tokens
-  pub reported : error ≡ option_map (λ f. Some (report_of s.setting.text f)) fault
-
--- The lines of the tokens that are shown of a text from its start, where these names are registered, and the error of the fault after them.
-pub record JsonShownRows (s : Setting) (begin : List ℕ) (names : List (String Global)) (text : List ℕ) (error : Option (Option Report)) : Type 0 where
-  pub source : Source
-  pub setting : source.setting ≡ s
-  pub read : IsRead source
-  pub shown : JsonShownFrom source (with_names no_names names) 0 begin text error
-
--- The same with the line of the fault, where there is one; the text is that of a file of this name, if it has one.
+-- The lines of the tokens that are shown of a text from its start, where these names are registered, and that of the fault after them where there is
+-- one; the text is that of a file of this name, if it has one.
 pub record JsonShownText (s : Setting) (file : Option (List ℕ)) (names : List (String Global)) (text : List ℕ) (error : Option (Option Report)) : Type 0 where
   pub rows : List ℕ
-  pub shown : JsonShownRows s (json_open file) names rows error
+  pub shown : ShownText (json_line (json_open file) s.text) s names rows error
   pub lines : text ≡ rows ++ json_report (json_open file) s.text error
 
 -- The bytes are a text of at most 2^32-1 bytes of a file of this name, if it has one; these are the lines of what is shown of it where these names are

@@ -9,12 +9,12 @@ use Rattle.wat_lists.specs.declared.input.RunFailure.{RunFailure}
 use Rattle.wat_lists.specs.declared.input.RunFailure.TheVariants.{Read, TooLong, NotUtf8, Write, Memory}
 
 -- a read failed
-abbrev pub IsRead : RunFailure → Type 0
-IsRead e = (failed : Failed) × (e ≡ Read failed)
+abbrev pub IsFailedRead : RunFailure → Type 0
+IsFailedRead e = (failed : Failed) × (e ≡ Read failed)
 
 -- a write failed
-abbrev pub IsWrite : RunFailure → Type 0
-IsWrite e = (failed : Failed) × (e ≡ Write failed)
+abbrev pub IsFailedWrite : RunFailure → Type 0
+IsFailedWrite e = (failed : Failed) × (e ≡ Write failed)
 
 -- the bytes are no text
 abbrev pub IsNotUtf8 : RunFailure → Type 0

@@ -1,8 +1,8 @@
 -- The list that the program writes of the tokens that count: a line for each token that a parser shows of the text under registered
 -- names. No part of the standard.
-use Rattle.std.specs.Prelude.{◌≡◌, ◌<◌, ◌^◌, ℕ, List, [], ◌∷◌, length, drop, if◌then◌else◌, Option, Some, String, string_bytes}
+use Rattle.std.specs.Prelude.{◌≡◌, ◌+◌, ◌<◌, ◌≤◌, ◌^◌, ℕ, List, [], ◌∷◌, length, drop, flat_map, if◌then◌else◌, Option, Some, String, string_bytes}
 use Rattle.std.specs.Option.{option_map}
-use Rattle.std.specs.Str.{IsUtf8}
+use Rattle.std.specs.Str.{IsUtf8, IsCharBoundary}
 use Rattle.std.specs.declared.alloc.Global.{Global}
 use Rattle.wat_lex.specs.errors.Errors.{Report}
 use Rattle.wat_lex.specs.tokens.Setting.{Setting}
@@ -13,7 +13,7 @@ use Rattle.wat_lexer_parser.specs.names.RegisteredNames.{Names, no_names, is_reg
 use Rattle.wat_lexer_parser.specs.parser.State.{report_of}
 use Rattle.wat_lexer_parser.specs.places.Source.{Source, IsRead}
 use Rattle.wat_lexer_parser.specs.laws.AllShown.{AllShown}
-use Rattle.wat_lines.specs.Lines.{token_lines}
+use Rattle.wat_lines.specs.Lines.{line}
 
 -- the names with one that is registered now, if it was not yet
 abbrev pub with_name : Names → List ℕ → Names
@@ -24,24 +24,28 @@ abbrev pub with_names : Names → List (String Global) → Names
 with_names names [] = names
 with_names names (x ∷ xs) = with_names (with_name names (string_bytes x)) xs
 
--- The lines of the tokens that are shown from a place on, and the error of the fault after them where there is one.
-pub record ShownFrom (s : Source) (names : Names) (place : ℕ) (text : List ℕ) (error : Option (Option Report)) : Type 0 where
+-- a token begins at a character of the text, and ends in it
+abbrev pub IsInside : List ℕ → Token → Type 0
+IsInside text t = IsCharBoundary text t.offset × (t.offset + t.len ≤ length text)
+
+-- What is written of each of the tokens that are shown from a place on, and the error of the fault after them where there is one.
+pub record ShownFrom (each : Token → List ℕ) (s : Source) (names : Names) (place : ℕ) (text : List ℕ) (error : Option (Option Report)) : Type 0 where
   pub tokens : List Token
   pub fault : Option Fault
   pub shown : AllShown s.setting.text s.ending names (drop place s.tokens) tokens fault
-  pub lines : text ≡ token_lines tokens
+  pub lines : text ≡ flat_map each tokens
   pub reported : error ≡ option_map (λ f. Some (report_of s.setting.text f)) fault
 
--- The lines of the tokens that are shown of a text from its start, where these names are registered.
-pub record ShownText (s : Setting) (names : List (String Global)) (text : List ℕ) (error : Option (Option Report)) : Type 0 where
+-- The same of a text from its start, where these names are registered.
+pub record ShownText (each : Token → List ℕ) (s : Setting) (names : List (String Global)) (text : List ℕ) (error : Option (Option Report)) : Type 0 where
   pub source : Source
   pub setting : source.setting ≡ s
   pub read : IsRead source
-  pub shown : ShownFrom source (with_names no_names names) 0 text error
+  pub shown : ShownFrom each source (with_names no_names names) 0 text error
 
 -- The bytes are a text of at most 2^32-1 bytes, these are the lines of what is shown of it where these names are registered, and this is the
 -- error of the fault after them where there is one.
 pub record Shows (settings : Settings) (names : List (String Global)) (bytes text : List ℕ) (error : Option (Option Report)) : Type 0 where
   pub utf8 : IsUtf8 bytes
   pub short : length bytes < 2 ^ 32
-  pub shown : ShownText (record { text = bytes; flags = settings }) names text error
+  pub shown : ShownText line (record { text = bytes; flags = settings }) names text error

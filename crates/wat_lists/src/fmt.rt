@@ -2,23 +2,21 @@
 ghost use Rattle.std.specs.Prelude.{◌≡◌, ◌⊎◌, ◌↔◌, ◌<◌, ◌^◌, ℕ, true, None, Some, length};
 ghost use Rattle.std.specs.Prelude.{alloc_error, IfOk, OnOk, OnErr, IfErr, IfSome, IsErrOf};
 ghost use Rattle.std.specs.Str.{IsValidUpTo};
-ghost use Rattle.wat_lex.specs.errors.Errors.{lexical};
 ghost use Rattle.wat_lines.specs.declared.failed.Failed.{Failed};
 ghost use Rattle.wat_lists.specs.Inputs.{ReadsPast, ReadsShort, HasEnded};
 ghost use Rattle.wat_lists.specs.Layouts.{Compares, WritesLayout, WritesPart};
-ghost use Rattle.wat_lists.specs.Refusals.{IsNotUtf8, IsWrite, failure_after};
+ghost use Rattle.wat_lists.specs.Refusals.{IsNotUtf8, IsFailedWrite, failure_after};
 ghost use Rattle.wat_lists.specs.Refusals.{read_failure, write_failure};
 
 use crate::input::{RunFailure, read_whole, text_of};
+use crate::list::error_of;
 use std::alloc::Global;
 use wat_format::error::Error as FormatError;
 use wat_format::format::format;
-use wat_format::sink;
 use wat_format::stream::{WriteError, format_to};
 use wat_lex::error::Error;
-use wat_lex::lexer::{LexFault, Settings};
-use wat_lex::token::Span;
-use wat_lines::ends::{Failed, Source};
+use wat_lex::lexer::Settings;
+use wat_lines::ends::{Sink, Source};
 
 /// What comes of comparing a text with its layout.
 #[derive(Drop)]
@@ -33,21 +31,8 @@ pub enum Compared {
     Faulty(Error),
 }
 
-/// The error of a text's fault.
-fn error_of(alloc: Global, text: &str, fault: LexFault) -> Result<Error, RunFailure>
-    requires { length text.now < 2 ^ 32 }
-    ensures error { IfOk result (λ error. error ≡ Some (lexical text.now fault)) }
-    ensures refused { IfErr result (λ e. e ≡ RunFailure.Memory alloc_error) }
-{
-    let error = Error::lex(alloc, Span::from_offset(fault.offset), text, fault.error);
-    match error.alloc_error() {
-        Some(refused) => Err(RunFailure::from(refused)),
-        None => Ok(error),
-    }
-}
-
 /// Writes the layout of a text, or answers the error of its fault.
-fn write_text<W: sink::Sink<Failure = Failed>>(
+fn write_text<W: Sink>(
     alloc: Global,
     text: &str,
     settings: Settings,
@@ -59,7 +44,7 @@ fn write_text<W: sink::Sink<Failure = Failed>>(
     ensures part { OnErr result
         (WritesPart settings text.now (W.held output.old) (W.held output.new)) }
     ensures write { W.failure output.new ≡ failure_after (W.failure output.old) result }
-    ensures refused { IfErr result (λ e. IsWrite e ⊎ (e ≡ RunFailure.Memory alloc_error)) }
+    ensures refused { IfErr result (λ e. IsFailedWrite e ⊎ (e ≡ RunFailure.Memory alloc_error)) }
 {
     match format_to(alloc, text, settings, output) {
         Ok(()) => Ok(None),
@@ -70,7 +55,7 @@ fn write_text<W: sink::Sink<Failure = Failed>>(
 }
 
 /// Writes the layout of the text that bytes are, or answers the error of its fault.
-fn write_bytes<W: sink::Sink<Failure = Failed>>(
+fn write_bytes<W: Sink>(
     alloc: Global,
     bytes: &[u8],
     settings: Settings,
@@ -82,12 +67,12 @@ fn write_bytes<W: sink::Sink<Failure = Failed>>(
     ensures part { OnErr result
         (WritesPart settings bytes.now (W.held output.old) (W.held output.new)) }
     ensures write { W.failure output.new ≡ failure_after (W.failure output.old) result }
-    ensures unwritten { IfErr result (λ e. IsWrite e ⊎
+    ensures unwritten { IfErr result (λ e. IsFailedWrite e ⊎
         ((e ≡ RunFailure.Memory alloc_error) ⊎ (output.new ≡ output.old))) }
     ensures not_utf8 { (offset : ℕ) →
         IsErrOf result (RunFailure.NotUtf8 offset) ↔ IsValidUpTo bytes.now offset }
     ensures refused { IfErr result (λ e. IsNotUtf8 e ⊎
-        (IsWrite e ⊎ (e ≡ RunFailure.Memory alloc_error))) }
+        (IsFailedWrite e ⊎ (e ≡ RunFailure.Memory alloc_error))) }
 {
     match text_of(bytes) {
         Ok(text) => write_text(alloc, text, settings, output),
@@ -98,7 +83,7 @@ fn write_bytes<W: sink::Sink<Failure = Failed>>(
 /// Writes all that the source has left laid out, some 64 KiB at a time, however long that is. Where
 /// the text has a fault nothing is written, and the answer is that fault's error. Memory is asked
 /// for while it writes, eight bytes for each open group.
-pub fn run_fmt<R: Source, W: sink::Sink<Failure = Failed>>(
+pub fn run_fmt<R: Source, W: Sink>(
     alloc: Global,
     input: &mut R,
     output: &mut W,
@@ -112,7 +97,7 @@ pub fn run_fmt<R: Source, W: sink::Sink<Failure = Failed>>(
     // too, and each other refusal nothing.
     ensures part { OnErr result (IfSome (R.left input.old) (λ bytes.
         WritesPart settings bytes (W.held output.old) (W.held output.new))) }
-    ensures unwritten { IfErr result (λ e. IsWrite e ⊎
+    ensures unwritten { IfErr result (λ e. IsFailedWrite e ⊎
         ((e ≡ RunFailure.Memory alloc_error) ⊎ (output.new ≡ output.old))) }
 
     // These come only once the source was read to its end.

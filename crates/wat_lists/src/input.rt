@@ -3,7 +3,7 @@ ghost use Rattle.std.specs.Prelude.{◌≡◌, ◌⊎◌, ◌↔◌, ℕ, None};
 ghost use Rattle.std.specs.Prelude.{alloc_error, is_ok, IfOk, OnOk, IfErr, IsErrOf};
 ghost use Rattle.std.specs.Str.{IsUtf8, IsValidUpTo};
 ghost use Rattle.wat_lists.specs.Inputs.{ReadsWhole, ReadsPast, ReadsShort};
-ghost use Rattle.wat_lists.specs.Refusals.{IsNotUtf8, IsRead, read_failure};
+ghost use Rattle.wat_lists.specs.Refusals.{IsNotUtf8, IsFailedRead, read_failure};
 
 use std::alloc::{AllocError, Global};
 use std::{fmt, str};
@@ -121,7 +121,7 @@ pub fn read_whole<R: Source>(alloc: Global, input: &mut R) -> Result<Vec<u8>, Ru
         ReadsShort (R.left input.old) (R.left input.new) }
     ensures read { read_failure result ≡ R.failure input.new }
     ensures refused { IfErr result (λ e.
-        IsRead e ⊎ ((e ≡ RunFailure.TooLong) ⊎ (e ≡ RunFailure.Memory alloc_error))) }
+        IsFailedRead e ⊎ ((e ≡ RunFailure.TooLong) ⊎ (e ≡ RunFailure.Memory alloc_error))) }
 {
     let mut bytes = Vec::new(alloc);
     let mut piece = [0u8; PIECE];

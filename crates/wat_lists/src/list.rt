@@ -1,13 +1,17 @@
 //! The list of a text's raw tokens.
-ghost use Rattle.std.specs.Prelude.{◌≡◌, ◌++◌, ◌+◌, ◌<◌, ◌^◌, length, IfOk, OnOk, OnErr, IsNone};
+ghost use Rattle.std.specs.Prelude.{◌≡◌, ◌++◌, ◌+◌, ◌<◌, ◌^◌, length, Some, alloc_error};
+ghost use Rattle.std.specs.Prelude.{IfOk, IfErr, OnOk, OnErr, IsNone};
+ghost use Rattle.wat_lex.specs.errors.Errors.{lexical};
 ghost use Rattle.wat_lexer_parser.specs.places.Source.{IsRead};
-ghost use Rattle.wat_lines.specs.Blocks.{AppendsEach, AppendsEachCut, EndsIn};
+ghost use Rattle.wat_lines.specs.Blocks.{AppendsEach, AppendsEachCut};
 ghost use Rattle.wat_lines.specs.Lines.{line};
 ghost use Rattle.wat_lines.specs.Streams.{failure_after};
 
+use crate::input::RunFailure;
 use std::alloc::{AllocError, Global};
 use wat_lex::error::Error;
 use wat_lex::lexer::{LexFault, Lexer, Settings, Token};
+use wat_lex::token::Span;
 use wat_lexer_parser::parser::ParseBuffer;
 use wat_lines::block::Block;
 use wat_lines::ends::{Failed, Sink};
@@ -30,16 +34,17 @@ pub(crate) fn refusal_of(error: &Error) -> AllocError
     error.alloc_error().unwrap()
 }
 
-/// The lexer of a text that is read with these settings.
-pub fn lexer_of<'a>(text: &'a str, settings: Settings) -> Lexer<'a>
+/// The error of a text's fault.
+pub fn error_of(alloc: Global, text: &str, fault: LexFault) -> Result<Error, RunFailure>
     requires { length text.now < 2 ^ 32 }
-    ensures { result ≡ record { text = text.now; flags = settings } }
+    ensures error { IfOk result (λ error. error ≡ Some (lexical text.now fault)) }
+    ensures refused { IfErr result (λ e. e ≡ RunFailure.Memory alloc_error) }
 {
-    let mut lexer = Lexer::new(text);
-    lexer
-        .allow_confusing_unicode(settings.allow)
-        .strict_underscores(settings.strict);
-    lexer
+    let error = Error::lex(alloc, Span::from_offset(fault.offset), text, fault.error);
+    match error.alloc_error() {
+        Some(refused) => Err(RunFailure::from(refused)),
+        None => Ok(error),
+    }
 }
 
 /// The buffer of a text that is read with these settings.
@@ -53,24 +58,9 @@ pub(crate) fn buffer_of<'a>(
         b.setting ≡ record { text = text.now; flags = settings }) }
     ensures read { IfOk result IsRead }
 {
-    match ParseBuffer::new_with_lexer(alloc, lexer_of(text, settings)) {
+    match ParseBuffer::new_with_lexer(alloc, Lexer::with_settings(text, settings)) {
         Ok(buffer) => Ok(buffer),
         Err(error) => Err(refusal_of(&error)),
-    }
-}
-
-/// The fault of a lexer's text, where it has one. It takes no memory.
-pub fn fault_of(lexer: &Lexer<'_>) -> Option<LexFault>
-    ensures { EndsIn lexer.now result }
-{
-    let _ = lexer.input();
-    let mut pos = 0;
-    'tokens: loop {
-        match lexer.scan(pos) {
-            Ok(Some(token)) => pos = token.offset + token.len as usize,
-            Ok(None) => return None,
-            Err(fault) => return Some(fault),
-        }
     }
 }
 

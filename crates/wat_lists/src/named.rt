@@ -56,7 +56,7 @@ fn visible_lines(alloc: Global, text: &str) -> Result<String, AllocError>
 }
 
 /// What an error prints, with a file's name in place of `<anon>`; or the name in front, where the
-/// error tells no line.
+/// error has no line.
 fn placed(alloc: Global, name: &str, error: &Error) -> Result<String, AllocError>
     ensures { IfOk result (λ text. string_bytes text ≡ printed_in name.now error.now) }
 {

@@ -1,16 +1,12 @@
 -- The rows of a text so far.
 use Rattle.std.proofs.Common.{◌≡◌, ◌<◌, ◌≤◌, ◌+◌, ◌++◌, ℕ, suc, List, [], ◌∷◌, length, drop, map, refl, arith, ap, sym, ◌∙◌, subst, slice_set, get_or, append_assoc, length-append, drop-cons, length-drop}
-use Rattle.std.specs.Prelude.{Some}
 use Rattle.std.specs.Str.{IsCharBoundary, IsUtf8}
 use Rattle.std.proofs.lemmas.List.{map-append, length-map}
 use Rattle.std.proofs.lemmas.Str.{IsCharBoundary-start}
 use Rattle.wat_lex.specs.tokens.Setting.{Setting}
-use Rattle.wat_lex.specs.tokens.Tiling.{TokenAt, Tiling, EndsAt}
+use Rattle.wat_lex.specs.tokens.Tiling.{TokenAt, Tiling}
 use Rattle.wat_lex.specs.declared.lexer.kinds.Token.{Token}
-use Rattle.wat_lex.specs.declared.lexer.faults.LexFault.{LexFault}
 use Rattle.wat_page.specs.Endings.{row_of}
-use Rattle.wat_page.specs.Reports.{Filled}
-use Rattle.wat_page.specs.declared.report.Ending.TheVariants.{Whole, Faulty, Full}
 use Rattle.wat_page.specs.declared.rows.Row.{Row}
 
 -- the rows of the tokens up to a place lie over the old ones
@@ -68,17 +64,3 @@ module _ (s : Setting) (old rows : List Row) (count pos : ℕ) (t : Token) (h : 
     fits = omega (arith, room, same_length);
     boundary = let o = k.offset in subst (λ p. IsCharBoundary s.text (p + t.len)) (sym o) b;
   }
-
-pub filled_full : (s : Setting) (old rows : List Row) (count pos : ℕ) (t : Token) → Filling s old rows count pos → TokenAt s pos t → count ≡ length rows → Filled s old rows count Full
-filled_full s old rows count pos t h k e = record {
-  tokens = h.tokens;
-  ends = (record { to = pos; tiling = h.tiling; next = t; after = k }, omega (arith, e, h.fits, h.count, rows_length s old rows count pos h));
-  rows = h.rows;
-  count = h.count;
-}
-
-pub filled_whole : (s : Setting) (old rows : List Row) (count pos : ℕ) → Filling s old rows count pos → pos ≡ length s.text → Filled s old rows count Whole
-filled_whole s old rows count pos h e = record { tokens = h.tokens; ends = record { to = pos; tiling = h.tiling; ends = e }; rows = h.rows; count = h.count }
-
-pub filled_faulty : (s : Setting) (old rows : List Row) (count pos : ℕ) (f : LexFault) → Filling s old rows count pos → EndsAt s pos (Some f) → Filled s old rows count (Faulty f)
-filled_faulty s old rows count pos f h e = record { tokens = h.tokens; ends = record { to = pos; tiling = h.tiling; ends = e }; rows = h.rows; count = h.count }

@@ -22,7 +22,7 @@ pub enum Ending {
     TooLong,
 }
 
-/// What came of a text, as the page sees it. What an ending does not tell is 0.
+/// What came of a text, as the page sees it. What an ending does not have is 0.
 #[repr(C)]
 #[derive(Clone, Copy, Debug, PartialEq, Eq)]
 pub struct Report {

@@ -12,8 +12,7 @@ use wat_lex::lexer::{Lexer, Token};
 pub struct Row {
     /// Where the token ends, in bytes from the text's start.
     pub end: u32,
-    /// The number of its kind, 1 to 15, as [`TokenKind::number`](wat_lex::lexer::TokenKind::number)
-    /// tells it.
+    /// The [number](wat_lex::lexer::TokenKind::number) of its kind, 1 to 15.
     pub kind: u32,
 }
 

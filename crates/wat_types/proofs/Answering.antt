@@ -8,7 +8,7 @@ use Rattle.wat_lex.specs.errors.Errors.{Report}
 use Rattle.wat_lexer_parser.specs.places.Source.{Source, IsRead}
 use Rattle.wat_lexer_parser.specs.readings.Readings.{whole}
 use Rattle.wat_types.specs.Binary.{Fits, content, module_bytes}
-use Rattle.wat_types.specs.Compiling.{ReadingIsSpelling, Spells, compiled, plain, too_long}
+use Rattle.wat_types.specs.Compiling.{ReadingIsSpelling, SpellsTypes, compiled, plain, too_long}
 use Rattle.wat_types.specs.Meanings.{module_types}
 use Rattle.wat_types.specs.Signatures.{Signature}
 
@@ -22,15 +22,10 @@ compiled_too_long fs h = elim (cases_Bool (nat_lt (length (content fs)) (2 ^ 32)
 ]
 
 -- the law of a source whose text is at hand
-pub spelled_is_read : ReadingIsSpelling → (s : Source) (text : List ℕ) (fs : List Signature) → IsUtf8 text → IsRead s → s.setting ≡ plain text → Spells text fs → whole module_types s ≡ Ok fs
+pub spelled_is_read : ReadingIsSpelling → (s : Source) (text : List ℕ) (fs : List Signature) → IsUtf8 text → IsRead s → s.setting ≡ plain text → SpellsTypes text fs → whole module_types s ≡ Ok fs
 spelled_is_read law s text fs u r p h =
     let e : s.setting.text ≡ text = ap (λ x. x.text) p in
-    (law s fs (subst IsUtf8 (sym e) u) r (p ∙ ap plain (sym e))).1 (subst (λ t. Spells t fs) (sym e) h)
-
-pub read_is_spelled : ReadingIsSpelling → (s : Source) (text : List ℕ) (fs : List Signature) → IsUtf8 text → IsRead s → s.setting ≡ plain text → whole module_types s ≡ Ok fs → Spells text fs
-read_is_spelled law s text fs u r p h =
-    let e : s.setting.text ≡ text = ap (λ x. x.text) p in
-    subst (λ t. Spells t fs) e ((law s fs (subst IsUtf8 (sym e) u) r (p ∙ ap plain (sym e))).0 h)
+    (law s fs (subst IsUtf8 (sym e) u) r (p ∙ ap plain (sym e))).1 (subst (λ t. SpellsTypes t fs) (sym e) h)
 
 -- what is spelled is what was read
 pub same_types : (m : Result (List Signature) Report) (fs gs : List Signature) → m ≡ Ok fs → m ≡ Ok gs → gs ≡ fs

@@ -18,7 +18,7 @@ abbrev pub plain : List ℕ → Setting
 plain text = record { text = text; flags = record { allow = false; strict = false } }
 
 -- the text is a module that holds nothing but these function types: its tokens that count are such a module, and then it ends
-pub record Spells (text : List ℕ) (fs : List Signature) : Type 0 where
+pub record SpellsTypes (text : List ℕ) (fs : List Signature) : Type 0 where
   pub tokens : List Token
   pub shown : TextShows (plain text) no_names tokens None
   pub spelled : Module text tokens fs
@@ -41,8 +41,8 @@ compiled_text s = compiled_by (whole module_types s)
 
 -- what the parser's calls read of a whole text is what the grammar spells with it
 abbrev pub ReadingIsSpelling : Type 0
-ReadingIsSpelling = (s : Source) (fs : List Signature) → IsUtf8 s.setting.text → IsRead s → s.setting ≡ plain s.setting.text → (whole module_types s ≡ Ok fs) ↔ Spells s.setting.text fs
+ReadingIsSpelling = (s : Source) (fs : List Signature) → IsUtf8 s.setting.text → IsRead s → s.setting ≡ plain s.setting.text → (whole module_types s ≡ Ok fs) ↔ SpellsTypes s.setting.text fs
 
 -- a text spells one list of function types at most
 abbrev pub SpellingIsOne : Type 0
-SpellingIsOne = (text : List ℕ) (fs gs : List Signature) → IsUtf8 text → Spells text fs → Spells text gs → fs ≡ gs
+SpellingIsOne = (text : List ℕ) (fs gs : List Signature) → IsUtf8 text → SpellsTypes text fs → SpellsTypes text gs → fs ≡ gs

@@ -9,6 +9,5 @@ mod formatter;
 mod gap;
 mod group;
 pub mod laws;
-pub mod sink;
 mod sort;
 pub mod stream;

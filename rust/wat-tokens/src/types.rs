@@ -26,7 +26,7 @@ use wat_parser::proved::token::Span;
 /// a part of the standard's text format (`specs/Grammar` says which), and these are its bytes by the
 /// standard's binary format. A section
 /// that would hold more than `u32::MAX` bytes is refused as `section too long` at the text's start;
-/// any other text with the error of the parser's call that refuses it. Memory may be wanting.
+/// any other text with the error of the parser's call that refuses it. It may run out of memory.
 ///
 /// # Proved
 ///
@@ -34,11 +34,11 @@ use wat_parser::proved::token::Span;
 /// requires { length text.now < 2 ^ 32 }
 ///
 /// // The bytes are those of types that the text spells.
-/// ensures bytes { IfOk result (λ bytes. (fs : List Signature) × Spells text.now fs × Fits fs
+/// ensures bytes { IfOk result (λ bytes. (fs : List Signature) × SpellsTypes text.now fs × Fits fs
 ///     × (bytes.items ≡ module_bytes fs)) }
 ///
 /// // Where it spells types, the answer is their bytes, or that they are too many.
-/// ensures spelled { (fs : List Signature) → Spells text.now fs →
+/// ensures spelled { (fs : List Signature) → SpellsTypes text.now fs →
 ///     Answers true (λ bytes. bytes.items) (compiled fs) result }
 ///
 /// // Any other refusal is that of what the parser's calls read.

@@ -4,11 +4,12 @@
 mod pictures;
 
 use pictures::{drawn, spelled};
+use std::io;
 use wat_lex::proved::lexer::Settings;
 use wat_tokens::format::error::Error;
 use wat_tokens::format::format::format;
-use wat_tokens::format::sink::Sink;
 use wat_tokens::format::stream::format_to;
+use wat_tokens::lines::ends::{Failed, Sink};
 use wat_tokens::shim::alloc::Global;
 
 /// In each two lines a text, and its layout.
@@ -65,31 +66,31 @@ fn a_string_has_the_layout_or_the_fault() {
     assert_eq!(layout, ";;\u{202e}\n");
 }
 
-/// That a sink took no more.
-#[derive(Debug)]
-struct Full;
-
 /// A sink with room for so many bytes, which knows how many each call wrote.
 #[derive(Default)]
 struct Narrow {
     held: Vec<u8>,
     calls: Vec<usize>,
     room: usize,
+    is_full: bool,
 }
 
 impl Sink for Narrow {
-    type Failure = Full;
-
-    fn write_all(&mut self, bytes: &[u8]) -> Result<(), Full> {
+    fn write_all(&mut self, bytes: &[u8]) -> Result<(), Failed> {
         let count = self.room.min(bytes.len());
         self.held.extend_from_slice(&bytes[..count]);
         self.calls.push(count);
         self.room -= count;
-        if count < bytes.len() {
-            Err(Full)
+        self.is_full = count < bytes.len();
+        if self.is_full {
+            Err(Failed::of(&io::ErrorKind::WriteZero.into()))
         } else {
             Ok(())
         }
+    }
+
+    fn failed(&self) -> bool {
+        self.is_full
     }
 }
 

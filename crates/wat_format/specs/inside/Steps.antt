@@ -3,6 +3,7 @@ use Rattle.std.specs.Prelude.{◌≡◌, ◌≤◌, ◌++◌, ℕ, List, ◌∷�
 use Rattle.std.specs.List.{All}
 use Rattle.wat_lex.specs.tokens.Setting.{Setting}
 use Rattle.wat_lex.specs.tokens.Tiling.{MaximalTiling}
+use Rattle.wat_lex.specs.tokens.UniqueTilings.{EndsFrom}
 use Rattle.wat_lex.specs.declared.lexer.faults.LexFault.{LexFault}
 use Rattle.wat_lex.specs.declared.lexer.kinds.Token.{Token}
 use Rattle.wat_lex.specs.declared.lexer.kinds.TokenKind.{TokenKind}
@@ -30,12 +31,7 @@ pub record Writes (kind : TokenKind) (w : List ℕ) (s s' : State) (out out' : L
 abbrev pub Lays : List ℕ → State → Token → State → List ℕ → List ℕ → Type 0
 Lays text s t s' out out' = (ts : List Token) → out ++ laid text s (t ∷ ts) ≡ out' ++ laid text s' ts
 
--- the raw tokens from a place end so
-pub record EndsFrom (s : Setting) (p : ℕ) (ending : Option LexFault) : Type 0 where
-  pub tokens : List Token
-  pub tiling : MaximalTiling s p tokens ending
-
--- the same of a text whose layout up to the place is too long already
+-- the tokens of a text from a place on end so, where its layout up to that place is too long already
 abbrev pub EndsSo : Setting → ℕ → Error → Type 0
 EndsSo s p (Memory refused) = ⊥
 EndsSo s p (Fault fault) = EndsFrom s p (Some fault)

@@ -6,7 +6,8 @@ use Rattle.wat_lex.specs.tokens.Setting.{Setting}
 use Rattle.wat_lex.specs.tokens.Tiling.{TokenAt, MaximalTiling}
 use Rattle.wat_lex.specs.declared.lexer.kinds.Token.{Token}
 use Rattle.wat_format.specs.Layout.{State, laid}
-use Rattle.wat_format.specs.Streams.{AppendsPrefix, AppendsPart}
+use Rattle.wat_lines.specs.Streams.{AppendsPrefix}
+use Rattle.wat_format.specs.Streams.{AppendsPart}
 use Rattle.wat_format.specs.declared.stream.WriteError.{WriteError}
 use Rattle.wat_format.specs.declared.stream.WriteError.TheVariants.{Fault, Failed}
 
@@ -18,18 +19,18 @@ pub record TokenIsAt (s : Setting) (p : ℕ) (t : Token) : Type 0 where
   pub short : t.offset + t.len < 2 ^ 32
 
 -- bytes of a block, from its start, were written and taken away
-pub record Moves (old new : Option (List ℕ)) (block block' : List ℕ) : Type 0 where
+pub record Drains (old new : Option (List ℕ)) (block block' : List ℕ) : Type 0 where
   pub first : List ℕ
   pub all : block ≡ first ++ block'
   pub appended : Appends old new first
 
--- a write failed, and the sink holds a first part of these bytes more
-abbrev pub StopsShort : {F : Type 0} → Option (List ℕ) → Option (List ℕ) → List ℕ → WriteError F → Type 0
+-- a write failed, and the sink holds a prefix of these bytes more
+abbrev pub StopsShort : Option (List ℕ) → Option (List ℕ) → List ℕ → WriteError → Type 0
 StopsShort old new bytes (Failed cause) = AppendsPrefix old new bytes
 StopsShort old new bytes e = ⊥
 
 -- the text has no fault, and so the error is no fault
-abbrev pub CutsShort : {F : Type 0} → Setting → Option (List ℕ) → Option (List ℕ) → WriteError F → Type 0
+abbrev pub CutsShort : Setting → Option (List ℕ) → Option (List ℕ) → WriteError → Type 0
 CutsShort s old new (Fault fault) = ⊥
 CutsShort s old new e = AppendsPart s old new
 

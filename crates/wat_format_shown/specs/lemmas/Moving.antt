@@ -18,7 +18,7 @@ use Rattle.wat_lexer_parser.specs.readings.Choices.{Choice, one_after, one_of}
 use Rattle.wat_lexer_parser.specs.readings.Readings.{Outcome, Reading, allocated, also_first, also_taking, and_then, and_then_by, after, checked, checked_by, closed_by, give, given, group, inside_by, mapped, mapped_by, on, opened_by, optional, passed_by, refuse, refuse_after, refused, spanned, token, token_by, known_as, under, under_by, up_to, where_seen, where_seen_by, while_seen}
 use Rattle.wat_lexer_parser.specs.laws.Counting.{counting}
 use Rattle.wat_lexer_parser.specs.shown.Showing.{shown}
-use Rattle.wat_format_shown.specs.Reads.{AnswerMoved, Moves, MovesReader, MovesSight, OutcomeMoved, KnownMoved}
+use Rattle.wat_format_shown.specs.Reads.{AnswerMoved, MovesReading, MovesReader, MovesSight, OutcomeMoved, KnownMoved}
 use Rattle.wat_format_shown.specs.Sides.{Sides, Alike, AllSame, SameRefusal, at_places, passed}
 use Rattle.wat_format_shown.specs.lemmas.Seeing.{NeedsToken, Onward, ShownLaws, PlaceMoved, TakenMoved, alike_at, closed_moves, empty_moves, opened_moves, report_moves, span_moves, taken_moves}
 
@@ -44,10 +44,10 @@ moved_as {V} moved other n s ts o q e h = by_answer o.answer h
 pub moved_give : {V : Type 0} (moved : V → V) (v w : V) (s : Sides) (ts : List Token) → w ≡ moved v → Alike s ts → OutcomeMoved moved 0 s ts (give v s.here) (give w s.there)
 moved_give moved v w s ts e h = (ap Ok e, ts, alike_at s s.here.place (s.here.place + 0) s.there.place (s.there.place + 0) ts (omega arith) (omega arith) h, omega arith)
 
-pub moves_refuse : ShownLaws → {V : Type 0} (moved : (ℕ → ℕ) → V → V) (n : ℕ) (message : List ℕ) → Moves n moved (refuse message)
+pub moves_refuse : ShownLaws → {V : Type 0} (moved : (ℕ → ℕ) → V → V) (n : ℕ) (message : List ℕ) → MovesReading n moved (refuse message)
 moves_refuse laws moved n message s ts h = refuses (moved s.move) n s ts _ _ 0 0 (report_moves laws s ts message h)
 
-pub moves_refuse_after : {V : Type 0} (moved : (ℕ → ℕ) → V → V) (n : ℕ) (message : List ℕ) → Moves n moved (refuse_after message)
+pub moves_refuse_after : {V : Type 0} (moved : (ℕ → ℕ) → V → V) (n : ℕ) (message : List ℕ) → MovesReading n moved (refuse_after message)
 moves_refuse_after moved n message s ts h = refuses (moved s.move) n s ts _ _ 0 0 (record { cause = refl; offset = h.place; excerpt = refl })
 
 -- A token.
@@ -62,7 +62,7 @@ token_by_moves moved s ts f g t u (Ok (Some (v, p))) b r h =
     (refl, on.rest, alike_at s p (s.here.place + (p - s.here.place)) q (s.there.place + (q - s.there.place)) on.rest (omega (arith, on.here)) (omega (arith, on.there)) on.alike, on.fewer)
 token_by_moves moved s ts f g t u (Err e) b r h = subst (λ b. OutcomeMoved moved 1 s ts (refused e 0) (token_by b u (refused g 0) s.there.place)) (sym h.1) (h.0, refl, h.2)
 
-pub moves_token : ShownLaws → {V : Type 0} (moved : (ℕ → ℕ) → V → V) (read : Reader V) (message : List ℕ) → MovesReader moved read → Moves 1 moved (token read message)
+pub moves_token : ShownLaws → {V : Type 0} (moved : (ℕ → ℕ) → V → V) (read : Reader V) (message : List ℕ) → MovesReader moved read → MovesReading 1 moved (token read message)
 moves_token laws moved read message r s ts h =
     token_by_moves (moved s.move) s ts _ _ (may_take_at read s.here) (may_take_at read s.there) (taken_at read s.here) (taken_at read s.there) (report_moves laws s ts message h) (taken_moves laws moved read r s ts h)
 
@@ -152,9 +152,9 @@ attempts_moves laws s ts missed h =
 -- each of several alternatives moves
 abbrev pub EachMoves : {V : Type 0} → ℕ → ((ℕ → ℕ) → V → V) → List (Choice V) → Type 0
 EachMoves n moved [] = Unit {0}
-EachMoves n moved (c ∷ cs) = MovesSight c.sight × Moves n moved c.reading × EachMoves n moved cs
+EachMoves n moved (c ∷ cs) = MovesSight c.sight × MovesReading n moved c.reading × EachMoves n moved cs
 
-one_after_moves : ShownLaws → {V : Type 0} (n : ℕ) (moved : (ℕ → ℕ) → V → V) (missed : List (List ℕ)) (cs : List (Choice V)) → EachMoves n moved cs → Moves n moved (one_after missed cs)
+one_after_moves : ShownLaws → {V : Type 0} (n : ℕ) (moved : (ℕ → ℕ) → V → V) (missed : List (List ℕ)) (cs : List (Choice V)) → EachMoves n moved cs → MovesReading n moved (one_after missed cs)
 one_after_moves laws n moved missed [] e s ts h = refuses (moved s.move) n s ts _ _ 0 0 (attempts_moves laws s ts missed h)
 one_after_moves laws n moved missed (c ∷ cs) e s ts h =
     let takes = nat_le attempts_held (length missed) in
@@ -162,12 +162,12 @@ one_after_moves laws n moved missed (c ∷ cs) e s ts h =
     moved_where_seen (moved s.move) n s ts (c.sight s.here).known (c.sight s.there).known (c.sight s.here).takes (c.sight s.there).takes (c.reading s.here) (c.reading s.there) (also_taking takes (rest s.here)) (also_taking takes (rest s.there)) (e.0 s ts h) (e.1 s ts h)
     (moved_also (moved s.move) takes takes n s ts (rest s.here) (rest s.there) (one_after_moves laws n moved (missed ++ (c.shows ∷ [])) cs e.2 s ts h))
 
-pub moves_one_of : ShownLaws → {V : Type 0} (n : ℕ) (moved : (ℕ → ℕ) → V → V) (cs : List (Choice V)) → EachMoves n moved cs → Moves n moved (one_of cs)
+pub moves_one_of : ShownLaws → {V : Type 0} (n : ℕ) (moved : (ℕ → ℕ) → V → V) (cs : List (Choice V)) → EachMoves n moved cs → MovesReading n moved (one_of cs)
 moves_one_of laws n moved cs e = one_after_moves laws n moved [] cs e
 
 -- Loops.
 
-moved_up_to : {V : Type 0} (moved : (ℕ → ℕ) → V → V) (i j : ℕ) (sight : Sight) (m : Reading V) → MovesSight sight → Moves 1 moved m → (s : Sides) (ts : List Token) → Alike s ts → length ts < i → length ts < j
+moved_up_to : {V : Type 0} (moved : (ℕ → ℕ) → V → V) (i j : ℕ) (sight : Sight) (m : Reading V) → MovesSight sight → MovesReading 1 moved m → (s : Sides) (ts : List Token) → Alike s ts → length ts < i → length ts < j
     → OutcomeMoved (map (moved s.move)) 0 s ts (up_to i sight m s.here) (up_to j sight m s.there)
 moved_up_to moved zero j sight m look one s ts h l k = absurd (omega (arith, l))
 moved_up_to moved (suc i) zero sight m look one s ts h l k = absurd (omega (arith, k))
@@ -198,7 +198,7 @@ as_many x y move [] (u ∷ us) h = absurd h
 as_many x y move (t ∷ ts) [] h = absurd h
 as_many x y move (t ∷ ts) (u ∷ us) h = ap suc (as_many x y move ts us h.1)
 
-pub moves_while : {V : Type 0} (moved : (ℕ → ℕ) → V → V) (sight : Sight) (m : Reading V) → MovesSight sight → Moves 1 moved m → Moves 0 (λ move. map (moved move)) (while_seen sight m)
+pub moves_while : {V : Type 0} (moved : (ℕ → ℕ) → V → V) (sight : Sight) (m : Reading V) → MovesSight sight → MovesReading 1 moved m → MovesReading 0 (λ move. map (moved move)) (while_seen sight m)
 unfolding while_seen
 moves_while moved sight m look one s ts h =
     let here = ap length h.here in
@@ -250,28 +250,28 @@ module _ (laws : ShownLaws) {V : Type 0} (g : V → V) (n : ℕ) (s : Sides) (ts
       → OutcomeMoved g (n + 2) s ts (group m s.here) (group k s.there)
   moved_group m k h inner = opened_by_moves m k inner (opened s.here.source s.here.place s.here.names) (opened s.there.source s.there.place s.there.names) (opened_moves laws s ts h)
 
-pub moves_group : ShownLaws → {V : Type 0} (n : ℕ) (moved : (ℕ → ℕ) → V → V) (m : Reading V) → Moves n moved m → Moves (n + 2) moved (group m)
+pub moves_group : ShownLaws → {V : Type 0} (n : ℕ) (moved : (ℕ → ℕ) → V → V) (m : Reading V) → MovesReading n moved m → MovesReading (n + 2) moved (group m)
 moves_group laws n moved m one s ts h = moved_group laws (moved s.move) n s ts m m h (λ p q r alike. one (within s p q) r alike)
 
 -- The same of readings, from any two states.
 
-pub moves_give : {V : Type 0} (moved : (ℕ → ℕ) → V → V) (v : V) → ((move : ℕ → ℕ) → v ≡ moved move v) → Moves 0 moved (give v)
+pub moves_give : {V : Type 0} (moved : (ℕ → ℕ) → V → V) (v : V) → ((move : ℕ → ℕ) → v ≡ moved move v) → MovesReading 0 moved (give v)
 moves_give moved v e s ts h = moved_give (moved s.move) v v s ts (e s.move) h
 
-pub moves_fewer : {V : Type 0} (moved : (ℕ → ℕ) → V → V) (n k : ℕ) (m : Reading V) → k ≤ n → Moves n moved m → Moves k moved m
+pub moves_fewer : {V : Type 0} (moved : (ℕ → ℕ) → V → V) (n k : ℕ) (m : Reading V) → k ≤ n → MovesReading n moved m → MovesReading k moved m
 moves_fewer moved n k m l one s ts h = at_least (moved s.move) n k s ts (m s.here) (m s.there) l (one s ts h)
 
-pub moves_as : {V : Type 0} (moved other : (ℕ → ℕ) → V → V) (n : ℕ) (m : Reading V) → ((move : ℕ → ℕ) (v : V) → moved move v ≡ other move v) → Moves n moved m → Moves n other m
+pub moves_as : {V : Type 0} (moved other : (ℕ → ℕ) → V → V) (n : ℕ) (m : Reading V) → ((move : ℕ → ℕ) (v : V) → moved move v ≡ other move v) → MovesReading n moved m → MovesReading n other m
 moves_as moved other n m e one s ts h = moved_as (moved s.move) (other s.move) n s ts (m s.here) (m s.there) (e s.move) (one s ts h)
 
-pub moves_mapped : {V W : Type 0} (moved : (ℕ → ℕ) → V → V) (other : (ℕ → ℕ) → W → W) (f : V → W) (n : ℕ) (m : Reading V) → ((move : ℕ → ℕ) (v : V) → f (moved move v) ≡ other move (f v)) → Moves n moved m → Moves n other (mapped f m)
+pub moves_mapped : {V W : Type 0} (moved : (ℕ → ℕ) → V → V) (other : (ℕ → ℕ) → W → W) (f : V → W) (n : ℕ) (m : Reading V) → ((move : ℕ → ℕ) (v : V) → f (moved move v) ≡ other move (f v)) → MovesReading n moved m → MovesReading n other (mapped f m)
 moves_mapped moved other f n m e one s ts h = moved_mapped (moved s.move) (other s.move) f f n s ts (m s.here) (m s.there) (e s.move) (one s ts h)
 
 -- the value with the byte at which it is
 abbrev pub spanned_moved : {V : Type 0} → ((ℕ → ℕ) → V → V) → (ℕ → ℕ) → V × ℕ → V × ℕ
 spanned_moved moved move v = (moved move v.0, move v.1)
 
-pub moves_spanned : ShownLaws → {V : Type 0} (moved : (ℕ → ℕ) → V → V) (n : ℕ) (m : Reading V) → NeedsToken m → Moves n moved m → Moves n (spanned_moved moved) (spanned m)
+pub moves_spanned : ShownLaws → {V : Type 0} (moved : (ℕ → ℕ) → V → V) (n : ℕ) (m : Reading V) → NeedsToken m → MovesReading n moved m → MovesReading n (spanned_moved moved) (spanned m)
 moves_spanned laws moved n m need one s ts h = moved_spanned laws (moved s.move) n s ts (m s.here) (m s.there) (need s.here) h (one s ts h)
 
 -- what needs a token
@@ -285,21 +285,21 @@ pub needs_checked : {V W : Type 0} (check : V → Option W) (message : List ℕ)
 needs_checked check message m need a w e = let k = checked_got (m a).answer (m a) check _ w e in need a k.0 k.1
 
 pub moves_checked : ShownLaws → {V W : Type 0} (moved : (ℕ → ℕ) → V → V) (other : (ℕ → ℕ) → W → W) (check : V → Option W) (message : List ℕ) (n : ℕ) (m : Reading V)
-    → ((move : ℕ → ℕ) (v : V) → check (moved move v) ≡ option_map (other move) (check v)) → Moves n moved m → Moves n other (checked check message m)
+    → ((move : ℕ → ℕ) (v : V) → check (moved move v) ≡ option_map (other move) (check v)) → MovesReading n moved m → MovesReading n other (checked check message m)
 moves_checked laws moved other check message n m e one s ts h = moved_checked (moved s.move) (other s.move) check n s ts (m s.here) (m s.there) _ _ (e s.move) (report_moves laws s ts message h) (one s ts h)
 
-pub moves_allocated : {V : Type 0} (moved : (ℕ → ℕ) → V → V) (n : ℕ) (m : Reading V) → Moves n moved m → Moves n moved (allocated m)
+pub moves_allocated : {V : Type 0} (moved : (ℕ → ℕ) → V → V) (n : ℕ) (m : Reading V) → MovesReading n moved m → MovesReading n moved (allocated m)
 moves_allocated moved n m one s ts h = moved_also (moved s.move) true true n s ts (m s.here) (m s.there) (one s ts h)
 
-pub moves_and_then : {V W : Type 0} (moved : (ℕ → ℕ) → V → V) (other : (ℕ → ℕ) → W → W) (i j : ℕ) (m : Reading V) (next : V → Reading W) → Moves i moved m
-    → ((s : Sides) (ts : List Token) (v : V) → Alike s ts → OutcomeMoved (other s.move) j s ts (next v s.here) (next (moved s.move v) s.there)) → Moves (i + j) other (and_then m next)
+pub moves_and_then : {V W : Type 0} (moved : (ℕ → ℕ) → V → V) (other : (ℕ → ℕ) → W → W) (i j : ℕ) (m : Reading V) (next : V → Reading W) → MovesReading i moved m
+    → ((s : Sides) (ts : List Token) (v : V) → Alike s ts → OutcomeMoved (other s.move) j s ts (next v s.here) (next (moved s.move v) s.there)) → MovesReading (i + j) other (and_then m next)
 moves_and_then moved other i j m next one more s ts h = moved_and_then (moved s.move) (other s.move) i j s ts (m s.here) (m s.there) next next (one s ts h) (λ v r alike few. more (passed s (m s.here).passed (m s.there).passed) r v alike)
 
-pub moves_where_seen : {V : Type 0} (moved : (ℕ → ℕ) → V → V) (n : ℕ) (sight : Sight) (m other : Reading V) → MovesSight sight → Moves n moved m → Moves n moved other → Moves n moved (where_seen sight m other)
+pub moves_where_seen : {V : Type 0} (moved : (ℕ → ℕ) → V → V) (n : ℕ) (sight : Sight) (m other : Reading V) → MovesSight sight → MovesReading n moved m → MovesReading n moved other → MovesReading n moved (where_seen sight m other)
 moves_where_seen moved n sight m other look one two s ts h =
     moved_where_seen (moved s.move) n s ts (sight s.here).known (sight s.there).known (sight s.here).takes (sight s.there).takes (m s.here) (m s.there) (other s.here) (other s.there) (look s ts h) (one s ts h) (two s ts h)
 
-pub moves_optional : {V : Type 0} (moved : (ℕ → ℕ) → V → V) (n : ℕ) (sight : Sight) (m : Reading V) → MovesSight sight → Moves n moved m → Moves 0 (λ move. option_map (moved move)) (optional sight m)
+pub moves_optional : {V : Type 0} (moved : (ℕ → ℕ) → V → V) (n : ℕ) (sight : Sight) (m : Reading V) → MovesSight sight → MovesReading n moved m → MovesReading 0 (λ move. option_map (moved move)) (optional sight m)
 moves_optional {V} moved n sight m look one =
     let all : (ℕ → ℕ) → Option V → Option V = λ move. option_map (moved move) in
     let some : Reading (Option V) = mapped (λ v. Some v) m in
@@ -307,7 +307,7 @@ moves_optional {V} moved n sight m look one =
 
 -- Registered names: under one name more the same tokens count.
 
-under_moves : {V : Type 0} (moved : (ℕ → ℕ) → V → V) (n : ℕ) (x : List ℕ) (m : Reading V) → Moves n moved m → (s : Sides) (ts : List Token) → Alike s ts → (full : Bool) (t u : Bool)
+under_moves : {V : Type 0} (moved : (ℕ → ℕ) → V → V) (n : ℕ) (x : List ℕ) (m : Reading V) → MovesReading n moved m → (s : Sides) (ts : List Token) → Alike s ts → (full : Bool) (t u : Bool)
     → OutcomeMoved (moved s.move) n s ts (under_by (if full then Err (too_often s.here) else Ok (record s.here { names = more s.here.names x })) t m) (under_by (if full then Err (too_often s.there) else Ok (record s.there { names = more s.there.names x })) u m)
 under_moves moved n x m one s ts h true t u = (too_often s.there, refl, record { cause = refl; offset = h.place; excerpt = refl })
 under_moves {V} moved n x m one s ts h false t u =
@@ -321,7 +321,7 @@ under_moves {V} moved n x m one s ts h false t u =
     by_answer o q (Ok v) k = (k.0, k.1, record { texts = k.2.texts; names = h.names; here = k.2.here; there = k.2.there; place = k.2.place }, k.3)
     by_answer o q (Err f) k = k
 
-pub moves_under : {V : Type 0} (moved : (ℕ → ℕ) → V → V) (n : ℕ) (x : List ℕ) (m : Reading V) → Moves n moved m → Moves n moved (under x m)
+pub moves_under : {V : Type 0} (moved : (ℕ → ℕ) → V → V) (n : ℕ) (x : List ℕ) (m : Reading V) → MovesReading n moved m → MovesReading n moved (under x m)
 moves_under moved n x m one s ts h =
     let full_here = nat_eq (count s.here.names x) most_often in
     let full_there = nat_eq (count s.there.names x) most_often in

@@ -7,7 +7,7 @@ use Rattle.wat_lexer_parser.specs.parser.State.{Seen, message_at, seen_at}
 use Rattle.wat_lexer_parser.specs.places.Source.{Source}
 use Rattle.wat_lexer_parser.specs.readings.Readings.{Outcome, Reading, at_end, on, start, whole_by}
 use Rattle.wat_lexer_parser.specs.laws.Counting.{counting}
-use Rattle.wat_format_shown.specs.Reads.{AnswerMoved, LayoutsAreSameTexts, LayoutsReadTheSame, Moves, TextsReadTheSame, WholeMoved}
+use Rattle.wat_format_shown.specs.Reads.{AnswerMoved, LayoutsAreSameTexts, LayoutsReadTheSame, MovesReading, TextsReadTheSame, WholeMoved}
 use Rattle.wat_format_shown.specs.Sides.{Sides, Alike, at_start, at_token, passed}
 use Rattle.wat_format_shown.specs.lemmas.Seeing.{SeenMoved, ShownLaws, seen_moves}
 
@@ -28,7 +28,7 @@ module _ (laws : ShownLaws) {V : Type 0} (moved : V → V) (n : ℕ) (s r : Sour
       (end_moves o.passed q.passed h.1 v (seen_at (on (start s) o.passed)) (seen_at (on (start r) q.passed)) (seen_moves laws (passed both o.passed q.passed) h.1 h.2))
   whole_moves o q (Err f) h = (h.0, ap (λ x. whole_by x q.passed r) h.1, h.2)
 
-pub texts_read_the_same : ShownLaws → {V : Type 0} (n : ℕ) (moved : (ℕ → ℕ) → V → V) (m : Reading V) → Moves n moved m → TextsReadTheSame moved m
+pub texts_read_the_same : ShownLaws → {V : Type 0} (n : ℕ) (moved : (ℕ → ℕ) → V → V) (m : Reading V) → MovesReading n moved m → TextsReadTheSame moved m
 texts_read_the_same laws n moved m law s r move same =
     let ts = counting s.tokens in
     let z : Sides = record { move = move; here = start s; there = start r } in

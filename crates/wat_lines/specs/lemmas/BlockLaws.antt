@@ -11,7 +11,7 @@ use Rattle.wat_lex.specs.tokens.Setting.{Setting}
 use Rattle.wat_lex.specs.tokens.Tiling.{TokenAt, Tiling, EndsAt}
 use Rattle.wat_lex.specs.declared.lexer.faults.LexFault.{LexFault}
 use Rattle.wat_lex.specs.declared.lexer.kinds.Token.{Token}
-use Rattle.wat_lines.specs.Blocks.{Puts, EndsIn, AppendsEach, AppendsEachCut}
+use Rattle.wat_lines.specs.Blocks.{Puts, AppendsEach, AppendsEachCut}
 use Rattle.wat_lines.specs.Streams.{AppendsPrefix}
 use Rattle.wat_lines.specs.lemmas.KnownBytes.{appends_none, appends_more}
 
@@ -114,25 +114,6 @@ putting_end_cut each s pos ending a b c block (Err f) h e p = record {
   tiling = record { to = pos; tiling = h.tiling; ends = e };
   appended = cut_after a b c h.puts.written block (flat_map each h.tokens) h.puts.appended p (sym h.puts.all);
 }
-
--- the tokens up to a place of the text
-pub record Tiled (s : Setting) (pos : ℕ) : Type 0 where
-  pub tokens : List Token
-  pub tiling : Tiling s 0 pos tokens
-  pub boundary : IsCharBoundary s.text pos
-
-pub tiled_start : (s : Setting) → IsCharBoundary s.text 0 → Tiled s 0
-tiled_start s b = record { tokens = []; tiling = refl; boundary = b }
-
-pub tiled_next : (s : Setting) (pos : ℕ) (t : Token) → Tiled s pos → TokenAt s pos t → IsCharBoundary s.text (pos + t.len) → Tiled s (t.offset + t.len)
-tiled_next s pos t h k b = record {
-  tokens = h.tokens ++ t ∷ [];
-  tiling = tiled_more s 0 pos h.tokens t h.tiling k;
-  boundary = tiled_from s 0 h.tokens t pos h.tiling k b;
-}
-
-pub tiled_end : (s : Setting) (pos : ℕ) (ending : Option LexFault) → Tiled s pos → EndsAt s pos ending → EndsIn s ending
-tiled_end s pos ending h e = record { tokens = h.tokens; tiling = record { to = pos; tiling = h.tiling; ends = e } }
 
 -- bytes that are longer than a block are written after what it held
 pub put_long : {T E : Type 0} (a b c : Option (List ℕ)) (block block' bytes : List ℕ) (r : Result T E) → Appends a b block → OnOk r (Appends b c bytes) → block' ≡ [] → OnOk r (Puts a c block block' bytes)

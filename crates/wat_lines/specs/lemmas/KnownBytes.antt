@@ -1,10 +1,9 @@
 -- Reads and writes one after another.
-use Rattle.std.proofs.Common.{◌≡◌, ℕ, List, [], ◌++◌, append_assoc, ap, drop, sym, take, ◌∙◌}
+use Rattle.std.proofs.Common.{◌≡◌, ℕ, List, [], ◌++◌, append_assoc, ap, sym, take, ◌∙◌}
 use Rattle.std.specs.Prelude.{Some, None, Option, Result, Ok, Err}
 use Rattle.std.specs.Io.KnownBytes.{Consumes, Appends, Keeps, IsAtEnd, WriteAppends}
-use Rattle.std.proofs.lemmas.List.{append-nil, take-append-drop}
+use Rattle.std.proofs.lemmas.List.{append-nil}
 use Rattle.wat_lines.specs.Streams.{AppendsPrefix, TookNone}
-use Rattle.wat_format.specs.Streams.{AppendsPrefix as AppendsFirst}
 
 pub consumes_none : (a : Option (List ℕ)) (bs : List ℕ) → bs ≡ [] → Consumes a a bs
 consumes_none None bs e = tt
@@ -36,10 +35,6 @@ appends_kept None b c xs h k = tt
 appends_kept (Some x) None c xs h k = absurd h
 appends_kept (Some x) (Some y) None xs h k = absurd k
 appends_kept (Some x) (Some y) (Some z) xs h k = k ∙ h
-
--- a prefix is a first part
-pub as_first : (old new : Option (List ℕ)) (bs : List ℕ) → AppendsPrefix old new bs → AppendsFirst old new bs
-as_first old new bs h = record { first = take h.n bs; rest = drop h.n bs; all = sym (take-append-drop h.n bs); appended = h.appended }
 
 -- bytes were written as far as a write that took none
 pub cut_there : {E : Type 0} (a b c : Option (List ℕ)) (bytes rest : List ℕ) (n : ℕ) (r : Result ℕ E) → Appends a b (take n bytes) → WriteAppends b c r rest → TookNone r → AppendsPrefix a c bytes

@@ -5,11 +5,11 @@ use Rattle.std.proofs.lemmas.List.{length-take-le, take_all}
 use Rattle.std.specs.Prelude.{Some, None, Option, IfSome, Result, Ok, Err, IfErr, IsErrOf, alloc_error}
 use Rattle.std.specs.Io.KnownBytes.{Consumes}
 use Rattle.std.specs.Str.{IsUtf8, IsValidUpTo}
-use Rattle.wat_lines.specs.Streams.{Reads}
+use Rattle.wat_lines.specs.Streams.{ReadsInto}
 use Rattle.wat_lines.specs.declared.failed.Failed.{Failed}
 use Rattle.wat_lines.specs.lemmas.KnownBytes.{consumes_all, consumes_more}
 use Rattle.wat_lists.specs.Inputs.{ReadsWhole, ReadsPast, ReadsShort}
-use Rattle.wat_lists.specs.Refusals.{IsWrite}
+use Rattle.wat_lists.specs.Refusals.{IsFailedWrite}
 use Rattle.wat_lists.specs.declared.input.RunFailure.{RunFailure}
 use Rattle.wat_lists.specs.declared.input.RunFailure.TheVariants.{Read, TooLong, NotUtf8, Write, Memory}
 
@@ -53,12 +53,12 @@ not_memory : {T : Type 0} (n : ℕ) (r : Result T RunFailure) → r ≡ Err (Mem
 not_memory n r h k = let d = sym h ∙ k in cc
 
 -- what is refused for another reason is a text
-pub text_known : {T : Type 0} (r : Result T RunFailure) (bs : List ℕ) (n : ℕ) → IsUtf8 bs → IfErr r (λ e. IsWrite e ⊎ (e ≡ Memory alloc_error)) → IsErrOf r (NotUtf8 n) ↔ IsValidUpTo bs n
+pub text_known : {T : Type 0} (r : Result T RunFailure) (bs : List ℕ) (n : ℕ) → IsUtf8 bs → IfErr r (λ e. IsFailedWrite e ⊎ (e ≡ Memory alloc_error)) → IsErrOf r (NotUtf8 n) ↔ IsValidUpTo bs n
 text_known (Ok t) bs n u h = (λ e. cc, λ v. absurd (valid_is_no_text bs n v u))
 text_known (Err e) bs n u h =
     (λ is. absurd (elim h [ inl w ↦ not_write n w.0 (Err e) (ap (λ x. Err x) w.1) is | inr m ↦ not_memory n (Err e) (ap (λ x. Err x) m) is ]), λ v. absurd (valid_is_no_text bs n v u))
 
-pub or_write : {T : Type 0} (r : Result T RunFailure) → IfErr r (λ e. e ≡ Memory alloc_error) → IfErr r (λ e. IsWrite e ⊎ (e ≡ Memory alloc_error))
+pub or_write : {T : Type 0} (r : Result T RunFailure) → IfErr r (λ e. e ≡ Memory alloc_error) → IfErr r (λ e. IsFailedWrite e ⊎ (e ≡ Memory alloc_error))
 or_write (Ok t) h = tt
 or_write (Err e) h = inr h
 
@@ -82,7 +82,7 @@ pub as_other : {T U B : Type 0} (e x : RunFailure) → (IsErrOf {T = T} {E = Run
 as_other e x h = (λ k. h.0 (ap (λ y. Err y) (ap error_of k)), λ b. ap (λ y. Err y) (ap error_of (h.1 b)))
 
 -- a read that goes past the longest text, into a buffer that has room for one byte more than it
-pub read_past : (a b c : Option (List ℕ)) (bytes piece : List ℕ) (n : ℕ) → Consumes a b bytes → Reads b c piece n → length bytes ≤ 4294967295 → length piece ≤ 4294967295 - length bytes + 1 → 4294967295 - length bytes < n → ReadsPast a c
+pub read_past : (a b c : Option (List ℕ)) (bytes piece : List ℕ) (n : ℕ) → Consumes a b bytes → ReadsInto b c piece n → length bytes ≤ 4294967295 → length piece ≤ 4294967295 - length bytes + 1 → 4294967295 - length bytes < n → ReadsPast a c
 read_past a b c bytes piece n so_far r fits room past =
     let given = length-take-le n piece r.few in
     record {
@@ -92,7 +92,7 @@ read_past a b c bytes piece n so_far r fits room past =
     }
 
 -- a read that does not
-pub read_short : (a b c : Option (List ℕ)) (bytes piece : List ℕ) (n : ℕ) → Consumes a b bytes → Reads b c piece n → length bytes ≤ 4294967295 → n ≤ 4294967295 - length bytes → ReadsShort a c
+pub read_short : (a b c : Option (List ℕ)) (bytes piece : List ℕ) (n : ℕ) → Consumes a b bytes → ReadsInto b c piece n → length bytes ≤ 4294967295 → n ≤ 4294967295 - length bytes → ReadsShort a c
 read_short a b c bytes piece n so_far r fits few =
     let given = length-take-le n piece r.few in
     let all = length-append bytes (take n piece) in

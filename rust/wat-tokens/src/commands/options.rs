@@ -7,6 +7,28 @@ use wat_lex::proved::lexer::Settings;
 use wat_parser::proved::parser::Call;
 use crate::lists::calls::read_call;
 
+/// The calls of a parser: those that words spelled, or a caller's.
+pub enum Calls<'a> {
+    Owned(Vec<Call>),
+    Borrowed(&'a [Call]),
+}
+
+impl Calls<'_> {
+    /// The calls, in their order.
+    ///
+    /// # Proved
+    ///
+    /// ```text
+    /// ensures { result.now ≡ calls_of self.now }
+    /// ```
+    pub fn as_slice(&self) -> &[Call] {
+        match self {
+            Calls::Owned(calls) => calls,
+            Calls::Borrowed(calls) => calls,
+        }
+    }
+}
+
 /// What to write of a text.
 pub enum Task<'a> {
     /// The raw tokens.
@@ -18,7 +40,7 @@ pub enum Task<'a> {
     /// The tokens that are shown where these names are registered, as JSON.
     JsonSig(&'a [String]),
     /// The replies to these calls.
-    Play(Vec<Call>),
+    Play(Calls<'a>),
     /// The text with its comments blanked.
     Blank,
     /// The bytes of the module that the text spells.
@@ -80,13 +102,13 @@ pub(crate) enum Flag {
 
 /// An option.
 #[derive(Clone, Copy)]
-pub(crate) enum Given<'a> {
+pub(crate) enum GivenOption<'a> {
     Flag(Flag),
     /// The name of a file.
     File(&'a str),
 }
 
-impl Given<'_> {
+impl GivenOption<'_> {
     /// One where it is this flag, and else zero.
     ///
     /// # Proved
@@ -96,8 +118,8 @@ impl Given<'_> {
     /// ```
     fn once_for(self, flag: Flag) -> usize {
         match self {
-            Given::Flag(given) if given == flag => 1,
-            Given::Flag(_) | Given::File(_) => 0,
+            GivenOption::Flag(given) if given == flag => 1,
+            GivenOption::Flag(_) | GivenOption::File(_) => 0,
         }
     }
 }
@@ -137,12 +159,12 @@ fn is_file_option(word: &String) -> bool {
 /// ensures { MatchOption result (front_of words.now ≡ no_options words.now)
 /// (λ r. IsStep words.now r.0 r.1.now) }
 /// ```
-fn next_option(words: &[String]) -> Option<(Given<'_>, &[String])> {
+fn next_option(words: &[String]) -> Option<(GivenOption<'_>, &[String])> {
     let Some((word, rest)) = words.split_first() else {
         return None;
     };
     if let Some(flag) = flag_named(word) {
-        return Some((Given::Flag(flag), rest));
+        return Some((GivenOption::Flag(flag), rest));
     }
     if !is_file_option(word) {
         return None;
@@ -150,7 +172,7 @@ fn next_option(words: &[String]) -> Option<(Given<'_>, &[String])> {
     let Some((name, after)) = rest.split_first() else {
         return None;
     };
-    Some((Given::File(name.as_str()), after))
+    Some((GivenOption::File(name.as_str()), after))
 }
 
 /// How often a flag is given before the other words.
@@ -224,7 +246,7 @@ impl<'a> FileNames<'a> {
     pub fn next(&mut self) -> Option<&'a str> {
         while let Some((given, rest)) = next_option(self.options) {
             self.options = rest;
-            if let Given::File(name) = given {
+            if let GivenOption::File(name) = given {
                 return Some(name);
             }
         }
@@ -488,7 +510,7 @@ fn task_of<'a>(
     Ok(match verb {
         Verb::List => Some(Task::List),
         Verb::Sig => Some(Task::Sig(words)),
-        Verb::Play => read_calls(alloc, words)?.map(|calls| Task::Play(calls)),
+        Verb::Play => read_calls(alloc, words)?.map(|calls| Task::Play(Calls::Owned(calls))),
         Verb::Blank => Some(Task::Blank),
         Verb::Types => Some(Task::Types),
         Verb::Fmt => None,

@@ -4,7 +4,7 @@
 use crate::shim::prelude::*;
 use crate::commands::complaint::Complaint;
 use crate::commands::options::Task;
-use crate::commands::run::{Printing, RunError, RunFailure, run};
+use crate::commands::run::{RunError, RunFailure, run};
 use crate::shim::alloc::Global;
 use crate::shim::{fmt, io};
 use wat_lex::proved::error::Error;
@@ -147,28 +147,7 @@ pub fn carry_out<R: Source, W: Sink>(
     input: &mut R,
     output: &mut W,
 ) -> Outcome<'static> {
-    match task {
-        Task::List => Outcome::of_run(run(alloc, input, output, settings, Printing::Raw)),
-        Task::Sig(names) => {
-            Outcome::of_run(run(alloc, input, output, settings, Printing::Shown(names)))
-        }
-        Task::JsonList => {
-            Outcome::of_run(run(alloc, input, output, settings, Printing::JsonRaw(file)))
-        }
-        Task::JsonSig(names) => {
-            let printing = Printing::JsonShown(names, file);
-            Outcome::of_run(run(alloc, input, output, settings, printing))
-        }
-        Task::Play(calls) => Outcome::of_run(run(
-            alloc,
-            input,
-            output,
-            settings,
-            Printing::Replies(calls),
-        )),
-        Task::Blank => Outcome::of_run(run(alloc, input, output, settings, Printing::Blank)),
-        Task::Types => Outcome::of_run(run(alloc, input, output, settings, Printing::Types)),
-    }
+    Outcome::of_run(run(alloc, input, output, settings, task, file))
 }
 
 impl<'a> Outcome<'a> {

@@ -2,42 +2,21 @@
 //! What is printed of bytes that may be no text.
 
 use crate::shim::prelude::*;
+use crate::commands::options::Task;
 use crate::commands::run::RunFailure;
 use crate::shim::alloc::{AllocError, Global};
 use wat_lex::proved::error::Error;
 use wat_lex::proved::lexer::{Lexer, Settings};
-use wat_lex::proved::token::Span;
 use wat_parser::proved::laws;
-use wat_parser::proved::parser::Call;
 use crate::lines::ends::{Failed, Sink};
 use crate::lines::row::object_open;
 use crate::lists::blank::write_blanked;
 use crate::lists::input::text_of;
 use crate::lists::json::{push_report, show_json, write_json};
-use crate::lists::list::{fault_of, lexer_of, write_lines};
+use crate::lists::list::{error_of, write_lines};
 use crate::lists::play::play;
 use crate::lists::show::{Showing, show};
 use crate::types::compile_types;
-
-/// What to print of a text.
-#[derive(Clone, Copy)]
-pub enum Printing<'a> {
-    /// Its raw tokens.
-    Raw,
-    /// The tokens that are shown where these names are registered.
-    Shown(&'a [String]),
-    /// Its raw tokens as JSON, with the name of its file, if there is one.
-    JsonRaw(Option<&'a str>),
-    /// The tokens that are shown where these names are registered, as JSON, with the name of its
-    /// file, if there is one.
-    JsonShown(&'a [String], Option<&'a str>),
-    /// The replies to these calls.
-    Replies(&'a [Call]),
-    /// The text with its comments blanked.
-    Blank,
-    /// The bytes of the module that it spells.
-    Types,
-}
 
 /// The error of what was written, or that the write failed.
 ///
@@ -61,15 +40,11 @@ fn answer(written: Result<(), Failed>, error: Option<Error>) -> Result<Option<Er
 /// ensures error { IfOk result (ReportsEnd lexer.now) }
 /// ensures refused { IfErr result (λ e. e ≡ RunFailure.Memory alloc_error) }
 /// ```
-fn error_of(alloc: Global, lexer: &Lexer<'_>) -> Result<Option<Error>, RunFailure> {
-    let Some(fault) = fault_of(lexer) else {
-        return Ok(None);
-    };
-    let span = Span::from_offset(fault.offset);
-    let error = Error::lex(alloc, span, lexer.input(), fault.error);
-    match error.alloc_error() {
-        Some(refused) => Err(RunFailure::from(refused)),
-        None => Ok(Some(error)),
+fn error_in(alloc: Global, lexer: &Lexer<'_>) -> Result<Option<Error>, RunFailure> {
+    let text = lexer.input();
+    match lexer.first_fault(0) {
+        Some(fault) => Ok(Some(error_of(alloc, text, fault)?)),
+        None => Ok(None),
     }
 }
 
@@ -82,7 +57,7 @@ fn error_of(alloc: Global, lexer: &Lexer<'_>) -> Result<Option<Error>, RunFailur
 /// requires text { length text.now < 2 ^ 32 }
 /// requires output { W.failure output.old ≡ None }
 /// ensures printed { Writes W.held W.failure (Lists settings text.now) output.old output.new result }
-/// ensures refused { IfErr result (λ e. IsWrite e ⊎ (e ≡ RunFailure.Memory alloc_error)) }
+/// ensures refused { IfErr result (λ e. IsFailedWrite e ⊎ (e ≡ RunFailure.Memory alloc_error)) }
 /// ```
 fn print_raw<W: Sink>(
     alloc: Global,
@@ -91,8 +66,8 @@ fn print_raw<W: Sink>(
     output: &mut W,
 ) -> Result<Option<Error>, RunFailure> {
     wat_lex::proved::laws::one_tiling();
-    let lexer = lexer_of(text, settings);
-    let error = error_of(alloc, &lexer)?;
+    let lexer = Lexer::with_settings(text, settings);
+    let error = error_in(alloc, &lexer)?;
     answer(write_lines(&lexer, output), error)
 }
 
@@ -151,7 +126,7 @@ fn write_rows<W: Sink>(
 /// requires output { W.failure output.old ≡ None }
 /// ensures printed { Writes W.held W.failure
 ///     (JsonLists settings (option_map (λ f. f.now) file.entry) text.now) output.old output.new result }
-/// ensures refused { IfErr result (λ e. IsWrite e ⊎ (e ≡ RunFailure.Memory alloc_error)) }
+/// ensures refused { IfErr result (λ e. IsFailedWrite e ⊎ (e ≡ RunFailure.Memory alloc_error)) }
 /// ```
 fn print_json<W: Sink>(
     alloc: Global,
@@ -161,9 +136,9 @@ fn print_json<W: Sink>(
     output: &mut W,
 ) -> Result<Option<Error>, RunFailure> {
     wat_lex::proved::laws::one_tiling();
-    let lexer = lexer_of(text, settings);
+    let lexer = Lexer::with_settings(text, settings);
     let begin = object_open(alloc, file)?;
-    let error = error_of(alloc, &lexer)?;
+    let error = error_in(alloc, &lexer)?;
     let last = json_end(alloc, text, &begin, &error)?;
     answer(write_rows(&lexer, &begin, &last, output), error)
 }
@@ -176,7 +151,7 @@ fn print_json<W: Sink>(
 /// requires text { length text.now < 2 ^ 32 }
 /// requires output { W.failure output.old ≡ None }
 /// ensures printed { Writes W.held W.failure (Blanks settings text.now) output.old output.new result }
-/// ensures refused { IfErr result (λ e. IsWrite e ⊎ (e ≡ RunFailure.Memory alloc_error)) }
+/// ensures refused { IfErr result (λ e. IsFailedWrite e ⊎ (e ≡ RunFailure.Memory alloc_error)) }
 /// ```
 fn print_blank<W: Sink>(
     alloc: Global,
@@ -186,8 +161,8 @@ fn print_blank<W: Sink>(
 ) -> Result<Option<Error>, RunFailure> {
     wat_lex::proved::laws::one_tiling();
     laws::blank_texts();
-    let lexer = lexer_of(text, settings);
-    if let Some(error) = error_of(alloc, &lexer)? {
+    let lexer = Lexer::with_settings(text, settings);
+    if let Some(error) = error_in(alloc, &lexer)? {
         return Ok(Some(error));
     }
     answer(write_blanked(&lexer, output), None)
@@ -201,7 +176,7 @@ fn print_blank<W: Sink>(
 /// requires { W.failure output.old ≡ None }
 /// ensures printed { Writes W.held W.failure
 ///     (λ bytes e. (bytes ≡ text.now) × (e ≡ error)) output.old output.new result }
-/// ensures refused { IfErr result IsWrite }
+/// ensures refused { IfErr result IsFailedWrite }
 /// ```
 fn print_text<W: Sink>(
     text: &[u8],
@@ -219,7 +194,7 @@ fn print_text<W: Sink>(
 /// requires text { length text.now < 2 ^ 32 }
 /// requires output { W.failure output.old ≡ None }
 /// ensures printed { Writes W.held W.failure (Compiles text.now) output.old output.new result }
-/// ensures refused { IfErr result (λ e. IsWrite e ⊎ (e ≡ RunFailure.Memory alloc_error)) }
+/// ensures refused { IfErr result (λ e. IsFailedWrite e ⊎ (e ≡ RunFailure.Memory alloc_error)) }
 /// ```
 fn print_types<W: Sink>(
     alloc: Global,
@@ -236,67 +211,71 @@ fn print_types<W: Sink>(
     }
 }
 
-/// Writes what is printed of a text, and answers the error of its fault or refusal.
+/// Writes what a task prints of the text of a file of this name, if it has one, and answers the error of its fault or refusal.
 ///
 /// # Proved
 ///
 /// ```text
 /// requires text { length text.now < 2 ^ 32 }
 /// requires output { W.failure output.old ≡ None }
-/// ensures printed { Writes W.held W.failure (prints settings printing.entry text.now)
+/// ensures printed { Writes W.held W.failure
+///     (task_prints settings (option_map (λ f. f.now) file.entry) task.now text.now)
 ///     output.old output.new result }
-/// ensures refused { IfErr result (λ e. IsWrite e ⊎ (e ≡ RunFailure.Memory alloc_error)) }
+/// ensures refused { IfErr result (λ e. IsFailedWrite e ⊎ (e ≡ RunFailure.Memory alloc_error)) }
 /// ```
 fn print_of<W: Sink>(
     alloc: Global,
     text: &str,
     settings: Settings,
-    printing: Printing<'_>,
+    task: &Task<'_>,
+    file: Option<&str>,
     output: &mut W,
 ) -> Result<Option<Error>, RunFailure> {
-    match printing {
-        Printing::Raw => print_raw(alloc, text, settings, output),
-        Printing::Shown(names) => {
+    match task {
+        Task::List => print_raw(alloc, text, settings, output),
+        Task::Sig(names) => {
             let Showing { lines, error } = show(alloc, text, settings, names)?;
             print_text(&lines, error, output)
         }
-        Printing::JsonRaw(file) => print_json(alloc, text, settings, file, output),
-        Printing::JsonShown(names, file) => {
+        Task::JsonList => print_json(alloc, text, settings, file, output),
+        Task::JsonSig(names) => {
             let Showing { lines: rows, error } = show_json(alloc, text, settings, file, names)?;
             print_text(&rows, error, output)
         }
-        Printing::Replies(calls) => {
-            let replies = play(alloc, text, settings, calls)?;
+        Task::Play(calls) => {
+            let replies = play(alloc, text, settings, calls.as_slice())?;
             print_text(&replies, None, output)
         }
-        Printing::Blank => print_blank(alloc, text, settings, output),
-        Printing::Types => print_types(alloc, text, output),
+        Task::Blank => print_blank(alloc, text, settings, output),
+        Task::Types => print_types(alloc, text, output),
     }
 }
 
-/// Writes what is printed of bytes, and answers the error of the fault or refusal of the text.
+/// Writes what a task prints of bytes, and answers the error of the fault or refusal of the text.
 ///
 /// # Proved
 ///
 /// ```text
 /// requires bytes { length bytes.now < 2 ^ 32 }
 /// requires output { W.failure output.old ≡ None }
-/// ensures printed { Writes W.held W.failure (prints settings printing.entry bytes.now)
+/// ensures printed { Writes W.held W.failure
+///     (task_prints settings (option_map (λ f. f.now) file.entry) task.now bytes.now)
 ///     output.old output.new result }
 /// ensures not_utf8 { (offset : ℕ) →
 ///     IsErrOf result (RunFailure.NotUtf8 offset) ↔ IsValidUpTo bytes.now offset }
 /// ensures refused { IfErr result (λ e. IsNotUtf8 e ⊎
-///     (IsWrite e ⊎ (e ≡ RunFailure.Memory alloc_error))) }
+///     (IsFailedWrite e ⊎ (e ≡ RunFailure.Memory alloc_error))) }
 /// ```
 pub fn print<W: Sink>(
     alloc: Global,
     bytes: &[u8],
     settings: Settings,
-    printing: Printing<'_>,
+    task: &Task<'_>,
+    file: Option<&str>,
     output: &mut W,
 ) -> Result<Option<Error>, RunFailure> {
     match text_of(bytes) {
-        Ok(text) => print_of(alloc, text, settings, printing, output),
+        Ok(text) => print_of(alloc, text, settings, task, file, output),
         Err(error) => Err(error),
     }
 }

@@ -2,7 +2,7 @@
 //! From a source of bytes to what is printed on a sink.
 
 use crate::shim::prelude::*;
-pub use crate::commands::print::Printing;
+use crate::commands::options::{Calls, Task};
 use crate::commands::print::print;
 use crate::shim::alloc::Global;
 use wat_lex::proved::error::Error;
@@ -12,7 +12,7 @@ use crate::lines::ends::{Sink, Source};
 use crate::lists::input::read_whole;
 pub use crate::lists::input::{RunError, RunFailure};
 
-/// Reads all that the source has left, and writes what is printed of it.
+/// Reads all that the source has left, and writes what the task prints of it.
 ///
 /// # Proved
 ///
@@ -20,7 +20,7 @@ pub use crate::lists::input::{RunError, RunFailure};
 /// requires input { R.failure input.old ≡ None }
 /// requires output { W.failure output.old ≡ None }
 /// ensures written { IfOk result (λ error. IfSome (R.left input.old) (λ bytes.
-///     AppendsText (prints settings printing.entry bytes) error
+///     AppendsText (task_prints settings (option_map (λ f. f.now) file.entry) task.now bytes) error
 ///     (W.held output.old) (W.held output.new))) }
 ///
 /// // These come only once the source was read to its end.
@@ -43,23 +43,25 @@ pub use crate::lists::input::{RunError, RunFailure};
 ///
 /// // A failed write has written a prefix of what is printed, and each other refusal nothing.
 /// ensures cut { (failed : Failed) → IsErrOf result (RunFailure.Write failed) →
-///     IfSome (R.left input.old) (λ bytes. AppendsCut (prints settings printing.entry bytes)
+///     IfSome (R.left input.old) (λ bytes.
+///     AppendsCut (task_prints settings (option_map (λ f. f.now) file.entry) task.now bytes)
 ///     (W.held output.old) (W.held output.new)) }
-/// ensures unwritten { IfErr result (λ e. IsWrite e ⊎ (output.new ≡ output.old)) }
+/// ensures unwritten { IfErr result (λ e. IsFailedWrite e ⊎ (output.new ≡ output.old)) }
 /// ```
 fn read_and_print<R: Source, W: Sink>(
     alloc: Global,
     input: &mut R,
     output: &mut W,
     settings: Settings,
-    printing: Printing<'_>,
+    task: &Task<'_>,
+    file: Option<&str>,
 ) -> Result<Option<Error>, RunFailure> {
     let bytes = read_whole(alloc, input)?;
-    print(alloc, &bytes, settings, printing, output)
+    print(alloc, &bytes, settings, task, file, output)
 }
 
-/// Writes what is printed of all that the source has left, and answers the error of its fault; or the
-/// cause of a refusal.
+/// Writes what the task prints of all that the source has left, the text of a file of this name, if it
+/// has one; and answers the error of its fault, or the cause of a refusal.
 ///
 /// # Proved
 ///
@@ -67,16 +69,17 @@ fn read_and_print<R: Source, W: Sink>(
 /// requires input { R.failure input.old ≡ None }
 /// requires output { W.failure output.old ≡ None }
 /// ensures { RunsWithCause R.left R.failure R.has_ended W.held W.failure
-///     (prints settings printing.entry) input.old input.new output.old output.new result }
+///     (task_prints settings (option_map (λ f. f.now) file.entry) task.now) input.old input.new output.old output.new result }
 /// ```
 pub fn run<R: Source, W: Sink>(
     alloc: Global,
     input: &mut R,
     output: &mut W,
     settings: Settings,
-    printing: Printing<'_>,
+    task: &Task<'_>,
+    file: Option<&str>,
 ) -> Result<Option<Error>, RunFailure> {
-    read_and_print(alloc, input, output, settings, printing)
+    read_and_print(alloc, input, output, settings, task, file)
 }
 
 /// The answer of a run without the cause of its refusal.
@@ -110,7 +113,7 @@ pub fn run_list<R: Source, W: Sink>(
     output: &mut W,
     settings: Settings,
 ) -> Result<Option<Error>, RunError> {
-    without_cause(run(alloc, input, output, settings, Printing::Raw))
+    without_cause(run(alloc, input, output, settings, &Task::List, None))
 }
 
 /// Writes the list of the tokens that count, those that a parser shows where these names are
@@ -131,7 +134,7 @@ pub fn run_sig<R: Source, W: Sink>(
     settings: Settings,
     names: &[String],
 ) -> Result<Option<Error>, RunError> {
-    without_cause(run(alloc, input, output, settings, Printing::Shown(names)))
+    without_cause(run(alloc, input, output, settings, &Task::Sig(names), None))
 }
 
 /// Writes a parser's replies to calls from the start of the text.
@@ -151,7 +154,8 @@ pub fn run_play<R: Source, W: Sink>(
     settings: Settings,
     calls: &[Call],
 ) -> Result<(), RunError> {
-    match run(alloc, input, output, settings, Printing::Replies(calls)) {
+    let task = Task::Play(Calls::Borrowed(calls));
+    match run(alloc, input, output, settings, &task, None) {
         Ok(_) => Ok(()),
         Err(failure) => Err(RunError::from(failure)),
     }

@@ -5,45 +5,10 @@ use crate::shim::prelude::*;
 use crate::format::error::Error;
 use crate::format::formatter::Formatter;
 use crate::shim::alloc::Global;
-use wat_lex::proved::lexer::{LexFault, Lexer, Settings};
+use wat_lex::proved::lexer::{Lexer, Settings};
 
 /// The most bytes that an answer has, since places in it are to be `u32`.
 const MOST: usize = 4_294_967_295;
-
-/// The lexer of a text that is read with these settings.
-///
-/// # Proved
-///
-/// ```text
-/// requires { length text.now < 2 ^ 32 }
-/// ensures { result ≡ record { text = text.now; flags = settings } }
-/// ```
-pub(crate) fn lexer_of<'a>(text: &'a str, settings: Settings) -> Lexer<'a> {
-    let mut lexer = Lexer::new(text);
-    lexer
-        .allow_confusing_unicode(settings.allow)
-        .strict_underscores(settings.strict);
-    lexer
-}
-
-/// The fault of a lexer's text from a place on, where it has one there.
-///
-/// # Proved
-///
-/// ```text
-/// requires { IsCharBoundary lexer.now.text start }
-/// ensures { EndsFrom lexer.now start result }
-/// ```
-pub(crate) fn fault_from(lexer: &Lexer<'_>, start: usize) -> Option<LexFault> {
-    let mut pos = start;
-    'tokens: loop {
-        match lexer.scan(pos) {
-            Ok(Some(token)) => pos = token.offset + token.len as usize,
-            Ok(None) => return None,
-            Err(fault) => return Some(fault),
-        }
-    }
-}
 
 /// The text laid out.
 ///
@@ -57,7 +22,7 @@ pub(crate) fn fault_from(lexer: &Lexer<'_>, start: usize) -> Option<LexFault> {
 /// ensures refused { IfErr result (Refuses (record { text = text.now; flags = settings })) }
 /// ```
 pub fn format(alloc: Global, text: &str, settings: Settings) -> Result<String, Error> {
-    let lexer = lexer_of(text, settings);
+    let lexer = Lexer::with_settings(text, settings);
     let mut formatter = Formatter::new(alloc);
     let mut out = String::with_capacity(alloc, text.len())?;
     let mut pos = 0;
@@ -90,7 +55,7 @@ pub fn format(alloc: Global, text: &str, settings: Settings) -> Result<String, E
 /// ensures { EndsSo lexer.now pos result }
 /// ```
 fn too_long(lexer: &Lexer<'_>, pos: usize) -> Error {
-    match fault_from(lexer, pos) {
+    match lexer.first_fault(pos) {
         Some(fault) => Error::Fault(fault),
         None => Error::TooLong,
     }

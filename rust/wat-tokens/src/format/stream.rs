@@ -2,31 +2,30 @@
 //! Formatting a text into a sink, a block at a time.
 
 use crate::shim::prelude::*;
-use crate::format::format::{fault_from, lexer_of};
 use crate::format::formatter::Formatter;
-use crate::format::sink::Sink;
 use crate::shim::alloc::{AllocError, Global};
 use crate::shim::fmt;
 use wat_lex::proved::lexer::{LexFault, Lexer, Settings, Token};
+use crate::lines::ends::{Failed, Sink};
 
 /// Why a text was not written.
 #[derive(Debug)]
-pub enum WriteError<F> {
+pub enum WriteError {
     /// A request for memory was refused, by this refusal.
     Memory(AllocError),
     /// The text has this fault, and nothing was written.
     Fault(LexFault),
     /// A write failed, for this reason.
-    Failed(F),
+    Failed(Failed),
 }
 
-impl<F> From<AllocError> for WriteError<F> {
-    fn from(refused: AllocError) -> WriteError<F> {
+impl From<AllocError> for WriteError {
+    fn from(refused: AllocError) -> WriteError {
         WriteError::Memory(refused)
     }
 }
 
-impl<F> fmt::Display for WriteError<F> {
+impl fmt::Display for WriteError {
     fn fmt(&self, f: &mut fmt::Formatter<'_>) -> fmt::Result {
         match self {
             WriteError::Memory(_) => write!(f, "out of memory"),
@@ -61,10 +60,9 @@ pub fn format_to<W: Sink>(
     text: &str,
     settings: Settings,
     output: &mut W,
-) -> Result<(), WriteError<W::Failure>> {
-    let lexer = lexer_of(text, settings);
-    let _ = lexer.input();
-    match fault_from(&lexer, 0) {
+) -> Result<(), WriteError> {
+    let lexer = Lexer::with_settings(text, settings);
+    match lexer.first_fault(0) {
         Some(fault) => Err(WriteError::Fault(fault)),
         None => write_laid(alloc, &lexer, output),
     }
@@ -81,11 +79,7 @@ pub fn format_to<W: Sink>(
 /// ensures cut { IfErr result (CutsShort lexer.now (W.held output.old) (W.held output.new)) }
 /// ensures failed { W.failure output.new ≡ failed_after (W.failure output.old) result }
 /// ```
-fn write_laid<W: Sink>(
-    alloc: Global,
-    lexer: &Lexer<'_>,
-    output: &mut W,
-) -> Result<(), WriteError<W::Failure>> {
+fn write_laid<W: Sink>(alloc: Global, lexer: &Lexer<'_>, output: &mut W) -> Result<(), WriteError> {
     wat_lex::proved::laws::one_answer();
     let text = lexer.input();
     let mut formatter = Formatter::new(alloc);
@@ -122,16 +116,13 @@ fn next_token(lexer: &Lexer<'_>, pos: usize) -> Option<Token> {
 /// # Proved
 ///
 /// ```text
-/// ensures moved { OnOk result (Moves (W.held output.old) (W.held output.new)
+/// ensures drained { OnOk result (Drains (W.held output.old) (W.held output.new)
 ///     (string_bytes block.old) (string_bytes block.new)) }
 /// ensures cut { IfErr result
 ///     (StopsShort (W.held output.old) (W.held output.new) (string_bytes block.old)) }
 /// ensures failed { W.failure output.new ≡ failed_after (W.failure output.old) result }
 /// ```
-fn write_if_full<W: Sink>(
-    output: &mut W,
-    block: &mut String,
-) -> Result<(), WriteError<W::Failure>> {
+fn write_if_full<W: Sink>(output: &mut W, block: &mut String) -> Result<(), WriteError> {
     if block.len() < BLOCK {
         return Ok(());
     }
@@ -149,7 +140,7 @@ fn write_if_full<W: Sink>(
 /// ensures cut { IfErr result (StopsShort (W.held output.old) (W.held output.new) bytes.now) }
 /// ensures failed { W.failure output.new ≡ failed_after (W.failure output.old) result }
 /// ```
-fn write_bytes<W: Sink>(output: &mut W, bytes: &[u8]) -> Result<(), WriteError<W::Failure>> {
+fn write_bytes<W: Sink>(output: &mut W, bytes: &[u8]) -> Result<(), WriteError> {
     match output.write_all(bytes) {
         Ok(()) => Ok(()),
         Err(failure) => Err(WriteError::Failed(failure)),

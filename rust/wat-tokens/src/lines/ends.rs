@@ -5,7 +5,6 @@ use crate::shim::prelude::*;
 pub use crate::lines::failed::Failed;
 use crate::lines::failed::taken;
 use crate::shim::io;
-use crate::format::sink;
 
 /// What a text is read from.
 pub trait Source {
@@ -19,7 +18,7 @@ pub trait Source {
     /// # Proved
     ///
     /// ```text
-    /// ensures bytes { IfOk result (Reads (left self.old) (left self.new) buffer.new) }
+    /// ensures bytes { IfOk result (ReadsInto (left self.old) (left self.new) buffer.new) }
     /// ensures unread { OnErr result (Keeps (left self.old) (left self.new)) }
     /// ensures failed { failure self.new ≡ failure_after (failure self.old) result }
     /// ensures ended { has_ended self.new ≡ gave_end result buffer.new }
@@ -45,7 +44,7 @@ pub trait Source {
     fn ended(&self) -> bool;
 }
 
-/// What lines are written to.
+/// What lines and layouts are written to.
 pub trait Sink {
     // The bytes that it holds, where they are known.
 
@@ -147,14 +146,6 @@ impl<T: io::Write> Sink for Plain<T> {
 
     fn failed(&self) -> bool {
         self.failure.is_some()
-    }
-}
-
-impl<T: io::Write> sink::Sink for Plain<T> {
-    type Failure = Failed;
-
-    fn write_all(&mut self, bytes: &[u8]) -> Result<(), Failed> {
-        <Plain<T> as Sink>::write_all(self, bytes)
     }
 }
 

@@ -81,7 +81,7 @@ impl Digits {
     /// ensures piece { result.now ≡ take 16 self.now }
     /// ensures len { length result.now ≡ 16 }
     /// ```
-    fn piece(&self) -> &[u8] {
+    fn first_16_bytes(&self) -> &[u8] {
         &self.bytes[self.start..self.start + PIECE]
     }
 
@@ -179,8 +179,8 @@ impl Place {
     /// ensures piece { result.now ≡ take 16 (decimal self.now ++ codes "..00000000000000") }
     /// ensures len { length result.now ≡ 16 }
     /// ```
-    fn piece(&self) -> &[u8] {
-        self.digits.piece()
+    fn first_16_bytes(&self) -> &[u8] {
+        self.digits.first_16_bytes()
     }
 
     /// How many digits there are.
@@ -268,9 +268,9 @@ fn put_piece(room: &mut [u8], at: usize, piece: &[u8], count: usize) -> usize {
 #[inline(always)]
 pub fn put_line(room: &mut [u8], place: &mut Place, token: &Token) -> usize {
     place.move_to(token.offset as u32);
-    let dots = put_piece(room, 0, place.piece(), place.count() + 2);
+    let dots = put_piece(room, 0, place.first_16_bytes(), place.count() + 2);
     place.move_to((token.offset + token.len as usize) as u32);
-    let name = put_piece(room, dots, place.piece(), place.count());
+    let name = put_piece(room, dots, place.first_16_bytes(), place.count());
     let (padded, count) = padded_end(token.kind);
     put_piece(room, name, padded.as_bytes(), count)
 }

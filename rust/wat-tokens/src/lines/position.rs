@@ -42,7 +42,7 @@ impl<'a> Positions<'a> {
         self.text
     }
 
-    /// Line and column of a place, as [`Span::linecol_in`] tells them: both from 0, and a column is a
+    /// Line and column of a place, as [`Span::linecol_in`] has them: both from 0, and a column is a
     /// number of bytes.
     ///
     /// # Proved

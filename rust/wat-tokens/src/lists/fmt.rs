@@ -3,15 +3,14 @@
 
 use crate::shim::prelude::*;
 use crate::lists::input::{RunFailure, read_whole, text_of};
+use crate::lists::list::error_of;
 use crate::shim::alloc::Global;
 use crate::format::error::Error as FormatError;
 use crate::format::format::format;
-use crate::format::sink;
 use crate::format::stream::{WriteError, format_to};
 use wat_lex::proved::error::Error;
-use wat_lex::proved::lexer::{LexFault, Settings};
-use wat_lex::proved::token::Span;
-use crate::lines::ends::{Failed, Source};
+use wat_lex::proved::lexer::Settings;
+use crate::lines::ends::{Sink, Source};
 
 /// What comes of comparing a text with its layout.
 pub enum Compared {
@@ -25,23 +24,6 @@ pub enum Compared {
     Faulty(Error),
 }
 
-/// The error of a text's fault.
-///
-/// # Proved
-///
-/// ```text
-/// requires { length text.now < 2 ^ 32 }
-/// ensures error { IfOk result (λ error. error ≡ Some (lexical text.now fault)) }
-/// ensures refused { IfErr result (λ e. e ≡ RunFailure.Memory alloc_error) }
-/// ```
-fn error_of(alloc: Global, text: &str, fault: LexFault) -> Result<Error, RunFailure> {
-    let error = Error::lex(alloc, Span::from_offset(fault.offset), text, fault.error);
-    match error.alloc_error() {
-        Some(refused) => Err(RunFailure::from(refused)),
-        None => Ok(error),
-    }
-}
-
 /// Writes the layout of a text, or answers the error of its fault.
 ///
 /// # Proved
@@ -53,9 +35,9 @@ fn error_of(alloc: Global, text: &str, fault: LexFault) -> Result<Error, RunFail
 /// ensures part { OnErr result
 ///     (WritesPart settings text.now (W.held output.old) (W.held output.new)) }
 /// ensures write { W.failure output.new ≡ failure_after (W.failure output.old) result }
-/// ensures refused { IfErr result (λ e. IsWrite e ⊎ (e ≡ RunFailure.Memory alloc_error)) }
+/// ensures refused { IfErr result (λ e. IsFailedWrite e ⊎ (e ≡ RunFailure.Memory alloc_error)) }
 /// ```
-fn write_text<W: sink::Sink<Failure = Failed>>(
+fn write_text<W: Sink>(
     alloc: Global,
     text: &str,
     settings: Settings,
@@ -80,14 +62,14 @@ fn write_text<W: sink::Sink<Failure = Failed>>(
 /// ensures part { OnErr result
 ///     (WritesPart settings bytes.now (W.held output.old) (W.held output.new)) }
 /// ensures write { W.failure output.new ≡ failure_after (W.failure output.old) result }
-/// ensures unwritten { IfErr result (λ e. IsWrite e ⊎
+/// ensures unwritten { IfErr result (λ e. IsFailedWrite e ⊎
 ///     ((e ≡ RunFailure.Memory alloc_error) ⊎ (output.new ≡ output.old))) }
 /// ensures not_utf8 { (offset : ℕ) →
 ///     IsErrOf result (RunFailure.NotUtf8 offset) ↔ IsValidUpTo bytes.now offset }
 /// ensures refused { IfErr result (λ e. IsNotUtf8 e ⊎
-///     (IsWrite e ⊎ (e ≡ RunFailure.Memory alloc_error))) }
+///     (IsFailedWrite e ⊎ (e ≡ RunFailure.Memory alloc_error))) }
 /// ```
-fn write_bytes<W: sink::Sink<Failure = Failed>>(
+fn write_bytes<W: Sink>(
     alloc: Global,
     bytes: &[u8],
     settings: Settings,
@@ -114,7 +96,7 @@ fn write_bytes<W: sink::Sink<Failure = Failed>>(
 /// // too, and each other refusal nothing.
 /// ensures part { OnErr result (IfSome (R.left input.old) (λ bytes.
 ///     WritesPart settings bytes (W.held output.old) (W.held output.new))) }
-/// ensures unwritten { IfErr result (λ e. IsWrite e ⊎
+/// ensures unwritten { IfErr result (λ e. IsFailedWrite e ⊎
 ///     ((e ≡ RunFailure.Memory alloc_error) ⊎ (output.new ≡ output.old))) }
 ///
 /// // These come only once the source was read to its end.
@@ -135,7 +117,7 @@ fn write_bytes<W: sink::Sink<Failure = Failed>>(
 ///     IsErrOf result (RunFailure.NotUtf8 offset) ↔
 ///     ((R.has_ended input.new ≡ true) × IsValidUpTo bytes offset)) }
 /// ```
-pub fn run_fmt<R: Source, W: sink::Sink<Failure = Failed>>(
+pub fn run_fmt<R: Source, W: Sink>(
     alloc: Global,
     input: &mut R,
     output: &mut W,

@@ -101,7 +101,7 @@ const PIECE: usize = 65_536;
 ///     ReadsShort (R.left input.old) (R.left input.new) }
 /// ensures read { read_failure result ≡ R.failure input.new }
 /// ensures refused { IfErr result (λ e.
-///     IsRead e ⊎ ((e ≡ RunFailure.TooLong) ⊎ (e ≡ RunFailure.Memory alloc_error))) }
+///     IsFailedRead e ⊎ ((e ≡ RunFailure.TooLong) ⊎ (e ≡ RunFailure.Memory alloc_error))) }
 /// ```
 pub fn read_whole<R: Source>(alloc: Global, input: &mut R) -> Result<Vec<u8>, RunFailure> {
     let mut bytes = Vec::new(alloc);

@@ -2,13 +2,10 @@
 //! The lists as JSON: a line for each raw token, or for each token that counts.
 
 use crate::shim::prelude::*;
-use crate::lists::list::{buffer_of, refusal_of};
-use crate::lists::show::{Showing, register_all};
+use crate::lists::show::{Form, Showing, show_in};
 use crate::shim::alloc::{AllocError, Global};
 use wat_lex::proved::error::Error;
-use wat_lex::proved::lexer::{Lexer, Settings};
-use wat_parser::proved::laws;
-use wat_parser::proved::parser::Cursor;
+use wat_lex::proved::lexer::{Lexer, Settings, Token};
 use crate::lines::block::Block;
 use crate::lines::ends::{Failed, Sink};
 use crate::lines::position::Positions;
@@ -63,70 +60,15 @@ pub fn push_report(
     push_fault(lines, text, begin, error.span().offset(), &message)
 }
 
-/// Lists what is shown from a cursor on, as JSON. The cursor that it answers is after it.
-///
-/// # Proved
-///
-/// ```text
-/// requires text { text.now ≡ from.parser.now.source.setting.text }
-/// ensures shown { IfOk result (λ r.
-///     JsonShownFrom from.entry.parser.now.source from.entry.parser.now.names from.entry.at
-///     begin.now r.0.lines.items r.0.error) }
-/// ensures parser { IfOk result (λ r. r.1.parser ≡ from.entry.parser) }
-/// ensures on { IfOk result (λ r. from.entry.at ≤ r.1.at) }
-/// ensures refused { IfErr result (λ e. e ≡ None) }
-/// ```
-fn rows_from<'p, 'a>(
-    alloc: Global,
-    text: &str,
-    begin: &[u8],
-    from: Cursor<'p, 'a>,
-) -> Result<(Showing, Cursor<'p, 'a>), Error> {
-    laws::all_shown();
-    from.lemma_sound();
-    let mut positions = Positions::new(text);
-    let mut lines = Vec::new(alloc);
-    let mut cursor = from;
-    'tokens: loop {
-        match cursor.any() {
-            Ok(Some((token, next))) => {
-                push_row(&mut lines, &mut positions, begin, &token)?;
-                cursor = next;
-            }
-            Ok(None) => return Ok((Showing { lines, error: None }, cursor)),
-            Err(error) if error.is_out_of_memory() => return Err(error),
-            Err(error) => {
-                let error = Some(error);
-                return Ok((Showing { lines, error }, cursor));
-            }
-        }
-    }
+/// A line of JSON for each token. Each line begins with `begin`.
+struct JsonLines<'a> {
+    begin: &'a [u8],
+    positions: Positions<'a>,
 }
 
-/// Lists what is shown of a text where these names are registered, as JSON, without its fault.
-///
-/// # Proved
-///
-/// ```text
-/// requires { length text.now < 2 ^ 32 }
-/// ensures { IfOk result (λ s. JsonShownRows (record { text = text.now; flags = settings })
-///     begin.now names.now s.lines.items s.error) }
-/// ```
-fn show_rows(
-    alloc: Global,
-    text: &str,
-    settings: Settings,
-    begin: &[u8],
-    names: &[String],
-) -> Result<Showing, AllocError> {
-    let buffer = buffer_of(alloc, text, settings)?;
-    let mut parser = buffer.parser();
-    if let Err(error) = register_all(&mut parser, names) {
-        return Err(refusal_of(&error));
-    }
-    match parser.step(|cursor| rows_from(alloc, text, begin, cursor)) {
-        Ok(showing) => Ok(showing),
-        Err(error) => Err(refusal_of(&error)),
+impl Form for JsonLines<'_> {
+    fn push(&mut self, lines: &mut Vec<u8>, token: &Token) -> Result<(), AllocError> {
+        push_row(lines, &mut self.positions, self.begin, token)
     }
 }
 
@@ -148,7 +90,11 @@ pub fn show_json(
     names: &[String],
 ) -> Result<Showing, AllocError> {
     let begin = object_open(alloc, file)?;
-    let Showing { mut lines, error } = show_rows(alloc, text, settings, &begin, names)?;
+    let rows = JsonLines {
+        begin: &begin,
+        positions: Positions::new(text),
+    };
+    let Showing { mut lines, error } = show_in(alloc, text, settings, names, rows)?;
     if let Some(error) = &error {
         push_report(alloc, &mut lines, text, &begin, error)?;
     }

@@ -2,9 +2,11 @@
 //! The list of a text's raw tokens.
 
 use crate::shim::prelude::*;
+use crate::lists::input::RunFailure;
 use crate::shim::alloc::{AllocError, Global};
 use wat_lex::proved::error::Error;
 use wat_lex::proved::lexer::{LexFault, Lexer, Settings, Token};
+use wat_lex::proved::token::Span;
 use wat_parser::proved::parser::ParseBuffer;
 use crate::lines::block::Block;
 use crate::lines::ends::{Failed, Sink};
@@ -35,20 +37,21 @@ pub(crate) fn refusal_of(error: &Error) -> AllocError {
     error.alloc_error().unwrap()
 }
 
-/// The lexer of a text that is read with these settings.
+/// The error of a text's fault.
 ///
 /// # Proved
 ///
 /// ```text
 /// requires { length text.now < 2 ^ 32 }
-/// ensures { result ≡ record { text = text.now; flags = settings } }
+/// ensures error { IfOk result (λ error. error ≡ Some (lexical text.now fault)) }
+/// ensures refused { IfErr result (λ e. e ≡ RunFailure.Memory alloc_error) }
 /// ```
-pub fn lexer_of<'a>(text: &'a str, settings: Settings) -> Lexer<'a> {
-    let mut lexer = Lexer::new(text);
-    lexer
-        .allow_confusing_unicode(settings.allow)
-        .strict_underscores(settings.strict);
-    lexer
+pub fn error_of(alloc: Global, text: &str, fault: LexFault) -> Result<Error, RunFailure> {
+    let error = Error::lex(alloc, Span::from_offset(fault.offset), text, fault.error);
+    match error.alloc_error() {
+        Some(refused) => Err(RunFailure::from(refused)),
+        None => Ok(error),
+    }
 }
 
 /// The buffer of a text that is read with these settings.
@@ -66,28 +69,9 @@ pub(crate) fn buffer_of<'a>(
     text: &'a str,
     settings: Settings,
 ) -> Result<ParseBuffer<'a>, AllocError> {
-    match ParseBuffer::new_with_lexer(alloc, lexer_of(text, settings)) {
+    match ParseBuffer::new_with_lexer(alloc, Lexer::with_settings(text, settings)) {
         Ok(buffer) => Ok(buffer),
         Err(error) => Err(refusal_of(&error)),
-    }
-}
-
-/// The fault of a lexer's text, where it has one. It takes no memory.
-///
-/// # Proved
-///
-/// ```text
-/// ensures { EndsIn lexer.now result }
-/// ```
-pub fn fault_of(lexer: &Lexer<'_>) -> Option<LexFault> {
-    let _ = lexer.input();
-    let mut pos = 0;
-    'tokens: loop {
-        match lexer.scan(pos) {
-            Ok(Some(token)) => pos = token.offset + token.len as usize,
-            Ok(None) => return None,
-            Err(fault) => return Some(fault),
-        }
     }
 }
 

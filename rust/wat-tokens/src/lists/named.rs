@@ -62,7 +62,7 @@ fn visible_lines(alloc: Global, text: &str) -> Result<String, AllocError> {
 }
 
 /// What an error prints, with a file's name in place of `<anon>`; or the name in front, where the
-/// error tells no line.
+/// error has no line.
 ///
 /// # Proved
 ///

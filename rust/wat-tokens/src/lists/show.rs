@@ -5,7 +5,7 @@ use crate::shim::prelude::*;
 use crate::lists::list::{buffer_of, push_line, refusal_of};
 use crate::shim::alloc::{AllocError, Global};
 use wat_lex::proved::error::Error;
-use wat_lex::proved::lexer::Settings;
+use wat_lex::proved::lexer::{Settings, Token};
 use wat_parser::proved::laws;
 use wat_parser::proved::parser::{Cursor, Parser};
 
@@ -15,6 +15,37 @@ pub struct Showing {
     pub lines: Vec<u8>,
     /// Where nothing more is shown, and why.
     pub error: Option<Error>,
+}
+
+/// How a list writes a token.
+pub(crate) trait Form {
+    // What it writes of a token.
+
+    // The text that the tokens are to be of, where that matters.
+
+    /// Writes a token after the others.
+    ///
+    /// # Proved
+    ///
+    /// ```text
+    /// requires inside { IfSome (text self.old) (λ t. IsInside t token.now) }
+    /// requires short { token.now.offset + token.now.len < 2 ^ 32 }
+    /// ensures lines { OnOk result
+    ///     (lines.new.items ≡ lines.old.items ++ each self.old token.now) }
+    /// ensures same { each self.new ≡ each self.old }
+    /// ensures same_text { text self.new ≡ text self.old }
+    /// ```
+    fn push(&mut self, lines: &mut Vec<u8>, token: &Token) -> Result<(), AllocError>;
+}
+
+/// A line for each token, as the raw tokens have it.
+#[derive(Clone, Copy)]
+struct PlainLines;
+
+impl Form for PlainLines {
+    fn push(&mut self, lines: &mut Vec<u8>, token: &Token) -> Result<(), AllocError> {
+        push_line(lines, token)
+    }
 }
 
 /// Registers a name, if it is not yet.
@@ -54,25 +85,28 @@ pub(crate) fn register_all(parser: &mut Parser<'_>, names: &[String]) -> Result<
 /// # Proved
 ///
 /// ```text
-/// ensures shown { IfOk result (λ r.
-///     ShownFrom from.entry.parser.now.source from.entry.parser.now.names from.entry.at
+/// requires { IfSome (F.text form) (λ t. t ≡ from.parser.now.source.setting.text) }
+/// ensures shown { IfOk result (λ r. ShownFrom (F.each form)
+///     from.entry.parser.now.source from.entry.parser.now.names from.entry.at
 ///     r.0.lines.items r.0.error) }
 /// ensures parser { IfOk result (λ r. r.1.parser ≡ from.entry.parser) }
 /// ensures on { IfOk result (λ r. from.entry.at ≤ r.1.at) }
 /// ensures refused { IfErr result (λ e. e ≡ None) }
 /// ```
-fn lines_from<'p, 'a>(
+fn lines_from<'p, 'a, F: Form>(
     alloc: Global,
+    form: F,
     from: Cursor<'p, 'a>,
 ) -> Result<(Showing, Cursor<'p, 'a>), Error> {
     laws::all_shown();
     from.lemma_sound();
+    let mut form = form;
     let mut lines = Vec::new(alloc);
     let mut cursor = from;
     'tokens: loop {
         match cursor.any() {
             Ok(Some((token, next))) => {
-                push_line(&mut lines, &token)?;
+                form.push(&mut lines, &token)?;
                 cursor = next;
             }
             Ok(None) => return Ok((Showing { lines, error: None }, cursor)),
@@ -85,13 +119,42 @@ fn lines_from<'p, 'a>(
     }
 }
 
+/// Lists in this form what is shown of a text of at most `u32::MAX` bytes where these names are
+/// registered.
+///
+/// # Proved
+///
+/// ```text
+/// requires short { length text.now < 2 ^ 32 }
+/// requires text { IfSome (F.text form) (λ t. t ≡ text.now) }
+/// ensures { IfOk result (λ s. ShownText (F.each form)
+///     (record { text = text.now; flags = settings }) names.now s.lines.items s.error) }
+/// ```
+pub(crate) fn show_in<F: Form>(
+    alloc: Global,
+    text: &str,
+    settings: Settings,
+    names: &[String],
+    form: F,
+) -> Result<Showing, AllocError> {
+    let buffer = buffer_of(alloc, text, settings)?;
+    let mut parser = buffer.parser();
+    if let Err(error) = register_all(&mut parser, names) {
+        return Err(refusal_of(&error));
+    }
+    match parser.step(|cursor| lines_from(alloc, form, cursor)) {
+        Ok(showing) => Ok(showing),
+        Err(error) => Err(refusal_of(&error)),
+    }
+}
+
 /// Lists what is shown of a text of at most `u32::MAX` bytes where these names are registered.
 ///
 /// # Proved
 ///
 /// ```text
 /// requires { length text.now < 2 ^ 32 }
-/// ensures { IfOk result (λ s. ShownText (record { text = text.now; flags = settings })
+/// ensures { IfOk result (λ s. ShownText line (record { text = text.now; flags = settings })
 ///     names.now s.lines.items s.error) }
 /// ```
 pub fn show(
@@ -100,13 +163,5 @@ pub fn show(
     settings: Settings,
     names: &[String],
 ) -> Result<Showing, AllocError> {
-    let buffer = buffer_of(alloc, text, settings)?;
-    let mut parser = buffer.parser();
-    if let Err(error) = register_all(&mut parser, names) {
-        return Err(refusal_of(&error));
-    }
-    match parser.step(|cursor| lines_from(alloc, cursor)) {
-        Ok(showing) => Ok(showing),
-        Err(error) => Err(refusal_of(&error)),
-    }
+    show_in(alloc, text, settings, names, PlainLines)
 }

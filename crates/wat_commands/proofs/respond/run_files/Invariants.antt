@@ -1,7 +1,8 @@
 use Rattle.std.proofs.Common.{◌≡◌, length}
 use Rattle.std.specs.Prelude.{nat_lt}
 use Rattle.wat_commands.specs.Options.{file_names}
-use Rattle.wat_commands.specs.Outcomes.{exit_code, task_prints}
+use Rattle.wat_commands.specs.Outcomes.{exit_code}
+use Rattle.wat_commands.specs.Printed.{task_prints}
 use Rattle.wat_commands.specs.Responses.{RanFileOf, label}
 use Rattle.wat_commands.proofs.RespondLaws.{RanSoFar}
 use Rattle.wat_commands.proofs.respond.run_files.Given as goal

@@ -1,5 +1,4 @@
-use Rattle.std.proofs.lemmas.Str.{IsCharBoundary-start}
 use Rattle.wat_format.proofs.stream.format_to.Goals as goal
 
-pub fault_from-requires : goal.fault_from-requires
-fault_from-requires g c = IsCharBoundary-start c.lexer_of-lexer.result.text c.input.ensures.utf8
+pub first_fault-requires : goal.first_fault-requires
+first_fault-requires g c = rw c.with_settings-lexer.ensures.setting c.with_settings-lexer.ensures.start

@@ -1,10 +1,11 @@
 use Rattle.std.proofs.Common.{◌∙◌, ◌+◌, refl, string_bytes}
 use Rattle.std.proofs.lemmas.Str.{IsCharBoundary-start}
 use Rattle.wat_format.specs.Layout.{layout}
+use Rattle.wat_format.specs.declared.stream.WriteError.TheVariants.{Memory}
 use Rattle.wat_format.specs.inside.Writing.{CutsShort}
 use Rattle.wat_format.proofs.Formats.{boundary_after}
 use Rattle.wat_format.proofs.Laying.{few_start, lays_in, on_ok}
-use Rattle.wat_format.proofs.Streaming.{remains_start, formatted_from, remains_next, remains_moved, part_of_block, all_written, part_of_last, cuts_short, on_error, passed_on}
+use Rattle.wat_format.proofs.Streaming.{remains_start, formatted_from, remains_next, remains_drained, part_only, part_of_block, all_written, part_of_last, cuts_short, on_error, passed_on}
 use Rattle.wat_format.proofs.stream.write_laid.Goals as goal
 
 pub tokens-init : goal.tokens-init
@@ -28,10 +29,26 @@ tokens-preserved g c =
       kept = c.in_ok-write_if_full.ensures.failed ∙ c.tokens.invariant.kept;
       answer = answer;
       formatted = c.tokens.invariant.formatted;
-      remains = remains_moved s answer _ _ held _ _ _ _
+      remains = remains_drained s answer _ _ held _ _ _ _
           (remains_next s answer c.tokens.pos c.tokens.formatter held _ c.one_answer.ensures.one (string_bytes c.tokens.block) (string_bytes c.take.new.out) c.take.new.self c.in-Some.token c.tokens.invariant.remains c.in-Some.ensures.some.token
-          (lays_in c.input-text.result.now s.text c.tokens.formatter c.take.new.self c.in-Some.token (string_bytes c.tokens.block) (string_bytes c.take.new.out) c.input-text.ensures.text c.in_ok-take.ensures.written)) c.in_ok-write_if_full.ensures.moved;
+          (lays_in c.input-text.result.now s.text c.tokens.formatter c.take.new.self c.in-Some.token (string_bytes c.tokens.block) (string_bytes c.take.new.out) c.input-text.ensures.text c.in_ok-take.ensures.written)) c.in_ok-write_if_full.ensures.drained;
     }
+
+pub returns-in_err-take-clause-cut : goal.returns-in_err-take-clause-cut
+returns-in_err-take-clause-cut g c =
+    let s = c.args.lexer.now in
+    let held = g.W.Sink.held c.args.output.now in
+    let kept = g.W.Sink.held c.tokens.output in
+    passed_on (CutsShort s held kept) c.from_residual.result (Memory c.in_err-take.field-0.0) c.from_residual.ensures.1
+    (part_only s c.tokens.invariant.answer c.tokens.pos c.tokens.formatter held kept (string_bytes c.tokens.block) c.tokens.invariant.formatted c.tokens.invariant.remains)
+
+pub returns-in_err-finish-clause-cut : goal.returns-in_err-finish-clause-cut
+returns-in_err-finish-clause-cut g c =
+    let s = c.args.lexer.now in
+    let held = g.W.Sink.held c.args.output.now in
+    let kept = g.W.Sink.held c.tokens.output in
+    passed_on (CutsShort s held kept) c.from_residual-in_err-finish.result (Memory c.in_err-finish.field-0.0) c.from_residual-in_err-finish.ensures.1
+    (part_only s c.tokens.invariant.answer c.tokens.pos c.tokens.formatter held kept (string_bytes c.tokens.block) c.tokens.invariant.formatted c.tokens.invariant.remains)
 
 pub returns-in_err-write_if_full-clause-cut : goal.returns-in_err-write_if_full-clause-cut
 returns-in_err-write_if_full-clause-cut g c =

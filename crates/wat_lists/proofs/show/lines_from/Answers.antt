@@ -1,15 +1,18 @@
 use Rattle.std.proofs.Common.{◌∙◌, ap, arith}
-use Rattle.wat_lines.specs.Lines.{line}
-use Rattle.wat_lists.proofs.ShownLaws.{as_lines, readable_short, shown_more, shown_end, shown_reported, seen_found}
+use Rattle.wat_lists.proofs.ShownLaws.{inside_where_known, readable_short, shown_more, shown_end, shown_reported, seen_found}
 use Rattle.wat_lists.proofs.show.lines_from.Goals as goal
 
-pub push_line-requires : goal.push_line-requires
-push_line-requires c =
+pub push-requires : goal.push-requires
+push-requires g c =
+    let s = c.args.from.parser.now.source in
     let token = rw (c.in-Ok-Some.is, c.in-Ok-Some.field-0-is, c.tokens.invariant.parser) at c.any.ensures.reader in
-    readable_short c.args.from.parser.now.source.setting.text c.in-Ok-Some.token c.lemma_sound.ensures.sound.utf8 c.lemma_sound.ensures.sound.short token
+    record {
+      inside = inside_where_known (g.F.Form.text c.args.form) _ s.setting.text c.in-Ok-Some.token c.lemma_sound.ensures.sound.utf8 token c.requires c.tokens.invariant.text;
+      short = readable_short s.setting.text c.in-Ok-Some.token c.lemma_sound.ensures.sound.utf8 c.lemma_sound.ensures.sound.short token;
+    }
 
 pub tokens-preserved : goal.tokens-preserved
-tokens-preserved c =
+tokens-preserved g c =
     let s = c.args.from.parser.now.source in
     let names = c.args.from.parser.now.names in
     let value = rw (c.in-Ok-Some.is, c.in-Ok-Some.field-0-is, c.tokens.invariant.parser) at c.any.ensures.value in
@@ -18,18 +21,20 @@ tokens-preserved c =
     record {
       parser = parser ∙ c.tokens.invariant.parser;
       on = omega (arith, on, c.tokens.invariant.on);
-      shown = shown_more c.all_shown.ensures.looks line s names c.args.from.at c.tokens.cursor.at c.in-Ok-Some.next.at c.tokens.lines.items c.push_line.new.lines.items c.in-Ok-Some.token c.lemma_sound.ensures.sound.utf8 c.lemma_sound.ensures.sound.read
-          c.tokens.invariant.shown (seen_found s names c.tokens.cursor.at _ value) c.in_ok-push_line-in-Ok-Some.ensures;
+      each = c.in_ok-push-in-Ok-Some.ensures.same ∙ c.tokens.invariant.each;
+      text = c.in_ok-push-in-Ok-Some.ensures.same_text ∙ c.tokens.invariant.text;
+      shown = shown_more c.all_shown.ensures.looks (g.F.Form.each c.args.form) s names c.args.from.at c.tokens.cursor.at c.in-Ok-Some.next.at c.tokens.lines.items c.push.new.lines.items c.in-Ok-Some.token c.lemma_sound.ensures.sound.utf8 c.lemma_sound.ensures.sound.read
+          c.tokens.invariant.shown (seen_found s names c.tokens.cursor.at _ value) (rw c.tokens.invariant.each at c.in_ok-push-in-Ok-Some.ensures.lines);
     }
 
 pub returns-in-Ok-None-clause-shown : goal.returns-in-Ok-None-clause-shown
-returns-in-Ok-None-clause-shown c =
+returns-in-Ok-None-clause-shown g c =
     let s = c.args.from.parser.now.source in
     let names = c.args.from.parser.now.names in
     let value = rw (c.in-Ok-None.is, c.in-Ok-None.field-0-is, c.tokens.invariant.parser) at c.any.ensures.value in
-    as_lines (shown_end c.all_shown.ensures.looks line s names c.args.from.at c.tokens.cursor.at c.tokens.lines.items c.lemma_sound.ensures.sound.utf8 c.lemma_sound.ensures.sound.read c.tokens.invariant.shown (seen_found s names c.tokens.cursor.at _ value))
+    shown_end c.all_shown.ensures.looks (g.F.Form.each c.args.form) s names c.args.from.at c.tokens.cursor.at c.tokens.lines.items c.lemma_sound.ensures.sound.utf8 c.lemma_sound.ensures.sound.read c.tokens.invariant.shown (seen_found s names c.tokens.cursor.at _ value)
 
 pub returns-in-Err-2-clause-shown : goal.returns-in-Err-2-clause-shown
-returns-in-Err-2-clause-shown c =
-    as_lines (shown_reported c.all_shown.ensures.looks line c.tokens.cursor.parser.now c.args.from.parser.now c.args.from.at c.tokens.cursor.at c.tokens.lines.items _ c.any.result c.in-Err.error c.is_out_of_memory.result c.lemma_sound.ensures.sound.utf8 c.lemma_sound.ensures.sound.read
-    c.tokens.invariant.shown c.any.ensures.value c.in-Err.is (ap (λ p. p.now) c.tokens.invariant.parser) c.if-is_out_of_memory.false c.is_out_of_memory.ensures.1)
+returns-in-Err-2-clause-shown g c =
+    shown_reported c.all_shown.ensures.looks (g.F.Form.each c.args.form) c.tokens.cursor.parser.now c.args.from.parser.now c.args.from.at c.tokens.cursor.at c.tokens.lines.items _ c.any.result c.in-Err.error c.is_out_of_memory.result c.lemma_sound.ensures.sound.utf8 c.lemma_sound.ensures.sound.read
+    c.tokens.invariant.shown c.any.ensures.value c.in-Err.is (ap (λ p. p.now) c.tokens.invariant.parser) c.if-is_out_of_memory.false c.is_out_of_memory.ensures.1

@@ -7,5 +7,5 @@ pub returns : goal.returns
 returns c =
     let used = c.self.inside.used in
     let bytes = c.self.inside.bytes in
-    over_piece used c.put_line.result bytes c.put_line.new.room c.put_line.new.room _ (omega (arith, c.self.invariant, c.self.known)) c.put_line.ensures.end refl
+    over_piece used c.put_line.result bytes c.put_line.new.room c.put_line.new.room _ (omega (arith, c.self.invariant, c.self.told)) c.put_line.ensures.end refl
     ∙ ap (λ x. take used bytes ++ x) c.put_line.ensures.line ∙ ap (λ x. x ++ line c.args.token.now) c.self.view_is
