@@ -70,8 +70,7 @@ fn byte_escape(text: &str) -> Option<(u8, &str)>
 fn first_escape(elements: &str) -> (EscapeValue, &str)
     requires quoted { IsQuoted (chars elements.now) }
     requires first { IsFirstByte (is_byte 92) elements.now (Some 0) }
-    ensures element {
-        Element lenient (chars elements.now) (escape_bytes result.0) (chars result.1.now) }
+    ensures element { Element lenient (chars elements.now) (escape_bytes result.0) (chars result.1.now) }
     ensures utf8 { IsUtf8 result.1.now }
     ensures shorter { length result.1.now < length elements.now }
 {

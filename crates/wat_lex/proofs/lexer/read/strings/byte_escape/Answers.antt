@@ -1,4 +1,4 @@
-use Rattle.std.proofs.Common.{sym, ap, ◌∙◌, subst, ◌≡◌, ◌+◌, ◌*◌, ℕ, List, [], ◌∷◌, drop}
+use Rattle.std.proofs.Common.{sym, ap, ◌∙◌, subst, ◌≡◌, ◌+◌, ◌*◌, [], ◌∷◌, drop}
 use Rattle.std.proofs.lemmas.Bool.Decides.{when_true}
 use Rattle.std.specs.Prelude.{slice_index}
 use Rattle.std.specs.Char.{digit_value}
@@ -6,7 +6,7 @@ use Rattle.std.specs.Str.{chars}
 use Rattle.wat_lex.specs.grammar.Strings.{Element}
 use Rattle.wat_lex.specs.inside.ScannedStrings.{BeginsByteEscape}
 use Rattle.wat_lex.specs.tokens.Setting.{lenient}
-use Rattle.wat_lex.proofs.inside.StringElements.{ByteEscape, byte_escaped}
+use Rattle.wat_lex.proofs.inside.StringElements.{byte_escaped}
 use Rattle.wat_lex.proofs.lexer.read.strings.byte_escape.Goals as goal
 
 pub range_from-requires : goal.range_from-requires

@@ -18,7 +18,7 @@ elements-preserved-in-Some c =
     let after = c.in-Some.after.now in (
       c.in-Some.ensures.utf8,
       subst (Reading c.args.elements.now after) (sym c.in_ok-push.ensures.items)
-      (reading_element c.args.elements.now rest c.elements.value.items after (c.in-Some.byte ∷ []) c.elements.invariant.1 c.in-Some.ensures.element c.in-Some.ensures.utf8),
+          (reading_element c.args.elements.now rest c.elements.value.items after (c.in-Some.byte ∷ []) c.elements.invariant.1 c.in-Some.ensures.element c.in-Some.ensures.utf8),
     )
 
 pub elements-preserved-in-Some-eq0 : goal.elements-preserved-in-Some-eq0
@@ -27,8 +27,8 @@ elements-preserved-in-Some-eq0 c =
     let after = c.first_escape-read.result.1.now in (
       c.first_escape-read.ensures.utf8,
       subst (Reading c.args.elements.now after) (sym c.in_ok-append-in-Some-eq0.ensures)
-      (reading_element c.args.elements.now rest c.elements.value.items after (escape_bytes c.first_escape-read.result.0) c.elements.invariant.1
-      c.first_escape-read.ensures.element c.first_escape-read.ensures.utf8),
+          (reading_element c.args.elements.now rest c.elements.value.items after (escape_bytes c.first_escape-read.result.0) c.elements.invariant.1
+          c.first_escape-read.ensures.element c.first_escape-read.ensures.utf8),
     )
 
 pub elements-preserved : goal.elements-preserved
@@ -41,7 +41,7 @@ elements-preserved c =
     let h = reading_plain c.args.elements.now rest done n c.elements.invariant.1 first in (
       c.range_from-rest.utf8,
       subst (λ x. Reading c.args.elements.now x c.extend_from_slice.new.self.items) (sym c.range_from-rest.ensures.value)
-      (subst (Reading c.args.elements.now (drop n rest)) (sym items) h),
+          (subst (Reading c.args.elements.now (drop n rest)) (sym items) h),
     )
 
 pub slice_bounds-extend_from_slice-count : goal.slice_bounds-extend_from_slice-count
