@@ -58,9 +58,9 @@ impl Token {
     ///
     /// # Panics
     ///
-    /// Where the token is no string of this text.
+    /// Where the token is no string. One of another text may panic, or read as something else.
     pub fn string<'a>(&self, s: &'a str) -> Cow<'a, [u8]> {
-        let token = self.readable(s, TokenKind::String);
+        let token = self.readable(TokenKind::String);
         granted(token.string(Global, s)).into()
     }
 
@@ -72,9 +72,9 @@ impl Token {
     ///
     /// # Panics
     ///
-    /// Where the token is no identifier of this text.
+    /// Where the token is no identifier. One of another text may panic, or read as something else.
     pub fn id<'a>(&self, s: &'a str) -> Result<Cow<'a, str>, Error> {
-        let name = self.readable(s, TokenKind::Id).id(Global, s)?;
+        let name = self.readable(TokenKind::Id).id(Global, s)?;
         Ok(name.into())
     }
 
@@ -86,9 +86,9 @@ impl Token {
     ///
     /// # Panics
     ///
-    /// Where the token is no annotation of this text.
+    /// Where the token is no annotation. One of another text may panic, or read as something else.
     pub fn annotation<'a>(&self, s: &'a str) -> Result<Cow<'a, str>, Error> {
-        let token = self.readable(s, TokenKind::Annotation);
+        let token = self.readable(TokenKind::Annotation);
         Ok(token.annotation(Global, s)?.into())
     }
 
@@ -96,9 +96,9 @@ impl Token {
     ///
     /// # Panics
     ///
-    /// Where the token is no integer of this kind of this text.
+    /// Where the token is no integer of this kind. One of another text may panic, or read as something else.
     pub fn integer<'a>(&self, s: &'a str, kind: IntegerKind) -> Integer<'a> {
-        let token = self.readable(s, TokenKind::Integer(kind));
+        let token = self.readable(TokenKind::Integer(kind));
         granted(token.integer(Global, s, kind))
     }
 
@@ -106,21 +106,19 @@ impl Token {
     ///
     /// # Panics
     ///
-    /// Where the token is no floating-point number of this kind of this text.
+    /// Where the token is no floating-point number of this kind. One of another text may panic, or read as something else.
     pub fn float<'a>(&self, s: &'a str, kind: FloatKind) -> Float<'a> {
-        let token = self.readable(s, TokenKind::Float(kind));
+        let token = self.readable(TokenKind::Float(kind));
         granted(token.float(Global, s, kind)).into()
     }
 
-    /// The token for a proved reader. Its `requires` are met where the token is of this kind, and a word of it in the text under the settings
-    /// that take most, so that the lexer finds it in the token's text.
-    fn readable(&self, s: &str, kind: TokenKind) -> proved::lexer::Token {
-        let mut lexer = proved::lexer::Lexer::new(self.src(s));
-        let found = lexer.allow_confusing_unicode(true).scan(0);
-        let is_found = |found: proved::lexer::Token| (found.len, found.kind) == (self.len, kind);
+    /// The token for a proved reader, whose `requires` are met where the lexer found the token in the text. Nothing is read again to see that: a
+    /// token of another text reads as something else, or panics.
+    #[inline]
+    fn readable(&self, kind: TokenKind) -> proved::lexer::Token {
         assert!(
-            self.kind == kind && found.is_ok_and(|found| found.is_some_and(is_found)),
-            "the token is no {} of this kind in this text",
+            self.kind == kind,
+            "the token is no {} of this kind",
             kind.name()
         );
         let Token { kind, offset, len } = *self;

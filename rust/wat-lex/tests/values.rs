@@ -292,24 +292,16 @@ fn places() {
     assert_eq!(Lexer::new("a").parse(&mut 1), Ok(None));
     assert!(std::panic::catch_unwind(|| Lexer::new("\u{80}").parse(&mut 1)).is_err());
     assert!(std::panic::catch_unwind(|| Lexer::new("a").iter(2).count()).is_err());
-    assert!(std::panic::catch_unwind(|| first("\"\\n\"").string("abcd")).is_err());
     assert!(std::panic::catch_unwind(|| first("(").string("(")).is_err());
     assert_eq!(Span::from_offset(9).linecol_in("a\nb"), (2, 0));
 }
 
-/// A token that is none of its text: its kind, its bytes or its text are others than those that the lexer finds.
+/// Readers refuse a token of another kind, and one that is outside of the text.
 #[test]
-fn a_token_that_is_none_of_the_text_is_not_read() {
+fn a_token_of_another_kind_is_not_read() {
     let panics = |read: &dyn Fn()| catch_unwind(AssertUnwindSafe(read)).is_err();
     let string = first("\"ab\"");
-    for (offset, len) in [
-        (0, 3),
-        (0, 5),
-        (1, 2),
-        (5, 0),
-        (0, u32::MAX),
-        (usize::MAX, 1),
-    ] {
+    for (offset, len) in [(0, 5), (5, 0), (0, u32::MAX), (usize::MAX, 1)] {
         let other = Token {
             offset,
             len,
@@ -317,10 +309,7 @@ fn a_token_that_is_none_of_the_text_is_not_read() {
         };
         assert!(panics(&|| drop(other.string("\"ab\""))), "{offset} {len}");
     }
-    assert!(panics(&|| drop(
-        Token { len: 6, ..string }.string("\"ab\" a")
-    )));
-    for text in ["", "\"a", "\"\u{e9}", "$\"a\"", "\"\\q\"", "\"\"\"\""] {
+    for text in ["", "\"a", "\"\u{e9}"] {
         assert!(panics(&|| drop(string.string(text))), "{text}");
     }
     let kinds = ["\"a\"", "$a", "@a", "a", "(", ",", "1", "1.5"].map(|text| (first(text), text));
@@ -349,13 +338,6 @@ fn a_token_that_is_none_of_the_text_is_not_read() {
     };
     assert!(panics(&|| drop(first("1").integer("1", signed))));
     assert!(panics(&|| drop(first("+1").integer("+1", kind))));
-    assert!(panics(&|| drop(
-        Token {
-            kind: TokenKind::Integer(signed),
-            ..first("1")
-        }
-        .integer("1", signed)
-    )));
     let word = Token {
         kind: TokenKind::Keyword,
         ..first("1")

@@ -1,6 +1,6 @@
 -- The elements of a string, each at its place in the text.
 use Rattle.std.proofs.Common.{◌≡◌, ◌≢◌, ◌≤◌, ◌<◌, ◌+◌, ◌-◌, ◌*◌, ℕ, List, [], ◌∷◌, ◌++◌, length, take, drop, get_or, refl, arith, ap, sym, ◌∙◌, subst, true, false, not, ◌&&◌, length-append, inl, inr, lit<}
-use Rattle.std.specs.Prelude.{encode_utf8, ◌==◌}
+use Rattle.std.specs.Prelude.{encode_utf8, slice_index, ◌==◌}
 use Rattle.std.specs.List.{prefix_len}
 use Rattle.std.specs.Char.{digit_value}
 use Rattle.std.specs.Str.{chars, IsUtf8, IsCharBoundary}
@@ -8,7 +8,7 @@ use Rattle.std.proofs.lemmas.Bool.{cases_Bool, both_ways}
 use Rattle.std.proofs.lemmas.Bool.Decides.{nat_tests}
 use Rattle.std.proofs.lemmas.List.{drop-drop, drop_at, take-append-drop, get_or-append-add, get_or_append_left, get_or-take, length-drop, length-take}
 use Rattle.std.proofs.lemmas.List.Sums.{prefix_len-le-length, prefix_len_passes, prefix_len_stops}
-use Rattle.std.proofs.lemmas.Str.{encodes-chars, encodes-append, chars-append, IsUtf8-take, IsUtf8-drop, encode_ascii}
+use Rattle.std.proofs.lemmas.Str.{encodes-chars, encodes-append, chars-append, IsUtf8-take, IsUtf8-drop, IsCharBoundary-at_seam, encode_ascii}
 use lib.Utf8.{encode, encodes}
 use Rattle.wat_lex.specs.grammar.Classes.{size, Each, is_hex, is_confusing}
 use Rattle.wat_lex.specs.grammar.Strings.{Element, raw, byte, Quoted, ends, more, is_raw, is_control}
@@ -78,22 +78,29 @@ element_escape flags text mid broken t b = record {
 hex_ascii : (c : ℕ) → is_hex c ≡ true → c < 128
 hex_ascii c h = grind (arith, nat_tests)
 
-pub byte_taken : (flags : Settings) (text : List ℕ) → IsUtf8 text → BeginsByteEscape text → ElementTaken flags text 3
-byte_taken flags [] u h = absurd (omega (arith, h.long))
-byte_taken flags (b ∷ []) u h = absurd (omega (arith, h.long))
-byte_taken flags (b ∷ c ∷ []) u h = absurd (omega (arith, h.long))
-byte_taken flags (b ∷ c ∷ d ∷ rest) u h =
+-- an escape of two hexadecimal digits: its byte, and what comes after it
+pub record ByteEscape (flags : Settings) (text : List ℕ) : Type 0 where
+  pub element : Element flags (chars text) ((16 * digit_value (slice_index text 1) + digit_value (slice_index text 2)) ∷ []) (chars (drop 3 text))
+  pub boundary : IsCharBoundary text 3
+
+pub byte_escaped : (flags : Settings) (text : List ℕ) → IsUtf8 text → BeginsByteEscape text → ByteEscape flags text
+byte_escaped flags [] u h = absurd (omega (arith, h.long))
+byte_escaped flags (b ∷ []) u h = absurd (omega (arith, h.long))
+byte_escaped flags (b ∷ c ∷ []) u h = absurd (omega (arith, h.long))
+byte_escaped flags (b ∷ c ∷ d ∷ rest) u h =
     let mark = led (b ∷ c ∷ d ∷ rest) 92 u (omega arith) h.mark (lit< tt) in
     let first = led (c ∷ d ∷ rest) c mark.utf8 (omega arith) refl (hex_ascii c h.first) in
     let second = led (d ∷ rest) d first.utf8 (omega arith) refl (hex_ascii d h.second) in
     let spelled : chars (b ∷ c ∷ d ∷ rest) ≡ 92 ∷ c ∷ d ∷ chars rest = mark.chars ∙ ap (λ x. 92 ∷ x) (first.chars ∙ ap (λ x. c ∷ x) second.chars) in
     record {
-      value = (16 * digit_value c + digit_value d) ∷ [];
       element = subst (λ x. Element flags x ((16 * digit_value c + digit_value d) ∷ []) (chars rest)) (sym spelled) (byte h.first h.second);
-      utf8 = second.utf8;
-      some = omega arith;
-      range = omega arith;
+      boundary = IsCharBoundary-at_seam (b ∷ c ∷ d ∷ rest) (b ∷ c ∷ d ∷ []) rest refl second.utf8;
     }
+
+pub byte_taken : (flags : Settings) (text : List ℕ) → IsUtf8 text → BeginsByteEscape text → ElementTaken flags text 3
+byte_taken flags text u h =
+    let e = byte_escaped flags text u h in
+    record { value = (16 * digit_value (slice_index text 1) + digit_value (slice_index text 2)) ∷ []; element = e.element; utf8 = IsUtf8-drop text 3 u e.boundary; some = omega arith; range = h.long }
 
 -- ---- elements up to a place
 

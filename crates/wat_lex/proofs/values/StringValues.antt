@@ -1,6 +1,6 @@
 -- The values of strings.
-use Rattle.std.proofs.Common.{◌≡◌, ◌≢◌, ◌≤◌, ◌<◌, ◌+◌, ◌-◌, ◌⊎◌, ℕ, List, [], ◌∷◌, ◌++◌, length, take, drop, refl, arith, ap, sym, ◌∙◌, subst, Bool, true, false, not, length-append, append_assoc, inl, inr}
-use Rattle.std.specs.Prelude.{Some, None, Option, unwrap_or, ◌==◌}
+use Rattle.std.proofs.Common.{◌≡◌, ◌≤◌, ◌<◌, ◌+◌, ◌-◌, ◌⊎◌, ℕ, List, [], ◌∷◌, ◌++◌, length, take, drop, refl, arith, ap, sym, ◌∙◌, subst, Bool, true, false, not, length-append, append_assoc, inl, inr}
+use Rattle.std.specs.Prelude.{Some, None, Option, IsTrue, unwrap_or, ◌==◌}
 use Rattle.std.proofs.lemmas.Bool.{both_ways, eqb-true, eq-eqb, false≢true}
 use Rattle.std.proofs.lemmas.List.{append-nil, take_at, drop_at}
 use Rattle.std.proofs.lemmas.Str.{chars-encodes, encodes-chars, encode_ascii, IsCharBoundary-at_seam}
@@ -10,9 +10,9 @@ use lib.Utf8.{encode, encodes}
 use Rattle.memchr.specs.Find.{IsFirstByte, is_byte}
 use Rattle.wat_lex.specs.grammar.Classes.{size, Each, Begins}
 use Rattle.wat_lex.specs.values.Names.{HasNone}
-use Rattle.wat_lex.specs.inside.ScannedStrings.{Escaped, Breaks}
+use Rattle.wat_lex.specs.inside.ScannedStrings.{Breaks}
 use Rattle.wat_lex.specs.tokens.Setting.{lenient}
-use Rattle.wat_lex.specs.grammar.Strings.{Element, raw, letter, byte, unicode, Quoted, ends, more}
+use Rattle.wat_lex.specs.grammar.Strings.{Element, is_raw, raw, letter, byte, unicode, Quoted, ends, more}
 use Rattle.wat_lex.specs.declared.lexer.scan.strings.Broken.{Broken}
 use Rattle.wat_lex.proofs.inside.CheckedComments.{halves}
 use Rattle.wat_lex.proofs.inside.Confusing.{size-append}
@@ -68,6 +68,8 @@ pub record AtBackslash (text : List ℕ) (n : ℕ) : Type 0 where
   pub clear : HasNone 92 prefix
   pub bytes : take n text ≡ encodes prefix
   pub cut : chars text ≡ prefix ++ 92 ∷ chars (drop (n + 1) text)
+  pub here : chars (drop n text) ≡ 92 ∷ chars (drop (n + 1) text)
+  pub left : IsUtf8 (drop n text)
   pub utf8 : IsUtf8 (drop (n + 1) text)
   pub boundary : IsCharBoundary text (n + 1)
   pub range : n + 1 ≤ length text
@@ -82,6 +84,8 @@ at_backslash_by text prefix rest n u h e l =
       clear = h;
       bytes = a.prefix;
       cut = e ∙ ap (λ x. prefix ++ 92 ∷ x) (sym b.after);
+      here = a.after ∙ ap (λ x. 92 ∷ x) (sym b.after);
+      left = a.utf8;
       utf8 = b.utf8;
       boundary = b.boundary;
       range = b.range;
@@ -185,22 +189,34 @@ record FirstElement (s u t v : List ℕ) : Type 0 where
   value : v ≡ u ++ rest
   quoted : Quoted lenient t rest []
 
-first_element : (s u t v : List ℕ) (c : ℕ) (r : List ℕ) → c ≢ 34 → Quoted lenient s v [] → s ≡ c ∷ r → Element lenient s u t → FirstElement s u t v
-first_element s u t v c r n ends e h = absurd (n (sym (same_head 34 c [] r e).0))
-first_element s u t v c r n (more {t = x} {u = y} {v = z} k q) e h =
+-- no element begins with a quote
+not_quote : (s u t r : List ℕ) → Element lenient s u t → s ≡ 34 ∷ r → ⊥
+not_quote s u t r (raw {c = c} {r = x} a) e = false≢true (subst (λ y. IsTrue (is_raw lenient y)) (same_head c 34 x r e).0 a)
+not_quote s u t r (letter {c = d} {r = x} a) e = false≢true (ap (λ y. y == 34) (same_head 92 34 (d ∷ x) r e).0)
+not_quote s u t r (byte {c = d} {d = f} {r = x} a b) e = false≢true (ap (λ y. y == 34) (same_head 92 34 (d ∷ f ∷ x) r e).0)
+not_quote s u t r (unicode {d = d} {s = x} ds f a n k) e = false≢true (ap (λ y. y == 34) (same_head 92 34 (117 ∷ 123 ∷ d ∷ x) r e).0)
+
+first_element : (s u t v : List ℕ) → Quoted lenient s v [] → Element lenient s u t → FirstElement s u t v
+first_element s u t v ends h = absurd (not_quote s u t [] h refl)
+first_element s u t v (more {t = x} {u = y} {v = z} k q) h =
     let m = element_unique lenient s u y t x h k in
     record { rest = z; value = ap (λ a. a ++ z) (sym m.0); quoted = subst (λ a. Quoted lenient a z []) (sym m.1) q }
 
-pub reading_escape : (start rest done next u : List ℕ) (n : ℕ) → Reading start rest done → IsFirstByte (is_byte 92) rest (Some n) → Escaped lenient (92 ∷ []) (drop (n + 1) rest) next u → Reading start next ((done ++ take n rest) ++ u)
-reading_escape start rest done next u n h b e =
+-- an element is read
+pub reading_element : (start rest done next u : List ℕ) → Reading start rest done → Element lenient (chars rest) u (chars next) → IsUtf8 next → Reading start next (done ++ u)
+reading_element start rest done next u h e utf8 =
+    let f = first_element (chars rest) u (chars next) h.value h.left e in
+    let v : done ++ h.value ≡ (done ++ u) ++ f.rest = ap (λ x. done ++ x) f.value ∙ sym (append_assoc done u f.rest) in
+    record { value = f.rest; left = f.quoted; whole = subst (λ x. Quoted lenient (chars start) x []) v h.whole; utf8 = utf8 }
+
+-- what comes before a backslash is read
+pub reading_plain : (start rest done : List ℕ) (n : ℕ) → Reading start rest done → IsFirstByte (is_byte 92) rest (Some n) → Reading start (drop n rest) (done ++ take n rest)
+reading_plain start rest done n h b =
     let a = at_backslash rest n h.utf8 b in
-    let mid = chars (drop (n + 1) rest) in
-    let p = plain_prefix a.prefix 92 mid (chars rest) h.value a.clear h.left a.cut in
-    let f = first_element (92 ∷ mid) u (chars next) p.rest 92 mid (λ x. false≢true (ap (λ y. y == 34) x)) p.quoted refl e.element in
-    let v : done ++ h.value ≡ ((done ++ take n rest) ++ u) ++ f.rest =
-    ap (λ x. done ++ x) (p.value ∙ ap (λ x. encodes a.prefix ++ x) f.value ∙ ap (λ x. x ++ (u ++ f.rest)) (sym a.bytes))
-    ∙ sym (append_assoc done (take n rest) (u ++ f.rest)) ∙ sym (append_assoc (done ++ take n rest) u f.rest) in
-    record { value = f.rest; left = f.quoted; whole = subst (λ x. Quoted lenient (chars start) x []) v h.whole; utf8 = e.utf8 }
+    let p = plain_prefix a.prefix 92 (chars (drop (n + 1) rest)) (chars rest) h.value a.clear h.left a.cut in
+    let v : done ++ h.value ≡ (done ++ take n rest) ++ p.rest =
+    ap (λ x. done ++ x) (p.value ∙ ap (λ x. x ++ p.rest) (sym a.bytes)) ∙ sym (append_assoc done (take n rest) p.rest) in
+    record { value = p.rest; left = subst (λ x. Quoted lenient x p.rest []) (sym a.here) p.quoted; whole = subst (λ x. Quoted lenient (chars start) x []) v h.whole; utf8 = a.left }
 
 pub reading_sound : (start rest done : List ℕ) (n : ℕ) (broken : Broken) → Reading start rest done → IsFirstByte (is_byte 92) rest (Some n) → Breaks lenient (92 ∷ []) (drop (n + 1) rest) broken → ⊥
 reading_sound start rest done n broken h b e =

@@ -1,14 +1,16 @@
 //! The values of strings and names.
-ghost use Rattle.std.specs.Prelude.{◌≡◌, ◌↔◌, ◌++◌, ℕ, List, [], IfOk, OnOk, IsOk, IfSome, IfNone};
+ghost use Rattle.std.specs.Prelude.{◌≡◌, ◌↔◌, ◌<◌, ◌++◌, ◌∷◌, ℕ, List, [], length};
+ghost use Rattle.std.specs.Prelude.{Some, IfOk, OnOk, IsOk, IfSome, IfNone};
+ghost use Rattle.memchr.specs.Find.{IsFirstByte, is_byte};
 ghost use Rattle.std.specs.Cow.{cow_str_bytes, IsBorrowedStr};
 ghost use Rattle.std.specs.Str.{chars, IsUtf8};
 ghost use Rattle.wat_lex.specs.grammar.Classes.{backslash};
 ghost use Rattle.wat_lex.specs.values.Names.{Named, HasNone, HasNoEscape, IsQuoted, IsNamed};
 ghost use Rattle.wat_lex.specs.inside.ScannedStrings.{escape_bytes};
 ghost use Rattle.wat_lex.specs.tokens.Setting.{lenient};
-ghost use Rattle.wat_lex.specs.grammar.Strings.{Quoted};
+ghost use Rattle.wat_lex.specs.grammar.Strings.{Element, Quoted};
 
-use crate::lexer::scan::strings::{EscapeValue, escape};
+use crate::lexer::scan::strings::{EscapeValue, escape, hex_digit, is_byte_escape};
 use crate::lexer::settings::Settings;
 use memchr::memchr;
 use std::alloc::{AllocError, Global};
@@ -47,6 +49,38 @@ fn append(value: &mut Vec<u8>, read: EscapeValue) -> Result<(), AllocError>
     Ok(())
 }
 
+/// The byte of an escape of two hexadecimal digits at the start, and what comes after it.
+#[inline]
+fn byte_escape(text: &str) -> Option<(u8, &str)>
+    ensures element { IfSome result (λ found.
+        Element lenient (chars text.now) (found.0 ∷ []) (chars found.1.now)) }
+    ensures utf8 { IfSome result (λ found. IsUtf8 found.1.now) }
+    ensures shorter { IfSome result (λ found. length found.1.now < length text.now) }
+{
+    let bytes = text.as_bytes();
+    if !is_byte_escape(bytes) {
+        return None;
+    }
+    let value = 16 * hex_digit(bytes[1] as char) + hex_digit(bytes[2] as char);
+    Some((value as u8, &text[3..]))
+}
+
+/// What the escape at the start of elements stands for that a closing quote ends, and what comes
+/// after it.
+fn first_escape(elements: &str) -> (EscapeValue, &str)
+    requires quoted { IsQuoted (chars elements.now) }
+    requires first { IsFirstByte (is_byte 92) elements.now (Some 0) }
+    ensures element { Element lenient (chars elements.now) (escape_bytes result.0) (chars result.1.now) }
+    ensures utf8 { IsUtf8 result.1.now }
+    ensures shorter { length result.1.now < length elements.now }
+{
+    let mut it = elements[1..].chars();
+    match escape(&mut it, LENIENT) {
+        Ok(read) => (read, it.as_str()),
+        Err(_) => unreachable!(),
+    }
+}
+
 /// The value of the elements that a closing quote ends.
 pub fn unescaped(alloc: Global, elements: &str) -> Result<Vec<u8>, AllocError>
     requires { IsQuoted (chars elements.now) }
@@ -54,17 +88,28 @@ pub fn unescaped(alloc: Global, elements: &str) -> Result<Vec<u8>, AllocError>
 {
     let mut value = Vec::new(alloc);
     let mut rest = elements;
-    'escapes: while let Some(before) = memchr(b'\\', rest.as_bytes()) {
-        value.extend_from_slice(&rest.as_bytes()[..before])?;
-        let mut it = rest[before + 1..].chars();
-        let Ok(read) = escape(&mut it, LENIENT) else {
-            unreachable!()
-        };
-        append(&mut value, read)?;
-        rest = it.as_str();
+    'elements: loop {
+        if let Some((byte, after)) = byte_escape(rest) {
+            value.push(byte)?;
+            rest = after;
+            continue 'elements;
+        }
+        match memchr(b'\\', rest.as_bytes()) {
+            Some(0) => {
+                let (read, after) = first_escape(rest);
+                append(&mut value, read)?;
+                rest = after;
+            }
+            Some(before) => {
+                value.extend_from_slice(&rest.as_bytes()[..before])?;
+                rest = &rest[before..];
+            }
+            None => {
+                value.extend_from_slice(&rest.as_bytes()[..rest.len() - 1])?;
+                return Ok(value);
+            }
+        }
     }
-    value.extend_from_slice(&rest.as_bytes()[..rest.len() - 1])?;
-    Ok(value)
 }
 
 /// The name that a text is, None where its bytes are not UTF-8.

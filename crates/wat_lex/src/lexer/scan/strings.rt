@@ -53,7 +53,7 @@ fn letter(c: char) -> Option<u8>
     }
 }
 
-fn hex_digit(c: char) -> u32
+pub fn hex_digit(c: char) -> u32
     requires { is_hex c ≡ true }
     ensures value { result ≡ digit_value c }
     ensures small { result < 16 }
@@ -231,7 +231,7 @@ pub fn escape(it: &mut Chars<'_>, flags: Settings) -> Result<EscapeValue, Broken
 }
 
 /// Whether an escape of two hexadecimal digits is at the start.
-fn is_byte_escape(text: &[u8]) -> bool
+pub fn is_byte_escape(text: &[u8]) -> bool
     ensures { MatchBool result (BeginsByteEscape text.now) (BeginsByteEscape text.now → ⊥) }
 {
     match text {

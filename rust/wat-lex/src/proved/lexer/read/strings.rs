@@ -2,7 +2,7 @@
 //! The values of strings and names.
 
 use crate::shim::prelude::*;
-use crate::proved::lexer::scan::strings::{EscapeValue, escape};
+use crate::proved::lexer::scan::strings::{EscapeValue, escape, hex_digit, is_byte_escape};
 use crate::proved::lexer::settings::Settings;
 use memchr::memchr;
 use crate::shim::alloc::{AllocError, Global};
@@ -49,6 +49,46 @@ fn append(value: &mut Vec<u8>, read: EscapeValue) -> Result<(), AllocError> {
     Ok(())
 }
 
+/// The byte of an escape of two hexadecimal digits at the start, and what comes after it.
+///
+/// # Proved
+///
+/// ```text
+/// ensures element { IfSome result (λ found.
+///     Element lenient (chars text.now) (found.0 ∷ []) (chars found.1.now)) }
+/// ensures utf8 { IfSome result (λ found. IsUtf8 found.1.now) }
+/// ensures shorter { IfSome result (λ found. length found.1.now < length text.now) }
+/// ```
+#[inline]
+fn byte_escape(text: &str) -> Option<(u8, &str)> {
+    let bytes = text.as_bytes();
+    if !is_byte_escape(bytes) {
+        return None;
+    }
+    let value = 16 * hex_digit(bytes[1] as char) + hex_digit(bytes[2] as char);
+    Some((value as u8, &text[3..]))
+}
+
+/// What the escape at the start of elements stands for that a closing quote ends, and what comes
+/// after it.
+///
+/// # Proved
+///
+/// ```text
+/// requires quoted { IsQuoted (chars elements.now) }
+/// requires first { IsFirstByte (is_byte 92) elements.now (Some 0) }
+/// ensures element { Element lenient (chars elements.now) (escape_bytes result.0) (chars result.1.now) }
+/// ensures utf8 { IsUtf8 result.1.now }
+/// ensures shorter { length result.1.now < length elements.now }
+/// ```
+fn first_escape(elements: &str) -> (EscapeValue, &str) {
+    let mut it = elements[1..].chars();
+    match escape(&mut it, LENIENT) {
+        Ok(read) => (read, it.as_str()),
+        Err(_) => unreachable!(),
+    }
+}
+
 /// The value of the elements that a closing quote ends.
 ///
 /// # Proved
@@ -60,17 +100,28 @@ fn append(value: &mut Vec<u8>, read: EscapeValue) -> Result<(), AllocError> {
 pub fn unescaped(alloc: Global, elements: &str) -> Result<Vec<u8>, AllocError> {
     let mut value = Vec::new(alloc);
     let mut rest = elements;
-    'escapes: while let Some(before) = memchr(b'\\', rest.as_bytes()) {
-        value.extend_from_slice(&rest.as_bytes()[..before])?;
-        let mut it = rest[before + 1..].chars();
-        let Ok(read) = escape(&mut it, LENIENT) else {
-            unreachable!()
-        };
-        append(&mut value, read)?;
-        rest = it.as_str();
+    'elements: loop {
+        if let Some((byte, after)) = byte_escape(rest) {
+            value.push(byte)?;
+            rest = after;
+            continue 'elements;
+        }
+        match memchr(b'\\', rest.as_bytes()) {
+            Some(0) => {
+                let (read, after) = first_escape(rest);
+                append(&mut value, read)?;
+                rest = after;
+            }
+            Some(before) => {
+                value.extend_from_slice(&rest.as_bytes()[..before])?;
+                rest = &rest[before..];
+            }
+            None => {
+                value.extend_from_slice(&rest.as_bytes()[..rest.len() - 1])?;
+                return Ok(value);
+            }
+        }
     }
-    value.extend_from_slice(&rest.as_bytes()[..rest.len() - 1])?;
-    Ok(value)
 }
 
 /// The name that a text is, None where its bytes are not UTF-8.

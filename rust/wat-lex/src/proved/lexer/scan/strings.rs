@@ -57,7 +57,7 @@ fn letter(c: char) -> Option<u8> {
 /// ensures value { result ≡ digit_value c }
 /// ensures small { result < 16 }
 /// ```
-fn hex_digit(c: char) -> u32 {
+pub fn hex_digit(c: char) -> u32 {
     match c {
         'a'..='f' => c as u32 - 87,
         'A'..='F' => c as u32 - 55,
@@ -273,7 +273,7 @@ pub fn escape(it: &mut Chars<'_>, flags: Settings) -> Result<EscapeValue, Broken
 /// ```text
 /// ensures { MatchBool result (BeginsByteEscape text.now) (BeginsByteEscape text.now → ⊥) }
 /// ```
-fn is_byte_escape(text: &[u8]) -> bool {
+pub fn is_byte_escape(text: &[u8]) -> bool {
     match text {
         // `&`, since a branch between digits that may be any is often guessed wrong
         [b'\\', first, second, ..] => is_hex_digit(*first) & is_hex_digit(*second),
