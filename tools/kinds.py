@@ -31,6 +31,16 @@ def real_number():
         "-%d.5" % RNG.randrange(1000), "nan:0x7fffff", "inf"])
 
 
+def data():
+    """A segment of a module's data: letters, and escapes of two digits."""
+    bytes_ = [RNG.randrange(256) for _ in range(RNG.randint(16, 400))]
+    return "".join(chr(byte) if chr(byte) in IDCHARS[:62] and RNG.random() < 0.9 else "\\%02x" % byte for byte in bytes_)
+
+
+def prose():
+    return "".join(RNG.choice(["the value was ", "line %d" % RNG.randrange(1000), "\\n", "\\22", "caf\\u{e9} "]) for _ in range(RNG.randint(1, 9)))
+
+
 def many(piece, size):
     """Pieces, in ever new order, until they have the size."""
     block = [piece() for _ in range(4000)]
@@ -59,6 +69,13 @@ PIECES = {
     "strings_long": lambda: '"' + some(PLAIN, 1000, 1000) + '" ',
     "strings_escapes": lambda: '"' + "".join("\\%02x" % RNG.randrange(256) for _ in range(RNG.randint(4, 40))) + '" ',
     "strings_unicode": lambda: '"' + some("äöé漢字😀ab", 4, 20) + '" ',
+    "strings_mixed": lambda: '"' + data() + '" ',
+    "strings_prose": lambda: '"' + prose() + '" ',
+    "ids_quoted": lambda: '$"std::' + some(PLAIN, 10, 40) + '" ',
+    "ids_escaped": lambda: '$"' + some(PLAIN, 4, 20) + "\\20" + some(PLAIN, 4, 20) + '" ',
+    "integers_decimal": lambda: "%d " % RNG.randrange(1 << RNG.randint(1, 31)),
+    "floats_decimal": lambda: "%.6g " % RNG.uniform(-1e5, 1e5),
+    "floats_hex": lambda: "0x1.%xp%d " % (RNG.getrandbits(44), RNG.randint(-100, 100)),
 }
 
 WHOLE = {

@@ -20,6 +20,9 @@ cpu=${CPU:-$(($(nproc --all) - 1))}
 kinds=("$folder"/{real,generated,annotated,dense}.wat "$folder"/kinds/{parens,marks,keywords,ids_short,integers,hex,floats,blanks_single}.wat)
 kinds+=("$folder"/kinds/{line_comments,line_long,block_comments,strings_short,strings_escapes}.wat)
 
+readers=("$folder"/kinds/{strings_short,strings_prose,strings_mixed,strings_escapes,ids_short,ids_quoted,ids_escaped}.wat)
+readers+=("$folder"/kinds/{integers_decimal,integers,hex,floats_decimal,floats_hex,floats}.wat "$folder/real.wat")
+
 rm -rf "$work/measure" "$work/measure_rust"
 cp -r tools/measure tools/measure_rust "$work/"
 sed -i "s|^wast = .*|wast = { path = \"$crate\", default-features = false }|; s|\"\.\./\.\./rust|\"$PWD/rust|" "$work/measure_rust/Cargo.toml"
@@ -58,9 +61,11 @@ for flags in '' '-C target-cpu=native'; do
     printf '\n| text | what | ours, ms | the crate, ms | ratio |\n'
     times "$program" numbers "$folder"/u32_*.wat "$folder/fronts"/u32_*.wat
     times "$program" groups "$folder/groups.wat" "$folder/fronts"/groups*.wat
+    times "$program" readers "${readers[@]}"
 done
 printf '\nInstructions a byte, cargo build --release:\n\n| the first megabyte of | what | ours | the crate | ratio |\n'
 program=$work/target/release/measure_rust
 counts "$program" lexing "$folder"/{real,generated}.wat "$folder"/kinds/{parens,marks}.wat
 counts "$program" numbers "$folder"/u32_*.wat
 counts "$program" groups "$folder/groups.wat"
+counts "$program" readers "${readers[@]}"

@@ -2,10 +2,10 @@
 macro_rules! layer {
     (
         $layer:ident, $module:ident:
-        $parse:ident, $parse_whole:ident, $iter:ident, $iter_whole:ident, $u32s:ident, $groups:ident
+        $parse:ident, $parse_whole:ident, $iter:ident, $iter_whole:ident, $u32s:ident, $groups:ident, $values:ident
     ) => {
         mod $module {
-            use $layer::lexer::{Lexer, Token, TokenKind};
+            use $layer::lexer::{Float, Lexer, Token, TokenKind};
             use $layer::parser::{self, Parse, ParseBuffer, Parser, Result};
 
             mod words {
@@ -72,6 +72,42 @@ macro_rules! layer {
                 let lexer = Lexer::new(text);
                 let tokens = lexer.iter(0).map_while(std::result::Result::ok);
                 tokens.fold(0, |sum, token| sum.wrapping_add(whole(&token)))
+            }
+
+            fn ends(bytes: &[u8]) -> u64 {
+                let end = |byte: Option<&u8>| u64::from(byte.copied().unwrap_or(0));
+                bytes.len() as u64 + end(bytes.first()) + end(bytes.last())
+            }
+
+            fn float(float: &Float<'_>) -> u64 {
+                let part = |part: Option<&str>| part.map_or(1, |part| ends(part.as_bytes()));
+                match float {
+                    Float::Nan { val, .. } => part(val.as_deref()),
+                    Float::Inf { .. } => 2,
+                    Float::Val { integral, fractional, exponent, .. } => {
+                        part(Some(integral)) + part(fractional.as_deref()) + part(exponent.as_deref())
+                    }
+                }
+            }
+
+            /// What the token reads as: a number of its length and ends.
+            fn value(token: &Token, text: &str) -> u64 {
+                match token.kind {
+                    TokenKind::String => ends(&token.string(text)),
+                    TokenKind::Id => token.id(text).map_or(0, |name| ends(name.as_bytes())),
+                    TokenKind::Annotation => token.annotation(text).map_or(0, |name| ends(name.as_bytes())),
+                    TokenKind::Integer(kind) => ends(token.integer(text, kind).val().0.as_bytes()),
+                    TokenKind::Float(kind) => float(&token.float(text, kind)),
+                    _ => 0,
+                }
+            }
+
+            #[inline(never)]
+            #[unsafe(no_mangle)]
+            pub fn $values(text: &str) -> u64 {
+                let lexer = Lexer::new(text);
+                let tokens = lexer.iter(0).map_while(std::result::Result::ok);
+                tokens.fold(0, |sum, token| sum.wrapping_add(value(&token, text)))
             }
 
             /// What a type reads of a whole text; 0 where it does not.
