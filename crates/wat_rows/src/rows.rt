@@ -243,6 +243,7 @@ fn fault_wanted(error: LexError) -> u32
 }
 
 /// What is at a place, in numbers.
+#[inline]
 pub fn found_row(pos: usize, answer: Result<Option<Token>, LexFault>) -> Found
     ensures { result ≡ found_row pos answer }
 {

@@ -59,6 +59,7 @@ impl Token {
     /// # Panics
     ///
     /// Where the token is no string. One of another text may panic, or read as something else.
+    #[inline]
     pub fn string<'a>(&self, s: &'a str) -> Cow<'a, [u8]> {
         let token = self.readable(TokenKind::String);
         granted(token.string(Global, s)).into()
@@ -73,6 +74,7 @@ impl Token {
     /// # Panics
     ///
     /// Where the token is no identifier. One of another text may panic, or read as something else.
+    #[inline]
     pub fn id<'a>(&self, s: &'a str) -> Result<Cow<'a, str>, Error> {
         let name = self.readable(TokenKind::Id).id(Global, s)?;
         Ok(name.into())
@@ -87,6 +89,7 @@ impl Token {
     /// # Panics
     ///
     /// Where the token is no annotation. One of another text may panic, or read as something else.
+    #[inline]
     pub fn annotation<'a>(&self, s: &'a str) -> Result<Cow<'a, str>, Error> {
         let token = self.readable(TokenKind::Annotation);
         Ok(token.annotation(Global, s)?.into())
@@ -97,6 +100,7 @@ impl Token {
     /// # Panics
     ///
     /// Where the token is no integer of this kind. One of another text may panic, or read as something else.
+    #[inline]
     pub fn integer<'a>(&self, s: &'a str, kind: IntegerKind) -> Integer<'a> {
         let token = self.readable(TokenKind::Integer(kind));
         granted(token.integer(Global, s, kind))
@@ -107,6 +111,7 @@ impl Token {
     /// # Panics
     ///
     /// Where the token is no floating-point number of this kind. One of another text may panic, or read as something else.
+    #[inline]
     pub fn float<'a>(&self, s: &'a str, kind: FloatKind) -> Float<'a> {
         let token = self.readable(TokenKind::Float(kind));
         granted(token.float(Global, s, kind)).into()
@@ -124,6 +129,11 @@ impl Token {
         let Token { kind, offset, len } = *self;
         proved::lexer::Token { offset, len, kind }
     }
+}
+
+#[cold]
+fn refuse(kind: TokenKind) -> ! {
+    panic!("the token is no {} of this kind", kind.name())
 }
 
 impl TokenKind {

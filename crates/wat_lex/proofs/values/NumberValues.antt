@@ -1,7 +1,8 @@
 -- What the words of numbers read as.
-use Rattle.std.proofs.Common.{◌≡◌, ℕ, List, [], ◌∷◌, refl, arith, ap, sym, ◌∙◌, subst, Bool, true, false, cond, not, ◌||◌}
+use Rattle.std.proofs.Common.{◌≡◌, ℕ, List, [], ◌∷◌, ◌++◌, take, drop, refl, arith, ap, sym, ◌∙◌, subst, Bool, true, false, cond, not, ◌||◌, append_assoc}
 use Rattle.std.specs.Prelude.{◌==◌}
 use Rattle.std.proofs.lemmas.Bool.{eqb-true, or_parts}
+use Rattle.std.proofs.lemmas.List.{take-append-drop}
 use Rattle.std.proofs.lemmas.Str.{IsAscii-drop}
 use Rattle.std.specs.List.{list_any}
 use Rattle.std.specs.Str.{IsAscii}
@@ -30,6 +31,32 @@ joined_same [] h = refl
 joined_same (c ∷ s) h =
     let p = or_parts (c == 95) (list_any (λ d. d == 95) s) h in
     ap (λ b. cond (not b) (c ∷ joined s) (joined s)) p.0 ∙ ap (λ x. c ∷ x) (joined_same s p.1)
+
+unsigned_cut : (w : List ℕ) → (front : List ℕ) × (w ≡ front ++ unsigned w)
+unsigned_cut [] = ([], refl)
+unsigned_cut (c ∷ t) = by (c == 43 || c == 45)
+  where
+    by : (b : Bool) → (front : List ℕ) × (c ∷ t ≡ front ++ cond b t (c ∷ t))
+    by true = (c ∷ [], refl)
+    by false = ([], refl)
+
+-- a word is its sign and `0x`, and then its digits
+pub digits_cut : (hex : Bool) (w : List ℕ) → (front : List ℕ) × (w ≡ front ++ after_prefix hex (unsigned w))
+digits_cut false w = unsigned_cut w
+digits_cut true w =
+    let u = unsigned_cut w in
+    let s = unsigned w in
+    (u.0 ++ take 2 s, u.1 ∙ ap (λ x. u.0 ++ x) (sym (take-append-drop 2 s)) ∙ sym (append_assoc u.0 (take 2 s) (drop 2 s)))
+
+none_after : (front digits : List ℕ) → has_underscores (front ++ digits) ≡ false → has_underscores digits ≡ false
+none_after [] digits h = h
+none_after (c ∷ front) digits h = none_after front digits (or_parts (c == 95) (list_any (λ d. d == 95) (front ++ digits)) h).1
+
+-- the digits of a word without underscores are joined
+pub digits_joined : (hex : Bool) (w : List ℕ) → has_underscores w ≡ false → joined (after_prefix hex (unsigned w)) ≡ after_prefix hex (unsigned w)
+digits_joined hex w h =
+    let d = digits_cut hex w in
+    joined_same (after_prefix hex (unsigned w)) (none_after d.0 (after_prefix hex (unsigned w)) (subst (λ x. has_underscores x ≡ false) d.1 h))
 
 -- a decimal number without underscores is its word without a `+`
 plain_by : (c : ℕ) (t : List ℕ) (a b : Bool) → (c == 43) ≡ a → (c == 45) ≡ b → joined t ≡ t → joined (c ∷ t) ≡ c ∷ t

@@ -78,6 +78,7 @@ impl Token {
     /// The value of a string. It is borrowed where no escape is in the string,
     /// and then no memory is taken.
     #[tactic(auto, using(crate::proofs::values::TokenValues::string_values))]
+    #[inline]
     pub fn string<'a>(&self, alloc: Global, s: &'a str) -> Result<CowSlice<'a, u8>, AllocError>
         requires token { IsTokenOf s.now self.now }
         requires kind { self.now.kind ≡ String }
@@ -102,6 +103,7 @@ impl Token {
     /// The name of an identifier. It is borrowed where no escape is in it,
     /// and then no memory is taken.
     #[tactic(auto, using(crate::proofs::values::TokenValues::name_values))]
+    #[inline]
     pub fn id<'a>(&self, alloc: Global, s: &'a str) -> Result<CowStr<'a>, Error>
         requires token { IsTokenOf s.now self.now }
         requires kind { self.now.kind ≡ Id }
@@ -123,6 +125,7 @@ impl Token {
     /// The name of an annotation. It is borrowed where no escape is in it,
     /// and then no memory is taken.
     #[tactic(auto, using(crate::proofs::values::TokenValues::name_values))]
+    #[inline]
     pub fn annotation<'a>(&self, alloc: Global, s: &'a str) -> Result<CowStr<'a>, Error>
         requires token { IsTokenOf s.now self.now }
         requires kind { self.now.kind ≡ Annotation }
@@ -145,6 +148,7 @@ impl Token {
     /// `EmptyId` or `EmptyAnnotation` where it is empty, `InvalidUtf8Id` where it is not UTF-8. It
     /// is borrowed where no escape is in it, and memory is taken only where one does.
     #[tactic(auto, using(crate::proofs::values::TokenValues::name_values))]
+    #[inline]
     pub fn name<'a>(
         &self,
         alloc: Global,
@@ -176,6 +180,7 @@ impl Token {
     }
 
     /// What an integer token reads as. Memory is taken where its digits have underscores or `0x`.
+    #[inline]
     pub fn integer<'a>(
         &self,
         alloc: Global,
@@ -205,6 +210,7 @@ impl Token {
     /// What a floating-point token reads as. Memory is taken where it has underscores,
     /// and for hexadecimal digits that are no payload.
     #[tactic(auto, using(crate::proofs::values::TokenValues::float_values))]
+    #[inline]
     pub fn float<'a>(
         &self,
         alloc: Global,

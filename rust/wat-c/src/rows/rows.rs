@@ -292,6 +292,7 @@ fn fault_wanted(error: LexError) -> u32 {
 /// ```text
 /// ensures { result ≡ found_row pos answer }
 /// ```
+#[inline]
 pub fn found_row(pos: usize, answer: Result<Option<Token>, LexFault>) -> Found {
     let (token, fault) = match answer {
         Ok(Some(token)) => (token_row(token), None),

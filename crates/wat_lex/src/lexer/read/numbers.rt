@@ -8,7 +8,7 @@ ghost use Rattle.std.specs.Str.Parse.{digits_value};
 ghost use Rattle.wat_lex.specs.grammar.Numbers.{unsigned, has_underscores, Number, IntegralPart};
 ghost use Rattle.wat_lex.specs.grammar.Numbers.{Tail, Decimals, Payload};
 ghost use Rattle.wat_lex.specs.values.NumberValues.{joined, after_prefix, number_text};
-ghost use Rattle.wat_lex.specs.values.NumberValues.{base, integer_value};
+ghost use Rattle.wat_lex.specs.values.NumberValues.{bare_digits, base, integer_value};
 ghost use Rattle.wat_lex.specs.values.NumberValues.{payload_text, is_integer_rewritten};
 ghost use Rattle.wat_lex.specs.values.NumberValues.{is_float_rewritten, integer_sign};
 ghost use Rattle.wat_lex.specs.values.NumberValues.{integer_digits, integer_base, Point, Power};
@@ -48,6 +48,7 @@ impl<'a> Integer<'a> {
         (self.digits.as_str(), base)
     }
 
+    #[inline]
     pub(crate) fn from_word(
         alloc: Global,
         word: &'a str,
@@ -142,6 +143,7 @@ pub enum Float<'a> {
 }
 
 impl<'a> Float<'a> {
+    #[inline]
     pub(crate) fn from_word(
         alloc: Global,
         word: &'a str,
@@ -176,6 +178,7 @@ impl<'a> Float<'a> {
     }
 }
 
+#[inline]
 fn without_plus(word: &str) -> &str
     ensures { result.now ≡ without_plus word.now }
 {
@@ -207,7 +210,28 @@ fn push_joined(text: &mut String, digits: &[u8]) -> Result<(), AllocError>
     Ok(())
 }
 
+/// Writes a number's digits after a text, without sign, underscores and `0x`.
+fn push_digits(
+    text: &mut String,
+    word: &str,
+    hex: bool,
+    underscores: bool,
+) -> Result<(), AllocError>
+    requires ascii { IsAscii word.now }
+    requires long { hex ≡ true → 2 ≤ length (unsigned word.now) }
+    requires plain { underscores ≡ false → has_underscores word.now ≡ false }
+    ensures { OnOk result
+        (string_bytes text.new ≡ string_bytes text.old ++ bare_digits hex word.now) }
+{
+    let digits = after_prefix(unsigned(word.as_bytes()), hex);
+    if underscores {
+        return push_joined(text, digits);
+    }
+    text.push_str(&word[word.len() - digits.len()..])
+}
+
 /// A number's digits without `+`, underscores and `0x`, a `-` kept.
+#[inline]
 fn number_text<'a>(
     alloc: Global,
     word: &'a str,
@@ -223,12 +247,11 @@ fn number_text<'a>(
     if !hex && !underscores {
         return Ok(CowStr::Borrowed(without_plus(word)));
     }
-    let bytes = word.as_bytes();
     let mut text = String::new(alloc);
-    if is_negative(bytes) {
+    if is_negative(word.as_bytes()) {
         text.push('-')?;
     }
-    push_joined(&mut text, after_prefix(unsigned(bytes), hex))?;
+    push_digits(&mut text, word, hex, underscores)?;
     Ok(CowStr::Owned(text))
 }
 
@@ -261,6 +284,7 @@ fn split_integral(word: &str, hex: bool) -> (&str, &str)
 }
 
 /// The digits after a dot, and what follows them.
+#[inline]
 fn split_fraction(tail: &str, hex: bool) -> (Option<&str>, &str)
     requires ascii { IsAscii tail.now }
     requires tail { Tail hex tail.now }
@@ -281,6 +305,7 @@ fn split_fraction(tail: &str, hex: bool) -> (Option<&str>, &str)
 }
 
 /// What comes after an exponent's letter.
+#[inline]
 fn after_letter(rest: &str) -> Option<&str>
     requires ascii { IsAscii rest.now }
     ensures { (hex : Bool) → EndsFloat hex rest.now →
@@ -294,6 +319,7 @@ fn after_letter(rest: &str) -> Option<&str>
 }
 
 /// A decimal part of a number, where there is one.
+#[inline]
 fn optional_text<'a>(
     alloc: Global,
     part: Option<&'a str>,

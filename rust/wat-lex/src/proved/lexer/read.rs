@@ -89,6 +89,7 @@ impl Token {
     ///     IsBorrowedSlice v ↔ HasNone backslash (word_of s.now self.now)) }
     /// ensures free { HasNone backslash (word_of s.now self.now) → IsOk result }
     /// ```
+    #[inline]
     pub fn string<'a>(&self, alloc: Global, s: &'a str) -> Result<CowSlice<'a, u8>, AllocError> {
         let elements = &self.src(s)[1..];
         if let Some(value) = plain(elements) {
@@ -118,6 +119,7 @@ impl Token {
     /// ensures borrowed { IfOk result (λ name.
     ///     IsBorrowedStr name ↔ HasNoEscape (word_of s.now self.now)) }
     /// ```
+    #[inline]
     pub fn id<'a>(&self, alloc: Global, s: &'a str) -> Result<CowStr<'a>, Error> {
         self.name_or_error(alloc, s)
     }
@@ -142,6 +144,7 @@ impl Token {
     /// ensures borrowed { IfOk result (λ name.
     ///     IsBorrowedStr name ↔ HasNoEscape (word_of s.now self.now)) }
     /// ```
+    #[inline]
     pub fn annotation<'a>(&self, alloc: Global, s: &'a str) -> Result<CowStr<'a>, Error> {
         self.name_or_error(alloc, s)
     }
@@ -169,6 +172,7 @@ impl Token {
     ///     IsBorrowedStr name ↔ HasNoEscape (word_of s.now self.now))) }
     /// ensures free { HasNoEscape (word_of s.now self.now) → IsOk result }
     /// ```
+    #[inline]
     pub fn name<'a>(
         &self,
         alloc: Global,
@@ -194,6 +198,7 @@ impl Token {
     /// ensures numeral { IfOk result (IsNumeralOf kind (word_of s.now self.now)) }
     /// ensures free { is_integer_rewritten kind ≡ false → IsOk result }
     /// ```
+    #[inline]
     pub fn integer<'a>(
         &self,
         alloc: Global,
@@ -231,6 +236,7 @@ impl Token {
     /// ensures one { OneCut (word_of s.now self.now) }
     /// ensures free { is_float_rewritten kind ≡ false → IsOk result }
     /// ```
+    #[inline]
     pub fn float<'a>(
         &self,
         alloc: Global,

@@ -48,6 +48,7 @@ impl<'a> Integer<'a> {
     /// ensures value { IfOk result (IsIntegerOf kind word.now) }
     /// ensures free { is_integer_rewritten kind ≡ false → IsOk result }
     /// ```
+    #[inline]
     pub(crate) fn from_word(
         alloc: Global,
         word: &'a str,
@@ -161,6 +162,7 @@ impl<'a> Float<'a> {
     /// ensures value { IfOk result (IsFloatOf kind word.now) }
     /// ensures free { is_float_rewritten kind ≡ false → IsOk result }
     /// ```
+    #[inline]
     pub(crate) fn from_word(
         alloc: Global,
         word: &'a str,
@@ -195,6 +197,7 @@ impl<'a> Float<'a> {
 /// ```text
 /// ensures { result.now ≡ without_plus word.now }
 /// ```
+#[inline]
 fn without_plus(word: &str) -> &str {
     let bytes = word.as_bytes();
     if bytes.is_empty() || bytes[0] != b'+' {
@@ -232,6 +235,30 @@ fn push_joined(text: &mut String, digits: &[u8]) -> Result<(), AllocError> {
     Ok(())
 }
 
+/// Writes a number's digits after a text, without sign, underscores and `0x`.
+///
+/// # Proved
+///
+/// ```text
+/// requires ascii { IsAscii word.now }
+/// requires long { hex ≡ true → 2 ≤ length (unsigned word.now) }
+/// requires plain { underscores ≡ false → has_underscores word.now ≡ false }
+/// ensures { OnOk result
+///     (string_bytes text.new ≡ string_bytes text.old ++ bare_digits hex word.now) }
+/// ```
+fn push_digits(
+    text: &mut String,
+    word: &str,
+    hex: bool,
+    underscores: bool,
+) -> Result<(), AllocError> {
+    let digits = after_prefix(unsigned(word.as_bytes()), hex);
+    if underscores {
+        return push_joined(text, digits);
+    }
+    text.push_str(&word[word.len() - digits.len()..])
+}
+
 /// A number's digits without `+`, underscores and `0x`, a `-` kept.
 ///
 /// # Proved
@@ -243,6 +270,7 @@ fn push_joined(text: &mut String, digits: &[u8]) -> Result<(), AllocError> {
 /// ensures value { IfOk result (IsText (hex || underscores) (number_text hex word.now)) }
 /// ensures free { (hex || underscores) ≡ false → IsOk result }
 /// ```
+#[inline]
 fn number_text<'a>(
     alloc: Global,
     word: &'a str,
@@ -252,12 +280,11 @@ fn number_text<'a>(
     if !hex && !underscores {
         return Ok(CowStr::Borrowed(without_plus(word)));
     }
-    let bytes = word.as_bytes();
     let mut text = String::new(alloc);
-    if is_negative(bytes) {
+    if is_negative(word.as_bytes()) {
         text.push('-')?;
     }
-    push_joined(&mut text, after_prefix(unsigned(bytes), hex))?;
+    push_digits(&mut text, word, hex, underscores)?;
     Ok(CowStr::Owned(text))
 }
 
@@ -307,6 +334,7 @@ fn split_integral(word: &str, hex: bool) -> (&str, &str) {
 /// ensures point { Point hex tail.now (option_map (λ r. r.now) result.0) result.1.now }
 /// ensures rest { EndsFloat hex result.1.now }
 /// ```
+#[inline]
 fn split_fraction(tail: &str, hex: bool) -> (Option<&str>, &str) {
     if tail.as_bytes()[0] != b'.' {
         return (None, tail);
@@ -330,6 +358,7 @@ fn split_fraction(tail: &str, hex: bool) -> (Option<&str>, &str) {
 /// ensures { (hex : Bool) → EndsFloat hex rest.now →
 ///     Power hex rest.now (option_map (λ r. r.now) result) }
 /// ```
+#[inline]
 fn after_letter(rest: &str) -> Option<&str> {
     if rest.is_empty() {
         None
@@ -349,6 +378,7 @@ fn after_letter(rest: &str) -> Option<&str> {
 ///     option_map (λ p. number_text false p.now) part.entry)) }
 /// ensures free { underscores ≡ false → IsOk result }
 /// ```
+#[inline]
 fn optional_text<'a>(
     alloc: Global,
     part: Option<&'a str>,

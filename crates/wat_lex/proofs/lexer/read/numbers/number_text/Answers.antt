@@ -14,8 +14,3 @@ returns-then-not-underscores-clause-value c =
     let f = c.if-not-underscores.true in
     as_written c.args.hex c.args.underscores c.args.word.now _ c.if-not-hex.true f
     (c.without_plus.ensures ∙ plain_text c.args.word.now (c.requires.plain f), tt)
-
-pub push_joined-requires : goal.push_joined-requires
-push_joined-requires c = record {
-  ascii = digits_ascii c.args.hex c.args.word.now c.unsigned.result.now c.after_prefix.result.now c.requires.ascii (c.unsigned.ensures ∙ ap unsigned c.as_bytes-bytes.ensures.value) c.after_prefix.ensures;
-}
