@@ -52,6 +52,8 @@ fn shown(token: Token, text: &str) -> String {
 
 #[test]
 fn numbers_at_the_ends_of_blocks() {
+    let count = WORDS.lines().count();
+    assert!(count >= 97, "the table has {count} words");
     for row in WORDS.lines() {
         let (word, wanted) = row.split_once(' ').expect("a word and what it is");
         for following in FOLLOWING {

@@ -189,21 +189,26 @@ fn short_reads_and_writes_change_nothing() {
     }
 }
 
+/// Each read fails in turn where so many bytes are read a call, and after the last nothing does.
+fn fail_each_read(words: &str, text: &str, most: usize) {
+    let answer = |reads| {
+        let way = Way { most, reads, ..ALL };
+        run(words, text, way).0
+    };
+    let count = text.len().div_ceil(most) + 1;
+    for reads in 0..count {
+        let wanted = (2, Vec::new(), refused("read failed"));
+        let place = format!("{words}, {most} bytes a call, read {reads} fails");
+        assert_eq!(answer(reads), wanted, "{place}");
+    }
+    assert_eq!(answer(count), run(words, text, ALL).0, "{words}, {most}");
+}
+
 #[test]
 fn a_read_that_fails_is_reported_and_nothing_is_written() {
     for (words, text, _) in RUNS.iter().filter(|run| run.0 != "--help") {
-        for reads in 0..=text.len() {
-            let (answer, ..) = run(
-                words,
-                text,
-                Way {
-                    most: 1,
-                    reads,
-                    ..ALL
-                },
-            );
-            assert_eq!(answer, (2, Vec::new(), refused("read failed")), "{words}");
-        }
+        fail_each_read(words, text, 1);
+        fail_each_read(words, text, 4);
     }
 }
 
@@ -233,6 +238,7 @@ fn a_write_that_fails_is_reported_after_the_bytes_before_it() {
 fn a_request_that_is_refused_is_reported_and_nothing_is_written() {
     for (words, text, _) in RUNS {
         let (_, asked, _) = run(words, text, ALL);
+        assert_eq!(asked == 0, text.is_empty(), "{words}: {asked} requests");
         for granted in 0..asked {
             let (answer, ..) = run(words, text, Way { granted, ..ALL });
             let wanted = (2, Vec::new(), refused("out of memory"));

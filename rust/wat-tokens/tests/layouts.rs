@@ -31,6 +31,8 @@ fn shown(text: &str, settings: Settings) -> String {
 #[test]
 fn each_text_has_its_layout() {
     let lines: Vec<&str> = TABLE.lines().collect();
+    let count = lines.len() / 2;
+    assert!(count >= 79, "the table has {count} texts");
     for row in lines.chunks(2) {
         let layout = match format(Global, &spelled(row[0]), PLAIN) {
             Ok(layout) => drawn(&layout),

@@ -1,13 +1,15 @@
 //! What the layer with the names of `wast` answers.
 
+mod typed;
+
 use crate::row::{Refusals, Row};
 use std::cell::RefCell;
 use std::fmt::Debug;
 use wat_parser::encode::Encode;
 use wat_parser::lexer::{Lexer, Token, TokenKind};
 use wat_parser::parser::{self, Cursor, Parse, ParseBuffer, Parser};
-use wat_parser::token::{Id, Index, ItemRef, LParen, RParen, Span};
-use wat_parser::{Error, annotation, kw};
+use wat_parser::token::{Id, LParen, RParen, Span};
+use wat_parser::Error;
 
 fn refusal(refusals: Refusals, error: &Error) -> String {
     match refusals {
@@ -97,11 +99,12 @@ fn encoded<T: Encode>(number: Option<T>) -> String {
     format!("{bytes:?}")
 }
 
-/// What errors, places and numbers answer.
+/// What errors, places, numbers and names of types answer.
 fn others(row: &Row) -> Option<Result<String, Error>> {
     let (text, span) = (row.text.as_str(), Span::from_offset(row.at()));
     Some(match row.call {
         "place" => Ok(format!("{:?}", span.linecol_in(text))),
+        "display" => Ok(typed::display(row.with).to_owned()),
         "error" => {
             let mut error = Error::new(span, "m".to_owned());
             error.set_text(text);
@@ -122,26 +125,9 @@ fn value<'a, T: Parse<'a> + Debug>(buffer: &'a ParseBuffer<'a>) -> Result<String
 
 /// What a whole text is read as.
 fn types<'a>(call: &str, buffer: &'a ParseBuffer<'a>) -> Option<Result<String, Error>> {
-    Some(match call.strip_suffix("-strict").unwrap_or(call) {
-        "u8" => value::<u8>(buffer),
-        "u16" => value::<u16>(buffer),
-        "u32" => value::<u32>(buffer),
-        "u64" => value::<u64>(buffer),
-        "i8" => value::<i8>(buffer),
-        "i16" => value::<i16>(buffer),
-        "i32" => value::<i32>(buffer),
-        "i64" => value::<i64>(buffer),
-        "Option<u32>" => value::<Option<u32>>(buffer),
-        "Box<u32>" => value::<Box<u32>>(buffer),
-        "String" => value::<String>(buffer),
-        "CowStr" => value::<&str>(buffer),
-        "CowSlice<u8>" => value::<&[u8]>(buffer),
-        "Id" => value::<Id>(buffer),
+    Some(match call {
+        "u32" | "u32-strict" => value::<u32>(buffer),
         "Option<Id>" => value::<Option<Id>>(buffer),
-        "Index" => value::<Index>(buffer),
-        "ItemRef<kw::func>" => value::<ItemRef<kw::func>>(buffer),
-        "kw::func" => value::<kw::func>(buffer),
-        "annotation::name" => value::<annotation::name>(buffer),
         _ => return None,
     })
 }
@@ -310,7 +296,7 @@ struct Asked;
 impl<'a> Parse<'a> for Asked {
     fn parse(parser: Parser<'a>) -> Result<Self, Error> {
         let row = ASKED.take().expect("a row");
-        ANSWERED.set(parsing(&row, parser));
+        ANSWERED.set(parsing(&row, parser).or_else(|| typed::answer(&row, parser)));
         Ok(Asked)
     }
 }

@@ -26,12 +26,16 @@ mod words;
 
 use refusing::{Counts, Refused, refusing};
 use row::{Ending, Row};
+use std::cell::Cell;
 use std::panic::{AssertUnwindSafe, catch_unwind};
 use wat_lex::proved::error::Error;
 use wat_lex::shim::alloc::Global;
 use wat_parser::proved::parser::{ParseBuffer, Parser};
 
 const TABLE: &str = include_str!("../../../../tests/requests.txt");
+/// The rows of the table, and the requests of all their calls.
+const ROWS: usize = 394;
+const REQUESTS: usize = 534;
 /// More requests than any row makes.
 const MOST_REQUESTS: usize = 500;
 
@@ -173,6 +177,7 @@ impl Requests {
 
 /// Tries all rows, and names those that fail.
 fn try_each(check: impl Fn(&Row)) {
+    assert_eq!(rows().count(), ROWS, "rows of the table");
     let fails = |row: &Row| catch_unwind(AssertUnwindSafe(|| check(row))).is_err();
     let failed: Vec<&str> = rows().filter(fails).map(|row| row.name).collect();
     assert!(failed.is_empty(), "{failed:?}");
@@ -191,9 +196,11 @@ fn each_row_has_its_answer_within_its_bounds() {
 
 #[test]
 fn each_request_is_refused_in_turn() {
+    let refused = Cell::new(0);
     try_each(|row| {
         let requests = Requests::of(row);
         requests.refuse_rest(row);
+        refused.set(refused.get() + requests.of_call());
         assert_eq!(requests.of_call(), row.requests, "{}: requests", row.name);
         let is_free = row.name.starts_with("free-");
         assert_eq!(row.requests == 0, is_free, "{}: requests", row.name);
@@ -204,4 +211,5 @@ fn each_request_is_refused_in_turn() {
             row.name
         );
     });
+    assert_eq!(refused.get(), REQUESTS, "requests that were refused");
 }

@@ -45,9 +45,13 @@ impl Table {
         let mut table = Table::default();
         for paragraph in text.split("\n\n") {
             let record = table.record_of(paragraph);
+            let is_run = !record.runs.is_empty();
+            assert!(is_run || is_head(paragraph), "no run of:\n{paragraph}");
             table.records.push(record);
         }
-        assert!(table.runs().count() > 250 && table.files.len() > 10);
+        let (runs, files) = (table.runs().count(), table.files.len());
+        assert!(runs >= 262, "the table has {runs} runs");
+        assert!(files >= 16, "the table has {files} files");
         table
     }
 
@@ -81,6 +85,11 @@ impl Table {
         }
         record
     }
+}
+
+/// Whether a paragraph only says what the table is, or which files it has.
+fn is_head(paragraph: &str) -> bool {
+    paragraph.lines().all(|line| line.starts_with(['#', '@']))
 }
 
 fn word_of(text: &str) -> String {

@@ -1,0 +1,82 @@
+//! What the layer answers of types: values, their copies, where the parser is after them, and how they are displayed.
+
+use super::refusal;
+use crate::row::Row;
+use wat_parser::parser::{Parser, Peek};
+use wat_parser::token::{Id, Index, ItemRef, LParen, RParen};
+use wat_parser::{Error, annotation, custom_reserved, kw};
+
+custom_reserved!(spaceship = "<=>");
+
+/// An index, its place, and whether a copy has both.
+fn index(index: &Index) -> String {
+    let (copy, place) = (*index, index.span());
+    let is_same = copy == *index && copy.span() == place;
+    let shown = match index {
+        Index::Num(number, _) => number.to_string(),
+        Index::Id(id) => id.name().to_owned(),
+    };
+    format!("{shown} at {}, copied {is_same}", place.offset())
+}
+
+fn indices(parser: Parser) -> Result<String, Error> {
+    let first = index(&parser.parse()?);
+    let second = index(&parser.parse()?);
+    Ok(format!("{first}; {second}"))
+}
+
+/// An identifier is shown as an index that is one.
+fn identifier(parser: Parser) -> Result<String, Error> {
+    let id: Id = parser.parse()?;
+    Ok(index(&id.into()))
+}
+
+/// An item: the places of its kind and of a copy's index.
+fn item(parser: Parser) -> Result<String, Error> {
+    let item = parser.parse::<ItemRef<kw::func>>()?.clone();
+    let place = item.kind.0.offset();
+    Ok(format!("kind at {place}, {}", index(&item.idx)))
+}
+
+/// What a parser at the start of the text answers, and where it is then.
+pub fn answer(row: &Row, parser: Parser) -> Option<Result<String, Error>> {
+    let answered = match row.call {
+        "indices" => indices(parser),
+        "identifier" => identifier(parser),
+        "item" => item(parser),
+        _ => return None,
+    };
+    let answer = answered.unwrap_or_else(|error| refusal(row.refusals, &error));
+    Some(Ok(format!(
+        "{answer}; place {}",
+        parser.prev_span().offset()
+    )))
+}
+
+/// How a type is displayed.
+pub fn display(name: &str) -> &'static str {
+    match name {
+        "u8" => u8::display(),
+        "u16" => u16::display(),
+        "u32" => u32::display(),
+        "u64" => u64::display(),
+        "i8" => i8::display(),
+        "i16" => i16::display(),
+        "i32" => i32::display(),
+        "i64" => i64::display(),
+        "bytes" => <&[u8]>::display(),
+        "text" => <&str>::display(),
+        "id" => Id::display(),
+        "index" => Index::display(),
+        "item" => ItemRef::<kw::func>::display(),
+        "annotation" => annotation::name::display(),
+        "left" => LParen::display(),
+        "right" => RParen::display(),
+        "after" => kw::after::display(),
+        "nan_arithmetic" => kw::nan_arithmetic::display(),
+        "string_latin1_utf16" => kw::string_latin1_utf16::display(),
+        "external_id" => kw::external_id::display(),
+        "spaceship" => spaceship::display(),
+        _ => panic!("{name} is no type"),
+    }
+}
