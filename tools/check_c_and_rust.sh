@@ -159,7 +159,7 @@ suite() {
 # with_crates: the options by which cargo finds the crates, one a line; fails where they are not at hand
 with_crates() {
     if [ -n "${CRATES_FOLDER:-}" ]; then
-        printf '%s\n' --offline --config 'source.crates-io.replace-with="local"' --config "source.local.directory=\"$(realpath "$CRATES_FOLDER")\""
+        printf '%s\n' --offline --config 'source.crates-io.replace-with="folder"' --config "source.folder.directory=\"$(realpath "$CRATES_FOLDER")\""
     else
         (cd rust && CARGO_NET_RETRY=0 timeout 60 cargo fetch --locked --quiet 2> /dev/null)
     fi
