@@ -121,11 +121,9 @@ impl Token {
     /// token of another text reads as something else, or panics.
     #[inline]
     fn readable(&self, kind: TokenKind) -> proved::lexer::Token {
-        assert!(
-            self.kind == kind,
-            "the token is no {} of this kind",
-            kind.name()
-        );
+        if self.kind != kind {
+            refuse(kind);
+        }
         let Token { kind, offset, len } = *self;
         proved::lexer::Token { offset, len, kind }
     }
