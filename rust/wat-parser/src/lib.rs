@@ -1,6 +1,6 @@
 //! Parsers for formats that look like the WebAssembly text format, with the names of the lowest layer of the crate `wast`.
 //!
-//! A type of one's own implements [`Parse`](parser::Parse), and [`Peek`](parser::Peek) where it is told from others by its first token;
+//! A type of one's own implements [`Parse`](parser::Parse), and [`Peek`](parser::Peek) where its first token tells it from others;
 //! [`parser::parse`] reads a text as a value of it. The types of [`token`] and the macros [`custom_keyword!`], [`custom_reserved!`] and
 //! [`annotation!`](macro@annotation) are what they are made of.
 //!

@@ -85,7 +85,7 @@ pub fn answer(row: &Row) -> Option<String> {
         "three-groups" => three_groups(parser),
         "refused-group" => refused_group(parser),
         "nested" => groups(parser, row.at()),
-        "refused-behind" => refused_after(parser, row.with),
+        "refused-after" => refused_after(parser, row.with),
         _ => return None,
     };
     let answer = answered.unwrap_or_else(|error| refusal(row.refusals, &error));

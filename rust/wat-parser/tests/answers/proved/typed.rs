@@ -139,9 +139,9 @@ fn spelled<W: Word>() -> String {
 fn word(name: &str) -> String {
     match name {
         "last" => spelled::<Std<232>>(),
-        "behind" => spelled::<Std<233>>(),
+        "place-233" => spelled::<Std<233>>(),
         "annotation" => spelled::<StdAnnotation<1>>(),
-        "behind-annotations" => spelled::<StdAnnotation<5>>(),
+        "annotation-5" => spelled::<StdAnnotation<5>>(),
         _ => panic!("{name} is no word"),
     }
 }
@@ -166,7 +166,7 @@ fn called(row: &Row, parser: &mut Parser) -> Option<Result<String, Error>> {
         "optional-name" => optional_name(row, parser),
         "all-of" => parser.all_of::<u32>().map(|all| list(&all)),
         "all-while" => parser.all_while::<u32, u32>().map(|all| list(&all)),
-        "all-behind" => parser
+        "all-after" => parser
             .all_after::<u32, Parens<u32>>()
             .map(|all| format!("{:?}", all.as_slice())),
         "too-often" => too_often(parser),
