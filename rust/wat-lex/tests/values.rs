@@ -331,6 +331,12 @@ fn a_token_of_another_kind_is_not_read() {
             "{text}"
         );
     }
+}
+
+/// Readers of numbers refuse a number of another kind.
+#[test]
+fn a_number_of_another_kind_is_not_read() {
+    let panics = |read: &dyn Fn()| catch_unwind(AssertUnwindSafe(read)).is_err();
     let (TokenKind::Integer(kind), TokenKind::Integer(signed)) =
         (first("1").kind, first("+1").kind)
     else {
