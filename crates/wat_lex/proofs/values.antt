@@ -10,3 +10,4 @@ pub mod OneValues
 pub mod SomeValues
 pub mod TokenValues
 pub mod WordValues
+pub mod NameParts

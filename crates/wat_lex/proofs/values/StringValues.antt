@@ -230,13 +230,14 @@ pub record Closing (text v : List ℕ) : Type 0 where
   pub range : 1 ≤ length text
   pub value : take (length text - 1) text ≡ v
   pub boundary : IsCharBoundary text (length text - 1)
+  pub quote : chars (drop (length text - 1) text) ≡ 34 ∷ []
 
 pub closing : (text v : List ℕ) → IsUtf8 text → HasNone 92 (chars text) → Quoted lenient (chars text) v [] → Closing text v
 closing text v u h q =
     let p = plain_whole (chars text) v q h in
     let l : length text ≡ size p.inner + 1 = sym (ap length (encodes-chars text u)) ∙ ap size p.cut ∙ size-append p.inner (34 ∷ []) ∙ ap (λ x. size p.inner + length (x ++ [])) (encode_ascii 34 (omega arith)) in
     let s = seam text p.inner (34 ∷ []) (length text - 1) u p.cut (omega (arith, l)) in
-    record { range = omega (arith, l); value = s.prefix ∙ sym p.value; boundary = s.boundary }
+    record { range = omega (arith, l); value = s.prefix ∙ sym p.value; boundary = s.boundary; quote = s.after }
 
 pub reading_ends : (start rest done : List ℕ) → Reading start rest done → IsFirstByte (is_byte 92) rest None → Quoted lenient (chars start) (done ++ take (length rest - 1) rest) []
 reading_ends start rest done h b =

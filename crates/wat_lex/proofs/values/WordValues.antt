@@ -53,7 +53,7 @@ element_is f s u t (byte {c = c} {d = d} {r = r} h k) = rw (differs is_hex c 117
 element_is f s u t (unicode {d = d} {s = w} {r = r} ds e row n k) =
     rw (differs is_hex d 125 row.first refl) (ap (elements_value (Row (d ∷ []))) e ∙ row_is (d ∷ []) ds r row.others)
 
-elements_are : (f : Settings) (t v r : List ℕ) → Quoted f t v r → elements_value Between t ≡ v
+pub elements_are : (f : Settings) (t v r : List ℕ) → Quoted f t v r → elements_value Between t ≡ v
 unfolding elements_value
 elements_are f t v r ends = refl
 elements_are f t v r (more {s = s} {t = m} {u = u} {v = w} h q) = element_is f s u m h ∙ ap (λ x. u ++ x) (elements_are f m w r q)
@@ -67,7 +67,7 @@ unfolding named_bytes
 bare_is [] h = refl
 bare_is (c ∷ t) h = rw (differs is_idchar c 34 h.0 refl) refl
 
-named_is : (t v : List ℕ) → Named t v → named_bytes t ≡ v
+pub named_is : (t v : List ℕ) → Named t v → named_bytes t ≡ v
 unfolding named_bytes
 named_is t v (bare h) = bare_is t h
 named_is t v (named_string (quoted {flags = f} {t = u} h)) = elements_are f u v [] h
@@ -77,12 +77,12 @@ unfolding name_bytes
 name_is [] v h = absurd h
 name_is (c ∷ t) v h = named_is t v h
 
-good_name : (e : LexError) (v : List ℕ) → IsUtf8 v → v ≢ [] → checked_name e v ≡ Ok v
+pub good_name : (e : LexError) (v : List ℕ) → IsUtf8 v → v ≢ [] → checked_name e v ≡ Ok v
 unfolding checked_name
 good_name e [] u n = absurd (n refl)
 good_name e (b ∷ bs) u n = rw (is_utf8-from_IsUtf8 (b ∷ bs) u) refl
 
-bad_name : (e : LexError) (v : List ℕ) → (IsUtf8 v → ⊥) → checked_name e v ≡ Err InvalidUtf8Id
+pub bad_name : (e : LexError) (v : List ℕ) → (IsUtf8 v → ⊥) → checked_name e v ≡ Err InvalidUtf8Id
 unfolding checked_name
 bad_name e [] n = absurd (n IsUtf8-nil)
 bad_name e (b ∷ bs) n = elim (cases_Bool (is_utf8 (b ∷ bs))) [

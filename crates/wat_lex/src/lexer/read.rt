@@ -1,6 +1,8 @@
 //! What the tokens of a text read as.
 ghost use Rattle.std.specs.Prelude.{◌≡◌, ◌≢◌, ◌≤◌, ◌^◌, ◌⊎◌, ◌↔◌, [], Ok, false, IfOk, IfErr};
 ghost use Rattle.std.specs.Prelude.{IsOk, MatchOption};
+ghost use Rattle.std.specs.Bool.{Decides};
+ghost use Rattle.std.specs.Result.{result_err};
 ghost use Rattle.std.specs.Cow.{cow_str_bytes, cow_slice_items, IsBorrowedSlice, IsBorrowedStr};
 ghost use Rattle.std.specs.Str.{chars, IsUtf8};
 ghost use Rattle.wat_lex.specs.grammar.Classes.{backslash};
@@ -23,6 +25,7 @@ ghost use Rattle.wat_lex.specs.declared.lexer.kinds.TokenKind.TheVariants.{Annot
 ghost use Rattle.wat_lex.specs.declared.lexer.kinds.TokenKind.TheVariants as token_kind;
 
 use crate::error::Error;
+use crate::lexer::read::names::{is_named, is_utf8_name};
 use crate::lexer::read::numbers::magnitude_of;
 use crate::lexer::read::strings::{name, plain, unescaped};
 use crate::lexer::{Float, FloatKind, Integer, IntegerKind, LexError, Token, TokenKind};
@@ -30,6 +33,7 @@ use crate::token::Span;
 use std::alloc::{AllocError, Global};
 use std::borrow::{CowSlice, CowStr};
 
+mod names;
 pub(super) mod numbers;
 mod strings;
 
@@ -177,6 +181,36 @@ impl Token {
             return Ok(Err(empty_name(self.kind)));
         }
         Ok(Ok(name))
+    }
+
+    /// Whether this is the name of an identifier or an annotation, as [`Token::name`] reads it. No
+    /// memory is taken, and no wrong name is any.
+    #[inline]
+    pub fn has_name(&self, s: &str, name: &str) -> bool
+        requires token { IsTokenOf s.now self.now }
+        requires kind { (self.now.kind ≡ Id) ⊎ (self.now.kind ≡ Annotation) }
+        ensures { Decides result
+            (name_value (empty_name self.now.kind) (word_of s.now self.now) ≡ Ok name.now) }
+    {
+        !name.is_empty() && is_named(&self.src(s)[1..], name.as_bytes())
+    }
+
+    /// What is wrong with the name of an identifier or an annotation, as [`Token::name`] answers it.
+    /// No memory is taken.
+    pub fn name_fault(&self, s: &str) -> Option<LexError>
+        requires token { IsTokenOf s.now self.now }
+        requires kind { (self.now.kind ≡ Id) ⊎ (self.now.kind ≡ Annotation) }
+        ensures { result
+            ≡ result_err (name_value (empty_name self.now.kind) (word_of s.now self.now)) }
+    {
+        let name = &self.src(s)[1..];
+        if is_named(name, &[]) {
+            return Some(empty_name(self.kind));
+        }
+        if !is_utf8_name(name) {
+            return Some(LexError::InvalidUtf8Id);
+        }
+        None
     }
 
     /// What an integer token reads as. Memory is taken where its digits have underscores or `0x`.

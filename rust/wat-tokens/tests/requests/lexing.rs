@@ -92,6 +92,16 @@ fn name(row: &Row) -> Ending {
     row.ending(&name.map_err(Error::from))
 }
 
+/// Whether the first word has a name.
+fn has_name(row: &Row) -> Ending {
+    row.ending(&Ok(ended(first(row).has_name(&row.text, row.names))))
+}
+
+/// What is wrong with the name of the first word.
+fn name_fault(row: &Row) -> Ending {
+    row.ending(&Ok(ended(first(row).name_fault(&row.text))))
+}
+
 pub fn ending(row: &Row) -> Result<Ending, Error> {
     Ok(match row.of {
         "parse" => parse(row),
@@ -103,6 +113,8 @@ pub fn ending(row: &Row) -> Result<Ending, Error> {
         "settings" => settings(row),
         "read" => read(row),
         "name" => name(row),
+        "has-name" => has_name(row),
+        "name-fault" => name_fault(row),
         of => panic!("{}: no {of}", row.name),
     })
 }

@@ -34,7 +34,7 @@ use wat_parser::proved::parser::{ParseBuffer, Parser};
 
 const TABLE: &str = include_str!("../../../../tests/requests.txt");
 /// The rows of the table, and the requests of all their calls.
-const ROWS: usize = 394;
+const ROWS: usize = 398;
 const REQUESTS: usize = 534;
 /// More requests than any row makes.
 const MOST_REQUESTS: usize = 500;

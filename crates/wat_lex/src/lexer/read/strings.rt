@@ -51,7 +51,7 @@ fn append(value: &mut Vec<u8>, read: EscapeValue) -> Result<(), AllocError>
 
 /// The byte of an escape of two hexadecimal digits at the start, and what comes after it.
 #[inline]
-fn byte_escape(text: &str) -> Option<(u8, &str)>
+pub fn byte_escape(text: &str) -> Option<(u8, &str)>
     ensures element { IfSome result (λ found.
         Element lenient (chars text.now) (found.0 ∷ []) (chars found.1.now)) }
     ensures utf8 { IfSome result (λ found. IsUtf8 found.1.now) }
@@ -67,7 +67,7 @@ fn byte_escape(text: &str) -> Option<(u8, &str)>
 
 /// What the escape at the start of elements stands for that a closing quote ends, and what comes
 /// after it.
-fn first_escape(elements: &str) -> (EscapeValue, &str)
+pub fn first_escape(elements: &str) -> (EscapeValue, &str)
     requires quoted { IsQuoted (chars elements.now) }
     requires first { IsFirstByte (is_byte 92) elements.now (Some 0) }
     ensures element { Element lenient (chars elements.now) (escape_bytes result.0) (chars result.1.now) }

@@ -3,6 +3,7 @@
 
 use crate::shim::prelude::*;
 use crate::proved::error::Error;
+use crate::proved::lexer::read::names::{is_named, is_utf8_name};
 use crate::proved::lexer::read::numbers::magnitude_of;
 use crate::proved::lexer::read::strings::{name, plain, unescaped};
 use crate::proved::lexer::{Float, FloatKind, Integer, IntegerKind, LexError, Token, TokenKind};
@@ -10,6 +11,7 @@ use crate::proved::token::Span;
 use crate::shim::alloc::{AllocError, Global};
 use crate::shim::borrow::{CowSlice, CowStr};
 
+mod names;
 pub(super) mod numbers;
 mod strings;
 
@@ -185,6 +187,44 @@ impl Token {
             return Ok(Err(empty_name(self.kind)));
         }
         Ok(Ok(name))
+    }
+
+    /// Whether this is the name of an identifier or an annotation, as [`Token::name`] reads it. No
+    /// memory is taken, and no wrong name is any.
+    ///
+    /// # Proved
+    ///
+    /// ```text
+    /// requires token { IsTokenOf s.now self.now }
+    /// requires kind { (self.now.kind ≡ Id) ⊎ (self.now.kind ≡ Annotation) }
+    /// ensures { Decides result
+    ///     (name_value (empty_name self.now.kind) (word_of s.now self.now) ≡ Ok name.now) }
+    /// ```
+    #[inline]
+    pub fn has_name(&self, s: &str, name: &str) -> bool {
+        !name.is_empty() && is_named(&self.src(s)[1..], name.as_bytes())
+    }
+
+    /// What is wrong with the name of an identifier or an annotation, as [`Token::name`] answers it.
+    /// No memory is taken.
+    ///
+    /// # Proved
+    ///
+    /// ```text
+    /// requires token { IsTokenOf s.now self.now }
+    /// requires kind { (self.now.kind ≡ Id) ⊎ (self.now.kind ≡ Annotation) }
+    /// ensures { result
+    ///     ≡ result_err (name_value (empty_name self.now.kind) (word_of s.now self.now)) }
+    /// ```
+    pub fn name_fault(&self, s: &str) -> Option<LexError> {
+        let name = &self.src(s)[1..];
+        if is_named(name, &[]) {
+            return Some(empty_name(self.kind));
+        }
+        if !is_utf8_name(name) {
+            return Some(LexError::InvalidUtf8Id);
+        }
+        None
     }
 
     /// What an integer token reads as. Memory is taken where its digits have underscores or `0x`.

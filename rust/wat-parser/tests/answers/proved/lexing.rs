@@ -82,6 +82,18 @@ fn read(row: &Row) -> Result<String, Error> {
     })
 }
 
+/// Whether the first word has a name, and what is wrong with it.
+fn name_of(row: &Row) -> Result<String, Error> {
+    let text = row.text.as_str();
+    let Some(token) = lexer(row).parse(Global, &mut 0)? else {
+        return Ok(String::new());
+    };
+    Ok(match row.call {
+        "has-name" => token.has_name(text, row.with).to_string(),
+        _ => format!("{:?}", token.name_fault(text)),
+    })
+}
+
 /// How many bytes the parts of a floating-point number have.
 fn part_lengths(float: &Float) -> String {
     match float {
@@ -129,6 +141,7 @@ pub fn answer(row: &Row) -> Option<Result<String, Error>> {
         "first" => first(row),
         "annotation" => annotation(row),
         "length" => length(row),
+        "has-name" | "name-fault" => name_of(row),
         "scan" | "read" | "read-allowing" if is_inside => Ok("no such byte".to_owned()),
         "scan" => Ok(scan(row)),
         "read" | "read-allowing" => read(row),

@@ -60,7 +60,7 @@ fn append(value: &mut Vec<u8>, read: EscapeValue) -> Result<(), AllocError> {
 /// ensures shorter { IfSome result (λ found. length found.1.now < length text.now) }
 /// ```
 #[inline]
-fn byte_escape(text: &str) -> Option<(u8, &str)> {
+pub fn byte_escape(text: &str) -> Option<(u8, &str)> {
     let bytes = text.as_bytes();
     if !is_byte_escape(bytes) {
         return None;
@@ -81,7 +81,7 @@ fn byte_escape(text: &str) -> Option<(u8, &str)> {
 /// ensures utf8 { IsUtf8 result.1.now }
 /// ensures shorter { length result.1.now < length elements.now }
 /// ```
-fn first_escape(elements: &str) -> (EscapeValue, &str) {
+pub fn first_escape(elements: &str) -> (EscapeValue, &str) {
     let mut it = elements[1..].chars();
     match escape(&mut it, LENIENT) {
         Ok(read) => (read, it.as_str()),

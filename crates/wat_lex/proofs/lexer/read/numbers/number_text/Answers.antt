@@ -1,9 +1,8 @@
-use Rattle.std.proofs.Common.{ap, sym, ◌∙◌, ◌≡◌, ◌||◌, Bool, false, subst, ℕ, List}
+use Rattle.std.proofs.Common.{sym, ◌∙◌, ◌≡◌, ◌||◌, Bool, false, subst, ℕ, List}
 use Rattle.std.proofs.Common.{Global}
 use Rattle.std.specs.declared.borrow.CowStr.{CowStr}
-use Rattle.wat_lex.specs.grammar.Numbers.{unsigned}
 use Rattle.wat_lex.specs.values.NumberValues.{number_text, IsText}
-use Rattle.wat_lex.proofs.values.NumberValues.{plain_text, digits_ascii}
+use Rattle.wat_lex.proofs.values.NumberValues.{plain_text}
 use Rattle.wat_lex.proofs.lexer.read.numbers.number_text.Goals as goal
 
 as_written : (hex again : Bool) (w : List ℕ) (t : CowStr Global) → hex ≡ false → again ≡ false → IsText false (number_text false w) t → IsText (hex || again) (number_text hex w) t

@@ -1,0 +1,211 @@
+// Made by tools/erase from crates/wat_lex/src/lexer/read/names.rt; do not edit.
+//! Names that are compared and tested a part at a time, so that they take no memory.
+
+use crate::shim::prelude::*;
+use crate::proved::lexer::read::strings::{byte_escape, first_escape};
+use crate::proved::lexer::scan::strings::EscapeValue;
+use memchr::memchr;
+use core::str::from_utf8;
+
+/// A part of a string's value.
+#[derive(Clone, Copy)]
+pub enum Part<'a> {
+    /// Characters that stand for themselves.
+    Text(&'a str),
+    /// An escape of one byte.
+    Byte(u8),
+    /// An escape of a character's number.
+    Scalar(char),
+}
+
+impl<'a> Part<'a> {
+    /// What an escape stands for.
+    ///
+    /// # Proved
+    ///
+    /// ```text
+    /// ensures bytes { part_bytes result ≡ escape_bytes read }
+    /// ensures whole { IsWhole result }
+    /// ```
+    fn escaped(read: EscapeValue) -> Part<'a> {
+        match read {
+            EscapeValue::Byte(byte) => Part::Byte(byte),
+            EscapeValue::Scalar(c) => Part::Scalar(c),
+        }
+    }
+
+    /// What comes after the part in a value that begins with it.
+    ///
+    /// # Proved
+    ///
+    /// ```text
+    /// ensures { MatchOption result
+    /// ((rest : List ℕ) → value.now ≢ part_bytes self.entry ++ rest)
+    /// (λ rest. value.now ≡ part_bytes self.entry ++ rest.now) }
+    /// ```
+    fn stripped_from<'v>(self, value: &'v [u8]) -> Option<&'v [u8]> {
+        match self {
+            Part::Text(text) => value.strip_prefix(text.as_bytes()),
+            Part::Byte(byte) => value.strip_prefix(&[byte]),
+            Part::Scalar(c) => {
+                let mut buffer = [0u8; 4];
+                value.strip_prefix(c.encode_utf8(&mut buffer).as_bytes())
+            }
+        }
+    }
+}
+
+/// The first part of elements of which so many bytes stand for themselves, up to an escape or the
+/// closing quote.
+///
+/// # Proved
+///
+/// ```text
+/// requires { PlainBytes elements.now len }
+/// ensures { IsFirstPart elements.now result }
+/// ```
+fn text_part<'a>(elements: &'a str, len: usize) -> Option<(Part<'a>, &'a str)> {
+    if len == 0 {
+        return None;
+    }
+    Some((Part::Text(&elements[..len]), &elements[len..]))
+}
+
+/// The first part of the elements that a closing quote ends, and the elements after it.
+///
+/// # Proved
+///
+/// ```text
+/// requires { IsQuoted (chars elements.now) }
+/// ensures { IsFirstPart elements.now result }
+/// ```
+fn first_part<'a>(elements: &'a str) -> Option<(Part<'a>, &'a str)> {
+    if let Some((byte, after)) = byte_escape(elements) {
+        return Some((Part::Byte(byte), after));
+    }
+    match memchr(b'\\', elements.as_bytes()) {
+        Some(0) => {
+            let (read, after) = first_escape(elements);
+            Some((Part::escaped(read), after))
+        }
+        Some(before) => text_part(elements, before),
+        None => text_part(elements, elements.len() - 1),
+    }
+}
+
+/// Whether this is the value of the elements that a closing quote ends.
+///
+/// # Proved
+///
+/// ```text
+/// requires { IsQuoted (chars elements.now) }
+/// ensures { Decides result (value_of elements.now ≡ value.now) }
+/// ```
+fn is_value(elements: &str, value: &[u8]) -> bool {
+    let mut rest = elements;
+    let mut left = value;
+    while let Some((part, after)) = first_part(rest) {
+        let Some(stripped) = part.stripped_from(left) else {
+            return false;
+        };
+        left = stripped;
+        rest = after;
+    }
+    left.is_empty()
+}
+
+/// The byte that is escaped at the start of the elements that a closing quote ends, and the elements
+/// after it; None where a character begins there, or nothing is left.
+///
+/// # Proved
+///
+/// ```text
+/// requires { IsQuoted (chars elements.now) }
+/// ensures { IsEscapedByte elements.now result }
+/// ```
+fn escaped_byte<'a>(elements: &'a str) -> Option<(u8, &'a str)> {
+    let (part, after) = first_part(elements)?;
+    let Part::Byte(byte) = part else {
+        return None;
+    };
+    Some((byte, after))
+}
+
+/// The elements after the first character of what a byte and their value are; None where these are
+/// not UTF-8.
+///
+/// # Proved
+///
+/// ```text
+/// requires { IsQuoted (chars elements.now) }
+/// ensures { IsPastCharacter first elements.now result }
+/// ```
+fn past_character<'a>(first: u8, elements: &'a str) -> Option<&'a str> {
+    let mut buffer = [first, 0, 0, 0];
+    let mut len = 1;
+    let mut rest = elements;
+    while from_utf8(&buffer[..len]).is_err() {
+        if len == 4 {
+            return None;
+        }
+        let (byte, after) = escaped_byte(rest)?;
+        buffer[len] = byte;
+        len += 1;
+        rest = after;
+    }
+    Some(rest)
+}
+
+/// Whether the value of the elements that a closing quote ends is UTF-8. Only an escape of one byte
+/// can begin what is not.
+///
+/// # Proved
+///
+/// ```text
+/// requires { IsQuoted (chars elements.now) }
+/// ensures { Decides result (IsUtf8 (value_of elements.now)) }
+/// ```
+fn is_utf8_value(elements: &str) -> bool {
+    let mut rest = elements;
+    while let Some((part, after)) = first_part(rest) {
+        let Part::Byte(byte) = part else {
+            rest = after;
+            continue;
+        };
+        let Some(past) = past_character(byte, after) else {
+            return false;
+        };
+        rest = past;
+    }
+    true
+}
+
+/// Whether a text that is a name has these bytes.
+///
+/// # Proved
+///
+/// ```text
+/// requires { IsNamed (chars text.now) }
+/// ensures { Decides result (named_bytes (chars text.now) ≡ bytes.now) }
+/// ```
+pub fn is_named(text: &str, bytes: &[u8]) -> bool {
+    match text.strip_prefix('"') {
+        Some(elements) => is_value(elements, bytes),
+        None => text.as_bytes() == bytes,
+    }
+}
+
+/// Whether the bytes of a text that is a name are UTF-8.
+///
+/// # Proved
+///
+/// ```text
+/// requires { IsNamed (chars text.now) }
+/// ensures { Decides result (IsUtf8 (named_bytes (chars text.now))) }
+/// ```
+pub fn is_utf8_name(text: &str) -> bool {
+    match text.strip_prefix('"') {
+        Some(elements) => is_utf8_value(elements),
+        None => true,
+    }
+}
