@@ -13,6 +13,12 @@ const PIECES: [&str; 40] = [
     "module", "$x", "@name", "\"ab\"", "$\"", "@\"", "\\ff", "\\61", ",", "\u{0}",
 ];
 
+/// Elements of a name, most of which are bytes of characters.
+const ELEMENTS: [&str; 16] = [
+    "a", "é", "\\t", "\\u{e9}", "\\61", "\\80", "\\90", "\\98", "\\9f", "\\a0", "\\a9", "\\c3",
+    "\\e2", "\\ed", "\\f0", "\\f4",
+];
+
 /// Random numbers below a count.
 struct Random(u64);
 
@@ -31,6 +37,12 @@ impl Random {
             .map(|_| PIECES[self.below(PIECES.len())])
             .collect()
     }
+
+    fn identifier(&mut self) -> String {
+        let count = self.below(7);
+        let elements = (0..count).map(|_| ELEMENTS[self.below(ELEMENTS.len())]);
+        format!("$\"{}\"", elements.collect::<String>())
+    }
 }
 
 /// A text, and whether it is borrowed.
@@ -47,6 +59,22 @@ fn compare_names(ours: Result<Cow<'_, str>, Error>, theirs: Result<CowStr<'_>, P
         ours.map(shown).map_err(|error| error.to_string()),
         theirs.map(proved_shown).map_err(|error| error.to_string())
     );
+}
+
+/// The calls that test a name without memory answer as the one that makes it. Whether it is right.
+fn compare_name(token: proved::Token, text: &str) -> bool {
+    let name = token.name(Global, text).unwrap();
+    assert_eq!(
+        token.name_fault(text),
+        name.as_ref().err().copied(),
+        "{text}"
+    );
+    let name = name.map_or(String::new(), |name| name.to_string());
+    let is_name = !name.is_empty();
+    let (longer, shorter) = (name.clone() + "x", name.chars().skip(1).collect::<String>());
+    assert_eq!(token.has_name(text, &name), is_name, "{text}");
+    assert!(!token.has_name(text, &longer) && !token.has_name(text, &shorter));
+    is_name
 }
 
 fn compare_floats(ours: Float<'_>, theirs: proved::Float<'_>) {
@@ -81,9 +109,13 @@ fn compare_values(token: Token, found: proved::Token, text: &str) {
             assert_eq!(*value, **found.string(Global, text).as_ref().unwrap());
             assert_eq!(is_borrowed, !token.src(text).contains('\\'));
         }
-        TokenKind::Id => compare_names(token.id(text), found.id(Global, text)),
+        TokenKind::Id => {
+            compare_names(token.id(text), found.id(Global, text));
+            compare_name(found, text);
+        }
         TokenKind::Annotation => {
-            compare_names(token.annotation(text), found.annotation(Global, text))
+            compare_names(token.annotation(text), found.annotation(Global, text));
+            compare_name(found, text);
         }
         TokenKind::Integer(kind) => {
             assert_eq!(
@@ -136,4 +168,15 @@ fn the_layer_answers_as_what_it_is_over() {
     }
     println!("{tokens} tokens, {faults} faults");
     assert!(tokens > 50_000 && faults > 10_000, "{tokens} {faults}");
+}
+
+#[test]
+fn names_are_tested_as_they_are_read() {
+    let (mut random, mut right) = (Random(5), 0);
+    for _ in 0..200_000 {
+        let text = random.identifier();
+        let found = proved::Lexer::new(&text).scan(0).unwrap().unwrap();
+        right += usize::from(compare_name(found, &text));
+    }
+    assert!((10_000..190_000).contains(&right), "{right} names");
 }
