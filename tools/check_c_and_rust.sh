@@ -175,7 +175,7 @@ by_cargo() {
     suite 'cargo, static' "$installed/lib/libwat_parser_c.a" "${private[@]}"
     suite 'cargo, shared' -L"$installed/lib" -lwat_parser_c -Wl,-rpath,"$installed/lib"
     nm -D --defined-only "$installed/lib/libwat_parser_c.so" | sed 's/.* //' | sort > "$room/exported"
-    sed -n '/static/d; s/^[a-z].*\(wat_[a-z_]*\)(.*/\1/p' include/wat.h | sort | cmp - "$room/exported"
+    sed -n '/static/d; s/^[a-z].*\(wat_[a-z0-9_]*\)(.*/\1/p' include/wat.h | sort | cmp - "$room/exported"
     say "the shared library has the $(wc -l < "$room/exported") functions of the header, and no other name"
     if has pkg-config; then
         read -ra options < <(PKG_CONFIG_PATH="$installed/lib/pkgconfig" pkg-config --cflags --libs wat)

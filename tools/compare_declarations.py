@@ -17,7 +17,7 @@ NUMBERS = {"uint8_t": "u8", "uint32_t": "u32", "uint64_t": "u64", "size_t": "usi
 # Structs of which the library's name is not that in C without `wat_`.
 STRUCTS = {"wat_token": "TokenRow", "wat_kind": "KindRow"}
 # What C calls the length of a slice, where it is not the slice's name and `_len`.
-LENGTHS = {"text": "len", "out": "room", "rows": "count", "ends": "names_count"}
+LENGTHS = {"text": "len", "out": "room", "rows": "count", "ends": "names_count", "feeds": "feeds_count"}
 
 
 def in_rust(c_type):

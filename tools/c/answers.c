@@ -131,6 +131,28 @@ static void tokens(void) {
     expect(wat_is_text(bytes_of(text), 5) && !wat_is_text(bytes_of("\xff"), 1), "wat_is_text", text);
 }
 
+static bool is_at(struct wat_position position, size_t line, size_t column) {
+    return position.line == line && position.column == column;
+}
+
+/* Line feeds of a text, and lines and columns by them. */
+static void lines(void) {
+    static const char text[] = "a\n\xc3\xa9\xf0\x9f\x98\x80" "b\nc"; /* U+00E9, U+1F600 */
+    static const struct {
+        size_t offset, line, column, utf16;
+    } places[] = {{0, 0, 0, 0}, {1, 0, 1, 1}, {2, 1, 0, 0}, {3, 1, 1, 1},  {4, 1, 2, 1}, {5, 1, 3, 3},
+                  {8, 1, 6, 3}, {9, 1, 7, 4}, {10, 2, 0, 0}, {11, 2, 1, 1}, {12, 3, 0, 0}};
+    size_t feeds[4] = {7, 7, 7, 7}, i;
+    expect(wat_line_feeds(bytes_of(text), 11, feeds, 1) == 2 && feeds[0] == 7, "wat_line_feeds", text);
+    expect(wat_line_feeds(bytes_of(text), 11, feeds, 4) == 2 && feeds[0] == 1 && feeds[1] == 9 && feeds[2] == 7, "wat_line_feeds", text);
+    for (i = 0; i < sizeof places / sizeof *places; i++) {
+        size_t offset = places[i].offset, line = places[i].line;
+        expect(is_at(wat_line_column(bytes_of(text), 11, offset), line, places[i].column), "wat_line_column", text);
+        expect(is_at(wat_line_column_by(bytes_of(text), 11, feeds, 2, offset), line, places[i].column), "wat_line_column_by", text);
+        expect(is_at(wat_utf16_line_column_by(bytes_of(text), 11, feeds, 2, offset), line, places[i].utf16), "wat_utf16_line_column_by", text);
+    }
+}
+
 static bool looks(struct wat_look look, uint32_t row, uint32_t status) {
     return look.row == row && look.status == status;
 }
@@ -205,6 +227,7 @@ static void messages(void) {
 int main(void) {
     readers();
     tokens();
+    lines();
     shown();
     values();
     messages();

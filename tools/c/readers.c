@@ -417,6 +417,31 @@ static void read_rows(struct setting s) {
     free(all.rows);
 }
 
+/* Lines and columns by the line feeds of the text, of each byte. */
+static void read_lines(struct setting s) {
+    struct wat_position wanted = {0, 0}, found, wide;
+    size_t none = 0, count = wat_line_feeds(s.text, s.len, &none, 0), units = 0, offset;
+    size_t *feeds = room_of(count * sizeof *feeds);
+    expect(wat_line_feeds(s.text, s.len, feeds, count) == count, "another count of line feeds", 0);
+    for (offset = 0; offset <= s.len; offset++) {
+        found = wat_line_column_by(s.text, s.len, feeds, count, offset);
+        wide = wat_utf16_line_column_by(s.text, s.len, feeds, count, offset);
+        expect(found.line == wanted.line && found.column == wanted.column, "another line or column", offset);
+        expect(wide.line == wanted.line && wide.column == units, "another column in UTF-16", offset);
+        if (offset < s.len && s.text[offset] == '\n') {
+            wanted.line++;
+            wanted.column = units = 0;
+        } else if (offset < s.len) {
+            wanted.column++;
+            units += (s.text[offset] < 0x80 || s.text[offset] >= 0xc0) + (s.text[offset] >= 0xf0);
+        }
+    }
+    wanted = wat_line_column(s.text, s.len, s.len + 1);
+    found = wat_line_column_by(s.text, s.len, feeds, count, s.len + 1);
+    expect(found.line == wanted.line && found.column == 0, "another count of lines", s.len + 1);
+    free(feeds);
+}
+
 /* The bytes in a block of their own size, so that a read past them is seen. */
 static void read_bytes(const uint8_t *bytes, size_t len) {
     uint8_t *text = room_of(len);
@@ -431,6 +456,9 @@ static void read_bytes(const uint8_t *bytes, size_t len) {
             s.strict = (flags & 2) != 0;
             read_text(s);
             read_rows(s);
+            if (flags == 0) {
+                read_lines(s);
+            }
         }
     }
     free(text);

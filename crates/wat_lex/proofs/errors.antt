@@ -10,3 +10,5 @@ pub mod Widths
 pub mod Laying
 pub mod Digits
 pub mod Lengths
+pub mod Utf16
+pub mod LineCounts

@@ -7,3 +7,4 @@ pub mod ScannedLexemes
 pub mod ScannedRuns
 pub mod Blocks
 pub mod Nesting
+pub mod Utf16Bytes

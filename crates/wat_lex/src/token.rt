@@ -16,8 +16,9 @@ use std::hash::{Hash, Hasher};
 use std::marker::Model;
 
 mod lines;
+mod utf16;
 
-pub use lines::LineIndex;
+pub use lines::{LineIndex, fill_line_feeds, linecol_by, utf16_linecol_by};
 
 /// A place in a text, as an offset in bytes.
 #[derive(Copy, Clone, Debug, PartialOrd, Ord, PartialEq, Eq, Hash)]

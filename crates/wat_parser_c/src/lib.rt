@@ -4,7 +4,6 @@
 
 ghost use Rattle.std.specs.Prelude.{◌≡◌, ◌≢◌, ◌≤◌, ◌<◌, ◌^◌, ◌↔◌, IsTrue, length, take, drop};
 ghost use Rattle.std.specs.Str.{IsCharBoundary, IsUtf8};
-ghost use Rattle.wat_lex.specs.errors.Positions.{line_and_column};
 ghost use Rattle.wat_parser_c.specs.Answers.{Answers, OneAnswer};
 ghost use Rattle.wat_parser_c.specs.Readings.{Finds, FindsFault, IsString, IsNamed, IsInteger, IsFloat};
 ghost use Rattle.wat_parser_c.specs.Readings.{ReadsString, ReadsName, ReadsInteger, ReadsFloat, ReadsNameFault};
@@ -19,6 +18,7 @@ mod laws;
 pub mod looks;
 pub mod messages;
 pub mod numbers;
+pub mod positions;
 pub mod printing;
 mod readings;
 pub mod version;
@@ -30,7 +30,6 @@ use laws::one_answer;
 use std::alloc::Global;
 use std::str;
 use wat_lex::lexer::{Lexer, Settings};
-use wat_lex::token::Span;
 use wat_rows::at::token_at;
 use wat_rows::fill::fill;
 use wat_rows::laws::one_fill;
@@ -52,29 +51,6 @@ pub extern "C" fn wat_is_place(text: &[u8], pos: usize) -> bool
 {
     let text = unsafe { str::from_utf8_unchecked(text) };
     text.is_char_boundary(pos)
-}
-
-/// A line and a column, both from 0.
-#[repr(C)]
-#[derive(Clone, Copy, Debug, PartialEq)]
-pub struct Position {
-    /// How many line feeds come before the place.
-    pub line: usize,
-    /// How many bytes come before it in its line.
-    pub column: usize,
-}
-
-/// Line and column of a byte of the text. Past its end the line is the number of lines, and the
-/// column 0.
-#[unsafe(no_mangle)]
-pub extern "C" fn wat_line_column(text: &[u8], offset: usize) -> Position
-    requires { IsUtf8 text.now }
-    ensures line { result.line ≡ (line_and_column text.now offset).0 }
-    ensures column { result.column ≡ (line_and_column text.now offset).1 }
-{
-    let text = unsafe { str::from_utf8_unchecked(text) };
-    let (line, column) = Span::from_offset(offset).linecol_in(text);
-    Position { line, column }
 }
 
 /// What is at a byte of the text: a token, the text's end, or a fault.

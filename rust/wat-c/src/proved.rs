@@ -11,6 +11,7 @@ mod laws;
 pub mod looks;
 pub mod messages;
 pub mod numbers;
+pub mod positions;
 pub mod printing;
 mod readings;
 pub mod version;
@@ -22,7 +23,6 @@ use laws::one_answer;
 use wat_lex::shim::alloc::Global;
 use core::str;
 use wat_lex::proved::lexer::{Lexer, Settings};
-use wat_lex::proved::token::Span;
 use crate::rows::at::token_at;
 use crate::rows::fill::fill;
 use crate::rows::laws::one_fill;
@@ -59,41 +59,6 @@ pub unsafe extern "C" fn wat_is_place(text: *const u8, text_len: usize, pos: usi
     // SAFETY: rule 2 of wat.h.
     let text = unsafe { str::from_utf8_unchecked(text) };
     text.is_char_boundary(pos)
-}
-
-/// A line and a column, both from 0.
-#[repr(C)]
-#[derive(Clone, Copy, Debug, PartialEq)]
-pub struct Position {
-    /// How many line feeds come before the place.
-    pub line: usize,
-    /// How many bytes come before it in its line.
-    pub column: usize,
-}
-
-/// Line and column of a byte of the text. Past its end the line is the number of lines, and the
-/// column 0.
-///
-/// # Proved
-///
-/// ```text
-/// requires { IsUtf8 text.now }
-/// ensures line { result.line ≡ (line_and_column text.now offset).0 }
-/// ensures column { result.column ≡ (line_and_column text.now offset).1 }
-/// ```
-#[unsafe(no_mangle)]
-pub unsafe extern "C" fn wat_line_column(
-    text: *const u8,
-    text_len: usize,
-    offset: usize,
-) -> Position {
-    // SAFETY: `text` points to `text_len` values, by rule 1 of wat.h.
-    let text = unsafe { core::slice::from_raw_parts(text, text_len) };
-
-    // SAFETY: rule 2 of wat.h.
-    let text = unsafe { str::from_utf8_unchecked(text) };
-    let (line, column) = Span::from_offset(offset).linecol_in(text);
-    Position { line, column }
 }
 
 /// What is at a byte of the text: a token, the text's end, or a fault.

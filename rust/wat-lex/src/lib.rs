@@ -39,6 +39,7 @@ extern crate std;
 
 mod error;
 mod lexer;
+mod lines;
 mod number;
 /// The proved text, and its contracts.
 ///
@@ -78,6 +79,7 @@ mod token;
 
 pub use error::Error;
 pub use lexer::{Lexer, Tokens};
+pub use lines::LineIndex;
 pub use number::Float;
 #[doc(inline)]
 pub use proved::lexer::{FloatKind, Integer, IntegerKind, LexError, SignToken, TokenKind};

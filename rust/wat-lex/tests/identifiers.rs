@@ -6,7 +6,7 @@ use refusing::refusing_in_turn;
 use std::fmt::Debug;
 use std::hash::{DefaultHasher, Hash, Hasher};
 use wat_lex::proved::gensym::{FillError, Gensym, GensymFull};
-use wat_lex::proved::token::{Id, Index, LineIndex, Span};
+use wat_lex::proved::token::{Id, Index, LineIndex, Span, fill_line_feeds};
 use wat_lex::shim::alloc::Global;
 use wat_lex::shim::borrow::CowStr;
 
@@ -63,6 +63,54 @@ fn places_are_lines_and_columns() {
     let places: String = (0..10).map(shown).collect();
     assert_eq!(places, "0:0 0:1 0:2 1:0 1:1 2:0 2:1 2:2 2:3 3:0 ");
     assert_eq!([0, usize::MAX].map(|offset| place("", offset)), [(0, 0); 2]);
+}
+
+/// Line and column of a place, the column in code units of UTF-16 as Rust counts them.
+fn utf16_place(text: &str, offset: usize) -> (usize, usize) {
+    let (line, column) = place(text, offset);
+    let start = offset - column;
+    let before = text[start..]
+        .char_indices()
+        .take_while(|(at, _)| *at < column);
+    (line, before.map(|(_, c)| c.len_utf16()).sum())
+}
+
+#[test]
+fn columns_are_in_utf16() {
+    let parts = ["a", "é", "漢", "\u{1f600}", "\n", "0123456789abcdef"];
+    for number in 0..parts.len().pow(5) {
+        let part = |digit| parts[number / parts.len().pow(digit) % parts.len()];
+        let text: String = (0..5).map(part).collect();
+        let proved = LineIndex::new(Global, &text).unwrap();
+        let lines = wat_lex::LineIndex::new(&text);
+        for offset in 0..=text.len() {
+            let wanted = utf16_place(&text, offset);
+            assert_eq!(
+                proved.utf16_linecol(at(offset)),
+                wanted,
+                "{text:?} {offset}"
+            );
+            assert_eq!(lines.utf16_linecol(at(offset)), wanted, "{text:?} {offset}");
+            assert_eq!(
+                lines.linecol(at(offset)),
+                place(&text, offset),
+                "{text:?} {offset}"
+            );
+        }
+        let past = at(text.len() + 1);
+        assert_eq!(lines.utf16_linecol(past), lines.linecol(past), "{text:?}");
+    }
+}
+
+#[test]
+fn line_feeds_fill_a_buffer_that_has_room_for_them() {
+    let text = b"\na\n\nb";
+    for room in 0..5 {
+        let mut feeds = [7; 5];
+        assert_eq!(fill_line_feeds(text, &mut feeds[..room]), 3);
+        let wanted = if room < 3 { [7; 5] } else { [0, 2, 3, 7, 7] };
+        assert_eq!(feeds, wanted, "{room}");
+    }
 }
 
 #[test]

@@ -5,7 +5,7 @@ use Rattle.std.specs.List.{count_by, suffix_len}
 use Rattle.std.specs.List.Sorted.{IsNonDecreasingBy, IsPartitionPoint}
 use Rattle.std.specs.Simd.Lanes.{chunk}
 use Rattle.std.proofs.lemmas.Bool.{cases_Bool, cases_lt, ltb-true, ltb-false}
-use Rattle.std.proofs.lemmas.List.{get_or-append-add, get_or_append_left, get_or-drop, get_or-take, length-drop, length-take-le, take-take}
+use Rattle.std.proofs.lemmas.List.{take_all, get_or-append-add, get_or_append_left, get_or-drop, get_or-take, length-drop, length-take-le, take-take}
 use Rattle.std.proofs.lemmas.List.Sums.{count_by_more_yes, count_by_more_no, suffix_len_is, sum_by-append, sum_by-take-le}
 use Rattle.std.proofs.lemmas.Simd.{chunk-drop}
 use Rattle.memchr.specs.Find.{IsFirstByte, is_byte}
@@ -177,3 +177,10 @@ module _ (text feeds : List ℕ) (h : LineFeeds text feeds) (offset : ℕ) (with
   pub below_line : (line : ℕ) → (line ≡ 0 → ⊥) → Point line → get_or feeds (line - 1) 0 < offset
   below_line zero n p = absurd (n refl)
   below_line (suc m) n p = let less : suc m - 1 ≡ m = omega arith in omega (arith, last_below m p, ap (λ k. get_or feeds k 0) less)
+
+-- there are no more than in the whole text
+pub feeds_fit : (text feeds : List ℕ) (at : ℕ) → FeedsUpTo text at feeds → length feeds ≤ count text
+feeds_fit text feeds at h = omega (arith, h.all, sum_by-take-le (λ b. cond (is_line_feed b) 1 0) text at)
+
+pub feeds_all : (text feeds : List ℕ) → LineFeeds text feeds → length feeds ≡ count text
+feeds_all text feeds h = sym h.all ∙ ap count (take_all (length text) text (omega arith))

@@ -13,17 +13,17 @@ use Rattle.std.proofs.Math.Seq.{drop-cons}
 use Rattle.memchr.specs.Find.{IsFirstByte, is_byte}
 use Rattle.wat_lex.specs.errors.Positions.{is_line_feed, line_and_column}
 
-abbrev feed : ℕ → Bool
+abbrev pub feed : ℕ → Bool
 feed b = b == 10
 
 -- ---- the parts between line feeds, of which there is one at least
 
-record Parts (xs : List ℕ) : Type 0 where
-  first : List ℕ
-  more : List (List ℕ)
-  cut : slice_split feed xs ≡ first ∷ more
+pub record Parts (xs : List ℕ) : Type 0 where
+  pub first : List ℕ
+  pub more : List (List ℕ)
+  pub cut : slice_split feed xs ≡ first ∷ more
 
-parts : (xs : List ℕ) → Parts xs
+pub parts : (xs : List ℕ) → Parts xs
 parts [] = record { first = []; more = []; cut = refl }
 parts (x ∷ xs) =
     elim (cases_Bool (feed x)) [
@@ -106,10 +106,10 @@ later_line x [] n = none_later (length (x ∷ []) == 0) (x ∷ []) n
 later_line x (p ∷ []) n = none_later (length (x ∷ p) == 0) (x ∷ p) n ∙ sym (none_later (length p == 0) p n)
 later_line x (p ∷ q ∷ more) n = refl
 
-count_yes : (x : ℕ) (xs : List ℕ) → feed x ≡ true → count_by is_line_feed (x ∷ xs) ≡ suc (count_by is_line_feed xs)
+pub count_yes : (x : ℕ) (xs : List ℕ) → feed x ≡ true → count_by is_line_feed (x ∷ xs) ≡ suc (count_by is_line_feed xs)
 count_yes x xs t = sum_by-cons (λ b. cond (is_line_feed b) 1 0) x xs ∙ ap (λ b. cond b 1 0 + count_by is_line_feed xs) t ∙ one-add (count_by is_line_feed xs)
 
-count_no : (x : ℕ) (xs : List ℕ) → feed x ≡ false → count_by is_line_feed (x ∷ xs) ≡ count_by is_line_feed xs
+pub count_no : (x : ℕ) (xs : List ℕ) → feed x ≡ false → count_by is_line_feed (x ∷ xs) ≡ count_by is_line_feed xs
 count_no x xs f = sum_by-cons (λ b. cond (is_line_feed b) 1 0) x xs ∙ ap (λ b. cond b 1 0 + count_by is_line_feed xs) f ∙ zero-add (count_by is_line_feed xs)
 
 rest_ends : (x y : ℕ) (ys : List ℕ) → EndsLine (x ∷ y ∷ ys) → EndsLine (y ∷ ys)

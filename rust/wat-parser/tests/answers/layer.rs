@@ -5,6 +5,7 @@ mod typed;
 use crate::row::{Refusals, Row};
 use std::cell::RefCell;
 use std::fmt::Debug;
+use wat_lex::LineIndex;
 use wat_parser::encode::Encode;
 use wat_parser::lexer::{Lexer, Token, TokenKind};
 use wat_parser::parser::{self, Cursor, Parse, ParseBuffer, Parser};
@@ -104,6 +105,8 @@ fn others(row: &Row) -> Option<Result<String, Error>> {
     let (text, span) = (row.text.as_str(), Span::from_offset(row.at()));
     Some(match row.call {
         "place" => Ok(format!("{:?}", span.linecol_in(text))),
+        "index-place" => Ok(format!("{:?}", LineIndex::new(text).linecol(span))),
+        "index-utf16-place" => Ok(format!("{:?}", LineIndex::new(text).utf16_linecol(span))),
         "display" => Ok(typed::display(row.with).to_owned()),
         "error" => {
             let mut error = Error::new(span, "m".to_owned());

@@ -4,7 +4,7 @@ use crate::row::Row;
 use std::str;
 use wat_lex::proved::error::{Error, Rendered};
 use wat_lex::proved::lexer::{LexError, LexFault};
-use wat_lex::proved::token::Span;
+use wat_lex::proved::token::{LineIndex, Span};
 use wat_lex::shim::alloc::Global;
 use wat_lex::shim::string::String as Text;
 
@@ -56,12 +56,18 @@ fn lex_error(name: &str, with: &str) -> LexError {
     }
 }
 
+fn index(text: &str) -> Result<LineIndex<'_>, Error> {
+    Ok(LineIndex::new(Global, text)?)
+}
+
 pub fn answer(row: &Row) -> Option<Result<String, Error>> {
     let text = row.text.as_str();
     let span = Span::from_offset(row.at());
     let lexical = |span, text, error| Err(Error::lex(Global, span, text, error));
     Some(match row.call {
         "place" => Ok(format!("{:?}", span.linecol_in(text))),
+        "index-place" => index(text).map(|lines| format!("{:?}", lines.linecol(span))),
+        "index-utf16-place" => index(text).map(|lines| format!("{:?}", lines.utf16_linecol(span))),
         "error" => Text::from_str(Global, "m")
             .map_err(Error::from)
             .and_then(|message| Err(Error::parse(Global, span, text, message))),

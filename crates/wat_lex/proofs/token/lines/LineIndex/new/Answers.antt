@@ -1,6 +1,4 @@
 use Rattle.std.proofs.Common.{◌+◌, sym, ap, ◌∙◌, subst, drop, Some, None}
-use Rattle.std.proofs.lemmas.Iterator.Consumers.{count_from_yields_List}
-use Rattle.std.proofs.lemmas.Iterator.Splits.{YieldsList-from_lines}
 use Rattle.std.proofs.lemmas.List.{take_rest}
 use Rattle.memchr.specs.Find.{IsFirstByte, is_byte}
 use Rattle.wat_lex.specs.errors.LineFeeds.{FeedsUpTo}
@@ -24,7 +22,5 @@ invariant_of-result c =
     let text = c.args.text.now in
     let at = c.loop-ahead.at in
     let none : IsFirstByte (is_byte 10) (drop at text) None =
-    subst (λ s. IsFirstByte (is_byte 10) s None) (take_rest c.as_bytes-bytes.result.now at ∙ ap (drop at) c.as_bytes-bytes.ensures.value) c.in_default.ensures in (
-      feeds_end text c.loop-ahead.feeds.items at c.loop-ahead.invariant none,
-      count_from_yields_List c.lines.result c.count.result c.count.ensures.ran (YieldsList-from_lines text c.lines.ensures.rest),
-    )
+    subst (λ s. IsFirstByte (is_byte 10) s None) (take_rest c.as_bytes-bytes.result.now at ∙ ap (drop at) c.as_bytes-bytes.ensures.value) c.in_default.ensures in
+    feeds_end text c.loop-ahead.feeds.items at c.loop-ahead.invariant none

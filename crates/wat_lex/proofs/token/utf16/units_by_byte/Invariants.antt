@@ -1,0 +1,13 @@
+use Rattle.std.proofs.Common.{◌≡◌, ◌≤◌, ◌-◌, length, take}
+use Rattle.std.specs.List.{sum_by}
+use Rattle.wat_lex.specs.inside.Utf16Bytes.{byte_units}
+use Rattle.wat_lex.proofs.token.utf16.units_by_byte.Given as goal
+
+abbrev pub invariant-loop-i : goal.invariant-loop-i
+invariant-loop-i l = record {
+  range : l.i ≤ length l.text;
+  so_far : l.units ≡ sum_by byte_units (take l.i l.text);
+}
+
+abbrev pub decreases-loop-i : goal.decreases-loop-i
+decreases-loop-i l = length l.text - l.i

@@ -1,0 +1,41 @@
+use crate::Span;
+use crate::proved;
+use crate::shim::alloc::{Global, granted};
+
+/// The lines of a text, for whoever asks for many places of it: each is found by a binary search, where [`Span::linecol_in`] reads the text up to
+/// the place. It takes eight bytes for each line. `wast` has no such type.
+///
+/// Lines and columns are from 0, and a line ends at a line feed. Past the text's end the line is the number of lines, and the column 0.
+///
+/// ```
+/// use wat_lex::{LineIndex, Span};
+///
+/// let text = "(a\n  \u{1f600} \u{e9} b)";
+/// let lines = LineIndex::new(text);
+/// let place = Span::from_offset(text.find('b').unwrap());
+/// assert_eq!(lines.linecol(place), (1, 10));
+/// assert_eq!(lines.utf16_linecol(place), (1, 7));
+/// ```
+pub struct LineIndex<'a> {
+    proved: proved::token::LineIndex<'a>,
+}
+
+impl<'a> LineIndex<'a> {
+    /// Finds the lines of a text.
+    pub fn new(text: &'a str) -> LineIndex<'a> {
+        LineIndex {
+            proved: granted(proved::token::LineIndex::new(Global, text)),
+        }
+    }
+
+    /// Line and column of a place in the text, the column in bytes, as [`Span::linecol_in`] answers them.
+    pub fn linecol(&self, span: Span) -> (usize, usize) {
+        self.proved.linecol(span)
+    }
+
+    /// Line and column of a place in the text, the column in code units of UTF-16, as editors and the language server protocol have them: those of
+    /// the characters of the line that begin before the place. It reads the line up to the place.
+    pub fn utf16_linecol(&self, span: Span) -> (usize, usize) {
+        self.proved.utf16_linecol(span)
+    }
+}
