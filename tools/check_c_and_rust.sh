@@ -80,6 +80,7 @@ read_all() {
     "$compiler" -std=c99 -g -O1 -fsanitize=address,undefined -fno-sanitize-recover=all "${strict[@]}" -o "$room/readers" tools/c/readers.c "$@"
     said=$(find "$texts" -type f ! -name '*.stdout' ! -name '*.args' -print0 | sort -z | xargs -0 "$room/readers" "$mutants") || fail "$name: $said"
     say "$name, $compiler with sanitizers: $said"
+    said_by "$compiler -std=c99 -g -O1 -fsanitize=address,undefined -fno-sanitize-recover=all" "$name" tokens "$@"
 }
 
 # watch NAME LIBRARY..: the functions under valgrind: each byte that is read has a value, and may be read
@@ -122,16 +123,25 @@ refuse() {
     say "$name: $calls calls, each of their $refused requests for memory refused, which each answers"
 }
 
+# said_by COMPILER NAME PROGRAM LIBRARY..: what a program of tools/c says over a library, by a compiler with its options
+said_by() {
+    local compiler name=$2 program=$3 said
+    read -ra compiler <<< "$1"
+    shift 3
+    "${compiler[@]}" "${strict[@]}" -o "$room/$program" "tools/c/$program.c" -x none "$@"
+    said=$("$room/$program") || fail "$name, ${compiler[*]}: $said"
+    say "$name, ${compiler[*]}: $said"
+}
+
 # suite NAME LIBRARY..: all of tools/c over a library
 suite() {
-    local name=$1 compiler level said
+    local name=$1 compiler level
     shift
     libraries+=("$name")
     for compiler in "${compilers[@]}"; do
         for level in -O0 -O2; do
-            "$compiler" -std=c99 "$level" "${strict[@]}" -o "$room/answers" tools/c/answers.c "$@"
-            said=$("$room/answers") || fail "$name, $compiler $level: $said"
-            say "$name, $compiler $level: $said"
+            said_by "$compiler -std=c99 $level" "$name" answers "$@"
+            said_by "$compiler -std=c99 $level" "$name" tokens "$@"
         done
         if sanitizes "$compiler"; then
             read_all "$name" "$compiler" "$@"
@@ -153,6 +163,7 @@ suite() {
         "$cpp" -std=c++11 "${strict[@]}" -o "$room/alone" "$room/alone.cc" "$@"
         "$room/alone"
         say "$name: a program in C++11"
+        said_by "$cpp -x c++ -std=c++11 -O2" "$name" tokens "$@"
     fi
 }
 

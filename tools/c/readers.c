@@ -275,6 +275,7 @@ static struct wat_found look(struct setting s, size_t pos) {
     unsigned reader;
     expect(wat_is_place(s.text, s.len, pos), "a token does not end at a place", pos);
     expect(are_same(found.token, token), "the token alone is another", pos);
+    expect(are_same(token, wat_token_at_inline(s.text, s.len, pos, s.allow, s.strict)), "the token found inline is another", pos);
     expect(position.line <= pos && position.column <= pos, "a line or column past the place", pos);
     for (reader = 0; reader < READERS; reader++) {
         uint8_t none = 0;
