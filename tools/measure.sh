@@ -1,8 +1,8 @@
 #!/usr/bin/env bash
-# Measures this project's calls beside those of the crate wast 263.0.0, in one program (tools/measure) over the loops of tools/measure/rattle: times
-# in turn, pass by pass, by the processor time of a thread that is pinned to one processor, and instructions by callgrind; so too the static
-# library. Writes Markdown
-# tables for docs/SPEED.md to WORK/table.md, and each contender's quartiles to WORK/times.tsv. Texts that are in WORK already are not made again.
+# Measures the calls of Rattle and of the static library for C beside those of the crate wast 263.0.0, in one program (tools/measure) over the loops of
+# tools/measure/rattle and library.c: times in turn, pass by pass, by the processor time of a thread that is pinned to one processor; first passes of
+# processes; instructions by callgrind; memory. Writes rows to WORK/rattle.tsv, for docs/speed, and each contender's quartiles to WORK/times.tsv. Texts
+# that are in WORK already are not made again.
 #
 # usage: [NAME=VALUE ..] tools/measure.sh WORK
 #
@@ -10,7 +10,7 @@
 #                    measured by steps
 #   ARCHIVES=FOLDER  where libwat_measure.a, libwat_parser_c.a and liblibc_c.a lie; otherwise `rt lib` proves and builds the first two
 #   REAL=FILE        the real text; otherwise tools/real_text.sh makes it, where the machine has what it takes
-#   PASSES=31 KINDS=11  how many passes there are, and over the texts of one kind each
+#   PASSES=15 KINDS=5 FIRSTS=11  how many passes there are, over the texts of one kind each, and processes for the first pass of one
 #   CPU=N            the processor; otherwise the last
 set -eu -o pipefail
 mkdir -p "${1:?usage: [NAME=VALUE ..] tools/measure.sh WORK}"
@@ -19,21 +19,17 @@ work=$(cd "$1" && pwd)
 [ -z "${ARCHIVES:-}" ] || ARCHIVES=$(cd "$ARCHIVES" && pwd)
 [ -z "${REAL:-}" ] || REAL=$(realpath "$REAL")
 cd "$(dirname "$0")/.."
-passes=${PASSES:-31}
-kinds=${KINDS:-11}
+passes=${PASSES:-15}
+kinds=${KINDS:-5}
+firsts=${FIRSTS:-11}
 cpu=${CPU:-$(($(nproc --all) - 1))}
 texts=$work/texts
-program=$work/program/target/release/measure
+program=$work/target/release/measure
 # Its lexing where the crate's `parse` has one caller.
-program_one=$work/program/target/release/one
+program_one=$work/target/release/one
 
-say() {
-    echo "measure.sh: $*" >&2
-}
-
-has() {
-    command -v "$1" > /dev/null
-}
+# shellcheck source=tools/measure/rows.sh
+. tools/measure/rows.sh
 
 # build_loops: proves and builds the loops, in a copy in which they are a crate, so that they are none where CI proves all
 build_loops() {
@@ -60,11 +56,11 @@ fi
 export ARCHIVES
 
 # The program.
-mkdir -p "$work/program"
-cp -r tools/measure/. "$work/program/"
+rm -rf "$work/measure" "$work/measure_rust"
+cp -r tools/measure tools/measure_rust "$work/"
 features=()
 if [ -n "${WAST:-}" ]; then
-    sed -i "s|^wast = .*|wast = { path = \"$WAST\", default-features = false }|" "$work/program/Cargo.toml"
+    sed -i "s|^wast = .*|wast = { path = \"$WAST\", default-features = false }|" "$work/measure/Cargo.toml"
     features=(--offline)
     if grep -q 'fn oracle_any' "$WAST/src/parser.rs"; then
         features+=(--features any)
@@ -72,7 +68,8 @@ if [ -n "${WAST:-}" ]; then
         say 'the steps of the crate are left out, as it has no Cursor::oracle_any'
     fi
 fi
-(cd "$work/program" && CARGO_TARGET_DIR=$work/program/target cargo build --release --quiet "${features[@]}")
+export INCLUDE=$PWD/include
+(cd "$work/measure" && CARGO_TARGET_DIR=$work/target cargo build --release --quiet "${features[@]}")
 
 # The texts.
 if [ ! -d "$texts" ]; then
@@ -81,6 +78,7 @@ if [ ! -d "$texts" ]; then
     tools/generate.py 10 > "$texts.new/generated.wat"
     tools/kinds.py "$texts.new/kinds"
     tools/measure/texts.py "$texts.new" "$texts.new/generated.wat"
+    tools/measure/forms.py "$texts.new/forms"
     mv "$texts.new" "$texts"
 fi
 if [ -n "${REAL:-}" ]; then
@@ -109,115 +107,70 @@ those() {
     done
 }
 
-# table HEAD: the head of a table of Markdown
-table() {
-    printf '\n%s\n' "$1"
-    tr -cd '|' <<< "$1" | sed 's/|/|---/g; s/---$/\n/'
+# over_all SUITE: its rows, on all texts
+over_all() {
+    times "$1" "$passes" "${all[@]}"
+    times "$1" "$kinds" "$texts"/kinds/*.wat "${forms[@]}"
 }
 
-# times SUITE PASSES TEXT..: the rows of a suite
-times() {
-    taskset -c "$cpu" "$program" "$2" "$1" "${@:3}" 2>> "$work/times.tsv"
+# sized SUITE NAME: its rows over a text, over its fronts, by the first pass of a process, and by instructions
+sized() {
+    each "$1" "$texts/$2.wat" "$texts/fronts/$2, "{1,4}" MB.wat"
+    first "$1" "$texts/$2.wat"
+    counts "$1" "$texts/$2.wat"
 }
 
-# each SUITE TEXT..: its rows, each text in a process of its own: what was freed before decides which pages glibc gives to a table
-each() {
-    local text
-    for text in "${@:2}"; do
-        times "$1" "$passes" "$text"
-    done
-}
-
-# lexing: the rows of the suite, on all texts
 lexing() {
-    times lexing "$passes" "${all[@]}"
-    times lexing "$kinds" "$texts"/kinds/*.wat
+    local some=("${all[@]}" "$texts"/kinds/{keywords,integers,parens,marks,blanks_single,line_long}.wat)
+    over_all lexing
+    counts lexing "${some[@]}"
+    first lexing "${all[@]}"
+    program=$program_one over_all 'lexing, one caller'
+    program=$program_one counts 'lexing, one caller' "${some[@]}"
+    over_all library
+    counts library "${some[@]}"
+    program=$program_one over_all 'library, one caller'
+    program=$program_one counts 'library, one caller' "${some[@]}"
+    over_all rows
 }
 
-# library: the rows of the suite, on all texts
-library() {
-    times library "$passes" "${all[@]}"
-    times library "$kinds" "$texts"/kinds/*.wat
+readers() {
+    local values=("$texts"/kinds/{strings,ids,integers,floats}_*.wat "$texts"/kinds/{hex,integers,floats,keywords,marks}.wat)
+    values+=("$texts"/forms/{data,asserts,mangled,quoted,binary}.wat "$texts/real.wat")
+    local comments=("$texts"/kinds/{line,block}_comments.wat "$texts"/kinds/{line,block}_long.wat "$texts"/forms/{comments,unicode}.wat)
+    times readers "$kinds" "${values[@]}" "$texts/forms/data_one.wat"
+    times comments "$kinds" "${comments[@]}"
+    counts readers "${values[@]}"
+    counts comments "${comments[@]}"
 }
 
-# instructions FUNCTION TEXT: how many instructions a call takes for each byte of the text's front
-instructions() {
-    local counted bytes
-    valgrind --tool=callgrind --callgrind-out-file=/dev/null --toggle-collect="$1" "$program" once "$1" "$2" 1000000 \
-        > "$work/once" 2> "$work/valgrind" || { cat "$work/valgrind" >&2; exit 1; }
-    bytes=$(cut -f3 "$work/once")
-    counted=$(sed -n 's/.*Collected : *//p' "$work/valgrind")
-    if [ "${counted:-0}" = 0 ]; then
-        say "callgrind saw no call of $1"
-        exit 1
-    fi
-    awk "BEGIN { printf \"%.2f\", $counted / $bytes }"
-}
-
-# counts SUITE TEXT..: the rows of a suite's instructions
-counts() {
-    local text ours theirs what mine other
-    for text in "${@:2}"; do
-        while read -r ours theirs what; do
-            mine=$(instructions "$ours" "$text") other='' ratio=''
-            if [ "$theirs" != - ]; then
-                other=$(instructions "$theirs" "$text")
-                ratio=$(awk "BEGIN { printf \"%.2f\", $other / $mine }")
-            fi
-            echo "| $(basename "$text" .wat) | $what | $mine | $other | $ratio |"
-        done < <("$program" functions "$1")
+parsing() {
+    local name
+    for name in real generated annotated dense; do
+        [ ! -e "$texts/$name.wat" ] || sized parser "$name"
     done
+    for name in u32_decimal u32_hexadecimal u32_mixed; do
+        sized numbers "$name"
+    done
+    sized groups groups
+    each parser "${forms[@]}" "$texts/forms/files"
+    first parser "${forms[@]}"
+    each refused "$texts"/forms/{refused,fault}_*.wat
+    memory parser "${all[@]}"
 }
 
-# growth FUNCTION TEXT: by how many bytes the process grows for each byte of the text
-growth() {
-    "$program" once "$1" "$2" | awk '{ printf "%.2f", $2 / $3 }'
-}
-
-# (the back quotes are Markdown's)
-# shellcheck disable=SC2016
 measure() {
-    local text
-    echo "Measured on $(date -u +%F) at commit $(git rev-parse --short HEAD), on $(sed -n 's/^model name.*: //p;' /proc/cpuinfo | head -1), with $(nproc --all)"
-    echo "processors at a load of $(cut -d' ' -f1 /proc/loadavg), by $(rustc --version | cut -d' ' -f1-2). $passes passes, of texts of one kind $kinds; ratios of medians, above 1 ours is faster."
+    describe "$passes passes in turn, of texts of one kind $kinds, of first passes $firsts processes; medians"
     mapfile -t all < <(those real generated annotated dense)
-    table '| text | the crate, MB/s | `scan` | `parse` | `iter` | `scan`, whole | `parse`, whole | `iter`, whole |'
+    mapfile -t forms < <(those forms/{flat,crlf,minified,folded,mangled,quoted,data,data_one,asserts,binary,comments,unicode})
     lexing
-    table '| text | the crate with one caller, MB/s | `scan` | `parse` | `iter` |'
-    program=$program_one lexing
-    table '| text | what | ours, ms | the crate, ms | ratio |'
-    library
-    table '| text | what | ours, ms | the crate with one caller, ms | ratio |'
-    program=$program_one library
-    table '| text | what | ours, ms | the crate, ms | ratio |'
-    each parser "${all[@]}"
-    each numbers "$texts"/u32_*.wat
-    each groups "$texts/groups.wat"
-    each parser "$texts"/fronts/{real,generated,annotated,dense}*.wat
-    each numbers "$texts"/fronts/u32_*.wat
-    each groups "$texts"/fronts/groups*.wat
+    readers
+    parsing
     times places "$passes" "${all[@]}"
     times errors "$passes" "$texts"/line_*.wat
-    table '| text | buffer and parser, bytes a byte |'
-    for text in "${all[@]}"; do
-        echo "| $(basename "$text" .wat) | $(growth measure_each "$text") |"
-    done
-    if ! has valgrind; then
-        say 'instructions are left out, as valgrind is not here'
-        return
-    fi
-    table '| the first megabyte of | what | ours, instructions a byte | the crate | ratio |'
-    counts lexing "${all[@]}" "$texts"/kinds/{keywords,integers,parens,line_long}.wat
-    table '| the first megabyte of | what | ours, instructions a byte | the crate with one caller | ratio |'
-    program=$program_one counts lexing "${all[@]}" "$texts"/kinds/{keywords,integers,parens,line_long}.wat
-    program=$program_one counts library "${all[@]}" "$texts"/kinds/{keywords,integers,parens,marks,line_long}.wat
-    table '| the first megabyte of | what | ours, instructions a byte | the crate | ratio |'
-    counts parser "${all[@]}"
-    counts numbers "$texts"/u32_*.wat
-    counts groups "$texts/groups.wat"
     counts places "$texts/generated.wat"
     counts errors "$texts"/line_*.wat
 }
 
 : > "$work/times.tsv"
-measure | tee "$work/table.md"
+measure | tee "$work/rattle.tsv"

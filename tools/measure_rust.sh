@@ -1,71 +1,103 @@
 #!/usr/bin/env bash
-# Measures the Rust crates beside the crate wast 263.0.0, in one program that cargo builds with its defaults (tools/measure_rust), and once more with
-# `-C target-cpu=native`: times in turn, pass by pass, by the processor time of a thread that is pinned to one processor, and instructions by
-# callgrind. Writes Markdown tables for docs/SPEED.md.
+# Measures the Rust crates and the C library by cargo beside the crate wast 263.0.0, in one program that cargo builds with its defaults
+# (tools/measure_rust), and the first suite once more with `-C target-cpu=native`: times in turn, pass by pass, by the processor time of a thread that
+# is pinned to one processor; first passes of processes; instructions by callgrind; memory. Writes rows to WORK/rust.tsv, for docs/speed.
 #
-# usage: WAST=FOLDER [NAME=VALUE ..] tools/measure_rust.sh WORK
+# usage: WAST=FOLDER TEXTS=FOLDER [NAME=VALUE ..] tools/measure_rust.sh WORK
 #
 #   WAST=FOLDER   the crate wast 263.0.0
 #   TEXTS=FOLDER  the texts that tools/measure.sh left in its WORK/texts
 #   CARGO=cargo   cargo with its options, where no registry is at hand
-#   PASSES=15     how many passes there are
+#   PASSES=9 FIRSTS=11  how many passes there are, and processes for the first pass of one
 #   CPU=N         the processor; otherwise the last
 set -eu -o pipefail
 mkdir -p "${1:?usage: WAST=FOLDER TEXTS=FOLDER tools/measure_rust.sh WORK}"
 work=$(cd "$1" && pwd)
-crate=$(cd "$WAST" && pwd)
-folder=$(cd "$TEXTS" && pwd)
+crate=$(cd "${WAST:?the crate wast}" && pwd)
+texts=$(cd "${TEXTS:?a folder of texts}" && pwd)
 cd "$(dirname "$0")/.."
 cpu=${CPU:-$(($(nproc --all) - 1))}
-kinds=("$folder"/{real,generated,annotated,dense}.wat "$folder"/kinds/{parens,marks,keywords,ids_short,integers,hex,floats,blanks_single}.wat)
-kinds+=("$folder"/kinds/{line_comments,line_long,block_comments,strings_short,strings_escapes}.wat)
+passes=${PASSES:-9}
+firsts=${FIRSTS:-11}
+program=$work/target/release/measure_rust
 
-readers=("$folder"/kinds/{strings_short,strings_prose,strings_mixed,strings_escapes,ids_short,ids_quoted,ids_escaped}.wat)
-readers+=("$folder"/kinds/{integers_decimal,integers,hex,floats_decimal,floats_hex,floats}.wat "$folder/real.wat")
+# shellcheck source=tools/measure/rows.sh
+. tools/measure/rows.sh
 
+# build FLAGS TARGET: the program, with flags of rustc
+build() {
+    (cd "$work/measure_rust" && RUSTFLAGS=$1 CARGO_TARGET_DIR=$2 ${CARGO:-cargo} build --release --quiet)
+}
+
+# The program, and the shared library for C.
 rm -rf "$work/measure" "$work/measure_rust"
 cp -r tools/measure tools/measure_rust "$work/"
 sed -i "s|^wast = .*|wast = { path = \"$crate\", default-features = false }|; s|\"\.\./\.\./rust|\"$PWD/rust|" "$work/measure_rust/Cargo.toml"
+(cd rust && CARGO_TARGET_DIR=$work/library ${CARGO:-cargo} build --locked --release --quiet --package wat-c)
+export INCLUDE=$PWD/include SHARED=$work/library/release
+build '' "$work/target"
+build '-C target-cpu=native' "$work/native"
 
-# times PROGRAM SUITE TEXT..: the rows of a suite
-times() {
-    taskset -c "$cpu" "$1" "${PASSES:-15}" "$2" "${@:3}" 2>> "$work/times.tsv"
+# kinds NAME..: texts of one kind
+kinds() {
+    printf "$texts/kinds/%s.wat\n" "$@"
 }
 
-# instructions PROGRAM FUNCTION TEXT: how many a call takes for each byte of the text's front
-instructions() {
-    valgrind --tool=callgrind --callgrind-out-file=/dev/null --toggle-collect="$2" "$1" once "$2" "$3" 1000000 > "$work/once" 2> "$work/valgrind"
-    awk -v bytes="$(cut -f3 "$work/once")" '/Collected/ { printf "%.2f", $NF / bytes }' "$work/valgrind"
+# forms NAME..: texts of a form
+forms() {
+    printf "$texts/forms/%s.wat\n" "$@"
 }
 
-# counts PROGRAM SUITE TEXT..: the rows of a suite's instructions
-counts() {
-    local text ours theirs what mine other
-    for text in "${@:3}"; do
-        while read -r ours theirs what; do
-            mine=$(instructions "$1" "$ours" "$text") other=$(instructions "$1" "$theirs" "$text")
-            echo "| $(basename "$text" .wat) | $what | $mine | $other | $(awk "BEGIN { printf \"%.2f\", $other / $mine }") |"
-        done < <("$1" functions "$2")
-    done
+lexing() {
+    times lexing "$passes" "${all[@]}" "${kinds[@]}" "${forms[@]}"
+    times library "$passes" "${all[@]}" "${kinds[@]}"
+    times rows "$passes" "${all[@]}"
+    counts lexing "${some[@]}"
+    counts library "${some[@]}"
+    first lexing "${all[@]}"
+    program=$work/native/release/measure_rust times lexing "$passes" "${all[@]}" "${kinds[@]}" | sed 's/\t/, native\t/'
 }
 
-# (the back quotes are Markdown's)
-# shellcheck disable=SC2016
-for flags in '' '-C target-cpu=native'; do
-    target=$work/target${flags##*=}
-    (cd "$work/measure_rust" && RUSTFLAGS=$flags CARGO_TARGET_DIR=$target ${CARGO:-cargo} build --release --quiet)
-    program=$target/release/measure_rust
-    printf '\nBuilt with `%s`, load %s:\n\n' "${flags:-cargo build --release}" "$(cut -d' ' -f1 /proc/loadavg)"
-    echo '| text | the crate, MB/s | `scan` | `parse` | `iter` | `scan`, whole | `parse`, whole | `iter`, whole |'
-    times "$program" lexing "${kinds[@]}"
-    printf '\n| text | what | ours, ms | the crate, ms | ratio |\n'
-    times "$program" numbers "$folder"/u32_*.wat "$folder/fronts"/u32_*.wat
-    times "$program" groups "$folder/groups.wat" "$folder/fronts"/groups*.wat
-    times "$program" readers "${readers[@]}"
-done
-printf '\nInstructions a byte, cargo build --release:\n\n| the first megabyte of | what | ours | the crate | ratio |\n'
-program=$work/target/release/measure_rust
-counts "$program" lexing "$folder"/{real,generated}.wat "$folder"/kinds/{parens,marks}.wat
-counts "$program" numbers "$folder"/u32_*.wat
-counts "$program" groups "$folder/groups.wat"
-counts "$program" readers "${readers[@]}"
+readers() {
+    times readers "$passes" "${values[@]}" "$texts/forms/data_one.wat"
+    times comments "$passes" "${comments[@]}"
+    counts readers "${values[@]}"
+}
+
+parsing() {
+    each parser "$texts"/{real,generated}.wat "${forms[@]}" "$texts/forms/files"
+    each numbers "$texts"/u32_*.wat "$texts"/fronts/u32_*.wat
+    each ids "$texts"/kinds/ids_{short,quoted,escaped}.wat
+    each strings "$texts"/kinds/strings_{short,mixed,escapes}.wat
+    each floats "$texts"/kinds/floats{,_decimal,_hex}.wat
+    each groups "$texts/groups.wat" "$texts"/fronts/groups*.wat
+    each refused "$texts"/forms/{refused,fault}_*.wat
+    first parser "$texts"/{real,generated}.wat "${forms[@]}"
+    first numbers "$texts"/u32_*.wat
+    counts parser "$texts"/{real,generated}.wat
+    counts numbers "$texts"/u32_*.wat
+    counts groups "$texts/groups.wat"
+    memory parser "$texts"/{real,generated}.wat
+}
+
+measure() {
+    describe "$passes passes in turn, of first passes $firsts processes; medians"
+    local all=("$texts"/{real,generated,annotated,dense}.wat) some kinds forms values comments
+    mapfile -t kinds < <(kinds parens marks keywords ids_short integers hex floats blanks_single line_comments line_long block_comments strings_short)
+    mapfile -t forms < <(forms flat crlf minified folded mangled quoted data data_one asserts binary comments unicode)
+    mapfile -t some < <(kinds parens marks blanks_single)
+    some+=("$texts"/{real,generated}.wat)
+    mapfile -t values < <(kinds strings_short strings_prose strings_mixed strings_escapes ids_short ids_quoted ids_escaped integers_decimal integers hex \
+        floats_decimal floats_hex floats keywords marks)
+    values+=("$texts/real.wat" "$texts"/forms/{data,asserts,binary,mangled,quoted}.wat)
+    mapfile -t comments < <(kinds line_comments line_long block_comments)
+    comments+=("$texts"/forms/{comments,unicode}.wat)
+    lexing
+    readers
+    parsing
+    times places "$passes" "${all[@]}"
+    times errors "$passes" "$texts"/line_*.wat
+}
+
+: > "$work/times.tsv"
+measure | tee "$work/rust.tsv"

@@ -1,8 +1,12 @@
-//! Finds the static libraries of loops and for C, and the small C library of Rattle's kit, in the folder that `ARCHIVES` names.
+//! Compiles the loops in C over the header in the folder that `INCLUDE` names, and finds the static libraries of loops and for C, and the small C library
+//! of Rattle's kit, in the folder that `ARCHIVES` names.
+
+include!("compile.rs");
 
 fn main() {
     println!("cargo::rerun-if-env-changed=ARCHIVES");
     let folder = std::env::var("ARCHIVES").expect("ARCHIVES names the folder of libwat_measure.a");
+    compile("library.c");
     println!("cargo::rustc-link-search=native={folder}");
     for archive in ["wat_measure", "wat_parser_c", "libc_c"] {
         println!("cargo::rerun-if-changed={folder}/lib{archive}.a");

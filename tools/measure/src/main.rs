@@ -2,91 +2,143 @@
 //! another in each pass. A time is the processor time of the thread, and a ratio that of the medians, the crate's to ours: above 1 ours is faster.
 //! Ours and the crate's have to answer the same sum, and not 0, which is for a text that is refused.
 //!
-//! usage: measure PASSES lexing|library|parser|numbers|groups|places|errors TEXT..    the rows of a Markdown table
-//!        measure functions SUITE                                             the functions of a suite: ours, and the crate's or -
-//!        measure once FUNCTION TEXT [BYTES]                                  one call on the text, or on its front: the sum, and by how many
-//!                                                                            bytes the process grew
+//! usage: measure PASSES SUITE TEXT..             a row for each call: suite, text, call, milliseconds of ours and of the crate's, ratio
+//!        measure functions SUITE                 the functions of a suite: ours, and the crate's or -, and the call
+//!        measure once FUNCTION TEXT [BYTES]      one call on the text, or on its front: the sum, by how many bytes the process grew, the
+//!                                                text's bytes, the milliseconds
 //!
-//! In `errors` the fault is at the text's last byte. Each contender's best, median and quartiles go to standard error.
+//! A TEXT that is a folder stands for its files, which a pass reads one by one. In `errors` the fault is at the text's last byte. Each contender's
+//! best, quartile, median and upper quartile go to standard error.
 
+#[path = "../../measure_rust/src/layer.rs"]
+mod layer;
 mod library;
 mod measure;
+#[cfg(feature = "any")]
 mod more;
 mod ours;
-mod theirs;
 
-use library::library;
+use layer::layer;
+use library::{of_rows, of_tokens};
 use measure::{Loop, Pair, Suite, pair, run_words};
 use std::process::ExitCode;
 
+layer!(
+    wast, theirs: theirs_parse, theirs_parse_whole, theirs_iter, theirs_iter_whole, theirs_counting, theirs_values, theirs_comments,
+    theirs_each, theirs_u32s, theirs_ids, theirs_strings, theirs_floats, theirs_groups, theirs_refused, theirs_linecol, theirs_error
+);
+
 const PARSE: Option<Loop> = Some(("theirs_parse", theirs::theirs_parse));
-const WHOLE: Option<Loop> = Some(("theirs_parse_whole", more::theirs_parse_whole));
+const WHOLE: Option<Loop> = Some(("theirs_parse_whole", theirs::theirs_parse_whole));
+const COUNTING: Option<Loop> = Some(("theirs_counting", theirs::theirs_counting));
+const VALUES: Option<Loop> = Some(("theirs_values", theirs::theirs_values));
+const COMMENTS: Option<Loop> = Some(("theirs_comments", theirs::theirs_comments));
+const U32S: Option<Loop> = Some(("theirs_u32s", theirs::theirs_u32s));
+const GROUPS: Option<Loop> = Some(("theirs_groups", theirs::theirs_groups));
+const REFUSED: Option<Loop> = Some(("theirs_refused", theirs::theirs_refused));
+const LINECOL: Option<Loop> = Some(("theirs_linecol", theirs::theirs_linecol));
+const ERROR: Option<Loop> = Some(("theirs_error", theirs::theirs_error));
 
 #[cfg(feature = "any")]
-const EACH: Option<Loop> = Some(("theirs_each", more::theirs_each));
+const EACH: Option<Loop> = Some(("theirs_any", more::theirs_any));
 #[cfg(not(feature = "any"))]
 const EACH: Option<Loop> = None;
 
 const LEXING: &[Pair] = &[
-    pair("`scan`", ("measure_scan", ours::scan), PARSE),
-    pair("`parse`", ("measure_parse", ours::parse), PARSE),
-    pair("`iter`", ("measure_iter", ours::iter), PARSE),
+    pair("Lexer::scan", ("measure_scan", ours::scan), PARSE),
+    pair("Lexer::parse", ("measure_parse", ours::parse), PARSE),
+    pair("Lexer::iter", ("measure_iter", ours::iter), PARSE),
     pair(
-        "`scan`, whole",
+        "Lexer::scan, whole",
         ("measure_scan_whole", ours::scan_whole),
         WHOLE,
     ),
     pair(
-        "`parse`, whole",
+        "Lexer::parse, whole",
         ("measure_parse_whole", ours::parse_whole),
         WHOLE,
     ),
     pair(
-        "`iter`, whole",
+        "Lexer::iter, whole",
         ("measure_iter_whole", ours::iter_whole),
         WHOLE,
     ),
 ];
 
-const LIBRARY: &[Pair] = &library(PARSE);
-
+// What reads with a parser has a loop for each source of one, beside the same of the crate.
 const PARSER: &[Pair] = &[
-    pair("buffer", ("measure_buffer", ours::buffer), None),
-    pair("each", ("measure_each", ours::each), EACH),
+    pair("ParseBuffer::new", ("measure_buffer", ours::buffer), None),
+    pair("Parser::step", ("measure_each", ours::each), EACH),
 ];
-
-const NUMBERS: &[Pair] = &[pair(
-    "`parse::<u32>`",
-    ("measure_u32s", ours::u32s),
-    Some(("theirs_u32s", more::theirs_u32s)),
-)];
-
-const GROUPS: &[Pair] = &[pair(
-    "groups",
-    ("measure_groups", ours::groups),
-    Some(("theirs_groups", more::theirs_groups)),
-)];
-
-const PLACES: &[Pair] = &[pair(
-    "`linecol_in` at the end",
-    ("measure_linecol", ours::linecol),
-    Some(("theirs_linecol", more::theirs_linecol)),
-)];
-
-const ERRORS: &[Pair] = &[pair(
-    "the fault at the end, printed",
-    ("measure_error", ours::error),
-    Some(("theirs_error", more::theirs_error)),
-)];
 
 const SUITES: &[Suite] = &[
     ("lexing", LEXING),
-    ("library", LIBRARY),
+    ("library", &of_tokens(PARSE)),
+    ("rows", &of_rows(COUNTING)),
+    (
+        "readers",
+        &[
+            pair(
+                "Token::string and so on",
+                ("measure_values", ours::values),
+                VALUES,
+            ),
+            pair("wat_word, wat_string_of and so on", library::VALUES, VALUES),
+        ],
+    ),
+    (
+        "comments",
+        &[
+            pair(
+                "Token::src of comments",
+                ("measure_comments", ours::comments),
+                COMMENTS,
+            ),
+            pair("wat_comment", library::COMMENTS, COMMENTS),
+        ],
+    ),
     ("parser", PARSER),
-    ("numbers", NUMBERS),
-    ("groups", GROUPS),
-    ("places", PLACES),
-    ("errors", ERRORS),
+    (
+        "numbers",
+        &[
+            pair("Parser::parse::<u32>", ("measure_u32s", ours::u32s), U32S),
+            pair("wat_integer_of", library::U32S, U32S),
+        ],
+    ),
+    (
+        "groups",
+        &[pair(
+            "Parser::parens",
+            ("measure_groups", ours::groups),
+            GROUPS,
+        )],
+    ),
+    (
+        "refused",
+        &[pair(
+            "parser::parse, refused",
+            ("measure_refused", ours::refused),
+            REFUSED,
+        )],
+    ),
+    (
+        "places",
+        &[
+            pair(
+                "Span::linecol_in",
+                ("measure_linecol", ours::linecol),
+                LINECOL,
+            ),
+            pair("wat_line_column", library::LINECOL, LINECOL),
+        ],
+    ),
+    (
+        "errors",
+        &[
+            pair("Error, printed", ("measure_error", ours::error), ERROR),
+            pair("wat_fault", library::ERROR, ERROR),
+        ],
+    ),
 ];
 
 fn main() -> ExitCode {

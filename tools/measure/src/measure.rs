@@ -24,12 +24,30 @@ pub const fn pair(what: &'static str, ours: Loop, theirs: Option<Loop>) -> Pair 
     Pair { what, ours, theirs }
 }
 
+/// Loops in C or in Rattle over a text, made safe.
+macro_rules! loops {
+    ($($name:ident $symbol:ident),* $(,)?) => {
+        unsafe extern "C" {
+            $(fn $symbol(text: *const u8, len: usize) -> u64;)*
+        }
+
+        $(#[allow(dead_code)]
+        pub fn $name(text: &str) -> u64 {
+            assert!(text.len() <= u32::MAX as usize);
+            // SAFETY: the text is UTF-8, as each `&str`, and its length was tested.
+            unsafe { $symbol(text.as_ptr(), text.len()) }
+        })*
+    };
+}
+#[allow(unused_imports)]
+pub(crate) use loops;
+
 /// A suite, by its name.
 pub type Suite = (&'static str, &'static [Pair]);
 
-fn suite(suites: &[Suite], name: &str) -> Result<&'static [Pair]> {
+fn suite<'a>(suites: &'a [Suite], name: &str) -> Result<&'a Suite> {
     let found = suites.iter().find(|suite| suite.0 == name);
-    Ok(found.ok_or_else(|| format!("no suite {name}"))?.1)
+    Ok(found.ok_or_else(|| format!("no suite {name}"))?)
 }
 
 unsafe extern "C" {
@@ -58,9 +76,8 @@ impl Times {
         self.part(2) as f64
     }
 
-    fn milliseconds(&self) -> String {
-        let time = self.median() / 1e6;
-        format!("{time:.*}", if time < 1.0 { 4 } else { 1 })
+    fn milliseconds(&self) -> f64 {
+        self.median() / 1e6
     }
 }
 
@@ -76,16 +93,23 @@ fn contenders(suite: &[Pair]) -> Vec<Loop> {
     all
 }
 
+/// What a loop answers of texts, one after another, and how long it took.
+fn pass(call: fn(&str) -> u64, texts: &[String]) -> (u64, u64) {
+    let begun = now();
+    let sums = texts.iter().map(|text| black_box(call(black_box(text))));
+    let sum = sums.fold(0, u64::wrapping_add);
+    ((now() - begun).max(1), sum)
+}
+
 /// The times of all contenders, in turn, and their sums.
-fn run(contenders: &[Loop], passes: usize, text: &str) -> Vec<(Times, u64)> {
+fn run(contenders: &[Loop], passes: usize, texts: &[String]) -> Vec<(Times, u64)> {
     let count = contenders.len();
     let mut all: Vec<_> = contenders.iter().map(|_| (Times(Vec::new()), 0)).collect();
-    for pass in 0..passes {
+    for number in 0..passes {
         for turn in 0..count {
-            let at = (pass + turn) % count;
-            let begun = now();
-            let sum = black_box(contenders[at].1(black_box(text)));
-            all[at].0.0.push((now() - begun).max(1));
+            let at = (number + turn) % count;
+            let (time, sum) = pass(contenders[at].1, texts);
+            all[at].0.0.push(time);
             all[at].1 = sum;
         }
     }
@@ -95,10 +119,10 @@ fn run(contenders: &[Loop], passes: usize, text: &str) -> Vec<(Times, u64)> {
     all
 }
 
-/// Prints the rows of a text.
-fn rows(name: &str, suite: &[Pair], passes: usize, text: &str) -> Result<()> {
-    let contenders = contenders(suite);
-    let runs = run(&contenders, passes, text);
+/// Prints the rows of a text, or of the texts of a folder: suite, text, call, milliseconds of ours and of the crate's, their ratio.
+fn rows(name: &str, suite: &Suite, passes: usize, texts: &[String]) -> Result<()> {
+    let contenders = contenders(suite.1);
+    let runs = run(&contenders, passes, texts);
     for ((function, _), (times, sum)) in contenders.iter().zip(&runs) {
         let parts = [0, 1, 2, 3].map(|part| (times.part(part) as f64 / 1e6).to_string());
         eprintln!("{name}\t{function}\t{}\t{sum}", parts.join("\t"));
@@ -107,39 +131,44 @@ fn rows(name: &str, suite: &[Pair], passes: usize, text: &str) -> Result<()> {
         let at = contenders.iter().position(|one| one.0 == function);
         &runs[at.expect("each function of a suite runs")]
     };
-    let mut ratios = Vec::new();
-    for pair in suite {
+    for pair in suite.1 {
         let (ours, sum) = of(pair.ours.0);
+        let row = format!(
+            "{}\t{name}\t{}\t{:.3}",
+            suite.0,
+            pair.what,
+            ours.milliseconds()
+        );
         if *sum == 0 {
             return Err(format!("{name}: {} reads nothing", pair.ours.0).into());
         }
         let Some((function, _)) = pair.theirs else {
-            println!("| {name} | {} | {} | | |", pair.what, ours.milliseconds());
+            println!("{row}\t-\t-");
             continue;
         };
         let (theirs, other) = of(function);
         if sum != other {
-            let differ = format!(
-                "{name}: {} answers {sum}, and {function} {other}",
-                pair.ours.0
-            );
-            return Err(differ.into());
+            let (ours, other) = ((pair.ours.0, sum), (function, other));
+            return Err(format!("{name}: {ours:?} and {other:?} answer otherwise").into());
         }
         let ratio = theirs.median() / ours.median();
-        ratios.push(format!("{ratio:.2}"));
-        if suite.len() <= 2 {
-            let (ours, theirs) = (ours.milliseconds(), theirs.milliseconds());
-            println!(
-                "| {name} | {} | {ours} | {theirs} | {ratio:.2} |",
-                pair.what
-            );
-        }
-    }
-    if suite.len() > 2 {
-        let speed = text.len() as f64 * 1e3 / of("theirs_parse").0.median();
-        println!("| {name} | {speed:.0} | {} |", ratios.join(" | "));
+        println!("{row}\t{:.3}\t{ratio:.2}", theirs.milliseconds());
     }
     Ok(())
+}
+
+/// The text of a file, or those of the files of a folder.
+fn texts(path: &str) -> Result<Vec<String>> {
+    if !Path::new(path).is_dir() {
+        return Ok(vec![fs::read_to_string(path)?]);
+    }
+    let entries = fs::read_dir(path)?.map(|entry| Ok(entry?.path()));
+    let mut files = entries.collect::<Result<Vec<_>>>()?;
+    files.sort();
+    files
+        .iter()
+        .map(|file| Ok(fs::read_to_string(file)?))
+        .collect()
 }
 
 /// The front of a text of at most so many bytes, of whole lines where it has one.
@@ -159,42 +188,38 @@ fn memory(key: &str) -> Result<u64> {
     Ok(number.ok_or("no such line")?.parse::<u64>()? * 1024)
 }
 
-fn once(suites: &[Suite], function: &str, text: &str) -> Result<()> {
+/// Prints of one call the sum, by how many bytes the process grew, the bytes of the texts, and the milliseconds.
+fn once(suites: &[Suite], function: &str, texts: &[String]) -> Result<()> {
     let all = suites.iter().flat_map(|suite| contenders(suite.1));
     let found = all.into_iter().find(|one| one.0 == function);
     let (_, call) = found.ok_or_else(|| format!("no function {function}"))?;
     let before = memory("VmRSS:")?;
-    let sum = black_box(call(black_box(text)));
+    let (time, sum) = pass(call, texts);
     let grown = memory("VmHWM:")?.saturating_sub(before);
-    println!("{sum}\t{grown}\t{}", text.len());
+    let bytes: usize = texts.iter().map(String::len).sum();
+    println!("{sum}\t{grown}\t{bytes}\t{:.3}", time as f64 / 1e6);
     Ok(())
 }
 
 fn answer(suites: &[Suite], words: &[&str]) -> Result<()> {
     match words {
         ["functions", name] => {
-            for pair in suite(suites, name)? {
+            for pair in suite(suites, name)?.1 {
                 let theirs = pair.theirs.map_or("-", |theirs| theirs.0);
                 println!("{} {theirs} {}", pair.ours.0, pair.what);
             }
             Ok(())
         }
-        ["once", function, path] => once(suites, function, &fs::read_to_string(path)?),
-        ["once", function, path, bytes] => once(
-            suites,
-            function,
-            front(&fs::read_to_string(path)?, bytes.parse()?),
-        ),
+        ["once", function, path] => once(suites, function, &texts(path)?),
+        ["once", function, path, bytes] => {
+            let whole = fs::read_to_string(path)?;
+            once(suites, function, &[front(&whole, bytes.parse()?).into()])
+        }
         [passes, name, paths @ ..] => {
             let (passes, suite) = (passes.parse::<usize>()?.max(1), suite(suites, name)?);
             for path in paths {
                 let name = Path::new(path).file_stem().unwrap_or_default();
-                rows(
-                    &name.to_string_lossy(),
-                    suite,
-                    passes,
-                    &fs::read_to_string(path)?,
-                )?;
+                rows(&name.to_string_lossy(), suite, passes, &texts(path)?)?;
             }
             Ok(())
         }

@@ -5,7 +5,7 @@ mod measure;
 mod ours;
 mod theirs;
 
-use library::library;
+use library::of_tokens;
 use measure::{Loop, Suite, pair, run_words};
 use std::process::ExitCode;
 
@@ -13,14 +13,14 @@ const PARSE: Option<Loop> = Some(("theirs_parse", theirs::theirs_parse));
 
 const SUITES: &[Suite] = &[
     (
-        "lexing",
+        "lexing, one caller",
         &[
-            pair("`scan`", ("measure_scan", ours::scan), PARSE),
-            pair("`parse`", ("measure_parse", ours::parse), PARSE),
-            pair("`iter`", ("measure_iter", ours::iter), PARSE),
+            pair("Lexer::scan", ("measure_scan", ours::scan), PARSE),
+            pair("Lexer::parse", ("measure_parse", ours::parse), PARSE),
+            pair("Lexer::iter", ("measure_iter", ours::iter), PARSE),
         ],
     ),
-    ("library", &library(PARSE)),
+    ("library, one caller", &of_tokens(PARSE)),
 ];
 
 fn main() -> ExitCode {

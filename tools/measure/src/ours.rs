@@ -1,20 +1,7 @@
 //! The loops of `tools/measure/rattle`, made safe. The program `one` has some of them alone.
 #![allow(dead_code)]
 
-/// A loop over a text.
-macro_rules! loops {
-    ($($name:ident $symbol:ident),* $(,)?) => {
-        unsafe extern "C" {
-            $(fn $symbol(text: *const u8, len: usize) -> u64;)*
-        }
-
-        $(pub fn $name(text: &str) -> u64 {
-            assert!(text.len() <= u32::MAX as usize);
-            // SAFETY: the text is UTF-8, as each `&str`, and its length was tested.
-            unsafe { $symbol(text.as_ptr(), text.len()) }
-        })*
-    };
-}
+use crate::measure::loops;
 
 loops! {
     scan measure_scan,
@@ -25,7 +12,10 @@ loops! {
     iter_whole measure_iter_whole,
     buffer measure_buffer,
     each measure_each,
+    values measure_values,
+    comments measure_comments,
     u32s measure_u32s,
+    refused measure_refused,
     groups measure_groups,
 }
 

@@ -2,11 +2,14 @@
 macro_rules! layer {
     (
         $layer:ident, $module:ident:
-        $parse:ident, $parse_whole:ident, $iter:ident, $iter_whole:ident, $u32s:ident, $groups:ident, $values:ident
+        $parse:ident, $parse_whole:ident, $iter:ident, $iter_whole:ident, $counting:ident, $values:ident, $comments:ident,
+        $each:ident, $u32s:ident, $ids:ident, $strings:ident, $floats:ident, $groups:ident, $refused:ident, $linecol:ident, $error:ident
     ) => {
+        #[allow(dead_code)]
         mod $module {
             use $layer::lexer::{Float, Lexer, Token, TokenKind};
-            use $layer::parser::{self, Parse, ParseBuffer, Parser, Result};
+            use $layer::parser::{self, Cursor, Parse, ParseBuffer, Parser, Result};
+            use $layer::token::{F64, Id, Span};
 
             mod words {
                 $layer::custom_keyword!(word_a = "a");
@@ -74,6 +77,19 @@ macro_rules! layer {
                 tokens.fold(0, |sum, token| sum.wrapping_add(whole(&token)))
             }
 
+            /// The kinds of tokens that are neither white space nor comments.
+            #[inline(never)]
+            #[unsafe(no_mangle)]
+            pub fn $counting(text: &str) -> u64 {
+                let lexer = Lexer::new(text);
+                let (mut pos, mut sum) = (0, 0u64);
+                while let Ok(Some(token)) = lexer.parse(&mut pos) {
+                    let weight = weight(token.kind);
+                    sum = sum.wrapping_add(if weight > 3 { weight } else { 0 });
+                }
+                sum
+            }
+
             fn ends(bytes: &[u8]) -> u64 {
                 let end = |byte: Option<&u8>| u64::from(byte.copied().unwrap_or(0));
                 bytes.len() as u64 + end(bytes.first()) + end(bytes.last())
@@ -84,8 +100,15 @@ macro_rules! layer {
                 match float {
                     Float::Nan { val, .. } => part(val.as_deref()),
                     Float::Inf { .. } => 2,
-                    Float::Val { integral, fractional, exponent, .. } => {
-                        part(Some(integral)) + part(fractional.as_deref()) + part(exponent.as_deref())
+                    Float::Val {
+                        integral,
+                        fractional,
+                        exponent,
+                        ..
+                    } => {
+                        part(Some(integral))
+                            + part(fractional.as_deref())
+                            + part(exponent.as_deref())
                     }
                 }
             }
@@ -95,10 +118,15 @@ macro_rules! layer {
                 match token.kind {
                     TokenKind::String => ends(&token.string(text)),
                     TokenKind::Id => token.id(text).map_or(0, |name| ends(name.as_bytes())),
-                    TokenKind::Annotation => token.annotation(text).map_or(0, |name| ends(name.as_bytes())),
+                    TokenKind::Annotation => token
+                        .annotation(text)
+                        .map_or(0, |name| ends(name.as_bytes())),
                     TokenKind::Integer(kind) => ends(token.integer(text, kind).val().0.as_bytes()),
                     TokenKind::Float(kind) => float(&token.float(text, kind)),
-                    _ => 0,
+                    TokenKind::Keyword => ends(token.keyword(text).as_bytes()),
+                    TokenKind::Reserved => ends(token.reserved(text).as_bytes()),
+                    TokenKind::LParen | TokenKind::RParen => 0,
+                    TokenKind::Whitespace | TokenKind::LineComment | TokenKind::BlockComment => 0,
                 }
             }
 
@@ -110,12 +138,83 @@ macro_rules! layer {
                 tokens.fold(0, |sum, token| sum.wrapping_add(value(&token, text)))
             }
 
+            fn comment(token: &Token, text: &str) -> u64 {
+                match token.kind {
+                    TokenKind::LineComment | TokenKind::BlockComment => {
+                        ends(token.src(text).as_bytes())
+                    }
+                    _ => 0,
+                }
+            }
+
+            #[inline(never)]
+            #[unsafe(no_mangle)]
+            pub fn $comments(text: &str) -> u64 {
+                let lexer = Lexer::new(text);
+                let tokens = lexer.iter(0).map_while(std::result::Result::ok);
+                tokens.fold(0, |sum, token| sum.wrapping_add(comment(&token, text)))
+            }
+
             /// What a type reads of a whole text; 0 where it does not.
             fn read<T: for<'a> Parse<'a> + Into<u64>>(text: &str) -> u64 {
                 let Ok(buffer) = ParseBuffer::new(text) else {
                     return 0;
                 };
                 parser::parse::<T>(&buffer).map_or(0, T::into)
+            }
+
+            /// The token that is shown, whatever it is, and the place after it; 0 at the text's end.
+            fn take<'a>(cursor: Cursor<'a>) -> Result<(u64, Cursor<'a>)> {
+                if let Some((_, next)) = cursor.keyword()? {
+                    return Ok((17, next));
+                }
+                if let Some(next) = cursor.lparen()? {
+                    return Ok((5, next));
+                }
+                if let Some(next) = cursor.rparen()? {
+                    return Ok((7, next));
+                }
+                if let Some((_, next)) = cursor.integer()? {
+                    return Ok((29, next));
+                }
+                if let Some((_, next)) = cursor.id()? {
+                    return Ok((13, next));
+                }
+                if let Some((_, next)) = cursor.string()? {
+                    return Ok((11, next));
+                }
+                if let Some((_, next)) = cursor.float()? {
+                    return Ok((31, next));
+                }
+                Ok(cursor
+                    .reserved()?
+                    .map_or((0, cursor), |(_, next)| (23, next)))
+            }
+
+            struct Each(u64);
+
+            impl From<Each> for u64 {
+                fn from(each: Each) -> u64 {
+                    each.0
+                }
+            }
+
+            impl<'a> Parse<'a> for Each {
+                fn parse(parser: Parser<'a>) -> Result<Self> {
+                    let mut sum = 0u64;
+                    loop {
+                        match parser.step(take)? {
+                            0 => return Ok(Each(sum)),
+                            weight => sum = sum.wrapping_add(weight),
+                        }
+                    }
+                }
+            }
+
+            #[inline(never)]
+            #[unsafe(no_mangle)]
+            pub fn $each(text: &str) -> u64 {
+                read::<Each>(text)
             }
 
             struct Numbers(u64);
@@ -140,6 +239,68 @@ macro_rules! layer {
             #[unsafe(no_mangle)]
             pub fn $u32s(text: &str) -> u64 {
                 read::<Numbers>(text)
+            }
+
+            /// A type of which a list is read, and what its values add up to.
+            trait Item<'a>: Parse<'a> {
+                fn number(&self) -> u64;
+            }
+
+            impl<'a> Item<'a> for Id<'a> {
+                fn number(&self) -> u64 {
+                    ends(self.name().as_bytes())
+                }
+            }
+
+            impl<'a> Item<'a> for &'a [u8] {
+                fn number(&self) -> u64 {
+                    ends(self)
+                }
+            }
+
+            impl<'a> Item<'a> for F64 {
+                fn number(&self) -> u64 {
+                    self.bits
+                }
+            }
+
+            struct Sum<T>(u64, std::marker::PhantomData<T>);
+
+            impl<'a, T: Item<'a>> Parse<'a> for Sum<T> {
+                fn parse(parser: Parser<'a>) -> Result<Self> {
+                    let mut sum = 0u64;
+                    while !parser.is_empty() {
+                        sum = sum.wrapping_add(parser.parse::<T>()?.number());
+                    }
+                    Ok(Sum(sum, std::marker::PhantomData))
+                }
+            }
+
+            #[inline(never)]
+            #[unsafe(no_mangle)]
+            pub fn $ids(text: &str) -> u64 {
+                let buffer = ParseBuffer::new(text);
+                buffer.map_or(0, |buffer| {
+                    parser::parse::<Sum<Id>>(&buffer).map_or(0, |sum| sum.0)
+                })
+            }
+
+            #[inline(never)]
+            #[unsafe(no_mangle)]
+            pub fn $strings(text: &str) -> u64 {
+                let buffer = ParseBuffer::new(text);
+                buffer.map_or(0, |buffer| {
+                    parser::parse::<Sum<&[u8]>>(&buffer).map_or(0, |sum| sum.0)
+                })
+            }
+
+            #[inline(never)]
+            #[unsafe(no_mangle)]
+            pub fn $floats(text: &str) -> u64 {
+                let buffer = ParseBuffer::new(text);
+                buffer.map_or(0, |buffer| {
+                    parser::parse::<Sum<F64>>(&buffer).map_or(0, |sum| sum.0)
+                })
             }
 
             struct Groups(u64);
@@ -184,6 +345,34 @@ macro_rules! layer {
             #[unsafe(no_mangle)]
             pub fn $groups(text: &str) -> u64 {
                 read::<Groups>(text)
+            }
+
+            /// Where a list of integers is refused: 0 where it is not.
+            #[inline(never)]
+            #[unsafe(no_mangle)]
+            pub fn $refused(text: &str) -> u64 {
+                let Ok(buffer) = ParseBuffer::new(text) else {
+                    return 0;
+                };
+                let refused = parser::parse::<Numbers>(&buffer).err();
+                refused.map_or(0, |error| error.span().offset() as u64)
+            }
+
+            #[inline(never)]
+            #[unsafe(no_mangle)]
+            pub fn $linecol(text: &str) -> u64 {
+                let (line, column) = Span::from_offset(text.len() - 1).linecol_in(text);
+                (line + column) as u64
+            }
+
+            #[inline(never)]
+            #[unsafe(no_mangle)]
+            pub fn $error(text: &str) -> u64 {
+                let mut pos = text.len() - 1;
+                match Lexer::new(text).parse(&mut pos) {
+                    Ok(_) => 0,
+                    Err(error) => error.to_string().len() as u64,
+                }
             }
         }
     };

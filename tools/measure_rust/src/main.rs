@@ -1,84 +1,175 @@
 //! Measures the Rust crates beside the crate `wast`, in one process, as tools/measure does: `wat-lex` and `wat-parser` with the names of `wast`, whose
 //! loops are the same text, and the proved modules below them.
 //!
-//! usage: measure_rust PASSES lexing|numbers|groups|readers TEXT..     the rows of a Markdown table
-//!        measure_rust functions SUITE                         the functions of a suite: ours, and the crate's or -
-//!        measure_rust once FUNCTION TEXT [BYTES]              one call on the text, or on its front
+//! usage: measure_rust PASSES SUITE TEXT..         a row for each call: suite, text, call, milliseconds of ours and of the crate's, ratio
+//!        measure_rust functions SUITE             the functions of a suite: ours, and the crate's or -, and the call
+//!        measure_rust once FUNCTION TEXT [BYTES]  one call on the text, or on its front
 
 mod layer;
+#[path = "../../measure/src/library.rs"]
+mod library;
 #[path = "../../measure/src/measure.rs"]
 mod measure;
 mod proved;
 
 use layer::layer;
-use measure::{Loop, Suite, pair, run_words};
+use library::{of_rows, of_tokens};
+use measure::{Loop, Pair, Suite, pair, run_words};
 use std::process::ExitCode;
 
 layer!(
-    wast, theirs: theirs_parse, theirs_parse_whole, theirs_iter, theirs_iter_whole, theirs_u32s, theirs_groups,
-    theirs_values
+    wast, theirs: theirs_parse, theirs_parse_whole, theirs_iter, theirs_iter_whole, theirs_counting, theirs_values, theirs_comments,
+    theirs_each, theirs_u32s, theirs_ids, theirs_strings, theirs_floats, theirs_groups, theirs_refused, theirs_linecol, theirs_error
 );
 layer!(
-    wat_parser, ours: rust_parse, rust_parse_whole, rust_iter, rust_iter_whole, rust_u32s, rust_groups,
-    rust_values
+    wat_parser, ours: rust_parse, rust_parse_whole, rust_iter, rust_iter_whole, rust_counting, rust_values, rust_comments,
+    rust_each, rust_u32s, rust_ids, rust_strings, rust_floats, rust_groups, rust_refused, rust_linecol, rust_error
 );
 
 const PARSE: Option<Loop> = Some(("theirs_parse", theirs::theirs_parse));
 const WHOLE: Option<Loop> = Some(("theirs_parse_whole", theirs::theirs_parse_whole));
-const NUMBERS: Option<Loop> = Some(("theirs_u32s", theirs::theirs_u32s));
+const COUNTING: Option<Loop> = Some(("theirs_counting", theirs::theirs_counting));
 const VALUES: Option<Loop> = Some(("theirs_values", theirs::theirs_values));
+const EACH: Option<Loop> = Some(("theirs_each", theirs::theirs_each));
+const COMMENTS: Option<Loop> = Some(("theirs_comments", theirs::theirs_comments));
+const U32S: Option<Loop> = Some(("theirs_u32s", theirs::theirs_u32s));
+const IDS: Option<Loop> = Some(("theirs_ids", theirs::theirs_ids));
+const STRINGS: Option<Loop> = Some(("theirs_strings", theirs::theirs_strings));
+const FLOATS: Option<Loop> = Some(("theirs_floats", theirs::theirs_floats));
 const GROUPS: Option<Loop> = Some(("theirs_groups", theirs::theirs_groups));
+const REFUSED: Option<Loop> = Some(("theirs_refused", theirs::theirs_refused));
+const LINECOL: Option<Loop> = Some(("theirs_linecol", theirs::theirs_linecol));
+const ERROR: Option<Loop> = Some(("theirs_error", theirs::theirs_error));
 
 // Each call has two callers, as in a program that lexes at two places: a call with one caller is built into it.
+const LEXING: &[Pair] = &[
+    pair(
+        "proved Lexer::scan",
+        ("proved_scan", proved::proved_scan),
+        PARSE,
+    ),
+    pair("Lexer::parse", ("rust_parse", ours::rust_parse), PARSE),
+    pair("Lexer::iter", ("rust_iter", ours::rust_iter), PARSE),
+    pair(
+        "proved Lexer::scan, whole",
+        ("proved_scan_whole", proved::proved_scan_whole),
+        WHOLE,
+    ),
+    pair(
+        "Lexer::parse, whole",
+        ("rust_parse_whole", ours::rust_parse_whole),
+        WHOLE,
+    ),
+    pair(
+        "Lexer::iter, whole",
+        ("rust_iter_whole", ours::rust_iter_whole),
+        WHOLE,
+    ),
+];
+
+// What reads with a parser has a loop for each source of one, beside the same of the crate.
 const SUITES: &[Suite] = &[
+    ("lexing", LEXING),
+    ("library", &of_tokens(PARSE)),
+    ("rows", &of_rows(COUNTING)),
     (
-        "lexing",
+        "readers",
         &[
-            pair("`scan`", ("proved_scan", proved::proved_scan), PARSE),
-            pair("`parse`", ("rust_parse", ours::rust_parse), PARSE),
-            pair("`iter`", ("rust_iter", ours::rust_iter), PARSE),
             pair(
-                "`scan`, whole",
-                ("proved_scan_whole", proved::proved_scan_whole),
-                WHOLE,
+                "Token::string and so on",
+                ("rust_values", ours::rust_values),
+                VALUES,
             ),
-            pair(
-                "`parse`, whole",
-                ("rust_parse_whole", ours::rust_parse_whole),
-                WHOLE,
-            ),
-            pair(
-                "`iter`, whole",
-                ("rust_iter_whole", ours::rust_iter_whole),
-                WHOLE,
-            ),
+            pair("wat_word, wat_string_of and so on", library::VALUES, VALUES),
         ],
+    ),
+    (
+        "comments",
+        &[
+            pair(
+                "Token::src of comments",
+                ("rust_comments", ours::rust_comments),
+                COMMENTS,
+            ),
+            pair("wat_comment", library::COMMENTS, COMMENTS),
+        ],
+    ),
+    (
+        "parser",
+        &[pair("Parser::step", ("rust_each", ours::rust_each), EACH)],
     ),
     (
         "numbers",
         &[
-            pair("`parse::<u32>`", ("rust_u32s", ours::rust_u32s), NUMBERS),
+            pair("Parser::parse::<u32>", ("rust_u32s", ours::rust_u32s), U32S),
             pair(
-                "`parse::<u32>`, proved",
+                "proved Parser::parse::<u32>",
                 ("proved_u32s", proved::proved_u32s),
-                NUMBERS,
+                U32S,
             ),
+            pair("wat_integer_of", library::U32S, U32S),
         ],
+    ),
+    (
+        "ids",
+        &[pair(
+            "Parser::parse::<Id>",
+            ("rust_ids", ours::rust_ids),
+            IDS,
+        )],
+    ),
+    (
+        "strings",
+        &[pair(
+            "Parser::parse::<&[u8]>",
+            ("rust_strings", ours::rust_strings),
+            STRINGS,
+        )],
+    ),
+    (
+        "floats",
+        &[pair(
+            "Parser::parse::<F64>",
+            ("rust_floats", ours::rust_floats),
+            FLOATS,
+        )],
     ),
     (
         "groups",
         &[
-            pair("groups", ("rust_groups", ours::rust_groups), GROUPS),
+            pair("Parser::parens", ("rust_groups", ours::rust_groups), GROUPS),
             pair(
-                "groups, proved",
+                "proved Parser::parens",
                 ("proved_groups", proved::proved_groups),
                 GROUPS,
             ),
         ],
     ),
     (
-        "readers",
-        &[pair("values", ("rust_values", ours::rust_values), VALUES)],
+        "refused",
+        &[pair(
+            "parser::parse, refused",
+            ("rust_refused", ours::rust_refused),
+            REFUSED,
+        )],
+    ),
+    (
+        "places",
+        &[
+            pair(
+                "Span::linecol_in",
+                ("rust_linecol", ours::rust_linecol),
+                LINECOL,
+            ),
+            pair("wat_line_column", library::LINECOL, LINECOL),
+        ],
+    ),
+    (
+        "errors",
+        &[
+            pair("Error, printed", ("rust_error", ours::rust_error), ERROR),
+            pair("wat_fault", library::ERROR, ERROR),
+        ],
     ),
 ];
 

@@ -1,0 +1,187 @@
+/* Loops over the C library, as programs in C call it. Their names stay as they are, for callgrind. The text is UTF-8 of at most UINT32_MAX bytes, and
+ * what a loop answers is a sum over what it saw. */
+#include "wat.h"
+
+enum { ROOM = 1024, BYTES = 1 << 24 };
+
+/* By a kind's code, what the loops of Rust and Rattle add up of the kind. */
+static const uint64_t weights[17] = {0, 1, 2, 3, 5, 7, 11, 13, 17, 19, 23, 29, 31, 31, 31, 31, 5};
+
+static uint64_t weight(struct wat_kind kind) {
+    return weights[kind.code <= WAT_OPENS_AT ? kind.code : 0];
+}
+
+uint64_t library_fill(const uint8_t *text, size_t len) {
+    static struct wat_token tokens[ROOM];
+    struct wat_filled filled = {0, 0, WAT_FULL};
+    uint64_t sum = 0;
+    size_t i;
+    while (filled.why == WAT_FULL) {
+        filled = wat_fill(text, len, filled.at, false, false, tokens, ROOM);
+        for (i = 0; i < filled.count; i++) {
+            sum += weight(tokens[i].kind);
+        }
+    }
+    return sum;
+}
+
+uint64_t library_token_at(const uint8_t *text, size_t len) {
+    uint64_t sum = 0;
+    struct wat_token token = wat_token_at(text, len, 0, false, false);
+    while (token.len > 0) {
+        sum += weight(token.kind);
+        token = wat_token_at(text, len, token.offset + token.len, false, false);
+    }
+    return sum;
+}
+
+uint64_t library_token_at_inline(const uint8_t *text, size_t len) {
+    uint64_t sum = 0;
+    struct wat_token token = wat_token_at_inline(text, len, 0, false, false);
+    while (token.len > 0) {
+        sum += weight(token.kind);
+        token = wat_token_at_inline(text, len, token.offset + token.len, false, false);
+    }
+    return sum;
+}
+
+uint64_t library_scan(const uint8_t *text, size_t len) {
+    uint64_t sum = 0;
+    struct wat_found found = wat_scan(text, len, 0, false, false);
+    while (found.token.len > 0) {
+        sum += weight(found.token.kind);
+        found = wat_scan(text, len, found.token.offset + found.token.len, false, false);
+    }
+    return sum;
+}
+
+uint64_t library_rows(const uint8_t *text, size_t len) {
+    static struct wat_row rows[ROOM];
+    struct wat_filled filled = {0, 0, WAT_FULL};
+    uint64_t sum = 0;
+    size_t i;
+    while (filled.why == WAT_FULL) {
+        filled = wat_rows(text, len, filled.at, false, false, rows, ROOM);
+        for (i = 0; i < filled.count; i++) {
+            sum += weight(rows[i].kind);
+        }
+    }
+    return sum;
+}
+
+static uint64_t ends(const uint8_t *bytes, size_t len) {
+    return len == 0 ? 0 : len + bytes[0] + bytes[len - 1];
+}
+
+/* What a reader wrote: no value is longer. */
+static uint64_t written(struct wat_answer answer, const uint8_t *out) {
+    return answer.status == WAT_GIVEN && answer.needed <= BYTES ? ends(out, answer.needed) : 0;
+}
+
+static uint64_t part(const uint8_t *text, size_t len, const struct wat_row *row, uint32_t number, uint8_t *out) {
+    struct wat_answer answer = wat_float_of(text, len, row, number, out, BYTES);
+    return answer.status == WAT_ABSENT ? 1 : written(answer, out);
+}
+
+static uint64_t parts(const uint8_t *text, size_t len, const struct wat_row *row, uint8_t *out) {
+    switch (row->kind.code) {
+    case WAT_INF:
+        return 2;
+    case WAT_NAN:
+    case WAT_NAN_PAYLOAD:
+        return part(text, len, row, WAT_PAYLOAD, out);
+    default:
+        return part(text, len, row, WAT_INTEGRAL, out) + part(text, len, row, WAT_FRACTIONAL, out) + part(text, len, row, WAT_EXPONENT, out);
+    }
+}
+
+/* What a row's token reads as: a number of its length and ends. */
+static uint64_t value(const uint8_t *text, size_t len, const struct wat_row *row, uint8_t *out) {
+    struct wat_word word;
+    switch (row->kind.code) {
+    case WAT_STRING:
+    case WAT_ID:
+    case WAT_ANNOTATION:
+        word = wat_word(text, len, row);
+        if (word.status == WAT_GIVEN) {
+            return ends(text + word.start, word.len);
+        }
+        return written(row->kind.code == WAT_STRING ? wat_string_of(text, len, row, out, BYTES) : wat_name_of(text, len, row, out, BYTES), out);
+    case WAT_KEYWORD:
+    case WAT_RESERVED:
+        return ends(text + row->offset, row->len);
+    case WAT_INTEGER:
+        return written(wat_digits_of(text, len, row, out, BYTES), out);
+    case WAT_INF:
+    case WAT_NAN:
+    case WAT_NAN_PAYLOAD:
+    case WAT_FLOAT:
+        return parts(text, len, row, out);
+    default:
+        return 0;
+    }
+}
+
+uint64_t library_values(const uint8_t *text, size_t len) {
+    static struct wat_row rows[ROOM];
+    static uint8_t out[BYTES];
+    struct wat_filled filled = {0, 0, WAT_FULL};
+    uint64_t sum = 0;
+    size_t i;
+    while (filled.why == WAT_FULL) {
+        filled = wat_rows(text, len, filled.at, false, false, rows, ROOM);
+        for (i = 0; i < filled.count; i++) {
+            sum += value(text, len, &rows[i], out);
+        }
+    }
+    return sum;
+}
+
+uint64_t library_comments(const uint8_t *text, size_t len) {
+    uint64_t sum = 0;
+    size_t at = 0;
+    while (at < len) {
+        struct wat_word comment = wat_comment(text, len, at, false, false);
+        if (comment.status == WAT_GIVEN) {
+            sum += ends(text + comment.start, comment.len);
+            at = (size_t)comment.start + comment.len;
+        } else {
+            struct wat_token token = wat_token_at(text, len, at, false, false);
+            if (token.len == 0) {
+                return sum;
+            }
+            at += token.len;
+        }
+    }
+    return sum;
+}
+
+/* The value of each integer of 32 bits. */
+uint64_t library_u32s(const uint8_t *text, size_t len) {
+    static struct wat_row rows[ROOM];
+    struct wat_filled filled = {0, 0, WAT_FULL};
+    uint64_t sum = 0;
+    size_t i;
+    while (filled.why == WAT_FULL) {
+        filled = wat_rows(text, len, filled.at, false, false, rows, ROOM);
+        for (i = 0; i < filled.count; i++) {
+            sum += wat_integer_of(text, len, &rows[i], 32, false).value;
+        }
+    }
+    return sum;
+}
+
+uint64_t library_is_text(const uint8_t *text, size_t len) {
+    return wat_is_text(text, len) ? 1 : 0;
+}
+
+uint64_t library_linecol(const uint8_t *text, size_t len) {
+    struct wat_position position = wat_line_column(text, len, len - 1);
+    return position.line + position.column;
+}
+
+/* How many bytes the fault at the last byte prints. */
+uint64_t library_error(const uint8_t *text, size_t len) {
+    static uint8_t out[BYTES];
+    return wat_fault(text, len, len - 1, false, false, out, BYTES).needed;
+}

@@ -1,0 +1,100 @@
+# What tools/measure.sh and tools/measure_rust.sh share: rows of figures, each a line of six columns with tabs between them: suite, text, call, ours, the
+# crate's, ratio. It takes `program`, `cpu`, `passes`, `firsts` and `work` of the script that reads it.
+# shellcheck shell=bash disable=SC2154
+
+say() {
+    echo "$(basename "$0"): $*" >&2
+}
+
+has() {
+    command -v "$1" > /dev/null
+}
+
+# describe PASSES: what the rows were measured by
+describe() {
+    echo "# $(date -u +%F), commit $(git rev-parse --short HEAD), $(sed -n 's/^model name.*: //p' /proc/cpuinfo | head -1), $(nproc --all) processors, load $(cut -d' ' -f1-2 /proc/loadavg),"
+    echo "# $(rustc --version | cut -d' ' -f1-2); $1"
+    printf '# suite\ttext\tcall\tours\twast\tratio\n'
+}
+
+# times SUITE PASSES TEXT..: the rows of a suite, in milliseconds
+times() {
+    taskset -c "$cpu" "$program" "$2" "$1" "${@:3}" 2>> "$work/times.tsv"
+}
+
+# each SUITE TEXT..: its rows, each text in a process of its own: what was freed before decides which pages glibc gives to a table
+each() {
+    local text
+    for text in "${@:2}"; do
+        times "$1" "$passes" "$text"
+    done
+}
+
+# median: of the numbers of standard input, one a line
+median() {
+    sort -n | awk '{ all[NR] = $1 } END { print all[int((NR + 1) / 2)] }'
+}
+
+# ratio THEIRS OURS
+ratio() {
+    awk "BEGIN { printf \"%.2f\", $1 / $2 }"
+}
+
+# first SUITE TEXT..: the rows of the first pass of a process: the median of processes that take turns
+first() {
+    local text ours theirs what turn mine other
+    for text in "${@:2}"; do
+        while read -r ours theirs what; do
+            rm -f "$work"/first.{ours,theirs}
+            touch "$work"/first.{ours,theirs}
+            for ((turn = 0; turn < firsts; turn++)); do
+                taskset -c "$cpu" "$program" once "$ours" "$text" | cut -f4 >> "$work/first.ours"
+                [ "$theirs" = - ] || taskset -c "$cpu" "$program" once "$theirs" "$text" | cut -f4 >> "$work/first.theirs"
+            done
+            mine=$(median < "$work/first.ours") other=$(median < "$work/first.theirs")
+            row "first, $1" "$text" "$what" "$mine" "$other"
+        done < <("$program" functions "$1")
+    done
+}
+
+# row SUITE TEXT CALL OURS THEIRS: a row, without the crate's figure where that is empty
+row() {
+    local theirs=${5:--} divided=-
+    [ "$theirs" = - ] || divided=$(ratio "$theirs" "$4")
+    printf '%s\t%s\t%s\t%s\t%s\t%s\n' "$1" "$(basename "$2" .wat)" "$3" "$4" "$theirs" "$divided"
+}
+
+# instructions FUNCTION TEXT: how many a call takes for each byte of the text's front
+instructions() {
+    local counted
+    valgrind --tool=callgrind --callgrind-out-file=/dev/null --toggle-collect="$1" "$program" once "$1" "$2" 1000000 \
+        > "$work/once" 2> "$work/valgrind" || { cat "$work/valgrind" >&2; exit 1; }
+    counted=$(sed -n 's/.*Collected : *//p' "$work/valgrind")
+    [ "${counted:-0}" != 0 ] || { say "callgrind saw no call of $1" && exit 1; }
+    awk "BEGIN { printf \"%.2f\", $counted / $(cut -f3 "$work/once") }"
+}
+
+# counts SUITE TEXT..: the rows of a suite's instructions, for each byte of a text's first megabyte
+counts() {
+    local text ours theirs what other
+    has valgrind || { say "instructions of $1 are left out, as valgrind is not here" && return; }
+    for text in "${@:2}"; do
+        while read -r ours theirs what; do
+            other=-
+            [ "$theirs" = - ] || other=$(instructions "$theirs" "$text")
+            row "instructions, $1" "$text" "$what" "$(instructions "$ours" "$text")" "$other"
+        done < <("$program" functions "$1")
+    done
+}
+
+# memory SUITE TEXT..: by how many bytes the process grows for each byte of the text
+memory() {
+    local text ours theirs what mine other
+    for text in "${@:2}"; do
+        while read -r ours theirs what; do
+            mine=$("$program" once "$ours" "$text" | awk '{ printf "%.2f", $2 / $3 }') other=-
+            [ "$theirs" = - ] || other=$("$program" once "$theirs" "$text" | awk '{ printf "%.2f", $2 / $3 }')
+            printf 'memory, %s\t%s\t%s\t%s\t%s\t-\n' "$1" "$(basename "$text" .wat)" "$what" "$mine" "$other"
+        done < <("$program" functions "$1")
+    done
+}

@@ -1,0 +1,108 @@
+#!/usr/bin/env python3
+"""Measures whole programs: `wat_tokens` beside those of Debian's wabt that do most nearly the same work. Processes take turns; a time is the user and
+system time of one, its output to /dev/null, and the median of all; a memory is the most that was resident, bytes a byte of text. Prints rows for
+docs/speed/programs.tsv.
+
+`wat-desugar` reads a text into trees and prints them, where `fmt` lays out tokens, `list` names them, `sig` leaves out trivia and `blank` blanks
+comments. `wat2wasm` makes the bytes that `types` makes, which is compared.
+
+usage: measure_programs.py WAT_TOKENS FOLDER [ROUNDS]     FOLDER gets the texts: the C library of WASI, linked whole by `wasm-ld` and printed by
+                                                         `wasm2wat`, and types of functions
+"""
+import datetime
+import os
+import pathlib
+import random
+import statistics
+import subprocess
+import sys
+
+LIBRARY = "/usr/lib/wasm32-wasi/libc.a"
+VALUES = ["i32", "i64", "f32", "f64"]
+
+
+def output(*words):
+    return subprocess.run(words, check=True, capture_output=True, text=True).stdout
+
+
+def found(name):
+    """A program, by its name or with the number of a version behind it."""
+    return next(path for folder in os.environ["PATH"].split(":") for path in sorted(pathlib.Path(folder).glob(f"{name}*")))
+
+
+def linked(folder):
+    """The texts of the library: flat and folded."""
+    wasm = folder / "libc.wasm"
+    subprocess.run([found("wasm-ld"), "--no-entry", "--whole-archive", "--export-all", "--allow-undefined", "-o", wasm, LIBRARY], check=True)
+    for name, words in (("libc_flat", []), ("libc_folded", ["--fold-exprs"])):
+        subprocess.run(["wasm2wat", "--enable-all", *words, wasm, "-o", folder / f"{name}.wat"], check=True)
+
+
+def types(count, distinct):
+    """A module of function types, each other than the others or all alike."""
+    rng = random.Random(5)
+    seen, lines = set(), []
+    while len(lines) < count:
+        line = f"  (type (func (param {' '.join(rng.choices(VALUES, k=rng.randrange(1, 12)))}) (result i32)))\n" if distinct else "  (type (func (param i32)))\n"
+        if not distinct or line not in seen:
+            seen.add(line)
+            lines.append(line)
+    return f"(module\n{''.join(lines)})\n"
+
+
+def run(words):
+    """Seconds of a processor that a process takes."""
+    null = subprocess.DEVNULL
+    process = subprocess.Popen(words, stdin=null, stdout=null, stderr=null)
+    _, status, usage = os.wait4(process.pid, 0)
+    process.returncode = os.waitstatus_to_exitcode(status)
+    if process.returncode != 0:
+        sys.exit(f"{words}: status {process.returncode}")
+    return usage.ru_utime + usage.ru_stime
+
+
+def peak(words):
+    """Bytes of a process that are resident at most; a fork of this one would count this one's."""
+    said = subprocess.run(["/usr/bin/time", "--quiet", "-f", "%M", *words], check=True, stdout=subprocess.DEVNULL, stderr=subprocess.PIPE, text=True)
+    return int(said.stderr) * 1024
+
+
+def rows(text, jobs, rounds):
+    """The rows of a text: of each command of ours beside the other program."""
+    runs = {name: [] for name in jobs}
+    for number in range(rounds):
+        for turn in range(len(jobs)):
+            name = list(jobs)[(number + turn) % len(jobs)]
+            runs[name].append(run(jobs[name]))
+    time = {name: statistics.median(times) * 1e3 for name, times in runs.items()}
+    most = {name: peak(jobs[name]) / text.stat().st_size for name in jobs}
+    other = next(name for name in jobs if not name.startswith("wat_tokens"))
+    for name in jobs:
+        if name != other:
+            print(f"programs\t{text.stem}\t{name}, {other}\t{time[name]:.1f}\t{time[other]:.1f}\t{time[other] / time[name]:.2f}")
+            print(f"memory, programs\t{text.stem}\t{name}, {other}\t{most[name]:.2f}\t{most[other]:.2f}\t-", flush=True)
+
+
+def main():
+    program, folder = os.path.realpath(sys.argv[1]), pathlib.Path(sys.argv[2])
+    rounds = int(sys.argv[3]) if len(sys.argv) > 3 else 9
+    folder.mkdir(parents=True, exist_ok=True)
+    linked(folder)
+    model = next(line.split(": ")[1].strip() for line in open("/proc/cpuinfo", encoding="utf-8") if line.startswith("model name"))
+    commit = output("git", "rev-parse", "--short", "HEAD").strip()
+    print(f"# {datetime.date.today()}, commit {commit}, {model}, {os.cpu_count()} processors, load {os.getloadavg()[0]:.1f},")
+    print(f"# wabt {output('wat2wasm', '--version').strip()}; {rounds} rounds in turn; medians\n# suite\ttext\tcall\tours\tother\tratio")
+    for name, folded in (("libc_flat", []), ("libc_folded", ["--fold-exprs"])):
+        text = folder / f"{name}.wat"
+        jobs = {f"wat_tokens {word}": [program, "--file", text, word] for word in ("fmt", "list", "sig", "blank")}
+        rows(text, jobs | {"wat-desugar": ["wat-desugar", *folded, text]}, rounds)
+    for name, count, distinct in (("types_10000", 10_000, True), ("types_equal", 100_000, False)):
+        text, bytes_ = folder / f"{name}.wat", folder / f"{name}.wasm"
+        text.write_text(types(count, distinct), encoding="utf-8")
+        subprocess.run(["wat2wasm", "--no-check", text, "-o", bytes_], check=True)
+        if subprocess.run([program, "types", text], check=True, capture_output=True).stdout != bytes_.read_bytes():
+            sys.exit(f"{text}: the bytes differ")
+        rows(text, {"wat_tokens types": [program, "types", text], "wat2wasm --no-check": ["wat2wasm", "--no-check", text, "-o", "/dev/null"]}, rounds)
+
+
+main()

@@ -1,0 +1,13 @@
+//! Compiles the loops in C over the header in the folder that `INCLUDE` names, and finds the shared library in the folder that `SHARED` names.
+
+include!("../measure/compile.rs");
+
+fn main() {
+    println!("cargo::rerun-if-env-changed=SHARED");
+    let folder = std::env::var("SHARED").expect("SHARED names the folder of libwat_parser_c.so");
+    compile("../measure/library.c");
+    println!("cargo::rerun-if-changed={folder}/libwat_parser_c.so");
+    println!("cargo::rustc-link-search=native={folder}");
+    println!("cargo::rustc-link-lib=dylib=wat_parser_c");
+    println!("cargo::rustc-link-arg=-Wl,-rpath,{folder}");
+}
