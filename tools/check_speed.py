@@ -1,5 +1,6 @@
 #!/usr/bin/env python3
-"""Checks that docs/speed/calls.txt has a row for each public call of Rattle (tools/public_names.txt), of the Rust crates and of C, and that each row
+"""Checks that docs/speed/calls.txt has a row for each public call of Rattle (tools/public_names.txt, and the
+libraries' sources), of the Rust crates and of C, and that each row
 has a figure which is in the data of docs/speed, or says why there is none; and that the figures of docs/SPEED.md's first table are of the data.
 
 usage: tools/check_speed.py [--write | --self-test]
@@ -12,11 +13,13 @@ With `--write` the figures are written anew. Each fault is a line, and the statu
 import re
 import sys
 
+import check_names
 from rattle_source import ROOT, items_of, tokens_of, written
 
 DATA = ROOT / "docs/speed"
 CALLS = DATA / "calls.txt"
 SPEED = ROOT / "docs/SPEED.md"
+LIBRARIES = ("wat_lex", "wat_words", "wat_lexer_parser")
 CRATES = ("wat-lex", "wat-parser")
 TRAITS = {"Parse", "Peek", "Encode"}
 MADE = "Made by tools/erase"
@@ -33,15 +36,32 @@ def bare(path):
     return kept.strip()
 
 
-def calls_of_rattle():
+def calls_of_asked():
+    """Those that are asked for."""
     names = (ROOT / "tools/public_names.txt").read_text(encoding="utf-8").split("\ndepartures\n")[0]
     crate = ""
     for line in names.split("\n"):
         crate = line[2:].split(":")[0] if line.startswith("# wat_") else crate
         if line.startswith("fn "):
-            yield "Rattle " + bare(line[3:])
+            path = bare(line[3:]).split("::")
+            yield f"Rattle {path[0]} {'::'.join(path[-2:])}"
         for trait, of in re.findall(r"^impl(?:<.*?>)? (Parse|Peek|Encode)(?:<.*?>)? for (.*)$", line):
             yield f"Rattle {crate} {trait} for {of}"
+
+
+def calls_of_libraries():
+    """Those that the libraries have, of types and in modules that others see; laws and lemmas state, and nobody calls them."""
+    crates = check_names.Crates(check_names.text_of)
+    for name in LIBRARIES:
+        root = crates.crate(name)
+        modules = root.all_modules()
+        seen = {item.name for module in modules for item in module.items.values() if item.public} | {use[0] for module in modules for use in module.uses}
+        functions = [(module.path.split("::")[-1], item) for module in modules for item in module.items.values()]
+        owners = [(bare(written(item.head)), item) for item in root.all_impls() if not item.trait]
+        functions += [(owner, item) for owner, of in owners if owner in seen for item in items_of(of.body)]
+        for owner, item in functions:
+            if item.kind == "fn" and item.public and owner != "laws" and not item.name.startswith("lemma_"):
+                yield f"Rattle {name} {owner}::{item.name}"
 
 
 def calls_of_c():
@@ -116,7 +136,7 @@ def unknown_ratios(page, found):
 
 
 def wanted_calls():
-    return list(dict.fromkeys([*calls_of_rattle(), *calls_of_rust(), *calls_of_c()]))
+    return list(dict.fromkeys([*calls_of_asked(), *calls_of_libraries(), *calls_of_rust(), *calls_of_c()]))
 
 
 def self_test():

@@ -131,7 +131,7 @@ lexing() {
     counts library "${some[@]}"
     program=$program_one over_all 'library, one caller'
     program=$program_one counts 'library, one caller' "${some[@]}"
-    over_all rows
+    times rows "$passes" "${all[@]}" "${forms[@]}"
 }
 
 readers() {

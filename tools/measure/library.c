@@ -137,6 +137,48 @@ uint64_t library_values(const uint8_t *text, size_t len) {
     return sum;
 }
 
+static uint64_t part_at(const uint8_t *text, size_t len, size_t pos, uint32_t number, uint8_t *out) {
+    struct wat_answer answer = wat_float(text, len, pos, false, false, number, out, BYTES);
+    return answer.status == WAT_ABSENT ? 1 : written(answer, out);
+}
+
+/* As `value`, by the readers at a place, which scan the token again. */
+static uint64_t value_at(const uint8_t *text, size_t len, struct wat_token token, uint8_t *out) {
+    const size_t pos = token.offset;
+    switch (token.kind.code) {
+    case WAT_STRING:
+        return written(wat_string(text, len, pos, false, false, out, BYTES), out);
+    case WAT_ID:
+    case WAT_ANNOTATION:
+        return written(wat_name(text, len, pos, false, false, out, BYTES), out);
+    case WAT_KEYWORD:
+    case WAT_RESERVED:
+        return ends(text + pos, token.len);
+    case WAT_INTEGER:
+        return written(wat_integer(text, len, pos, false, false, out, BYTES), out);
+    case WAT_INF:
+        return 2;
+    case WAT_NAN:
+    case WAT_NAN_PAYLOAD:
+        return part_at(text, len, pos, WAT_PAYLOAD, out);
+    case WAT_FLOAT:
+        return part_at(text, len, pos, WAT_INTEGRAL, out) + part_at(text, len, pos, WAT_FRACTIONAL, out) + part_at(text, len, pos, WAT_EXPONENT, out);
+    default:
+        return 0;
+    }
+}
+
+uint64_t library_values_at(const uint8_t *text, size_t len) {
+    static uint8_t out[BYTES];
+    uint64_t sum = 0;
+    struct wat_token token = wat_token_at_inline(text, len, 0, false, false);
+    while (token.len > 0) {
+        sum += value_at(text, len, token, out);
+        token = wat_token_at_inline(text, len, token.offset + token.len, false, false);
+    }
+    return sum;
+}
+
 uint64_t library_comments(const uint8_t *text, size_t len) {
     uint64_t sum = 0;
     size_t at = 0;

@@ -19,7 +19,7 @@ describe() {
 
 # times SUITE PASSES TEXT..: the rows of a suite, in milliseconds
 times() {
-    taskset -c "$cpu" "$program" "$2" "$1" "${@:3}" 2>> "$work/times.tsv"
+    taskset -c "$cpu" "$program" "$2" "$1" "${@:3}" 2>> "$work/times.tsv" || { say "$(tail -n 1 "$work/times.tsv")" && exit 1; }
 }
 
 # each SUITE TEXT..: its rows, each text in a process of its own: what was freed before decides which pages glibc gives to a table

@@ -9,6 +9,7 @@ loops! {
     scan library_scan,
     rows library_rows,
     values library_values,
+    values_at library_values_at,
     comments library_comments,
     u32s library_u32s,
     is_text library_is_text,
@@ -40,6 +41,7 @@ pub const fn of_rows(theirs: Option<Loop>) -> [Pair; 2] {
 }
 
 pub const VALUES: Loop = ("library_values", values);
+pub const VALUES_AT: Loop = ("library_values_at", values_at);
 pub const COMMENTS: Loop = ("library_comments", comments);
 pub const U32S: Loop = ("library_u32s", u32s);
 pub const LINECOL: Loop = ("library_linecol", linecol);

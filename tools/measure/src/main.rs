@@ -84,6 +84,7 @@ const SUITES: &[Suite] = &[
                 VALUES,
             ),
             pair("wat_word, wat_string_of and so on", library::VALUES, VALUES),
+            pair("wat_string and so on", library::VALUES_AT, VALUES),
         ],
     ),
     (
