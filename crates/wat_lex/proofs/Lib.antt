@@ -1,5 +1,5 @@
 mod grammar
-mod tokens
+pub mod tokens
 mod values
 mod errors
 mod binary

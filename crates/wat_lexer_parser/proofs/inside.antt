@@ -4,3 +4,4 @@ pub mod Pairing
 pub mod Stacks
 pub mod Filling
 pub mod PlainNames
+pub mod RawTokens

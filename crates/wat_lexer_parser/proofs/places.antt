@@ -2,3 +2,4 @@
 pub mod Tails
 pub mod Comments
 pub mod TakenSpans
+pub mod Bytes

@@ -6,3 +6,5 @@ pub mod Table
 pub mod TableNames
 pub mod Codes
 pub mod IntegerReadings
+pub mod RawTokens
+pub mod Groups

@@ -2,8 +2,8 @@
 ghost use Rattle.std.specs.Prelude.{◌≡◌, ◌≤◌, ◌<◌, ◌+◌, ◌^◌, false, not, length, Ok, Some};
 ghost use Rattle.std.specs.Prelude.{IfOk, IfErr, IfSome, OnOk, OnErr};
 ghost use Rattle.std.specs.FinMap as map;
-ghost use Rattle.wat_lex.specs.tokens.ReadableTokens.{IsTokenOf};
 ghost use Rattle.wat_lex.specs.errors.Errors.{IsUnlessMemory};
+ghost use Rattle.wat_lexer_parser.specs.inside.Next.{IsAfter, IsNext, IsPlace};
 ghost use Rattle.wat_lexer_parser.specs.names.RegisteredNames.{no_names, is_registered};
 ghost use Rattle.wat_lexer_parser.specs.names.RegisteredNames.{count, fewer};
 ghost use Rattle.wat_lexer_parser.specs.parser.Closures.{opened, closed, ParensOk, ParensErr};
@@ -19,23 +19,28 @@ mod buffer;
 mod calls;
 mod cursor;
 pub(crate) mod fault;
+mod lazy;
 mod lists;
 mod lookahead;
 pub(crate) mod names;
 mod peek;
 mod reads;
+pub(crate) mod source_ref;
+pub(crate) mod steps;
 mod table;
 pub(crate) mod table_ref;
+pub(crate) mod text_ref;
 mod typed;
 mod whole;
 
 use crate::parser::fault::Fault;
 use crate::parser::names::{Names, RegisterError};
-use crate::parser::table_ref::TableRef;
+use crate::parser::source_ref::SourceRef;
 pub use buffer::ParseBuffer;
 pub use calls::{Call, Reply, replay};
 pub use cursor::Cursor;
 pub use fault::FaultKind;
+pub use lazy::LazyBuffer;
 pub use lookahead::Lookahead1;
 pub use peek::Peek;
 pub use reads::{Parse, Result};
@@ -49,18 +54,20 @@ pub use whole::parse;
 /// A parser over a buffer: a place in its text, and the names of annotations that are registered.
 #[derive(Drop)]
 pub struct Parser<'a> {
-    table: TableRef<'a>,
+    source: SourceRef<'a>,
     place: usize,
+    /// Where the place is in the text.
+    byte: usize,
     depth: usize,
     names: Names,
-    /// The number of the token that is shown at the place, where that is known.
-    next: Option<usize>,
+    /// The token that is shown at the place, with the place after it, where that is known.
+    next: Option<(Token, usize)>,
 }
 
 impl<'a> Model for Parser<'a> {
-    ghost use Rattle.std.specs.Prelude.{◌≤◌, length, IfSome};
+    ghost use Rattle.std.specs.Prelude.{◌≤◌, IfSome};
     ghost use Rattle.wat_lexer_parser.specs.inside.Codes.{state_code};
-    ghost use Rattle.wat_lexer_parser.specs.inside.Next.{IsNext};
+    ghost use Rattle.wat_lexer_parser.specs.inside.Next.{IsNext, IsPlace};
     ghost use Rattle.wat_lexer_parser.specs.parser.State.{State};
 
     ghost Value = { State };
@@ -68,52 +75,53 @@ impl<'a> Model for Parser<'a> {
     ghost coded = { state_code };
 
     ghost view = { λ p. record {
-      source = p.table;
+      source = p.source;
       place = p.place;
       names = p.names;
       depth = p.depth;
     } };
 
-    ghost invariant = { λ p. (p.depth ≤ p.place) × (p.place ≤ length p.table.tokens)
-        × IfSome p.next (IsNext p.table p.place p.names) };
+    ghost invariant = { λ p. (p.depth ≤ p.place) × IsPlace p.source p.place p.byte
+        × IfSome p.next (IsNext p.source p.place p.names) };
 }
 
 impl<'a> Parser<'a> {
-    pub(crate) fn new(table: TableRef<'a>) -> Parser<'a>
+    pub(crate) fn new(source: SourceRef<'a>) -> Parser<'a>
         ensures { result ≡ record {
-          source = table.entry;
+          source = source.entry;
           place = 0;
           names = no_names;
           depth = 0;
         } }
     {
-        let alloc = table.alloc();
+        let alloc = source.alloc();
         Parser {
-            table,
+            source,
             place: 0,
+            byte: 0,
             depth: 0,
             names: Names::new(alloc),
             next: None,
         }
     }
 
-    pub(crate) fn table(&self) -> &TableRef<'a>
+    pub(crate) fn source(&self) -> &SourceRef<'a>
         ensures { result.now ≡ self.now.source }
     {
-        &self.table
+        &self.source
     }
 
     /// The allocator of the buffer, for what a type holds that is read.
     pub fn alloc(&self) -> Global {
-        let table = &self.table;
-        table.alloc()
+        let source = &self.source;
+        source.alloc()
     }
 
     pub(crate) fn text(&self) -> &'a str
         ensures { result.now ≡ self.now.source.setting.text }
     {
-        let table = &self.table;
-        table.text()
+        let source = &self.source;
+        source.text()
     }
 
     pub(crate) fn place(&self) -> usize
@@ -123,60 +131,71 @@ impl<'a> Parser<'a> {
         self.place
     }
 
-    /// What is shown at a place, with the place after it, where the parser keeps which token it is.
+    /// The byte of the place.
+    pub(crate) fn byte(&self) -> usize
+        ensures { IsPlace self.now.source self.now.place result }
+    {
+        self.byte
+    }
+
+    /// What is shown at a place, with the place after it, where the parser keeps it.
     #[inline(always)]
     pub(crate) fn kept(&self, place: usize) -> Option<(Token, usize)>
-        ensures value { IfSome result (λ v.
-            shown self.now.source place self.now.names ≡ Ok (Some v)) }
-        ensures on { IfSome result (λ v.
-            (place < v.1) × (v.1 ≤ length self.now.source.tokens)) }
-        ensures reader { IfSome result (λ v. IsTokenOf self.now.source.setting.text v.0) }
+        ensures { IfSome result (IsNext self.now.source place self.now.names) }
     {
-        let table = &self.table;
-        match self.next {
-            Some(next) if place == self.place => Some(table.numbered(next)),
-            _ => None,
-        }
+        if place == self.place { self.next } else { None }
     }
 
     /// What is shown at a place, with the place after it.
-    pub(crate) fn look(&self, place: usize) -> Result<Option<(Token, usize)>, Fault>
+    pub(crate) fn look(&self, place: usize, byte: usize) -> Result<Option<(Token, usize)>, Fault>
+        requires { IsPlace self.now.source place byte }
         ensures value { result ≡ shown self.now.source place self.now.names }
-        ensures on { IfOk result (λ found. IfSome found (λ v.
-            (place < v.1) × (v.1 ≤ length self.now.source.tokens))) }
-        ensures reader { IfOk result (λ found. IfSome found (λ v.
-            IsTokenOf self.now.source.setting.text v.0)) }
+        ensures on { IfOk result (λ found. IfSome found (λ v. place < v.1)) }
+        ensures after { IfOk result (λ found. IfSome found (IsAfter self.now.source)) }
     {
         match self.kept(place) {
             Some(found) => Ok(Some(found)),
             None => {
-                let table = &self.table;
-                table.look(place, &self.names)
+                let source = &self.source;
+                source.look(place, byte, &self.names)
             }
         }
     }
 
     /// Moves to a place further on, and notes which token is shown there.
-    fn move_to(&mut self, place: usize)
+    fn move_to(&mut self, place: usize, byte: usize)
         requires on { self.old.place ≤ place }
-        requires within { place ≤ length self.old.source.tokens }
+        requires place { IsPlace self.old.source place byte }
         ensures { self.new ≡ record self.old { place = place } }
     {
-        let table = &self.table;
-        self.next = table.shown_at(place, &self.names);
+        let source = &self.source;
+        self.next = source.shown_at(place, byte, &self.names);
         self.place = place;
+        self.byte = byte;
+    }
+
+    /// Puts the place back, and the depth.
+    fn put_back(&mut self, place: usize, byte: usize, depth: usize)
+        requires deep { depth ≤ place }
+        requires place { IsPlace self.old.source place byte }
+        ensures { self.new ≡ record self.old { place = place; depth = depth } }
+    {
+        self.next = None;
+        self.place = place;
+        self.byte = byte;
+        self.depth = depth;
     }
 
     /// The current span at a place.
     #[tactic(auto, unfolding(crate::specs::places::Places::current_span))]
-    pub(crate) fn span_from(&self, place: usize) -> Span
+    pub(crate) fn span_from(&self, place: usize, byte: usize) -> Span
+        requires { IsPlace self.now.source place byte }
         ensures { result ≡ current_span self.now.source place self.now.names }
     {
-        let table = &self.table;
-        let offset = match self.look(place) {
-            Ok(None) => table.text().len(),
+        let offset = match self.look(place, byte) {
+            Ok(None) => self.text().len(),
             Ok(Some((token, _))) => token.offset,
-            Err(_) => table.offset_at(place),
+            Err(_) => byte,
         };
         Span::from_offset(offset)
     }
@@ -187,9 +206,9 @@ impl<'a> Parser<'a> {
     pub fn lemma_sound(&self)
         ensures sound { IsSound self.now }
     {
-        let table = &self.table;
-        table.lemma_read();
-        let _text = table.text();
+        let source = &self.source;
+        source.lemma_read();
+        let _text = source.text();
         self.names.lemma_positive();
     }
 
@@ -200,14 +219,15 @@ impl<'a> Parser<'a> {
         ensures sound { IsSound self.now }
     {
         self.lemma_sound();
-        self.is_empty_from(self.place)
+        self.is_empty_from(self.place, self.byte)
     }
 
     /// The same at a place.
-    pub(crate) fn is_empty_from(&self, place: usize) -> bool
+    pub(crate) fn is_empty_from(&self, place: usize, byte: usize) -> bool
+        requires { IsPlace self.now.source place byte }
         ensures { result ≡ empty_of (shown self.now.source place self.now.names) }
     {
-        match self.look(place) {
+        match self.look(place, byte) {
             Ok(None) => true,
             Ok(Some((token, _))) => matches!(token.kind, TokenKind::RParen),
             Err(_) => false,
@@ -219,15 +239,14 @@ impl<'a> Parser<'a> {
     pub fn cur_span(&self) -> Span
         ensures { result ≡ current_span self.now.source self.now.place self.now.names }
     {
-        self.span_from(self.place)
+        self.span_from(self.place, self.byte)
     }
 
     /// The place: where the last token or comment that was taken ends, 0 at first.
     pub fn prev_span(&self) -> Span
         ensures { result ≡ offset_at self.now.source.tokens self.now.place }
     {
-        let table = &self.table;
-        Span::from_offset(table.offset_at(self.place))
+        Span::from_offset(self.byte)
     }
 
     /// How many groups of [`parens`](Parser::parens) are open.
@@ -249,8 +268,8 @@ impl<'a> Parser<'a> {
     pub fn error_at(&self, span: Span, message: &str) -> Error
         ensures { IsUnlessMemory result (message_at self.now.source span message.now) }
     {
-        let table = &self.table;
-        table.error_at(span, message)
+        let source = &self.source;
+        source.error_at(span, message)
     }
 
     /// Refuses more than [`MAX_PARENS_DEPTH`] open groups.
@@ -268,16 +287,16 @@ impl<'a> Parser<'a> {
     pub fn has_meaningful_tokens(&self) -> bool
         ensures { result ≡ is_meaningful self.now.source }
     {
-        let table = &self.table;
-        table.is_meaningful()
+        let source = &self.source;
+        source.is_meaningful()
     }
 
     /// What the buffer was given by [`ParseBuffer::track_instr_spans`].
     pub fn track_instr_spans(&self) -> bool
         ensures { result ≡ self.now.source.track }
     {
-        let table = &self.table;
-        table.tracks()
+        let source = &self.source;
+        source.tracks()
     }
 
     /// Whether annotations of this name are shown.
@@ -358,8 +377,8 @@ impl<'a> Parser<'a> {
     {
         match f(Cursor::new(self)) {
             Ok((value, next)) => {
-                let at = next.place();
-                self.move_to(at);
+                let (at, byte) = (next.place(), next.byte());
+                self.move_to(at, byte);
                 Ok(value)
             }
             Err(e) => Err(e),
@@ -380,8 +399,8 @@ impl<'a> Parser<'a> {
         let cursor = Cursor::new(self);
         match cursor.lparen()? {
             Some(next) => {
-                let at = next.place();
-                self.move_to(at);
+                let (at, byte) = (next.place(), next.byte());
+                self.move_to(at, byte);
                 Ok(())
             }
             None => Err(cursor.error("expected `(`")),
@@ -402,8 +421,8 @@ impl<'a> Parser<'a> {
         let cursor = Cursor::new(self);
         match cursor.rparen()? {
             Some(next) => {
-                let at = next.place();
-                self.move_to(at);
+                let (at, byte) = (next.place(), next.byte());
+                self.move_to(at, byte);
                 Ok(())
             }
             None => Err(cursor.error("expected `)`")),
@@ -437,9 +456,8 @@ impl<'a> Parser<'a> {
             opened self.old.source self.old.place self.old.names ≡ Ok p.now.place →
             F.post f p r q → p.now.place ≤ q.now.place) → self.old.place ≤ self.new.place }
     {
-        let place = self.place;
-        let depth = self.depth;
-        self.table.lemma_read();
+        let (place, byte, depth) = (self.place, self.byte, self.depth);
+        self.source.lemma_read();
         self.open()?;
         self.depth += 1;
         match f(self) {
@@ -449,16 +467,12 @@ impl<'a> Parser<'a> {
                     Ok(value)
                 }
                 Err(e) => {
-                    self.depth = depth;
-                    self.place = place;
-                    self.next = None;
+                    self.put_back(place, byte, depth);
                     Err(e)
                 }
             },
             Err(e) => {
-                self.depth = depth;
-                self.place = place;
-                self.next = None;
+                self.put_back(place, byte, depth);
                 Err(e)
             }
         }

@@ -26,7 +26,7 @@ pub step_at : (x : List ℕ) (z : Option LexFault) (n : Names) (t : Token) (r : 
 unfolding shown_in
 step_at x z n t r = refl
 
-first-drop : (i : ℕ) (ts : List Token) → first (drop i ts) ≡ slice_get ts i
+pub first-drop : (i : ℕ) (ts : List Token) → first (drop i ts) ≡ slice_get ts i
 first-drop zero [] = refl
 first-drop zero (t ∷ ts) = refl
 first-drop (suc i) [] = refl

@@ -5,6 +5,7 @@ ghost use Rattle.wat_lexer_parser.specs.names.RegisteredNames.{no_names};
 ghost use Rattle.wat_lexer_parser.specs.places.Source.{IsRead, Source};
 
 use crate::parser::Parser;
+use crate::parser::source_ref::SourceRef;
 use crate::parser::table::Table;
 use crate::parser::table_ref::TableRef;
 use std::alloc::Global;
@@ -117,7 +118,7 @@ impl<'a> ParseBuffer<'a> {
         } }
         ensures read { IsRead self.now }
     {
-        Parser::new(self.table_ref())
+        Parser::new(SourceRef::of_table(self.table_ref()))
     }
 
     /// What holds of every buffer: its tokens are those of its text, which is UTF-8 and of fewer than

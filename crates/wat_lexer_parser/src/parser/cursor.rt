@@ -16,6 +16,7 @@ ghost use Rattle.wat_lex.specs.declared.lexer.kinds.FloatKind.{FloatKind};
 ghost use Rattle.wat_lex.specs.declared.lexer.kinds.IntegerKind.{IntegerKind};
 ghost use Rattle.wat_lex.specs.declared.lexer.kinds.Token.{Token};
 ghost use Rattle.wat_lex.specs.declared.lexer.kinds.TokenKind.TheVariants as variant;
+ghost use Rattle.wat_lexer_parser.specs.inside.Next.{IsAfter, IsPlace};
 ghost use Rattle.wat_lexer_parser.specs.parser.State.{Answers, IsSound, at_place};
 ghost use Rattle.wat_lexer_parser.specs.parser.State.{report_here, seen_at};
 ghost use Rattle.wat_lexer_parser.specs.parser.Takers.{taken_at, sees_at, token_of};
@@ -24,7 +25,7 @@ ghost use Rattle.wat_lexer_parser.specs.parser.Takers.{as_open, as_close, as_key
 ghost use Rattle.wat_lexer_parser.specs.parser.Takers.{as_id, as_annotation, as_string};
 ghost use Rattle.wat_lexer_parser.specs.parser.Takers.{as_integer, as_float, number_of};
 ghost use Rattle.wat_lexer_parser.specs.parser.Takers.{name_takes};
-ghost use Rattle.wat_lexer_parser.specs.places.Places.{current_span, empty_of};
+ghost use Rattle.wat_lexer_parser.specs.places.Places.{current_span, empty_of, offset_at};
 ghost use Rattle.wat_lexer_parser.specs.shown.Showing.{shown};
 
 use crate::parser::Parser;
@@ -39,7 +40,10 @@ use wat_lex::token::Span;
 pub struct Cursor<'p, 'a> {
     parser: &'p Parser<'a>,
     at: usize,
+    /// Where the place is in the text.
+    byte: usize,
     ghost in_text: { at ≤ length parser.now.source.tokens },
+    ghost at_byte: { byte ≡ offset_at parser.now.source.tokens at },
 }
 
 impl<'p, 'a> Cursor<'p, 'a> {
@@ -52,6 +56,7 @@ impl<'p, 'a> Cursor<'p, 'a> {
         Cursor {
             parser,
             at: parser.place(),
+            byte: parser.byte(),
         }
     }
 
@@ -61,6 +66,13 @@ impl<'p, 'a> Cursor<'p, 'a> {
         self.at
     }
 
+    /// The byte of the place.
+    pub(crate) fn byte(self) -> usize
+        ensures { IsPlace self.entry.parser.now.source self.entry.at result }
+    {
+        self.byte
+    }
+
     /// What is shown here, with the place after it.
     // What a parser keeps is handed over in registers; what a call writes to memory is read there apart from it.
     #[inline(always)]
@@ -68,10 +80,9 @@ impl<'p, 'a> Cursor<'p, 'a> {
     fn look(self) -> Result<Option<(Token, usize)>, Error>
         ensures value { Answers false (λ found. found)
             (seen_at (at_place self.entry.parser.now self.entry.at)) result }
-        ensures on { IfOk result (λ found. IfSome found (λ v.
-            (self.entry.at < v.1) × (v.1 ≤ length self.entry.parser.now.source.tokens))) }
-        ensures reader { IfOk result (λ found. IfSome found (λ v.
-            IsTokenOf self.entry.parser.now.source.setting.text v.0)) }
+        ensures on { IfOk result (λ found. IfSome found (λ v. self.entry.at < v.1)) }
+        ensures after { IfOk result (λ found. IfSome found
+            (IsAfter self.entry.parser.now.source)) }
     {
         let parser = self.parser;
         match parser.kept(self.at) {
@@ -83,21 +94,20 @@ impl<'p, 'a> Cursor<'p, 'a> {
         }
     }
 
-    /// The same, by a look at the table.
+    /// The same, by a look at the text or its table.
     #[inline(never)]
     #[tactic(auto, unfolding(crate::specs::parser::State::seen))]
     fn look_again(self) -> Result<Option<(Token, usize)>, Error>
         ensures value { Answers false (λ found. found)
             (seen_at (at_place self.entry.parser.now self.entry.at)) result }
-        ensures on { IfOk result (λ found. IfSome found (λ v.
-            (self.entry.at < v.1) × (v.1 ≤ length self.entry.parser.now.source.tokens))) }
-        ensures reader { IfOk result (λ found. IfSome found (λ v.
-            IsTokenOf self.entry.parser.now.source.setting.text v.0)) }
+        ensures on { IfOk result (λ found. IfSome found (λ v. self.entry.at < v.1)) }
+        ensures after { IfOk result (λ found. IfSome found
+            (IsAfter self.entry.parser.now.source)) }
     {
         let parser = self.parser;
-        match parser.look(self.at) {
+        match parser.look(self.at, self.byte) {
             Ok(found) => Ok(found),
-            Err(fault) => Err(parser.table().error_of(fault)),
+            Err(fault) => Err(parser.source().error_of(fault)),
         }
     }
 
@@ -120,7 +130,7 @@ impl<'p, 'a> Cursor<'p, 'a> {
     {
         self.lemma_sound();
         let parser = self.parser;
-        parser.span_from(self.at)
+        parser.span_from(self.at, self.byte)
     }
 
     /// Whether the end or `)` is shown; false at a fault.
@@ -129,7 +139,7 @@ impl<'p, 'a> Cursor<'p, 'a> {
             self.entry.parser.now.names) }
     {
         let parser = self.parser;
-        parser.is_empty_from(self.at)
+        parser.is_empty_from(self.at, self.byte)
     }
 
     /// The text in which the cursor is.
@@ -156,7 +166,7 @@ impl<'p, 'a> Cursor<'p, 'a> {
             self.now.parser.now.names message.now) }
     {
         let parser = self.parser;
-        parser.table().error_at(self.cur_span(), message)
+        parser.source().error_at(self.cur_span(), message)
     }
 
     /// An error at the current span with a message of two parts.
@@ -195,20 +205,22 @@ impl<'p, 'a> Cursor<'p, 'a> {
             IsTokenOf self.entry.parser.now.source.setting.text v.0)) }
     {
         match self.look()? {
-            Some((token, at)) => Ok(Some((token, self.moved(at)))),
+            Some((token, at)) => Ok(Some((token, self.moved(token, at)))),
             None => Ok(None),
         }
     }
 
-    /// The cursor at a place.
-    fn moved(self, at: usize) -> Self
-        requires { at ≤ length self.parser.now.source.tokens }
+    /// The cursor at the place after a token.
+    #[inline(always)]
+    fn moved(self, token: Token, at: usize) -> Self
+        requires { IsAfter self.parser.now.source (token, at) }
         ensures parser { result.parser ≡ self.entry.parser }
         ensures at { result.at ≡ at }
     {
         Cursor {
             parser: self.parser,
             at,
+            byte: token.offset + token.len as usize,
         }
     }
 
@@ -310,7 +322,7 @@ impl<'p, 'a> Cursor<'p, 'a> {
     {
         match self.look()? {
             Some((token, at)) => match token.kind {
-                TokenKind::LParen => Ok(Some(self.moved(at))),
+                TokenKind::LParen => Ok(Some(self.moved(token, at))),
                 _ => Ok(None),
             },
             None => Ok(None),
@@ -327,7 +339,7 @@ impl<'p, 'a> Cursor<'p, 'a> {
     {
         match self.look()? {
             Some((token, at)) => match token.kind {
-                TokenKind::RParen => Ok(Some(self.moved(at))),
+                TokenKind::RParen => Ok(Some(self.moved(token, at))),
                 _ => Ok(None),
             },
             None => Ok(None),
@@ -356,7 +368,7 @@ impl<'p, 'a> Cursor<'p, 'a> {
                 TokenKind::Id => {
                     let parser = self.parser;
                     let name = name_of(parser.alloc(), parser.text(), &token)?;
-                    Ok(Some((name, self.moved(at))))
+                    Ok(Some((name, self.moved(token, at))))
                 }
                 _ => Ok(None),
             },
@@ -376,7 +388,7 @@ impl<'p, 'a> Cursor<'p, 'a> {
             Some((token, at)) => match token.kind {
                 TokenKind::Keyword => {
                     let parser = self.parser;
-                    Ok(Some((token.keyword(parser.text()), self.moved(at))))
+                    Ok(Some((token.keyword(parser.text()), self.moved(token, at))))
                 }
                 _ => Ok(None),
             },
@@ -403,7 +415,7 @@ impl<'p, 'a> Cursor<'p, 'a> {
                 TokenKind::Annotation => {
                     let parser = self.parser;
                     let name = name_of(parser.alloc(), parser.text(), &token)?;
-                    Ok(Some((name, self.moved(at))))
+                    Ok(Some((name, self.moved(token, at))))
                 }
                 _ => Ok(None),
             },
@@ -423,7 +435,7 @@ impl<'p, 'a> Cursor<'p, 'a> {
             Some((token, at)) => match token.kind {
                 TokenKind::Reserved => {
                     let parser = self.parser;
-                    Ok(Some((token.reserved(parser.text()), self.moved(at))))
+                    Ok(Some((token.reserved(parser.text()), self.moved(token, at))))
                 }
                 _ => Ok(None),
             },
@@ -455,7 +467,7 @@ impl<'p, 'a> Cursor<'p, 'a> {
                 TokenKind::Integer(kind) => {
                     let parser = self.parser;
                     let integer = token.integer(parser.alloc(), parser.text(), kind)?;
-                    Ok(Some((integer, self.moved(at))))
+                    Ok(Some((integer, self.moved(token, at))))
                 }
                 _ => Ok(None),
             },
@@ -482,7 +494,7 @@ impl<'p, 'a> Cursor<'p, 'a> {
                 TokenKind::Float(kind) => {
                     let parser = self.parser;
                     let float = token.float(parser.alloc(), parser.text(), kind)?;
-                    Ok(Some((float, self.moved(at))))
+                    Ok(Some((float, self.moved(token, at))))
                 }
                 _ => Ok(None),
             },
@@ -509,7 +521,7 @@ impl<'p, 'a> Cursor<'p, 'a> {
                 TokenKind::String => {
                     let parser = self.parser;
                     let value = token.string(parser.alloc(), parser.text())?;
-                    Ok(Some((value, self.moved(at))))
+                    Ok(Some((value, self.moved(token, at))))
                 }
                 _ => Ok(None),
             },
@@ -527,10 +539,10 @@ impl<'p, 'a> Cursor<'p, 'a> {
         ensures on { IfOk result (λ found. IfSome found (λ v. self.entry.at < v.1.at)) }
     {
         let parser = self.parser;
-        match parser.table().comment_at(self.at) {
-            Ok(Some((token, at))) => Ok(Some((token.src(parser.text()), self.moved(at)))),
+        match parser.source().comment_at(self.at, self.byte) {
+            Ok(Some((token, at))) => Ok(Some((token.src(parser.text()), self.moved(token, at)))),
             Ok(None) => Ok(None),
-            Err(fault) => Err(parser.table().error_of(fault)),
+            Err(fault) => Err(parser.source().error_of(fault)),
         }
     }
 }

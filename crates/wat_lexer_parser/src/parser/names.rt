@@ -1,12 +1,16 @@
 //! The registered names.
 ghost use Rattle.std.specs.Prelude.{◌≡◌, ◌<◌, ◌+◌, ◌-◌, ◌^◌, IsSome, OnOk, OnErr, IsTrue, ◌↔◌};
-ghost use Rattle.std.specs.Prelude.{Some, alloc_error, is_some, IfErr, cond, nat_eq, false};
+ghost use Rattle.std.specs.Prelude.{Some, Ok, ℕ, List, alloc_error, is_some, IfErr, cond, nat_eq, false};
 ghost use Rattle.std.specs.FinMap as map;
 ghost use Rattle.std.specs.String.{string_cmp, string_bytes};
 ghost use Rattle.std.specs.BTreeMap.{UpdatesBy, get_by_text};
 ghost use Rattle.std.specs.Cmp.Lexicographic.{slice_cmp};
 ghost use Rattle.std.specs.Ordering.{nat_cmp};
 ghost use Rattle.std.specs.Result.{IsErrOf};
+ghost use Rattle.wat_lex.specs.tokens.ReadableTokens.{IsTokenOf, word_of};
+ghost use Rattle.wat_lex.specs.values.WordValues.{name_value};
+ghost use Rattle.wat_lex.specs.declared.lexer.faults.LexError.TheVariants.{EmptyAnnotation};
+ghost use Rattle.wat_lex.specs.declared.lexer.kinds.TokenKind.TheVariants.{Annotation};
 ghost use Rattle.wat_lexer_parser.specs.names.RegisteredNames.{Names as Counts};
 ghost use Rattle.wat_lexer_parser.specs.names.RegisteredNames.{count, fewer, is_registered};
 ghost use Rattle.wat_lexer_parser.specs.names.RegisteredNames.{IsPositive};
@@ -14,6 +18,7 @@ ghost use Rattle.wat_lexer_parser.specs.names.RegisteredNames.{IsPositive};
 use std::alloc::{AllocError, AllocFailed, Global};
 use std::collections::BTreeMap;
 use std::marker::Model;
+use wat_lex::lexer::Token;
 
 #[derive(Drop)]
 pub struct Names {
@@ -112,6 +117,19 @@ impl Names {
         ensures { result ≡ is_registered self.now name.now }
     {
         self.count(name) > 0
+    }
+
+    /// Whether the name of an annotation is registered, which is compared with each that is. It takes
+    /// no memory.
+    pub fn has_name_of(&self, text: &str, token: Token) -> bool
+        requires token { IsTokenOf text.now token }
+        requires kind { token.kind ≡ Annotation }
+        ensures { (x : List ℕ) → name_value EmptyAnnotation (word_of text.now token) ≡ Ok x →
+            result ≡ is_registered self.now x }
+    {
+        self.counts
+            .keys()
+            .any(|name| token.has_name(text, name.as_str()))
     }
 
     /// Sets the count of a name that is registered.

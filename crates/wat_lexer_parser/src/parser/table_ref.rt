@@ -13,7 +13,7 @@ ghost use Rattle.wat_lex.specs.declared.lexer.kinds.TokenKind.TheVariants.{Annot
 ghost use Rattle.wat_lexer_parser.specs.declared.parser.fault.FaultKind.TheVariants.{Lex};
 ghost use Rattle.wat_lexer_parser.specs.declared.parser.fault.Step.TheVariants.{Refuse, Skip, Take};
 ghost use Rattle.wat_lex.specs.tokens.Blanks.{is_blank, is_comment, is_space};
-ghost use Rattle.wat_lexer_parser.specs.inside.Next.{IsNext};
+ghost use Rattle.wat_lexer_parser.specs.inside.Next.{IsAfter, IsNext};
 ghost use Rattle.wat_lexer_parser.specs.inside.Table.{HeadsAnnotation, IsTable, Pair};
 ghost use Rattle.wat_lexer_parser.specs.inside.TableNames.{name_view, written_view};
 ghost use Rattle.wat_lexer_parser.specs.names.RegisteredNames.{Names as NamesOf};
@@ -28,7 +28,8 @@ ghost use Rattle.wat_lexer_parser.specs.inside.ShownIn.{step_named, step_next, s
 
 use crate::parser::fault::{Fault, FaultKind, Step};
 use crate::parser::names::Names;
-use crate::parser::table::{Table, find, is_annotation, is_quoted};
+use crate::parser::steps::{is_comment, is_space, is_unregistered, lexical, step_by, step_refused};
+use crate::parser::table::{Table, find, is_annotation};
 use std::alloc::Global;
 use std::marker::Model;
 use wat_lex::error::Error;
@@ -139,54 +140,11 @@ impl<'a> TableRef<'a> {
     }
 }
 
-/// The fault that is shown where the text has one.
-fn lexical(fault: LexFault) -> Fault
-    ensures { result ≡ record { offset = fault.offset; kind = Lex fault.error } }
-{
-    Fault {
-        offset: fault.offset,
-        kind: FaultKind::Lex(fault.error),
-    }
-}
-
 /// Whether a token is neither white space nor a comment.
 fn any_counts(tokens: &[Token]) -> bool
     ensures { result ≡ list_any (λ t. not (is_blank t.kind)) tokens.now }
 {
     tokens.iter().any(|token| !token.kind.is_blank())
-}
-
-fn is_space(kind: TokenKind) -> bool
-    ensures { result ≡ is_space kind }
-{
-    matches!(kind, TokenKind::Whitespace)
-}
-
-fn is_comment(kind: TokenKind) -> bool
-    ensures { result ≡ is_comment kind }
-{
-    matches!(kind, TokenKind::LineComment | TokenKind::BlockComment)
-}
-
-/// What an annotation of this name means for the parenthesis before it.
-fn step_by(name: &str, token: Token, names: &Names) -> Step
-    ensures { result ≡ step_named names.now token (Some (Ok name.now)) }
-{
-    if names.is_registered(name) {
-        Step::Take
-    } else {
-        Step::Skip
-    }
-}
-
-/// What an annotation means whose name is at fault.
-fn step_refused(error: LexError, token: Token) -> Step
-    ensures { result ≡ Refuse (record { offset = token.offset; kind = Lex error }) }
-{
-    Step::Refuse(Fault {
-        offset: token.offset,
-        kind: FaultKind::Lex(error),
-    })
 }
 
 /// What an annotation means whose name is noted.
@@ -255,23 +213,6 @@ impl<'a> TableRef<'a> {
         }
     }
 
-    /// Whether the annotation at a place is skipped since no name is registered and it has one. Its
-    /// name is not read for that; false says nothing.
-    fn is_unregistered(&self, place: usize, token: Token, names: &Names) -> bool
-        requires token { slice_get self.now.tokens place ≡ Some token }
-        requires kind { token.kind ≡ Annotation }
-        ensures { IsTrue result →
-            step_named names.now token (name_at self.now.setting.text token) ≡ Skip }
-    {
-        wat_lex::laws::names();
-        wat_lex::laws::tokens();
-        self.lemma_readable(place, token);
-        if token.len < 2 {
-            return false;
-        }
-        names.are_none() && !is_quoted(self.text(), token)
-    }
-
     /// Where the group of the annotation is closed whose parenthesis is at a place.
     fn close_of(&self, place: usize) -> Option<usize>
         requires { (u : Token) × HeadsAnnotation self.now.tokens place u }
@@ -295,9 +236,10 @@ impl<'a> TableRef<'a> {
         match self.token_at(place + 1) {
             Some(next) => match next.kind {
                 TokenKind::Annotation => {
+                    self.lemma_readable(place + 1, next);
                     if !token.is_marked(self.text()) {
                         Step::Take
-                    } else if self.is_unregistered(place + 1, next, names) {
+                    } else if is_unregistered(self.text(), next, names) {
                         Step::Skip
                     } else {
                         self.step_named(place, names)
@@ -357,10 +299,7 @@ impl<'a> TableRef<'a> {
         ensures value { result ≡ shown self.now place names.now }
         ensures on { IfOk result (λ found. IfSome found (λ v.
             (place < v.1) × (v.1 ≤ length self.now.tokens))) }
-        ensures reader { IfOk result (λ found. IfSome found (λ v.
-            IsTokenOf self.now.setting.text v.0)) }
-        ensures last { IfOk result (λ found. IfSome found (λ v.
-            slice_get self.now.tokens (v.1 - 1) ≡ Some v.0)) }
+        ensures after { IfOk result (λ found. IfSome found (IsAfter self.now)) }
     {
         let mut i = place;
         while i < self.table.tokens.len() {
@@ -412,53 +351,43 @@ impl<'a> TableRef<'a> {
         }
     }
 
-    /// The number of the token that is shown at a place, where it is the same whatever names are
-    /// registered.
+    /// The token that is shown at a place, with the place after it, where it is the same whatever
+    /// names are registered.
     #[inline(always)]
-    pub fn plain_at(&self, place: usize) -> Option<usize>
-        ensures { IfSome result (λ number. (names : NamesOf) →
-            IsNext self.now place names number) }
+    fn plain_at(&self, place: usize) -> Option<(Token, usize)>
+        ensures { IfSome result (λ v. (names : NamesOf) → IsNext self.now place names v) }
     {
         let i = self.past_blanks(place);
         match self.token_at(i) {
-            Some(token) if self.is_plain(i, token) => Some(i),
+            Some(token) if self.is_plain(i, token) => {
+                self.lemma_readable(i, token);
+                Some((token, i + 1))
+            }
             _ => None,
         }
     }
 
-    /// The number of the token that is shown at a place, where one is. It takes no memory.
+    /// The token that is shown at a place, with the place after it, where one is. It takes no memory.
     // What it answers needs no memory, and a look that may have to read a name stays a call.
     #[inline(always)]
-    pub fn shown_at(&self, place: usize, names: &Names) -> Option<usize>
+    pub fn shown_at(&self, place: usize, names: &Names) -> Option<(Token, usize)>
         ensures { IfSome result (IsNext self.now place names.now) }
     {
         match self.plain_at(place) {
-            Some(number) => Some(number),
-            None => self.number_by_look(place, names),
+            Some(found) => Some(found),
+            None => self.shown_by_look(place, names),
         }
     }
 
     /// The same, by a look.
     #[inline(never)]
-    fn number_by_look(&self, place: usize, names: &Names) -> Option<usize>
+    fn shown_by_look(&self, place: usize, names: &Names) -> Option<(Token, usize)>
         ensures { IfSome result (IsNext self.now place names.now) }
     {
         match self.look(place, names) {
-            Ok(Some((_, after))) => Some(after - 1),
-            _ => None,
+            Ok(found) => found,
+            Err(_) => None,
         }
-    }
-
-    /// The token that was shown at a place, with the place after it.
-    pub fn numbered(&self, number: usize) -> (Token, usize)
-        requires { number < length self.now.tokens }
-        ensures token { slice_get self.now.tokens number ≡ Some result.0 }
-        ensures after { result.1 ≡ number + 1 }
-        ensures reader { IsTokenOf self.now.setting.text result.0 }
-    {
-        let token = self.table.tokens[number];
-        self.lemma_readable(number, token);
-        (token, number + 1)
     }
 
     /// The place after the whitespace token at a place, if one is there.
@@ -482,8 +411,7 @@ impl<'a> TableRef<'a> {
         ensures value { result ≡ comment_at self.now place }
         ensures on { IfOk result (λ found. IfSome found (λ v.
             (place < v.1) × (v.1 ≤ length self.now.tokens))) }
-        ensures reader { IfOk result (λ found. IfSome found (λ v.
-            IsTokenOf self.now.setting.text v.0)) }
+        ensures after { IfOk result (λ found. IfSome found (IsAfter self.now)) }
     {
         let at = self.past_space(place);
         match self.token_at(at) {
@@ -501,51 +429,5 @@ impl<'a> TableRef<'a> {
         ensures { result ≡ is_meaningful self.now }
     {
         any_counts(&self.table.tokens) || self.table.fault.is_some()
-    }
-
-    /// The byte of a place.
-    pub fn offset_at(&self, place: usize) -> usize
-        ensures { result ≡ offset_at self.now.tokens place }
-    {
-        if place == 0 {
-            return 0;
-        }
-        match self.token_at(place - 1) {
-            Some(token) => {
-                self.lemma_readable(place - 1, token);
-                token.offset + token.len as usize
-            }
-            None => 0,
-        }
-    }
-}
-
-// Errors about the text.
-impl<'a> TableRef<'a> {
-    /// The error of a fault that is shown.
-    #[cold]
-    #[tactic(auto, unfolding(crate::specs::parser::State::report_of))]
-    pub fn error_of(&self, fault: Fault) -> Error
-        ensures { IsUnlessMemory result (report_of self.now.setting.text fault) }
-    {
-        let span = Span::from_offset(fault.offset);
-        match fault.kind {
-            FaultKind::Lex(error) => Error::lex(self.alloc, span, self.text(), error),
-            FaultKind::Unclosed => match String::from_str(self.alloc, "unclosed annotation") {
-                Ok(message) => Error::new(span, message),
-                Err(refused) => Error::from(refused),
-            },
-        }
-    }
-
-    /// The error of a message at a byte of the text.
-    #[cold]
-    pub fn error_at(&self, span: Span, message: &str) -> Error
-        ensures { IsUnlessMemory result (message_at self.now span message.now) }
-    {
-        match String::from_str(self.alloc, message) {
-            Ok(message) => Error::parse(self.alloc, span, self.text(), message),
-            Err(refused) => Error::from(refused),
-        }
     }
 }

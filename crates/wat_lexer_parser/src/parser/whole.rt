@@ -2,9 +2,9 @@
 ghost use Rattle.std.specs.Prelude.{◌≡◌};
 ghost use Rattle.wat_lexer_parser.specs.parser.State.{Answers};
 ghost use Rattle.wat_lexer_parser.specs.places.Source.{IsRead, Source};
-ghost use Rattle.wat_lexer_parser.specs.readings.Readings.{whole, whole_takes};
+ghost use Rattle.wat_lexer_parser.specs.readings.Readings.{start, whole, whole_takes};
 
-use crate::parser::{Cursor, Parse, ParseBuffer};
+use crate::parser::{Cursor, Parse, ParseBuffer, Parser};
 use wat_lex::error::Error;
 use wat_lex::token::Span;
 
@@ -19,15 +19,16 @@ pub fn parse<'a, T: Parse<'a>>(buffer: &'a ParseBuffer<'a>) -> Result<T, Error>
     ensures read { IsRead buffer.now }
 {
     buffer.lemma_only();
-    read(buffer)
+    read(buffer.parser())
 }
 
-/// The same, of the buffer's own tokens.
-fn read<'a, T: Parse<'a>>(buffer: &'a ParseBuffer<'a>) -> Result<T, Error>
-    ensures { Answers (whole_takes T.meaning buffer.now) T.value
-        (whole T.meaning buffer.now) result }
+/// The same, from a parser at a text's start.
+pub fn read<'a, T: Parse<'a>>(parser: Parser<'a>) -> Result<T, Error>
+    requires { parser ≡ start parser.source }
+    ensures { Answers (whole_takes T.meaning parser.entry.source) T.value
+        (whole T.meaning parser.entry.source) result }
 {
-    let mut parser = buffer.parser();
+    let mut parser = parser;
     let value = parser.parse::<T>()?;
     match Cursor::new(&parser).token()? {
         Some(token) => {

@@ -1,0 +1,24 @@
+-- The raw tokens of a text, and what they end with, as functions of the text: by the law of tilings there are no others, so a reader may skip
+-- this. No part of the standard.
+use Rattle.std.specs.Prelude.{◌≡◌, refl, Bool, true, false, List, [], Option, None}
+use Rattle.std.specs.Str.{is_utf8}
+use Rattle.std.proofs.lemmas.Str.{IsUtf8-from_is_utf8, IsCharBoundary-start}
+use Rattle.wat_lex.specs.tokens.Setting.{Setting}
+use Rattle.wat_lex.specs.declared.lexer.faults.LexFault.{LexFault}
+use Rattle.wat_lex.specs.declared.lexer.kinds.Token.{Token}
+use Rattle.wat_lex.proofs.tokens.SomeTilings.{some_tiling}
+
+pub record Raws : Type 0 where
+  pub tokens : List Token
+  pub ending : Option LexFault
+
+unfoldable pub raws_by : (s : Setting) (b : Bool) → is_utf8 s.text ≡ b → Raws
+raws_by s true e =
+    let utf8 = IsUtf8-from_is_utf8 s.text e in
+    let k = some_tiling s 0 utf8 (IsCharBoundary-start s.text utf8) in
+    record { tokens = k.0; ending = k.1 }
+raws_by s false e = record { tokens = []; ending = None }
+
+-- none where the bytes are no text
+unfoldable pub raws : Setting → Raws
+raws s = raws_by s (is_utf8 s.text) refl

@@ -1,0 +1,184 @@
+//! What parsers read: a text with its table, or without.
+ghost use Rattle.std.specs.Prelude.{◌≡◌, ◌<◌, ◌^◌, length, IfOk, IfSome};
+ghost use Rattle.std.specs.Str.{IsUtf8};
+ghost use Rattle.wat_lex.specs.errors.Errors.{IsUnlessMemory};
+ghost use Rattle.wat_lexer_parser.specs.inside.Next.{IsAfter, IsNext, IsPlace};
+ghost use Rattle.wat_lexer_parser.specs.parser.State.{message_at, report_of};
+ghost use Rattle.wat_lexer_parser.specs.places.Places.{comment_at, is_meaningful};
+ghost use Rattle.wat_lexer_parser.specs.places.Source.{IsRead};
+ghost use Rattle.wat_lexer_parser.specs.shown.Showing.{shown};
+
+use crate::parser::fault::{Fault, FaultKind};
+use crate::parser::names::Names;
+use crate::parser::table_ref::TableRef;
+use crate::parser::text_ref::TextRef;
+use std::alloc::Global;
+use std::marker::Model;
+use wat_lex::error::Error;
+use wat_lex::lexer::Token;
+use wat_lex::token::Span;
+
+/// Where raw tokens come from.
+#[derive(Drop)]
+enum Tokens<'a> {
+    /// A table, which has all of them.
+    Table(TableRef<'a>),
+    /// The text, which is lexed at each look.
+    Text(TextRef<'a>),
+}
+
+/// A text as parsers read it. What they show is the same from both.
+#[derive(Drop)]
+pub struct SourceRef<'a> {
+    tokens: Tokens<'a>,
+}
+
+impl<'a> Model for SourceRef<'a> {
+    ghost use Rattle.wat_lexer_parser.specs.declared.parser.source_ref.Tokens.TheVariants.{Table, Text};
+    ghost use Rattle.wat_lexer_parser.specs.inside.Codes.{source_code};
+    ghost use Rattle.wat_lexer_parser.specs.places.Source.{Source};
+
+    ghost Value = { Source };
+
+    ghost coded = { source_code };
+
+    ghost view = { λ b. elim b.tokens [ Table s ↦ s | Text s ↦ s ] };
+}
+
+impl<'a> SourceRef<'a> {
+    pub fn of_table(table: TableRef<'a>) -> SourceRef<'a>
+        ensures { result ≡ table.entry }
+    {
+        SourceRef {
+            tokens: Tokens::Table(table),
+        }
+    }
+
+    pub fn of_text(text: TextRef<'a>) -> SourceRef<'a>
+        ensures { result ≡ text.entry }
+    {
+        SourceRef {
+            tokens: Tokens::Text(text),
+        }
+    }
+
+    /// The tokens are those of the text, and so many at most. A lemma: the call does nothing.
+    pub fn lemma_read(&self)
+        ensures read { IsRead self.now }
+        ensures small { length self.now.tokens < 2 ^ 63 }
+    {
+        match &self.tokens {
+            Tokens::Table(table) => table.lemma_read(),
+            Tokens::Text(text) => text.lemma_read(),
+        }
+    }
+
+    pub fn tracks(&self) -> bool
+        ensures { result ≡ self.now.track }
+    {
+        match &self.tokens {
+            Tokens::Table(table) => table.tracks(),
+            Tokens::Text(text) => text.tracks(),
+        }
+    }
+
+    #[inline]
+    pub fn text(&self) -> &'a str
+        ensures text { result.now ≡ self.now.setting.text }
+        ensures utf8 { IsUtf8 self.now.setting.text }
+        ensures short { length self.now.setting.text < 2 ^ 32 }
+    {
+        match &self.tokens {
+            Tokens::Table(table) => table.text(),
+            Tokens::Text(text) => text.text(),
+        }
+    }
+
+    #[inline]
+    pub fn alloc(&self) -> Global {
+        match &self.tokens {
+            Tokens::Table(table) => table.alloc(),
+            Tokens::Text(text) => text.alloc(),
+        }
+    }
+
+    /// What is shown at a place, with the place after it. It takes no memory.
+    pub fn look(
+        &self,
+        place: usize,
+        byte: usize,
+        names: &Names,
+    ) -> Result<Option<(Token, usize)>, Fault>
+        requires { IsPlace self.now place byte }
+        ensures value { result ≡ shown self.now place names.now }
+        ensures on { IfOk result (λ found. IfSome found (λ v. place < v.1)) }
+        ensures after { IfOk result (λ found. IfSome found (IsAfter self.now)) }
+    {
+        match &self.tokens {
+            Tokens::Table(table) => table.look(place, names),
+            Tokens::Text(text) => text.look(place, byte, names),
+        }
+    }
+
+    /// The token that is shown at a place, with the place after it, where one is.
+    #[inline]
+    pub fn shown_at(&self, place: usize, byte: usize, names: &Names) -> Option<(Token, usize)>
+        requires { IsPlace self.now place byte }
+        ensures { IfSome result (IsNext self.now place names.now) }
+    {
+        match &self.tokens {
+            Tokens::Table(table) => table.shown_at(place, names),
+            Tokens::Text(text) => text.shown_at(place, byte, names),
+        }
+    }
+
+    /// The comment at a place, with the place after it. It takes no memory.
+    pub fn comment_at(&self, place: usize, byte: usize) -> Result<Option<(Token, usize)>, Fault>
+        requires { IsPlace self.now place byte }
+        ensures value { result ≡ comment_at self.now place }
+        ensures on { IfOk result (λ found. IfSome found (λ v. place < v.1)) }
+        ensures after { IfOk result (λ found. IfSome found (IsAfter self.now)) }
+    {
+        match &self.tokens {
+            Tokens::Table(table) => table.comment_at(place),
+            Tokens::Text(text) => text.comment_at(place, byte),
+        }
+    }
+
+    /// Whether the text has a token that counts, or a fault.
+    pub fn is_meaningful(&self) -> bool
+        ensures { result ≡ is_meaningful self.now }
+    {
+        match &self.tokens {
+            Tokens::Table(table) => table.is_meaningful(),
+            Tokens::Text(text) => text.is_meaningful(),
+        }
+    }
+
+    /// The error of a fault that is shown.
+    #[cold]
+    #[tactic(auto, unfolding(crate::specs::parser::State::report_of))]
+    pub fn error_of(&self, fault: Fault) -> Error
+        ensures { IsUnlessMemory result (report_of self.now.setting.text fault) }
+    {
+        let span = Span::from_offset(fault.offset);
+        match fault.kind {
+            FaultKind::Lex(error) => Error::lex(self.alloc(), span, self.text(), error),
+            FaultKind::Unclosed => match String::from_str(self.alloc(), "unclosed annotation") {
+                Ok(message) => Error::new(span, message),
+                Err(refused) => Error::from(refused),
+            },
+        }
+    }
+
+    /// The error of a message at a byte of the text.
+    #[cold]
+    pub fn error_at(&self, span: Span, message: &str) -> Error
+        ensures { IsUnlessMemory result (message_at self.now span message.now) }
+    {
+        match String::from_str(self.alloc(), message) {
+            Ok(message) => Error::parse(self.alloc(), span, self.text(), message),
+            Err(refused) => Error::from(refused),
+        }
+    }
+}

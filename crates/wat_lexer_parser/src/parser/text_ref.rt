@@ -1,0 +1,295 @@
+//! A text without a table, as parsers read it.
+ghost use Rattle.std.specs.Prelude.{◌≡◌, ◌<◌, ◌≤◌, ◌^◌, ◌+◌, length, drop, None, Some, slice_get};
+ghost use Rattle.std.specs.Prelude.{IfOk, IfErr, IfSome, IfNone};
+ghost use Rattle.std.specs.Str.{IsUtf8};
+ghost use Rattle.wat_lex.specs.tokens.ReadableTokens.{IsTokenOf};
+ghost use Rattle.wat_lexer_parser.specs.declared.parser.fault.FaultKind.TheVariants.{Unclosed};
+ghost use Rattle.wat_lexer_parser.specs.inside.Groups.{GroupEnds};
+ghost use Rattle.wat_lexer_parser.specs.inside.Next.{IsAfter, IsNext, IsPlace};
+ghost use Rattle.wat_lexer_parser.specs.inside.ShownIn.{step_next, step_of};
+ghost use Rattle.wat_lexer_parser.specs.places.Places.{comment_at, is_meaningful, past_space};
+ghost use Rattle.wat_lexer_parser.specs.places.Source.{IsRead};
+ghost use Rattle.wat_lexer_parser.specs.shown.Showing.{shown};
+
+use crate::parser::fault::{Fault, FaultKind, Step};
+use crate::parser::names::Names;
+use crate::parser::steps::{is_comment, is_space, lexical, step_annotation};
+use std::alloc::Global;
+use std::marker::Model;
+use wat_lex::lexer::{LexFault, Lexer, Settings, Token, TokenKind};
+
+/// A text, lent to a parser that lexes it as it goes.
+#[derive(Drop)]
+pub struct TextRef<'a> {
+    lexer: Lexer<'a>,
+    track: bool,
+    alloc: Global,
+}
+
+impl<'a> Model for TextRef<'a> {
+    ghost use Rattle.wat_lexer_parser.specs.inside.RawTokens.{raws};
+    ghost use Rattle.wat_lexer_parser.specs.inside.Codes.{source_code};
+    ghost use Rattle.wat_lexer_parser.specs.places.Source.{Source};
+
+    ghost Value = { Source };
+
+    ghost coded = { source_code };
+
+    ghost view = { λ b. record {
+      setting = b.lexer;
+      track = b.track;
+      tokens = (raws b.lexer).tokens;
+      ending = (raws b.lexer).ending;
+    } };
+}
+
+impl<'a> TextRef<'a> {
+    pub fn new(text: &'a str, settings: Settings, track: bool, alloc: Global) -> TextRef<'a>
+        requires { length text.now < 2 ^ 32 }
+        ensures setting { result.setting ≡ record { text = text.now; flags = settings } }
+        ensures track { result.track ≡ track }
+        ensures read { IsRead result }
+    {
+        let lexer = Lexer::with_settings(text, settings);
+        let _text = lexer.input();
+        TextRef {
+            lexer,
+            track,
+            alloc,
+        }
+    }
+
+    /// The tokens are those of the text, and so many at most. A lemma: the call does nothing.
+    pub fn lemma_read(&self)
+        ensures read { IsRead self.now }
+        ensures utf8 { IsUtf8 self.now.setting.text }
+        ensures small { length self.now.tokens < 2 ^ 32 }
+    {
+        let _text = self.lexer.input();
+    }
+
+    pub fn tracks(&self) -> bool
+        ensures { result ≡ self.now.track }
+    {
+        self.track
+    }
+
+    pub fn text(&self) -> &'a str
+        ensures text { result.now ≡ self.now.setting.text }
+        ensures utf8 { IsUtf8 self.now.setting.text }
+        ensures short { length self.now.setting.text < 2 ^ 32 }
+    {
+        self.lexer.input()
+    }
+
+    pub fn alloc(&self) -> Global {
+        self.alloc
+    }
+
+    /// The raw token at a place, None at the end of the text, or its fault.
+    #[inline(always)]
+    fn token_at(&self, place: usize, byte: usize) -> Result<Option<Token>, LexFault>
+        requires { IsPlace self.now place byte }
+        ensures token { IfOk result (λ found. found ≡ slice_get self.now.tokens place) }
+        ensures end { IfOk result (λ found. IfNone found (self.now.ending ≡ None)) }
+        ensures fault { IfErr result (λ f. (slice_get self.now.tokens place ≡ None)
+            × (self.now.ending ≡ Some f)) }
+        ensures next { IfOk result (λ found. IfSome found (λ t.
+            IsPlace self.now (place + 1) (t.offset + t.len))) }
+        ensures reader { IfOk result (λ found. IfSome found (IsTokenOf self.now.setting.text)) }
+        ensures short { IfOk result (λ found. IfSome found (λ t. t.offset + t.len < 2 ^ 32)) }
+    {
+        self.lemma_read();
+        self.lexer.scan(byte)
+    }
+
+    /// What a parenthesis means that `@` comes directly after, by the token at the next place.
+    // It stays a call, so that a look at any other token is small.
+    #[inline(never)]
+    fn step_marked(&self, place: usize, byte: usize, names: &Names) -> Step
+        requires { IsPlace self.now place byte }
+        ensures { result ≡ step_next self.now.setting.text names.now
+            (slice_get self.now.tokens place) }
+    {
+        match self.token_at(place, byte) {
+            Ok(Some(token)) => match token.kind {
+                TokenKind::Annotation => step_annotation(self.text(), token, names),
+                _ => Step::Take,
+            },
+            Ok(None) => Step::Finish,
+            Err(_) => Step::Finish,
+        }
+    }
+
+    /// What the token at a place means for a look there.
+    #[inline(always)]
+    fn step(&self, place: usize, token: Token, names: &Names) -> Step
+        requires next { IsPlace self.now (place + 1) (token.offset + token.len) }
+        requires short { token.offset + token.len < 2 ^ 32 }
+        requires few { place < 2 ^ 63 }
+        ensures { result ≡ step_of self.now.setting.text names.now token
+            (slice_get self.now.tokens (place + 1)) }
+    {
+        match token.kind {
+            TokenKind::Whitespace | TokenKind::LineComment | TokenKind::BlockComment => Step::Pass,
+            TokenKind::LParen => {
+                if token.is_marked(self.text()) {
+                    self.step_marked(place + 1, token.offset + token.len as usize, names)
+                } else {
+                    Step::Take
+                }
+            }
+            _ => Step::Take,
+        }
+    }
+
+    /// Where the group ends in which a place is: the place after it, with its byte; None where the
+    /// text ends before, or the fault that comes before.
+    fn past_group(&self, place: usize, byte: usize) -> Result<Option<(usize, usize)>, LexFault>
+        requires { IsPlace self.now place byte }
+        ensures ends { GroupEnds self.now place result }
+        ensures on { IfOk result (λ found. IfSome found (λ v. place < v.0)) }
+    {
+        let mut i = place;
+        let mut pos = byte;
+        let mut depth = 0;
+        self.lemma_read();
+        'tokens: loop {
+            let Some(token) = self.token_at(i, pos)? else {
+                return Ok(None);
+            };
+            i += 1;
+            pos = token.offset + token.len as usize;
+            match token.kind {
+                TokenKind::LParen => depth += 1,
+                TokenKind::RParen => {
+                    if depth == 0 {
+                        return Ok(Some((i, pos)));
+                    }
+                    depth -= 1;
+                }
+                _ => {}
+            }
+        }
+    }
+
+    /// What is shown at a place, with the place after it. It takes no memory. The group of an
+    /// annotation that is passed over is lexed each time.
+    #[inline(always)]
+    pub fn look(
+        &self,
+        place: usize,
+        byte: usize,
+        names: &Names,
+    ) -> Result<Option<(Token, usize)>, Fault>
+        requires { IsPlace self.now place byte }
+        ensures value { result ≡ shown self.now place names.now }
+        ensures on { IfOk result (λ found. IfSome found (λ v. place < v.1)) }
+        ensures after { IfOk result (λ found. IfSome found (IsAfter self.now)) }
+    {
+        let mut i = place;
+        let mut pos = byte;
+        self.lemma_read();
+        'tokens: loop {
+            let token = match self.token_at(i, pos) {
+                Ok(Some(token)) => token,
+                Ok(None) => return Ok(None),
+                Err(fault) => return Err(lexical(fault)),
+            };
+            let end = token.offset + token.len as usize;
+            match self.step(i, token, names) {
+                Step::Pass | Step::Finish => {
+                    i += 1;
+                    pos = end;
+                }
+                Step::Take => return Ok(Some((token, i + 1))),
+                Step::Refuse(fault) => return Err(fault),
+                Step::Skip => match self.past_group(i + 1, end) {
+                    Ok(Some(after)) => (i, pos) = after,
+                    Ok(None) => return Err(unclosed(token)),
+                    Err(fault) => return Err(lexical(fault)),
+                },
+            }
+        }
+    }
+
+    /// The token that is shown at a place, with the place after it, where one is.
+    // What it answers is small, and it is one call for each move.
+    #[inline(never)]
+    pub fn shown_at(&self, place: usize, byte: usize, names: &Names) -> Option<(Token, usize)>
+        requires { IsPlace self.now place byte }
+        ensures { IfSome result (IsNext self.now place names.now) }
+    {
+        match self.look(place, byte, names) {
+            Ok(found) => found,
+            Err(_) => None,
+        }
+    }
+
+    /// The place after the whitespace token at a place, if one is there, with its byte.
+    #[tactic(auto, using(crate::proofs::places::Comments::spaces))]
+    fn past_space(&self, place: usize, byte: usize) -> (usize, usize)
+        requires { IsPlace self.now place byte }
+        ensures past { past_space (drop place self.now.tokens) ≡ drop result.0 self.now.tokens }
+        ensures place { IsPlace self.now result.0 result.1 }
+        ensures on { place ≤ result.0 }
+    {
+        self.lemma_read();
+        match self.token_at(place, byte) {
+            Ok(Some(token)) if is_space(token.kind) => {
+                (place + 1, token.offset + token.len as usize)
+            }
+            Ok(_) => (place, byte),
+            Err(_) => (place, byte),
+        }
+    }
+
+    /// The comment at a place, with the place after it. It takes no memory.
+    #[tactic(auto, using(crate::proofs::places::Comments::comments))]
+    pub fn comment_at(&self, place: usize, byte: usize) -> Result<Option<(Token, usize)>, Fault>
+        requires { IsPlace self.now place byte }
+        ensures value { result ≡ comment_at self.now place }
+        ensures on { IfOk result (λ found. IfSome found (λ v. place < v.1)) }
+        ensures after { IfOk result (λ found. IfSome found (IsAfter self.now)) }
+    {
+        let (at, from) = self.past_space(place, byte);
+        self.lemma_read();
+        match self.token_at(at, from) {
+            Ok(Some(token)) if is_comment(token.kind) => Ok(Some((token, at + 1))),
+            Ok(_) => Ok(None),
+            Err(fault) => Err(lexical(fault)),
+        }
+    }
+
+    /// Whether the text has a token that counts, or a fault: it is lexed up to the first.
+    pub fn is_meaningful(&self) -> bool
+        ensures { result ≡ is_meaningful self.now }
+    {
+        let mut i = 0;
+        let mut pos = 0;
+        self.lemma_read();
+        'tokens: loop {
+            let token = match self.token_at(i, pos) {
+                Ok(Some(token)) => token,
+                Ok(None) => return false,
+                Err(_) => return true,
+            };
+            if !token.kind.is_blank() {
+                return true;
+            }
+            i += 1;
+            pos = token.offset + token.len as usize;
+        }
+    }
+}
+
+/// The fault that is shown where the text ends in the group of this parenthesis.
+fn unclosed(token: Token) -> Fault
+    requires { token.offset < 2 ^ 32 }
+    ensures { result ≡ record { offset = token.offset + 1; kind = Unclosed } }
+{
+    Fault {
+        offset: token.offset + 1,
+        kind: FaultKind::Unclosed,
+    }
+}
