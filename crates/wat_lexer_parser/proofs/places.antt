@@ -3,3 +3,4 @@ pub mod Tails
 pub mod Comments
 pub mod TakenSpans
 pub mod Bytes
+pub mod Meaning

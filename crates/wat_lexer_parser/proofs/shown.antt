@@ -10,3 +10,4 @@ pub mod BlankedShown
 pub mod BlankBytes
 pub mod Counting
 pub mod CountingTokens
+pub mod Groups

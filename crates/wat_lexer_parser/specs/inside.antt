@@ -8,3 +8,4 @@ pub mod Codes
 pub mod IntegerReadings
 pub mod RawTokens
 pub mod Groups
+pub mod Meaning

@@ -1,5 +1,7 @@
 -- A map of texts, and the finite map that it is seen as.
-use Rattle.std.proofs.Common.{◌≡◌, ℕ, List, [], ◌∷◌, length, map, cond, refl, sym, ap, subst, ◌∙◌, ◌+◌, ◌-◌, ◌<◌, ◌≤◌, IsSome, arith, zero, suc, ◌≢◌, nat_lt, Bool, true, false}
+use Rattle.std.proofs.Common.{◌≡◌, ℕ, List, [], ◌∷◌, length, map, cond, refl, sym, ap, subst, ◌∙◌, ◌+◌, ◌-◌, ◌<◌, ◌≤◌, IsSome, arith, zero, suc, ◌≢◌, nat_lt, Bool, true, false, ◌||◌}
+use Rattle.std.specs.Prelude.{is_some}
+use Rattle.std.specs.List.{list_any}
 use Rattle.std.specs.Option.{unwrap_or}
 use Rattle.std.proofs.lemmas.Bool.{lt-ltb, le-ltb}
 use Rattle.std.specs.FinMap as finmap
@@ -15,11 +17,11 @@ use Rattle.std.specs.declared.string.String.{String}
 use Rattle.std.specs.String.{string_bytes, string_cmp}
 use Rattle.std.specs.Str.{bytes_eq}
 use Rattle.std.specs.BTreeMap.{BTreeMap, UpdatesBy, get_by_text, is_at}
-use Rattle.std.specs.Map.{lookup}
+use Rattle.std.specs.Map.{keys_of, lookup}
 use Rattle.std.proofs.lemmas.Map.Text.{btree_map_updates_text, is_eq-slice_cmp}
 use Rattle.wat_lexer_parser.specs.names.RegisteredNames.{Names}
 use Rattle.wat_lexer_parser.specs.inside.MapEntries.{names_of}
-use Rattle.wat_lexer_parser.specs.names.RegisteredNames.{count, fewer, IsPositive}
+use Rattle.wat_lexer_parser.specs.names.RegisteredNames.{count, fewer, is_registered, IsPositive}
 
 find_pairs : {Z : Type 0} (es : List (String Z × ℕ)) (q : List ℕ) → finmap.find (slice_cmp nat_cmp) q (map (λ e. (string_bytes e.0, e.1)) es) ≡ lookup (is_at (λ k. slice_cmp nat_cmp q (string_bytes k))) es
 find_pairs [] q = refl
@@ -143,3 +145,25 @@ positive-empty q = λ e. positive_none true None (λ f. cc) (sym (get-empty (sli
 
 pub counted : (n : Names) (x : List ℕ) (v : ℕ) → 0 < v → 0 < count (finmap.insert n x v) x
 counted n x v h = subst (λ o. 0 < unwrap_or o 0) (sym (get-same n x v)) h
+
+either : (b : Bool) (v : ℕ) (o : Option ℕ) → (b || is_some o) ≡ is_some (cond b (Some v) o)
+either true v o = refl
+either false v o = refl
+
+-- a key is found where one of them is this text
+found_key : {Z : Type 0} (es : List (String Z × ℕ)) (x : List ℕ) → list_any (λ k. bytes_eq x (string_bytes k)) (keys_of es) ≡ is_some (lookup (is_at (λ k. slice_cmp nat_cmp x (string_bytes k))) es)
+found_key [] x = refl
+found_key (e ∷ es) x =
+    ap (λ o. bytes_eq x (string_bytes e.0) || o) (found_key es x)
+    ∙ ap (λ b. b || is_some (lookup (is_at (λ k. slice_cmp nat_cmp x (string_bytes k))) es)) (sym (is_eq-slice_cmp x (string_bytes e.0)))
+    ∙ either (is_eq (slice_cmp nat_cmp x (string_bytes e.0))) e.1 (lookup (is_at (λ k. slice_cmp nat_cmp x (string_bytes k))) es)
+
+counted_once : (o : Option ℕ) → o ≢ Some 0 → is_some o ≡ nat_lt 0 (unwrap_or o 0)
+counted_once None h = refl
+counted_once (Some zero) h = absurd (h refl)
+counted_once (Some (suc k)) h = sym (lt-ltb 0 (suc k) (omega arith))
+
+-- a name is registered where it is one of the keys
+pub registered_key : {Z : Type 0} (m : BTreeMap (String Z) ℕ) (s : Names) (x : List ℕ) → names_of m.entries ≡ s → IsPositive (names_of m.entries) → list_any (λ k. bytes_eq x (string_bytes k)) (keys_of m.entries) ≡ is_registered s x
+registered_key m s x is positive =
+    found_key m.entries x ∙ ap is_some (sym (get-names m x)) ∙ counted_once (finmap.get (names_of m.entries) x) (positive x) ∙ ap (λ n. is_registered n x) is

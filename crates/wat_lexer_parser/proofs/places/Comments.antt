@@ -10,10 +10,10 @@ use Rattle.wat_lexer_parser.specs.places.Source.{Source}
 use Rattle.wat_lexer_parser.specs.shown.Shown.{ended}
 use Rattle.wat_lexer_parser.specs.shown.Showing.{placed}
 
-drop_some : (ts : List Token) (p : ℕ) (t : Token) → slice_get ts p ≡ Some t → drop p ts ≡ t ∷ drop (p + 1) ts
+pub drop_some : (ts : List Token) (p : ℕ) (t : Token) → slice_get ts p ≡ Some t → drop p ts ≡ t ∷ drop (p + 1) ts
 drop_some ts p t e = drop_more ts p t (slice_get_within ts p t e) ∙ ap (λ x. x ∷ drop (p + 1) ts) (get_or_from_slice_get ts p t t e)
 
-drop_none : (ts : List Token) (p : ℕ) → slice_get ts p ≡ None → drop p ts ≡ []
+pub drop_none : (ts : List Token) (p : ℕ) → slice_get ts p ≡ None → drop p ts ≡ []
 drop_none [] zero e = refl
 drop_none [] (suc p) e = refl
 drop_none (a ∷ ts) zero e = cc

@@ -1,6 +1,6 @@
 -- What is shown at a place, a step at a time.
 use Rattle.std.proofs.Common.{◌≡◌, ℕ, zero, suc, ◌+◌, ◌-◌, ◌<◌, ◌≤◌, List, [], ◌∷◌, refl, sym, ap, ◌∙◌, inl, inr, subst, length, drop, get_or, arith, length-drop, Some, None, Ok, Err}
-use Rattle.std.specs.Prelude.{slice_get, Option, true, if◌then◌else◌}
+use Rattle.std.specs.Prelude.{slice_get, Option, Result, true, if◌then◌else◌}
 use Rattle.std.proofs.lemmas.List.{drop_more, drop_all}
 use Rattle.wat_lex.specs.declared.lexer.faults.LexFault.{LexFault}
 use Rattle.wat_lex.specs.declared.lexer.kinds.TokenKind.{TokenKind}
@@ -10,7 +10,7 @@ use Rattle.wat_lexer_parser.specs.declared.parser.fault.Fault.{Fault}
 use Rattle.wat_lexer_parser.specs.declared.parser.fault.Step.TheVariants.{Pass, Take, Finish, Refuse, Skip}
 use Rattle.wat_lexer_parser.proofs.groups.Closing.{Closed}
 use Rattle.wat_lexer_parser.specs.lemmas.After.{does}
-use Rattle.wat_lexer_parser.specs.names.RegisteredNames.{Names}
+use Rattle.wat_lexer_parser.specs.names.RegisteredNames.{Names, is_registered}
 use Rattle.wat_lexer_parser.specs.shown.Shown.{ended, left_open}
 use Rattle.wat_lexer_parser.specs.shown.Showing.{shown, placed}
 use Rattle.wat_lexer_parser.specs.inside.ShownIn.{Showing, shown_in, first, step_of, step_kind, step_next, step_named, name_at}
@@ -20,7 +20,10 @@ use Rattle.wat_lexer_parser.specs.inside.Table.{HeadsAnnotation}
 use Rattle.wat_lexer_parser.proofs.shown.Annotations.{is_annotation, no_name}
 use Rattle.wat_lexer_parser.proofs.shown.Skipping.{past_closed, closes_or_not}
 use Rattle.std.proofs.lemmas.Bool.{cases_Bool}
-use Rattle.std.proofs.lemmas.Option.{slice_get_read}
+use Rattle.std.proofs.lemmas.Option.{slice_get_read, slice_get_within, get_or_from_slice_get}
+use Rattle.wat_lex.specs.declared.lexer.faults.LexError.{LexError}
+use Rattle.wat_lexer_parser.specs.inside.Groups.{found_inside}
+use Rattle.wat_lexer_parser.proofs.places.Comments.{drop_none}
 
 pub step_at : (x : List ℕ) (z : Option LexFault) (n : Names) (t : Token) (r : List Token) → shown_in x z n Showing (t ∷ r) ≡ does x z n t r (step_of x n t (first r))
 unfolding shown_in
@@ -137,3 +140,58 @@ blank_passes x n t u e = passes t.kind e
     passes Reserved e = cc
     passes (Integer k) e = cc
     passes (Float k) e = cc
+
+pub shown_none : (s : Source) (n : Names) (i : ℕ) → slice_get s.tokens i ≡ None → shown s i n ≡ placed s.tokens (ended s.ending)
+unfolding shown shown_in
+shown_none s n i e = ap (λ x. placed s.tokens (shown_in s.setting.text s.ending n Showing x)) (drop_none s.tokens i e)
+
+-- what is shown after a parenthesis whose group is passed over
+pub shown_group : (s : Source) (n : Names) (i : ℕ) (t : Token) → slice_get s.tokens i ≡ Some t → step_of s.setting.text n t (slice_get s.tokens (i + 1)) ≡ Skip → shown s i n ≡ placed s.tokens (found_inside s (i + 1) 0 n t)
+shown_group s n i t e f =
+    shown_at s n i t (slice_get_within s.tokens i t e) (sym (get_or_from_slice_get s.tokens i t t e))
+    ∙ ap (λ k. placed s.tokens (does s.setting.text s.ending n t (drop (i + 1) s.tokens) k)) f
+
+named_goes_on : (n : Names) (u : Token) (o : Option (Result (List ℕ) LexError)) → step_named n u o ≡ Finish → ⊥
+named_goes_on n u None e = cc
+named_goes_on n u (Some (Err x)) e = cc
+named_goes_on n u (Some (Ok x)) e = elim (cases_Bool (is_registered n x)) [
+  | inl r ↦ let k : Take ≡ Finish = sym (ap (λ b. if b then Take else Skip) r) ∙ e in cc
+  | inr r ↦ let k : Skip ≡ Finish = sym (ap (λ b. if b then Take else Skip) r) ∙ e in cc
+]
+
+finish_by : (x : List ℕ) (n : Names) (t : Token) (u : Option Token) (k : TokenKind) → step_kind x n t k u ≡ Finish → u ≡ None
+finish_by x n t None k e = refl
+finish_by x n t (Some u) LParen e = elim (cases_Bool (is_marked x t)) [
+  | inl m ↦ absurd (named_goes_on n u (name_at x u) (sym (ap (λ b. if b then step_next x n (Some u) else Take) m) ∙ e))
+  | inr m ↦ let k : Take ≡ Finish = sym (ap (λ b. if b then step_next x n (Some u) else Take) m) ∙ e in cc
+]
+finish_by x n t (Some u) Whitespace e = cc
+finish_by x n t (Some u) LineComment e = cc
+finish_by x n t (Some u) BlockComment e = cc
+finish_by x n t (Some u) RParen e = cc
+finish_by x n t (Some u) String e = cc
+finish_by x n t (Some u) Id e = cc
+finish_by x n t (Some u) Keyword e = cc
+finish_by x n t (Some u) Annotation e = cc
+finish_by x n t (Some u) Reserved e = cc
+finish_by x n t (Some u) (Integer k) e = cc
+finish_by x n t (Some u) (Float k) e = cc
+
+-- where the tokens end with a parenthesis and `@`, what is shown is what is shown after it
+pub shown_last : (s : Source) (n : Names) (i : ℕ) (t : Token) → slice_get s.tokens i ≡ Some t → step_of s.setting.text n t (slice_get s.tokens (i + 1)) ≡ Finish → shown s i n ≡ shown s (i + 1) n
+shown_last s n i t e f =
+    shown_finish s n i t (slice_get_within s.tokens i t e) (sym (get_or_from_slice_get s.tokens i t t e)) f
+    ∙ sym (shown_none s n (i + 1) (finish_by s.setting.text n t (slice_get s.tokens (i + 1)) t.kind f))
+
+pub shown_passed : (s : Source) (n : Names) (i : ℕ) (t : Token) → slice_get s.tokens i ≡ Some t → step_of s.setting.text n t (slice_get s.tokens (i + 1)) ≡ Pass → shown s i n ≡ shown s (i + 1) n
+shown_passed s n i t e f = shown_pass s n i t (slice_get_within s.tokens i t e) (sym (get_or_from_slice_get s.tokens i t t e)) f
+
+pub shown_taken : (s : Source) (n : Names) (i : ℕ) (t : Token) → slice_get s.tokens i ≡ Some t → step_of s.setting.text n t (slice_get s.tokens (i + 1)) ≡ Take → shown s i n ≡ Ok (Some (t, i + 1))
+shown_taken s n i t e f = shown_take s n i t (slice_get_within s.tokens i t e) (sym (get_or_from_slice_get s.tokens i t t e)) f
+
+pub shown_refused : (s : Source) (n : Names) (i : ℕ) (t : Token) (x : Fault) → slice_get s.tokens i ≡ Some t → step_of s.setting.text n t (slice_get s.tokens (i + 1)) ≡ Refuse x → shown s i n ≡ Err x
+shown_refused s n i t x e f = shown_refuse s n i t x (slice_get_within s.tokens i t e) (sym (get_or_from_slice_get s.tokens i t t e)) f
+
+pub shown_from : (s : Source) (n : Names) (i : ℕ) → shown s i n ≡ placed s.tokens (shown_in s.setting.text s.ending n Showing (drop i s.tokens))
+unfolding shown
+shown_from s n i = refl

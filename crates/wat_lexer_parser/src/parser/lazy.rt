@@ -93,7 +93,6 @@ impl<'a> LazyBuffer<'a> {
         ensures read { IsRead self.now }
     {
         self.lemma_sound();
-        wat_lex::laws::one_tiling();
         self.lexer.first_fault(0)
     }
 

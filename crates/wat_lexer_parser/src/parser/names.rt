@@ -11,6 +11,9 @@ ghost use Rattle.wat_lex.specs.tokens.ReadableTokens.{IsTokenOf, word_of};
 ghost use Rattle.wat_lex.specs.values.WordValues.{name_value};
 ghost use Rattle.wat_lex.specs.declared.lexer.faults.LexError.TheVariants.{EmptyAnnotation};
 ghost use Rattle.wat_lex.specs.declared.lexer.kinds.TokenKind.TheVariants.{Annotation};
+ghost use Rattle.std.specs.List.{list_any};
+ghost use Rattle.std.specs.BTreeMap.{keys};
+ghost use Rattle.wat_lexer_parser.specs.inside.MapEntries.{names_it};
 ghost use Rattle.wat_lexer_parser.specs.names.RegisteredNames.{Names as Counts};
 ghost use Rattle.wat_lexer_parser.specs.names.RegisteredNames.{count, fewer, is_registered};
 ghost use Rattle.wat_lexer_parser.specs.names.RegisteredNames.{IsPositive};
@@ -81,6 +84,24 @@ fn set_count(counts: &mut BTreeMap<String, usize>, name: &str, count: usize)
     }
 }
 
+/// Whether the name of an annotation is this one.
+fn names_it(text: &str, token: Token, name: &str) -> bool
+    requires token { IsTokenOf text.now token }
+    requires kind { token.kind ≡ Annotation }
+    ensures { result ≡ names_it text.now token name.now }
+{
+    token.has_name(text, name)
+}
+
+/// Whether the name of an annotation is one of the keys.
+fn has_key(counts: &BTreeMap<String, usize>, text: &str, token: Token) -> bool
+    requires token { IsTokenOf text.now token }
+    requires kind { token.kind ≡ Annotation }
+    ensures { result ≡ list_any (λ k. names_it text.now token (string_bytes k)) (keys counts.now) }
+{
+    counts.keys().any(|key| names_it(text, token, key.as_str()))
+}
+
 impl Names {
     pub fn new(alloc: Global) -> Names
         ensures { result ≡ map.empty }
@@ -127,9 +148,7 @@ impl Names {
         ensures { (x : List ℕ) → name_value EmptyAnnotation (word_of text.now token) ≡ Ok x →
             result ≡ is_registered self.now x }
     {
-        self.counts
-            .keys()
-            .any(|name| token.has_name(text, name.as_str()))
+        has_key(&self.counts, text, token)
     }
 
     /// Sets the count of a name that is registered.

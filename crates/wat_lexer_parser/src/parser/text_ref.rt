@@ -1,12 +1,15 @@
 //! A text without a table, as parsers read it.
 ghost use Rattle.std.specs.Prelude.{◌≡◌, ◌<◌, ◌≤◌, ◌^◌, ◌+◌, length, drop, None, Some, slice_get};
-ghost use Rattle.std.specs.Prelude.{IfOk, IfErr, IfSome, IfNone};
+ghost use Rattle.std.specs.Prelude.{IfOk, IfErr, IfSome, IfNone, IsTrue, Option};
 ghost use Rattle.std.specs.Str.{IsUtf8};
 ghost use Rattle.wat_lex.specs.tokens.ReadableTokens.{IsTokenOf};
+ghost use Rattle.wat_lex.specs.declared.lexer.kinds.Token.{Token as Lexed};
 ghost use Rattle.wat_lexer_parser.specs.declared.parser.fault.FaultKind.TheVariants.{Unclosed};
+ghost use Rattle.wat_lexer_parser.specs.declared.parser.fault.Step.TheVariants.{Take};
 ghost use Rattle.wat_lexer_parser.specs.inside.Groups.{GroupEnds};
 ghost use Rattle.wat_lexer_parser.specs.inside.Next.{IsAfter, IsNext, IsPlace};
 ghost use Rattle.wat_lexer_parser.specs.inside.ShownIn.{step_next, step_of};
+ghost use Rattle.wat_lexer_parser.specs.names.RegisteredNames.{Names as NamesOf};
 ghost use Rattle.wat_lexer_parser.specs.places.Places.{comment_at, is_meaningful, past_space};
 ghost use Rattle.wat_lexer_parser.specs.places.Source.{IsRead};
 ghost use Rattle.wat_lexer_parser.specs.shown.Showing.{shown};
@@ -152,7 +155,7 @@ impl<'a> TextRef<'a> {
     {
         let mut i = place;
         let mut pos = byte;
-        let mut depth = 0;
+        let mut depth = 0usize;
         self.lemma_read();
         'tokens: loop {
             let Some(token) = self.token_at(i, pos)? else {
@@ -175,7 +178,6 @@ impl<'a> TextRef<'a> {
 
     /// What is shown at a place, with the place after it. It takes no memory. The group of an
     /// annotation that is passed over is lexed each time.
-    #[inline(always)]
     pub fn look(
         &self,
         place: usize,
@@ -213,10 +215,61 @@ impl<'a> TextRef<'a> {
         }
     }
 
-    /// The token that is shown at a place, with the place after it, where one is.
-    // What it answers is small, and it is one call for each move.
+    /// Whether a token is shown whatever names are registered, and whatever comes after it.
+    #[inline(always)]
+    fn is_plain(&self, token: Token) -> bool
+        requires { token.offset < 2 ^ 32 }
+        ensures { IsTrue result → (names : NamesOf) → (next : Option Lexed) →
+            step_of self.now.setting.text names token next ≡ Take }
+    {
+        match token.kind {
+            TokenKind::Whitespace | TokenKind::LineComment | TokenKind::BlockComment => false,
+            TokenKind::LParen => !token.is_marked(self.text()),
+            _ => true,
+        }
+    }
+
+    /// The token that is shown at a place, with the place after it, where it is the same whatever
+    /// names are registered.
+    // It is one call for each move, and what it answers is small.
     #[inline(never)]
+    pub fn plain_at(&self, place: usize, byte: usize) -> Option<(Token, usize)>
+        requires { IsPlace self.now place byte }
+        ensures { IfSome result (λ v. (names : NamesOf) → IsNext self.now place names v) }
+    {
+        let mut i = place;
+        let mut pos = byte;
+        self.lemma_read();
+        'tokens: loop {
+            let Ok(Some(token)) = self.token_at(i, pos) else {
+                return None;
+            };
+            if self.is_plain(token) {
+                return Some((token, i + 1));
+            }
+            if !token.kind.is_blank() {
+                return None;
+            }
+            i += 1;
+            pos = token.offset + token.len as usize;
+        }
+    }
+
+    /// The token that is shown at a place, with the place after it, where one is.
+    #[inline(always)]
     pub fn shown_at(&self, place: usize, byte: usize, names: &Names) -> Option<(Token, usize)>
+        requires { IsPlace self.now place byte }
+        ensures { IfSome result (IsNext self.now place names.now) }
+    {
+        match self.plain_at(place, byte) {
+            Some(found) => Some(found),
+            None => self.shown_by_look(place, byte, names),
+        }
+    }
+
+    /// The same, by a look.
+    #[inline(never)]
+    fn shown_by_look(&self, place: usize, byte: usize, names: &Names) -> Option<(Token, usize)>
         requires { IsPlace self.now place byte }
         ensures { IfSome result (IsNext self.now place names.now) }
     {

@@ -6,23 +6,28 @@ mod buffer;
 mod calls;
 mod cursor;
 pub(crate) mod fault;
+mod lazy;
 mod lists;
 mod lookahead;
 pub(crate) mod names;
 mod peek;
 mod reads;
+pub(crate) mod source_ref;
+pub(crate) mod steps;
 mod table;
 pub(crate) mod table_ref;
+pub(crate) mod text_ref;
 mod typed;
 mod whole;
 
 use crate::proved::parser::fault::Fault;
 use crate::proved::parser::names::{Names, RegisterError};
-use crate::proved::parser::table_ref::TableRef;
+use crate::proved::parser::source_ref::SourceRef;
 pub use buffer::ParseBuffer;
 pub use calls::{Call, Reply, replay};
 pub use cursor::Cursor;
 pub use fault::FaultKind;
+pub use lazy::LazyBuffer;
 pub use lookahead::Lookahead1;
 pub use peek::Peek;
 pub use reads::{Parse, Result};
@@ -35,12 +40,14 @@ pub use whole::parse;
 
 /// A parser over a buffer: a place in its text, and the names of annotations that are registered.
 pub struct Parser<'a> {
-    table: TableRef<'a>,
+    source: SourceRef<'a>,
     place: usize,
+    /// Where the place is in the text.
+    byte: usize,
     depth: usize,
     names: Names,
-    /// The number of the token that is shown at the place, where that is known.
-    next: Option<usize>,
+    /// The token that is shown at the place, with the place after it, where that is known.
+    next: Option<(Token, usize)>,
 }
 
 impl<'a> Parser<'a> {
@@ -48,17 +55,18 @@ impl<'a> Parser<'a> {
     ///
     /// ```text
     /// ensures { result ≡ record {
-    ///   source = table.entry;
+    ///   source = source.entry;
     ///   place = 0;
     ///   names = no_names;
     ///   depth = 0;
     /// } }
     /// ```
-    pub(crate) fn new(table: TableRef<'a>) -> Parser<'a> {
-        let alloc = table.alloc();
+    pub(crate) fn new(source: SourceRef<'a>) -> Parser<'a> {
+        let alloc = source.alloc();
         Parser {
-            table,
+            source,
             place: 0,
+            byte: 0,
             depth: 0,
             names: Names::new(alloc),
             next: None,
@@ -70,14 +78,14 @@ impl<'a> Parser<'a> {
     /// ```text
     /// ensures { result.now ≡ self.now.source }
     /// ```
-    pub(crate) fn table(&self) -> &TableRef<'a> {
-        &self.table
+    pub(crate) fn source(&self) -> &SourceRef<'a> {
+        &self.source
     }
 
     /// The allocator of the buffer, for what a type holds that is read.
     pub fn alloc(&self) -> Global {
-        let table = &self.table;
-        table.alloc()
+        let source = &self.source;
+        source.alloc()
     }
 
     /// # Proved
@@ -86,8 +94,8 @@ impl<'a> Parser<'a> {
     /// ensures { result.now ≡ self.now.source.setting.text }
     /// ```
     pub(crate) fn text(&self) -> &'a str {
-        let table = &self.table;
-        table.text()
+        let source = &self.source;
+        source.text()
     }
 
     /// # Proved
@@ -100,24 +108,27 @@ impl<'a> Parser<'a> {
         self.place
     }
 
-    /// What is shown at a place, with the place after it, where the parser keeps which token it is.
+    /// The byte of the place.
     ///
     /// # Proved
     ///
     /// ```text
-    /// ensures value { IfSome result (λ v.
-    ///     shown self.now.source place self.now.names ≡ Ok (Some v)) }
-    /// ensures on { IfSome result (λ v.
-    ///     (place < v.1) × (v.1 ≤ length self.now.source.tokens)) }
-    /// ensures reader { IfSome result (λ v. IsTokenOf self.now.source.setting.text v.0) }
+    /// ensures { IsPlace self.now.source self.now.place result }
+    /// ```
+    pub(crate) fn byte(&self) -> usize {
+        self.byte
+    }
+
+    /// What is shown at a place, with the place after it, where the parser keeps it.
+    ///
+    /// # Proved
+    ///
+    /// ```text
+    /// ensures { IfSome result (IsNext self.now.source place self.now.names) }
     /// ```
     #[inline(always)]
     pub(crate) fn kept(&self, place: usize) -> Option<(Token, usize)> {
-        let table = &self.table;
-        match self.next {
-            Some(next) if place == self.place => Some(table.numbered(next)),
-            _ => None,
-        }
+        if place == self.place { self.next } else { None }
     }
 
     /// What is shown at a place, with the place after it.
@@ -125,18 +136,17 @@ impl<'a> Parser<'a> {
     /// # Proved
     ///
     /// ```text
+    /// requires { IsPlace self.now.source place byte }
     /// ensures value { result ≡ shown self.now.source place self.now.names }
-    /// ensures on { IfOk result (λ found. IfSome found (λ v.
-    ///     (place < v.1) × (v.1 ≤ length self.now.source.tokens))) }
-    /// ensures reader { IfOk result (λ found. IfSome found (λ v.
-    ///     IsTokenOf self.now.source.setting.text v.0)) }
+    /// ensures on { IfOk result (λ found. IfSome found (λ v. place < v.1)) }
+    /// ensures after { IfOk result (λ found. IfSome found (IsAfter self.now.source)) }
     /// ```
-    pub(crate) fn look(&self, place: usize) -> Result<Option<(Token, usize)>, Fault> {
+    pub(crate) fn look(&self, place: usize, byte: usize) -> Result<Option<(Token, usize)>, Fault> {
         match self.kept(place) {
             Some(found) => Ok(Some(found)),
             None => {
-                let table = &self.table;
-                table.look(place, &self.names)
+                let source = &self.source;
+                source.look(place, byte, &self.names)
             }
         }
     }
@@ -147,13 +157,30 @@ impl<'a> Parser<'a> {
     ///
     /// ```text
     /// requires on { self.old.place ≤ place }
-    /// requires within { place ≤ length self.old.source.tokens }
+    /// requires place { IsPlace self.old.source place byte }
     /// ensures { self.new ≡ record self.old { place = place } }
     /// ```
-    fn move_to(&mut self, place: usize) {
-        let table = &self.table;
-        self.next = table.shown_at(place, &self.names);
+    fn move_to(&mut self, place: usize, byte: usize) {
+        let source = &self.source;
+        self.next = source.shown_at(place, byte, &self.names);
         self.place = place;
+        self.byte = byte;
+    }
+
+    /// Puts the place back, and the depth.
+    ///
+    /// # Proved
+    ///
+    /// ```text
+    /// requires deep { depth ≤ place }
+    /// requires place { IsPlace self.old.source place byte }
+    /// ensures { self.new ≡ record self.old { place = place; depth = depth } }
+    /// ```
+    fn put_back(&mut self, place: usize, byte: usize, depth: usize) {
+        self.next = None;
+        self.place = place;
+        self.byte = byte;
+        self.depth = depth;
     }
 
     /// The current span at a place.
@@ -161,14 +188,14 @@ impl<'a> Parser<'a> {
     /// # Proved
     ///
     /// ```text
+    /// requires { IsPlace self.now.source place byte }
     /// ensures { result ≡ current_span self.now.source place self.now.names }
     /// ```
-    pub(crate) fn span_from(&self, place: usize) -> Span {
-        let table = &self.table;
-        let offset = match self.look(place) {
-            Ok(None) => table.text().len(),
+    pub(crate) fn span_from(&self, place: usize, byte: usize) -> Span {
+        let offset = match self.look(place, byte) {
+            Ok(None) => self.text().len(),
             Ok(Some((token, _))) => token.offset,
-            Err(_) => table.offset_at(place),
+            Err(_) => byte,
         };
         Span::from_offset(offset)
     }
@@ -183,9 +210,9 @@ impl<'a> Parser<'a> {
     /// ensures sound { IsSound self.now }
     /// ```
     pub fn lemma_sound(&self) {
-        let table = &self.table;
-        table.lemma_read();
-        let _text = table.text();
+        let source = &self.source;
+        source.lemma_read();
+        let _text = source.text();
         self.names.lemma_positive();
     }
 
@@ -200,7 +227,7 @@ impl<'a> Parser<'a> {
     /// ```
     pub fn is_empty(&self) -> bool {
         self.lemma_sound();
-        self.is_empty_from(self.place)
+        self.is_empty_from(self.place, self.byte)
     }
 
     /// The same at a place.
@@ -208,10 +235,11 @@ impl<'a> Parser<'a> {
     /// # Proved
     ///
     /// ```text
+    /// requires { IsPlace self.now.source place byte }
     /// ensures { result ≡ empty_of (shown self.now.source place self.now.names) }
     /// ```
-    pub(crate) fn is_empty_from(&self, place: usize) -> bool {
-        match self.look(place) {
+    pub(crate) fn is_empty_from(&self, place: usize, byte: usize) -> bool {
+        match self.look(place, byte) {
             Ok(None) => true,
             Ok(Some((token, _))) => matches!(token.kind, TokenKind::RParen),
             Err(_) => false,
@@ -227,7 +255,7 @@ impl<'a> Parser<'a> {
     /// ensures { result ≡ current_span self.now.source self.now.place self.now.names }
     /// ```
     pub fn cur_span(&self) -> Span {
-        self.span_from(self.place)
+        self.span_from(self.place, self.byte)
     }
 
     /// The place: where the last token or comment that was taken ends, 0 at first.
@@ -238,8 +266,7 @@ impl<'a> Parser<'a> {
     /// ensures { result ≡ offset_at self.now.source.tokens self.now.place }
     /// ```
     pub fn prev_span(&self) -> Span {
-        let table = &self.table;
-        Span::from_offset(table.offset_at(self.place))
+        Span::from_offset(self.byte)
     }
 
     /// How many groups of [`parens`](Parser::parens) are open.
@@ -273,8 +300,8 @@ impl<'a> Parser<'a> {
     /// ensures { IsUnlessMemory result (message_at self.now.source span message.now) }
     /// ```
     pub fn error_at(&self, span: Span, message: &str) -> Error {
-        let table = &self.table;
-        table.error_at(span, message)
+        let source = &self.source;
+        source.error_at(span, message)
     }
 
     /// Refuses more than [`MAX_PARENS_DEPTH`] open groups.
@@ -300,8 +327,8 @@ impl<'a> Parser<'a> {
     /// ensures { result ≡ is_meaningful self.now.source }
     /// ```
     pub fn has_meaningful_tokens(&self) -> bool {
-        let table = &self.table;
-        table.is_meaningful()
+        let source = &self.source;
+        source.is_meaningful()
     }
 
     /// What the buffer was given by [`ParseBuffer::track_instr_spans`].
@@ -312,8 +339,8 @@ impl<'a> Parser<'a> {
     /// ensures { result ≡ self.now.source.track }
     /// ```
     pub fn track_instr_spans(&self) -> bool {
-        let table = &self.table;
-        table.tracks()
+        let source = &self.source;
+        source.tracks()
     }
 
     /// Whether annotations of this name are shown.
@@ -416,8 +443,8 @@ impl<'a> Parser<'a> {
     ) -> Result<T, Error> {
         match f(Cursor::new(self)) {
             Ok((value, next)) => {
-                let at = next.place();
-                self.move_to(at);
+                let (at, byte) = (next.place(), next.byte());
+                self.move_to(at, byte);
                 Ok(value)
             }
             Err(e) => Err(e),
@@ -441,8 +468,8 @@ impl<'a> Parser<'a> {
         let cursor = Cursor::new(self);
         match cursor.lparen()? {
             Some(next) => {
-                let at = next.place();
-                self.move_to(at);
+                let (at, byte) = (next.place(), next.byte());
+                self.move_to(at, byte);
                 Ok(())
             }
             None => Err(cursor.error("expected `(`")),
@@ -466,8 +493,8 @@ impl<'a> Parser<'a> {
         let cursor = Cursor::new(self);
         match cursor.rparen()? {
             Some(next) => {
-                let at = next.place();
-                self.move_to(at);
+                let (at, byte) = (next.place(), next.byte());
+                self.move_to(at, byte);
                 Ok(())
             }
             None => Err(cursor.error("expected `)`")),
@@ -505,9 +532,8 @@ impl<'a> Parser<'a> {
         &mut self,
         f: F,
     ) -> Result<T, Error> {
-        let place = self.place;
-        let depth = self.depth;
-        self.table.lemma_read();
+        let (place, byte, depth) = (self.place, self.byte, self.depth);
+        self.source.lemma_read();
         self.open()?;
         self.depth += 1;
         match f(self) {
@@ -517,16 +543,12 @@ impl<'a> Parser<'a> {
                     Ok(value)
                 }
                 Err(e) => {
-                    self.depth = depth;
-                    self.place = place;
-                    self.next = None;
+                    self.put_back(place, byte, depth);
                     Err(e)
                 }
             },
             Err(e) => {
-                self.depth = depth;
-                self.place = place;
-                self.next = None;
+                self.put_back(place, byte, depth);
                 Err(e)
             }
         }

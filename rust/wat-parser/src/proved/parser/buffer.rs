@@ -3,6 +3,7 @@
 
 use wat_lex::shim::prelude::*;
 use crate::proved::parser::Parser;
+use crate::proved::parser::source_ref::SourceRef;
 use crate::proved::parser::table::Table;
 use crate::proved::parser::table_ref::TableRef;
 use wat_lex::shim::alloc::Global;
@@ -112,7 +113,7 @@ impl<'a> ParseBuffer<'a> {
     /// ensures read { IsRead self.now }
     /// ```
     pub fn parser(&self) -> Parser<'_> {
-        Parser::new(self.table_ref())
+        Parser::new(SourceRef::of_table(self.table_ref()))
     }
 
     /// What holds of every buffer: its tokens are those of its text, which is UTF-8 and of fewer than

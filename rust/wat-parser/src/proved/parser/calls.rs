@@ -87,93 +87,127 @@ fn comment_reply(found: Found) -> Reply {
     }
 }
 
-/// The place after what was found.
-///
-/// # Proved
-///
-/// ```text
-/// ensures { result ≡ place_after found place }
-/// ```
-fn place_after(found: Found, place: usize) -> usize {
-    match found {
-        Ok(Some((_, next))) => next,
-        Ok(None) => place,
-        Err(_) => place,
-    }
-}
-
 impl<'a> Parser<'a> {
-    /// The place after up to so many shown tokens.
+    /// The place after what was found here, with its byte.
     ///
     /// # Proved
     ///
     /// ```text
-    /// requires { place ≤ length self.now.source.tokens }
-    /// ensures value { result ≡ after_taking self.now.source self.now.names count place }
-    /// ensures on { IfOk result (λ q. place ≤ q) }
-    /// ensures within { IfOk result (λ q. q ≤ length self.now.source.tokens) }
+    /// requires on { IfOk found (λ found. IfSome found (λ v. self.now.place < v.1)) }
+    /// requires after { IfOk found (λ found. IfSome found (IsAfter self.now.source)) }
+    /// ensures place { result.0 ≡ place_after found self.now.place }
+    /// ensures on { self.now.place ≤ result.0 }
+    /// ensures within { IsPlace self.now.source result.0 result.1 }
     /// ```
-    fn after_taking(&self, place: usize, count: usize) -> Result<usize, Fault> {
+    fn place_after(&self, found: Found) -> (usize, usize) {
+        match found {
+            Ok(Some((token, next))) => (next, token.offset + token.len as usize),
+            Ok(None) => (self.place, self.byte),
+            Err(_) => (self.place, self.byte),
+        }
+    }
+
+    /// The place after up to so many shown tokens, with its byte.
+    ///
+    /// # Proved
+    ///
+    /// ```text
+    /// requires { IsPlace self.now.source place byte }
+    /// ensures value { known_place result ≡
+    ///     after_taking self.now.source self.now.names count place }
+    /// ensures on { IfOk result (λ q. place ≤ q.0) }
+    /// ensures within { IfOk result (λ q. IsPlace self.now.source q.0 q.1) }
+    /// ```
+    fn after_taking(
+        &self,
+        place: usize,
+        byte: usize,
+        count: usize,
+    ) -> Result<(usize, usize), Fault> {
         let mut at = place;
+        let mut pos = byte;
         let mut left = count;
         while left > 0 {
-            match self.look(at) {
-                Ok(Some((_, next))) => {
+            match self.look(at, pos) {
+                Ok(Some((token, next))) => {
                     at = next;
+                    pos = token.offset + token.len as usize;
                     left -= 1;
                 }
-                Ok(None) => return Ok(at),
+                Ok(None) => return Ok((at, pos)),
                 Err(fault) => return Err(fault),
             }
         }
-        Ok(at)
+        Ok((at, pos))
     }
 
-    /// The reply to taking `)` at `at`, and the place after it, or `place` where none is shown.
+    /// The reply to taking `)` at `at`, with the place after it, or the parser's own where none is
+    /// shown, and its byte.
     ///
     /// # Proved
     ///
     /// ```text
-    /// requires { (place ≤ at) × (place ≤ length self.now.source.tokens) }
-    /// ensures value { result ≡
-    ///     close_reply self.now.source self.now.names place (Ok at) }
-    /// ensures on { place ≤ result.1 }
-    /// ensures within { result.1 ≤ length self.now.source.tokens }
+    /// requires on { self.now.place ≤ at }
+    /// requires within { IsPlace self.now.source at pos }
+    /// ensures value { (result.0, result.1) ≡
+    ///     close_reply self.now.source self.now.names self.now.place (Ok at) }
+    /// ensures on { self.now.place ≤ result.1 }
+    /// ensures within { IsPlace self.now.source result.1 result.2 }
     /// ```
-    fn close_group(&self, place: usize, at: usize) -> (Reply, usize) {
-        match self.look(at) {
+    fn close_group(&self, at: usize, pos: usize) -> (Reply, usize, usize) {
+        let (place, byte) = (self.place, self.byte);
+        match self.look(at, pos) {
             Ok(Some((token, next))) => match token.kind {
-                TokenKind::RParen => (Reply::Done, next),
-                _ => (Reply::NotClosed(self.span_from(at).offset()), place),
+                TokenKind::RParen => (Reply::Done, next, token.offset + token.len as usize),
+                _ => (
+                    Reply::NotClosed(self.span_from(at, pos).offset()),
+                    place,
+                    byte,
+                ),
             },
-            Ok(None) => (Reply::NotClosed(self.span_from(at).offset()), place),
-            Err(fault) => (fault_reply(fault), place),
+            Ok(None) => (
+                Reply::NotClosed(self.span_from(at, pos).offset()),
+                place,
+                byte,
+            ),
+            Err(fault) => (fault_reply(fault), place, byte),
         }
     }
 
-    /// The reply to taking a group of up to so many tokens, and the place after it, or the
-    /// parser's own where it is no such group.
+    /// The reply to taking a group of up to so many tokens, with the place after it, or the parser's
+    /// own where it is no such group, and its byte.
     ///
     /// # Proved
     ///
     /// ```text
-    /// ensures value { result ≡
+    /// ensures value { (result.0, result.1) ≡
     ///     group_reply self.now.source self.now.names count self.now.place }
     /// ensures on { self.now.place ≤ result.1 }
-    /// ensures within { result.1 ≤ length self.now.source.tokens }
+    /// ensures within { IsPlace self.now.source result.1 result.2 }
     /// ```
-    fn group(&self, count: usize) -> (Reply, usize) {
-        let place = self.place();
-        match self.look(place) {
+    fn group(&self, count: usize) -> (Reply, usize, usize) {
+        let (place, byte) = (self.place, self.byte);
+        match self.look(place, byte) {
             Ok(Some((token, next))) => match token.kind {
-                TokenKind::LParen => match self.after_taking(next, count) {
-                    Ok(at) => self.close_group(place, at),
-                    Err(fault) => (fault_reply(fault), place),
-                },
-                _ => (Reply::NotOpen(self.span_from(place).offset()), place),
+                TokenKind::LParen => {
+                    let inside = token.offset + token.len as usize;
+                    match self.after_taking(next, inside, count) {
+                        Ok((at, pos)) => self.close_group(at, pos),
+                        Err(fault) => (fault_reply(fault), place, byte),
+                    }
+                }
+                _ => (
+                    Reply::NotOpen(self.span_from(place, byte).offset()),
+                    place,
+                    byte,
+                ),
             },
-            Ok(None) => (Reply::NotOpen(self.span_from(place).offset()), place),
-            Err(fault) => (fault_reply(fault), place),
+            Ok(None) => (
+                Reply::NotOpen(self.span_from(place, byte).offset()),
+                place,
+                byte,
+            ),
+            Err(fault) => (fault_reply(fault), place, byte),
         }
     }
 
@@ -188,25 +222,25 @@ impl<'a> Parser<'a> {
     /// ```
     fn answer(&mut self, call: &Call) -> Result<Reply, AllocError> {
         match call {
-            Call::Look => Ok(shown_reply(self.look(self.place))),
+            Call::Look => Ok(shown_reply(self.look(self.place, self.byte))),
             Call::Take => {
-                let found = self.look(self.place);
-                let next = place_after(found, self.place);
-                self.move_to(next);
+                let found = self.look(self.place, self.byte);
+                let (next, byte) = self.place_after(found);
+                self.move_to(next, byte);
                 Ok(shown_reply(found))
             }
             Call::Comment => {
-                let table = &self.table;
-                let found = table.comment_at(self.place);
-                let next = place_after(found, self.place);
-                self.move_to(next);
+                let source = &self.source;
+                let found = source.comment_at(self.place, self.byte);
+                let (next, byte) = self.place_after(found);
+                self.move_to(next, byte);
                 Ok(comment_reply(found))
             }
             Call::Register(name) => self.answer_register(name.as_str()),
             Call::Unregister(name) => Ok(self.answer_unregister(name.as_str())),
             Call::Parens(count) => {
-                let (reply, place) = self.group(*count);
-                self.move_to(place);
+                let (reply, place, byte) = self.group(*count);
+                self.move_to(place, byte);
                 Ok(reply)
             }
         }

@@ -14,6 +14,8 @@ use wat_lex::proved::token::Span;
 pub struct Cursor<'p, 'a> {
     parser: &'p Parser<'a>,
     at: usize,
+    /// Where the place is in the text.
+    byte: usize,
 }
 
 impl<'p, 'a> Cursor<'p, 'a> {
@@ -30,6 +32,7 @@ impl<'p, 'a> Cursor<'p, 'a> {
         Cursor {
             parser,
             at: parser.place(),
+            byte: parser.byte(),
         }
     }
 
@@ -42,6 +45,17 @@ impl<'p, 'a> Cursor<'p, 'a> {
         self.at
     }
 
+    /// The byte of the place.
+    ///
+    /// # Proved
+    ///
+    /// ```text
+    /// ensures { IsPlace self.entry.parser.now.source self.entry.at result }
+    /// ```
+    pub(crate) fn byte(self) -> usize {
+        self.byte
+    }
+
     /// What is shown here, with the place after it.
     // What a parser keeps is handed over in registers; what a call writes to memory is read there apart from it.
     /// # Proved
@@ -49,10 +63,9 @@ impl<'p, 'a> Cursor<'p, 'a> {
     /// ```text
     /// ensures value { Answers false (λ found. found)
     ///     (seen_at (at_place self.entry.parser.now self.entry.at)) result }
-    /// ensures on { IfOk result (λ found. IfSome found (λ v.
-    ///     (self.entry.at < v.1) × (v.1 ≤ length self.entry.parser.now.source.tokens))) }
-    /// ensures reader { IfOk result (λ found. IfSome found (λ v.
-    ///     IsTokenOf self.entry.parser.now.source.setting.text v.0)) }
+    /// ensures on { IfOk result (λ found. IfSome found (λ v. self.entry.at < v.1)) }
+    /// ensures after { IfOk result (λ found. IfSome found
+    ///     (IsAfter self.entry.parser.now.source)) }
     /// ```
     #[inline(always)]
     fn look(self) -> Result<Option<(Token, usize)>, Error> {
@@ -66,24 +79,23 @@ impl<'p, 'a> Cursor<'p, 'a> {
         }
     }
 
-    /// The same, by a look at the table.
+    /// The same, by a look at the text or its table.
     ///
     /// # Proved
     ///
     /// ```text
     /// ensures value { Answers false (λ found. found)
     ///     (seen_at (at_place self.entry.parser.now self.entry.at)) result }
-    /// ensures on { IfOk result (λ found. IfSome found (λ v.
-    ///     (self.entry.at < v.1) × (v.1 ≤ length self.entry.parser.now.source.tokens))) }
-    /// ensures reader { IfOk result (λ found. IfSome found (λ v.
-    ///     IsTokenOf self.entry.parser.now.source.setting.text v.0)) }
+    /// ensures on { IfOk result (λ found. IfSome found (λ v. self.entry.at < v.1)) }
+    /// ensures after { IfOk result (λ found. IfSome found
+    ///     (IsAfter self.entry.parser.now.source)) }
     /// ```
     #[inline(never)]
     fn look_again(self) -> Result<Option<(Token, usize)>, Error> {
         let parser = self.parser;
-        match parser.look(self.at) {
+        match parser.look(self.at, self.byte) {
             Ok(found) => Ok(found),
-            Err(fault) => Err(parser.table().error_of(fault)),
+            Err(fault) => Err(parser.source().error_of(fault)),
         }
     }
 
@@ -114,7 +126,7 @@ impl<'p, 'a> Cursor<'p, 'a> {
     pub fn cur_span(&self) -> Span {
         self.lemma_sound();
         let parser = self.parser;
-        parser.span_from(self.at)
+        parser.span_from(self.at, self.byte)
     }
 
     /// Whether the end or `)` is shown; false at a fault.
@@ -127,7 +139,7 @@ impl<'p, 'a> Cursor<'p, 'a> {
     /// ```
     pub(crate) fn is_empty(self) -> bool {
         let parser = self.parser;
-        parser.is_empty_from(self.at)
+        parser.is_empty_from(self.at, self.byte)
     }
 
     /// The text in which the cursor is.
@@ -165,7 +177,7 @@ impl<'p, 'a> Cursor<'p, 'a> {
     /// ```
     pub fn error(&self, message: &str) -> Error {
         let parser = self.parser;
-        parser.table().error_at(self.cur_span(), message)
+        parser.source().error_at(self.cur_span(), message)
     }
 
     /// An error at the current span with a message of two parts.
@@ -216,24 +228,26 @@ impl<'p, 'a> Cursor<'p, 'a> {
     /// ```
     pub fn any(self) -> Result<Option<(Token, Self)>, Error> {
         match self.look()? {
-            Some((token, at)) => Ok(Some((token, self.moved(at)))),
+            Some((token, at)) => Ok(Some((token, self.moved(token, at)))),
             None => Ok(None),
         }
     }
 
-    /// The cursor at a place.
+    /// The cursor at the place after a token.
     ///
     /// # Proved
     ///
     /// ```text
-    /// requires { at ≤ length self.parser.now.source.tokens }
+    /// requires { IsAfter self.parser.now.source (token, at) }
     /// ensures parser { result.parser ≡ self.entry.parser }
     /// ensures at { result.at ≡ at }
     /// ```
-    fn moved(self, at: usize) -> Self {
+    #[inline(always)]
+    fn moved(self, token: Token, at: usize) -> Self {
         Cursor {
             parser: self.parser,
             at,
+            byte: token.offset + token.len as usize,
         }
     }
 
@@ -371,7 +385,7 @@ impl<'p, 'a> Cursor<'p, 'a> {
     pub fn lparen(self) -> Result<Option<Self>, Error> {
         match self.look()? {
             Some((token, at)) => match token.kind {
-                TokenKind::LParen => Ok(Some(self.moved(at))),
+                TokenKind::LParen => Ok(Some(self.moved(token, at))),
                 _ => Ok(None),
             },
             None => Ok(None),
@@ -392,7 +406,7 @@ impl<'p, 'a> Cursor<'p, 'a> {
     pub fn rparen(self) -> Result<Option<Self>, Error> {
         match self.look()? {
             Some((token, at)) => match token.kind {
-                TokenKind::RParen => Ok(Some(self.moved(at))),
+                TokenKind::RParen => Ok(Some(self.moved(token, at))),
                 _ => Ok(None),
             },
             None => Ok(None),
@@ -425,7 +439,7 @@ impl<'p, 'a> Cursor<'p, 'a> {
                 TokenKind::Id => {
                     let parser = self.parser;
                     let name = name_of(parser.alloc(), parser.text(), &token)?;
-                    Ok(Some((name, self.moved(at))))
+                    Ok(Some((name, self.moved(token, at))))
                 }
                 _ => Ok(None),
             },
@@ -449,7 +463,7 @@ impl<'p, 'a> Cursor<'p, 'a> {
             Some((token, at)) => match token.kind {
                 TokenKind::Keyword => {
                     let parser = self.parser;
-                    Ok(Some((token.keyword(parser.text()), self.moved(at))))
+                    Ok(Some((token.keyword(parser.text()), self.moved(token, at))))
                 }
                 _ => Ok(None),
             },
@@ -480,7 +494,7 @@ impl<'p, 'a> Cursor<'p, 'a> {
                 TokenKind::Annotation => {
                     let parser = self.parser;
                     let name = name_of(parser.alloc(), parser.text(), &token)?;
-                    Ok(Some((name, self.moved(at))))
+                    Ok(Some((name, self.moved(token, at))))
                 }
                 _ => Ok(None),
             },
@@ -504,7 +518,7 @@ impl<'p, 'a> Cursor<'p, 'a> {
             Some((token, at)) => match token.kind {
                 TokenKind::Reserved => {
                     let parser = self.parser;
-                    Ok(Some((token.reserved(parser.text()), self.moved(at))))
+                    Ok(Some((token.reserved(parser.text()), self.moved(token, at))))
                 }
                 _ => Ok(None),
             },
@@ -540,7 +554,7 @@ impl<'p, 'a> Cursor<'p, 'a> {
                 TokenKind::Integer(kind) => {
                     let parser = self.parser;
                     let integer = token.integer(parser.alloc(), parser.text(), kind)?;
-                    Ok(Some((integer, self.moved(at))))
+                    Ok(Some((integer, self.moved(token, at))))
                 }
                 _ => Ok(None),
             },
@@ -571,7 +585,7 @@ impl<'p, 'a> Cursor<'p, 'a> {
                 TokenKind::Float(kind) => {
                     let parser = self.parser;
                     let float = token.float(parser.alloc(), parser.text(), kind)?;
-                    Ok(Some((float, self.moved(at))))
+                    Ok(Some((float, self.moved(token, at))))
                 }
                 _ => Ok(None),
             },
@@ -602,7 +616,7 @@ impl<'p, 'a> Cursor<'p, 'a> {
                 TokenKind::String => {
                     let parser = self.parser;
                     let value = token.string(parser.alloc(), parser.text())?;
-                    Ok(Some((value, self.moved(at))))
+                    Ok(Some((value, self.moved(token, at))))
                 }
                 _ => Ok(None),
             },
@@ -624,10 +638,10 @@ impl<'p, 'a> Cursor<'p, 'a> {
     /// ```
     pub fn comment(self) -> Result<Option<(&'a str, Self)>, Error> {
         let parser = self.parser;
-        match parser.table().comment_at(self.at) {
-            Ok(Some((token, at))) => Ok(Some((token.src(parser.text()), self.moved(at)))),
+        match parser.source().comment_at(self.at, self.byte) {
+            Ok(Some((token, at))) => Ok(Some((token.src(parser.text()), self.moved(token, at)))),
             Ok(None) => Ok(None),
-            Err(fault) => Err(parser.table().error_of(fault)),
+            Err(fault) => Err(parser.source().error_of(fault)),
         }
     }
 }

@@ -5,6 +5,8 @@ use wat_lex::shim::prelude::*;
 use wat_lex::shim::alloc::{AllocError, AllocFailed, Global};
 use wat_lex::shim::collections::BTreeMap;
 
+use wat_lex::proved::lexer::Token;
+
 pub struct Names {
     counts: BTreeMap<String, usize>,
 }
@@ -40,6 +42,32 @@ fn set_count(counts: &mut BTreeMap<String, usize>, name: &str, count: usize) {
     if let Some(slot) = counts.get_mut(name) {
         *slot = count;
     }
+}
+
+/// Whether the name of an annotation is this one.
+///
+/// # Proved
+///
+/// ```text
+/// requires token { IsTokenOf text.now token }
+/// requires kind { token.kind ≡ Annotation }
+/// ensures { result ≡ names_it text.now token name.now }
+/// ```
+fn names_it(text: &str, token: Token, name: &str) -> bool {
+    token.has_name(text, name)
+}
+
+/// Whether the name of an annotation is one of the keys.
+///
+/// # Proved
+///
+/// ```text
+/// requires token { IsTokenOf text.now token }
+/// requires kind { token.kind ≡ Annotation }
+/// ensures { result ≡ list_any (λ k. names_it text.now token (string_bytes k)) (keys counts.now) }
+/// ```
+fn has_key(counts: &BTreeMap<String, usize>, text: &str, token: Token) -> bool {
+    counts.keys().any(|key| names_it(text, token, key.as_str()))
 }
 
 impl Names {
@@ -95,6 +123,21 @@ impl Names {
     /// ```
     pub fn is_registered(&self, name: &str) -> bool {
         self.count(name) > 0
+    }
+
+    /// Whether the name of an annotation is registered, which is compared with each that is. It takes
+    /// no memory.
+    ///
+    /// # Proved
+    ///
+    /// ```text
+    /// requires token { IsTokenOf text.now token }
+    /// requires kind { token.kind ≡ Annotation }
+    /// ensures { (x : List ℕ) → name_value EmptyAnnotation (word_of text.now token) ≡ Ok x →
+    ///     result ≡ is_registered self.now x }
+    /// ```
+    pub fn has_name_of(&self, text: &str, token: Token) -> bool {
+        has_key(&self.counts, text, token)
     }
 
     /// Sets the count of a name that is registered.

@@ -4,7 +4,10 @@
 use wat_lex::shim::prelude::*;
 use crate::proved::parser::fault::{Fault, FaultKind, Step};
 use crate::proved::parser::names::Names;
-use crate::proved::parser::table::{Table, find, is_annotation, is_quoted};
+use crate::proved::parser::steps::{
+    is_comment, is_space, is_unregistered, lexical, step_by, step_refused,
+};
+use crate::proved::parser::table::{Table, find, is_annotation};
 use wat_lex::shim::alloc::Global;
 
 use wat_lex::proved::error::Error;
@@ -97,20 +100,6 @@ impl<'a> TableRef<'a> {
     }
 }
 
-/// The fault that is shown where the text has one.
-///
-/// # Proved
-///
-/// ```text
-/// ensures { result ≡ record { offset = fault.offset; kind = Lex fault.error } }
-/// ```
-fn lexical(fault: LexFault) -> Fault {
-    Fault {
-        offset: fault.offset,
-        kind: FaultKind::Lex(fault.error),
-    }
-}
-
 /// Whether a token is neither white space nor a comment.
 ///
 /// # Proved
@@ -120,53 +109,6 @@ fn lexical(fault: LexFault) -> Fault {
 /// ```
 fn any_counts(tokens: &[Token]) -> bool {
     tokens.iter().any(|token| !token.kind.is_blank())
-}
-
-/// # Proved
-///
-/// ```text
-/// ensures { result ≡ is_space kind }
-/// ```
-fn is_space(kind: TokenKind) -> bool {
-    matches!(kind, TokenKind::Whitespace)
-}
-
-/// # Proved
-///
-/// ```text
-/// ensures { result ≡ is_comment kind }
-/// ```
-fn is_comment(kind: TokenKind) -> bool {
-    matches!(kind, TokenKind::LineComment | TokenKind::BlockComment)
-}
-
-/// What an annotation of this name means for the parenthesis before it.
-///
-/// # Proved
-///
-/// ```text
-/// ensures { result ≡ step_named names.now token (Some (Ok name.now)) }
-/// ```
-fn step_by(name: &str, token: Token, names: &Names) -> Step {
-    if names.is_registered(name) {
-        Step::Take
-    } else {
-        Step::Skip
-    }
-}
-
-/// What an annotation means whose name is at fault.
-///
-/// # Proved
-///
-/// ```text
-/// ensures { result ≡ Refuse (record { offset = token.offset; kind = Lex error }) }
-/// ```
-fn step_refused(error: LexError, token: Token) -> Step {
-    Step::Refuse(Fault {
-        offset: token.offset,
-        kind: FaultKind::Lex(error),
-    })
 }
 
 /// What an annotation means whose name is noted.
@@ -254,27 +196,6 @@ impl<'a> TableRef<'a> {
         }
     }
 
-    /// Whether the annotation at a place is skipped since no name is registered and it has one. Its
-    /// name is not read for that; false says nothing.
-    ///
-    /// # Proved
-    ///
-    /// ```text
-    /// requires token { slice_get self.now.tokens place ≡ Some token }
-    /// requires kind { token.kind ≡ Annotation }
-    /// ensures { IsTrue result →
-    ///     step_named names.now token (name_at self.now.setting.text token) ≡ Skip }
-    /// ```
-    fn is_unregistered(&self, place: usize, token: Token, names: &Names) -> bool {
-        wat_lex::proved::laws::names();
-        wat_lex::proved::laws::tokens();
-        self.lemma_readable(place, token);
-        if token.len < 2 {
-            return false;
-        }
-        names.are_none() && !is_quoted(self.text(), token)
-    }
-
     /// Where the group of the annotation is closed whose parenthesis is at a place.
     ///
     /// # Proved
@@ -306,9 +227,10 @@ impl<'a> TableRef<'a> {
         match self.token_at(place + 1) {
             Some(next) => match next.kind {
                 TokenKind::Annotation => {
+                    self.lemma_readable(place + 1, next);
                     if !token.is_marked(self.text()) {
                         Step::Take
-                    } else if self.is_unregistered(place + 1, next, names) {
+                    } else if is_unregistered(self.text(), next, names) {
                         Step::Skip
                     } else {
                         self.step_named(place, names)
@@ -381,10 +303,7 @@ impl<'a> TableRef<'a> {
     /// ensures value { result ≡ shown self.now place names.now }
     /// ensures on { IfOk result (λ found. IfSome found (λ v.
     ///     (place < v.1) × (v.1 ≤ length self.now.tokens))) }
-    /// ensures reader { IfOk result (λ found. IfSome found (λ v.
-    ///     IsTokenOf self.now.setting.text v.0)) }
-    /// ensures last { IfOk result (λ found. IfSome found (λ v.
-    ///     slice_get self.now.tokens (v.1 - 1) ≡ Some v.0)) }
+    /// ensures after { IfOk result (λ found. IfSome found (IsAfter self.now)) }
     /// ```
     pub fn look(&self, place: usize, names: &Names) -> Result<Option<(Token, usize)>, Fault> {
         let mut i = place;
@@ -445,25 +364,27 @@ impl<'a> TableRef<'a> {
         }
     }
 
-    /// The number of the token that is shown at a place, where it is the same whatever names are
-    /// registered.
+    /// The token that is shown at a place, with the place after it, where it is the same whatever
+    /// names are registered.
     ///
     /// # Proved
     ///
     /// ```text
-    /// ensures { IfSome result (λ number. (names : NamesOf) →
-    /// IsNext self.now place names number) }
+    /// ensures { IfSome result (λ v. (names : NamesOf) → IsNext self.now place names v) }
     /// ```
     #[inline(always)]
-    pub fn plain_at(&self, place: usize) -> Option<usize> {
+    fn plain_at(&self, place: usize) -> Option<(Token, usize)> {
         let i = self.past_blanks(place);
         match self.token_at(i) {
-            Some(token) if self.is_plain(i, token) => Some(i),
+            Some(token) if self.is_plain(i, token) => {
+                self.lemma_readable(i, token);
+                Some((token, i + 1))
+            }
             _ => None,
         }
     }
 
-    /// The number of the token that is shown at a place, where one is. It takes no memory.
+    /// The token that is shown at a place, with the place after it, where one is. It takes no memory.
     // What it answers needs no memory, and a look that may have to read a name stays a call.
     /// # Proved
     ///
@@ -471,10 +392,10 @@ impl<'a> TableRef<'a> {
     /// ensures { IfSome result (IsNext self.now place names.now) }
     /// ```
     #[inline(always)]
-    pub fn shown_at(&self, place: usize, names: &Names) -> Option<usize> {
+    pub fn shown_at(&self, place: usize, names: &Names) -> Option<(Token, usize)> {
         match self.plain_at(place) {
-            Some(number) => Some(number),
-            None => self.number_by_look(place, names),
+            Some(found) => Some(found),
+            None => self.shown_by_look(place, names),
         }
     }
 
@@ -486,27 +407,11 @@ impl<'a> TableRef<'a> {
     /// ensures { IfSome result (IsNext self.now place names.now) }
     /// ```
     #[inline(never)]
-    fn number_by_look(&self, place: usize, names: &Names) -> Option<usize> {
+    fn shown_by_look(&self, place: usize, names: &Names) -> Option<(Token, usize)> {
         match self.look(place, names) {
-            Ok(Some((_, after))) => Some(after - 1),
-            _ => None,
+            Ok(found) => found,
+            Err(_) => None,
         }
-    }
-
-    /// The token that was shown at a place, with the place after it.
-    ///
-    /// # Proved
-    ///
-    /// ```text
-    /// requires { number < length self.now.tokens }
-    /// ensures token { slice_get self.now.tokens number ≡ Some result.0 }
-    /// ensures after { result.1 ≡ number + 1 }
-    /// ensures reader { IsTokenOf self.now.setting.text result.0 }
-    /// ```
-    pub fn numbered(&self, number: usize) -> (Token, usize) {
-        let token = self.table.tokens[number];
-        self.lemma_readable(number, token);
-        (token, number + 1)
     }
 
     /// The place after the whitespace token at a place, if one is there.
@@ -535,8 +440,7 @@ impl<'a> TableRef<'a> {
     /// ensures value { result ≡ comment_at self.now place }
     /// ensures on { IfOk result (λ found. IfSome found (λ v.
     ///     (place < v.1) × (v.1 ≤ length self.now.tokens))) }
-    /// ensures reader { IfOk result (λ found. IfSome found (λ v.
-    ///     IsTokenOf self.now.setting.text v.0)) }
+    /// ensures after { IfOk result (λ found. IfSome found (IsAfter self.now)) }
     /// ```
     pub fn comment_at(&self, place: usize) -> Result<Option<(Token, usize)>, Fault> {
         let at = self.past_space(place);
@@ -559,62 +463,5 @@ impl<'a> TableRef<'a> {
     /// ```
     pub fn is_meaningful(&self) -> bool {
         any_counts(&self.table.tokens) || self.table.fault.is_some()
-    }
-
-    /// The byte of a place.
-    ///
-    /// # Proved
-    ///
-    /// ```text
-    /// ensures { result ≡ offset_at self.now.tokens place }
-    /// ```
-    pub fn offset_at(&self, place: usize) -> usize {
-        if place == 0 {
-            return 0;
-        }
-        match self.token_at(place - 1) {
-            Some(token) => {
-                self.lemma_readable(place - 1, token);
-                token.offset + token.len as usize
-            }
-            None => 0,
-        }
-    }
-}
-
-// Errors about the text.
-impl<'a> TableRef<'a> {
-    /// The error of a fault that is shown.
-    ///
-    /// # Proved
-    ///
-    /// ```text
-    /// ensures { IsUnlessMemory result (report_of self.now.setting.text fault) }
-    /// ```
-    #[cold]
-    pub fn error_of(&self, fault: Fault) -> Error {
-        let span = Span::from_offset(fault.offset);
-        match fault.kind {
-            FaultKind::Lex(error) => Error::lex(self.alloc, span, self.text(), error),
-            FaultKind::Unclosed => match String::from_str(self.alloc, "unclosed annotation") {
-                Ok(message) => Error::new(span, message),
-                Err(refused) => Error::from(refused),
-            },
-        }
-    }
-
-    /// The error of a message at a byte of the text.
-    ///
-    /// # Proved
-    ///
-    /// ```text
-    /// ensures { IsUnlessMemory result (message_at self.now span message.now) }
-    /// ```
-    #[cold]
-    pub fn error_at(&self, span: Span, message: &str) -> Error {
-        match String::from_str(self.alloc, message) {
-            Ok(message) => Error::parse(self.alloc, span, self.text(), message),
-            Err(refused) => Error::from(refused),
-        }
     }
 }

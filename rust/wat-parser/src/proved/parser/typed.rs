@@ -63,9 +63,8 @@ impl<'a> Parser<'a> {
     /// ensures back { OnErr result (self.new ≡ self.old) }
     /// ```
     pub fn parens_of<T: Parse<'a>>(&mut self) -> Result<T, Error> {
-        let place = self.place;
-        let depth = self.depth;
-        self.table.lemma_read();
+        let (place, byte, depth) = (self.place, self.byte, self.depth);
+        self.source.lemma_read();
         self.open()?;
         self.depth += 1;
         let result = self.parse::<T>();
@@ -74,14 +73,12 @@ impl<'a> Parser<'a> {
             Ok(value) => match self.close() {
                 Ok(()) => Ok(value),
                 Err(e) => {
-                    self.place = place;
-                    self.next = None;
+                    self.put_back(place, byte, depth);
                     Err(e)
                 }
             },
             Err(e) => {
-                self.place = place;
-                self.next = None;
+                self.put_back(place, byte, depth);
                 Err(e)
             }
         }

@@ -2,7 +2,7 @@
 //! Whole texts.
 
 use wat_lex::shim::prelude::*;
-use crate::proved::parser::{Cursor, Parse, ParseBuffer};
+use crate::proved::parser::{Cursor, Parse, ParseBuffer, Parser};
 use wat_lex::proved::error::Error;
 use wat_lex::proved::token::Span;
 
@@ -21,19 +21,20 @@ use wat_lex::proved::token::Span;
 /// ```
 pub fn parse<'a, T: Parse<'a>>(buffer: &'a ParseBuffer<'a>) -> Result<T, Error> {
     buffer.lemma_only();
-    read(buffer)
+    read(buffer.parser())
 }
 
-/// The same, of the buffer's own tokens.
+/// The same, from a parser at a text's start.
 ///
 /// # Proved
 ///
 /// ```text
-/// ensures { Answers (whole_takes T.meaning buffer.now) T.value
-/// (whole T.meaning buffer.now) result }
+/// requires { parser ≡ start parser.source }
+/// ensures { Answers (whole_takes T.meaning parser.entry.source) T.value
+///     (whole T.meaning parser.entry.source) result }
 /// ```
-fn read<'a, T: Parse<'a>>(buffer: &'a ParseBuffer<'a>) -> Result<T, Error> {
-    let mut parser = buffer.parser();
+pub fn read<'a, T: Parse<'a>>(parser: Parser<'a>) -> Result<T, Error> {
+    let mut parser = parser;
     let value = parser.parse::<T>()?;
     match Cursor::new(&parser).token()? {
         Some(token) => {

@@ -8,10 +8,10 @@ pub loop-left-preserved : goal.loop-left-preserved
 loop-left-preserved c =
     let a = c.args.self.now in
     let l = c.loop-left in
-    let e : shown a.source l.at a.names ≡ Ok (Some (c.in-Ok-Some.field-0-0-0, c.in-Ok-Some.next)) = search rules in
+    let e : shown a.source l.at a.names ≡ Ok (Some (c.in-Ok-Some.token, c.in-Ok-Some.next)) = search rules in
     let on : l.at < c.in-Ok-Some.next = search rules in
     record {
-      same = l.invariant.same ∙ takes_token a.source a.names l.left l.at c.in-Ok-Some.next c.in-Ok-Some.field-0-0-0 c.loop-left-test.true e;
+      same = l.invariant.same ∙ takes_token a.source a.names l.left l.at c.in-Ok-Some.next c.in-Ok-Some.token c.loop-left-test.true e;
       on = omega (arith, l.invariant.on, on);
       within = search rules;
     }

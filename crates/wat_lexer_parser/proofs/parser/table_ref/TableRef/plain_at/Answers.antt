@@ -1,6 +1,7 @@
-use Rattle.std.proofs.Common.{◌≡◌, ◌<◌, ◌∙◌, sym, rules, get_or, length, Some}
+use Rattle.std.proofs.Common.{◌≡◌, ◌<◌, ◌∙◌, sym, arith, rules, get_or, length, Some}
 use Rattle.std.specs.Prelude.{slice_get}
 use Rattle.std.proofs.lemmas.Option.{get_or_from_slice_get}
+use Rattle.wat_lexer_parser.proofs.places.Bytes.{next_place}
 use Rattle.wat_lexer_parser.proofs.shown.Looks.{shown_take}
 use Rattle.wat_lexer_parser.proofs.parser.table_ref.TableRef.plain_at.Goals as goal
 
@@ -13,9 +14,7 @@ returns-in-Some c names =
     let h : i < length s.tokens = search rules in
     let e : t ≡ get_or s.tokens i t = sym (get_or_from_slice_get s.tokens i t t there) in
     record {
-      token = t;
-      there = there;
       value = c.past_blanks-i.ensures.same names ∙ shown_take s names i t h e (c.is_plain.ensures c.if-is_plain.true names);
-      on = c.past_blanks-i.ensures.on;
-      within = h;
+      on = omega (arith, c.past_blanks-i.ensures.on);
+      after = record { place = next_place s i t there; reader = c.lemma_readable.ensures.token; short = c.lemma_readable.ensures.short };
     }

@@ -1,0 +1,5 @@
+use Rattle.wat_lexer_parser.proofs.inside.RawTokens.{raws_are}
+use Rattle.wat_lexer_parser.proofs.parser.lazy.LazyBuffer.new_with_lexer.Goals as goal
+
+pub returns-clause-read : goal.returns-clause-read
+returns-clause-read c = raws_are _ c.input-text.ensures.utf8

@@ -1,0 +1,12 @@
+use Rattle.std.proofs.Common.{ap, ◌∙◌}
+use Rattle.std.specs.BTreeMap.{keys}
+use Rattle.std.specs.List.{list_any}
+use Rattle.std.specs.String.{string_bytes}
+use Rattle.wat_lexer_parser.specs.inside.MapEntries.{is_named}
+use Rattle.wat_lexer_parser.proofs.names.MapsOfTexts.{registered_key}
+use Rattle.wat_lexer_parser.proofs.parser.names.Names.has_name_of.Goals as goal
+
+pub returns : goal.returns
+returns c x is =
+    c.has_key.ensures ∙ ap (λ r. list_any (λ k. is_named r (string_bytes k)) (keys c.self.inside.counts)) is
+    ∙ registered_key c.self.inside.counts c.args.self.now x c.self.view_is c.self.invariant

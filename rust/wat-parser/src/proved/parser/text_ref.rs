@@ -1,0 +1,379 @@
+// Made by tools/erase from crates/wat_lexer_parser/src/parser/text_ref.rt; do not edit.
+//! A text without a table, as parsers read it.
+
+use wat_lex::shim::prelude::*;
+use crate::proved::parser::fault::{Fault, FaultKind, Step};
+use crate::proved::parser::names::Names;
+use crate::proved::parser::steps::{is_comment, is_space, lexical, step_annotation};
+use wat_lex::shim::alloc::Global;
+
+use wat_lex::proved::lexer::{LexFault, Lexer, Settings, Token, TokenKind};
+
+/// A text, lent to a parser that lexes it as it goes.
+pub struct TextRef<'a> {
+    lexer: Lexer<'a>,
+    track: bool,
+    alloc: Global,
+}
+
+impl<'a> TextRef<'a> {
+    /// # Proved
+    ///
+    /// ```text
+    /// requires { length text.now < 2 ^ 32 }
+    /// ensures setting { result.setting ≡ record { text = text.now; flags = settings } }
+    /// ensures track { result.track ≡ track }
+    /// ensures read { IsRead result }
+    /// ```
+    pub fn new(text: &'a str, settings: Settings, track: bool, alloc: Global) -> TextRef<'a> {
+        let lexer = Lexer::with_settings(text, settings);
+        let _text = lexer.input();
+        TextRef {
+            lexer,
+            track,
+            alloc,
+        }
+    }
+
+    /// The tokens are those of the text, and so many at most. A lemma: the call does nothing.
+    ///
+    /// # Proved
+    ///
+    /// ```text
+    /// ensures read { IsRead self.now }
+    /// ensures utf8 { IsUtf8 self.now.setting.text }
+    /// ensures small { length self.now.tokens < 2 ^ 32 }
+    /// ```
+    pub fn lemma_read(&self) {
+        let _text = self.lexer.input();
+    }
+
+    /// # Proved
+    ///
+    /// ```text
+    /// ensures { result ≡ self.now.track }
+    /// ```
+    pub fn tracks(&self) -> bool {
+        self.track
+    }
+
+    /// # Proved
+    ///
+    /// ```text
+    /// ensures text { result.now ≡ self.now.setting.text }
+    /// ensures utf8 { IsUtf8 self.now.setting.text }
+    /// ensures short { length self.now.setting.text < 2 ^ 32 }
+    /// ```
+    pub fn text(&self) -> &'a str {
+        self.lexer.input()
+    }
+
+    pub fn alloc(&self) -> Global {
+        self.alloc
+    }
+
+    /// The raw token at a place, None at the end of the text, or its fault.
+    ///
+    /// # Proved
+    ///
+    /// ```text
+    /// requires { IsPlace self.now place byte }
+    /// ensures token { IfOk result (λ found. found ≡ slice_get self.now.tokens place) }
+    /// ensures end { IfOk result (λ found. IfNone found (self.now.ending ≡ None)) }
+    /// ensures fault { IfErr result (λ f. (slice_get self.now.tokens place ≡ None)
+    ///     × (self.now.ending ≡ Some f)) }
+    /// ensures next { IfOk result (λ found. IfSome found (λ t.
+    ///     IsPlace self.now (place + 1) (t.offset + t.len))) }
+    /// ensures reader { IfOk result (λ found. IfSome found (IsTokenOf self.now.setting.text)) }
+    /// ensures short { IfOk result (λ found. IfSome found (λ t. t.offset + t.len < 2 ^ 32)) }
+    /// ```
+    #[inline(always)]
+    fn token_at(&self, place: usize, byte: usize) -> Result<Option<Token>, LexFault> {
+        self.lemma_read();
+        self.lexer.scan(byte)
+    }
+
+    /// What a parenthesis means that `@` comes directly after, by the token at the next place.
+    // It stays a call, so that a look at any other token is small.
+    /// # Proved
+    ///
+    /// ```text
+    /// requires { IsPlace self.now place byte }
+    /// ensures { result ≡ step_next self.now.setting.text names.now
+    ///     (slice_get self.now.tokens place) }
+    /// ```
+    #[inline(never)]
+    fn step_marked(&self, place: usize, byte: usize, names: &Names) -> Step {
+        match self.token_at(place, byte) {
+            Ok(Some(token)) => match token.kind {
+                TokenKind::Annotation => step_annotation(self.text(), token, names),
+                _ => Step::Take,
+            },
+            Ok(None) => Step::Finish,
+            Err(_) => Step::Finish,
+        }
+    }
+
+    /// What the token at a place means for a look there.
+    ///
+    /// # Proved
+    ///
+    /// ```text
+    /// requires next { IsPlace self.now (place + 1) (token.offset + token.len) }
+    /// requires short { token.offset + token.len < 2 ^ 32 }
+    /// requires few { place < 2 ^ 63 }
+    /// ensures { result ≡ step_of self.now.setting.text names.now token
+    ///     (slice_get self.now.tokens (place + 1)) }
+    /// ```
+    #[inline(always)]
+    fn step(&self, place: usize, token: Token, names: &Names) -> Step {
+        match token.kind {
+            TokenKind::Whitespace | TokenKind::LineComment | TokenKind::BlockComment => Step::Pass,
+            TokenKind::LParen => {
+                if token.is_marked(self.text()) {
+                    self.step_marked(place + 1, token.offset + token.len as usize, names)
+                } else {
+                    Step::Take
+                }
+            }
+            _ => Step::Take,
+        }
+    }
+
+    /// Where the group ends in which a place is: the place after it, with its byte; None where the
+    /// text ends before, or the fault that comes before.
+    ///
+    /// # Proved
+    ///
+    /// ```text
+    /// requires { IsPlace self.now place byte }
+    /// ensures ends { GroupEnds self.now place result }
+    /// ensures on { IfOk result (λ found. IfSome found (λ v. place < v.0)) }
+    /// ```
+    fn past_group(&self, place: usize, byte: usize) -> Result<Option<(usize, usize)>, LexFault> {
+        let mut i = place;
+        let mut pos = byte;
+        let mut depth = 0usize;
+        self.lemma_read();
+        'tokens: loop {
+            let Some(token) = self.token_at(i, pos)? else {
+                return Ok(None);
+            };
+            i += 1;
+            pos = token.offset + token.len as usize;
+            match token.kind {
+                TokenKind::LParen => depth += 1,
+                TokenKind::RParen => {
+                    if depth == 0 {
+                        return Ok(Some((i, pos)));
+                    }
+                    depth -= 1;
+                }
+                _ => {}
+            }
+        }
+    }
+
+    /// What is shown at a place, with the place after it. It takes no memory. The group of an
+    /// annotation that is passed over is lexed each time.
+    ///
+    /// # Proved
+    ///
+    /// ```text
+    /// requires { IsPlace self.now place byte }
+    /// ensures value { result ≡ shown self.now place names.now }
+    /// ensures on { IfOk result (λ found. IfSome found (λ v. place < v.1)) }
+    /// ensures after { IfOk result (λ found. IfSome found (IsAfter self.now)) }
+    /// ```
+    pub fn look(
+        &self,
+        place: usize,
+        byte: usize,
+        names: &Names,
+    ) -> Result<Option<(Token, usize)>, Fault> {
+        let mut i = place;
+        let mut pos = byte;
+        self.lemma_read();
+        'tokens: loop {
+            let token = match self.token_at(i, pos) {
+                Ok(Some(token)) => token,
+                Ok(None) => return Ok(None),
+                Err(fault) => return Err(lexical(fault)),
+            };
+            let end = token.offset + token.len as usize;
+            match self.step(i, token, names) {
+                Step::Pass | Step::Finish => {
+                    i += 1;
+                    pos = end;
+                }
+                Step::Take => return Ok(Some((token, i + 1))),
+                Step::Refuse(fault) => return Err(fault),
+                Step::Skip => match self.past_group(i + 1, end) {
+                    Ok(Some(after)) => (i, pos) = after,
+                    Ok(None) => return Err(unclosed(token)),
+                    Err(fault) => return Err(lexical(fault)),
+                },
+            }
+        }
+    }
+
+    /// Whether a token is shown whatever names are registered, and whatever comes after it.
+    ///
+    /// # Proved
+    ///
+    /// ```text
+    /// requires { token.offset < 2 ^ 32 }
+    /// ensures { IsTrue result → (names : NamesOf) → (next : Option Lexed) →
+    ///     step_of self.now.setting.text names token next ≡ Take }
+    /// ```
+    #[inline(always)]
+    fn is_plain(&self, token: Token) -> bool {
+        match token.kind {
+            TokenKind::Whitespace | TokenKind::LineComment | TokenKind::BlockComment => false,
+            TokenKind::LParen => !token.is_marked(self.text()),
+            _ => true,
+        }
+    }
+
+    /// The token that is shown at a place, with the place after it, where it is the same whatever
+    /// names are registered.
+    // It is one call for each move, and what it answers is small.
+    /// # Proved
+    ///
+    /// ```text
+    /// requires { IsPlace self.now place byte }
+    /// ensures { IfSome result (λ v. (names : NamesOf) → IsNext self.now place names v) }
+    /// ```
+    #[inline(never)]
+    pub fn plain_at(&self, place: usize, byte: usize) -> Option<(Token, usize)> {
+        let mut i = place;
+        let mut pos = byte;
+        self.lemma_read();
+        'tokens: loop {
+            let Ok(Some(token)) = self.token_at(i, pos) else {
+                return None;
+            };
+            if self.is_plain(token) {
+                return Some((token, i + 1));
+            }
+            if !token.kind.is_blank() {
+                return None;
+            }
+            i += 1;
+            pos = token.offset + token.len as usize;
+        }
+    }
+
+    /// The token that is shown at a place, with the place after it, where one is.
+    ///
+    /// # Proved
+    ///
+    /// ```text
+    /// requires { IsPlace self.now place byte }
+    /// ensures { IfSome result (IsNext self.now place names.now) }
+    /// ```
+    #[inline(always)]
+    pub fn shown_at(&self, place: usize, byte: usize, names: &Names) -> Option<(Token, usize)> {
+        match self.plain_at(place, byte) {
+            Some(found) => Some(found),
+            None => self.shown_by_look(place, byte, names),
+        }
+    }
+
+    /// The same, by a look.
+    ///
+    /// # Proved
+    ///
+    /// ```text
+    /// requires { IsPlace self.now place byte }
+    /// ensures { IfSome result (IsNext self.now place names.now) }
+    /// ```
+    #[inline(never)]
+    fn shown_by_look(&self, place: usize, byte: usize, names: &Names) -> Option<(Token, usize)> {
+        match self.look(place, byte, names) {
+            Ok(found) => found,
+            Err(_) => None,
+        }
+    }
+
+    /// The place after the whitespace token at a place, if one is there, with its byte.
+    ///
+    /// # Proved
+    ///
+    /// ```text
+    /// requires { IsPlace self.now place byte }
+    /// ensures past { past_space (drop place self.now.tokens) ≡ drop result.0 self.now.tokens }
+    /// ensures place { IsPlace self.now result.0 result.1 }
+    /// ensures on { place ≤ result.0 }
+    /// ```
+    fn past_space(&self, place: usize, byte: usize) -> (usize, usize) {
+        self.lemma_read();
+        match self.token_at(place, byte) {
+            Ok(Some(token)) if is_space(token.kind) => {
+                (place + 1, token.offset + token.len as usize)
+            }
+            Ok(_) => (place, byte),
+            Err(_) => (place, byte),
+        }
+    }
+
+    /// The comment at a place, with the place after it. It takes no memory.
+    ///
+    /// # Proved
+    ///
+    /// ```text
+    /// requires { IsPlace self.now place byte }
+    /// ensures value { result ≡ comment_at self.now place }
+    /// ensures on { IfOk result (λ found. IfSome found (λ v. place < v.1)) }
+    /// ensures after { IfOk result (λ found. IfSome found (IsAfter self.now)) }
+    /// ```
+    pub fn comment_at(&self, place: usize, byte: usize) -> Result<Option<(Token, usize)>, Fault> {
+        let (at, from) = self.past_space(place, byte);
+        self.lemma_read();
+        match self.token_at(at, from) {
+            Ok(Some(token)) if is_comment(token.kind) => Ok(Some((token, at + 1))),
+            Ok(_) => Ok(None),
+            Err(fault) => Err(lexical(fault)),
+        }
+    }
+
+    /// Whether the text has a token that counts, or a fault: it is lexed up to the first.
+    ///
+    /// # Proved
+    ///
+    /// ```text
+    /// ensures { result ≡ is_meaningful self.now }
+    /// ```
+    pub fn is_meaningful(&self) -> bool {
+        let mut i = 0;
+        let mut pos = 0;
+        self.lemma_read();
+        'tokens: loop {
+            let token = match self.token_at(i, pos) {
+                Ok(Some(token)) => token,
+                Ok(None) => return false,
+                Err(_) => return true,
+            };
+            if !token.kind.is_blank() {
+                return true;
+            }
+            i += 1;
+            pos = token.offset + token.len as usize;
+        }
+    }
+}
+
+/// The fault that is shown where the text ends in the group of this parenthesis.
+///
+/// # Proved
+///
+/// ```text
+/// requires { token.offset < 2 ^ 32 }
+/// ensures { result ≡ record { offset = token.offset + 1; kind = Unclosed } }
+/// ```
+fn unclosed(token: Token) -> Fault {
+    Fault {
+        offset: token.offset + 1,
+        kind: FaultKind::Unclosed,
+    }
+}
