@@ -1,6 +1,6 @@
 //! Parsers of one's own: a type is read by its [`Parse`], and seen by its [`Peek`].
 //!
-//! A [`ParseBuffer`] holds a text and its tokens, [`parse`] reads a whole text as a value of a type, and the [`Parse`] of each type on the way
+//! A [`ParseBuffer`] holds a text, [`parse`] reads a whole text as a value of a type, and the [`Parse`] of each type on the way
 //! is given a [`Parser`]. What a parser shows is the first token after what was taken that is neither white space, nor a comment, nor part of
 //! an annotation whose name is not registered.
 
@@ -15,7 +15,10 @@ use crate::Error;
 use crate::lexer::Lexer;
 use crate::proved;
 use crate::proved::parser::names::{Names, RegisterError};
-use crate::proved::parser::table_ref::TableRef;
+use crate::proved::lexer::Token;
+use crate::proved::parser::fault::Fault;
+use crate::proved::parser::source_ref::SourceRef;
+use crate::proved::parser::text_ref::TextRef;
 use crate::token::Span;
 use alloc::boxed::Box;
 use core::cell::{Cell, RefCell};
@@ -148,9 +151,11 @@ pub trait Peek {
     fn display() -> &'static str;
 }
 
-/// A text with its tokens, for one parser over it.
+/// A text, for one parser over it, which cuts it into tokens as it goes. No token is kept but the one that is shown, so that a buffer takes
+/// neither time nor memory to make.
 pub struct ParseBuffer<'a> {
-    proved: proved::parser::ParseBuffer<'a>,
+    lexer: proved::lexer::Lexer<'a>,
+    text: TextRef<'a>,
     // What else the proved parser is of, in cells, so that the copies of a `Parser` are one parser.
     position: Cell<Position>,
     depth: Cell<usize>,
@@ -159,63 +164,81 @@ pub struct ParseBuffer<'a> {
     strings: Strings,
 }
 
-/// How far a parser or a cursor has come: in the low half how many raw tokens are before it, white space and comments among them; in the high
-/// half the number of the token that is shown there, or [`UNKNOWN`].
-// One word: of two halves that were written apart a processor can't read the whole at once.
+/// How far a parser or a cursor has come.
+// The places are numbers of 32 bits, as a text has fewer than 2^32 bytes: a position is copied at each move.
 #[derive(Clone, Copy)]
-struct Position(u64);
-
-/// No token's number, as a text has fewer than 2^32 bytes.
-const UNKNOWN: u64 = u32::MAX as u64;
+struct Position {
+    /// The token that is shown, where that is known.
+    next: Option<Token>,
+    /// How many raw tokens are before it, white space and comments among them.
+    place: u32,
+    /// Where the last of them ends.
+    byte: u32,
+    /// The place after the token that is shown.
+    after: u32,
+}
 
 impl Position {
     #[inline(always)]
-    fn new(place: usize, next: Option<usize>) -> Position {
-        let next = next.map_or(UNKNOWN, |next| next as u64);
-        Position(place as u64 | next << 32)
+    fn new(place: usize, byte: usize, shown: Option<(Token, usize)>) -> Position {
+        Position {
+            next: shown.map(|(token, _)| token),
+            place: place as u32,
+            byte: byte as u32,
+            after: shown.map_or(0, |(_, after)| after as u32),
+        }
     }
 
     #[inline(always)]
     fn place(self) -> usize {
-        self.0 as u32 as usize
+        self.place as usize
     }
 
     #[inline(always)]
-    fn next(self) -> usize {
-        (self.0 >> 32) as usize
+    fn byte(self) -> usize {
+        self.byte as usize
+    }
+
+    /// The token that is shown, with the place after it, where that is known.
+    #[inline(always)]
+    fn shown(self) -> Option<(Token, usize)> {
+        self.next.map(|token| (token, self.after as usize))
     }
 }
 
 impl<'a> ParseBuffer<'a> {
-    /// Cuts a text into tokens. A fault of the text is no error here: it is one where a look reaches it.
+    /// The buffer of a text. A fault of the text is no error here: it is one where a look reaches it.
     ///
     /// # Errors
     ///
-    /// Where the text has more than `u32::MAX` bytes, or memory for its tokens is refused.
+    /// Where the text has more than `u32::MAX` bytes.
     pub fn new(input: &'a str) -> Result<ParseBuffer<'a>> {
         ParseBuffer::new_with_lexer(Lexer::new(input))
     }
 
-    /// Cuts the text of a lexer into tokens, under the lexer's settings.
+    /// The buffer of the text of a lexer, under the lexer's settings.
     ///
     /// # Errors
     ///
     /// As [`new`](ParseBuffer::new).
     pub fn new_with_lexer(lexer: Lexer<'a>) -> Result<ParseBuffer<'a>> {
         let lexer = lexer.proved()?.clone();
-        Ok(ParseBuffer {
-            proved: proved::parser::ParseBuffer::new_with_lexer(Global, lexer)?,
-            position: Cell::new(Position::new(0, None)),
+        let buffer = ParseBuffer {
+            text: TextRef::new(lexer.input(), lexer.settings(), false, Global),
+            lexer,
+            position: Cell::new(Position::new(0, 0, None)),
             depth: Cell::new(0),
             names: RefCell::new(Names::new(Global)),
             keep_shown: false,
             strings: Strings::default(),
-        })
+        };
+        buffer.position.set(buffer.position_at(0, 0));
+        Ok(buffer)
     }
 
     /// Sets what [`Parser::track_instr_spans`] answers, for types that keep the places of instructions only where it is asked for.
     pub fn track_instr_spans(&mut self, track: bool) -> &mut Self {
-        self.proved.track_instr_spans(track);
+        self.text = self.text_ref(track);
         self
     }
 
@@ -228,27 +251,36 @@ impl<'a> ParseBuffer<'a> {
         self
     }
 
-    #[inline(always)]
-    fn table(&self) -> TableRef<'_> {
-        self.proved.table_ref()
-    }
-
     /// The position at a place, with the token that is shown there whatever names are registered, where there is one.
     #[inline(always)]
-    fn position_at(&self, place: usize) -> Position {
-        let plain = self.table().plain_at(place);
-        Position::new(place, plain.or_else(|| self.kept_at(place)))
+    fn position_at(&self, place: usize, byte: usize) -> Position {
+        let plain = self.text.plain_at(place, byte);
+        Position::new(place, byte, plain.or_else(|| self.kept_at(place, byte)))
     }
 
-    /// The number of the token that is shown at a place by the names that are registered, where that is to stay so.
+    /// The token that is shown at a place by the names that are registered, where that is to stay so.
     #[cold]
     #[inline(never)]
-    fn kept_at(&self, place: usize) -> Option<usize> {
+    fn kept_at(&self, place: usize, byte: usize) -> Option<(Token, usize)> {
         if !self.keep_shown {
             return None;
         }
-        let shown = self.table().look(place, &self.names.borrow());
-        shown.ok()?.map(|(_, after)| after - 1)
+        self.text.look(place, byte, &self.names.borrow()).ok()?
+    }
+
+    fn text_ref(&self, track: bool) -> TextRef<'a> {
+        TextRef::new(self.lexer.input(), self.lexer.settings(), track, Global)
+    }
+
+    /// The text as errors are made of it.
+    fn source(&self) -> SourceRef<'a> {
+        SourceRef::of_text(self.text_ref(self.text.tracks()))
+    }
+
+    /// The error of a fault that is shown.
+    #[cold]
+    fn error_of(&self, fault: Fault) -> Error {
+        self.source().error_of(fault).into()
     }
 }
 
@@ -277,7 +309,7 @@ impl<'a> Parser<'a> {
 
     /// Whether the text has a fault or any token that is neither white space nor a comment.
     pub fn has_meaningful_tokens(self) -> bool {
-        self.buffer.table().is_meaningful()
+        self.buffer.text.is_meaningful()
     }
 
     /// Reads a value, by its [`Parse`].
@@ -564,7 +596,7 @@ impl<'a> Parser<'a> {
     #[cold]
     pub fn error_at(self, span: Span, message: impl fmt::Display) -> Error {
         match message.to_string_in(Global) {
-            Ok(message) => self.buffer.table().error_at(span, &message).into(),
+            Ok(message) => self.buffer.source().error_at(span, &message).into(),
             Err(refused) => proved::Error::from(refused).into(),
         }
     }
@@ -576,8 +608,7 @@ impl<'a> Parser<'a> {
 
     /// Where what was taken ends.
     pub fn prev_span(&self) -> Span {
-        let place = self.buffer.position.get().place();
-        Span::from_offset(self.buffer.table().offset_at(place))
+        Span::from_offset(self.buffer.position.get().byte())
     }
 
     /// Registers an annotation's name until what this answers is dropped: groups `(@name ..)` are shown, and not passed over.
@@ -642,7 +673,7 @@ impl<'a> Parser<'a> {
 
     /// What [`ParseBuffer::track_instr_spans`] set.
     pub fn track_instr_spans(&self) -> bool {
-        self.buffer.table().tracks()
+        self.buffer.text.tracks()
     }
 
     /// Calls the function with the names of [`annotation`](mod@crate::annotation) registered.

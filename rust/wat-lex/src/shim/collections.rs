@@ -31,6 +31,11 @@ impl<K: Ord, V> BTreeMap<K, V> {
         self.pairs.is_empty()
     }
 
+    /// The keys, in order.
+    pub fn keys(&self) -> impl Iterator<Item = &K> {
+        self.pairs.iter().map(|(key, _)| key)
+    }
+
     fn place<Q: Ord + ?Sized>(&self, key: &Q) -> Result<usize, usize>
     where
         K: Borrow<Q>,

@@ -1,8 +1,7 @@
-use super::{Parser, Position, Result, unless_refused};
+use super::{ParseBuffer, Parser, Position, Result, unless_refused};
 use crate::Error;
 use crate::lexer::{Float, Integer};
 use crate::proved::lexer::Token;
-use crate::proved::parser::table_ref::TableRef;
 use crate::token::Span;
 use core::fmt;
 use wat_lex::shim::alloc::Global;
@@ -20,7 +19,7 @@ pub struct Cursor<'a> {
 impl fmt::Debug for Cursor<'_> {
     fn fmt(&self, f: &mut fmt::Formatter<'_>) -> fmt::Result {
         f.debug_struct("Cursor")
-            .field("offset", &self.table().offset_at(self.position.place()))
+            .field("offset", &self.position.byte())
             .finish_non_exhaustive()
     }
 }
@@ -37,36 +36,27 @@ impl<'a> Cursor<'a> {
     }
 
     #[inline(always)]
-    fn table(&self) -> TableRef<'a> {
-        self.parser.buffer.table()
-    }
-
-    #[inline(always)]
     pub(crate) fn text(&self) -> &'a str {
-        self.table().text()
+        self.parser.buffer.text.text()
     }
 
-    /// The token that is shown, and its number.
+    /// The token that is shown, with the place after it.
     #[inline(always)]
     pub(super) fn shown(&self) -> Result<Option<(Token, usize)>> {
-        let table = self.table();
-        let number = self.position.next();
-        if let Some(token) = table.token_at(number) {
-            return Ok(Some((token, number)));
+        match self.position.shown() {
+            Some(shown) => Ok(Some(shown)),
+            None => self.look(),
         }
-        let shown = self.look()?;
-        Ok(shown.and_then(|number| Some((table.token_at(number)?, number))))
     }
 
-    /// The number of the token that is shown.
+    /// The same, by a look at the text.
     #[cold]
     #[inline(never)]
-    fn look(&self) -> Result<Option<usize>> {
-        let (table, names) = (self.table(), self.parser.buffer.names.borrow());
-        match table.look(self.position.place(), &names) {
-            Ok(shown) => Ok(shown.map(|(_, after)| after - 1)),
-            Err(fault) => Err(table.error_of(fault).into()),
-        }
+    fn look(&self) -> Result<Option<(Token, usize)>> {
+        let ParseBuffer { text, names, .. } = self.parser.buffer;
+        let Position { place, byte, .. } = self.position;
+        text.look(place as usize, byte as usize, &names.borrow())
+            .map_err(|fault| self.parser.buffer.error_of(fault))
     }
 
     /// Whether a token of such a kind is shown.
@@ -76,19 +66,21 @@ impl<'a> Cursor<'a> {
     }
 
     /// What the function makes of the token that is shown, with the cursor after it; None where it makes nothing of it.
-    // The token is the table's, and the function looks at its kind: that is what the proved readers require.
+    // The token is one of the text, and the function looks at its kind: that is what the proved readers require.
     #[inline(always)]
     fn take<T>(self, of: impl FnOnce(Token) -> Option<T>) -> Result<Option<(T, Self)>> {
-        let Some((token, number)) = self.shown()? else {
+        let Some((token, after)) = self.shown()? else {
             return Ok(None);
         };
-        Ok(of(token).map(|taken| (taken, self.moved(number + 1))))
+        Ok(of(token).map(|taken| (taken, self.moved(token, after))))
     }
 
+    /// The cursor at the place after a token.
     #[inline(always)]
-    fn moved(self, place: usize) -> Self {
+    fn moved(self, token: Token, place: usize) -> Self {
+        let byte = token.offset + token.len as usize;
         Cursor {
-            position: self.parser.buffer.position_at(place),
+            position: self.parser.buffer.position_at(place, byte),
             ..self
         }
     }
@@ -151,8 +143,8 @@ impl<'a> Cursor<'a> {
     pub fn cur_span(&self) -> Span {
         Span::from_offset(match self.shown() {
             Ok(Some((token, _))) => token.offset,
-            Ok(None) => self.table().text().len(),
-            Err(_) => self.table().offset_at(self.position.place()),
+            Ok(None) => self.text().len(),
+            Err(_) => self.position.byte(),
         })
     }
 
@@ -373,15 +365,15 @@ impl<'a> Cursor<'a> {
     ///
     /// Where the text is at fault there.
     pub fn comment(self) -> Result<Option<(&'a str, Self)>> {
-        let table = self.table();
-        match table.comment_at(self.position.place()) {
+        let buffer = self.parser.buffer;
+        match buffer.text.comment_at(self.position.place(), self.position.byte()) {
             Ok(Some((token, place))) => {
                 // What is shown after a comment is not kept.
-                let position = Position::new(place, None);
-                Ok(Some((token.src(table.text()), Cursor { position, ..self })))
+                let position = Position::new(place, token.offset + token.len as usize, None);
+                Ok(Some((token.src(self.text()), Cursor { position, ..self })))
             }
             Ok(None) => Ok(None),
-            Err(fault) => Err(table.error_of(fault).into()),
+            Err(fault) => Err(buffer.error_of(fault)),
         }
     }
 }
