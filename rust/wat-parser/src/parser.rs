@@ -223,17 +223,16 @@ impl<'a> ParseBuffer<'a> {
     /// As [`new`](ParseBuffer::new).
     pub fn new_with_lexer(lexer: Lexer<'a>) -> Result<ParseBuffer<'a>> {
         let lexer = lexer.proved()?.clone();
-        let buffer = ParseBuffer {
-            text: TextRef::new(lexer.input(), lexer.settings(), false, Global),
+        let text = TextRef::new(lexer.input(), lexer.settings(), false, Global);
+        Ok(ParseBuffer {
+            position: Cell::new(Position::new(0, 0, text.plain_at(0, 0))),
+            text,
             lexer,
-            position: Cell::new(Position::new(0, 0, None)),
             depth: Cell::new(0),
             names: RefCell::new(Names::new(Global)),
             keep_shown: false,
             strings: Strings::default(),
-        };
-        buffer.position.set(buffer.position_at(0, 0));
-        Ok(buffer)
+        })
     }
 
     /// Sets what [`Parser::track_instr_spans`] answers, for types that keep the places of instructions only where it is asked for.

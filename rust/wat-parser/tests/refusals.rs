@@ -56,18 +56,23 @@ fn refused_in_turn(text: &str, call: Call) -> usize {
 }
 
 #[test]
-fn a_buffer_is_refused() {
+fn a_buffer_and_looks_take_no_memory() {
     let text = "(@\"n\\6fte\" (@b)) (module \"a\\nb\" 1) \"\\q\"";
-    let mut granted = 0;
-    loop {
-        let (buffer, asked) = granting(granted, || ParseBuffer::new(text));
-        if asked <= granted {
-            break;
-        }
-        assert!(buffer.unwrap_err().is_out_of_memory(), "{granted}");
-        granted += 1;
-    }
-    assert!(granted > 3, "{granted}");
+    let (buffer, requests) = granting(0, || ParseBuffer::new(text));
+    assert!(buffer.is_ok());
+    assert_eq!(requests, 0);
+    // A name with an escape is compared with a registered one.
+    let register: Call = |parser| {
+        drop(parser.register_annotation("other"));
+        Ok(())
+    };
+    let look: Call = |parser| {
+        let _registered = parser.register_annotation("other");
+        assert!(parser.peek::<LParen>()? && parser.peek2::<kw::module>()?);
+        Ok(())
+    };
+    let registering = asked(text, register, usize::MAX).1;
+    assert_eq!(asked(text, look, usize::MAX).1, registering);
 }
 
 #[test]
