@@ -366,7 +366,10 @@ impl<'a> Cursor<'a> {
     /// Where the text is at fault there.
     pub fn comment(self) -> Result<Option<(&'a str, Self)>> {
         let buffer = self.parser.buffer;
-        match buffer.text.comment_at(self.position.place(), self.position.byte()) {
+        match buffer
+            .text
+            .comment_at(self.position.place(), self.position.byte())
+        {
             Ok(Some((token, place))) => {
                 // What is shown after a comment is not kept.
                 let position = Position::new(place, token.offset + token.len as usize, None);
