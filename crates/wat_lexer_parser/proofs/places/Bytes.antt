@@ -1,5 +1,5 @@
 -- The bytes of places, and what a lexer finds there.
-use Rattle.std.proofs.Common.{◌≡◌, ◌≤◌, ◌<◌, ◌+◌, ℕ, zero, suc, List, [], ◌∷◌, length, drop, arith, refl, ap, sym, ◌∙◌, subst, Some, None, Ok, Err}
+use Rattle.std.proofs.Common.{◌≡◌, ◌≤◌, ◌+◌, ℕ, zero, suc, List, [], ◌∷◌, length, drop, arith, refl, ap, sym, ◌∙◌, subst, Some, None, Ok, Err}
 use Rattle.std.specs.Prelude.{IfOk, IfErr, IfSome, IfNone, Option, Result, slice_get}
 use Rattle.std.proofs.lemmas.Option.{slice_get_within}
 use Rattle.std.proofs.lemmas.Str.{IsCharBoundary-start}

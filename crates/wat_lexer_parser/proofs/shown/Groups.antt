@@ -1,5 +1,5 @@
 -- A group that is passed over, a token at a time.
-use Rattle.std.proofs.Common.{◌≡◌, ◌+◌, ◌-◌, ◌<◌, ◌∙◌, ℕ, suc, zero, List, drop, arith, ap, refl, inl, inr, Some, None, false}
+use Rattle.std.proofs.Common.{◌≡◌, ◌+◌, ◌-◌, ◌<◌, ◌∙◌, ℕ, suc, zero, drop, arith, ap, inl, inr, Some, None, false}
 use Rattle.std.specs.Prelude.{slice_get}
 use Rattle.wat_lex.specs.declared.lexer.kinds.Token.{Token}
 use Rattle.wat_lex.specs.declared.lexer.kinds.TokenKind.TheVariants.{LParen, RParen}

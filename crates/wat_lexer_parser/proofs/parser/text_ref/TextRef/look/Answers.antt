@@ -1,6 +1,6 @@
-use Rattle.std.proofs.Common.{◌≡◌, ◌<◌, ◌+◌, ◌∙◌, ap, sym, subst, arith, rules, inl, inr, Some, None, Ok, Err}
+use Rattle.std.proofs.Common.{◌≡◌, ◌<◌, ◌+◌, ◌∙◌, ap, sym, arith, rules, inl, inr, Some, None, Ok, Err}
 use Rattle.std.specs.Prelude.{slice_get}
-use Rattle.wat_lexer_parser.specs.declared.parser.fault.Step.TheVariants.{Pass, Take, Finish, Refuse, Skip}
+use Rattle.wat_lexer_parser.specs.declared.parser.fault.Step.TheVariants.{Take, Refuse, Skip}
 use Rattle.wat_lexer_parser.specs.inside.Groups.{GroupEnds}
 use Rattle.wat_lexer_parser.specs.inside.ShownIn.{step_of}
 use Rattle.wat_lexer_parser.specs.shown.Shown.{ended}

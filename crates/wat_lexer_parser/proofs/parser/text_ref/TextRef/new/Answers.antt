@@ -1,4 +1,3 @@
-use Rattle.std.proofs.Common.{rules}
 use Rattle.wat_lexer_parser.proofs.inside.RawTokens.{raws_are}
 use Rattle.wat_lexer_parser.proofs.parser.text_ref.TextRef.new.Goals as goal
 

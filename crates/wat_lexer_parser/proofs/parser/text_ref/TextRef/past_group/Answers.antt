@@ -1,4 +1,4 @@
-use Rattle.std.proofs.Common.{◌≡◌, ◌<◌, ◌∙◌, arith, rules, ap, sym, Some, None, Ok, Err}
+use Rattle.std.proofs.Common.{◌≡◌, ◌<◌, ◌∙◌, arith, rules, ap, Some, None, Err}
 use Rattle.std.specs.Prelude.{slice_get}
 use Rattle.wat_lexer_parser.specs.shown.Shown.{left_open}
 use Rattle.wat_lexer_parser.proofs.shown.Groups.{inside_ends, inside_opens, inside_closes, inside_last, inside_passes, no_paren}

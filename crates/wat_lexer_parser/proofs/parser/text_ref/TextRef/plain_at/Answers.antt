@@ -1,4 +1,4 @@
-use Rattle.std.proofs.Common.{◌≡◌, ◌+◌, ◌∙◌, sym, arith, rules, true, Some}
+use Rattle.std.proofs.Common.{◌≡◌, ◌+◌, ◌∙◌, arith, rules, true, Some}
 use Rattle.std.specs.Prelude.{slice_get}
 use Rattle.wat_lex.specs.tokens.Blanks.{is_blank}
 use Rattle.wat_lex.specs.tokens.ReadableTokens.{IsTokenOf}
