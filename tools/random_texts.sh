@@ -1,8 +1,9 @@
 #!/usr/bin/env bash
-# Compares the crates below rust/ on random texts with the crate wast 263.0.0, or with a program wat_tokens: tools/random_texts/src/main.rs.
+# Compares the crates below rust/ on random texts with the crate wast 263.0.0, with a program wat_tokens, or a parser's sources with each other:
+# tools/random_texts/src/main.rs.
 # Where no registry is at hand, WAST_FOLDER names a folder with that crate, and CRATES_FOLDER one with the crates that the crates here take.
 #
-# usage: tools/random_texts.sh [--program PROGRAM] SEED COUNT [FILE or FOLDER]..
+# usage: tools/random_texts.sh [--program PROGRAM | --sources] SEED COUNT [FILE or FOLDER]..
 set -euo pipefail
 project=$(cd "$(dirname "$0")/random_texts" && pwd)
 options=(--release --quiet --manifest-path "$project/Cargo.toml")

@@ -49,7 +49,7 @@ fn value(token: &Token, text: &str) -> String {
 }
 
 /// A value, or the error.
-fn outcome<T: Debug>(answer: Result<T>) -> String {
+pub fn outcome<T: Debug>(answer: Result<T>) -> String {
     match answer {
         Ok(value) => format!("{value:?}"),
         Err(error) => fault(&error),
@@ -57,7 +57,7 @@ fn outcome<T: Debug>(answer: Result<T>) -> String {
 }
 
 /// All that an error says. What `InvalidUtf8Id` holds in `wast` is left out, as it holds nothing here.
-fn fault(error: &Error) -> String {
+pub fn fault(error: &Error) -> String {
     let offset = error.span().offset();
     let message = error.message();
     match error.lex_error() {
@@ -68,7 +68,7 @@ fn fault(error: &Error) -> String {
     }
 }
 
-fn buffer_of(text: &str, allow: bool) -> ParseBuffer<'_> {
+pub fn buffer_of(text: &str, allow: bool) -> ParseBuffer<'_> {
     ParseBuffer::new_with_lexer(lexer_of(text, allow))
         .unwrap_or_else(|error| panic!("no buffer: {error}"))
 }
@@ -313,7 +313,7 @@ impl Play {
 }
 
 /// The shown token whatever its kind, and the cursor after it.
-fn any(cursor: Cursor<'_>) -> Result<Option<(String, Cursor<'_>)>> {
+pub fn any(cursor: Cursor<'_>) -> Result<Option<(String, Cursor<'_>)>> {
     if let Some(next) = cursor.lparen()? {
         return Ok(Some(("(".to_owned(), next)));
     }
@@ -350,7 +350,7 @@ fn any_value(cursor: Cursor<'_>) -> Result<Option<(String, Cursor<'_>)>> {
 }
 
 /// Takes what is left of a group.
-fn skip(parser: Parser<'_>) -> Result<()> {
+pub fn skip(parser: Parser<'_>) -> Result<()> {
     let mut depth = 0;
     while depth > 0 || !parser.is_empty() {
         depth += parser.step(|cursor| {

@@ -5,13 +5,16 @@
 //!
 //! usage: random_texts SEED COUNT [FILE or FOLDER]..
 //!        random_texts --program PROGRAM SEED COUNT [FILE or FOLDER]..
+//!        random_texts --sources SEED COUNT [FILE or FOLDER]..
 //!
-//! The second form compares with the lists and printed faults of `wat_tokens`, as Rattle's compiler made it.
+//! The second form compares with the lists and printed faults of `wat_tokens`, as Rattle's compiler made it; the third compares the proved
+//! parser over a table with the one over the text itself, and with the layer, by the same calls of each.
 
 mod program;
 mod proved;
 mod random;
 mod report;
+mod sources;
 mod texts;
 
 /// The calls of the crates here.
@@ -76,6 +79,17 @@ impl Totals {
     }
 
     fn compare(&mut self, text: &str, name: &str, ours: &Answers, other: &Answers) {
+        self.compare_two(text, ["layer", name], ours, other);
+    }
+
+    /// Compares answers of two that have these names.
+    fn compare_two(
+        &mut self,
+        text: &str,
+        [name, other_name]: [&str; 2],
+        ours: &Answers,
+        other: &Answers,
+    ) {
         if ours.text == other.text {
             return;
         }
@@ -83,8 +97,8 @@ impl Totals {
         println!("DIFFERENT: {text:?}");
         let lines = ours.text.lines().zip(other.text.lines());
         match lines.into_iter().find(|(ours, other)| ours != other) {
-            Some((ours, other)) => println!("  layer: {ours}\n  {name}: {other}"),
-            None => println!("  one of layer and {name} ends first"),
+            Some((ours, other)) => println!("  {name}: {ours}\n  {other_name}: {other}"),
+            None => println!("  one of {name} and {other_name} ends first"),
         }
     }
 
@@ -154,7 +168,7 @@ fn compare_with_proved(totals: &mut Totals, text: &str, allow: bool, question: &
     if let Question::Types(first) = *question {
         for number in (first..proved::TYPES).take(TYPES_OF_A_TEXT) {
             ours::typed(text, allow, number, &mut ours);
-            proved::typed(text, allow, number, &mut proved);
+            proved::typed(&proved::Source::table(text, allow), number, &mut proved);
         }
     }
     totals.compare(text, "proved", &ours, &proved);
@@ -193,12 +207,16 @@ fn texts_of(path: &Path) -> Result<Vec<String>, Box<dyn Error>> {
 }
 
 fn run(arguments: &[String]) -> Result<bool, Box<dyn Error>> {
-    let (program, arguments) = match arguments {
-        [option, program, rest @ ..] if option == "--program" => (Some(program), rest),
-        all => (None, all),
+    let (program, is_of_sources, arguments) = match arguments {
+        [option, program, rest @ ..] if option == "--program" => (Some(program), false, rest),
+        [option, rest @ ..] if option == "--sources" => (None, true, rest),
+        all => (None, false, all),
     };
     let [seed, count, paths @ ..] = arguments else {
-        return Err("usage: random_texts [--program PROGRAM] SEED COUNT [FILE or FOLDER]..".into());
+        return Err(
+            "usage: random_texts [--program PROGRAM | --sources] SEED COUNT [FILE or FOLDER].."
+                .into(),
+        );
     };
     let (seed, count) = (seed.parse()?, count.parse()?);
     let files = paths
@@ -208,6 +226,7 @@ fn run(arguments: &[String]) -> Result<bool, Box<dyn Error>> {
         .concat();
     let totals = match program {
         Some(program) => program::compare_texts(Path::new(program), seed, count, files)?,
+        None if is_of_sources => sources::compare_texts(seed, count, files),
         None => compare_texts(seed, count, files),
     };
     totals.print();

@@ -2,16 +2,16 @@
 use crate::report::Answers;
 use std::fmt::Debug;
 use wat_lex::proved::error::Error;
-use wat_lex::proved::lexer::{LexFault, Lexer, Token, TokenKind};
+use wat_lex::proved::lexer::{LexError, LexFault, Lexer, Token, TokenKind};
 use wat_lex::shim::alloc::Global;
 use wat_lex::shim::borrow::{CowSlice, CowStr};
 use wat_lex::shim::boxed::Box;
 use wat_lex::shim::string::String as ProvedString;
 use wat_parser::proved::kw;
-use wat_parser::proved::parser::{Parse, ParseBuffer, parse};
+use wat_parser::proved::parser::{LazyBuffer, Parse, ParseBuffer, Parser, parse};
 use wat_parser::proved::token::{Id, Index, ItemRef};
 
-fn lexer_of(text: &str, allow: bool) -> Lexer<'_> {
+pub fn lexer_of(text: &str, allow: bool) -> Lexer<'_> {
     let mut lexer = Lexer::new(text);
     lexer.allow_confusing_unicode(allow);
     lexer
@@ -76,20 +76,63 @@ fn value(token: &Token, text: &str) -> String {
     }
 }
 
-fn outcome<T: Debug>(answer: Result<T, Error>) -> String {
+pub fn outcome<T: Debug>(answer: Result<T, Error>) -> String {
     match answer {
         Ok(value) => format!("{value:?}"),
         Err(error) => fault(&error),
     }
 }
 
-fn fault(error: &Error) -> String {
+pub fn fault(error: &Error) -> String {
     let offset = error.span().offset();
     let message = error.message(Global).expect("memory");
     match error.lex_error() {
-        None => format!("{offset} None {message}\n{error}"),
-        Some(cause) => format!("{offset} Some({cause:?}) {message}\n{error}")
-            .replace("Some(InvalidUtf8Id)", "InvalidUtf8Id"),
+        Some(LexError::InvalidUtf8Id) => format!("{offset} InvalidUtf8Id {message}\n{error}"),
+        cause => format!("{offset} {cause:?} {message}\n{error}"),
+    }
+}
+
+/// The two sources of a parser.
+pub enum Source<'a> {
+    Table(ParseBuffer<'a>),
+    Text(LazyBuffer<'a>),
+}
+
+impl<'a> Source<'a> {
+    /// A table of the text's tokens.
+    pub fn table(text: &'a str, allow: bool) -> Source<'a> {
+        let lexer = lexer_of(text, allow);
+        Source::Table(ParseBuffer::new_with_lexer(Global, lexer).expect("memory"))
+    }
+
+    /// The text itself.
+    pub fn text(text: &'a str, allow: bool) -> Source<'a> {
+        Source::Text(LazyBuffer::new_with_lexer(Global, lexer_of(text, allow)))
+    }
+
+    pub fn parser(&self) -> Parser<'_> {
+        match self {
+            Source::Table(buffer) => buffer.parser(),
+            Source::Text(buffer) => buffer.parser(),
+        }
+    }
+
+    pub fn lex_fault(&self) -> Option<LexFault> {
+        match self {
+            Source::Table(buffer) => buffer.lex_fault(),
+            Source::Text(buffer) => buffer.lex_fault(),
+        }
+    }
+
+    fn parse<'b, T: Parse<'b>>(&'b self) -> Result<T, Error> {
+        match self {
+            Source::Table(buffer) => parse::<T>(buffer),
+            Source::Text(buffer) => buffer.parse::<T>(),
+        }
+    }
+
+    fn read<'b, T: Parse<'b> + Debug>(&'b self) -> String {
+        outcome(self.parse::<T>())
     }
 }
 
@@ -97,30 +140,29 @@ fn fault(error: &Error) -> String {
 pub const TYPES: usize = 17;
 
 /// The text read as the type of a number, which is below `TYPES`.
-pub fn typed(text: &str, allow: bool, number: usize, answers: &mut Answers) {
-    let buffer = ParseBuffer::new_with_lexer(Global, lexer_of(text, allow)).expect("memory");
+pub fn typed(source: &Source, number: usize, answers: &mut Answers) {
     let read = match number {
-        0 => read::<u8>(&buffer),
-        1 => read::<u16>(&buffer),
-        2 => read::<u32>(&buffer),
-        3 => read::<u64>(&buffer),
-        4 => read::<i8>(&buffer),
-        5 => read::<i16>(&buffer),
-        6 => read::<i32>(&buffer),
-        7 => read::<i64>(&buffer),
-        8 => read::<CowSlice<u8>>(&buffer),
-        9 => read::<CowStr>(&buffer),
-        10 => read::<ProvedString>(&buffer),
-        11 => read::<Id>(&buffer),
-        12 => read::<Index>(&buffer),
-        13 => outcome(parse::<ItemRef<kw::func>>(&buffer).map(|item| (item.kind.span, item.idx))),
-        14 => read::<Option<u32>>(&buffer),
-        15 => read::<Box<u32>>(&buffer),
-        _ => read::<Option<Id>>(&buffer),
+        0 => source.read::<u8>(),
+        1 => source.read::<u16>(),
+        2 => source.read::<u32>(),
+        3 => source.read::<u64>(),
+        4 => source.read::<i8>(),
+        5 => source.read::<i16>(),
+        6 => source.read::<i32>(),
+        7 => source.read::<i64>(),
+        8 => source.read::<CowSlice<u8>>(),
+        9 => source.read::<CowStr>(),
+        10 => source.read::<ProvedString>(),
+        11 => source.read::<Id>(),
+        12 => source.read::<Index>(),
+        13 => outcome(
+            source
+                .parse::<ItemRef<kw::func>>()
+                .map(|item| (item.kind.span, item.idx)),
+        ),
+        14 => source.read::<Option<u32>>(),
+        15 => source.read::<Box<u32>>(),
+        _ => source.read::<Option<Id>>(),
     };
     answers.push(&format_args!("type {number}: {read}"));
-}
-
-fn read<'a, T: Parse<'a> + Debug>(buffer: &'a ParseBuffer<'a>) -> String {
-    outcome(parse::<T>(buffer))
 }

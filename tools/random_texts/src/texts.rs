@@ -178,6 +178,54 @@ const WORDS: &[&str] = &[
     "0$y",
 ];
 
+/// Parts of groups of annotations: names with and without escapes, names at fault, what closes a group, and what does not.
+const ANNOTATED: &[&str] = &[
+    "(@a",
+    "(@b",
+    "(@name",
+    "(@ab",
+    "(@\"a\"",
+    "(@\"\\61\"",
+    "(@\"\\u{61}\"",
+    "(@\"n\\61me\"",
+    "(@\"\\62\"",
+    "(@\"a\\62\"",
+    "(@\"é\"",
+    "(@\"\\c3\\a9\"",
+    "(@\"\\ff\"",
+    "(@\"a\\c3\"",
+    "(@\"\"",
+    "(@\"\\q\"",
+    "(@\"",
+    "(@",
+    "(@ ",
+    "(@(",
+    "( @a",
+    "@a",
+    "@\"\\61\"",
+    "(",
+    "(",
+    ")",
+    ")",
+    ")",
+    "))",
+    "x",
+    "1",
+    "$i",
+    "$\"\\69\"",
+    "$\"\"",
+    "\"s\"",
+    "\"\\73\"",
+    ";; c\n",
+    "(; b ;)",
+    "(; ) ;)",
+    "(;",
+    "\"",
+    "\"\\q\"",
+    "\u{202e}",
+    "1_",
+];
+
 const IDCHARS: &[u8] = b"abcxyzAZ0129!#$%&'*+-./:<=>?@\\^_`|~";
 
 /// Which characters there are outside of files and pieces: below one of these.
@@ -210,6 +258,24 @@ impl Texts {
             8 | 9 => self.one_token(),
             _ => self.groups(),
         }
+    }
+
+    /// Groups of annotations, or any text.
+    pub fn next_annotated(&mut self) -> String {
+        if self.random.is_one_in(3) {
+            return self.next();
+        }
+        let mut text = String::new();
+        for _ in 0..self.random.below(14) {
+            text += self.random.one_of(ANNOTATED);
+            text += self
+                .random
+                .one_of(&["", " ", " ", "\n", ";; c\n", "(; b ;)"]);
+        }
+        if self.random.is_one_in(2) {
+            text += &")".repeat(self.random.below(4));
+        }
+        text
     }
 
     /// Pieces in a row.
