@@ -1,6 +1,7 @@
 //! Rows of the table.
 
 use crate::pictures::spelled;
+use crate::sources::Source;
 
 /// How a row shows a refusal.
 #[derive(Clone, Copy)]
@@ -20,10 +21,12 @@ pub struct Row {
     /// What is after the call's `@`.
     pub with: &'static str,
     pub text: String,
+    /// What the parser of a row reads.
+    pub source: Source,
 }
 
 impl Row {
-    pub fn read(line: &'static str) -> Row {
+    pub fn read(line: &'static str, source: Source) -> Row {
         let (head, text) = line.split_once(' ').unwrap_or((line, ""));
         let (call, with) = head.split_once('@').unwrap_or((head, ""));
         let (refusals, call) = if let Some(call) = call.strip_prefix("printed-") {
@@ -39,6 +42,7 @@ impl Row {
             call,
             with,
             text,
+            source,
         }
     }
 

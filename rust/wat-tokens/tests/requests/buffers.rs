@@ -6,7 +6,7 @@ use wat_lex::proved::error::Error;
 use wat_lex::proved::lexer::Lexer;
 use wat_lex::shim::alloc::Global;
 use wat_parser::proved::laws;
-use wat_parser::proved::parser::ParseBuffer;
+use wat_parser::proved::parser::{LazyBuffer, ParseBuffer};
 use wat_tokens::types::compile_types;
 
 fn lexer(row: &Row) -> Lexer<'_> {
@@ -31,10 +31,10 @@ fn blanked(row: &Row) -> Result<Ending, Error> {
 
 /// What a buffer of a word and a fault answers, and a parser of it.
 fn asked(row: &Row) -> Result<Ending, Error> {
-    let buffer = ParseBuffer::new(Global, &row.text)?;
+    let buffer = row.source.buffer_with_lexer(lexer(row))?;
     let parser = buffer.parser();
     let _lookahead = parser.lookahead1();
-    let read = (buffer.raw().len(), buffer.lex_fault().is_some());
+    let read = (buffer.raw().count(), buffer.lex_fault().is_some());
     let place = (parser.prev_span().offset(), parser.parens_depth());
     let answers = (parser.has_meaningful_tokens(), parser.track_instr_spans());
     let is_shallow = ended(parser.depth_check().is_ok());
@@ -47,10 +47,24 @@ fn asked(row: &Row) -> Result<Ending, Error> {
 
 /// A buffer that tracks spans.
 fn tracked(row: &Row) -> Result<Ending, Error> {
-    let mut buffer = ParseBuffer::new(Global, &row.text)?;
+    let mut buffer = row.source.buffer(&row.text)?;
     buffer.track_instr_spans(true);
     assert!(ended(buffer.parser().track_instr_spans()), "{}", row.name);
     Ok(Ending::Answer)
+}
+
+/// What buffers without a table answer, and parsers of them. They are made without memory, and their parsers look without any.
+fn lazy(row: &Row) -> Ending {
+    let mut buffer = LazyBuffer::new(Global, &row.text);
+    let with_lexer = LazyBuffer::new_with_lexer(Global, lexer(row));
+    buffer.track_instr_spans(true);
+    let (parser, other) = (buffer.parser(), with_lexer.parser());
+    let fault = with_lexer.lex_fault().map(|fault| fault.offset);
+    let shown = (parser.is_empty(), parser.cur_span().offset());
+    let counts = ended((parser.has_meaningful_tokens(), fault));
+    assert_eq!(shown, (other.is_empty(), other.cur_span().offset()));
+    assert_eq!(with_lexer.lexer().input(), row.text, "{}", row.name);
+    row.ending(&Ok((shown, counts)))
 }
 
 pub fn ending(row: &Row) -> Result<Ending, Error> {
@@ -60,6 +74,7 @@ pub fn ending(row: &Row) -> Result<Ending, Error> {
         "blanked" => blanked(row),
         "asked" => asked(row),
         "tracked" => tracked(row),
+        "lazy" => Ok(lazy(row)),
         "compile" => Ok(row.ending(&ended(compile_types(Global, &row.text)))),
         of => panic!("{}: no {of}", row.name),
     }

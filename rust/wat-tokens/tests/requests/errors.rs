@@ -8,7 +8,6 @@ use wat_lex::proved::lexer::LexError;
 use wat_lex::proved::token::Span;
 use wat_lex::shim::alloc::Global;
 use wat_lex::shim::string::String as Text;
-use wat_parser::proved::parser::ParseBuffer;
 
 const WITH_TEXT: &str = "m\n     --> <anon>:1:2\n      |\n    1 | a(;\n      |  ^";
 
@@ -96,7 +95,7 @@ fn places(row: &Row) -> Ending {
 
 /// An error that a parser makes at its place, or at another one.
 fn of_parser(row: &Row) -> Result<Ending, Error> {
-    let buffer = ParseBuffer::new(Global, &row.text)?;
+    let buffer = row.source.buffer(&row.text)?;
     let parser = buffer.parser();
     let error = match row.of {
         "here" => parser.error("no number"),

@@ -1,4 +1,5 @@
-//! `tests/requests.txt`: each row is a call, of which each request for memory is refused in turn, alone and with all after it.
+//! `tests/requests.txt`: each row is a call, of which each request for memory is refused in turn, alone and with all after it. Parsers read both
+//! buffers, and make the same requests over both.
 
 mod buffers;
 mod cursors;
@@ -21,26 +22,35 @@ mod printed;
 mod refusing;
 mod replays;
 mod row;
+#[path = "../../../wat-parser/tests/answers/sources.rs"]
+mod sources;
 mod types;
 mod words;
 
 use refusing::{Counts, Refused, refusing};
 use row::{Ending, Row};
+use sources::{SOURCES, Source};
 use std::cell::Cell;
 use std::panic::{AssertUnwindSafe, catch_unwind};
 use wat_lex::proved::error::Error;
-use wat_lex::shim::alloc::Global;
-use wat_parser::proved::parser::{ParseBuffer, Parser};
+use wat_parser::proved::parser::Parser;
 
 const TABLE: &str = include_str!("../../../../tests/requests.txt");
 /// The rows of the table, and the requests of all their calls.
-const ROWS: usize = 398;
+const ROWS: usize = 414;
 const REQUESTS: usize = 534;
 /// More requests than any row makes.
 const MOST_REQUESTS: usize = 500;
 
+/// The rows, all of one source and then all of the other.
 fn rows() -> impl Iterator<Item = Row> {
-    TABLE.lines().skip(1).map(Row::read)
+    let of = |source: Source| {
+        TABLE
+            .lines()
+            .skip(1)
+            .map(move |line| Row::read(line, source))
+    };
+    SOURCES.into_iter().flat_map(of)
 }
 
 /// How a call of a parser ended that is at the start of the row's text.
@@ -71,7 +81,7 @@ fn ending(row: &Row) -> Result<Ending, Error> {
         "whole" => types::whole_ending(row),
         "words" => words::ending(row),
         _ => {
-            let buffer = ParseBuffer::new(Global, &row.text)?;
+            let buffer = row.source.buffer(&row.text)?;
             let mut parser = buffer.parser();
             for name in row.names.split_terminator(' ') {
                 parser.register_annotation(name)?;
@@ -177,9 +187,10 @@ impl Requests {
 
 /// Tries all rows, and names those that fail.
 fn try_each(check: impl Fn(&Row)) {
-    assert_eq!(rows().count(), ROWS, "rows of the table");
+    assert_eq!(rows().count(), ROWS * SOURCES.len(), "rows of the table");
     let fails = |row: &Row| catch_unwind(AssertUnwindSafe(|| check(row))).is_err();
-    let failed: Vec<&str> = rows().filter(fails).map(|row| row.name).collect();
+    let named = |row: Row| (row.name, row.source);
+    let failed: Vec<_> = rows().filter(fails).map(named).collect();
     assert!(failed.is_empty(), "{failed:?}");
 }
 
@@ -211,5 +222,9 @@ fn each_request_is_refused_in_turn() {
             row.name
         );
     });
-    assert_eq!(refused.get(), REQUESTS, "requests that were refused");
+    assert_eq!(
+        refused.get(),
+        REQUESTS * SOURCES.len(),
+        "requests that were refused"
+    );
 }

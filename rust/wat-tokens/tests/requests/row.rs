@@ -2,6 +2,7 @@
 
 use crate::pictures::{drawn, spelled};
 use crate::printed::printed;
+use crate::sources::Source;
 use std::fmt::Debug;
 use wat_lex::proved::error::Error;
 
@@ -22,6 +23,8 @@ pub struct Row {
     /// Where the call leaves a parser.
     pub place: usize,
     pub text: String,
+    /// What the row's parser reads.
+    pub source: Source,
     /// What is answered, or the first line of a refusal, or all of it.
     pub answer: &'static str,
 }
@@ -34,7 +37,7 @@ pub enum Ending {
 }
 
 impl Row {
-    pub fn read(line: &'static str) -> Row {
+    pub fn read(line: &'static str, source: Source) -> Row {
         let columns: Vec<&str> = line.splitn(9, '|').collect();
         let [name, requests, bytes, call, of, offset, place, text, answer] = columns[..] else {
             panic!("{line} has too few columns");
@@ -50,6 +53,7 @@ impl Row {
             offset: offset.parse().ok(),
             place: place.parse().unwrap_or(0),
             text: spelled(text),
+            source,
             answer,
         }
     }

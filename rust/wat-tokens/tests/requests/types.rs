@@ -4,24 +4,24 @@ use crate::imports::Imports;
 use crate::lists::read;
 use crate::refusing::ended;
 use crate::row::{Ending, Row};
+use crate::sources::Buffer;
 use crate::words::Comma;
 use std::fmt::Debug;
 use wat_lex::proved::error::Error;
-use wat_lex::shim::alloc::Global;
 use wat_lex::shim::borrow::{CowSlice, CowStr};
 use wat_lex::shim::boxed::Box;
 use wat_lex::shim::string::String as Text;
-use wat_parser::proved::parser::{Parse, ParseBuffer, Parser, parse};
+use wat_parser::proved::parser::{Parse, Parser};
 use wat_parser::proved::token::{Id, Index, ItemRef, NameAnnotation, Parens, ReservedSymbol, Span};
 use wat_parser::proved::{annotation, kw};
 
 /// Reads a whole text.
-fn whole<'a, T: Parse<'a> + Debug>(row: &Row, buffer: &'a ParseBuffer<'a>) -> Ending {
-    row.ending(&ended(parse::<T>(buffer)))
+fn whole<'a, T: Parse<'a> + Debug>(row: &Row, buffer: &'a Buffer<'_>) -> Ending {
+    row.ending(&ended(buffer.parse::<T>()))
 }
 
 pub fn whole_ending(row: &Row) -> Result<Ending, Error> {
-    let buffer = &ParseBuffer::new(Global, &row.text)?;
+    let buffer = &row.source.buffer(&row.text)?;
     Ok(match row.of {
         "u32" => whole::<u32>(row, buffer),
         "i32" => whole::<i32>(row, buffer),

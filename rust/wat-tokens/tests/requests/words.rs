@@ -2,11 +2,11 @@
 
 use crate::refusing::ended;
 use crate::row::{Ending, Row};
+use crate::sources::Buffer;
 use wat_lex::proved::error::Error;
 use wat_lex::shim::alloc::Global;
 use wat_lex::shim::borrow::CowStr;
 use wat_lex::shim::string::String as Text;
-use wat_parser::proved::parser::ParseBuffer;
 use wat_parser::proved::token::{Id, Index, ItemRef, NameAnnotation, ReservedSymbol, Span, Word};
 use wat_parser::proved::{annotation, kw};
 
@@ -66,12 +66,15 @@ fn name_copy(row: &Row) -> Result<Ending, Error> {
 
 /// A copy of a reference whose name is borrowed, words at a place, and calls that do nothing.
 fn made(row: &Row) -> Result<Ending, Error> {
-    let buffer = ParseBuffer::new(Global, &row.text)?;
+    let buffer = row.source.buffer(&row.text)?;
     let (mut parser, at) = (buffer.parser(), Span::from_offset(2));
     let item = item(CowStr::Borrowed("f"));
     let copy = item.clone(Global);
     let words = (ReservedSymbol::<Comma>::new(at), annotation::name::new(at));
-    buffer.lemma_sound();
+    match &buffer {
+        Buffer::Table(buffer) => buffer.lemma_sound(),
+        Buffer::Text(buffer) => buffer.lemma_sound(),
+    }
     parser.lemma_sound();
     let step = ended(parser.step(|cursor| {
         cursor.lemma_sound();

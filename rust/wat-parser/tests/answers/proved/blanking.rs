@@ -2,33 +2,33 @@
 
 use super::parsing::{blanked_at, shown};
 use crate::row::{Refusals, Row};
+use crate::sources::{Buffer, Source};
 use wat_lex::proved::error::Error;
 use wat_lex::proved::lexer::{Lexer, Token};
 use wat_lex::shim::alloc::Global;
 use wat_lex::shim::string::String as Text;
-use wat_parser::proved::parser::ParseBuffer;
 
-/// The buffer of a text under two settings of its lexer.
-fn buffer_of(text: &str, allow: bool, strict: bool) -> Result<ParseBuffer<'_>, Error> {
+/// The lexer of a text under two settings.
+fn lexer_of(text: &str, allow: bool, strict: bool) -> Lexer<'_> {
     let mut lexer = Lexer::new(text);
     lexer
         .allow_confusing_unicode(allow)
         .strict_underscores(strict);
-    ParseBuffer::new_with_lexer(Global, lexer)
+    lexer
 }
 
 /// Whether two texts show the same, with a name registered and without.
-fn both_show(text: &ParseBuffer, other: &ParseBuffer) -> Result<bool, Error> {
+fn both_show(text: &Buffer, other: &Buffer) -> Result<bool, Error> {
     let shown = |buffer, name| shown(Refusals::Brief, buffer, name);
     Ok(shown(text, "")? == shown(other, "")? && shown(text, "a")? == shown(other, "a")?)
 }
 
 /// Whether a text with spaces over a raw token shows the same, under each of the four settings under which the token is one.
-fn is_same(text: &str, token: Token, other: &str) -> Result<bool, Error> {
+fn is_same(source: Source, text: &str, token: Token, other: &str) -> Result<bool, Error> {
     for (allow, strict) in [(false, false), (false, true), (true, false), (true, true)] {
-        let before = buffer_of(text, allow, strict)?;
-        let after = buffer_of(other, allow, strict)?;
-        if before.raw().contains(&token) && !both_show(&before, &after)? {
+        let before = source.buffer_with_lexer(lexer_of(text, allow, strict))?;
+        let after = source.buffer_with_lexer(lexer_of(other, allow, strict))?;
+        if before.raw().any(|raw| raw == token) && !both_show(&before, &after)? {
             return Ok(false);
         }
     }
@@ -36,12 +36,12 @@ fn is_same(text: &str, token: Token, other: &str) -> Result<bool, Error> {
 }
 
 /// How many comments a text has, each of which changes nothing that is shown where spaces are over it.
-fn each(text: &str) -> Result<String, Error> {
+fn each(source: Source, text: &str) -> Result<String, Error> {
     let mut found = 0;
     for number in 0..text.len() {
         if let Some((token, other)) = blanked_at(text, number)? {
             found += 1;
-            if !is_same(text, token, &other)? {
+            if !is_same(source, text, token, &other)? {
                 return Ok(format!("token {number} changes what is shown"));
             }
         }
@@ -56,10 +56,10 @@ fn blanked_first(text: &str) -> Result<Option<(Token, Text)>, Error> {
 }
 
 /// The text with spaces over its comments, one after another.
-fn all(text: &str) -> Result<String, Error> {
+fn all(source: Source, text: &str) -> Result<String, Error> {
     let mut now = Text::from_str(Global, text)?;
     while let Some((token, other)) = blanked_first(&now)? {
-        if !is_same(&now, token, &other)? {
+        if !is_same(source, &now, token, &other)? {
             return Ok(format!(
                 "the comment at {} changes what is shown",
                 token.offset
@@ -67,8 +67,8 @@ fn all(text: &str) -> Result<String, Error> {
         }
         now = other;
     }
-    let before = buffer_of(text, true, false)?;
-    let after = buffer_of(&now, true, false)?;
+    let before = source.buffer_with_lexer(lexer_of(text, true, false))?;
+    let after = source.buffer_with_lexer(lexer_of(&now, true, false))?;
     let shows = if both_show(&before, &after)? {
         "the same"
     } else {
@@ -79,8 +79,8 @@ fn all(text: &str) -> Result<String, Error> {
 
 pub fn answer(row: &Row) -> Option<Result<String, Error>> {
     match row.call {
-        "blanked-each" => Some(each(&row.text)),
-        "blanked-all" => Some(all(&row.text)),
+        "blanked-each" => Some(each(row.source, &row.text)),
+        "blanked-all" => Some(all(row.source, &row.text)),
         _ => None,
     }
 }

@@ -4,8 +4,7 @@ use super::refusal;
 use crate::row::Row;
 use wat_lex::proved::error::Error;
 use wat_lex::proved::token::Span;
-use wat_lex::shim::alloc::Global;
-use wat_parser::proved::parser::{ParseBuffer, Parser};
+use wat_parser::proved::parser::Parser;
 
 /// Takes a keyword.
 fn keyword<'a>(parser: &mut Parser<'a>) -> Result<&'a str, Error> {
@@ -77,7 +76,7 @@ fn refused_after(parser: &mut Parser, at: &str) -> Result<String, Error> {
 
 /// What a call answers, where it leaves the parser, and whether `a` is registered then.
 pub fn answer(row: &Row) -> Option<String> {
-    let buffer = ParseBuffer::new(Global, &row.text).expect("memory");
+    let buffer = row.source.buffer(&row.text).expect("memory");
     let parser = &mut buffer.parser();
     let answered = match row.call {
         "two-keywords" => two_keywords(parser),

@@ -2,25 +2,26 @@
 
 use super::parsing::blanked_at;
 use crate::row::Row;
+use crate::sources::Source;
 use wat_lex::proved::error::Error;
 use wat_lex::proved::token::Span;
 use wat_lex::shim::alloc::{AllocError, Global};
 use wat_lex::shim::string::String as Text;
 use wat_lex::shim::vec::Vec as Calls;
-use wat_parser::proved::parser::{Call, ParseBuffer, Parser, parse, replay};
+use wat_parser::proved::parser::{Call, Parser, replay};
 
 /// The string that is the whole text.
-fn string(text: &str) -> Result<String, Error> {
-    let buffer = ParseBuffer::new(Global, text)?;
+fn string(source: Source, text: &str) -> Result<String, Error> {
+    let buffer = source.buffer(text)?;
     Ok(format!(
         "a string of {} bytes",
-        parse::<Text>(&buffer)?.len()
+        buffer.parse::<Text>()?.len()
     ))
 }
 
 /// Registers the words of a text as names, and counts those that are registered then.
-fn names(text: &str) -> Result<String, Error> {
-    let buffer = ParseBuffer::new(Global, "")?;
+fn names(source: Source, text: &str) -> Result<String, Error> {
+    let buffer = source.buffer("")?;
     let mut parser = buffer.parser();
     for name in text.split(' ') {
         parser.register_annotation(name)?;
@@ -30,8 +31,8 @@ fn names(text: &str) -> Result<String, Error> {
 }
 
 /// The message of an error of a parser.
-fn message(text: &str) -> Result<String, Error> {
-    let buffer = ParseBuffer::new(Global, "")?;
+fn message(source: Source, text: &str) -> Result<String, Error> {
+    let buffer = source.buffer("")?;
     let error = buffer.parser().error_at(Span::from_offset(0), text);
     Ok(format!(
         "a message of {} bytes",
@@ -40,8 +41,8 @@ fn message(text: &str) -> Result<String, Error> {
 }
 
 /// Looks so many times at what a parser shows first.
-fn looks(text: &str, count: usize) -> Result<String, Error> {
-    let buffer = ParseBuffer::new(Global, text)?;
+fn looks(source: Source, text: &str, count: usize) -> Result<String, Error> {
+    let buffer = source.buffer(text)?;
     let mut parser = buffer.parser();
     let mut calls = Calls::new(Global);
     for _ in 0..count {
@@ -62,8 +63,8 @@ fn look_within(parser: &mut Parser, count: usize) -> Result<usize, Error> {
     parser.parens(|parser: &mut Parser| look_within(parser, count - 1))
 }
 
-fn deep_look(text: &str, count: usize) -> Result<String, Error> {
-    let buffer = ParseBuffer::new(Global, text)?;
+fn deep_look(source: Source, text: &str, count: usize) -> Result<String, Error> {
+    let buffer = source.buffer(text)?;
     let replies = look_within(&mut buffer.parser(), count)?;
     Ok(format!("{replies} replies in {count} groups"))
 }
@@ -80,13 +81,13 @@ fn blanked(text: &str) -> Result<String, Error> {
 }
 
 pub fn answer(row: &Row) -> Option<Result<String, Error>> {
-    let text = &row.text;
+    let (source, text) = (row.source, &row.text);
     Some(match row.call {
-        "long-string" => string(text),
-        "long-names" => names(text),
-        "long-message" => message(text),
-        "many-looks" => looks(text, row.at()),
-        "deep-look" => deep_look(text, row.at()),
+        "long-string" => string(source, text),
+        "long-names" => names(source, text),
+        "long-message" => message(source, text),
+        "many-looks" => looks(source, text, row.at()),
+        "deep-look" => deep_look(source, text, row.at()),
         "long-blanked" => blanked(text),
         _ => return None,
     })

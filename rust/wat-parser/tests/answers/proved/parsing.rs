@@ -4,6 +4,7 @@ use super::cursors::{annotation, comment, id, seen, taken};
 use super::replaying::{full_replies, replies};
 use super::{lexing, refusal, token};
 use crate::row::{Refusals, Row};
+use crate::sources::Buffer;
 use wat_lex::proved::error::Error;
 use wat_lex::proved::lexer::{Lexer, Token, TokenKind};
 use wat_lex::shim::alloc::Global;
@@ -21,7 +22,7 @@ fn take(parser: &mut Parser) -> Result<Option<Token>, Error> {
 }
 
 /// A parser of a text where a name is registered, or none.
-fn parser_under<'b>(buffer: &'b ParseBuffer, name: &str) -> Result<Parser<'b>, Error> {
+fn parser_under<'b>(buffer: &'b Buffer, name: &str) -> Result<Parser<'b>, Error> {
     let mut parser = buffer.parser();
     if !name.is_empty() {
         parser.register_annotation(name)?;
@@ -30,7 +31,7 @@ fn parser_under<'b>(buffer: &'b ParseBuffer, name: &str) -> Result<Parser<'b>, E
 }
 
 /// The tokens that are shown where a name is registered or none, and the fault after them.
-pub fn shown(refusals: Refusals, buffer: &ParseBuffer, name: &str) -> Result<String, Error> {
+pub fn shown(refusals: Refusals, buffer: &Buffer, name: &str) -> Result<String, Error> {
     let mut parser = parser_under(buffer, name)?;
     let mut shown = Vec::new();
     loop {
@@ -46,10 +47,10 @@ pub fn shown(refusals: Refusals, buffer: &ParseBuffer, name: &str) -> Result<Str
 }
 
 /// The raw tokens, and the fault after them.
-fn raw(buffer: &ParseBuffer) -> String {
+fn raw(buffer: &Buffer) -> String {
     let fault = buffer.lex_fault();
     let fault = fault.map(|fault| format!("{:?} at {}", fault.error, fault.offset));
-    let tokens = buffer.raw().iter().map(|raw| token(*raw));
+    let tokens = buffer.raw().map(token);
     tokens.chain(fault).collect::<Vec<_>>().join(", ")
 }
 
@@ -73,7 +74,7 @@ fn blanked(row: &Row) -> Result<String, Error> {
 }
 
 /// How many tokens are shown where a name is registered or none, and the place after them.
-fn counted(row: &Row, buffer: &ParseBuffer) -> Result<String, Error> {
+fn counted(row: &Row, buffer: &Buffer) -> Result<String, Error> {
     let mut parser = parser_under(buffer, row.with)?;
     let mut count = 0;
     while take(&mut parser)?.is_some() {
@@ -106,7 +107,8 @@ fn peeks(parser: &Parser) -> Result<String, Error> {
 }
 
 pub fn answer(row: &Row) -> Option<Result<String, Error>> {
-    let buffer = ParseBuffer::new_with_lexer(Global, lexing::lexer(row)).expect("memory");
+    let buffer = row.source.buffer_with_lexer(lexing::lexer(row));
+    let buffer = buffer.expect("memory");
     let mut parser = buffer.parser();
     Some(match row.call {
         "shown" | "shown-allowing" => shown(row.refusals, &buffer, row.with),

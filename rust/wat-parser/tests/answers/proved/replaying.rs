@@ -1,11 +1,12 @@
 //! Calls that are replayed on a parser.
 
 use super::token;
+use crate::sources::Buffer;
 use wat_lex::proved::error::Error;
 use wat_lex::shim::alloc::{AllocError, Global};
 use wat_lex::shim::string::String as Text;
 use wat_lex::shim::vec::Vec as Calls;
-use wat_parser::proved::parser::{Call, FaultKind, ParseBuffer, Parser, Reply, replay};
+use wat_parser::proved::parser::{Call, FaultKind, Parser, Reply, replay};
 
 /// The call of a word: `reg=NAME`, `unreg=NAME`, `parens=COUNT`, `take`, `comment` or `look`.
 fn call(word: &str) -> Result<Call, AllocError> {
@@ -48,7 +49,7 @@ fn replied(parser: &mut Parser, words: &str) -> Result<String, Error> {
 }
 
 /// The replies of a parser at the start of a text.
-pub fn replies(buffer: &ParseBuffer, words: &str) -> Result<String, Error> {
+pub fn replies(buffer: &Buffer, words: &str) -> Result<String, Error> {
     replied(&mut buffer.parser(), words)
 }
 
@@ -60,7 +61,7 @@ pub fn register_fully(parser: &mut Parser) -> Result<(), Error> {
 }
 
 /// The replies where `a` is registered as often as a name may be.
-pub fn full_replies(buffer: &ParseBuffer, words: &str) -> Result<String, Error> {
+pub fn full_replies(buffer: &Buffer, words: &str) -> Result<String, Error> {
     let mut parser = buffer.parser();
     register_fully(&mut parser)?;
     replied(&mut parser, words)

@@ -4,10 +4,11 @@ use super::refusal;
 use super::replaying::register_fully;
 use super::types::Spaceship;
 use crate::row::Row;
+use crate::sources::Buffer;
 use wat_lex::proved::error::Error;
 use wat_lex::shim::alloc::Global;
 use wat_lex::shim::borrow::{CowSlice, CowStr};
-use wat_parser::proved::parser::{Lookahead1, ParseBuffer, Parser, Peek};
+use wat_parser::proved::parser::{Lookahead1, Parser, Peek};
 use wat_parser::proved::token::{
     Id, Index, ItemRef, LParen, NameAnnotation, Parens, RParen, ReservedSymbol, Word,
 };
@@ -147,7 +148,7 @@ fn word(name: &str) -> String {
 }
 
 /// Whether the spans of instructions are tracked: at first, where asked for, and no longer.
-fn tracked(mut buffer: ParseBuffer) -> String {
+fn tracked(mut buffer: Buffer) -> String {
     let first = buffer.parser().track_instr_spans();
     buffer.track_instr_spans(true);
     let then = buffer.parser().track_instr_spans();
@@ -180,7 +181,7 @@ fn called(row: &Row, parser: &mut Parser) -> Option<Result<String, Error>> {
 }
 
 pub fn answer(row: &Row) -> Option<String> {
-    let buffer = ParseBuffer::new(Global, &row.text).expect("memory");
+    let buffer = row.source.buffer(&row.text).expect("memory");
     match row.call {
         "tracked" => return Some(tracked(buffer)),
         "display" => return Some(display(row.with).to_owned()),

@@ -3,10 +3,10 @@
 use super::lexing;
 use crate::printed::printed;
 use crate::row::Row;
+use crate::sources::Buffer;
 use std::fmt::Debug;
 use wat_lex::proved::error::Error;
-use wat_lex::shim::alloc::Global;
-use wat_parser::proved::parser::{Parse, ParseBuffer, parse};
+use wat_parser::proved::parser::Parse;
 use wat_parser::proved::token::{Id, ReservedSymbol, Word};
 use wat_parser::proved::{annotation, kw};
 
@@ -27,13 +27,14 @@ impl Word for Spaceship {
 }
 
 /// The value that a whole text is read as.
-fn value<'a, T: Parse<'a> + Debug>(buffer: &'a ParseBuffer<'a>) -> Result<String, Error> {
-    Ok(printed(&parse::<T>(buffer)?))
+fn value<'a, T: Parse<'a> + Debug>(buffer: &'a Buffer<'_>) -> Result<String, Error> {
+    Ok(printed(&buffer.parse::<T>()?))
 }
 
 /// Types at the ends of their lists, one with a word of one's own, a number and an optional identifier.
 pub fn answer(row: &Row) -> Option<Result<String, Error>> {
-    let buffer = &ParseBuffer::new_with_lexer(Global, lexing::lexer(row)).expect("memory");
+    let buffer = row.source.buffer_with_lexer(lexing::lexer(row));
+    let buffer = &buffer.expect("memory");
     Some(match row.call {
         "u32" | "u32-strict" => value::<u32>(buffer),
         "Option<Id>" => value::<Option<Id>>(buffer),
