@@ -66,6 +66,9 @@ readers() {
 
 parsing() {
     each parser "$texts"/{real,generated}.wat "${forms[@]}" "$texts/forms/files"
+    each annotations "$texts/annotated.wat"
+    each cursors "$texts"/{real,generated,forms/comments}.wat
+    each peeks "$texts"/{real,generated,groups}.wat
     each numbers "$texts"/u32_*.wat "$texts"/fronts/u32_*.wat
     each ids "$texts"/kinds/ids_{short,quoted,escaped}.wat
     each strings "$texts"/kinds/strings_{short,mixed,escapes}.wat

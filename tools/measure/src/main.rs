@@ -25,7 +25,7 @@ use std::process::ExitCode;
 
 layer!(
     wast, theirs: theirs_parse, theirs_parse_whole, theirs_iter, theirs_iter_whole, theirs_counting, theirs_values, theirs_comments,
-    theirs_each, theirs_u32s, theirs_ids, theirs_strings, theirs_floats, theirs_groups, theirs_refused, theirs_linecol, theirs_error
+    theirs_each, theirs_annotated, theirs_cursors, theirs_peeks, theirs_u32s, theirs_ids, theirs_strings, theirs_floats, theirs_groups, theirs_refused, theirs_linecol, theirs_error
 );
 
 const PARSE: Option<Loop> = Some(("theirs_parse", theirs::theirs_parse));

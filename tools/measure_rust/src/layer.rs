@@ -3,13 +3,13 @@ macro_rules! layer {
     (
         $layer:ident, $module:ident:
         $parse:ident, $parse_whole:ident, $iter:ident, $iter_whole:ident, $counting:ident, $values:ident, $comments:ident,
-        $each:ident, $u32s:ident, $ids:ident, $strings:ident, $floats:ident, $groups:ident, $refused:ident, $linecol:ident, $error:ident
+        $each:ident, $annotated:ident, $cursors:ident, $peeks:ident, $u32s:ident, $ids:ident, $strings:ident, $floats:ident, $groups:ident, $refused:ident, $linecol:ident, $error:ident
     ) => {
         #[allow(dead_code)]
         mod $module {
             use $layer::lexer::{Float, Lexer, Token, TokenKind};
             use $layer::parser::{self, Cursor, Parse, ParseBuffer, Parser, Result};
-            use $layer::token::{F64, Id, Span};
+            use $layer::token::{F64, Id, LParen, Span};
 
             mod words {
                 $layer::custom_keyword!(word_a = "a");
@@ -215,6 +215,100 @@ macro_rules! layer {
             #[unsafe(no_mangle)]
             pub fn $each(text: &str) -> u64 {
                 read::<Each>(text)
+            }
+
+            /// All tokens, with the groups of annotations of a name.
+            struct Annotated(u64);
+
+            impl From<Annotated> for u64 {
+                fn from(annotated: Annotated) -> u64 {
+                    annotated.0
+                }
+            }
+
+            impl<'a> Parse<'a> for Annotated {
+                fn parse(parser: Parser<'a>) -> Result<Self> {
+                    let _registered = parser.register_annotation("name");
+                    let mut sum = 0u64;
+                    loop {
+                        let weight = parser.step(|cursor| match cursor.annotation()? {
+                            Some((name, next)) => Ok((ends(name.as_bytes()), next)),
+                            None => take(cursor),
+                        })?;
+                        if weight == 0 {
+                            return Ok(Annotated(sum));
+                        }
+                        sum = sum.wrapping_add(weight);
+                    }
+                }
+            }
+
+            #[inline(never)]
+            #[unsafe(no_mangle)]
+            pub fn $annotated(text: &str) -> u64 {
+                read::<Annotated>(text)
+            }
+
+            /// All tokens, with the comments between them.
+            struct Cursors(u64);
+
+            impl From<Cursors> for u64 {
+                fn from(cursors: Cursors) -> u64 {
+                    cursors.0
+                }
+            }
+
+            impl<'a> Parse<'a> for Cursors {
+                fn parse(parser: Parser<'a>) -> Result<Self> {
+                    let mut sum = 0u64;
+                    loop {
+                        let weight = parser.step(|cursor| match cursor.comment()? {
+                            Some((comment, next)) => Ok((ends(comment.as_bytes()), next)),
+                            None => take(cursor),
+                        })?;
+                        if weight == 0 {
+                            return Ok(Cursors(sum));
+                        }
+                        sum = sum.wrapping_add(weight);
+                    }
+                }
+            }
+
+            #[inline(never)]
+            #[unsafe(no_mangle)]
+            pub fn $cursors(text: &str) -> u64 {
+                read::<Cursors>(text)
+            }
+
+            /// What three looks see at each token.
+            struct Peeks(u64);
+
+            impl From<Peeks> for u64 {
+                fn from(peeks: Peeks) -> u64 {
+                    peeks.0
+                }
+            }
+
+            impl<'a> Parse<'a> for Peeks {
+                fn parse(parser: Parser<'a>) -> Result<Self> {
+                    let mut sum = 0u64;
+                    loop {
+                        let seen = u64::from(parser.peek::<LParen>()?)
+                            + 2 * u64::from(parser.peek2::<words::word_b>()?)
+                            + 4 * u64::from(parser.peek3::<u32>()?);
+                        let weight = parser.step(take)?;
+                        if weight == 0 {
+                            return Ok(Peeks(sum));
+                        }
+                        sum = sum.wrapping_add(seen + weight);
+                    }
+                }
+            }
+
+            #[inline(never)]
+            #[unsafe(no_mangle)]
+            pub fn $peeks(text: &str) -> u64 {
+                read::<Peeks>(text)
             }
 
             struct Numbers(u64);

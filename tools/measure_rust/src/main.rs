@@ -19,11 +19,11 @@ use std::process::ExitCode;
 
 layer!(
     wast, theirs: theirs_parse, theirs_parse_whole, theirs_iter, theirs_iter_whole, theirs_counting, theirs_values, theirs_comments,
-    theirs_each, theirs_u32s, theirs_ids, theirs_strings, theirs_floats, theirs_groups, theirs_refused, theirs_linecol, theirs_error
+    theirs_each, theirs_annotated, theirs_cursors, theirs_peeks, theirs_u32s, theirs_ids, theirs_strings, theirs_floats, theirs_groups, theirs_refused, theirs_linecol, theirs_error
 );
 layer!(
     wat_parser, ours: rust_parse, rust_parse_whole, rust_iter, rust_iter_whole, rust_counting, rust_values, rust_comments,
-    rust_each, rust_u32s, rust_ids, rust_strings, rust_floats, rust_groups, rust_refused, rust_linecol, rust_error
+    rust_each, rust_annotated, rust_cursors, rust_peeks, rust_u32s, rust_ids, rust_strings, rust_floats, rust_groups, rust_refused, rust_linecol, rust_error
 );
 
 const PARSE: Option<Loop> = Some(("theirs_parse", theirs::theirs_parse));
@@ -33,6 +33,9 @@ const VALUES: Option<Loop> = Some(("theirs_values", theirs::theirs_values));
 const EACH: Option<Loop> = Some(("theirs_each", theirs::theirs_each));
 const COMMENTS: Option<Loop> = Some(("theirs_comments", theirs::theirs_comments));
 const U32S: Option<Loop> = Some(("theirs_u32s", theirs::theirs_u32s));
+const ANNOTATED: Option<Loop> = Some(("theirs_annotated", theirs::theirs_annotated));
+const CURSORS: Option<Loop> = Some(("theirs_cursors", theirs::theirs_cursors));
+const PEEKS: Option<Loop> = Some(("theirs_peeks", theirs::theirs_peeks));
 const IDS: Option<Loop> = Some(("theirs_ids", theirs::theirs_ids));
 const STRINGS: Option<Loop> = Some(("theirs_strings", theirs::theirs_strings));
 const FLOATS: Option<Loop> = Some(("theirs_floats", theirs::theirs_floats));
@@ -98,6 +101,30 @@ const SUITES: &[Suite] = &[
     (
         "parser",
         &[pair("Parser::step", ("rust_each", ours::rust_each), EACH)],
+    ),
+    (
+        "annotations",
+        &[pair(
+            "Cursor::annotation",
+            ("rust_annotated", ours::rust_annotated),
+            ANNOTATED,
+        )],
+    ),
+    (
+        "cursors",
+        &[pair(
+            "Cursor::comment",
+            ("rust_cursors", ours::rust_cursors),
+            CURSORS,
+        )],
+    ),
+    (
+        "peeks",
+        &[pair(
+            "Parser::peek, peek2, peek3",
+            ("rust_peeks", ours::rust_peeks),
+            PEEKS,
+        )],
     ),
     (
         "numbers",
