@@ -149,6 +149,7 @@ parsing() {
     for name in real generated annotated dense; do
         [ ! -e "$texts/$name.wat" ] || sized parser "$name"
     done
+    each kinds "$texts"/{real,generated}.wat "$texts/forms/files"
     for name in u32_decimal u32_hexadecimal u32_mixed; do
         sized numbers "$name"
     done

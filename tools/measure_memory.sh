@@ -1,7 +1,7 @@
 #!/usr/bin/env bash
 # Measures the memory of the commands `list`, `sig`, `blank` and `play` of the program wat_tokens on texts, and that of `types` on 100,000 types: the most
 # that is resident, and the least address space under which the command still writes the same, to a mebibyte. Just below that it has to be
-# refused memory as docs/COMMAND-LINE.md says: one line on standard error, no output, status 2. Prints a Markdown table for docs/SPEED.md.
+# refused memory as docs/COMMAND-LINE.md says: one line on standard error, no output, status 2. Prints a Markdown table; docs/speed/older.tsv has one as rows.
 #
 # usage: tools/measure_memory.sh PROGRAM TEXT..     such as crates/wat_tokens/out/wat_tokens and texts that tools/measure.sh leaves
 set -eu -o pipefail

@@ -33,6 +33,7 @@ const WHOLE: Option<Loop> = Some(("theirs_parse_whole", theirs::theirs_parse_who
 const COUNTING: Option<Loop> = Some(("theirs_counting", theirs::theirs_counting));
 const VALUES: Option<Loop> = Some(("theirs_values", theirs::theirs_values));
 const COMMENTS: Option<Loop> = Some(("theirs_comments", theirs::theirs_comments));
+const KINDS: Option<Loop> = Some(("theirs_each", theirs::theirs_each));
 const U32S: Option<Loop> = Some(("theirs_u32s", theirs::theirs_u32s));
 const GROUPS: Option<Loop> = Some(("theirs_groups", theirs::theirs_groups));
 const REFUSED: Option<Loop> = Some(("theirs_refused", theirs::theirs_refused));
@@ -69,6 +70,24 @@ const LEXING: &[Pair] = &[
 const PARSER: &[Pair] = &[
     pair("ParseBuffer::new", ("measure_buffer", ours::buffer), None),
     pair("Parser::step", ("measure_each", ours::each), EACH),
+    pair(
+        "LazyBuffer, Parser::step",
+        ("measure_lazy_each", ours::lazy_each),
+        EACH,
+    ),
+];
+
+const CURSORS: &[Pair] = &[
+    pair(
+        "Cursor::keyword and so on",
+        ("measure_kinds", ours::kinds),
+        KINDS,
+    ),
+    pair(
+        "LazyBuffer, Cursor::keyword and so on",
+        ("measure_lazy_kinds", ours::lazy_kinds),
+        KINDS,
+    ),
 ];
 
 const SUITES: &[Suite] = &[
@@ -99,28 +118,44 @@ const SUITES: &[Suite] = &[
         ],
     ),
     ("parser", PARSER),
+    ("kinds", CURSORS),
     (
         "numbers",
         &[
             pair("Parser::parse::<u32>", ("measure_u32s", ours::u32s), U32S),
+            pair(
+                "LazyBuffer, Parser::parse::<u32>",
+                ("measure_lazy_u32s", ours::lazy_u32s),
+                U32S,
+            ),
             pair("wat_integer_of", library::U32S, U32S),
         ],
     ),
     (
         "groups",
-        &[pair(
-            "Parser::parens",
-            ("measure_groups", ours::groups),
-            GROUPS,
-        )],
+        &[
+            pair(
+                "LazyBuffer, Parser::parens",
+                ("measure_lazy_groups", ours::lazy_groups),
+                GROUPS,
+            ),
+            pair("Parser::parens", ("measure_groups", ours::groups), GROUPS),
+        ],
     ),
     (
         "refused",
-        &[pair(
-            "parser::parse, refused",
-            ("measure_refused", ours::refused),
-            REFUSED,
-        )],
+        &[
+            pair(
+                "LazyBuffer, parser::parse, refused",
+                ("measure_lazy_refused", ours::lazy_refused),
+                REFUSED,
+            ),
+            pair(
+                "parser::parse, refused",
+                ("measure_refused", ours::refused),
+                REFUSED,
+            ),
+        ],
     ),
     (
         "places",

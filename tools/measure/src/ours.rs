@@ -17,6 +17,12 @@ loops! {
     u32s measure_u32s,
     refused measure_refused,
     groups measure_groups,
+    kinds measure_kinds,
+    lazy_each measure_lazy_each,
+    lazy_kinds measure_lazy_kinds,
+    lazy_u32s measure_lazy_u32s,
+    lazy_groups measure_lazy_groups,
+    lazy_refused measure_lazy_refused,
 }
 
 unsafe extern "C" {
