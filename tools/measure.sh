@@ -12,6 +12,7 @@
 #   REAL=FILE        the real text; otherwise tools/real_text.sh makes it, where the machine has what it takes
 #   PASSES=15 KINDS=5 FIRSTS=11  how many passes there are, over the texts of one kind each, and processes for the first pass of one
 #   CPU=N            the processor; otherwise the last
+#   PARTS='lexing readers parsing faults'  which parts are measured
 set -eu -o pipefail
 mkdir -p "${1:?usage: [NAME=VALUE ..] tools/measure.sh WORK}"
 work=$(cd "$1" && pwd)
@@ -160,17 +161,22 @@ parsing() {
     memory parser "${all[@]}"
 }
 
-measure() {
-    describe "$passes passes in turn, of texts of one kind $kinds, of first passes $firsts processes; medians"
-    mapfile -t all < <(those real generated annotated dense)
-    mapfile -t forms < <(those forms/{flat,crlf,minified,folded,mangled,quoted,data,data_one,asserts,binary,comments,unicode})
-    lexing
-    readers
-    parsing
+# faults: places in a text, and errors as they are printed
+faults() {
     times places "$passes" "${all[@]}"
     times errors "$passes" "$texts"/line_*.wat
     counts places "$texts/generated.wat"
     counts errors "$texts"/line_*.wat
+}
+
+measure() {
+    local part
+    describe "$passes passes in turn, of texts of one kind $kinds, of first passes $firsts processes; medians"
+    mapfile -t all < <(those real generated annotated dense)
+    mapfile -t forms < <(those forms/{flat,crlf,minified,folded,mangled,quoted,data,data_one,asserts,binary,comments,unicode})
+    for part in ${PARTS:-lexing readers parsing faults}; do
+        "$part"
+    done
 }
 
 : > "$work/times.tsv"

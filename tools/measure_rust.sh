@@ -10,6 +10,7 @@
 #   CARGO=cargo   cargo with its options, where no registry is at hand
 #   PASSES=9 FIRSTS=11  how many passes there are, and processes for the first pass of one
 #   CPU=N         the processor; otherwise the last
+#   PARTS='lexing readers parsing faults'  which parts are measured
 set -eu -o pipefail
 mkdir -p "${1:?usage: WAST=FOLDER TEXTS=FOLDER tools/measure_rust.sh WORK}"
 work=$(cd "$1" && pwd)
@@ -83,9 +84,15 @@ parsing() {
     memory parser "$texts"/{real,generated}.wat
 }
 
+# faults: places in a text, and errors as they are printed
+faults() {
+    times places "$passes" "${all[@]}"
+    times errors "$passes" "$texts"/line_*.wat
+}
+
 measure() {
     describe "$passes passes in turn, of first passes $firsts processes; medians"
-    local all=("$texts"/{real,generated,annotated,dense}.wat) some kinds forms values comments
+    local all=("$texts"/{real,generated,annotated,dense}.wat) some kinds forms values comments part
     mapfile -t kinds < <(kinds parens marks keywords ids_short integers hex floats blanks_single line_comments line_long block_comments strings_short)
     mapfile -t forms < <(forms flat crlf minified folded mangled quoted data data_one asserts binary comments unicode)
     mapfile -t some < <(kinds parens marks blanks_single)
@@ -95,11 +102,9 @@ measure() {
     values+=("$texts/real.wat" "$texts"/forms/{data,asserts,binary,mangled,quoted}.wat)
     mapfile -t comments < <(kinds line_comments line_long block_comments)
     comments+=("$texts"/forms/{comments,unicode}.wat)
-    lexing
-    readers
-    parsing
-    times places "$passes" "${all[@]}"
-    times errors "$passes" "$texts"/line_*.wat
+    for part in ${PARTS:-lexing readers parsing faults}; do
+        "$part"
+    done
 }
 
 : > "$work/times.tsv"
