@@ -9,3 +9,4 @@ pub mod IntegerReadings
 pub mod RawTokens
 pub mod Groups
 pub mod Meaning
+pub mod Rows

@@ -18,7 +18,7 @@ use crate::proved::parser::names::{Names, RegisterError};
 use crate::proved::lexer::Token;
 use crate::proved::parser::fault::Fault;
 use crate::proved::parser::source_ref::SourceRef;
-use crate::proved::parser::text_ref::TextRef;
+use crate::proved::parser::text_ref::{Row, TextRef};
 use crate::token::Span;
 use alloc::boxed::Box;
 use core::cell::{Cell, RefCell};
@@ -28,6 +28,7 @@ use wat_lex::TokenKind;
 use wat_lex::shim::alloc::{AllocError, Global, granted};
 use wat_lex::shim::borrow::{CowSlice, CowStr};
 use wat_lex::shim::string::ToStringIn;
+use wat_lex::shim::vec::Vec;
 
 /// How many groups may be open where [`Parser::depth_check`] is called.
 pub const MAX_PARENS_DEPTH: usize = proved::parser::MAX_PARENS_DEPTH;
@@ -151,8 +152,7 @@ pub trait Peek {
     fn display() -> &'static str;
 }
 
-/// A text, for one parser over it, which cuts it into tokens as it goes. No token is kept but the one that is shown, so that a buffer takes
-/// neither time nor memory to make.
+/// A text, for one parser over it, which cuts it into tokens as it goes, some at a time. It takes no memory to make.
 pub struct ParseBuffer<'a> {
     lexer: proved::lexer::Lexer<'a>,
     text: TextRef<'a>,
@@ -160,49 +160,88 @@ pub struct ParseBuffer<'a> {
     position: Cell<Position>,
     depth: Cell<usize>,
     names: RefCell<Names>,
+    rows: [Cell<Row>; ROWS],
+    /// Tokens that stay shown, with the places after them.
+    kept: RefCell<Vec<(Token, usize)>>,
     keep_shown: bool,
     strings: Strings,
 }
 
-/// How far a parser or a cursor has come.
-// The places are numbers of 32 bits, as a text has fewer than 2^32 bytes: a position is copied at each move.
+/// How many rows a buffer has. A position after `i` moves has row `i % ROWS`, so that those just before stay for parsers that go back.
+const ROWS: usize = 64;
+
+/// How many rows are filled at a time.
+const FILLED: usize = 32;
+
+/// A row of no position: none after so many moves is at its byte, as each move passes a byte at least.
+const fn no_row(moves: usize) -> Row {
+    Row {
+        token: Token {
+            offset: 0,
+            len: 0,
+            kind: TokenKind::Whitespace,
+        },
+        from: (moves == 0) as u32,
+        after: 0,
+    }
+}
+
+/// The rows at first.
+const NO_ROWS: [Cell<Row>; ROWS] = {
+    let mut rows = [const { Cell::new(no_row(1)) }; ROWS];
+    rows[0] = Cell::new(no_row(0));
+    rows
+};
+
+/// How far a parser or a cursor has come: two pairs of numbers of 32 bits, as a text has fewer than 2^32 bytes.
+// Two words: of halves that were written apart a processor can't read a whole at once.
 #[derive(Clone, Copy)]
 struct Position {
-    /// The token that is shown, where that is known.
-    next: Option<Token>,
-    /// How many raw tokens are before it, white space and comments among them.
-    place: u32,
-    /// Where the last of them ends.
-    byte: u32,
-    /// The place after the token that is shown.
-    after: u32,
+    /// In the low half where the last token before it ends, in the high half how many moves were made to come here.
+    row: u64,
+    /// In the low half how many raw tokens are before it, white space and comments among them, in the high half the number of the token that
+    /// stays shown, or `UNKNOWN`.
+    place: u64,
 }
+
+/// No number of a token that stays shown.
+const UNKNOWN: u64 = u32::MAX as u64;
 
 impl Position {
     #[inline(always)]
-    fn new(place: usize, byte: usize, shown: Option<(Token, usize)>) -> Position {
+    fn new(place: usize, byte: usize, moves: usize) -> Position {
         Position {
-            next: shown.map(|(token, _)| token),
-            place: place as u32,
-            byte: byte as u32,
-            after: shown.map_or(0, |(_, after)| after as u32),
+            row: byte as u64 | (moves as u64) << 32,
+            place: place as u64 | UNKNOWN << 32,
         }
     }
 
     #[inline(always)]
-    fn place(self) -> usize {
-        self.place as usize
-    }
-
-    #[inline(always)]
     fn byte(self) -> usize {
-        self.byte as usize
+        self.row as u32 as usize
     }
 
-    /// The token that is shown, with the place after it, where that is known.
     #[inline(always)]
-    fn shown(self) -> Option<(Token, usize)> {
-        self.next.map(|token| (token, self.after as usize))
+    fn moves(self) -> usize {
+        (self.row >> 32) as usize
+    }
+
+    #[inline(always)]
+    fn place(self) -> usize {
+        self.place as u32 as usize
+    }
+
+    #[inline(always)]
+    fn kept(self) -> usize {
+        (self.place >> 32) as usize
+    }
+
+    /// The position where the token of this number stays shown.
+    fn keeping(self, kept: usize) -> Position {
+        Position {
+            place: self.place as u32 as u64 | (kept as u64) << 32,
+            ..self
+        }
     }
 }
 
@@ -223,11 +262,12 @@ impl<'a> ParseBuffer<'a> {
     /// As [`new`](ParseBuffer::new).
     pub fn new_with_lexer(lexer: Lexer<'a>) -> Result<ParseBuffer<'a>> {
         let lexer = lexer.proved()?.clone();
-        let text = TextRef::new(lexer.input(), lexer.settings(), false, Global);
         Ok(ParseBuffer {
-            position: Cell::new(Position::new(0, 0, text.plain_at(0, 0))),
-            text,
+            text: TextRef::new(lexer.input(), lexer.settings(), false, Global),
             lexer,
+            position: Cell::new(Position::new(0, 0, 0)),
+            rows: NO_ROWS,
+            kept: RefCell::new(Vec::new(Global)),
             depth: Cell::new(0),
             names: RefCell::new(Names::new(Global)),
             keep_shown: false,
@@ -250,21 +290,55 @@ impl<'a> ParseBuffer<'a> {
         self
     }
 
-    /// The position at a place, with the token that is shown there whatever names are registered, where there is one.
+    /// The token that is shown at a position, with the place after it, where that is known, whatever names are registered.
+    // A row is of its byte alone: whenever it was written, the token is shown there.
     #[inline(always)]
-    fn position_at(&self, place: usize, byte: usize) -> Position {
-        let plain = self.text.plain_at(place, byte);
-        Position::new(place, byte, plain.or_else(|| self.kept_at(place, byte)))
+    fn row_at(&self, position: Position) -> Option<(Token, usize)> {
+        let row = self.rows[position.moves() % ROWS].get();
+        (row.from as usize == position.byte()).then_some((row.token, row.after as usize))
     }
 
-    /// The token that is shown at a place by the names that are registered, where that is to stay so.
+    /// Fills rows from a position on, and answers its own.
+    #[inline(never)]
+    fn filled_at(&self, position: Position) -> Option<(Token, usize)> {
+        let mut rows = [no_row(0); FILLED];
+        let first = position.moves() % ROWS;
+        let room = FILLED.min(ROWS - first);
+        let filled = self
+            .text
+            .fill(position.place(), position.byte(), &mut rows[..room]);
+        for (cell, row) in self.rows[first..].iter().zip(&rows[..filled]) {
+            cell.set(*row);
+        }
+        rows[..filled]
+            .first()
+            .map(|row| (row.token, row.after as usize))
+    }
+
+    /// The position at a place after so many moves.
+    #[inline(always)]
+    fn position_at(&self, place: usize, byte: usize, moves: usize) -> Position {
+        let position = Position::new(place, byte, moves);
+        if self.keep_shown {
+            return self.keeping(position);
+        }
+        position
+    }
+
+    /// The position with the token that is shown there by the names that are registered, which is to stay so.
     #[cold]
     #[inline(never)]
-    fn kept_at(&self, place: usize, byte: usize) -> Option<(Token, usize)> {
-        if !self.keep_shown {
-            return None;
+    fn keeping(&self, position: Position) -> Position {
+        if self.row_at(position).is_some() || self.filled_at(position).is_some() {
+            return position;
         }
-        self.text.look(place, byte, &self.names.borrow()).ok()?
+        let (place, byte) = (position.place(), position.byte());
+        let Ok(Some(shown)) = self.text.look(place, byte, &self.names.borrow()) else {
+            return position;
+        };
+        let mut kept = self.kept.borrow_mut();
+        granted(kept.push(shown).map_err(AllocError::from));
+        position.keeping(kept.len() - 1)
     }
 
     fn text_ref(&self, track: bool) -> TextRef<'a> {

@@ -1,5 +1,5 @@
 //! A text without a table, as parsers read it.
-ghost use Rattle.std.specs.Prelude.{◌≡◌, ◌<◌, ◌≤◌, ◌^◌, ◌+◌, length, drop, None, Some, slice_get};
+ghost use Rattle.std.specs.Prelude.{◌≡◌, ◌<◌, ◌≤◌, ◌^◌, ◌+◌, ℕ, length, drop, slice_index_or, None, Some, slice_get};
 ghost use Rattle.std.specs.Prelude.{IfOk, IfErr, IfSome, IfNone, IsTrue, Option};
 ghost use Rattle.std.specs.Str.{IsUtf8};
 ghost use Rattle.wat_lex.specs.tokens.ReadableTokens.{IsTokenOf};
@@ -8,6 +8,8 @@ ghost use Rattle.wat_lexer_parser.specs.declared.parser.fault.FaultKind.TheVaria
 ghost use Rattle.wat_lexer_parser.specs.declared.parser.fault.Step.TheVariants.{Take};
 ghost use Rattle.wat_lexer_parser.specs.inside.Groups.{GroupEnds};
 ghost use Rattle.wat_lexer_parser.specs.inside.Next.{IsAfter, IsNext, IsPlace};
+ghost use Rattle.wat_lexer_parser.specs.inside.Rows.{IsRow};
+ghost use Rattle.wat_lexer_parser.specs.declared.parser.text_ref.Row.{Row as FilledRow};
 ghost use Rattle.wat_lexer_parser.specs.inside.ShownIn.{step_next, step_of};
 ghost use Rattle.wat_lexer_parser.specs.names.RegisteredNames.{Names as NamesOf};
 ghost use Rattle.wat_lexer_parser.specs.places.Places.{comment_at, is_meaningful, past_space};
@@ -20,6 +22,17 @@ use crate::parser::steps::{is_comment, is_space, lexical, step_annotation};
 use std::alloc::Global;
 use std::marker::Model;
 use wat_lex::lexer::{LexFault, Lexer, Settings, Token, TokenKind};
+
+/// A token that is shown whatever names are registered.
+#[derive(Clone, Copy)]
+pub struct Row {
+    /// The token.
+    pub token: Token,
+    /// The byte of the places where it is shown: where the token before it ends.
+    pub from: u32,
+    /// The place after it.
+    pub after: u32,
+}
 
 /// A text, lent to a parser that lexes it as it goes.
 #[derive(Drop)]
@@ -66,6 +79,7 @@ impl<'a> TextRef<'a> {
     pub fn lemma_read(&self)
         ensures read { IsRead self.now }
         ensures utf8 { IsUtf8 self.now.setting.text }
+        ensures short { length self.now.setting.text < 2 ^ 32 }
         ensures small { length self.now.tokens < 2 ^ 32 }
     {
         let _text = self.lexer.input();
@@ -231,9 +245,8 @@ impl<'a> TextRef<'a> {
 
     /// The token that is shown at a place, with the place after it, where it is the same whatever
     /// names are registered.
-    // It is one call for each move, and what it answers is small.
-    #[inline(never)]
-    pub fn plain_at(&self, place: usize, byte: usize) -> Option<(Token, usize)>
+    #[inline(always)]
+    fn plain_from(&self, place: usize, byte: usize) -> Option<(Token, usize)>
         requires { IsPlace self.now place byte }
         ensures { IfSome result (λ v. (names : NamesOf) → IsNext self.now place names v) }
     {
@@ -253,6 +266,48 @@ impl<'a> TextRef<'a> {
             i += 1;
             pos = token.offset + token.len as usize;
         }
+    }
+
+    /// The same, as one call for each move.
+    #[inline(never)]
+    fn plain_at(&self, place: usize, byte: usize) -> Option<(Token, usize)>
+        requires { IsPlace self.now place byte }
+        ensures { IfSome result (λ v. (names : NamesOf) → IsNext self.now place names v) }
+    {
+        self.plain_from(place, byte)
+    }
+
+    /// Writes a row for each of the tokens that are shown from a place on, whatever names are
+    /// registered, and answers how many: as many as there are rows, or those before what depends on
+    /// names, a fault, or the end.
+    #[inline(never)]
+    pub fn fill(&self, place: usize, byte: usize, rows: &mut [Row]) -> usize
+        requires { IsPlace self.now place byte }
+        ensures within { result ≤ length rows.new }
+        ensures long { length rows.new ≡ length rows.old }
+        ensures rows { (k : ℕ) (none : FilledRow) → k < result →
+            IsRow self.now (slice_index_or rows.new k none) }
+        ensures first { (none : FilledRow) → 0 < result →
+            (slice_index_or rows.new 0 none).from ≡ byte }
+    {
+        let mut i = place;
+        let mut pos = byte;
+        self.lemma_read();
+        let mut filled = 0usize;
+        while filled < rows.len() {
+            let Some((token, after)) = self.plain_from(i, pos) else {
+                return filled;
+            };
+            rows[filled] = Row {
+                token,
+                from: pos as u32,
+                after: after as u32,
+            };
+            i = after;
+            pos = token.offset + token.len as usize;
+            filled += 1;
+        }
+        filled
     }
 
     /// The token that is shown at a place, with the place after it, where one is.

@@ -1,4 +1,4 @@
-use super::{ParseBuffer, Parser, Position, Result, unless_refused};
+use super::{Parser, Position, Result, unless_refused};
 use crate::Error;
 use crate::lexer::{Float, Integer};
 use crate::proved::lexer::Token;
@@ -43,7 +43,7 @@ impl<'a> Cursor<'a> {
     /// The token that is shown, with the place after it.
     #[inline(always)]
     pub(super) fn shown(&self) -> Result<Option<(Token, usize)>> {
-        match self.position.shown() {
+        match self.parser.buffer.row_at(self.position) {
             Some(shown) => Ok(Some(shown)),
             None => self.look(),
         }
@@ -53,10 +53,16 @@ impl<'a> Cursor<'a> {
     #[cold]
     #[inline(never)]
     fn look(&self) -> Result<Option<(Token, usize)>> {
-        let ParseBuffer { text, names, .. } = self.parser.buffer;
-        let Position { place, byte, .. } = self.position;
-        text.look(place as usize, byte as usize, &names.borrow())
-            .map_err(|fault| self.parser.buffer.error_of(fault))
+        let (buffer, position) = (self.parser.buffer, self.position);
+        if let Some(kept) = buffer.kept.borrow().get(position.kept()) {
+            return Ok(Some(*kept));
+        }
+        if let Some(shown) = buffer.filled_at(position) {
+            return Ok(Some(shown));
+        }
+        let (place, byte) = (position.place(), position.byte());
+        let shown = buffer.text.look(place, byte, &buffer.names.borrow());
+        shown.map_err(|fault| buffer.error_of(fault))
     }
 
     /// Whether a token of such a kind is shown.
@@ -80,7 +86,10 @@ impl<'a> Cursor<'a> {
     fn moved(self, token: Token, place: usize) -> Self {
         let byte = token.offset + token.len as usize;
         Cursor {
-            position: self.parser.buffer.position_at(place, byte),
+            position: self
+                .parser
+                .buffer
+                .position_at(place, byte, self.position.moves() + 1),
             ..self
         }
     }
@@ -372,7 +381,8 @@ impl<'a> Cursor<'a> {
         {
             Ok(Some((token, place))) => {
                 // What is shown after a comment is not kept.
-                let position = Position::new(place, token.offset + token.len as usize, None);
+                let end = token.offset + token.len as usize;
+                let position = Position::new(place, end, self.position.moves() + 1);
                 Ok(Some((token.src(self.text()), Cursor { position, ..self })))
             }
             Ok(None) => Ok(None),

@@ -9,6 +9,17 @@ use wat_lex::shim::alloc::Global;
 
 use wat_lex::proved::lexer::{LexFault, Lexer, Settings, Token, TokenKind};
 
+/// A token that is shown whatever names are registered.
+#[derive(Clone, Copy)]
+pub struct Row {
+    /// The token.
+    pub token: Token,
+    /// The byte of the places where it is shown: where the token before it ends.
+    pub from: u32,
+    /// The place after it.
+    pub after: u32,
+}
+
 /// A text, lent to a parser that lexes it as it goes.
 pub struct TextRef<'a> {
     lexer: Lexer<'a>,
@@ -42,6 +53,7 @@ impl<'a> TextRef<'a> {
     /// ```text
     /// ensures read { IsRead self.now }
     /// ensures utf8 { IsUtf8 self.now.setting.text }
+    /// ensures short { length self.now.setting.text < 2 ^ 32 }
     /// ensures small { length self.now.tokens < 2 ^ 32 }
     /// ```
     pub fn lemma_read(&self) {
@@ -237,15 +249,15 @@ impl<'a> TextRef<'a> {
 
     /// The token that is shown at a place, with the place after it, where it is the same whatever
     /// names are registered.
-    // It is one call for each move, and what it answers is small.
+    ///
     /// # Proved
     ///
     /// ```text
     /// requires { IsPlace self.now place byte }
     /// ensures { IfSome result (λ v. (names : NamesOf) → IsNext self.now place names v) }
     /// ```
-    #[inline(never)]
-    pub fn plain_at(&self, place: usize, byte: usize) -> Option<(Token, usize)> {
+    #[inline(always)]
+    fn plain_from(&self, place: usize, byte: usize) -> Option<(Token, usize)> {
         let mut i = place;
         let mut pos = byte;
         self.lemma_read();
@@ -262,6 +274,56 @@ impl<'a> TextRef<'a> {
             i += 1;
             pos = token.offset + token.len as usize;
         }
+    }
+
+    /// The same, as one call for each move.
+    ///
+    /// # Proved
+    ///
+    /// ```text
+    /// requires { IsPlace self.now place byte }
+    /// ensures { IfSome result (λ v. (names : NamesOf) → IsNext self.now place names v) }
+    /// ```
+    #[inline(never)]
+    fn plain_at(&self, place: usize, byte: usize) -> Option<(Token, usize)> {
+        self.plain_from(place, byte)
+    }
+
+    /// Writes a row for each of the tokens that are shown from a place on, whatever names are
+    /// registered, and answers how many: as many as there are rows, or those before what depends on
+    /// names, a fault, or the end.
+    ///
+    /// # Proved
+    ///
+    /// ```text
+    /// requires { IsPlace self.now place byte }
+    /// ensures within { result ≤ length rows.new }
+    /// ensures long { length rows.new ≡ length rows.old }
+    /// ensures rows { (k : ℕ) (none : FilledRow) → k < result →
+    ///     IsRow self.now (slice_index_or rows.new k none) }
+    /// ensures first { (none : FilledRow) → 0 < result →
+    ///     (slice_index_or rows.new 0 none).from ≡ byte }
+    /// ```
+    #[inline(never)]
+    pub fn fill(&self, place: usize, byte: usize, rows: &mut [Row]) -> usize {
+        let mut i = place;
+        let mut pos = byte;
+        self.lemma_read();
+        let mut filled = 0usize;
+        while filled < rows.len() {
+            let Some((token, after)) = self.plain_from(i, pos) else {
+                return filled;
+            };
+            rows[filled] = Row {
+                token,
+                from: pos as u32,
+                after: after as u32,
+            };
+            i = after;
+            pos = token.offset + token.len as usize;
+            filled += 1;
+        }
+        filled
     }
 
     /// The token that is shown at a place, with the place after it, where one is.

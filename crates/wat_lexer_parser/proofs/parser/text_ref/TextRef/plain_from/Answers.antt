@@ -4,7 +4,7 @@ use Rattle.wat_lex.specs.tokens.Blanks.{is_blank}
 use Rattle.wat_lex.specs.tokens.ReadableTokens.{IsTokenOf}
 use Rattle.wat_lexer_parser.proofs.places.Bytes.{next_place}
 use Rattle.wat_lexer_parser.proofs.shown.Looks.{blank_passes, shown_passed, shown_taken}
-use Rattle.wat_lexer_parser.proofs.parser.text_ref.TextRef.plain_at.Goals as goal
+use Rattle.wat_lexer_parser.proofs.parser.text_ref.TextRef.plain_from.Goals as goal
 
 pub returns-then-is_plain : goal.returns-then-is_plain
 returns-then-is_plain c names =

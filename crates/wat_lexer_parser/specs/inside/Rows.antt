@@ -1,0 +1,12 @@
+-- Rows of tokens that are shown whatever names are registered. No part of the standard.
+use Rattle.wat_lexer_parser.specs.declared.parser.text_ref.Row.{Row}
+use Rattle.wat_lexer_parser.specs.inside.Next.{IsNext, IsPlace}
+use Rattle.wat_lexer_parser.specs.names.RegisteredNames.{Names}
+use Rattle.wat_lexer_parser.specs.places.Source.{Source}
+use Rattle.std.specs.Prelude.{ℕ}
+
+-- the token is shown at the place of this byte, under all names, with the place after it
+pub record IsRow (s : Source) (row : Row) : Type 0 where
+  pub place : ℕ
+  pub is_at : IsPlace s place row.from
+  pub shown : (names : Names) → IsNext s place names (row.token, row.after)
