@@ -129,11 +129,11 @@ def lists(room):
     room.check("list, by its name", ["list"], text, times=1.5, writes=170, wanted=listed)
     if sum(int(it.split()[0].split(b"..")[1]) - int(it.split(b"..")[0]) for it in listed.splitlines()) != len(text):
         room.faults.append("list: its tokens are not the text")
-    room.check("sig", ["sig"], text, times=24, writes=1, wanted=tokens_that_count(listed))
+    room.check("sig", ["sig"], text, times=1.5, writes=80, wanted=tokens_that_count(listed))
     objects = room.check("list as JSON", ["--json", "list"], text, times=1.5, writes=600)
     if len(objects.splitlines()) != len(listed.splitlines()):
         room.faults.append("list as JSON: it has not a line for each token")
-    room.check("sig as JSON", ["--json", "sig"], text, times=50, writes=1)
+    room.check("sig as JSON", ["--json", "sig"], text, times=1.5, writes=300)
     room.check("blank", ["blank"], text, times=1.5, writes=24, wanted=blanked(text))
     room.check("list as JSON, 3 MB", ["--json", "list"], 3 * text, times=2, writes=1900)
 
@@ -141,11 +141,11 @@ def lists(room):
 def groups(room):
     """A name that is registered, and one that is not, in front of each token."""
     text = 100_000 * b"(@a (b)) (@z ()) x\n"
-    shown = room.check("sig, many annotations", ["sig", "a"], text, times=60, writes=1)
+    shown = room.check("sig, many annotations", ["sig", "a"], text, times=1.7, writes=380)
     if shown.count(b" Annotation\n") != 100_000 or shown.count(b" LParen\n") != 200_000 or shown.count(b" Keyword\n") != 200_000:
         room.faults.append("sig, many annotations: others are shown")
     deep = 100_000 * b"(" + 100_000 * b")"
-    room.check("sig, deep groups", ["sig"], deep, times=80, writes=1, wanted=tokens_that_count(room.run([], deep)[1]))
+    room.check("sig, deep groups", ["sig"], deep, times=2, writes=100, wanted=tokens_that_count(room.run([], deep)[1]))
 
 
 def plays(room):
@@ -155,13 +155,13 @@ def plays(room):
         b"0..1 Keyword\ncomment 2..6\ndone\n18..20 Keyword\ndone\n11..12 LParen\ndone\ndone\n18..20 Keyword\n28..30 Keyword\nabsent\n"
         b"not open 38\n38..40 Keyword\n38..40 Keyword\nabsent\n"
     )
-    room.check("play, fifteen calls", ["play", *calls], text, times=33, writes=1, wanted=wanted)
-    room.check("play, two thousand calls", ["play", *(2_000 * ["look"])], text, times=34, writes=1, wanted=2_000 * b"0..1 Keyword\n")
+    room.check("play, fifteen calls", ["play", *calls], text, times=1.5, writes=1, wanted=wanted)
+    room.check("play, two thousand calls", ["play", *(2_000 * ["look"])], text, times=2, writes=1, wanted=2_000 * b"0..1 Keyword\n")
 
 
 def types(room):
     text, wanted = module(24_000)
-    room.check("types", ["types"], text, times=33, writes=1, wanted=wanted)
+    room.check("types", ["types"], text, times=13, writes=1, wanted=wanted)
 
 
 def layouts(room):

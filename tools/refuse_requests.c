@@ -51,7 +51,7 @@ static int is_refused(void)
 static struct { void *start; size bytes; } blocks[MOST_BLOCKS];
 static size used;
 
-/* The place where a block is kept, or a free one. */
+/* The place where a block is kept, or one that never had a block. */
 static size place_of(void *start)
 {
     size at = (size)start / 16 * 2654435761ul % MOST_BLOCKS;
@@ -61,11 +61,21 @@ static size place_of(void *start)
     return at;
 }
 
+/* A free place for a block, that of one that was given back among them: many blocks have the same address one after another. */
+static size free_place_of(void *start)
+{
+    size at = (size)start / 16 * 2654435761ul % MOST_BLOCKS;
+    while (blocks[at].start && blocks[at].start != GIVEN_BACK) {
+        at = (at + 1) % MOST_BLOCKS;
+    }
+    return at;
+}
+
 static void *kept(void *start, size bytes)
 {
     if (start) {
-        size at = place_of(start);
-        used += 1;
+        size at = free_place_of(start);
+        used += blocks[at].start == 0;
         if (used == MOST_BLOCKS) {
             __builtin_trap();
         }

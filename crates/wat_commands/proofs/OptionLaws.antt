@@ -1,6 +1,6 @@
 -- What words ask for, and that no others do.
-use Rattle.std.proofs.Common.{◌≡◌, ◌⊎◌, inl, inr, ◌+◌, ◌<◌, ◌≤◌, ◌||◌, ℕ, Bool, true, false, refl, sym, ap, ◌∙◌, subst, List, [], ◌∷◌, ◌++◌, length, rules, arith}
-use Rattle.std.specs.Prelude.{Option, Some, None, Result, Ok, Err, IfOk, MatchOption, codes, if◌then◌else◌}
+use Rattle.std.proofs.Common.{inl, inr, List}
+use Rattle.std.specs.Prelude.{Option, Some, None, Result, Ok, Err, IfOk, MatchOption}
 use Rattle.wat_lex.specs.declared.lexer.settings.Settings.{Settings}
 use Rattle.wat_commands.specs.declared.options.Command.{Command}
 use Rattle.wat_commands.specs.declared.options.Command.TheVariants as command

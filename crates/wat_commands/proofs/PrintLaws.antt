@@ -1,6 +1,7 @@
 -- What is printed of a text that is read twice: first for its fault, and then for what is written.
 use Rattle.std.proofs.Common.{◌≡◌, ◌<◌, ◌^◌, ℕ, List, [], ◌++◌, length, refl, sym, ap, ◌∙◌, subst, inl}
-use Rattle.std.specs.Prelude.{Option, Some, None, Result, Ok, Err, IfOk, OnOk, OnErr, flat_map}
+use Rattle.std.specs.Prelude.{Option, Some, None, Result, Ok, Err, IfOk, OnOk, OnErr, drop, flat_map, String}
+use Rattle.std.specs.declared.alloc.Global.{Global}
 use Rattle.std.proofs.lemmas.List.{append-nil}
 use Rattle.std.specs.Option.{option_map}
 use Rattle.std.specs.Io.KnownBytes.{Appends}
@@ -12,7 +13,12 @@ use Rattle.wat_lex.specs.tokens.Tiling.{MaximalTiling}
 use Rattle.wat_lex.specs.declared.lexer.faults.LexFault.{LexFault}
 use Rattle.wat_lex.specs.declared.lexer.kinds.Token.{Token}
 use Rattle.wat_lex.specs.declared.lexer.settings.Settings.{Settings}
+use Rattle.wat_lexer_parser.specs.laws.AllShown.{AllShown}
 use Rattle.wat_lexer_parser.specs.laws.BlankTexts.{blank_text, BlankTextsShowTheSame}
+use Rattle.wat_lexer_parser.specs.laws.ShownLaws.{AllShownIsOne}
+use Rattle.wat_lexer_parser.specs.names.RegisteredNames.{no_names}
+use Rattle.wat_lexer_parser.specs.parser.State.{report_of as shown_report}
+use Rattle.wat_lexer_parser.specs.places.Source.{Source, IsRead}
 use Rattle.wat_lines.specs.Blocks.{AppendsEach, AppendsEachCut, ReportsEnd}
 use Rattle.wat_lines.specs.JsonRows.{json_line, json_lines, json_open}
 use Rattle.wat_lines.specs.Lines.{line}
@@ -21,9 +27,10 @@ use Rattle.wat_lines.specs.declared.failed.Failed.{Failed}
 use Rattle.wat_lines.specs.lemmas.BlockLaws.{cut_after, cut_longer}
 use Rattle.wat_lines.specs.lemmas.KnownBytes.{appends_more, appends_none}
 use Rattle.wat_lists.specs.Blanks.{Blanks}
-use Rattle.wat_lists.specs.JsonLists.{JsonLists, json_report}
+use Rattle.wat_lists.specs.JsonLists.{JsonLists, JsonShows, json_report}
 use Rattle.wat_lists.specs.Lists.{Lists}
 use Rattle.wat_lists.specs.Refusals.{answered}
+use Rattle.wat_lists.specs.Shows.{with_names, ShownEnds, ShownText, Shows, AppendsShown, AppendsShownCut}
 use Rattle.wat_lists.specs.declared.input.RunFailure.{RunFailure}
 use Rattle.wat_commands.specs.JsonWrites.{AppendsRows, AppendsRowsCut}
 use Rattle.wat_commands.specs.Printed.{AppendsText, AppendsCut}
@@ -112,6 +119,92 @@ rows_cut begin last s old new h = record { tokens = h.tokens; ending = h.ending;
 
 pub last_cut : (begin last : List ℕ) (s : Setting) (old mid new : Option (List ℕ)) → AppendsEach (json_line begin s.text) s old mid → AppendsPrefix mid new last → AppendsRowsCut begin last s old new
 last_cut begin last s old mid new h k = record { tokens = h.tokens; ending = h.ending; tiling = h.tiling; appended = cut_after old mid new (json_lines begin s.text h.tokens) last (json_lines begin s.text h.tokens ++ last) h.appended k refl }
+
+-- what is shown was counted before it was written, and is the same
+shown_written : AllShownIsOne → (s : Source) (names : List (String Global)) (each : Token → List ℕ) (last : List ℕ) (count : ℕ) (error : Option (Option Report)) (old new : Option (List ℕ)) → IsRead s → ShownEnds s (with_names no_names names) 0 count error → AppendsShown each last s (with_names no_names names) 0 old new
+    → (rows : List ℕ) × ShownText each s.setting names rows error × Appends old new (rows ++ last)
+shown_written one s names each last count error old new r e h =
+    let same = one s.setting.text s.ending (with_names no_names names) (drop 0 s.tokens) h.tokens e.tokens h.fault e.fault h.shown e.shown in (
+      flat_map each h.tokens,
+      record {
+        source = s;
+        setting = refl;
+        read = r;
+        shown = record { tokens = h.tokens; fault = e.fault; shown = subst (AllShown s.setting.text s.ending (with_names no_names names) (drop 0 s.tokens) h.tokens) same.1 h.shown; lines = refl; reported = e.reported };
+      },
+      h.appended,
+    )
+
+shown_cut : (s : Source) (names : List (String Global)) (each : Token → List ℕ) (last : List ℕ) (old new : Option (List ℕ)) → IsRead s → AppendsShownCut each last s (with_names no_names names) 0 old new
+    → (rows : List ℕ) × (error : Option (Option Report)) × ShownText each s.setting names rows error × AppendsPrefix old new (rows ++ last)
+shown_cut s names each last old new r h = (
+  flat_map each h.tokens,
+  option_map (λ f. Some (shown_report s.setting.text f)) h.fault,
+  record {
+    source = s;
+    setting = refl;
+    read = r;
+    shown = record { tokens = h.tokens; fault = h.fault; shown = h.shown; lines = refl; reported = refl };
+  },
+  h.appended,
+)
+
+pub shows_written : AllShownIsOne → (settings : Settings) (s : Source) (names : List (String Global)) (text : List ℕ) (count : ℕ) (error : Option (Option Report)) (old new : Option (List ℕ)) → IsUtf8 text → length text < 2 ^ 32 → s.setting ≡ setting settings text → IsRead s → ShownEnds s (with_names no_names names) 0 count error
+    → AppendsShown line [] s (with_names no_names names) 0 old new → AppendsText (Shows settings names text) error old new
+shows_written one settings s names text count error old new u l i r e h =
+    let all = shown_written one s names line [] count error old new r e h in
+    record {
+      text = all.0;
+      printed = record { utf8 = u; short = l; shown = subst (λ x. ShownText line x names all.0 error) i all.1 };
+      appended = subst (Appends old new) (append-nil all.0) all.2;
+    }
+
+pub shows_cut : (settings : Settings) (s : Source) (names : List (String Global)) (text : List ℕ) (old new : Option (List ℕ)) → IsUtf8 text → length text < 2 ^ 32 → s.setting ≡ setting settings text → IsRead s → AppendsShownCut line [] s (with_names no_names names) 0 old new → AppendsCut (Shows settings names text) old new
+shows_cut settings s names text old new u l i r h =
+    let all = shown_cut s names line [] old new r h in
+    record {
+      text = all.0;
+      error = all.1;
+      printed = record { utf8 = u; short = l; shown = subst (λ x. ShownText line x names all.0 all.1) i all.2 };
+      appended = subst (AppendsPrefix old new) (append-nil all.0) all.3;
+    }
+
+pub json_shown_written : AllShownIsOne → (settings : Settings) (file : Option (List ℕ)) (s : Source) (names : List (String Global)) (text begin last : List ℕ) (count : ℕ) (error : Option (Option Report)) (old new : Option (List ℕ)) → IsUtf8 text → length text < 2 ^ 32 → s.setting ≡ setting settings text → IsRead s → begin ≡ json_open file → last ≡ json_report begin text error → ShownEnds s (with_names no_names names) 0 count error
+    → AppendsShown (json_line begin text) last s (with_names no_names names) 0 old new → AppendsText (JsonShows settings file names text) error old new
+json_shown_written one settings file s names text begin last count error old new u l i r b e ends h =
+    let all = shown_written one s names (json_line begin text) last count error old new r ends h in
+    record {
+      text = all.0 ++ last;
+      printed = record {
+        utf8 = u;
+        short = l;
+        shown = record { rows = all.0; shown = subst (λ x. ShownText (json_line x text) (setting settings text) names all.0 error) b (subst (λ x. ShownText (json_line begin text) x names all.0 error) i all.1); lines = ap (λ x. all.0 ++ x) e ∙ ap (λ x. all.0 ++ json_report x text error) b };
+      };
+      appended = all.2;
+    }
+
+-- The text that was cut ends in the fault that was counted before.
+pub json_shown_cut : AllShownIsOne → (settings : Settings) (file : Option (List ℕ)) (s : Source) (names : List (String Global)) (text begin last : List ℕ) (count : ℕ) (error : Option (Option Report)) (old new : Option (List ℕ)) → IsUtf8 text → length text < 2 ^ 32 → s.setting ≡ setting settings text → IsRead s → begin ≡ json_open file → last ≡ json_report begin text error → ShownEnds s (with_names no_names names) 0 count error
+    → AppendsShownCut (json_line begin text) last s (with_names no_names names) 0 old new → AppendsCut (JsonShows settings file names text) old new
+json_shown_cut one settings file s names text begin last count error old new u l i r b e ends h =
+    let same = one s.setting.text s.ending (with_names no_names names) (drop 0 s.tokens) h.tokens ends.tokens h.fault ends.fault h.shown ends.shown in
+    let rows = flat_map (json_line begin text) h.tokens in
+    let shown : ShownText (json_line begin text) s.setting names rows error = record {
+      source = s;
+      setting = refl;
+      read = r;
+      shown = record { tokens = h.tokens; fault = ends.fault; shown = subst (AllShown s.setting.text s.ending (with_names no_names names) (drop 0 s.tokens) h.tokens) same.1 h.shown; lines = refl; reported = ends.reported };
+    } in
+    record {
+      text = rows ++ last;
+      error = error;
+      printed = record {
+        utf8 = u;
+        short = l;
+        shown = record { rows = rows; shown = subst (λ x. ShownText (json_line x text) (setting settings text) names rows error) b (subst (λ x. ShownText (json_line begin text) x names rows error) i shown); lines = ap (λ x. rows ++ x) e ∙ ap (λ x. rows ++ json_report x text error) b };
+      };
+      appended = h.appended;
+    }
 
 no_ending : (text : List ℕ) (ending : Option LexFault) → None ≡ report_of text ending → ending ≡ None
 no_ending text None e = refl

@@ -1,12 +1,11 @@
 -- A run's answer without the cause of its refusal.
-use Rattle.std.proofs.Common.{◌≡◌, ◌⊎◌, ◌↔◌, inl, inr, ℕ, Bool, true, List, refl, sym, ap, subst, ◌∙◌}
+use Rattle.std.proofs.Common.{◌≡◌, ◌⊎◌, ◌↔◌, inl, inr, ℕ, Bool, true, List, refl, ap, subst}
 use Rattle.std.specs.Prelude.{Option, Some, None, Result, Ok, Err, IfOk, IfErr, IfSome, IsSome, IsErrOf, OnOk}
 use Rattle.std.specs.Str.{IsValidUpTo}
 use Rattle.wat_lex.specs.errors.Errors.{Report}
 use Rattle.wat_lex.specs.declared.lexer.settings.Settings.{Settings}
 use Rattle.wat_lexer_parser.specs.declared.parser.calls.Call.{Call}
 use Rattle.wat_lines.specs.declared.failed.Failed.{Failed}
-use Rattle.wat_lists.specs.Inputs.{ReadsPast}
 use Rattle.wat_lists.specs.Refusals.{IsFailedWrite, error_of, read_failure, write_failure}
 use Rattle.wat_lists.specs.Replies.{Plays}
 use Rattle.wat_lists.specs.declared.input.RunError.{RunError}

@@ -1,7 +1,7 @@
 -- What is said of words that ask for nothing. No part of the standard.
-use Rattle.std.specs.Prelude.{ℕ, Bool, true, false, ◌||◌, ◌&&◌, not, ◌==◌, List, [], ◌∷◌, ◌++◌, codes, length, Option, Some, None}
+use Rattle.std.specs.Prelude.{ℕ, Bool, false, ◌||◌, ◌&&◌, not, ◌==◌, List, [], ◌∷◌, ◌++◌, codes, length, Option, Some, None}
 use Rattle.wat_lists.specs.Places.{visible}
-use Rattle.wat_commands.specs.Options.{Word, Front, spells, front_of, wants_json, verb_named, owns_words, looks_like_file, is_file}
+use Rattle.wat_commands.specs.Options.{Word, spells, front_of, wants_json, verb_named, owns_words, looks_like_file, is_file}
 use Rattle.wat_commands.specs.declared.complaint.Complaint.{Complaint}
 use Rattle.wat_commands.specs.declared.complaint.Complaint.TheVariants.{Usage, Twice, Nameless, Late, Unknown, Nothing, NoJson, NoFlags, NoCall, Mixed, TooMany}
 use Rattle.wat_commands.specs.declared.options.Verb.{Verb}

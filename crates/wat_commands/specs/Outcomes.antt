@@ -1,5 +1,5 @@
 -- What a run of the program ends in: its exit status, and its report on standard error. No part of the standard.
-use Rattle.std.specs.Prelude.{◌≡◌, ◌⊎◌, ◌==◌, ◌&&◌, ◌||◌, ℕ, Bool, true, false, List, [], ◌++◌, codes, Option, Some, None, IfSome, Result, Ok, Err, alloc_error, if◌then◌else◌}
+use Rattle.std.specs.Prelude.{◌≡◌, ◌⊎◌, ◌==◌, ◌&&◌, ℕ, Bool, true, false, List, [], ◌++◌, codes, Option, Some, None, IfSome, Result, Ok, Err, alloc_error, if◌then◌else◌}
 use Rattle.std.specs.Io.KnownBytes.{Appends, Keeps}
 use Rattle.wat_lex.specs.errors.Errors.{Report, lex_error_of, offset_of}
 use Rattle.wat_lex.specs.declared.lexer.faults.LexError.{LexError}

@@ -1,6 +1,6 @@
 -- What the program answers to the words of its command line: what it opens and lays out, what it writes, and its exit status. No part of the
 -- standard.
-use Rattle.std.specs.Prelude.{◌≡◌, ◌≢◌, ◌⊎◌, ◌<◌, ℕ, Bool, true, false, List, [], ◌∷◌, ◌++◌, length, take, max, nat_lt, codes, string_bytes, Option, Some, None, IsSome, IfSome, MatchOption, Result, Ok, Err, if◌then◌else◌}
+use Rattle.std.specs.Prelude.{◌≡◌, ◌≢◌, ◌⊎◌, ℕ, Bool, true, false, List, [], ◌∷◌, ◌++◌, length, take, max, nat_lt, codes, string_bytes, Option, Some, None, IsSome, IfSome, MatchOption, Result, Ok, Err, if◌then◌else◌}
 use Rattle.std.specs.Io.KnownBytes.{Appends}
 use Rattle.std.specs.Str.{bytes_eq}
 use Rattle.wat_lex.specs.declared.lexer.settings.Settings.{Settings}

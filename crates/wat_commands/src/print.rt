@@ -6,9 +6,10 @@ ghost use Rattle.std.specs.Str.{IsValidUpTo};
 ghost use Rattle.wat_lines.specs.Blocks.{ReportsEnd};
 ghost use Rattle.wat_lists.specs.Blanks.{Blanks};
 ghost use Rattle.wat_lines.specs.Streams.{failure_after};
-ghost use Rattle.wat_lists.specs.JsonLists.{JsonLists, json_report};
+ghost use Rattle.wat_lists.specs.JsonLists.{JsonLists, JsonShows, json_report};
 ghost use Rattle.wat_lists.specs.Lists.{Lists};
 ghost use Rattle.wat_lists.specs.Refusals.{IsNotUtf8, IsFailedWrite, answered};
+ghost use Rattle.wat_lists.specs.Shows.{Shows};
 ghost use Rattle.wat_commands.specs.Compiles.{Compiles};
 ghost use Rattle.wat_commands.specs.Printed.{task_prints};
 ghost use Rattle.wat_commands.specs.JsonWrites.{AppendsRows, AppendsRowsCut};
@@ -24,10 +25,10 @@ use wat_lines::ends::{Failed, Sink};
 use wat_lines::row::object_open;
 use wat_lists::blank::write_blanked;
 use wat_lists::input::text_of;
-use wat_lists::json::{push_report, show_json, write_json};
-use wat_lists::list::{error_of, write_lines};
+use wat_lists::json::{push_report, write_json, write_json_shown};
+use wat_lists::list::{buffer_of, error_of, write_lines};
 use wat_lists::play::play;
-use wat_lists::show::{Showing, show};
+use wat_lists::show::{Ending, ending_of, parser_of, write_shown};
 use wat_types::compile_types;
 
 /// The error of what was written, or that the write failed.
@@ -152,6 +153,52 @@ fn print_blank<W: Sink>(
     answer(write_blanked(&lexer, output), None)
 }
 
+/// Writes the lines of the tokens that count, and answers the error of the fault after them. All
+/// memory is asked for before the first line is written: the text is read twice.
+fn print_shown<W: Sink>(
+    alloc: Global,
+    text: &str,
+    settings: Settings,
+    names: &[String],
+    output: &mut W,
+) -> Result<Option<Error>, RunFailure>
+    requires text { length text.now < 2 ^ 32 }
+    requires output { W.failure output.old ≡ None }
+    ensures printed { Writes W.held W.failure (Shows settings names.now text.now) output.old output.new result }
+    ensures refused { IfErr result (λ e. IsFailedWrite e ⊎ (e ≡ RunFailure.Memory alloc_error)) }
+{
+    laws::all_shown();
+    let buffer = buffer_of(alloc, text, settings);
+    let mut parser = parser_of(&buffer, names)?;
+    let Ending { count, error } = ending_of(&mut parser)?;
+    answer(write_shown(&mut parser, count, output), error)
+}
+
+/// The same as lines of JSON, with that of the fault.
+fn print_json_shown<W: Sink>(
+    alloc: Global,
+    text: &str,
+    settings: Settings,
+    file: Option<&str>,
+    names: &[String],
+    output: &mut W,
+) -> Result<Option<Error>, RunFailure>
+    requires text { length text.now < 2 ^ 32 }
+    requires output { W.failure output.old ≡ None }
+    ensures printed { Writes W.held W.failure (JsonShows settings
+        (option_map (λ f. f.now) file.entry) names.now text.now) output.old output.new result }
+    ensures refused { IfErr result (λ e. IsFailedWrite e ⊎ (e ≡ RunFailure.Memory alloc_error)) }
+{
+    laws::all_shown();
+    let buffer = buffer_of(alloc, text, settings);
+    let mut parser = parser_of(&buffer, names)?;
+    let begin = object_open(alloc, file)?;
+    let Ending { count, error } = ending_of(&mut parser)?;
+    let last = json_end(alloc, text, &begin, &error)?;
+    let written = write_json_shown(&mut parser, count, text, &begin, &last, output);
+    answer(written, error)
+}
+
 /// Writes a text that was gathered, and answers its error.
 fn print_text<W: Sink>(
     text: &[u8],
@@ -205,15 +252,9 @@ fn print_of<W: Sink>(
 {
     match task {
         Task::List => print_raw(alloc, text, settings, output),
-        Task::Sig(names) => {
-            let Showing { lines, error } = show(alloc, text, settings, names)?;
-            print_text(&lines, error, output)
-        }
+        Task::Sig(names) => print_shown(alloc, text, settings, names, output),
         Task::JsonList => print_json(alloc, text, settings, file, output),
-        Task::JsonSig(names) => {
-            let Showing { lines: rows, error } = show_json(alloc, text, settings, file, names)?;
-            print_text(&rows, error, output)
-        }
+        Task::JsonSig(names) => print_json_shown(alloc, text, settings, file, names, output),
         Task::Play(calls) => {
             let replies = play(alloc, text, settings, calls.as_slice())?;
             print_text(&replies, None, output)

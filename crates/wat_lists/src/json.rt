@@ -1,19 +1,21 @@
 //! The lists as JSON: a line for each raw token, or for each token that counts.
-ghost use Rattle.std.specs.Prelude.{◌≡◌, ◌<◌, ◌^◌, length, IfOk, OnOk, OnErr, Some, ◌++◌};
+ghost use Rattle.std.specs.Prelude.{◌≡◌, ◌<◌, ◌^◌, length, OnOk, OnErr, Option, Some, ◌++◌};
+ghost use Rattle.wat_lex.specs.errors.Errors.{Report};
 ghost use Rattle.wat_lines.specs.Blocks.{AppendsEach, AppendsEachCut};
 ghost use Rattle.wat_lines.specs.JsonRows.{json_line};
 ghost use Rattle.wat_lines.specs.Streams.{failure_after};
-ghost use Rattle.wat_lists.specs.JsonLists.{JsonShownText, json_report};
-ghost use Rattle.std.specs.Option.{option_map};
+ghost use Rattle.wat_lists.specs.JsonLists.{json_report};
+ghost use Rattle.wat_lists.specs.Shows.{AppendsShown, AppendsShownCut, ShownEnds};
 
-use crate::show::{Form, Showing, show_in};
+use crate::show::{Form, write_in};
 use std::alloc::{AllocError, Global};
 use wat_lex::error::Error;
-use wat_lex::lexer::{Lexer, Settings, Token};
+use wat_lex::lexer::{Lexer, Token};
+use wat_lexer_parser::parser::Parser;
 use wat_lines::block::Block;
 use wat_lines::ends::{Failed, Sink};
 use wat_lines::position::Positions;
-use wat_lines::row::{object_open, push_fault, push_row, put_row};
+use wat_lines::row::{push_fault, put_row};
 
 /// Writes a line of JSON for each raw token of a lexer's text. It takes no memory. Each line begins
 /// with `begin`.
@@ -71,32 +73,41 @@ impl Form for JsonLines<'_> {
 
     ghost text = { λ r. Some r.positions };
 
-    fn push(&mut self, lines: &mut Vec<u8>, token: &Token) -> Result<(), AllocError> {
-        push_row(lines, &mut self.positions, self.begin, token)
+    fn put<W: Sink>(
+        &mut self,
+        block: &mut Block,
+        output: &mut W,
+        token: &Token,
+    ) -> Result<(), Failed> {
+        put_row(block, output, &mut self.positions, self.begin, token)
     }
 }
 
-/// Lists what is shown of a text of at most `u32::MAX` bytes where these names are registered, as
-/// JSON, and the fault after it where there is one.
-pub fn show_json(
-    alloc: Global,
+/// Writes a line of JSON for each of the tokens that are shown from a parser's place on, of which
+/// there are so many, and then the last bytes. It takes no memory. Each line begins with `begin`.
+pub fn write_json_shown<W: Sink>(
+    parser: &mut Parser<'_>,
+    count: usize,
     text: &str,
-    settings: Settings,
-    file: Option<&str>,
-    names: &[String],
-) -> Result<Showing, AllocError>
-    requires { length text.now < 2 ^ 32 }
-    ensures { IfOk result (λ s. JsonShownText (record { text = text.now; flags = settings })
-        (option_map (λ f. f.now) file.entry) names.now s.lines.items s.error) }
+    begin: &[u8],
+    last: &[u8],
+    output: &mut W,
+) -> Result<(), Failed>
+    requires text { text.now ≡ parser.old.source.setting.text }
+    requires count { (error : Option (Option Report)) × ShownEnds parser.old.source
+        parser.old.names parser.old.place count error }
+    ensures written { OnOk result (AppendsShown (json_line begin.now text.now) last.now
+        parser.old.source parser.old.names parser.old.place
+        (W.held output.old) (W.held output.new)) }
+    ensures cut { OnErr result (AppendsShownCut (json_line begin.now text.now) last.now
+        parser.old.source parser.old.names parser.old.place
+        (W.held output.old) (W.held output.new)) }
+    ensures failed { W.failure output.new ≡ failure_after (W.failure output.old) result }
 {
-    let begin = object_open(alloc, file)?;
-    let rows = JsonLines {
-        begin: &begin,
+    parser.lemma_sound();
+    let form = JsonLines {
+        begin,
         positions: Positions::new(text),
     };
-    let Showing { mut lines, error } = show_in(alloc, text, settings, names, rows)?;
-    if let Some(error) = &error {
-        push_report(alloc, &mut lines, text, &begin, error)?;
-    }
-    Ok(Showing { lines, error })
+    write_in(parser, count, form, last, output)
 }

@@ -1,5 +1,5 @@
 //! The list of a text's raw tokens.
-ghost use Rattle.std.specs.Prelude.{◌≡◌, ◌++◌, ◌+◌, ◌<◌, ◌^◌, length, Some, alloc_error};
+ghost use Rattle.std.specs.Prelude.{◌≡◌, ◌<◌, ◌^◌, length, Some, alloc_error};
 ghost use Rattle.std.specs.Prelude.{IfOk, IfErr, OnOk, OnErr, IsNone};
 ghost use Rattle.wat_lex.specs.errors.Errors.{lexical};
 ghost use Rattle.wat_lexer_parser.specs.places.Source.{IsRead};
@@ -10,22 +10,12 @@ ghost use Rattle.wat_lines.specs.Streams.{failure_after};
 use crate::input::RunFailure;
 use std::alloc::{AllocError, Global};
 use wat_lex::error::Error;
-use wat_lex::lexer::{LexFault, Lexer, Settings, Token};
+use wat_lex::lexer::{LexFault, Lexer, Settings};
 use wat_lex::token::Span;
-use wat_lexer_parser::parser::ParseBuffer;
+use wat_lexer_parser::parser::LazyBuffer;
 use wat_lines::block::Block;
 use wat_lines::ends::{Failed, Sink};
-use wat_lines::line::{Place, ROOM, put_line};
-
-/// Writes a token's line after the others.
-pub(crate) fn push_line(lines: &mut Vec<u8>, token: &Token) -> Result<(), AllocError>
-    requires { token.now.offset + token.now.len < 2 ^ 32 }
-    ensures { OnOk result (lines.new.items ≡ lines.old.items ++ line token.now) }
-{
-    let mut room = [0; ROOM];
-    let end = put_line(&mut room, &mut Place::start(), token);
-    lines.extend_from_slice(&room[..end])
-}
+use wat_lines::line::Place;
 
 /// The refused request for memory that an error stands for which is no fault of the text.
 pub(crate) fn refusal_of(error: &Error) -> AllocError
@@ -48,20 +38,12 @@ pub fn error_of(alloc: Global, text: &str, fault: LexFault) -> Result<Error, Run
 }
 
 /// The buffer of a text that is read with these settings.
-pub(crate) fn buffer_of<'a>(
-    alloc: Global,
-    text: &'a str,
-    settings: Settings,
-) -> Result<ParseBuffer<'a>, AllocError>
+pub fn buffer_of<'a>(alloc: Global, text: &'a str, settings: Settings) -> LazyBuffer<'a>
     requires { length text.now < 2 ^ 32 }
-    ensures setting { IfOk result (λ b.
-        b.setting ≡ record { text = text.now; flags = settings }) }
-    ensures read { IfOk result IsRead }
+    ensures setting { result.setting ≡ record { text = text.now; flags = settings } }
+    ensures read { IsRead result }
 {
-    match ParseBuffer::new_with_lexer(alloc, Lexer::with_settings(text, settings)) {
-        Ok(buffer) => Ok(buffer),
-        Err(error) => Err(refusal_of(&error)),
-    }
+    LazyBuffer::new_with_lexer(alloc, Lexer::with_settings(text, settings))
 }
 
 /// Writes a line for each raw token of a lexer's text. It takes no memory.

@@ -88,7 +88,7 @@ pub fn play(
     ensures { IfOk result (λ lines.
         PlayText (record { text = text.now; flags = settings }) calls.now lines.items) }
 {
-    let buffer = buffer_of(alloc, text, settings)?;
+    let buffer = buffer_of(alloc, text, settings);
     let mut parser = buffer.parser();
     let replies = replay(alloc, &mut parser, calls)?;
     reply_lines(alloc, &replies)

@@ -1,22 +1,31 @@
 //! The list of the tokens that count: what a parser shows of a text.
-ghost use Rattle.std.specs.Prelude.{◌≡◌, ◌++◌, ◌+◌, ◌≤◌, ◌<◌, ◌^◌, ℕ, List, length, Option};
-ghost use Rattle.std.specs.Prelude.{IfOk, IfErr, IfSome, OnOk, None};
+ghost use Rattle.std.specs.Prelude.{◌≡◌, ◌++◌, ◌+◌, ◌≤◌, ◌<◌, ◌^◌, ℕ, List, [], length, Option};
+ghost use Rattle.std.specs.Prelude.{IfOk, IfErr, IfSome, OnOk, OnErr, None};
+ghost use Rattle.std.specs.Io.KnownBytes.{Appends};
+ghost use Rattle.wat_lex.specs.errors.Errors.{Report};
 ghost use Rattle.wat_lex.specs.declared.lexer.kinds.Token.{Token};
+ghost use Rattle.wat_lexer_parser.specs.names.RegisteredNames.{no_names};
+ghost use Rattle.wat_lines.specs.Blocks.{Puts};
 ghost use Rattle.wat_lines.specs.Lines.{line};
-ghost use Rattle.wat_lists.specs.Shows.{with_name, with_names, IsInside, ShownFrom, ShownText};
+ghost use Rattle.wat_lines.specs.Streams.{AppendsPrefix, failure_after};
+ghost use Rattle.wat_lists.specs.Shows.{with_name, with_names, IsInside, ShownEnds};
+ghost use Rattle.wat_lists.specs.Shows.{AppendsShown, AppendsShownCut, ShowsFault, Takes, TakesNext};
 
-use crate::list::{buffer_of, push_line, refusal_of};
-use std::alloc::{AllocError, Global};
+use crate::list::refusal_of;
+use std::alloc::AllocError;
 use wat_lex::error::Error;
-use wat_lex::lexer::{Settings, Token};
+use wat_lex::lexer::Token;
 use wat_lexer_parser::laws;
-use wat_lexer_parser::parser::{Cursor, Parser};
+use wat_lexer_parser::parser::{Cursor, LazyBuffer, Parser};
+use wat_lines::block::Block;
+use wat_lines::ends::{Failed, Sink};
+use wat_lines::line::Place;
 
-/// The lines of the tokens that are shown, and the error of the fault after them.
+/// How many tokens are shown, and the error of the fault after them.
 #[derive(Drop)]
-pub struct Showing {
-    /// A line for each token, in order.
-    pub lines: Vec<u8>,
+pub struct Ending {
+    /// How many tokens there are.
+    pub count: usize,
     /// Where nothing more is shown, and why.
     pub error: Option<Error>,
 }
@@ -29,19 +38,29 @@ pub(crate) trait Form {
     // The text that the tokens are to be of, where that matters.
     ghost text: { Self → Option (List ℕ) };
 
-    /// Writes a token after the others.
-    fn push(&mut self, lines: &mut Vec<u8>, token: &Token) -> Result<(), AllocError>
+    /// Puts a token after the others.
+    fn put<W: Sink>(
+        &mut self,
+        block: &mut Block,
+        output: &mut W,
+        token: &Token,
+    ) -> Result<(), Failed>
         requires inside { IfSome (text self.old) (λ t. IsInside t token.now) }
         requires short { token.now.offset + token.now.len < 2 ^ 32 }
-        ensures lines { OnOk result
-            (lines.new.items ≡ lines.old.items ++ each self.old token.now) }
+        ensures put { OnOk result (Puts (W.held output.old) (W.held output.new)
+            block.old block.new (each self.old token.now)) }
+        ensures cut { OnErr result (AppendsPrefix (W.held output.old) (W.held output.new)
+            (block.old ++ each self.old token.now)) }
+        ensures failed { W.failure output.new ≡ failure_after (W.failure output.old) result }
         ensures same { each self.new ≡ each self.old }
         ensures same_text { text self.new ≡ text self.old };
 }
 
 /// A line for each token, as the raw tokens have it.
-#[derive(Clone, Copy)]
-struct PlainLines;
+#[derive(Drop)]
+struct PlainLines {
+    place: Place,
+}
 
 impl Form for PlainLines {
     ghost use Rattle.std.specs.Prelude.{None};
@@ -51,8 +70,13 @@ impl Form for PlainLines {
 
     ghost text = { λ _. None };
 
-    fn push(&mut self, lines: &mut Vec<u8>, token: &Token) -> Result<(), AllocError> {
-        push_line(lines, token)
+    fn put<W: Sink>(
+        &mut self,
+        block: &mut Block,
+        output: &mut W,
+        token: &Token,
+    ) -> Result<(), Failed> {
+        block.put_line(output, &mut self.place, token)
     }
 }
 
@@ -80,76 +104,165 @@ pub(crate) fn register_all(parser: &mut Parser<'_>, names: &[String]) -> Result<
     Ok(())
 }
 
-/// Lists what is shown from a cursor on. The cursor that it answers is after it.
-fn lines_from<'p, 'a, F: Form + Drop>(
-    alloc: Global,
-    form: F,
-    from: Cursor<'p, 'a>,
-) -> Result<(Showing, Cursor<'p, 'a>), Error>
-    requires { IfSome (F.text form) (λ t. t ≡ from.parser.now.source.setting.text) }
-    ensures shown { IfOk result (λ r. ShownFrom (F.each form)
-        from.entry.parser.now.source from.entry.parser.now.names from.entry.at
-        r.0.lines.items r.0.error) }
-    ensures parser { IfOk result (λ r. r.1.parser ≡ from.entry.parser) }
-    ensures on { IfOk result (λ r. from.entry.at ≤ r.1.at) }
+/// A parser at a text's start, where these names are registered.
+pub fn parser_of<'b>(buffer: &'b LazyBuffer<'_>, names: &[String]) -> Result<Parser<'b>, AllocError>
+    ensures { IfOk result (λ parser. parser ≡ record {
+      source = buffer.now;
+      place = 0;
+      names = with_names no_names names.now;
+      depth = 0;
+    }) }
+{
+    let mut parser = buffer.parser();
+    match register_all(&mut parser, names) {
+        Ok(()) => Ok(parser),
+        Err(error) => Err(refusal_of(&error)),
+    }
+}
+
+/// Counts what is shown from a cursor on.
+fn counted<'p, 'a>(from: Cursor<'p, 'a>) -> Result<Ending, Error>
+    ensures ends { IfOk result (λ e. ShownEnds from.entry.parser.now.source
+        from.entry.parser.now.names from.entry.at e.count e.error) }
     ensures refused { IfErr result (λ e. e ≡ None) }
 {
     laws::all_shown();
     from.lemma_sound();
-    let mut form = form;
-    let mut lines = Vec::new(alloc);
+    let mut count = 0;
     let mut cursor = from;
     'tokens: loop {
         match cursor.any() {
-            Ok(Some((token, next))) => {
-                form.push(&mut lines, &token)?;
+            Ok(Some((_, next))) => {
+                count += 1;
                 cursor = next;
             }
-            Ok(None) => return Ok((Showing { lines, error: None }, cursor)),
+            Ok(None) => return Ok(Ending { count, error: None }),
             Err(error) if error.is_out_of_memory() => return Err(error),
             Err(error) => {
                 let error = Some(error);
-                return Ok((Showing { lines, error }, cursor));
+                return Ok(Ending { count, error });
             }
         }
     }
 }
 
-/// Lists in this form what is shown of a text of at most `u32::MAX` bytes where these names are
-/// registered.
-pub(crate) fn show_in<F: Form + Drop>(
-    alloc: Global,
-    text: &str,
-    settings: Settings,
-    names: &[String],
-    form: F,
-) -> Result<Showing, AllocError>
-    requires short { length text.now < 2 ^ 32 }
-    requires text { IfSome (F.text form) (λ t. t ≡ text.now) }
-    ensures { IfOk result (λ s. ShownText (F.each form)
-        (record { text = text.now; flags = settings }) names.now s.lines.items s.error) }
+/// The same, with the cursor.
+fn counted_from<'p, 'a>(from: Cursor<'p, 'a>) -> Result<(Ending, Cursor<'p, 'a>), Error>
+    ensures ends { IfOk result (λ r. ShownEnds from.entry.parser.now.source
+        from.entry.parser.now.names from.entry.at r.0.count r.0.error) }
+    ensures same { IfOk result (λ r. r.1 ≡ from.entry) }
+    ensures refused { IfErr result (λ e. e ≡ None) }
 {
-    let buffer = buffer_of(alloc, text, settings)?;
-    let mut parser = buffer.parser();
-    if let Err(error) = register_all(&mut parser, names) {
-        return Err(refusal_of(&error));
-    }
-    match parser.step(|cursor| lines_from(alloc, form, cursor)) {
-        Ok(showing) => Ok(showing),
+    let ending = counted(from)?;
+    Ok((ending, from))
+}
+
+/// How many tokens are shown from a parser's place on, and the error of the fault after them. The
+/// parser stays where it is.
+pub fn ending_of(parser: &mut Parser<'_>) -> Result<Ending, AllocError>
+    ensures ends { IfOk result (λ e. ShownEnds parser.old.source parser.old.names
+        parser.old.place e.count e.error) }
+    ensures same { parser.new ≡ parser.old }
+{
+    match parser.step(|cursor| counted_from(cursor)) {
+        Ok(ending) => Ok(ending),
         Err(error) => Err(refusal_of(&error)),
     }
 }
 
-/// Lists what is shown of a text of at most `u32::MAX` bytes where these names are registered.
-pub fn show(
-    alloc: Global,
-    text: &str,
-    settings: Settings,
-    names: &[String],
-) -> Result<Showing, AllocError>
-    requires { length text.now < 2 ^ 32 }
-    ensures { IfOk result (λ s. ShownText line (record { text = text.now; flags = settings })
-        names.now s.lines.items s.error) }
+/// Takes what is shown at a cursor.
+fn take_shown<'p, 'a>(from: Cursor<'p, 'a>) -> Result<(Option<Token>, Cursor<'p, 'a>), Error>
+    ensures taken { IfOk result (λ r. Takes from.entry.parser.now.source
+        from.entry.parser.now.names from.entry.at r.0 r.1.at) }
+    ensures parser { IfOk result (λ r. r.1.parser ≡ from.entry.parser) }
+    ensures on { IfOk result (λ r. from.entry.at ≤ r.1.at) }
+    ensures fault { IfErr result (λ _. ShowsFault from.entry.parser.now.source
+        from.entry.parser.now.names from.entry.at) }
 {
-    show_in(alloc, text, settings, names, PlainLines)
+    match from.any()? {
+        Some((token, next)) => Ok((Some(token), next)),
+        None => Ok((None, from)),
+    }
+}
+
+/// Takes the next of so many tokens, where one is shown.
+fn next(parser: &mut Parser<'_>, left: usize) -> Option<Token>
+    ensures taken { TakesNext parser.old.source parser.old.names parser.old.place left
+        result parser.new.place }
+    ensures parser { parser.new ≡ record parser.old { place = parser.new.place } }
+{
+    if left == 0 {
+        return None;
+    }
+    match parser.step(|cursor| take_shown(cursor)) {
+        Ok(found) => found,
+        Err(_) => None,
+    }
+}
+
+/// Puts the last bytes after those of a block, and writes them.
+fn finish<W: Sink>(block: &mut Block, last: &[u8], output: &mut W) -> Result<(), Failed>
+    ensures written { OnOk result
+        (Appends (W.held output.old) (W.held output.new) (block.old ++ last.now)) }
+    ensures cut { OnErr result
+        (AppendsPrefix (W.held output.old) (W.held output.new) (block.old ++ last.now)) }
+    ensures failed { W.failure output.new ≡ failure_after (W.failure output.old) result }
+{
+    block.put(output, last)?;
+    block.write(output)
+}
+
+/// Writes in this form each of the tokens that are shown from a parser's place on, of which there
+/// are so many, and then the last bytes.
+pub(crate) fn write_in<F: Form + Drop, W: Sink>(
+    parser: &mut Parser<'_>,
+    count: usize,
+    form: F,
+    last: &[u8],
+    output: &mut W,
+) -> Result<(), Failed>
+    requires text { IfSome (F.text form) (λ t. t ≡ parser.old.source.setting.text) }
+    requires count { (error : Option (Option Report)) × ShownEnds parser.old.source
+        parser.old.names parser.old.place count error }
+    ensures written { OnOk result (AppendsShown (F.each form) last.now parser.old.source
+        parser.old.names parser.old.place (W.held output.old) (W.held output.new)) }
+    ensures cut { OnErr result (AppendsShownCut (F.each form) last.now parser.old.source
+        parser.old.names parser.old.place (W.held output.old) (W.held output.new)) }
+    ensures failed { W.failure output.new ≡ failure_after (W.failure output.old) result }
+{
+    laws::all_shown();
+    parser.lemma_sound();
+    let mut form = form;
+    let mut block = Block::new();
+    let mut left = count;
+    'tokens: loop {
+        match next(parser, left) {
+            Some(token) => {
+                form.put(&mut block, output, &token)?;
+                left -= 1;
+            }
+            None => return finish(&mut block, last, output),
+        }
+    }
+}
+
+/// Writes a line for each of the tokens that are shown from a parser's place on, of which there are
+/// so many. It takes no memory.
+pub fn write_shown<W: Sink>(
+    parser: &mut Parser<'_>,
+    count: usize,
+    output: &mut W,
+) -> Result<(), Failed>
+    requires { (error : Option (Option Report)) × ShownEnds parser.old.source
+        parser.old.names parser.old.place count error }
+    ensures written { OnOk result (AppendsShown line [] parser.old.source parser.old.names
+        parser.old.place (W.held output.old) (W.held output.new)) }
+    ensures cut { OnErr result (AppendsShownCut line [] parser.old.source parser.old.names
+        parser.old.place (W.held output.old) (W.held output.new)) }
+    ensures failed { W.failure output.new ≡ failure_after (W.failure output.old) result }
+{
+    let form = PlainLines {
+        place: Place::start(),
+    };
+    write_in(parser, count, form, b"", output)
 }

@@ -19,7 +19,7 @@ mod tests;
 
 use std::alloc::Global;
 use wat_lexer_parser::Error;
-use wat_lexer_parser::parser::{Parse, ParseBuffer, Parser, parse};
+use wat_lexer_parser::parser::{LazyBuffer, Parse, Parser};
 use wat_lexer_parser::token::LParen;
 
 /// A term of a sum.
@@ -122,8 +122,8 @@ pub fn read(alloc: Global, text: &str) -> Result<Sum, Error>
 {
     has_tokens(text);
     laws::reading_is_spelling();
-    let buffer = ParseBuffer::new(alloc, text)?;
-    parse::<Sum>(&buffer)
+    let buffer = LazyBuffer::new(alloc, text);
+    buffer.parse::<Sum>()
 }
 
 /// A text has raw tokens.

@@ -23,7 +23,7 @@ use std::alloc::Global;
 pub use types::{FuncType, ValType};
 use wat_lexer_parser::Error;
 use wat_lexer_parser::encode::EncodeError;
-use wat_lexer_parser::parser::{ParseBuffer, parse};
+use wat_lexer_parser::parser::LazyBuffer;
 use wat_lexer_parser::token::Span;
 
 /// The bytes of the module that a text spells: a header and, where it has types, their section.
@@ -53,8 +53,8 @@ pub fn compile_types(alloc: Global, text: &str) -> Result<Vec<u8>, Error>
 {
     has_tokens(text);
     laws::reading_is_spelling();
-    let buffer = ParseBuffer::new(alloc, text)?;
-    let module = parse::<Module>(&buffer)?;
+    let buffer = LazyBuffer::new(alloc, text);
+    let module = buffer.parse::<Module>()?;
     match binary::module(alloc, &module.types) {
         Ok(bytes) => Ok(bytes),
         Err(EncodeError::Memory) => Err(Error::out_of_memory()),

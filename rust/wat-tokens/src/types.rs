@@ -17,7 +17,7 @@ use crate::shim::alloc::Global;
 pub use types::{FuncType, ValType};
 use wat_parser::proved::Error;
 use wat_parser::proved::encode::EncodeError;
-use wat_parser::proved::parser::{ParseBuffer, parse};
+use wat_parser::proved::parser::LazyBuffer;
 use wat_parser::proved::token::Span;
 
 /// The bytes of the module that a text spells: a header and, where it has types, their section.
@@ -51,8 +51,8 @@ use wat_parser::proved::token::Span;
 pub fn compile_types(alloc: Global, text: &str) -> Result<Vec<u8>, Error> {
     has_tokens(text);
     laws::reading_is_spelling();
-    let buffer = ParseBuffer::new(alloc, text)?;
-    let module = parse::<Module>(&buffer)?;
+    let buffer = LazyBuffer::new(alloc, text);
+    let module = buffer.parse::<Module>()?;
     match binary::module(alloc, &module.types) {
         Ok(bytes) => Ok(bytes),
         Err(EncodeError::Memory) => Err(Error::out_of_memory()),

@@ -12,10 +12,10 @@ use crate::lines::ends::{Failed, Sink};
 use crate::lines::row::object_open;
 use crate::lists::blank::write_blanked;
 use crate::lists::input::text_of;
-use crate::lists::json::{push_report, show_json, write_json};
-use crate::lists::list::{error_of, write_lines};
+use crate::lists::json::{push_report, write_json, write_json_shown};
+use crate::lists::list::{buffer_of, error_of, write_lines};
 use crate::lists::play::play;
-use crate::lists::show::{Showing, show};
+use crate::lists::show::{Ending, ending_of, parser_of, write_shown};
 use crate::types::compile_types;
 
 /// The error of what was written, or that the write failed.
@@ -168,6 +168,60 @@ fn print_blank<W: Sink>(
     answer(write_blanked(&lexer, output), None)
 }
 
+/// Writes the lines of the tokens that count, and answers the error of the fault after them. All
+/// memory is asked for before the first line is written: the text is read twice.
+///
+/// # Proved
+///
+/// ```text
+/// requires text { length text.now < 2 ^ 32 }
+/// requires output { W.failure output.old ≡ None }
+/// ensures printed { Writes W.held W.failure (Shows settings names.now text.now) output.old output.new result }
+/// ensures refused { IfErr result (λ e. IsFailedWrite e ⊎ (e ≡ RunFailure.Memory alloc_error)) }
+/// ```
+fn print_shown<W: Sink>(
+    alloc: Global,
+    text: &str,
+    settings: Settings,
+    names: &[String],
+    output: &mut W,
+) -> Result<Option<Error>, RunFailure> {
+    laws::all_shown();
+    let buffer = buffer_of(alloc, text, settings);
+    let mut parser = parser_of(&buffer, names)?;
+    let Ending { count, error } = ending_of(&mut parser)?;
+    answer(write_shown(&mut parser, count, output), error)
+}
+
+/// The same as lines of JSON, with that of the fault.
+///
+/// # Proved
+///
+/// ```text
+/// requires text { length text.now < 2 ^ 32 }
+/// requires output { W.failure output.old ≡ None }
+/// ensures printed { Writes W.held W.failure (JsonShows settings
+///     (option_map (λ f. f.now) file.entry) names.now text.now) output.old output.new result }
+/// ensures refused { IfErr result (λ e. IsFailedWrite e ⊎ (e ≡ RunFailure.Memory alloc_error)) }
+/// ```
+fn print_json_shown<W: Sink>(
+    alloc: Global,
+    text: &str,
+    settings: Settings,
+    file: Option<&str>,
+    names: &[String],
+    output: &mut W,
+) -> Result<Option<Error>, RunFailure> {
+    laws::all_shown();
+    let buffer = buffer_of(alloc, text, settings);
+    let mut parser = parser_of(&buffer, names)?;
+    let begin = object_open(alloc, file)?;
+    let Ending { count, error } = ending_of(&mut parser)?;
+    let last = json_end(alloc, text, &begin, &error)?;
+    let written = write_json_shown(&mut parser, count, text, &begin, &last, output);
+    answer(written, error)
+}
+
 /// Writes a text that was gathered, and answers its error.
 ///
 /// # Proved
@@ -233,15 +287,9 @@ fn print_of<W: Sink>(
 ) -> Result<Option<Error>, RunFailure> {
     match task {
         Task::List => print_raw(alloc, text, settings, output),
-        Task::Sig(names) => {
-            let Showing { lines, error } = show(alloc, text, settings, names)?;
-            print_text(&lines, error, output)
-        }
+        Task::Sig(names) => print_shown(alloc, text, settings, names, output),
         Task::JsonList => print_json(alloc, text, settings, file, output),
-        Task::JsonSig(names) => {
-            let Showing { lines: rows, error } = show_json(alloc, text, settings, file, names)?;
-            print_text(&rows, error, output)
-        }
+        Task::JsonSig(names) => print_json_shown(alloc, text, settings, file, names, output),
         Task::Play(calls) => {
             let replies = play(alloc, text, settings, calls.as_slice())?;
             print_text(&replies, None, output)

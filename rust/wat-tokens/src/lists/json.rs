@@ -2,14 +2,15 @@
 //! The lists as JSON: a line for each raw token, or for each token that counts.
 
 use crate::shim::prelude::*;
-use crate::lists::show::{Form, Showing, show_in};
+use crate::lists::show::{Form, write_in};
 use crate::shim::alloc::{AllocError, Global};
 use wat_lex::proved::error::Error;
-use wat_lex::proved::lexer::{Lexer, Settings, Token};
+use wat_lex::proved::lexer::{Lexer, Token};
+use wat_parser::proved::parser::Parser;
 use crate::lines::block::Block;
 use crate::lines::ends::{Failed, Sink};
 use crate::lines::position::Positions;
-use crate::lines::row::{object_open, push_fault, push_row, put_row};
+use crate::lines::row::{push_fault, put_row};
 
 /// Writes a line of JSON for each raw token of a lexer's text. It takes no memory. Each line begins
 /// with `begin`.
@@ -67,36 +68,45 @@ struct JsonLines<'a> {
 }
 
 impl Form for JsonLines<'_> {
-    fn push(&mut self, lines: &mut Vec<u8>, token: &Token) -> Result<(), AllocError> {
-        push_row(lines, &mut self.positions, self.begin, token)
+    fn put<W: Sink>(
+        &mut self,
+        block: &mut Block,
+        output: &mut W,
+        token: &Token,
+    ) -> Result<(), Failed> {
+        put_row(block, output, &mut self.positions, self.begin, token)
     }
 }
 
-/// Lists what is shown of a text of at most `u32::MAX` bytes where these names are registered, as
-/// JSON, and the fault after it where there is one.
+/// Writes a line of JSON for each of the tokens that are shown from a parser's place on, of which
+/// there are so many, and then the last bytes. It takes no memory. Each line begins with `begin`.
 ///
 /// # Proved
 ///
 /// ```text
-/// requires { length text.now < 2 ^ 32 }
-/// ensures { IfOk result (λ s. JsonShownText (record { text = text.now; flags = settings })
-///     (option_map (λ f. f.now) file.entry) names.now s.lines.items s.error) }
+/// requires text { text.now ≡ parser.old.source.setting.text }
+/// requires count { (error : Option (Option Report)) × ShownEnds parser.old.source
+///     parser.old.names parser.old.place count error }
+/// ensures written { OnOk result (AppendsShown (json_line begin.now text.now) last.now
+///     parser.old.source parser.old.names parser.old.place
+///     (W.held output.old) (W.held output.new)) }
+/// ensures cut { OnErr result (AppendsShownCut (json_line begin.now text.now) last.now
+///     parser.old.source parser.old.names parser.old.place
+///     (W.held output.old) (W.held output.new)) }
+/// ensures failed { W.failure output.new ≡ failure_after (W.failure output.old) result }
 /// ```
-pub fn show_json(
-    alloc: Global,
+pub fn write_json_shown<W: Sink>(
+    parser: &mut Parser<'_>,
+    count: usize,
     text: &str,
-    settings: Settings,
-    file: Option<&str>,
-    names: &[String],
-) -> Result<Showing, AllocError> {
-    let begin = object_open(alloc, file)?;
-    let rows = JsonLines {
-        begin: &begin,
+    begin: &[u8],
+    last: &[u8],
+    output: &mut W,
+) -> Result<(), Failed> {
+    parser.lemma_sound();
+    let form = JsonLines {
+        begin,
         positions: Positions::new(text),
     };
-    let Showing { mut lines, error } = show_in(alloc, text, settings, names, rows)?;
-    if let Some(error) = &error {
-        push_report(alloc, &mut lines, text, &begin, error)?;
-    }
-    Ok(Showing { lines, error })
+    write_in(parser, count, form, last, output)
 }

@@ -5,26 +5,12 @@ use crate::shim::prelude::*;
 use crate::lists::input::RunFailure;
 use crate::shim::alloc::{AllocError, Global};
 use wat_lex::proved::error::Error;
-use wat_lex::proved::lexer::{LexFault, Lexer, Settings, Token};
+use wat_lex::proved::lexer::{LexFault, Lexer, Settings};
 use wat_lex::proved::token::Span;
-use wat_parser::proved::parser::ParseBuffer;
+use wat_parser::proved::parser::LazyBuffer;
 use crate::lines::block::Block;
 use crate::lines::ends::{Failed, Sink};
-use crate::lines::line::{Place, ROOM, put_line};
-
-/// Writes a token's line after the others.
-///
-/// # Proved
-///
-/// ```text
-/// requires { token.now.offset + token.now.len < 2 ^ 32 }
-/// ensures { OnOk result (lines.new.items ≡ lines.old.items ++ line token.now) }
-/// ```
-pub(crate) fn push_line(lines: &mut Vec<u8>, token: &Token) -> Result<(), AllocError> {
-    let mut room = [0; ROOM];
-    let end = put_line(&mut room, &mut Place::start(), token);
-    lines.extend_from_slice(&room[..end])
-}
+use crate::lines::line::Place;
 
 /// The refused request for memory that an error stands for which is no fault of the text.
 ///
@@ -60,19 +46,11 @@ pub fn error_of(alloc: Global, text: &str, fault: LexFault) -> Result<Error, Run
 ///
 /// ```text
 /// requires { length text.now < 2 ^ 32 }
-/// ensures setting { IfOk result (λ b.
-///     b.setting ≡ record { text = text.now; flags = settings }) }
-/// ensures read { IfOk result IsRead }
+/// ensures setting { result.setting ≡ record { text = text.now; flags = settings } }
+/// ensures read { IsRead result }
 /// ```
-pub(crate) fn buffer_of<'a>(
-    alloc: Global,
-    text: &'a str,
-    settings: Settings,
-) -> Result<ParseBuffer<'a>, AllocError> {
-    match ParseBuffer::new_with_lexer(alloc, Lexer::with_settings(text, settings)) {
-        Ok(buffer) => Ok(buffer),
-        Err(error) => Err(refusal_of(&error)),
-    }
+pub fn buffer_of<'a>(alloc: Global, text: &'a str, settings: Settings) -> LazyBuffer<'a> {
+    LazyBuffer::new_with_lexer(alloc, Lexer::with_settings(text, settings))
 }
 
 /// Writes a line for each raw token of a lexer's text. It takes no memory.

@@ -90,7 +90,7 @@ pub fn play(
     settings: Settings,
     calls: &[Call],
 ) -> Result<Vec<u8>, AllocError> {
-    let buffer = buffer_of(alloc, text, settings)?;
+    let buffer = buffer_of(alloc, text, settings);
     let mut parser = buffer.parser();
     let replies = replay(alloc, &mut parser, calls)?;
     reply_lines(alloc, &replies)

@@ -38,7 +38,7 @@ use wat_parser::proved::parser::Parser;
 const TABLE: &str = include_str!("../../../../tests/requests.txt");
 /// The rows of the table, and the requests of all their calls.
 const ROWS: usize = 414;
-const REQUESTS: usize = 534;
+const REQUESTS: usize = 531;
 /// More requests than any row makes.
 const MOST_REQUESTS: usize = 500;
 

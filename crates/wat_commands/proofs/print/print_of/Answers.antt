@@ -1,8 +1,5 @@
 use Rattle.std.proofs.Common.{refl, None}
-use Rattle.std.specs.Option.{option_map}
-use Rattle.wat_lists.specs.JsonLists.{JsonShows}
 use Rattle.wat_lists.specs.Replies.{Plays}
-use Rattle.wat_lists.specs.Shows.{Shows}
 use Rattle.wat_commands.specs.Options.{calls_of}
 use Rattle.wat_commands.proofs.PrintLaws.{writes_as}
 use Rattle.wat_commands.proofs.print.print_of.Goals as goal
@@ -10,27 +7,21 @@ use Rattle.wat_commands.proofs.print.print_of.Goals as goal
 pub returns-in-List-clause-printed : goal.returns-in-List-clause-printed
 returns-in-List-clause-printed g c = rw c.in-List.is c.print_raw.ensures.printed
 
-pub returns-in_ok-lines-in-Sig-clause-printed : goal.returns-in_ok-lines-in-Sig-clause-printed
-returns-in_ok-lines-in-Sig-clause-printed g c =
-    let shown = c.in_ok-lines-in-Sig.ensures in
-    rw c.in-Sig.is (writes_as g.W.Sink.held g.W.Sink.failure (Shows c.args.settings c.in-Sig.names.now c.args.text.now) _ _ c.deref.result.now _ c.print_text.result
-    (record { utf8 = c.utf8.text; short = c.requires.text; shown = rw c.deref.ensures.value shown }) c.print_text.ensures.printed)
+pub returns-in-Sig-clause-printed : goal.returns-in-Sig-clause-printed
+returns-in-Sig-clause-printed g c = rw c.in-Sig.is c.print_shown.ensures.printed
 
 pub returns-in-JsonList-clause-printed : goal.returns-in-JsonList-clause-printed
 returns-in-JsonList-clause-printed g c = rw c.in-JsonList.is c.print_json.ensures.printed
 
-pub returns-in_ok-rows-in-JsonSig-clause-printed : goal.returns-in_ok-rows-in-JsonSig-clause-printed
-returns-in_ok-rows-in-JsonSig-clause-printed g c =
-    let shown = c.in_ok-rows-in-JsonSig.ensures in
-    rw c.in-JsonSig.is (writes_as g.W.Sink.held g.W.Sink.failure (JsonShows c.args.settings (option_map (λ f. f.now) c.args.file) c.in-JsonSig.names.now c.args.text.now) _ _ c.deref-in-JsonSig.result.now _ c.print_text-in-JsonSig.result
-    (record { utf8 = c.utf8.text; short = c.requires.text; shown = rw c.deref-in-JsonSig.ensures.value shown }) c.print_text-in-JsonSig.ensures.printed)
+pub returns-in-JsonSig-clause-printed : goal.returns-in-JsonSig-clause-printed
+returns-in-JsonSig-clause-printed g c = rw c.in-JsonSig.is c.print_json_shown.ensures.printed
 
 pub returns-in_ok-replies-in-Play-clause-printed :
     goal.returns-in_ok-replies-in-Play-clause-printed
 returns-in_ok-replies-in-Play-clause-printed g c =
     let played = rw c.as_slice.ensures at c.in_ok-replies-in-Play.ensures in
-    rw c.in-Play.is (writes_as g.W.Sink.held g.W.Sink.failure (Plays c.args.settings (calls_of c.in-Play.calls) c.args.text.now) _ _ c.deref-in-Play.result.now None c.print_text-in-Play.result
-    (record { utf8 = c.utf8.text; short = c.requires.text; played = rw c.deref-in-Play.ensures.value played; no_error = refl }) c.print_text-in-Play.ensures.printed)
+    rw c.in-Play.is (writes_as g.W.Sink.held g.W.Sink.failure (Plays c.args.settings (calls_of c.in-Play.calls) c.args.text.now) _ _ c.deref.result.now None c.print_text.result
+    (record { utf8 = c.utf8.text; short = c.requires.text; played = rw c.deref.ensures.value played; no_error = refl }) c.print_text.ensures.printed)
 
 pub returns-in-Blank-clause-printed : goal.returns-in-Blank-clause-printed
 returns-in-Blank-clause-printed g c = rw c.in-Blank.is c.print_blank.ensures.printed

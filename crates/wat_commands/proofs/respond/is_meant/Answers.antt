@@ -1,4 +1,3 @@
-use Rattle.std.specs.Prelude.{Some, string_bytes}
 use Rattle.std.specs.Option.{option_map}
 use Rattle.std.proofs.Common.{ap, sym, ◌∙◌}
 use Rattle.wat_commands.specs.Options.{file_in_question}

@@ -1,4 +1,4 @@
-use Rattle.std.proofs.Common.{◌≡◌, length}
+use Rattle.std.proofs.Common.{length}
 use Rattle.std.specs.Prelude.{nat_lt}
 use Rattle.wat_commands.specs.Options.{file_names}
 use Rattle.wat_commands.specs.Outcomes.{exit_code}
