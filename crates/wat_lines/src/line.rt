@@ -1,6 +1,6 @@
 //! The lines of the list. A line is put together of pieces of sixteen bytes, of which the first count: a
 //! copy of sixteen bytes is cheaper than one of as many as there are.
-ghost use Rattle.std.specs.Prelude.{◌≡◌, ◌++◌, ◌∷◌, ◌+◌, ◌/◌, ◌%◌, ◌<◌, ◌≤◌, ℕ, List, [], codes};
+ghost use Rattle.std.specs.Prelude.{◌≡◌, ◌++◌, ◌∷◌, ◌+◌, ◌-◌, ◌/◌, ◌%◌, ◌<◌, ◌≤◌, ℕ, List, [], codes};
 ghost use Rattle.std.specs.Prelude.{drop, length, take, ◌^◌};
 ghost use Rattle.std.specs.Fmt.{decimal};
 ghost use Rattle.std.specs.Str.{IsCharBoundary};
@@ -43,7 +43,7 @@ fn two_digits(number: u32) -> [u8; 2]
 
 /// Digits, and two dots after them.
 #[derive(Drop)]
-struct Digits {
+pub(crate) struct Digits {
     bytes: [u8; LONGEST],
     start: usize,
 }
@@ -73,6 +73,14 @@ impl Digits {
         ensures few { result ≤ 10 }
     {
         MOST_DIGITS - self.start
+    }
+
+    /// The digits alone.
+    pub(crate) fn digits(&self) -> &[u8]
+        ensures digits { result.now ≡ take (length self.now - 16) self.now }
+        ensures few { length result.now ≤ 10 }
+    {
+        &self.bytes[self.start..MOST_DIGITS]
     }
 
     /// The first sixteen bytes.
@@ -114,7 +122,7 @@ impl Digits {
 }
 
 /// A number's digits.
-fn digits_of(number: u32) -> Digits
+pub(crate) fn digits_of(number: u32) -> Digits
     ensures { result ≡ decimal number ++ codes "..00000000000000" }
 {
     let mut digits = Digits::none();

@@ -15,6 +15,7 @@ ghost use Rattle.wat_lines.specs.Streams.{AppendsPrefix, failure_after};
 
 use crate::block::Block;
 use crate::ends::{Failed, Sink};
+use crate::line::digits_of;
 use crate::position::Positions;
 use itoa::Buffer;
 use std::alloc::{AllocError, Global};
@@ -60,8 +61,15 @@ impl Part {
         requires { length self.old + length text.now ≤ 96 }
         ensures { self.new ≡ self.old ++ text.now }
     {
-        let end = self.used + text.len();
-        self.bytes[self.used..end].copy_from_slice(text.as_bytes());
+        self.push_bytes(text.as_bytes());
+    }
+
+    fn push_bytes(&mut self, bytes: &[u8])
+        requires { length self.old + length bytes.now ≤ 96 }
+        ensures { self.new ≡ self.old ++ bytes.now }
+    {
+        let end = self.used + bytes.len();
+        self.bytes[self.used..end].copy_from_slice(bytes);
         self.used = end;
     }
 
@@ -70,7 +78,10 @@ impl Part {
         ensures digits { self.new ≡ self.old ++ decimal number }
         ensures len { length self.new ≤ length self.old + 20 }
     {
-        self.push(Buffer::new().format(number));
+        match u32::try_from(number) {
+            Ok(small) => self.push_bytes(digits_of(small).digits()),
+            Err(_) => self.push(Buffer::new().format(number)),
+        }
     }
 }
 
@@ -272,29 +283,6 @@ pub fn object_open(alloc: Global, file: Option<&str>) -> Result<Vec<u8>, AllocEr
         begin.extend_from_slice(b",")?;
     }
     Ok(begin)
-}
-
-/// Writes a token's line after the others. Each line begins with `begin`, which [`object_open`] makes.
-pub fn push_row(
-    lines: &mut Vec<u8>,
-    positions: &mut Positions<'_>,
-    begin: &[u8],
-    token: &Token,
-) -> Result<(), AllocError>
-    requires place { IsCharBoundary positions.old token.now.offset }
-    requires end { token.now.offset + token.now.len ≤ length positions.old }
-    ensures lines { OnOk result (lines.new.items ≡ lines.old.items ++ json_line begin.now positions.old token.now) }
-    ensures positions { positions.new ≡ positions.old }
-{
-    let text = positions.text().as_bytes();
-    let (line, column) = positions.linecol(token.offset);
-    lines.extend_from_slice(begin)?;
-    lines.extend_from_slice(head_of(token).bytes())?;
-    push_string(
-        lines,
-        &text[token.offset..token.offset + token.len as usize],
-    )?;
-    lines.extend_from_slice(after_of(line, column).bytes())
 }
 
 /// Writes the line of a fault of a text after the others, with its message.

@@ -41,7 +41,7 @@ fn two_digits(number: u32) -> [u8; 2] {
 }
 
 /// Digits, and two dots after them.
-struct Digits {
+pub(crate) struct Digits {
     bytes: [u8; LONGEST],
     start: usize,
 }
@@ -71,6 +71,18 @@ impl Digits {
     /// ```
     fn count(&self) -> usize {
         MOST_DIGITS - self.start
+    }
+
+    /// The digits alone.
+    ///
+    /// # Proved
+    ///
+    /// ```text
+    /// ensures digits { result.now ≡ take (length self.now - 16) self.now }
+    /// ensures few { length result.now ≤ 10 }
+    /// ```
+    pub(crate) fn digits(&self) -> &[u8] {
+        &self.bytes[self.start..MOST_DIGITS]
     }
 
     /// The first sixteen bytes.
@@ -130,7 +142,7 @@ impl Digits {
 /// ```text
 /// ensures { result ≡ decimal number ++ codes "..00000000000000" }
 /// ```
-fn digits_of(number: u32) -> Digits {
+pub(crate) fn digits_of(number: u32) -> Digits {
     let mut digits = Digits::none();
     digits.put_number(number);
     digits

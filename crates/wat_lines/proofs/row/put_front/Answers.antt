@@ -1,6 +1,6 @@
 use Rattle.std.proofs.Common.{refl}
 use Rattle.wat_lines.specs.JsonRows.{json_head}
-use Rattle.wat_lines.specs.lemmas.BlockLaws.{on_err, ok_then, err_then, puts_more, cut_more, cut_longer}
+use Rattle.wat_lines.specs.lemmas.BlockLaws.{on_err, ok_then, err_then, puts_more, cut_more}
 use Rattle.wat_lines.proofs.JsonLaws.{cut_front}
 use Rattle.wat_lines.proofs.row.put_front.Goals as goal
 
