@@ -5,7 +5,7 @@ has a figure which is in the data of docs/speed, or says why there is none; and 
 
 usage: tools/check_speed.py [--write | --self-test]
 
-With `--write` the figures are written anew. Each fault is a line, and the status is then 1. A row is
+With `--write` the figures are written again. Each fault is a line, and the status is then 1. A row is
 
     LANGUAGE CALL | FILE: SUITE; TEXT; CALL | FIGURE            the milliseconds of ours and, where the crate has it, the ratio
     LANGUAGE CALL | not measured: WHY
@@ -108,7 +108,7 @@ def figures(folder):
 
 
 def checked(table, wanted, found):
-    """The table with its figures written anew, and its faults."""
+    """The table with its figures written again, and its faults."""
     lines, faults, seen = [], [], []
     for line in table.split("\n"):
         if not line or line.startswith("#"):

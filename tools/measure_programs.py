@@ -26,7 +26,7 @@ def output(*words):
 
 
 def found(name):
-    """A program, by its name or with the number of a version behind it."""
+    """A program, by its name or with the number of a version after it."""
     return next(path for folder in os.environ["PATH"].split(":") for path in sorted(pathlib.Path(folder).glob(f"{name}*")))
 
 

@@ -7,7 +7,7 @@
 //!        measure once FUNCTION TEXT [BYTES]      one call on the text, or on its front: the sum, by how many bytes the process grew, the
 //!                                                text's bytes, the milliseconds
 //!
-//! A TEXT that is a folder stands for its files, which a pass reads one by one. In `errors` the fault is at the text's last byte. Each contender's
+//! A TEXT that is a folder is its files, which a pass reads one by one. In `errors` the fault is at the text's last byte. Each contender's
 //! best, quartile, median and upper quartile go to standard error.
 
 #[path = "../../measure_rust/src/layer.rs"]
