@@ -1,7 +1,12 @@
 //! The lexer of the WebAssembly text format.
-ghost use Rattle.std.specs.Prelude.{◌≡◌, ◌<◌, ◌^◌, ◌+◌, true, false, List, length, Option};
+ghost use Rattle.std.specs.Prelude.{◌≡◌, ◌⊎◌, ◌<◌, ◌^◌, ◌+◌, true, false, List, length, drop, Option};
 ghost use Rattle.std.specs.Prelude.{Result, IfOk, IfErr, IfSome, IfNone, OnErr};
+ghost use Rattle.std.specs.List.{prefix_len};
 ghost use Rattle.std.specs.Str.{IsCharBoundary, IsUtf8};
+ghost use Rattle.wat_lex.specs.grammar.Classes.{is_whitespace};
+ghost use Rattle.wat_lex.specs.declared.lexer.faults.LexFault.{LexFault as Fault};
+ghost use Rattle.wat_lex.specs.declared.lexer.kinds.Token.{Token as Lexed};
+ghost use Rattle.wat_lex.specs.declared.lexer.kinds.TokenKind.TheVariants.{Whitespace};
 ghost use Rattle.wat_lex.specs.tokens.Faults.{FaultAt};
 ghost use Rattle.wat_lex.specs.tokens.Raw.{ErrorAt};
 ghost use Rattle.wat_lex.specs.tokens.ReadableTokens.{IsTokenOf};
@@ -25,6 +30,7 @@ use kinds::{Found, Lexeme, Stride};
 pub use read::numbers::{Float, Integer, magnitude};
 pub(crate) use scan::blocks::block_at;
 pub(crate) use scan::classes::is_confusing;
+use scan::classes::whitespace_len_by_block;
 pub(crate) use scan::comments::first_confusing;
 use scan::{fault_at_start, first_found};
 pub use settings::Settings;
@@ -183,6 +189,38 @@ impl<'a> Lexer<'a> {
         }
     }
 
+    /// The token at a byte of the text, None at its end and where a fault is.
+    #[inline(always)]
+    pub fn token_at(&self, pos: usize) -> Option<Token>
+        requires { IsCharBoundary self.now.text pos }
+        ensures token { IfSome result (TokenAt self.now pos) }
+        ensures none { IfNone result ((pos ≡ length self.now.text)
+            ⊎ ((f : Fault) × FaultAt self.now pos f)) }
+        ensures reader { IfSome result (IsTokenOf self.now.text) }
+        ensures some { IfSome result (λ t. 0 < t.len) }
+        ensures boundary { IfSome result (λ t. IsCharBoundary self.now.text (pos + t.len)) }
+        ensures short { IfSome result (λ t. t.offset + t.len < 2 ^ 32) }
+    {
+        match self.found(pos, Stride::Block) {
+            Found::Lexeme(lexeme) => Some(self.token(pos, lexeme)),
+            Found::End => None,
+            Found::Fault => None,
+        }
+    }
+
+    /// Where the whitespace ends that is at a byte of the text: at that byte, where none is.
+    #[inline(always)]
+    pub fn past_whitespace(&self, pos: usize) -> usize
+        requires { IsCharBoundary self.now.text pos }
+        ensures value { result ≡ pos + prefix_len is_whitespace (drop pos self.now.text) }
+        ensures token { pos < result → (t : Lexed) × TokenAt self.now pos t
+            × (t.kind ≡ Whitespace) × (result ≡ t.offset + t.len) }
+        ensures boundary { IsCharBoundary self.now.text result }
+    {
+        let text = self.input();
+        pos + whitespace_len_by_block(&text.as_bytes()[pos..])
+    }
+
     /// The first fault from a byte of the text on, or None where there is none.
     pub fn first_fault(&self, pos: usize) -> Option<LexFault>
         requires { IsCharBoundary self.now.text pos }
@@ -200,7 +238,6 @@ impl<'a> Lexer<'a> {
         }
     }
 
-    ghost use Rattle.std.specs.Prelude.{drop};
     ghost use Rattle.wat_lex.specs.inside.Outlines.{FoundIn, IsRefused};
     ghost use Rattle.wat_lex.specs.inside.ScannedLexemes.{LexemeFound};
 

@@ -19,6 +19,7 @@ mod buffer;
 mod calls;
 mod cursor;
 pub(crate) mod fault;
+mod kept;
 mod lazy;
 mod lists;
 mod lookahead;
@@ -34,6 +35,7 @@ mod typed;
 mod whole;
 
 use crate::parser::fault::Fault;
+use crate::parser::kept::Kept;
 use crate::parser::names::{Names, RegisterError};
 use crate::parser::source_ref::SourceRef;
 pub use buffer::ParseBuffer;
@@ -60,8 +62,8 @@ pub struct Parser<'a> {
     byte: usize,
     depth: usize,
     names: Names,
-    /// The token that is shown at the place, with the place after it, where that is known.
-    next: Option<(Token, usize)>,
+    /// What is shown at the place, where that is known.
+    next: Kept,
 }
 
 impl<'a> Model for Parser<'a> {
@@ -101,7 +103,7 @@ impl<'a> Parser<'a> {
             byte: 0,
             depth: 0,
             names: Names::new(alloc),
-            next: None,
+            next: Kept::nothing(),
         }
     }
 
@@ -143,7 +145,11 @@ impl<'a> Parser<'a> {
     pub(crate) fn kept(&self, place: usize) -> Option<(Token, usize)>
         ensures { IfSome result (IsNext self.now.source place self.now.names) }
     {
-        if place == self.place { self.next } else { None }
+        if place == self.place {
+            self.next.found()
+        } else {
+            None
+        }
     }
 
     /// What is shown at a place, with the place after it.
@@ -163,13 +169,18 @@ impl<'a> Parser<'a> {
     }
 
     /// Moves to a place further on, and notes which token is shown there.
+    // One call for each move, with what a source does for most tokens built into it.
+    #[inline(never)]
     fn move_to(&mut self, place: usize, byte: usize)
         requires on { self.old.place ≤ place }
         requires place { IsPlace self.old.source place byte }
         ensures { self.new ≡ record self.old { place = place } }
     {
         let source = &self.source;
-        self.next = source.shown_at(place, byte, &self.names);
+        match source.plain_at(place, byte) {
+            Some((token, after)) => self.next = Kept::of(token, after),
+            None => self.next = source.kept_by_look(place, byte, &self.names),
+        }
         self.place = place;
         self.byte = byte;
     }
@@ -180,7 +191,7 @@ impl<'a> Parser<'a> {
         requires place { IsPlace self.old.source place byte }
         ensures { self.new ≡ record self.old { place = place; depth = depth } }
     {
-        self.next = None;
+        self.next = Kept::nothing();
         self.place = place;
         self.byte = byte;
         self.depth = depth;
@@ -317,7 +328,7 @@ impl<'a> Parser<'a> {
         ensures there { OnOk result (0 < count self.new.names name.now) }
     {
         let alloc = self.alloc();
-        self.next = None;
+        self.next = Kept::nothing();
         match self.names.register(alloc, name) {
             Ok(()) => Ok(()),
             Err(RegisterError::TooOften) => Err(self.too_often()),
@@ -342,7 +353,7 @@ impl<'a> Parser<'a> {
         requires some { 0 < times }
         ensures { self.new ≡ record self.old { names = map.insert self.old.names name.now times } }
     {
-        self.next = None;
+        self.next = Kept::nothing();
         self.names.set(name, times);
     }
 
@@ -351,7 +362,7 @@ impl<'a> Parser<'a> {
         requires { 0 < count self.old.names name.now }
         ensures { self.new ≡ record self.old { names = fewer self.old.names name.now } }
     {
-        self.next = None;
+        self.next = Kept::nothing();
         self.names.unregister(name);
     }
 

@@ -6,11 +6,12 @@ use Rattle.std.proofs.lemmas.Str.{IsCharBoundary-start}
 use Rattle.std.specs.Str.{IsUtf8, IsCharBoundary}
 use Rattle.wat_lex.specs.tokens.Faults.{FaultAt}
 use Rattle.wat_lex.specs.tokens.Setting.{Setting}
-use Rattle.wat_lex.specs.tokens.Tiling.{Tiling, MaximalTiling}
+use Rattle.wat_lex.specs.tokens.Tiling.{TokenAt, Tiling, MaximalTiling}
 use Rattle.wat_lex.specs.tokens.UniqueTilings.{AnswerAt}
 use Rattle.wat_lex.specs.declared.lexer.faults.LexFault.{LexFault}
 use Rattle.wat_lex.specs.declared.lexer.kinds.Token.{Token}
 use Rattle.wat_lex.proofs.tokens.MovedTexts.{tiling_ends}
+use Rattle.wat_lex.proofs.tokens.OneTilings.{is_at_one}
 use Rattle.wat_lex.proofs.tokens.RawLaws.{after, token_some}
 use Rattle.wat_lexer_parser.specs.inside.Next.{IsPlace}
 use Rattle.wat_lexer_parser.specs.inside.ShownIn.{first}
@@ -109,3 +110,12 @@ next_all s p (Err f) h = tt
 
 pub next_is : (s : Source) (p : ℕ) → IfOk (answer_of (drop p s.tokens) s.ending) (λ found. IfSome found (λ t. IsPlace s (p + 1) (t.offset + t.len)))
 next_is s p = next_all s p (answer_of (drop p s.tokens) s.ending) (token_is s p)
+
+-- what is a token there is the raw token of the place
+pub some_is : (s : Source) (p byte : ℕ) (found : Option Token) → IsRead s → IsPlace s p byte → IfSome found (TokenAt s.setting byte) → IfSome found (λ t. slice_get s.tokens p ≡ Some t)
+some_is s p byte None read h a = tt
+some_is s p byte (Some t) read h a = sym (subst (λ r. IfOk r (λ found. found ≡ slice_get s.tokens p)) (is_at_one s.setting byte (answer_of (drop p s.tokens) s.ending) (Ok (Some t)) (answer_at s p byte read h) a) (token_is s p))
+
+pub some_next : (s : Source) (p : ℕ) (found : Option Token) → IfSome found (λ t. slice_get s.tokens p ≡ Some t) → IfSome found (λ t. IsPlace s (p + 1) (t.offset + t.len))
+some_next s p None h = tt
+some_next s p (Some t) h = next_place s p t h

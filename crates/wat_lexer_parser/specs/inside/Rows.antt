@@ -1,12 +1,18 @@
 -- Rows of tokens that are shown whatever names are registered. No part of the standard.
+use Rattle.wat_lex.specs.declared.lexer.kinds.Token.{Token}
 use Rattle.wat_lexer_parser.specs.declared.parser.text_ref.Row.{Row}
 use Rattle.wat_lexer_parser.specs.inside.Next.{IsNext, IsPlace}
 use Rattle.wat_lexer_parser.specs.names.RegisteredNames.{Names}
 use Rattle.wat_lexer_parser.specs.places.Source.{Source}
 use Rattle.std.specs.Prelude.{ℕ}
 
--- the token is shown at the place of this byte, under all names, with the place after it
+-- the token of a row
+abbrev pub token_of : Row → Token
+token_of row = record { offset = row.offset; len = row.len; kind = row.kind }
+
+-- the token is shown at the place of this byte, under all names
 pub record IsRow (s : Source) (row : Row) : Type 0 where
   pub place : ℕ
+  pub after : ℕ
   pub is_at : IsPlace s place row.from
-  pub shown : (names : Names) → IsNext s place names (row.token, row.after)
+  pub shown : (names : Names) → IsNext s place names (token_of row, after)

@@ -13,6 +13,7 @@ ghost use Rattle.wat_lexer_parser.specs.shown.Showing.{shown};
 use crate::laws;
 use crate::parser::Parser;
 use crate::parser::fault::{Fault, FaultKind};
+use crate::parser::kept::Kept;
 use crate::parser::names::RegisterError;
 use std::alloc::{AllocError, Global};
 use wat_lex::lexer::{Token, TokenKind};
@@ -227,7 +228,7 @@ impl<'a> Parser<'a> {
         ensures refused { OnErr result (self.new ≡ self.old) }
     {
         let alloc = self.alloc();
-        self.next = None;
+        self.next = Kept::nothing();
         match self.names.register(alloc, name) {
             Ok(()) => Ok(Reply::Done),
             Err(RegisterError::TooOften) => Ok(Reply::TooOften),
@@ -240,7 +241,7 @@ impl<'a> Parser<'a> {
         ensures state { self.new ≡ (unregister self.old name.now).1 }
     {
         if self.names.is_registered(name) {
-            self.next = None;
+            self.next = Kept::nothing();
             self.names.unregister(name);
             Reply::Done
         } else {

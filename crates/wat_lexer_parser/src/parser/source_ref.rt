@@ -3,12 +3,14 @@ ghost use Rattle.std.specs.Prelude.{◌≡◌, ◌<◌, ◌^◌, length, IfOk, I
 ghost use Rattle.std.specs.Str.{IsUtf8};
 ghost use Rattle.wat_lex.specs.errors.Errors.{IsUnlessMemory};
 ghost use Rattle.wat_lexer_parser.specs.inside.Next.{IsAfter, IsNext, IsPlace};
+ghost use Rattle.wat_lexer_parser.specs.names.RegisteredNames.{Names as NamesOf};
 ghost use Rattle.wat_lexer_parser.specs.parser.State.{message_at, report_of};
 ghost use Rattle.wat_lexer_parser.specs.places.Places.{comment_at, is_meaningful};
 ghost use Rattle.wat_lexer_parser.specs.places.Source.{IsRead};
 ghost use Rattle.wat_lexer_parser.specs.shown.Showing.{shown};
 
 use crate::parser::fault::{Fault, FaultKind};
+use crate::parser::kept::Kept;
 use crate::parser::names::Names;
 use crate::parser::table_ref::TableRef;
 use crate::parser::text_ref::TextRef;
@@ -120,15 +122,29 @@ impl<'a> SourceRef<'a> {
         }
     }
 
-    /// The token that is shown at a place, with the place after it, where one is.
-    #[inline]
-    pub fn shown_at(&self, place: usize, byte: usize, names: &Names) -> Option<(Token, usize)>
+    /// The token that is shown at a place, with the place after it, where it is the same whatever
+    /// names are registered.
+    #[inline(always)]
+    pub fn plain_at(&self, place: usize, byte: usize) -> Option<(Token, usize)>
+        requires { IsPlace self.now place byte }
+        ensures { IfSome result (λ v. (names : NamesOf) → IsNext self.now place names v) }
+    {
+        match &self.tokens {
+            Tokens::Table(table) => table.plain_at(place),
+            Tokens::Text(text) => text.plain_at(place, byte),
+        }
+    }
+
+    /// What a look at a place finds there, for a parser to keep.
+    #[inline(never)]
+    pub fn kept_by_look(&self, place: usize, byte: usize, names: &Names) -> Kept
         requires { IsPlace self.now place byte }
         ensures { IfSome result (IsNext self.now place names.now) }
     {
-        match &self.tokens {
-            Tokens::Table(table) => table.shown_at(place, names),
-            Tokens::Text(text) => text.shown_at(place, byte, names),
+        match self.look(place, byte, names) {
+            Ok(Some((token, after))) => Kept::of(token, after),
+            Ok(None) => Kept::nothing(),
+            Err(_) => Kept::nothing(),
         }
     }
 

@@ -354,7 +354,7 @@ impl<'a> TableRef<'a> {
     /// The token that is shown at a place, with the place after it, where it is the same whatever
     /// names are registered.
     #[inline(always)]
-    fn plain_at(&self, place: usize) -> Option<(Token, usize)>
+    pub fn plain_at(&self, place: usize) -> Option<(Token, usize)>
         ensures { IfSome result (λ v. (names : NamesOf) → IsNext self.now place names v) }
     {
         let i = self.past_blanks(place);
@@ -364,29 +364,6 @@ impl<'a> TableRef<'a> {
                 Some((token, i + 1))
             }
             _ => None,
-        }
-    }
-
-    /// The token that is shown at a place, with the place after it, where one is. It takes no memory.
-    // What it answers needs no memory, and a look that may have to read a name stays a call.
-    #[inline(always)]
-    pub fn shown_at(&self, place: usize, names: &Names) -> Option<(Token, usize)>
-        ensures { IfSome result (IsNext self.now place names.now) }
-    {
-        match self.plain_at(place) {
-            Some(found) => Some(found),
-            None => self.shown_by_look(place, names),
-        }
-    }
-
-    /// The same, by a look.
-    #[inline(never)]
-    fn shown_by_look(&self, place: usize, names: &Names) -> Option<(Token, usize)>
-        ensures { IfSome result (IsNext self.now place names.now) }
-    {
-        match self.look(place, names) {
-            Ok(found) => found,
-            Err(_) => None,
         }
     }
 

@@ -26,12 +26,14 @@ use wat_lex::lexer::{LexFault, Lexer, Settings, Token, TokenKind};
 /// A token that is shown whatever names are registered.
 #[derive(Clone, Copy)]
 pub struct Row {
-    /// The token.
-    pub token: Token,
+    /// Where the token begins.
+    pub offset: u32,
+    /// How many bytes the token has.
+    pub len: u32,
+    /// The kind of the token.
+    pub kind: TokenKind,
     /// The byte of the places where it is shown: where the token before it ends.
     pub from: u32,
-    /// The place after it.
-    pub after: u32,
 }
 
 /// A text, lent to a parser that lexes it as it goes.
@@ -229,24 +231,54 @@ impl<'a> TextRef<'a> {
         }
     }
 
+    /// The raw token at a place; None at the end of the text, and where a fault is.
+    #[inline(always)]
+    fn some_token_at(&self, place: usize, byte: usize) -> Option<Token>
+        requires { IsPlace self.now place byte }
+        ensures token { IfSome result (λ t. slice_get self.now.tokens place ≡ Some t) }
+        ensures next { IfSome result (λ t. IsPlace self.now (place + 1) (t.offset + t.len)) }
+        ensures reader { IfSome result (IsTokenOf self.now.setting.text) }
+        ensures short { IfSome result (λ t. t.offset + t.len < 2 ^ 32) }
+    {
+        self.lemma_read();
+        self.lexer.token_at(byte)
+    }
+
+    /// The place after the whitespace that is at a place, if any is, with its byte.
+    #[inline(always)]
+    fn past_whitespace(&self, place: usize, byte: usize) -> (usize, usize)
+        requires { IsPlace self.now place byte }
+        ensures place { IsPlace self.now result.0 result.1 }
+        ensures on { place ≤ result.0 }
+        ensures same { (names : NamesOf) →
+            shown self.now place names ≡ shown self.now result.0 names }
+    {
+        self.lemma_read();
+        let end = self.lexer.past_whitespace(byte);
+        if end > byte {
+            return (place + 1, end);
+        }
+        (place, byte)
+    }
+
     /// Whether a token is shown whatever names are registered, and whatever comes after it.
+    // The byte after it is looked at before its kind, since that is seldom an `@`.
     #[inline(always)]
     fn is_plain(&self, token: Token) -> bool
         requires { token.offset < 2 ^ 32 }
         ensures { IsTrue result → (names : NamesOf) → (next : Option Lexed) →
             step_of self.now.setting.text names token next ≡ Take }
     {
-        match token.kind {
-            TokenKind::Whitespace | TokenKind::LineComment | TokenKind::BlockComment => false,
-            TokenKind::LParen => !token.is_marked(self.text()),
-            _ => true,
+        if token.kind.is_blank() {
+            return false;
         }
+        !(token.is_marked(self.text()) && matches!(token.kind, TokenKind::LParen))
     }
 
     /// The token that is shown at a place, with the place after it, where it is the same whatever
     /// names are registered.
     #[inline(always)]
-    fn plain_from(&self, place: usize, byte: usize) -> Option<(Token, usize)>
+    pub fn plain_at(&self, place: usize, byte: usize) -> Option<(Token, usize)>
         requires { IsPlace self.now place byte }
         ensures { IfSome result (λ v. (names : NamesOf) → IsNext self.now place names v) }
     {
@@ -254,27 +286,19 @@ impl<'a> TextRef<'a> {
         let mut pos = byte;
         self.lemma_read();
         'tokens: loop {
-            let Ok(Some(token)) = self.token_at(i, pos) else {
+            let (at, from) = self.past_whitespace(i, pos);
+            let Some(token) = self.some_token_at(at, from) else {
                 return None;
             };
             if self.is_plain(token) {
-                return Some((token, i + 1));
+                return Some((token, at + 1));
             }
             if !token.kind.is_blank() {
                 return None;
             }
-            i += 1;
+            i = at + 1;
             pos = token.offset + token.len as usize;
         }
-    }
-
-    /// The same, as one call for each move.
-    #[inline(never)]
-    fn plain_at(&self, place: usize, byte: usize) -> Option<(Token, usize)>
-        requires { IsPlace self.now place byte }
-        ensures { IfSome result (λ v. (names : NamesOf) → IsNext self.now place names v) }
-    {
-        self.plain_from(place, byte)
     }
 
     /// Writes a row for each of the tokens that are shown from a place on, whatever names are
@@ -295,43 +319,20 @@ impl<'a> TextRef<'a> {
         self.lemma_read();
         let mut filled = 0usize;
         while filled < rows.len() {
-            let Some((token, after)) = self.plain_from(i, pos) else {
+            let Some((token, after)) = self.plain_at(i, pos) else {
                 return filled;
             };
             rows[filled] = Row {
-                token,
+                offset: token.offset as u32,
+                len: token.len,
+                kind: token.kind,
                 from: pos as u32,
-                after: after as u32,
             };
             i = after;
             pos = token.offset + token.len as usize;
             filled += 1;
         }
         filled
-    }
-
-    /// The token that is shown at a place, with the place after it, where one is.
-    #[inline(always)]
-    pub fn shown_at(&self, place: usize, byte: usize, names: &Names) -> Option<(Token, usize)>
-        requires { IsPlace self.now place byte }
-        ensures { IfSome result (IsNext self.now place names.now) }
-    {
-        match self.plain_at(place, byte) {
-            Some(found) => Some(found),
-            None => self.shown_by_look(place, byte, names),
-        }
-    }
-
-    /// The same, by a look.
-    #[inline(never)]
-    fn shown_by_look(&self, place: usize, byte: usize, names: &Names) -> Option<(Token, usize)>
-        requires { IsPlace self.now place byte }
-        ensures { IfSome result (IsNext self.now place names.now) }
-    {
-        match self.look(place, byte, names) {
-            Ok(found) => found,
-            Err(_) => None,
-        }
     }
 
     /// The place after the whitespace token at a place, if one is there, with its byte.

@@ -18,6 +18,7 @@ use kinds::{Found, Lexeme, Stride};
 pub use read::numbers::{Float, Integer, magnitude};
 pub(crate) use scan::blocks::block_at;
 pub(crate) use scan::classes::is_confusing;
+use scan::classes::whitespace_len_by_block;
 pub(crate) use scan::comments::first_confusing;
 use scan::{fault_at_start, first_found};
 pub use settings::Settings;
@@ -197,6 +198,46 @@ impl<'a> Lexer<'a> {
             Found::End => Ok(None),
             Found::Fault => Err(self.error_at(alloc, start)),
         }
+    }
+
+    /// The token at a byte of the text, None at its end and where a fault is.
+    ///
+    /// # Proved
+    ///
+    /// ```text
+    /// requires { IsCharBoundary self.now.text pos }
+    /// ensures token { IfSome result (TokenAt self.now pos) }
+    /// ensures none { IfNone result ((pos ≡ length self.now.text)
+    ///     ⊎ ((f : Fault) × FaultAt self.now pos f)) }
+    /// ensures reader { IfSome result (IsTokenOf self.now.text) }
+    /// ensures some { IfSome result (λ t. 0 < t.len) }
+    /// ensures boundary { IfSome result (λ t. IsCharBoundary self.now.text (pos + t.len)) }
+    /// ensures short { IfSome result (λ t. t.offset + t.len < 2 ^ 32) }
+    /// ```
+    #[inline(always)]
+    pub fn token_at(&self, pos: usize) -> Option<Token> {
+        match self.found(pos, Stride::Block) {
+            Found::Lexeme(lexeme) => Some(self.token(pos, lexeme)),
+            Found::End => None,
+            Found::Fault => None,
+        }
+    }
+
+    /// Where the whitespace ends that is at a byte of the text: at that byte, where none is.
+    ///
+    /// # Proved
+    ///
+    /// ```text
+    /// requires { IsCharBoundary self.now.text pos }
+    /// ensures value { result ≡ pos + prefix_len is_whitespace (drop pos self.now.text) }
+    /// ensures token { pos < result → (t : Lexed) × TokenAt self.now pos t
+    ///     × (t.kind ≡ Whitespace) × (result ≡ t.offset + t.len) }
+    /// ensures boundary { IsCharBoundary self.now.text result }
+    /// ```
+    #[inline(always)]
+    pub fn past_whitespace(&self, pos: usize) -> usize {
+        let text = self.input();
+        pos + whitespace_len_by_block(&text.as_bytes()[pos..])
     }
 
     /// The first fault from a byte of the text on, or None where there is none.

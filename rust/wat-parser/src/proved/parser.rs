@@ -6,6 +6,7 @@ mod buffer;
 mod calls;
 mod cursor;
 pub(crate) mod fault;
+mod kept;
 mod lazy;
 mod lists;
 mod lookahead;
@@ -21,6 +22,7 @@ mod typed;
 mod whole;
 
 use crate::proved::parser::fault::Fault;
+use crate::proved::parser::kept::Kept;
 use crate::proved::parser::names::{Names, RegisterError};
 use crate::proved::parser::source_ref::SourceRef;
 pub use buffer::ParseBuffer;
@@ -46,8 +48,8 @@ pub struct Parser<'a> {
     byte: usize,
     depth: usize,
     names: Names,
-    /// The token that is shown at the place, with the place after it, where that is known.
-    next: Option<(Token, usize)>,
+    /// What is shown at the place, where that is known.
+    next: Kept,
 }
 
 impl<'a> Parser<'a> {
@@ -69,7 +71,7 @@ impl<'a> Parser<'a> {
             byte: 0,
             depth: 0,
             names: Names::new(alloc),
-            next: None,
+            next: Kept::nothing(),
         }
     }
 
@@ -128,7 +130,11 @@ impl<'a> Parser<'a> {
     /// ```
     #[inline(always)]
     pub(crate) fn kept(&self, place: usize) -> Option<(Token, usize)> {
-        if place == self.place { self.next } else { None }
+        if place == self.place {
+            self.next.found()
+        } else {
+            None
+        }
     }
 
     /// What is shown at a place, with the place after it.
@@ -152,7 +158,7 @@ impl<'a> Parser<'a> {
     }
 
     /// Moves to a place further on, and notes which token is shown there.
-    ///
+    // One call for each move, with what a source does for most tokens built into it.
     /// # Proved
     ///
     /// ```text
@@ -160,9 +166,13 @@ impl<'a> Parser<'a> {
     /// requires place { IsPlace self.old.source place byte }
     /// ensures { self.new ≡ record self.old { place = place } }
     /// ```
+    #[inline(never)]
     fn move_to(&mut self, place: usize, byte: usize) {
         let source = &self.source;
-        self.next = source.shown_at(place, byte, &self.names);
+        match source.plain_at(place, byte) {
+            Some((token, after)) => self.next = Kept::of(token, after),
+            None => self.next = source.kept_by_look(place, byte, &self.names),
+        }
         self.place = place;
         self.byte = byte;
     }
@@ -177,7 +187,7 @@ impl<'a> Parser<'a> {
     /// ensures { self.new ≡ record self.old { place = place; depth = depth } }
     /// ```
     fn put_back(&mut self, place: usize, byte: usize, depth: usize) {
-        self.next = None;
+        self.next = Kept::nothing();
         self.place = place;
         self.byte = byte;
         self.depth = depth;
@@ -369,7 +379,7 @@ impl<'a> Parser<'a> {
     /// ```
     pub fn register_annotation(&mut self, name: &str) -> Result<(), Error> {
         let alloc = self.alloc();
-        self.next = None;
+        self.next = Kept::nothing();
         match self.names.register(alloc, name) {
             Ok(()) => Ok(()),
             Err(RegisterError::TooOften) => Err(self.too_often()),
@@ -402,7 +412,7 @@ impl<'a> Parser<'a> {
     /// ensures { self.new ≡ record self.old { names = map.insert self.old.names name.now times } }
     /// ```
     pub fn set_registrations(&mut self, name: &str, times: usize) {
-        self.next = None;
+        self.next = Kept::nothing();
         self.names.set(name, times);
     }
 
@@ -415,7 +425,7 @@ impl<'a> Parser<'a> {
     /// ensures { self.new ≡ record self.old { names = fewer self.old.names name.now } }
     /// ```
     pub fn unregister_annotation(&mut self, name: &str) {
-        self.next = None;
+        self.next = Kept::nothing();
         self.names.unregister(name);
     }
 

@@ -88,8 +88,9 @@ fn whitespace_len_by_byte(text: &[u8]) -> usize
     i
 }
 
-#[inline]
-fn whitespace_len_by_block(text: &[u8]) -> usize
+/// How many bytes of whitespace are at the start, found a block at a time.
+#[inline(always)]
+pub fn whitespace_len_by_block(text: &[u8]) -> usize
     ensures { result ≡ prefix_len is_whitespace text.now }
 {
     let mut i = 0;

@@ -5,6 +5,7 @@ use wat_lex::shim::prelude::*;
 use crate::proved::laws;
 use crate::proved::parser::Parser;
 use crate::proved::parser::fault::{Fault, FaultKind};
+use crate::proved::parser::kept::Kept;
 use crate::proved::parser::names::RegisterError;
 use wat_lex::shim::alloc::{AllocError, Global};
 use wat_lex::proved::lexer::{Token, TokenKind};
@@ -255,7 +256,7 @@ impl<'a> Parser<'a> {
     /// ```
     fn answer_register(&mut self, name: &str) -> Result<Reply, AllocError> {
         let alloc = self.alloc();
-        self.next = None;
+        self.next = Kept::nothing();
         match self.names.register(alloc, name) {
             Ok(()) => Ok(Reply::Done),
             Err(RegisterError::TooOften) => Ok(Reply::TooOften),
@@ -271,7 +272,7 @@ impl<'a> Parser<'a> {
     /// ```
     fn answer_unregister(&mut self, name: &str) -> Reply {
         if self.names.is_registered(name) {
-            self.next = None;
+            self.next = Kept::nothing();
             self.names.unregister(name);
             Reply::Done
         } else {

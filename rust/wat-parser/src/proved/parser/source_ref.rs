@@ -3,6 +3,7 @@
 
 use wat_lex::shim::prelude::*;
 use crate::proved::parser::fault::{Fault, FaultKind};
+use crate::proved::parser::kept::Kept;
 use crate::proved::parser::names::Names;
 use crate::proved::parser::table_ref::TableRef;
 use crate::proved::parser::text_ref::TextRef;
@@ -120,7 +121,24 @@ impl<'a> SourceRef<'a> {
         }
     }
 
-    /// The token that is shown at a place, with the place after it, where one is.
+    /// The token that is shown at a place, with the place after it, where it is the same whatever
+    /// names are registered.
+    ///
+    /// # Proved
+    ///
+    /// ```text
+    /// requires { IsPlace self.now place byte }
+    /// ensures { IfSome result (λ v. (names : NamesOf) → IsNext self.now place names v) }
+    /// ```
+    #[inline(always)]
+    pub fn plain_at(&self, place: usize, byte: usize) -> Option<(Token, usize)> {
+        match &self.tokens {
+            Tokens::Table(table) => table.plain_at(place),
+            Tokens::Text(text) => text.plain_at(place, byte),
+        }
+    }
+
+    /// What a look at a place finds there, for a parser to keep.
     ///
     /// # Proved
     ///
@@ -128,11 +146,12 @@ impl<'a> SourceRef<'a> {
     /// requires { IsPlace self.now place byte }
     /// ensures { IfSome result (IsNext self.now place names.now) }
     /// ```
-    #[inline]
-    pub fn shown_at(&self, place: usize, byte: usize, names: &Names) -> Option<(Token, usize)> {
-        match &self.tokens {
-            Tokens::Table(table) => table.shown_at(place, names),
-            Tokens::Text(text) => text.shown_at(place, byte, names),
+    #[inline(never)]
+    pub fn kept_by_look(&self, place: usize, byte: usize, names: &Names) -> Kept {
+        match self.look(place, byte, names) {
+            Ok(Some((token, after))) => Kept::of(token, after),
+            Ok(None) => Kept::nothing(),
+            Err(_) => Kept::nothing(),
         }
     }
 

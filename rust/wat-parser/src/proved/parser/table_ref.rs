@@ -373,7 +373,7 @@ impl<'a> TableRef<'a> {
     /// ensures { IfSome result (λ v. (names : NamesOf) → IsNext self.now place names v) }
     /// ```
     #[inline(always)]
-    fn plain_at(&self, place: usize) -> Option<(Token, usize)> {
+    pub fn plain_at(&self, place: usize) -> Option<(Token, usize)> {
         let i = self.past_blanks(place);
         match self.token_at(i) {
             Some(token) if self.is_plain(i, token) => {
@@ -381,36 +381,6 @@ impl<'a> TableRef<'a> {
                 Some((token, i + 1))
             }
             _ => None,
-        }
-    }
-
-    /// The token that is shown at a place, with the place after it, where one is. It takes no memory.
-    // What it answers needs no memory, and a look that may have to read a name stays a call.
-    /// # Proved
-    ///
-    /// ```text
-    /// ensures { IfSome result (IsNext self.now place names.now) }
-    /// ```
-    #[inline(always)]
-    pub fn shown_at(&self, place: usize, names: &Names) -> Option<(Token, usize)> {
-        match self.plain_at(place) {
-            Some(found) => Some(found),
-            None => self.shown_by_look(place, names),
-        }
-    }
-
-    /// The same, by a look.
-    ///
-    /// # Proved
-    ///
-    /// ```text
-    /// ensures { IfSome result (IsNext self.now place names.now) }
-    /// ```
-    #[inline(never)]
-    fn shown_by_look(&self, place: usize, names: &Names) -> Option<(Token, usize)> {
-        match self.look(place, names) {
-            Ok(found) => found,
-            Err(_) => None,
         }
     }
 

@@ -106,13 +106,15 @@ fn whitespace_len_by_byte(text: &[u8]) -> usize {
     i
 }
 
+/// How many bytes of whitespace are at the start, found a block at a time.
+///
 /// # Proved
 ///
 /// ```text
 /// ensures { result ≡ prefix_len is_whitespace text.now }
 /// ```
-#[inline]
-fn whitespace_len_by_block(text: &[u8]) -> usize {
+#[inline(always)]
+pub fn whitespace_len_by_block(text: &[u8]) -> usize {
     let mut i = 0;
     while text.len() - i >= 16 {
         let others = other_than_whitespace(block_at(text, i));

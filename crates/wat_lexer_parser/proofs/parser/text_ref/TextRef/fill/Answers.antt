@@ -23,12 +23,12 @@ loop-filled-init c =
     }
 
 pub overflow_cast-rows : goal.overflow_cast-rows
-overflow_cast-rows c = omega (arith, c.loop-filled.invariant.short)
+overflow_cast-rows c =
+    let next : (names : Names) → IsNext c.args.self.now c.loop-filled.i names (c.in-Some.token, c.in-Some.after) = search rules in
+    omega (arith, (next no_names).after.short)
 
 pub overflow_cast-rows-in-loop-filled : goal.overflow_cast-rows-in-loop-filled
-overflow_cast-rows-in-loop-filled c =
-    let next : (names : Names) → IsNext c.args.self.now c.loop-filled.i names (c.in-Some.token, c.in-Some.after) = search rules in
-    omega (arith, (next no_names).after.place.within, c.lemma_read.ensures.small)
+overflow_cast-rows-in-loop-filled c = omega (arith, c.loop-filled.invariant.short)
 
 pub overflow_add-pos : goal.overflow_add-pos
 overflow_add-pos c =
@@ -40,7 +40,7 @@ loop-filled-preserved c =
     let s = c.args.self.now in
     let l = c.loop-filled in
     let next : (names : Names) → IsNext s l.i names (c.in-Some.token, c.in-Some.after) = search rules in
-    let row : Row = record { token = c.in-Some.token; from = l.pos; after = c.in-Some.after } in
+    let row : Row = record { offset = c.in-Some.token.offset; len = c.in-Some.token.len; kind = c.in-Some.token.kind; from = l.pos } in
     let room : l.filled < length l.rows = search rules in
     record {
       place = (next no_names).after.place;
@@ -50,7 +50,7 @@ loop-filled-preserved c =
       rows = λ k none h. elim (cases_eq k l.filled) [
         | inl e ↦
             let same : slice_index_or (slice_set l.rows l.filled row) k none ≡ row = ap (λ j. slice_index_or (slice_set l.rows l.filled row) j none) e ∙ get_or-set_same l.rows l.filled row none room in
-            subst (IsRow s) (sym same) (record { place = l.i; is_at = l.invariant.place; shown = next })
+            subst (IsRow s) (sym same) (record { place = l.i; after = c.in-Some.after; is_at = l.invariant.place; shown = next })
         | inr e ↦ subst (IsRow s) (sym (get_or-set_other l.rows l.filled k row none e)) (l.invariant.rows k none (omega (arith, h, e)))
       ];
       first = λ none h. elim (cases_eq 0 l.filled) [

@@ -2,7 +2,7 @@ use Rattle.std.proofs.Common.{◌≡◌, ◌≤◌, ◌-◌, length}
 use Rattle.wat_lexer_parser.specs.inside.Next.{IsPlace}
 use Rattle.wat_lexer_parser.specs.names.RegisteredNames.{Names}
 use Rattle.wat_lexer_parser.specs.shown.Showing.{shown}
-use Rattle.wat_lexer_parser.proofs.parser.text_ref.TextRef.plain_from.Given as goal
+use Rattle.wat_lexer_parser.proofs.parser.text_ref.TextRef.plain_at.Given as goal
 
 abbrev pub invariant-tokens : goal.invariant-tokens
 invariant-tokens l = record {
