@@ -29,8 +29,8 @@ pub use kinds::{FloatKind, IntegerKind, SignToken, Token, TokenKind};
 use kinds::{Found, Lexeme, Stride};
 pub use read::numbers::{Float, Integer, magnitude};
 pub(crate) use scan::blocks::block_at;
+use scan::classes::blank_len;
 pub(crate) use scan::classes::is_confusing;
-use scan::classes::whitespace_len_by_block;
 pub(crate) use scan::comments::first_confusing;
 use scan::{fault_at_start, first_found};
 pub use settings::Settings;
@@ -218,7 +218,7 @@ impl<'a> Lexer<'a> {
         ensures boundary { IsCharBoundary self.now.text result }
     {
         let text = self.input();
-        pos + whitespace_len_by_block(&text.as_bytes()[pos..])
+        pos + blank_len(&text.as_bytes()[pos..])
     }
 
     /// The first fault from a byte of the text on, or None where there is none.

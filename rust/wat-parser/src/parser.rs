@@ -61,7 +61,7 @@ pub type Result<T, E = Error> = core::result::Result<T, E>;
 pub fn parse<'a, T: Parse<'a>>(buffer: &'a ParseBuffer<'a>) -> Result<T> {
     let parser = Parser { buffer };
     let value = parser.parse()?;
-    match parser.cursor().shown()? {
+    match parser.cursor().look()? {
         None => Ok(value),
         Some(_) => Err(parser.error("extra tokens remaining after parse")),
     }
@@ -161,28 +161,26 @@ pub struct ParseBuffer<'a> {
     depth: Cell<usize>,
     names: RefCell<Names>,
     rows: [Cell<Row>; ROWS],
-    /// Tokens that stay shown, with the places after them.
-    kept: RefCell<Vec<(Token, usize)>>,
+    /// Tokens that stay shown.
+    kept: RefCell<Vec<Token>>,
     keep_shown: bool,
     strings: Strings,
 }
 
-/// How many rows a buffer has. A position after `i` moves has row `i % ROWS`, so that those just before stay for parsers that go back.
+/// How many rows a buffer has: those just before a position stay for parsers that go back.
 const ROWS: usize = 64;
 
 /// How many rows are filled at a time.
 const FILLED: usize = 32;
 
-/// A row of no position: none after so many moves is at its byte, as each move passes a byte at least.
-const fn no_row(moves: usize) -> Row {
+/// A row of no position of this slot: one of slot 0 is at byte 0 or many bytes on, as each move passes a byte at least, and no other is at byte 0.
+// Nor does a token stay shown at byte 1 while row 0 is as at first: the `(` of an annotation would be before it, and its name has a row.
+const fn no_row(slot: usize) -> Row {
     Row {
-        token: Token {
-            offset: 0,
-            len: 0,
-            kind: TokenKind::Whitespace,
-        },
-        from: (moves == 0) as u32,
-        after: 0,
+        offset: 0,
+        len: 0,
+        kind: TokenKind::Whitespace,
+        from: (slot == 0) as u32,
     }
 }
 
@@ -193,55 +191,40 @@ const NO_ROWS: [Cell<Row>; ROWS] = {
     rows
 };
 
-/// How far a parser or a cursor has come: two pairs of numbers of 32 bits, as a text has fewer than 2^32 bytes.
-// Two words: of halves that were written apart a processor can't read a whole at once.
+/// How far a parser or a cursor has come, in one word: in the low half where the last token before it ends, in the high half the slot of its row,
+/// or `KEPT` and the number of the token that stays shown.
+// Of halves that were written apart a processor can't read a whole at once.
 #[derive(Clone, Copy)]
-struct Position {
-    /// In the low half where the last token before it ends, in the high half how many moves were made to come here.
-    row: u64,
-    /// In the low half how many raw tokens are before it, white space and comments among them, in the high half the number of the token that
-    /// stays shown, or `UNKNOWN`.
-    place: u64,
-}
+struct Position(u64);
 
-/// No number of a token that stays shown.
-const UNKNOWN: u64 = u32::MAX as u64;
+/// The bit of a position whose token stays shown.
+const KEPT: usize = 1 << 31;
 
 impl Position {
     #[inline(always)]
-    fn new(place: usize, byte: usize, moves: usize) -> Position {
-        Position {
-            row: byte as u64 | (moves as u64) << 32,
-            place: place as u64 | UNKNOWN << 32,
-        }
+    fn new(byte: usize, slot: usize) -> Position {
+        Position(byte as u64 | (slot as u64) << 32)
     }
 
     #[inline(always)]
     fn byte(self) -> usize {
-        self.row as u32 as usize
+        self.0 as u32 as usize
     }
 
     #[inline(always)]
-    fn moves(self) -> usize {
-        (self.row >> 32) as usize
+    fn slot(self) -> usize {
+        (self.0 >> 32) as usize % ROWS
     }
 
+    /// The number of the token that stays shown.
+    fn kept(self) -> Option<usize> {
+        ((self.0 >> 32) as usize).checked_sub(KEPT)
+    }
+
+    /// The position one move on.
     #[inline(always)]
-    fn place(self) -> usize {
-        self.place as u32 as usize
-    }
-
-    #[inline(always)]
-    fn kept(self) -> usize {
-        (self.place >> 32) as usize
-    }
-
-    /// The position where the token of this number stays shown.
-    fn keeping(self, kept: usize) -> Position {
-        Position {
-            place: self.place as u32 as u64 | (kept as u64) << 32,
-            ..self
-        }
+    fn next(self, byte: usize) -> Position {
+        Position::new(byte, (self.slot() + 1) % ROWS)
     }
 }
 
@@ -265,7 +248,7 @@ impl<'a> ParseBuffer<'a> {
         Ok(ParseBuffer {
             text: TextRef::new(lexer.input(), lexer.settings(), false, Global),
             lexer,
-            position: Cell::new(Position::new(0, 0, 0)),
+            position: Cell::new(Position::new(0, 0)),
             rows: NO_ROWS,
             kept: RefCell::new(Vec::new(Global)),
             depth: Cell::new(0),
@@ -290,35 +273,52 @@ impl<'a> ParseBuffer<'a> {
         self
     }
 
-    /// The token that is shown at a position, with the place after it, where that is known, whatever names are registered.
-    // A row is of its byte alone: whenever it was written, the token is shown there.
+    /// The row of a position, and whether its token is shown there, whatever names are registered.
+    // A row is of its byte alone: whenever it was written, the token is shown there. They are apart, as an option is a kind more to test for.
     #[inline(always)]
-    fn row_at(&self, position: Position) -> Option<(Token, usize)> {
-        let row = self.rows[position.moves() % ROWS].get();
-        (row.from as usize == position.byte()).then_some((row.token, row.after as usize))
+    fn row_at(&self, position: Position) -> (Row, bool) {
+        let row = self.rows[position.slot()].get();
+        (row, row.from as usize == position.byte())
     }
 
     /// Fills rows from a position on, and answers its own.
     #[inline(never)]
-    fn filled_at(&self, position: Position) -> Option<(Token, usize)> {
-        let mut rows = [no_row(0); FILLED];
-        let first = position.moves() % ROWS;
+    fn filled_at(&self, position: Position) -> Option<Token> {
+        let byte = position.byte();
+        let mut rows = [no_row(1); FILLED];
+        let first = position.slot();
         let room = FILLED.min(ROWS - first);
-        let filled = self
-            .text
-            .fill(position.place(), position.byte(), &mut rows[..room]);
+        let filled = self.text_from(byte).fill(0, 0, &mut rows[..room]);
         for (cell, row) in self.rows[first..].iter().zip(&rows[..filled]) {
-            cell.set(*row);
+            cell.set(Row {
+                offset: row.offset + byte as u32,
+                from: row.from + byte as u32,
+                ..*row
+            });
         }
-        rows[..filled]
-            .first()
-            .map(|row| (row.token, row.after as usize))
+        (filled > 0).then(|| token_of(self.rows[first].get()))
     }
 
-    /// The position at a place after so many moves.
+    /// What is shown at a byte by the names that are registered.
+    fn shown_at(&self, byte: usize) -> Result<Option<Token>, Fault> {
+        match self.text_from(byte).look(0, 0, &self.names.borrow()) {
+            Ok(found) => Ok(found.map(|(token, _)| moved(token, byte))),
+            Err(fault) => Err(moved_fault(fault, byte)),
+        }
+    }
+
+    /// The comment at a byte, or after white space there.
+    fn comment_at(&self, byte: usize) -> Result<Option<Token>, Fault> {
+        match self.text_from(byte).comment_at(0, 0) {
+            Ok(found) => Ok(found.map(|(token, _)| moved(token, byte))),
+            Err(fault) => Err(moved_fault(fault, byte)),
+        }
+    }
+
+    /// The position one move on.
     #[inline(always)]
-    fn position_at(&self, place: usize, byte: usize, moves: usize) -> Position {
-        let position = Position::new(place, byte, moves);
+    fn position_after(&self, position: Position, byte: usize) -> Position {
+        let position = position.next(byte);
         if self.keep_shown {
             return self.keeping(position);
         }
@@ -329,20 +329,27 @@ impl<'a> ParseBuffer<'a> {
     #[cold]
     #[inline(never)]
     fn keeping(&self, position: Position) -> Position {
-        if self.row_at(position).is_some() || self.filled_at(position).is_some() {
+        if self.row_at(position).1 || self.filled_at(position).is_some() {
             return position;
         }
-        let (place, byte) = (position.place(), position.byte());
-        let Ok(Some(shown)) = self.text.look(place, byte, &self.names.borrow()) else {
+        let byte = position.byte();
+        let Ok(Some(shown)) = self.shown_at(byte) else {
             return position;
         };
         let mut kept = self.kept.borrow_mut();
         granted(kept.push(shown).map_err(AllocError::from));
-        position.keeping(kept.len() - 1)
+        Position::new(byte, KEPT + kept.len() - 1)
     }
 
     fn text_ref(&self, track: bool) -> TextRef<'a> {
         TextRef::new(self.lexer.input(), self.lexer.settings(), track, Global)
+    }
+
+    /// The text from a byte on that a token ends at, or from its start: a law (`Cuts`) says that it has the same tokens. So no parser counts tokens.
+    #[inline(always)]
+    fn text_from(&self, byte: usize) -> TextRef<'a> {
+        let text = &self.lexer.input()[byte..];
+        TextRef::new(text, self.lexer.settings(), false, Global)
     }
 
     /// The text as errors are made of it.
@@ -355,6 +362,28 @@ impl<'a> ParseBuffer<'a> {
     fn error_of(&self, fault: Fault) -> Error {
         self.source().error_of(fault).into()
     }
+}
+
+/// The token of a row.
+#[inline(always)]
+fn token_of(row: Row) -> Token {
+    Token {
+        offset: row.offset as usize,
+        len: row.len,
+        kind: row.kind,
+    }
+}
+
+/// The token so many bytes further on.
+fn moved(token: Token, bytes: usize) -> Token {
+    let offset = token.offset + bytes;
+    Token { offset, ..token }
+}
+
+/// The fault so many bytes further on.
+fn moved_fault(fault: Fault, bytes: usize) -> Fault {
+    let offset = fault.offset + bytes;
+    Fault { offset, ..fault }
 }
 
 impl fmt::Debug for ParseBuffer<'_> {
@@ -373,8 +402,18 @@ impl<'a> Parser<'a> {
     /// Whether the group that the parser is in, or the text, has no more tokens. False where a fault is shown.
     #[inline]
     pub fn is_empty(self) -> bool {
-        match self.cursor().shown() {
-            Ok(Some((token, _))) => matches!(token.kind, TokenKind::RParen),
+        let (row, known) = self.cursor().row();
+        if known {
+            return matches!(row.kind, TokenKind::RParen);
+        }
+        self.is_empty_by_look()
+    }
+
+    #[cold]
+    #[inline(never)]
+    fn is_empty_by_look(self) -> bool {
+        match self.cursor().look() {
+            Ok(Some(token)) => matches!(token.kind, TokenKind::RParen),
             Ok(None) => true,
             Err(_) => false,
         }

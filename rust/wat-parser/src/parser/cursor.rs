@@ -1,4 +1,4 @@
-use super::{Parser, Position, Result, unless_refused};
+use super::{Parser, Position, Result, Row, token_of, unless_refused};
 use crate::Error;
 use crate::lexer::{Float, Integer};
 use crate::proved::lexer::Token;
@@ -40,87 +40,101 @@ impl<'a> Cursor<'a> {
         self.parser.buffer.text.text()
     }
 
-    /// The token that is shown, with the place after it.
+    /// The row here, and whether its token is shown.
     #[inline(always)]
-    pub(super) fn shown(&self) -> Result<Option<(Token, usize)>> {
-        match self.parser.buffer.row_at(self.position) {
-            Some(shown) => Ok(Some(shown)),
-            None => self.look(),
-        }
+    pub(super) fn row(&self) -> (Row, bool) {
+        self.parser.buffer.row_at(self.position)
     }
 
-    /// The same, by a look at the text.
+    /// The token that is shown.
     #[cold]
     #[inline(never)]
-    fn look(&self) -> Result<Option<(Token, usize)>> {
+    pub(super) fn look(&self) -> Result<Option<Token>> {
         let (buffer, position) = (self.parser.buffer, self.position);
-        if let Some(kept) = buffer.kept.borrow().get(position.kept()) {
-            return Ok(Some(*kept));
+        if let Some(kept) = position.kept() {
+            return Ok(Some(buffer.kept.borrow()[kept]));
+        }
+        let (row, known) = self.row();
+        if known {
+            return Ok(Some(token_of(row)));
         }
         if let Some(shown) = buffer.filled_at(position) {
             return Ok(Some(shown));
         }
-        let (place, byte) = (position.place(), position.byte());
-        let shown = buffer.text.look(place, byte, &buffer.names.borrow());
+        let shown = buffer.shown_at(position.byte());
         shown.map_err(|fault| buffer.error_of(fault))
     }
 
-    /// Whether a token of such a kind is shown.
+    /// Whether such a token is shown.
     #[inline(always)]
-    fn sees(self, is: impl FnOnce(TokenKind) -> bool) -> Result<bool> {
-        Ok(self.shown()?.is_some_and(|(token, _)| is(token.kind)))
+    fn sees(self, is: impl Fn(Token) -> bool) -> Result<bool> {
+        let (row, known) = self.row();
+        if known {
+            return Ok(is(token_of(row)));
+        }
+        Ok(self.look()?.is_some_and(is))
     }
 
-    /// What the function makes of the token that is shown, with the cursor after it; None where it makes nothing of it.
+    /// Takes a token of such a kind.
+    #[inline(always)]
+    fn take(self, is: impl Fn(TokenKind) -> bool) -> Result<Option<(Token, Self)>> {
+        self.take_as(|token| is(token.kind).then_some(token))
+    }
+
+    /// Takes the token of which the function makes something.
     // The token is one of the text, and the function looks at its kind: that is what the proved readers require.
     #[inline(always)]
-    fn take<T>(self, of: impl FnOnce(Token) -> Option<T>) -> Result<Option<(T, Self)>> {
-        let Some((token, after)) = self.shown()? else {
+    fn take_as<T>(self, of: impl Fn(Token) -> Option<T>) -> Result<Option<(T, Self)>> {
+        let (row, known) = self.row();
+        if known {
+            let token = token_of(row);
+            return Ok(of(token).map(|taken| (taken, self.moved(token))));
+        }
+        let Some(token) = self.look()? else {
             return Ok(None);
         };
-        Ok(of(token).map(|taken| (taken, self.moved(token, after))))
+        Ok(of(token).map(|taken| (taken, self.moved(token))))
     }
 
-    /// The cursor at the place after a token.
+    /// The cursor after a token.
     #[inline(always)]
-    fn moved(self, token: Token, place: usize) -> Self {
-        let byte = token.offset + token.len as usize;
-        Cursor {
-            position: self
-                .parser
-                .buffer
-                .position_at(place, byte, self.position.moves() + 1),
-            ..self
-        }
+    fn moved(self, token: Token) -> Self {
+        let end = token.offset + token.len as usize;
+        let position = self.parser.buffer.position_after(self.position, end);
+        Cursor { position, ..self }
     }
 
     /// The cursor after the token that is shown.
     pub(super) fn past_any(self) -> Result<Option<Self>> {
-        Ok(self.take(|_| Some(()))?.map(|((), rest)| rest))
+        Ok(self.take(|_| true)?.map(|(_, rest)| rest))
     }
 
     /// Takes this keyword, and answers where it begins.
     #[inline(always)]
     pub(super) fn this_keyword(self, word: &str) -> Result<Option<(Span, Self)>> {
         let text = self.text();
-        self.take(|token| is_keyword(text, token, word).then(|| Span::from_offset(token.offset)))
+        self.take_as(|token| is_keyword(text, token, word).then(|| Span::from_offset(token.offset)))
     }
 
     /// Takes an integer, as its token.
+    // The token is one of the text, and of the kind that is asked for: that is what the proved readers require.
     #[inline(always)]
     pub(crate) fn integer_token(self) -> Result<Option<((Token, IntegerKind), Self)>> {
-        self.take(|token| match token.kind {
-            TokenKind::Integer(kind) => Some((token, kind)),
-            _ => None,
-        })
+        match self.take(|kind| matches!(kind, TokenKind::Integer(_)))? {
+            Some((token, rest)) => match token.kind {
+                TokenKind::Integer(kind) => Ok(Some(((token, kind), rest))),
+                _ => Ok(None),
+            },
+            None => Ok(None),
+        }
     }
 
     /// Whether this keyword is shown.
     #[doc(hidden)]
     #[inline(always)]
     pub fn is_keyword(self, word: &str) -> Result<bool> {
-        let shown = self.shown()?;
-        Ok(shown.is_some_and(|(token, _)| is_keyword(self.text(), token, word)))
+        let text = self.text();
+        self.sees(|token| is_keyword(text, token, word))
     }
 
     /// Whether this reserved token is shown.
@@ -131,27 +145,41 @@ impl<'a> Cursor<'a> {
 
     /// Whether an annotation of this name is shown.
     #[doc(hidden)]
-    #[inline]
+    #[inline(always)]
     pub fn is_annotation(self, name: &str) -> Result<bool> {
-        match self.shown()? {
-            Some((token, _)) if matches!(token.kind, TokenKind::Annotation) => {
-                self.is_named(token, name)
+        let (row, known) = self.row();
+        if known && !matches!(row.kind, TokenKind::Annotation) {
+            return Ok(false);
+        }
+        self.is_annotation_by_look(name)
+    }
+
+    // It stays a call, as `name`, so that what most callers find is found at once.
+    #[inline(never)]
+    fn is_annotation_by_look(self, name: &str) -> Result<bool> {
+        match self.look()? {
+            Some(token) if matches!(token.kind, TokenKind::Annotation) => {
+                Ok(self.name(token)? == name)
             }
             _ => Ok(false),
         }
     }
 
-    // It stays a call, as `name`, so that what most callers find is found at once.
-    #[inline(never)]
-    fn is_named(&self, token: Token, name: &str) -> Result<bool> {
-        Ok(self.name(token)? == name)
-    }
-
     /// Where the token that is shown begins: the text's end where none is left, and the end of what was taken where a fault is shown.
     #[inline]
     pub fn cur_span(&self) -> Span {
-        Span::from_offset(match self.shown() {
-            Ok(Some((token, _))) => token.offset,
+        let (row, known) = self.row();
+        if known {
+            return Span::from_offset(row.offset as usize);
+        }
+        self.span_by_look()
+    }
+
+    #[cold]
+    #[inline(never)]
+    fn span_by_look(&self) -> Span {
+        Span::from_offset(match self.look() {
+            Ok(Some(token)) => token.offset,
             Ok(None) => self.text().len(),
             Err(_) => self.position.byte(),
         })
@@ -170,7 +198,7 @@ impl<'a> Cursor<'a> {
     /// Where a fault is shown, as for each look and each taking.
     #[inline]
     pub fn peek_lparen(self) -> Result<bool> {
-        self.sees(|kind| matches!(kind, TokenKind::LParen))
+        self.sees(|token| matches!(token.kind, TokenKind::LParen))
     }
 
     /// Whether a `)` is shown.
@@ -180,7 +208,7 @@ impl<'a> Cursor<'a> {
     /// Where a fault is shown.
     #[inline]
     pub fn peek_rparen(self) -> Result<bool> {
-        self.sees(|kind| matches!(kind, TokenKind::RParen))
+        self.sees(|token| matches!(token.kind, TokenKind::RParen))
     }
 
     /// Whether an identifier is shown, also one whose name is at fault.
@@ -190,7 +218,7 @@ impl<'a> Cursor<'a> {
     /// Where a fault is shown.
     #[inline]
     pub fn peek_id(self) -> Result<bool> {
-        self.sees(|kind| matches!(kind, TokenKind::Id))
+        self.sees(|token| matches!(token.kind, TokenKind::Id))
     }
 
     /// Whether a reserved token is shown.
@@ -200,7 +228,7 @@ impl<'a> Cursor<'a> {
     /// Where a fault is shown.
     #[inline]
     pub fn peek_reserved(self) -> Result<bool> {
-        self.sees(|kind| matches!(kind, TokenKind::Reserved))
+        self.sees(|token| matches!(token.kind, TokenKind::Reserved))
     }
 
     /// Whether a keyword is shown.
@@ -210,7 +238,7 @@ impl<'a> Cursor<'a> {
     /// Where a fault is shown.
     #[inline]
     pub fn peek_keyword(self) -> Result<bool> {
-        self.sees(|kind| matches!(kind, TokenKind::Keyword))
+        self.sees(|token| matches!(token.kind, TokenKind::Keyword))
     }
 
     /// Whether an integer is shown.
@@ -220,7 +248,7 @@ impl<'a> Cursor<'a> {
     /// Where a fault is shown.
     #[inline]
     pub fn peek_integer(self) -> Result<bool> {
-        self.sees(|kind| matches!(kind, TokenKind::Integer(_)))
+        self.sees(|token| matches!(token.kind, TokenKind::Integer(_)))
     }
 
     /// Whether a floating-point number is shown, which an integer is not.
@@ -230,7 +258,7 @@ impl<'a> Cursor<'a> {
     /// Where a fault is shown.
     #[inline]
     pub fn peek_float(self) -> Result<bool> {
-        self.sees(|kind| matches!(kind, TokenKind::Float(_)))
+        self.sees(|token| matches!(token.kind, TokenKind::Float(_)))
     }
 
     /// Whether a string is shown.
@@ -240,7 +268,7 @@ impl<'a> Cursor<'a> {
     /// Where a fault is shown.
     #[inline]
     pub fn peek_string(self) -> Result<bool> {
-        self.sees(|kind| matches!(kind, TokenKind::String))
+        self.sees(|token| matches!(token.kind, TokenKind::String))
     }
 
     /// Takes a `(`.
@@ -250,8 +278,8 @@ impl<'a> Cursor<'a> {
     /// Where a fault is shown.
     #[inline]
     pub fn lparen(self) -> Result<Option<Self>> {
-        let taken = self.take(|token| matches!(token.kind, TokenKind::LParen).then_some(()))?;
-        Ok(taken.map(|((), rest)| rest))
+        let taken = self.take(|kind| matches!(kind, TokenKind::LParen))?;
+        Ok(taken.map(|(_, rest)| rest))
     }
 
     /// Takes a `)`.
@@ -261,8 +289,8 @@ impl<'a> Cursor<'a> {
     /// Where a fault is shown.
     #[inline]
     pub fn rparen(self) -> Result<Option<Self>> {
-        let taken = self.take(|token| matches!(token.kind, TokenKind::RParen).then_some(()))?;
-        Ok(taken.map(|((), rest)| rest))
+        let taken = self.take(|kind| matches!(kind, TokenKind::RParen))?;
+        Ok(taken.map(|(_, rest)| rest))
     }
 
     /// Takes an identifier, without its `$`.
@@ -280,10 +308,10 @@ impl<'a> Cursor<'a> {
     /// # Errors
     ///
     /// Where a fault is shown.
-    #[inline]
+    #[inline(always)]
     pub fn keyword(self) -> Result<Option<(&'a str, Self)>> {
         let text = self.text();
-        self.take(|token| matches!(token.kind, TokenKind::Keyword).then(|| token.keyword(text)))
+        self.take_as(|token| matches!(token.kind, TokenKind::Keyword).then(|| token.keyword(text)))
     }
 
     /// Takes an annotation's name, without its `@`.
@@ -297,8 +325,8 @@ impl<'a> Cursor<'a> {
     }
 
     #[inline(always)]
-    fn take_name(self, is: impl FnOnce(TokenKind) -> bool) -> Result<Option<(&'a str, Self)>> {
-        match self.take(|token| is(token.kind).then_some(token))? {
+    fn take_name(self, is: impl Fn(TokenKind) -> bool) -> Result<Option<(&'a str, Self)>> {
+        match self.take(is)? {
             Some((token, rest)) => Ok(Some((self.name(token)?, rest))),
             None => Ok(None),
         }
@@ -321,7 +349,9 @@ impl<'a> Cursor<'a> {
     /// Where a fault is shown.
     pub fn reserved(self) -> Result<Option<(&'a str, Self)>> {
         let text = self.text();
-        self.take(|token| matches!(token.kind, TokenKind::Reserved).then(|| token.reserved(text)))
+        self.take_as(|token| {
+            matches!(token.kind, TokenKind::Reserved).then(|| token.reserved(text))
+        })
     }
 
     /// Takes an integer, in its digits.
@@ -343,11 +373,10 @@ impl<'a> Cursor<'a> {
     ///
     /// Where a fault is shown.
     pub fn float(self) -> Result<Option<(Float<'a>, Self)>> {
-        let taken = self.take(|token| match token.kind {
-            TokenKind::Float(kind) => Some((token, kind)),
-            _ => None,
-        })?;
-        let Some(((token, kind), rest)) = taken else {
+        let Some((token, rest)) = self.take(|kind| matches!(kind, TokenKind::Float(_)))? else {
+            return Ok(None);
+        };
+        let TokenKind::Float(kind) = token.kind else {
             return Ok(None);
         };
         let float = unless_refused(token.float(Global, self.text(), kind))?;
@@ -360,8 +389,7 @@ impl<'a> Cursor<'a> {
     ///
     /// Where a fault is shown.
     pub fn string(self) -> Result<Option<(&'a [u8], Self)>> {
-        let taken = self.take(|token| matches!(token.kind, TokenKind::String).then_some(token))?;
-        let Some((token, rest)) = taken else {
+        let Some((token, rest)) = self.take(|kind| matches!(kind, TokenKind::String))? else {
             return Ok(None);
         };
         let bytes = unless_refused(token.string(Global, self.text()))?;
@@ -375,14 +403,11 @@ impl<'a> Cursor<'a> {
     /// Where the text is at fault there.
     pub fn comment(self) -> Result<Option<(&'a str, Self)>> {
         let buffer = self.parser.buffer;
-        match buffer
-            .text
-            .comment_at(self.position.place(), self.position.byte())
-        {
-            Ok(Some((token, place))) => {
+        match buffer.comment_at(self.position.byte()) {
+            Ok(Some(token)) => {
                 // What is shown after a comment is not kept.
                 let end = token.offset + token.len as usize;
-                let position = Position::new(place, end, self.position.moves() + 1);
+                let position = self.position.next(end);
                 Ok(Some((token.src(self.text()), Cursor { position, ..self })))
             }
             Ok(None) => Ok(None),

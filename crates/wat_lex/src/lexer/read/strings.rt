@@ -1,16 +1,17 @@
 //! The values of strings and names.
 ghost use Rattle.std.specs.Prelude.{◌≡◌, ◌↔◌, ◌<◌, ◌++◌, ◌∷◌, ℕ, List, [], length};
-ghost use Rattle.std.specs.Prelude.{Some, IfOk, OnOk, IsOk, IfSome, IfNone};
+ghost use Rattle.std.specs.Prelude.{Some, IfOk, OnOk, IsOk, IfSome, IfNone, true};
+ghost use Rattle.std.specs.Char.{digit_value};
 ghost use Rattle.memchr.specs.Find.{IsFirstByte, is_byte};
 ghost use Rattle.std.specs.Cow.{cow_str_bytes, IsBorrowedStr};
 ghost use Rattle.std.specs.Str.{chars, IsUtf8};
-ghost use Rattle.wat_lex.specs.grammar.Classes.{backslash};
+ghost use Rattle.wat_lex.specs.grammar.Classes.{backslash, is_hex};
 ghost use Rattle.wat_lex.specs.values.Names.{Named, HasNone, HasNoEscape, IsQuoted, IsNamed};
 ghost use Rattle.wat_lex.specs.inside.ScannedStrings.{escape_bytes};
 ghost use Rattle.wat_lex.specs.tokens.Setting.{lenient};
 ghost use Rattle.wat_lex.specs.grammar.Strings.{Element, Quoted};
 
-use crate::lexer::scan::strings::{EscapeValue, escape, hex_digit, is_byte_escape};
+use crate::lexer::scan::strings::{EscapeValue, escape, is_byte_escape};
 use crate::lexer::settings::Settings;
 use memchr::memchr;
 use std::alloc::{AllocError, Global};
@@ -49,6 +50,17 @@ fn append(value: &mut Vec<u8>, read: EscapeValue) -> Result<(), AllocError>
     Ok(())
 }
 
+/// What a hexadecimal digit stands for.
+// Its lower half is the digit, and 9 less for a letter: without a branch, as digits may be any.
+#[inline(always)]
+fn digit(byte: u8) -> u8
+    requires { is_hex byte ≡ true }
+    ensures value { result ≡ digit_value byte }
+    ensures small { result < 16 }
+{
+    (byte & 15) + 9 * (byte >> 6)
+}
+
 /// The byte of an escape of two hexadecimal digits at the start, and what comes after it.
 #[inline]
 pub fn byte_escape(text: &str) -> Option<(u8, &str)>
@@ -61,8 +73,7 @@ pub fn byte_escape(text: &str) -> Option<(u8, &str)>
     if !is_byte_escape(bytes) {
         return None;
     }
-    let value = 16 * hex_digit(bytes[1] as char) + hex_digit(bytes[2] as char);
-    Some((value as u8, &text[3..]))
+    Some((16 * digit(bytes[1]) + digit(bytes[2]), &text[3..]))
 }
 
 /// What the escape at the start of elements stands for that a closing quote ends, and what comes
@@ -93,6 +104,9 @@ pub fn unescaped(alloc: Global, elements: &str) -> Result<Vec<u8>, AllocError>
             value.push(byte)?;
             rest = after;
             continue 'elements;
+        }
+        if let [b'"'] = rest.as_bytes() {
+            return Ok(value);
         }
         match memchr(b'\\', rest.as_bytes()) {
             Some(0) => {

@@ -279,9 +279,9 @@ pub fn string_len(text: &str, flags: Settings) -> Result<usize, LexFault>
     let mut at = 0;
     'elements: loop {
         match &bytes[at..] {
+            rest if is_byte_escape(rest) => at += 3,
             [b'"', ..] => return Ok(at + 1),
             [first, ..] if is_plain(*first) => at += plain_len(&bytes[at..]),
-            rest if is_byte_escape(rest) => at += 3,
             _ => match element_len(&text[at..], flags) {
                 Ok(len) => at += len,
                 Err(fault) => return fault_at(at + fault.offset, fault.error),

@@ -263,10 +263,10 @@ impl<'a> TextRef<'a> {
     fn past_whitespace(&self, place: usize, byte: usize) -> (usize, usize) {
         self.lemma_read();
         let end = self.lexer.past_whitespace(byte);
-        if end > byte {
-            return (place + 1, end);
+        if end == byte {
+            return (place, byte);
         }
-        (place, byte)
+        (place + 1, end)
     }
 
     /// Whether a token is shown whatever names are registered, and whatever comes after it.

@@ -30,18 +30,18 @@ ends s p n u b e = elim (cases_eq n 0) [
 pub overflow_add-result : goal.overflow_add-result
 overflow_add-result c =
     let text = c.args.self.now.text in
-    let e = measured text c.as_bytes.result.now c.args.pos _ (c.as_bytes.ensures.value ∙ c.input-text.ensures.text) c.whitespace_len_by_block.ensures in
+    let e = measured text c.as_bytes.result.now c.args.pos _ (c.as_bytes.ensures.value ∙ c.input-text.ensures.text) c.blank_len.ensures in
     record { fits = omega (arith, e, prefix_len-le-length is_whitespace (drop c.args.pos text), length-drop c.args.pos text, c.requires.0, c.input-text.ensures.short, ap length c.input-text.ensures.text) }
 
 pub returns-clause-token : goal.returns-clause-token
 returns-clause-token c = λ some.
     let s = c.args.self.now in
-    let e = measured s.text c.as_bytes.result.now c.args.pos _ (c.as_bytes.ensures.value ∙ c.input-text.ensures.text) c.whitespace_len_by_block.ensures in
-    let found = whitespace_found s c.args.pos c.whitespace_len_by_block.result c.input-text.ensures.utf8 c.requires e (omega (arith, some)) in
+    let e = measured s.text c.as_bytes.result.now c.args.pos _ (c.as_bytes.ensures.value ∙ c.input-text.ensures.text) c.blank_len.ensures in
+    let found = whitespace_found s c.args.pos c.blank_len.result c.input-text.ensures.utf8 c.requires e (omega (arith, some)) in
     (_, token_at s (drop c.args.pos s.text) c.args.pos _ refl found, refl, refl)
 
 pub returns-clause-boundary : goal.returns-clause-boundary
 returns-clause-boundary c =
     let s = c.args.self.now in
-    let e = measured s.text c.as_bytes.result.now c.args.pos _ (c.as_bytes.ensures.value ∙ c.input-text.ensures.text) c.whitespace_len_by_block.ensures in
-    ends s c.args.pos c.whitespace_len_by_block.result c.input-text.ensures.utf8 c.requires e
+    let e = measured s.text c.as_bytes.result.now c.args.pos _ (c.as_bytes.ensures.value ∙ c.input-text.ensures.text) c.blank_len.ensures in
+    ends s c.args.pos c.blank_len.result c.input-text.ensures.utf8 c.requires e

@@ -2,7 +2,7 @@
 //! The values of strings and names.
 
 use crate::shim::prelude::*;
-use crate::proved::lexer::scan::strings::{EscapeValue, escape, hex_digit, is_byte_escape};
+use crate::proved::lexer::scan::strings::{EscapeValue, escape, is_byte_escape};
 use crate::proved::lexer::settings::Settings;
 use memchr::memchr;
 use crate::shim::alloc::{AllocError, Global};
@@ -49,6 +49,20 @@ fn append(value: &mut Vec<u8>, read: EscapeValue) -> Result<(), AllocError> {
     Ok(())
 }
 
+/// What a hexadecimal digit stands for.
+// Its lower half is the digit, and 9 less for a letter: without a branch, as digits may be any.
+/// # Proved
+///
+/// ```text
+/// requires { is_hex byte ≡ true }
+/// ensures value { result ≡ digit_value byte }
+/// ensures small { result < 16 }
+/// ```
+#[inline(always)]
+fn digit(byte: u8) -> u8 {
+    (byte & 15) + 9 * (byte >> 6)
+}
+
 /// The byte of an escape of two hexadecimal digits at the start, and what comes after it.
 ///
 /// # Proved
@@ -65,8 +79,7 @@ pub fn byte_escape(text: &str) -> Option<(u8, &str)> {
     if !is_byte_escape(bytes) {
         return None;
     }
-    let value = 16 * hex_digit(bytes[1] as char) + hex_digit(bytes[2] as char);
-    Some((value as u8, &text[3..]))
+    Some((16 * digit(bytes[1]) + digit(bytes[2]), &text[3..]))
 }
 
 /// What the escape at the start of elements stands for that a closing quote ends, and what comes
@@ -105,6 +118,9 @@ pub fn unescaped(alloc: Global, elements: &str) -> Result<Vec<u8>, AllocError> {
             value.push(byte)?;
             rest = after;
             continue 'elements;
+        }
+        if let [b'"'] = rest.as_bytes() {
+            return Ok(value);
         }
         match memchr(b'\\', rest.as_bytes()) {
             Some(0) => {

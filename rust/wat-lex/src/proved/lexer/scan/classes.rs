@@ -106,15 +106,13 @@ fn whitespace_len_by_byte(text: &[u8]) -> usize {
     i
 }
 
-/// How many bytes of whitespace are at the start, found a block at a time.
-///
 /// # Proved
 ///
 /// ```text
 /// ensures { result ≡ prefix_len is_whitespace text.now }
 /// ```
-#[inline(always)]
-pub fn whitespace_len_by_block(text: &[u8]) -> usize {
+#[inline]
+fn whitespace_len_by_block(text: &[u8]) -> usize {
     let mut i = 0;
     while text.len() - i >= 16 {
         let others = other_than_whitespace(block_at(text, i));
@@ -143,6 +141,22 @@ pub fn whitespace_len(text: &[u8], stride: Stride) -> usize {
             Stride::Block => whitespace_len_by_block(text),
         },
     }
+}
+
+/// How many bytes of whitespace are at the start. Mostly there is none, or one: a processor that
+/// guesses so goes on at once.
+///
+/// # Proved
+///
+/// ```text
+/// ensures { result ≡ prefix_len is_whitespace text.now }
+/// ```
+#[inline(always)]
+pub fn blank_len(text: &[u8]) -> usize {
+    if text.is_empty() || !is_whitespace(text[0]) {
+        return 0;
+    }
+    1 + whitespace_len(&text[1..], Stride::Block)
 }
 
 // Where there are blocks, only the last word of a text is looked at so.

@@ -22,8 +22,8 @@ returns-clause-element c =
     subst BeginsByteEscape c.as_bytes-bytes.ensures.value (when_true (BeginsByteEscape c.as_bytes-bytes.result.now) _ c.if-not-is_byte_escape.false c.is_byte_escape.ensures) in
     let e = byte_escaped lenient c.args.text.now c.utf8.text begins in
     let text = c.args.text.now in
-    let high : c.hex_digit.result ≡ digit_value (slice_index text 1) = c.hex_digit.ensures.value ∙ ap (λ x. digit_value (slice_index x 1)) c.as_bytes-bytes.ensures.value in
-    let low : c.hex_digit-2.result ≡ digit_value (slice_index text 2) = c.hex_digit-2.ensures.value ∙ ap (λ x. digit_value (slice_index x 2)) c.as_bytes-bytes.ensures.value in
-    subst (λ x. Element lenient (chars text) ((16 * c.hex_digit.result + c.hex_digit-2.result) ∷ []) (chars x)) (sym c.range_from.ensures.value)
+    let high : c.digit.result ≡ digit_value (slice_index text 1) = c.digit.ensures.value ∙ ap (λ x. digit_value (slice_index x 1)) c.as_bytes-bytes.ensures.value in
+    let low : c.digit-2.result ≡ digit_value (slice_index text 2) = c.digit-2.ensures.value ∙ ap (λ x. digit_value (slice_index x 2)) c.as_bytes-bytes.ensures.value in
+    subst (λ x. Element lenient (chars text) ((16 * c.digit.result + c.digit-2.result) ∷ []) (chars x)) (sym c.range_from.ensures.value)
     (subst (λ x. Element lenient (chars text) (x ∷ []) (chars (drop 3 text)))
-    (ap (λ x. 16 * x + digit_value (slice_index text 2)) (sym high) ∙ ap (λ x. 16 * c.hex_digit.result + x) (sym low)) e.element)
+    (ap (λ x. 16 * x + digit_value (slice_index text 2)) (sym high) ∙ ap (λ x. 16 * c.digit.result + x) (sym low)) e.element)

@@ -1,4 +1,5 @@
-use Rattle.std.proofs.Common.{sym, ap, ◌∙◌, ◌≡◌, subst, [], ◌∷◌, ◌++◌, ◌-◌, length, take, drop}
+use Rattle.std.proofs.Common.{sym, ap, ◌∙◌, ◌≡◌, ◌≤◌, ◌<◌, ℕ, List, subst, [], ◌∷◌, ◌++◌, ◌-◌, length, take, drop, get_or, arith, rules}
+use Rattle.std.proofs.lemmas.List.{append-nil}
 use Rattle.std.specs.Prelude.{None, Some}
 use Rattle.std.specs.Str.{chars}
 use Rattle.memchr.specs.Find.{IsFirstByte, is_byte}
@@ -10,7 +11,7 @@ use Rattle.wat_lex.proofs.lexer.read.strings.unescaped.Goals as goal
 use Rattle.wat_lex.proofs.lexer.read.strings.unescaped.Goals.{In-None}
 
 none : (c : In-None) → IsFirstByte (is_byte 92) c.elements.rest.now None
-none c = subst (λ x. IsFirstByte (is_byte 92) x None) c.as_bytes.ensures.value c.in-None.ensures
+none c = subst (λ x. IsFirstByte (is_byte 92) x None) c.as_bytes-in-elements.ensures.value c.in-None.ensures
 
 pub elements-preserved-in-Some : goal.elements-preserved-in-Some
 elements-preserved-in-Some c =
@@ -36,7 +37,7 @@ elements-preserved c =
     let rest = c.elements.rest.now in
     let done = c.elements.value.items in
     let n = c.in-Some-memchr.before in
-    let first : IsFirstByte (is_byte 92) rest (Some n) = subst (λ x. IsFirstByte (is_byte 92) x (Some n)) c.as_bytes.ensures.value c.in-Some-memchr.ensures in
+    let first : IsFirstByte (is_byte 92) rest (Some n) = subst (λ x. IsFirstByte (is_byte 92) x (Some n)) c.as_bytes-in-elements.ensures.value c.in-Some-memchr.ensures in
     let items = c.in_ok-extend_from_slice-in-Some-memchr.ensures.items ∙ ap (λ x. done ++ take n x) c.as_bytes-in-Some-memchr.ensures.value in
     let h = reading_plain c.args.elements.now rest done n c.elements.invariant.1 first in (
       c.range_from-rest.utf8,
@@ -56,3 +57,20 @@ returns-in-None c =
     let cut : take (length rest - 1) c.as_bytes-in-None.result.now ≡ take (length rest - 1) rest = ap (λ x. take (length rest - 1) x) c.as_bytes-in-None.ensures.value in
     subst (λ x. Quoted lenient (chars c.args.elements.now) x []) (sym (c.in_ok-extend_from_slice-in-None.ensures.items ∙ ap (λ x. c.elements.value.items ++ x) cut))
     (reading_ends c.args.elements.now rest c.elements.value.items c.elements.invariant.1 (none (goal.at.returns-in-None c).In-None))
+
+only_quote : (xs : List ℕ) → length xs < 2 → 1 ≤ length xs → get_or xs 0 0 ≡ 34 → xs ≡ 34 ∷ []
+only_quote [] few some first = absurd (omega (arith, some))
+only_quote (x ∷ []) few some first = ap (λ y. y ∷ []) first
+only_quote (x ∷ y ∷ ys) few some first = absurd (omega (arith, few))
+
+no_mark : IsFirstByte (is_byte 92) (34 ∷ []) None
+no_mark = search rules
+
+pub returns-in-34 : goal.returns-in-34
+returns-in-34 c =
+    let rest = c.elements.rest.now in
+    let done = c.elements.value.items in
+    let first : get_or c.as_bytes.result.now 0 0 ≡ 34 = omega arith in
+    let is : rest ≡ 34 ∷ [] = sym c.as_bytes.ensures.value ∙ only_quote c.as_bytes.result.now c.in-34.len_below c.in-34.len_at_least first in
+    let read : Reading c.args.elements.now (34 ∷ []) done = subst (λ x. Reading c.args.elements.now x done) is c.elements.invariant.1 in
+    subst (λ x. Quoted lenient (chars c.args.elements.now) x []) (append-nil done) (reading_ends c.args.elements.now (34 ∷ []) done read no_mark)

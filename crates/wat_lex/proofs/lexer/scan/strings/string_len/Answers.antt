@@ -25,8 +25,8 @@ plain c =
     plain_more c.args.flags c.args.text.now c.elements.at c.plain_len-at.result c.elements.invariant
     (c.plain_len-at.ensures ∙ ap (prefix_len is_plain) (rest_is c.args.text.now c.as_bytes-bytes.result.now c.elements.at c.as_bytes-bytes.ensures.value))
 
-pub overflow_add-at : goal.overflow_add-at
-overflow_add-at c = let p = plain c in record { fits = omega (arith, p.range, c.as_bytes-bytes.ensures.len) }
+pub overflow_add-at-in-len1-up : goal.overflow_add-at-in-len1-up
+overflow_add-at-in-len1-up c = let p = plain c in record { fits = omega (arith, p.range, c.as_bytes-bytes.ensures.len) }
 
 pub elements-preserved-then-is_plain : goal.elements-preserved-then-is_plain
 elements-preserved-then-is_plain c = plain c

@@ -18,18 +18,20 @@ past_whitespace-end-requires c =
     let same : s.setting ≡ c.self.inside.lexer = ap (λ (x : Source). x.setting) (sym c.self.view_is) in
     subst (λ (x : Setting). IsCharBoundary x.text c.args.byte) same (boundary s c.args.place c.args.byte c.lemma_read.ensures.utf8 c.lemma_read.ensures.read c.requires)
 
-pub returns-then-end-byte-clause-place : goal.returns-then-end-byte-clause-place
-returns-then-end-byte-clause-place c =
+pub returns-clause-place : goal.returns-clause-place
+returns-clause-place c =
     let s = c.args.self.now in
     let same : c.self.inside.lexer ≡ s.setting = ap (λ (x : Source). x.setting) c.self.view_is in
-    let white = c.past_whitespace-end.ensures.token c.if-end-byte.true in
+    let some : c.args.byte < c.past_whitespace-end.result = omega (arith, c.past_whitespace-end.ensures.value, c.if-end-byte.false) in
+    let white = c.past_whitespace-end.ensures.token some in
     let there = some_is s c.args.place c.args.byte (Some white.0) c.lemma_read.ensures.read c.requires (subst (λ (x : Setting). TokenAt x c.args.byte white.0) same white.1) in
     subst (IsPlace s (c.args.place + 1)) (sym white.3) (next_place s c.args.place white.0 there)
 
-pub returns-then-end-byte-clause-same : goal.returns-then-end-byte-clause-same
-returns-then-end-byte-clause-same c = λ names.
+pub returns-clause-same : goal.returns-clause-same
+returns-clause-same c = λ names.
     let s = c.args.self.now in
     let same : c.self.inside.lexer ≡ s.setting = ap (λ (x : Source). x.setting) c.self.view_is in
-    let white = c.past_whitespace-end.ensures.token c.if-end-byte.true in
+    let some : c.args.byte < c.past_whitespace-end.result = omega (arith, c.past_whitespace-end.ensures.value, c.if-end-byte.false) in
+    let white = c.past_whitespace-end.ensures.token some in
     let there = some_is s c.args.place c.args.byte (Some white.0) c.lemma_read.ensures.read c.requires (subst (λ (x : Setting). TokenAt x c.args.byte white.0) same white.1) in
     shown_passed s names c.args.place white.0 there (blank_passes s.setting.text names white.0 (slice_get s.tokens (c.args.place + 1)) (ap is_blank white.2))
