@@ -1,10 +1,46 @@
 //! Lines and columns of a text, one place after the other.
-ghost use Rattle.std.specs.Prelude.{◌≡◌, ◌<◌, ◌^◌, length};
+ghost use Rattle.std.specs.Prelude.{◌≡◌, ◌++◌, ◌+◌, ◌<◌, ◌≤◌, ◌^◌, length, codes};
 ghost use Rattle.std.specs.Str.{IsCharBoundary};
 ghost use Rattle.wat_lex.specs.errors.Positions.{line_and_column};
+ghost use Rattle.wat_lines.specs.JsonRows.{json_after, json_head};
 
+use crate::block::Block;
+use crate::line::Place;
 use std::marker::Model;
+use wat_lex::lexer::Token;
 use wat_lex::token::Span;
+
+/// From this length on line feeds are looked for many bytes at a time.
+const LONG: usize = 32;
+
+/// Line and column of the end of some bytes.
+fn end_of(bytes: &[u8]) -> (usize, usize)
+    ensures place { result ≡ line_and_column bytes.now (length bytes.now) }
+    ensures column { result.1 ≤ length bytes.now }
+{
+    let mut line = 0;
+    let mut column = 0;
+    for byte in bytes {
+        column += 1;
+        if *byte == b'\n' {
+            line += 1;
+            column = 0;
+        }
+    }
+    (line, column)
+}
+
+/// The same of a text of any length.
+#[inline(always)]
+fn end_of_text(text: &str) -> (usize, usize)
+    ensures place { result ≡ line_and_column text.now (length text.now) }
+    ensures column { result.1 ≤ length text.now }
+{
+    if text.len() < LONG {
+        return end_of(text.as_bytes());
+    }
+    Span::from_offset(text.len()).linecol_in(text)
+}
 
 /// Where the places of a text are, for those who ask for them in their order: each is found from
 /// the one before it.
@@ -14,6 +50,9 @@ pub struct Positions<'a> {
     offset: usize,
     line: usize,
     column: usize,
+    /// The offset that was written last, and the line.
+    offset_place: Place,
+    line_place: Place,
 }
 
 impl<'a> Model for Positions<'a> {
@@ -40,12 +79,15 @@ impl<'a> Positions<'a> {
             offset: 0,
             line: 0,
             column: 0,
+            offset_place: Place::start(),
+            line_place: Place::start(),
         }
     }
 
     /// The text.
     pub fn text(&self) -> &'a str
-        ensures { result.now ≡ self.now }
+        ensures text { result.now ≡ self.now }
+        ensures short { length result.now < 2 ^ 32 }
     {
         self.text
     }
@@ -63,7 +105,7 @@ impl<'a> Positions<'a> {
             return Span::from_offset(offset).linecol_in(self.text);
         }
         let passed = &self.text[self.offset..offset];
-        let (lines, column) = Span::from_offset(passed.len()).linecol_in(passed);
+        let (lines, column) = end_of_text(passed);
         self.line += lines;
         if column == passed.len() {
             self.column += column;
@@ -72,5 +114,27 @@ impl<'a> Positions<'a> {
         }
         self.offset = offset;
         (self.line, self.column)
+    }
+    /// Gathers what is before a token's text in its line, but for what each line begins with.
+    #[inline(always)]
+    pub(crate) fn push_head(&mut self, block: &mut Block, token: &Token)
+        requires room { length block.old + 96 ≤ 65536 }
+        requires short { token.now.offset + token.now.len < 2 ^ 32 }
+        ensures { block.new ≡ block.old ++ (json_head token.now ++ codes "\"") }
+        ensures text { self.new ≡ self.old }
+    {
+        block.push_head(&mut self.offset_place, token);
+    }
+
+    /// Gathers what is after a token's text in its line.
+    #[inline(always)]
+    pub(crate) fn push_after(&mut self, block: &mut Block, line: usize, column: usize)
+        requires room { length block.old + 96 ≤ 65536 }
+        requires line { line < 2 ^ 32 }
+        requires column { column < 2 ^ 32 }
+        ensures { block.new ≡ block.old ++ (codes "\"" ++ json_after (line, column)) }
+        ensures text { self.new ≡ self.old }
+    {
+        block.push_after(&mut self.line_place, line, column);
     }
 }

@@ -2,7 +2,51 @@
 //! Lines and columns of a text, one place after the other.
 
 use crate::shim::prelude::*;
+use crate::lines::block::Block;
+use crate::lines::line::Place;
+
+use wat_lex::proved::lexer::Token;
 use wat_lex::proved::token::Span;
+
+/// From this length on line feeds are looked for many bytes at a time.
+const LONG: usize = 32;
+
+/// Line and column of the end of some bytes.
+///
+/// # Proved
+///
+/// ```text
+/// ensures place { result ≡ line_and_column bytes.now (length bytes.now) }
+/// ensures column { result.1 ≤ length bytes.now }
+/// ```
+fn end_of(bytes: &[u8]) -> (usize, usize) {
+    let mut line = 0;
+    let mut column = 0;
+    for byte in bytes {
+        column += 1;
+        if *byte == b'\n' {
+            line += 1;
+            column = 0;
+        }
+    }
+    (line, column)
+}
+
+/// The same of a text of any length.
+///
+/// # Proved
+///
+/// ```text
+/// ensures place { result ≡ line_and_column text.now (length text.now) }
+/// ensures column { result.1 ≤ length text.now }
+/// ```
+#[inline(always)]
+fn end_of_text(text: &str) -> (usize, usize) {
+    if text.len() < LONG {
+        return end_of(text.as_bytes());
+    }
+    Span::from_offset(text.len()).linecol_in(text)
+}
 
 /// Where the places of a text are, for those who ask for them in their order: each is found from
 /// the one before it.
@@ -11,6 +55,9 @@ pub struct Positions<'a> {
     offset: usize,
     line: usize,
     column: usize,
+    /// The offset that was written last, and the line.
+    offset_place: Place,
+    line_place: Place,
 }
 
 impl<'a> Positions<'a> {
@@ -28,6 +75,8 @@ impl<'a> Positions<'a> {
             offset: 0,
             line: 0,
             column: 0,
+            offset_place: Place::start(),
+            line_place: Place::start(),
         }
     }
 
@@ -36,7 +85,8 @@ impl<'a> Positions<'a> {
     /// # Proved
     ///
     /// ```text
-    /// ensures { result.now ≡ self.now }
+    /// ensures text { result.now ≡ self.now }
+    /// ensures short { length result.now < 2 ^ 32 }
     /// ```
     pub fn text(&self) -> &'a str {
         self.text
@@ -59,7 +109,7 @@ impl<'a> Positions<'a> {
             return Span::from_offset(offset).linecol_in(self.text);
         }
         let passed = &self.text[self.offset..offset];
-        let (lines, column) = Span::from_offset(passed.len()).linecol_in(passed);
+        let (lines, column) = end_of_text(passed);
         self.line += lines;
         if column == passed.len() {
             self.column += column;
@@ -68,5 +118,35 @@ impl<'a> Positions<'a> {
         }
         self.offset = offset;
         (self.line, self.column)
+    }
+    /// Gathers what is before a token's text in its line, but for what each line begins with.
+    ///
+    /// # Proved
+    ///
+    /// ```text
+    /// requires room { length block.old + 96 ≤ 65536 }
+    /// requires short { token.now.offset + token.now.len < 2 ^ 32 }
+    /// ensures { block.new ≡ block.old ++ (json_head token.now ++ codes "\"") }
+    /// ensures text { self.new ≡ self.old }
+    /// ```
+    #[inline(always)]
+    pub(crate) fn push_head(&mut self, block: &mut Block, token: &Token) {
+        block.push_head(&mut self.offset_place, token);
+    }
+
+    /// Gathers what is after a token's text in its line.
+    ///
+    /// # Proved
+    ///
+    /// ```text
+    /// requires room { length block.old + 96 ≤ 65536 }
+    /// requires line { line < 2 ^ 32 }
+    /// requires column { column < 2 ^ 32 }
+    /// ensures { block.new ≡ block.old ++ (codes "\"" ++ json_after (line, column)) }
+    /// ensures text { self.new ≡ self.old }
+    /// ```
+    #[inline(always)]
+    pub(crate) fn push_after(&mut self, block: &mut Block, line: usize, column: usize) {
+        block.push_after(&mut self.line_place, line, column);
     }
 }
