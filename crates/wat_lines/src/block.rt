@@ -73,14 +73,18 @@ impl Block {
         self.write(output)
     }
 
-    /// Gathers bytes for which there is room.
+    /// Gathers bytes for which there is room. A byte alone is put without a call.
     #[inline(always)]
     fn push(&mut self, bytes: &[u8])
         requires { length self.old + length bytes.now ≤ 65536 }
         ensures { self.new ≡ self.old ++ bytes.now }
     {
         let end = self.used + bytes.len();
-        self.bytes[self.used..end].copy_from_slice(bytes);
+        if bytes.len() == 1 {
+            self.bytes[self.used] = bytes[0];
+        } else {
+            self.bytes[self.used..end].copy_from_slice(bytes);
+        }
         self.used = end;
     }
 

@@ -153,6 +153,14 @@ pub(crate) fn put_number(room: &mut [u8], at: usize, number: usize) -> usize
     ensures end { result ≤ at + 10 }
     ensures room { length room.new ≡ length room.old }
 {
+    if number < 10 {
+        room[at] = b'0' + number as u8;
+        return at + 1;
+    }
+    if number < 100 {
+        room[at..at + 2].copy_from_slice(&two_digits(number));
+        return at + 2;
+    }
     digits_of(number).put_in(room, at)
 }
 

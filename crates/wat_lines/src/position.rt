@@ -6,40 +6,49 @@ ghost use Rattle.wat_lines.specs.JsonRows.{json_after, json_head};
 
 use crate::block::Block;
 use crate::line::Place;
+use memchr::memchr;
 use std::marker::Model;
 use wat_lex::lexer::Token;
 use wat_lex::token::Span;
 
-/// From this length on line feeds are looked for many bytes at a time.
-const LONG: usize = 32;
-
-/// Line and column of the end of some bytes.
-fn end_of(bytes: &[u8]) -> (usize, usize)
-    ensures place { result ≡ line_and_column bytes.now (length bytes.now) }
-    ensures column { result.1 ≤ length bytes.now }
-{
-    let mut line = 0;
-    let mut column = 0;
-    for byte in bytes {
-        column += 1;
-        if *byte == b'\n' {
-            line += 1;
-            column = 0;
-        }
-    }
-    (line, column)
+/// A line of a text: its number from 0, where it begins, and where its line feed is or the text ends.
+#[derive(Clone, Copy)]
+struct Line {
+    number: usize,
+    start: usize,
+    end: usize,
 }
 
-/// The same of a text of any length.
-#[inline(always)]
-fn end_of_text(text: &str) -> (usize, usize)
-    ensures place { result ≡ line_and_column text.now (length text.now) }
-    ensures column { result.1 ≤ length text.now }
+/// Where the line ends that begins here.
+fn line_end(text: &[u8], start: usize) -> usize
+    requires { start ≤ length text.now }
+    ensures { IsLineEnd text.now start result }
 {
-    if text.len() < LONG {
-        return end_of(text.as_bytes());
+    let rest = &text[start..];
+    start + memchr(b'\n', rest).unwrap_or(rest.len())
+}
+
+/// The line of a place that is not before a line.
+#[inline(never)]
+fn line_from(text: &[u8], line: Line, offset: usize) -> Line
+    requires short { length text.now < 2 ^ 32 }
+    requires line { IsLine text.now line.number line.start line.end }
+    requires after { line.start ≤ offset }
+    requires within { offset ≤ length text.now }
+    ensures line { IsLine text.now result.number result.start result.end }
+    ensures start { result.start ≤ offset }
+    ensures end { offset ≤ result.end }
+{
+    let mut line = line;
+    while line.end < offset {
+        let start = line.end + 1;
+        line = Line {
+            number: line.number + 1,
+            start,
+            end: line_end(text, start),
+        };
     }
-    Span::from_offset(text.len()).linecol_in(text)
+    line
 }
 
 /// Where the places of a text are, for those who ask for them in their order: each is found from
@@ -47,9 +56,7 @@ fn end_of_text(text: &str) -> (usize, usize)
 #[derive(Drop)]
 pub struct Positions<'a> {
     text: &'a str,
-    offset: usize,
-    line: usize,
-    column: usize,
+    line: Line,
     /// The offset that was written last, and the line.
     offset_place: Place,
     line_place: Place,
@@ -64,8 +71,8 @@ impl<'a> Model for Positions<'a> {
 
     ghost view = { λ p. p.text.now };
 
-    ghost invariant = { λ p. (length p.text.now < 2 ^ 32) × IsCharBoundary p.text.now p.offset
-        × (line_and_column p.text.now p.offset ≡ (p.line, p.column)) };
+    ghost invariant = { λ p. (length p.text.now < 2 ^ 32)
+        × IsLine p.text.now p.line.number p.line.start p.line.end };
 }
 
 impl<'a> Positions<'a> {
@@ -76,9 +83,11 @@ impl<'a> Positions<'a> {
     {
         Positions {
             text,
-            offset: 0,
-            line: 0,
-            column: 0,
+            line: Line {
+                number: 0,
+                start: 0,
+                end: line_end(text.as_bytes(), 0),
+            },
             offset_place: Place::start(),
             line_place: Place::start(),
         }
@@ -101,20 +110,15 @@ impl<'a> Positions<'a> {
         ensures column { result.1 < 2 ^ 32 }
         ensures text { self.new ≡ self.old }
     {
-        if offset < self.offset {
+        if offset < self.line.start {
             return Span::from_offset(offset).linecol_in(self.text);
         }
-        let passed = &self.text[self.offset..offset];
-        let (lines, column) = end_of_text(passed);
-        self.line += lines;
-        if column == passed.len() {
-            self.column += column;
-        } else {
-            self.column = column;
+        if self.line.end < offset {
+            self.line = line_from(self.text.as_bytes(), self.line, offset);
         }
-        self.offset = offset;
-        (self.line, self.column)
+        (self.line.number, offset - self.line.start)
     }
+
     /// Gathers what is before a token's text in its line, but for what each line begins with.
     #[inline(always)]
     pub(crate) fn push_head(&mut self, block: &mut Block, token: &Token)

@@ -75,7 +75,7 @@ impl Block {
         self.write(output)
     }
 
-    /// Gathers bytes for which there is room.
+    /// Gathers bytes for which there is room. A byte alone is put without a call.
     ///
     /// # Proved
     ///
@@ -86,7 +86,11 @@ impl Block {
     #[inline(always)]
     fn push(&mut self, bytes: &[u8]) {
         let end = self.used + bytes.len();
-        self.bytes[self.used..end].copy_from_slice(bytes);
+        if bytes.len() == 1 {
+            self.bytes[self.used] = bytes[0];
+        } else {
+            self.bytes[self.used..end].copy_from_slice(bytes);
+        }
         self.used = end;
     }
 

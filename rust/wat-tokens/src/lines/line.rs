@@ -179,6 +179,14 @@ fn digits_of(number: usize) -> Digits {
 /// ```
 #[inline(always)]
 pub(crate) fn put_number(room: &mut [u8], at: usize, number: usize) -> usize {
+    if number < 10 {
+        room[at] = b'0' + number as u8;
+        return at + 1;
+    }
+    if number < 100 {
+        room[at..at + 2].copy_from_slice(&two_digits(number));
+        return at + 2;
+    }
     digits_of(number).put_in(room, at)
 }
 
