@@ -121,6 +121,20 @@ impl Digits {
         self.bytes[MOST_DIGITS - 2..MOST_DIGITS].copy_from_slice(&pair);
     }
 
+    /// Puts a number in place of that which is there. Most often the last two digits alone differ.
+    #[inline(always)]
+    fn change(&mut self, from: usize, to: usize)
+        requires short { to < 2 ^ 33 }
+        requires from { self.old ≡ decimal from ++ codes "..00000000000000" }
+        ensures { self.new ≡ decimal to ++ codes "..00000000000000" }
+    {
+        if to < 100 || to / 100 != from / 100 {
+            *self = digits_of(to);
+            return;
+        }
+        self.put_last_two(two_digits(to % 100));
+    }
+
     /// Puts the digits at a place of the room, and answers where they end.
     #[inline(always)]
     fn put_in(&self, room: &mut [u8], at: usize) -> usize
@@ -190,21 +204,15 @@ impl Place {
         }
     }
 
-    /// Moves to another place. The end of a token is where most often the next begins, and most
-    /// often two places differ in their last two digits alone.
+    /// Moves to another place. The end of a token is where most often the next begins.
     pub(crate) fn move_to(&mut self, offset: usize)
         requires { offset < 2 ^ 33 }
         ensures { self.new ≡ offset }
     {
-        if offset == self.offset {
-            return;
+        if offset != self.offset {
+            self.digits.change(self.offset, offset);
+            self.offset = offset;
         }
-        if offset >= 100 && offset / 100 == self.offset / 100 {
-            self.digits.put_last_two(two_digits(offset % 100));
-        } else {
-            self.digits = digits_of(offset);
-        }
-        self.offset = offset;
     }
 
     /// Puts the digits at a place of the room, and answers where they end.

@@ -3,6 +3,7 @@ ghost use Rattle.std.specs.Prelude.{◌≡◌, ◌++◌, ◌+◌, ◌<◌, ◌�
 ghost use Rattle.std.specs.Str.{IsCharBoundary};
 ghost use Rattle.wat_lex.specs.errors.Positions.{line_and_column};
 ghost use Rattle.wat_lines.specs.JsonRows.{json_after, json_head};
+ghost use Rattle.wat_lines.specs.TextLines.{EndsLine, IsLine};
 
 use crate::block::Block;
 use crate::line::Place;
@@ -22,10 +23,12 @@ struct Line {
 /// Where the line ends that begins here.
 fn line_end(text: &[u8], start: usize) -> usize
     requires { start ≤ length text.now }
-    ensures { IsLineEnd text.now start result }
+    ensures { EndsLine text.now start result }
 {
-    let rest = &text[start..];
-    start + memchr(b'\n', rest).unwrap_or(rest.len())
+    match memchr(b'\n', &text[start..]) {
+        Some(len) => start + len,
+        None => text.len(),
+    }
 }
 
 /// The line of a place that is not before a line.
@@ -63,9 +66,8 @@ pub struct Positions<'a> {
 }
 
 impl<'a> Model for Positions<'a> {
-    ghost use Rattle.std.specs.Prelude.{◌≡◌, ◌<◌, ◌^◌, ℕ, List, length};
-    ghost use Rattle.std.specs.Str.{IsCharBoundary};
-    ghost use Rattle.wat_lex.specs.errors.Positions.{line_and_column};
+    ghost use Rattle.std.specs.Prelude.{◌<◌, ◌^◌, ℕ, List, length};
+    ghost use Rattle.wat_lines.specs.TextLines.{IsLine};
 
     ghost Value = { List ℕ };
 
@@ -124,7 +126,7 @@ impl<'a> Positions<'a> {
     pub(crate) fn push_head(&mut self, block: &mut Block, token: &Token)
         requires room { length block.old + 96 ≤ 65536 }
         requires short { token.now.offset + token.now.len < 2 ^ 32 }
-        ensures { block.new ≡ block.old ++ (json_head token.now ++ codes "\"") }
+        ensures put { block.new ≡ block.old ++ (json_head token.now ++ codes "\"") }
         ensures text { self.new ≡ self.old }
     {
         block.push_head(&mut self.offset_place, token);
@@ -136,7 +138,7 @@ impl<'a> Positions<'a> {
         requires room { length block.old + 96 ≤ 65536 }
         requires line { line < 2 ^ 32 }
         requires column { column < 2 ^ 32 }
-        ensures { block.new ≡ block.old ++ (codes "\"" ++ json_after (line, column)) }
+        ensures put { block.new ≡ block.old ++ (codes "\"" ++ json_after (line, column)) }
         ensures text { self.new ≡ self.old }
     {
         block.push_after(&mut self.line_place, line, column);

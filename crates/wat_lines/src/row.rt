@@ -1,7 +1,7 @@
 //! The lines of the lists as JSON. A line is put together of what comes before the token's text,
 //! of the text as a string, and of what comes after it.
 ghost use Rattle.std.specs.Prelude.{◌≡◌, ◌++◌, ◌+◌, ◌∷◌, ◌<◌, ◌≤◌, ◌^◌, [], length, take, flat_map, codes};
-ghost use Rattle.std.specs.Prelude.{OnOk, OnErr, IfOk};
+ghost use Rattle.std.specs.Prelude.{OnOk, OnErr, IfOk, IsTrue};
 ghost use Rattle.std.specs.Option.{option_map};
 ghost use Rattle.std.specs.Str.{IsCharBoundary};
 ghost use Rattle.wat_lex.specs.errors.Positions.{line_and_column};
@@ -53,7 +53,7 @@ fn escaped(byte: u8) -> ([u8; 6], usize)
 
 /// Whether a byte stands for itself in a string.
 fn is_plain(byte: u8) -> bool
-    ensures { result → escaped byte ≡ byte ∷ [] }
+    ensures { IsTrue result → escaped byte ≡ byte ∷ [] }
 {
     byte >= b' ' && byte != b'"' && byte != b'\\'
 }
@@ -102,7 +102,8 @@ fn put_escaped<W: Sink>(block: &mut Block, output: &mut W, text: &[u8]) -> Resul
 {
     let mut put = 0;
     while put < text.len() {
-        put += put_some(block, output, &text[put..])?;
+        let count = put_some(block, output, &text[put..])?;
+        put += count;
     }
     Ok(())
 }
@@ -115,7 +116,7 @@ fn put_front<W: Sink>(
     begin: &[u8],
     token: &Token,
 ) -> Result<(), Failed>
-    requires { token.now.offset + token.now.len ≤ length positions.old }
+    requires { token.now.offset + token.now.len < 2 ^ 32 }
     ensures put { OnOk result (Puts (W.held output.old) (W.held output.new)
         block.old block.new (json_front begin.now token.now ++ codes "\"")) }
     ensures cut { OnErr result (AppendsPrefix (W.held output.old) (W.held output.new)

@@ -135,6 +135,24 @@ impl Digits {
         self.bytes[MOST_DIGITS - 2..MOST_DIGITS].copy_from_slice(&pair);
     }
 
+    /// Puts a number in place of that which is there. Most often the last two digits alone differ.
+    ///
+    /// # Proved
+    ///
+    /// ```text
+    /// requires short { to < 2 ^ 33 }
+    /// requires from { self.old ≡ decimal from ++ codes "..00000000000000" }
+    /// ensures { self.new ≡ decimal to ++ codes "..00000000000000" }
+    /// ```
+    #[inline(always)]
+    fn change(&mut self, from: usize, to: usize) {
+        if to < 100 || to / 100 != from / 100 {
+            *self = digits_of(to);
+            return;
+        }
+        self.put_last_two(two_digits(to % 100));
+    }
+
     /// Puts the digits at a place of the room, and answers where they end.
     ///
     /// # Proved
@@ -211,8 +229,7 @@ impl Place {
         }
     }
 
-    /// Moves to another place. The end of a token is where most often the next begins, and most
-    /// often two places differ in their last two digits alone.
+    /// Moves to another place. The end of a token is where most often the next begins.
     ///
     /// # Proved
     ///
@@ -221,15 +238,10 @@ impl Place {
     /// ensures { self.new ≡ offset }
     /// ```
     pub(crate) fn move_to(&mut self, offset: usize) {
-        if offset == self.offset {
-            return;
+        if offset != self.offset {
+            self.digits.change(self.offset, offset);
+            self.offset = offset;
         }
-        if offset >= 100 && offset / 100 == self.offset / 100 {
-            self.digits.put_last_two(two_digits(offset % 100));
-        } else {
-            self.digits = digits_of(offset);
-        }
-        self.offset = offset;
     }
 
     /// Puts the digits at a place of the room, and answers where they end.

@@ -23,11 +23,13 @@ struct Line {
 ///
 /// ```text
 /// requires { start ≤ length text.now }
-/// ensures { IsLineEnd text.now start result }
+/// ensures { EndsLine text.now start result }
 /// ```
 fn line_end(text: &[u8], start: usize) -> usize {
-    let rest = &text[start..];
-    start + memchr(b'\n', rest).unwrap_or(rest.len())
+    match memchr(b'\n', &text[start..]) {
+        Some(len) => start + len,
+        None => text.len(),
+    }
 }
 
 /// The line of a place that is not before a line.
@@ -130,7 +132,7 @@ impl<'a> Positions<'a> {
     /// ```text
     /// requires room { length block.old + 96 ≤ 65536 }
     /// requires short { token.now.offset + token.now.len < 2 ^ 32 }
-    /// ensures { block.new ≡ block.old ++ (json_head token.now ++ codes "\"") }
+    /// ensures put { block.new ≡ block.old ++ (json_head token.now ++ codes "\"") }
     /// ensures text { self.new ≡ self.old }
     /// ```
     #[inline(always)]
@@ -146,7 +148,7 @@ impl<'a> Positions<'a> {
     /// requires room { length block.old + 96 ≤ 65536 }
     /// requires line { line < 2 ^ 32 }
     /// requires column { column < 2 ^ 32 }
-    /// ensures { block.new ≡ block.old ++ (codes "\"" ++ json_after (line, column)) }
+    /// ensures put { block.new ≡ block.old ++ (codes "\"" ++ json_after (line, column)) }
     /// ensures text { self.new ≡ self.old }
     /// ```
     #[inline(always)]

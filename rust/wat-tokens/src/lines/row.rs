@@ -56,7 +56,7 @@ fn escaped(byte: u8) -> ([u8; 6], usize) {
 /// # Proved
 ///
 /// ```text
-/// ensures { result → escaped byte ≡ byte ∷ [] }
+/// ensures { IsTrue result → escaped byte ≡ byte ∷ [] }
 /// ```
 fn is_plain(byte: u8) -> bool {
     byte >= b' ' && byte != b'"' && byte != b'\\'
@@ -118,7 +118,8 @@ fn put_some<W: Sink>(block: &mut Block, output: &mut W, text: &[u8]) -> Result<u
 fn put_escaped<W: Sink>(block: &mut Block, output: &mut W, text: &[u8]) -> Result<(), Failed> {
     let mut put = 0;
     while put < text.len() {
-        put += put_some(block, output, &text[put..])?;
+        let count = put_some(block, output, &text[put..])?;
+        put += count;
     }
     Ok(())
 }
@@ -128,7 +129,7 @@ fn put_escaped<W: Sink>(block: &mut Block, output: &mut W, text: &[u8]) -> Resul
 /// # Proved
 ///
 /// ```text
-/// requires { token.now.offset + token.now.len ≤ length positions.old }
+/// requires { token.now.offset + token.now.len < 2 ^ 32 }
 /// ensures put { OnOk result (Puts (W.held output.old) (W.held output.new)
 ///     block.old block.new (json_front begin.now token.now ++ codes "\"")) }
 /// ensures cut { OnErr result (AppendsPrefix (W.held output.old) (W.held output.new)
