@@ -1,4 +1,4 @@
-use Rattle.std.proofs.Common.{◌+◌, ◌++◌, ◌∙◌, ap, arith, drop, length, length-drop, take}
+use Rattle.std.proofs.Common.{◌∙◌, ap, arith, drop, length, length-drop, take}
 use Rattle.std.specs.Prelude.{flat_map}
 use Rattle.std.proofs.lemmas.List.{take_rest}
 use Rattle.wat_lines.specs.JsonStrings.{escaped}

@@ -1,4 +1,4 @@
-use Rattle.std.proofs.Common.{◌++◌, ◌∙◌, [], ap, append_assoc, refl, sym}
+use Rattle.std.proofs.Common.{◌++◌, [], append_assoc, refl}
 use Rattle.std.specs.Prelude.{codes}
 use Rattle.wat_lines.specs.JsonRows.{json_head}
 use Rattle.wat_lines.specs.lemmas.BlockLaws.{on_err, puts_more, cut_longer, cut_more}

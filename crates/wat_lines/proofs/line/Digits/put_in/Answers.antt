@@ -1,4 +1,4 @@
-use Rattle.std.proofs.Common.{◌-◌, ◌++◌, ◌∙◌, ap, arith, length, take}
+use Rattle.std.proofs.Common.{◌++◌, ◌∙◌, ap, arith, take}
 use Rattle.std.proofs.lemmas.List.{take-take}
 use Rattle.wat_lines.proofs.line.Digits.put_in.Goals as goal
 

@@ -1,4 +1,4 @@
-use Rattle.std.proofs.Common.{◌≡◌, ◌≤◌, ◌∙◌, ap, arith, length, length-drop}
+use Rattle.std.proofs.Common.{◌≡◌, ◌≤◌, ap, arith, length, length-drop}
 use Rattle.wat_lines.proofs.LineLaws.{last_put}
 use Rattle.wat_lines.proofs.line.Digits.put_last_two.Goals as goal
 
