@@ -95,6 +95,7 @@ def main():
     for name, folded in (("libc_flat", []), ("libc_folded", ["--fold-exprs"])):
         text = folder / f"{name}.wat"
         jobs = {f"wat_tokens {word}": [program, "--file", text, word] for word in ("fmt", "list", "sig", "blank")}
+        jobs |= {f"wat_tokens --json {word}": [program, "--json", "--file", text, word] for word in ("list", "sig")}
         rows(text, jobs | {"wat-desugar": ["wat-desugar", *folded, text]}, rounds)
     for name, count, distinct in (("types_10000", 10_000, True), ("types_equal", 100_000, False)):
         text, bytes_ = folder / f"{name}.wat", folder / f"{name}.wasm"

@@ -18,7 +18,7 @@ pair_at n h = ap (λ t. get_or t n []) table ∙ get_or-map-range_with_len pair 
 pub decimal_below_100 : (n : ℕ) → 10 ≤ n → n < 100 → decimal n ≡ pair n
 decimal_below_100 n lo hi = decimal_step n lo (omega arith) ∙ ap (λ d. d ++ (48 + n % 10) ∷ []) (decimal_digit (n / 10) (omega arith))
 
-pub decimal_from_100 : (n : ℕ) → 100 ≤ n → n < 2 ^ 32 → decimal n ≡ decimal (n / 100) ++ pair (n % 100)
+pub decimal_from_100 : (n : ℕ) → 100 ≤ n → n < 2 ^ 64 → decimal n ≡ decimal (n / 100) ++ pair (n % 100)
 decimal_from_100 n lo hi =
     let front : n / 10 / 10 ≡ n / 100 = omega arith in
     let tens : n / 10 % 10 ≡ n % 100 / 10 = omega arith in
@@ -26,5 +26,5 @@ decimal_from_100 n lo hi =
     rw (decimal_step n (omega arith) (omega arith), decimal_step (n / 10) (omega arith) (omega arith), append_assoc, front, tens, ← ones)
 
 -- what is left of a number fits where its digits do
-pub rest_fits : (number rest : ℕ) (line before : List ℕ) → number < 2 ^ 32 → decimal rest ++ line ≡ decimal number ++ before → length (decimal rest) + length line ≤ 10 + length before
+pub rest_fits : (number rest : ℕ) (line before : List ℕ) → number < 2 ^ 33 → decimal rest ++ line ≡ decimal number ++ before → length (decimal rest) + length line ≤ 10 + length before
 rest_fits number rest line before h e = omega (arith, length-decimal-le 10 number (omega arith) (omega arith) (omega arith), simp length-append at (ap length e))

@@ -1,6 +1,7 @@
 -- A line of JSON and its parts.
-use Rattle.std.proofs.Common.{◌≡◌, ◌+◌, ◌-◌, ◌<◌, ℕ, get_or, List, [], ◌∷◌, ◌++◌, length, take, drop, refl, sym, ap, ◌∙◌, append_assoc, arith}
+use Rattle.std.proofs.Common.{◌≡◌, ◌+◌, ◌-◌, ◌<◌, ℕ, get_or, List, [], ◌∷◌, ◌++◌, length, take, drop, refl, sym, ap, subst, ◌∙◌, append_assoc, arith}
 use Rattle.std.proofs.lemmas.List.{append-nil, take_more, take-append-drop}
+use Rattle.std.proofs.Math.Seq.{take-add}
 use Rattle.std.proofs.lemmas.List.Concat.{flat_map-append}
 use Rattle.std.specs.Prelude.{Option, flat_map, codes}
 use Rattle.wat_lex.specs.tokens.ReadableTokens.{token_text}
@@ -35,26 +36,49 @@ quoted p k q n t = simp append_assoc refl
 pub kind_between : (kind : TokenKind) (front : List ℕ) → front ++ codes ",\"kind\":\"" ++ kind_name kind ++ codes "\",\"text\":" ≡ front ++ codes ",\"kind\":" ++ json_string (kind_name kind) ++ codes ",\"text\":"
 kind_between kind front = quoted front (codes ",\"kind\":") (codes "\"") (kind_name kind) (codes ",\"text\":") ∙ ap (λ x. front ++ codes ",\"kind\":" ++ x ++ codes ",\"text\":") (kind_string kind)
 
+regrouped : (f k n t q : List ℕ) → f ++ (k ++ n ++ (t ++ q)) ≡ (f ++ k ++ n ++ t) ++ q
+regrouped f k n t q = simp append_assoc refl
+
+-- and the mark in which the text's string begins comes after it
+pub kind_at : (kind : TokenKind) (front : List ℕ) → front ++ (codes ",\"kind\":\"" ++ kind_name kind ++ codes "\",\"text\":\"") ≡ (front ++ codes ",\"kind\":" ++ json_string (kind_name kind) ++ codes ",\"text\":") ++ codes "\""
+kind_at kind front = regrouped front (codes ",\"kind\":\"") (kind_name kind) (codes "\",\"text\":") (codes "\"") ∙ ap (λ x. x ++ codes "\"") (kind_between kind front)
+
 -- what stands for one element more
 pub each_next : (f : ℕ → List ℕ) (xs : List ℕ) (i : ℕ) → i < length xs → flat_map f (take (i + 1) xs) ≡ flat_map f (take i xs) ++ f (get_or xs i 0)
 each_next f xs i lt =
     ap (flat_map f) (take_more xs i 0 lt) ∙ flat_map-append f (take i xs) (get_or xs i 0 ∷ []) ∙ ap (λ x. flat_map f (take i xs) ++ x) (append-nil (f (get_or xs i 0)))
 
-pub puts_each : (f : ℕ → List ℕ) (a b c : Option (List ℕ)) (block block' block'' xs ys : List ℕ) (i : ℕ) → i < length xs → ys ≡ f (get_or xs i 0) → Puts a b block block' (flat_map f (take i xs)) → Puts b c block' block'' ys → Puts a c block block'' (flat_map f (take (i + 1) xs))
-puts_each f a b c block block' block'' xs ys i lt e h k =
-    puts_more a b c block block' block'' (flat_map f (take i xs)) ys (flat_map f (take (i + 1) xs)) h k (each_next f xs i lt ∙ ap (λ x. flat_map f (take i xs) ++ x) (sym e))
+pub each_alone : (f : ℕ → List ℕ) (xs : List ℕ) → 0 < length xs → flat_map f (take 1 xs) ≡ f (get_or xs 0 0)
+each_alone f xs some = each_next f xs 0 some
 
-pub cut_each : (f : ℕ → List ℕ) (a b c : Option (List ℕ)) (block block' xs ys : List ℕ) (i : ℕ) → i < length xs → ys ≡ f (get_or xs i 0) → Puts a b block block' (flat_map f (take i xs)) → AppendsPrefix b c (block' ++ ys) → AppendsPrefix a c (block ++ flat_map f xs)
-cut_each f a b c block block' xs ys i lt e h k =
-    let front = flat_map f (take (i + 1) xs) in
-    let rest = flat_map f (drop (i + 1) xs) in
-    let all : flat_map f xs ≡ front ++ rest = ap (flat_map f) (sym (take-append-drop (i + 1) xs)) ∙ flat_map-append f (take (i + 1) xs) (drop (i + 1) xs) in
-    cut_longer a c (block ++ front) rest (block ++ flat_map f xs)
-    (cut_more a b c block block' (flat_map f (take i xs)) ys front h k (each_next f xs i lt ∙ ap (λ x. flat_map f (take i xs) ++ x) (sym e)))
-    (ap (λ x. block ++ x) all ∙ sym (append_assoc block front rest))
+-- and for some more
+pub each_more : (f : ℕ → List ℕ) (xs : List ℕ) (i n : ℕ) → flat_map f (take (i + n) xs) ≡ flat_map f (take i xs) ++ flat_map f (take n (drop i xs))
+each_more f xs i n = ap (flat_map f) (take-add i n xs) ∙ flat_map-append f (take i xs) (take n (drop i xs))
+
+-- and for the first ones and the others
+pub each_split : (f : ℕ → List ℕ) (xs : List ℕ) (i : ℕ) → flat_map f xs ≡ flat_map f (take i xs) ++ flat_map f (drop i xs)
+each_split f xs i = ap (flat_map f) (sym (take-append-drop i xs)) ∙ flat_map-append f (take i xs) (drop i xs)
+
+-- the write fails at the first bytes
+pub cut_some : (f : ℕ → List ℕ) (a b : Option (List ℕ)) (block xs ys : List ℕ) (n : ℕ) → ys ≡ flat_map f (take n xs) → AppendsPrefix a b (block ++ ys) → AppendsPrefix a b (block ++ flat_map f xs)
+cut_some f a b block xs ys n e h =
+    cut_longer a b (block ++ ys) (flat_map f (drop n xs)) (block ++ flat_map f xs) h
+    (ap (λ x. block ++ x) (each_split f xs n ∙ ap (λ x. x ++ flat_map f (drop n xs)) (sym e)) ∙ sym (append_assoc block ys (flat_map f (drop n xs))))
+
+-- bytes are gathered after what was put
+pub puts_pushed : (a b : Option (List ℕ)) (block block' block'' xs ys : List ℕ) → Puts a b block block' xs → block'' ≡ block' ++ ys → Puts a b block block'' (xs ++ ys)
+puts_pushed a b block block' block'' xs ys h e = record {
+  written = h.written;
+  appended = h.appended;
+  all = ap (λ x. h.written ++ x) e ∙ sym (append_assoc h.written block' ys) ∙ ap (λ x. x ++ ys) h.all ∙ append_assoc block xs ys;
+}
+
+-- the mark in which a string begins is put with what comes before it, and that in which it ends with what comes after
+marks_apart : (front string after : List ℕ) → (front ++ codes "\"") ++ string ++ (codes "\"" ++ after) ≡ front ++ (codes "\"" ++ string ++ codes "\"") ++ after
+marks_apart front string after = simp append_assoc refl
 
 -- three parts are put
-pub puts_parts : (a b c d : Option (List ℕ)) (k l m n xs ys zs : List ℕ) → Puts a b k l xs → Puts b c l m ys → Puts c d m n zs → Puts a d k n (xs ++ ys ++ zs)
+puts_parts : (a b c d : Option (List ℕ)) (k l m n xs ys zs : List ℕ) → Puts a b k l xs → Puts b c l m ys → Puts c d m n zs → Puts a d k n (xs ++ ys ++ zs)
 puts_parts a b c d k l m n xs ys zs f g h = puts_more a c d k m n (xs ++ ys) zs (xs ++ ys ++ zs) (puts_more a b c k l m xs ys (xs ++ ys) f g refl) h refl
 
 -- the write fails at the first of two parts
@@ -62,14 +86,27 @@ pub cut_front : (a b : Option (List ℕ)) (k xs ys : List ℕ) → AppendsPrefix
 cut_front a b k xs ys h = cut_longer a b (k ++ xs) ys (k ++ (xs ++ ys)) h (sym (append_assoc k xs ys))
 
 -- or the write fails at the first, the second or the third
-pub cut_first : (a b : Option (List ℕ)) (k xs ys zs : List ℕ) → AppendsPrefix a b (k ++ xs) → AppendsPrefix a b (k ++ (xs ++ ys ++ zs))
+cut_first : (a b : Option (List ℕ)) (k xs ys zs : List ℕ) → AppendsPrefix a b (k ++ xs) → AppendsPrefix a b (k ++ (xs ++ ys ++ zs))
 cut_first a b k xs ys zs h = cut_longer a b (k ++ xs) (ys ++ zs) (k ++ (xs ++ ys ++ zs)) h (ap (λ x. k ++ x) (append_assoc xs ys zs) ∙ sym (append_assoc k xs (ys ++ zs)))
 
-pub cut_second : (a b c : Option (List ℕ)) (k l xs ys zs : List ℕ) → Puts a b k l xs → AppendsPrefix b c (l ++ ys) → AppendsPrefix a c (k ++ (xs ++ ys ++ zs))
+cut_second : (a b c : Option (List ℕ)) (k l xs ys zs : List ℕ) → Puts a b k l xs → AppendsPrefix b c (l ++ ys) → AppendsPrefix a c (k ++ (xs ++ ys ++ zs))
 cut_second a b c k l xs ys zs f h = cut_longer a c (k ++ (xs ++ ys)) zs (k ++ (xs ++ ys ++ zs)) (cut_more a b c k l xs ys (xs ++ ys) f h refl) (sym (append_assoc k (xs ++ ys) zs))
 
-pub cut_third : (a b c d : Option (List ℕ)) (k l m xs ys zs : List ℕ) → Puts a b k l xs → Puts b c l m ys → AppendsPrefix c d (m ++ zs) → AppendsPrefix a d (k ++ (xs ++ ys ++ zs))
+cut_third : (a b c d : Option (List ℕ)) (k l m xs ys zs : List ℕ) → Puts a b k l xs → Puts b c l m ys → AppendsPrefix c d (m ++ zs) → AppendsPrefix a d (k ++ (xs ++ ys ++ zs))
 cut_third a b c d k l m xs ys zs f g h = cut_more a c d k m (xs ++ ys) zs (xs ++ ys ++ zs) (puts_more a b c k l m xs ys (xs ++ ys) f g refl) h refl
+
+-- a line is put in three parts, or the write fails at one of them
+pub row_put : (a b c d : Option (List ℕ)) (k l m n front string after : List ℕ) → Puts a b k l (front ++ codes "\"") → Puts b c l m string → Puts c d m n (codes "\"" ++ after) → Puts a d k n (front ++ (codes "\"" ++ string ++ codes "\"") ++ after)
+row_put a b c d k l m n front string after f g h = subst (λ x. Puts a d k n x) (marks_apart front string after) (puts_parts a b c d k l m n (front ++ codes "\"") string (codes "\"" ++ after) f g h)
+
+pub row_cut_first : (a b : Option (List ℕ)) (k front string after : List ℕ) → AppendsPrefix a b (k ++ (front ++ codes "\"")) → AppendsPrefix a b (k ++ (front ++ (codes "\"" ++ string ++ codes "\"") ++ after))
+row_cut_first a b k front string after h = subst (λ x. AppendsPrefix a b (k ++ x)) (marks_apart front string after) (cut_first a b k (front ++ codes "\"") string (codes "\"" ++ after) h)
+
+pub row_cut_second : (a b c : Option (List ℕ)) (k l front string after : List ℕ) → Puts a b k l (front ++ codes "\"") → AppendsPrefix b c (l ++ string) → AppendsPrefix a c (k ++ (front ++ (codes "\"" ++ string ++ codes "\"") ++ after))
+row_cut_second a b c k l front string after f h = subst (λ x. AppendsPrefix a c (k ++ x)) (marks_apart front string after) (cut_second a b c k l (front ++ codes "\"") string (codes "\"" ++ after) f h)
+
+pub row_cut_third : (a b c d : Option (List ℕ)) (k l m front string after : List ℕ) → Puts a b k l (front ++ codes "\"") → Puts b c l m string → AppendsPrefix c d (m ++ (codes "\"" ++ after)) → AppendsPrefix a d (k ++ (front ++ (codes "\"" ++ string ++ codes "\"") ++ after))
+row_cut_third a b c d k l m front string after f g h = subst (λ x. AppendsPrefix a d (k ++ x)) (marks_apart front string after) (cut_third a b c d k l m (front ++ codes "\"") string (codes "\"" ++ after) f g h)
 
 -- the bytes of a token, from where it begins to where it ends
 pub text_of : (text bytes : List ℕ) (t : Token) → bytes ≡ text → take (t.offset + t.len - t.offset) (drop t.offset bytes) ≡ token_text text t

@@ -1,11 +1,12 @@
 -- A line and its pieces.
-use Rattle.std.proofs.Common.{◌≡◌, ◌+◌, ◌≤◌, ℕ, List, ◌++◌, length, take, ap, sym, ◌∙◌, append_assoc, arith}
-use Rattle.std.proofs.Math.Seq.{take-append-add, take-append_seam}
+use Rattle.std.proofs.Common.{◌≡◌, ◌+◌, ◌-◌, ◌/◌, ◌%◌, ◌^◌, ◌<◌, ◌≤◌, ℕ, List, ◌++◌, length, length-append, length-drop, take, drop, ap, ap₂, sym, ◌∙◌, append_assoc, arith}
+use Rattle.std.proofs.Math.Seq.{drop_at, drop-append-add, drop-append-le, drop-drop, take-add, take-append-add, take-append_seam}
 use Rattle.std.proofs.lemmas.List.{take-take, take-append-le, length-take-le}
 use Rattle.std.specs.Prelude.{codes}
 use Rattle.std.specs.Fmt.{decimal}
 use Rattle.wat_lex.specs.declared.lexer.kinds.Token.{Token}
 use Rattle.wat_lines.specs.Lines.{kind_name, line}
+use Rattle.wat_lines.proofs.Decimals.{decimal_from_100, pair}
 
 -- the first bytes of a piece that was copied, after what comes before it
 pub over_piece : (at count : ℕ) (room ys piece post : List ℕ) → at ≤ length room → count ≤ length piece → ys ≡ piece → take (at + count) (take at room ++ (ys ++ post)) ≡ take at room ++ take count piece
@@ -24,6 +25,49 @@ digits_in n count piece e f h =
 dots_in : (n count : ℕ) (piece : List ℕ) → piece ≡ take 16 (padded n) → count ≡ length (decimal n) → count ≤ 10 → take (count + 2) piece ≡ decimal n ++ codes ".."
 dots_in n count piece e f h =
     ap (λ x. take (count + 2) x) e ∙ ap (λ k. take (k + 2) (take 16 (padded n))) f ∙ take-take (length (decimal n) + 2) 16 (padded n) (omega (arith, f, h)) ∙ take-append-add (decimal n) (codes "..00000000000000") 2
+
+-- the digits alone
+pub digits_alone : (n : ℕ) → take (length (padded n) - 16) (padded n) ≡ decimal n
+digits_alone n =
+    let few : length (padded n) - 16 ≡ length (decimal n) = omega (arith, length-append (decimal n) (codes "..00000000000000")) in
+    ap (λ k. take k (padded n)) few ∙ take-append_seam (decimal n) (codes "..00000000000000")
+
+-- two bytes are put in place of those where the last digits are
+pub last_put : (start : ℕ) (bytes ys two : List ℕ) → start ≤ 8 → length bytes ≡ 26 → ys ≡ two → drop start (take 8 bytes ++ (ys ++ drop 2 (drop 8 bytes))) ≡ take (length (drop start bytes) - 18) (drop start bytes) ++ two ++ drop (length (drop start bytes) - 16) (drop start bytes)
+last_put start bytes ys two h len e =
+    let view = drop start bytes in
+    let long : length view ≡ 26 - start = length-drop start bytes ∙ ap (λ n. n - start) len in
+    let before : length view - 18 ≡ 8 - start = omega (arith, long, h) in
+    let after : length view - 16 ≡ 10 - start = omega (arith, long, h) in
+    let eight : 8 ≡ start + (8 - start) = omega (arith, h) in
+    let ten : 10 ≡ start + (10 - start) = omega (arith, h) in
+    let front : drop start (take 8 bytes) ≡ take (length view - 18) view =
+    ap (λ n. drop start (take n bytes)) eight ∙ ap (drop start) (take-add start (8 - start) bytes) ∙ drop_at (take start bytes) (take (8 - start) view) start (length-take-le start bytes (omega (arith, h, len))) ∙ ap (λ n. take n view) (sym before) in
+    let back : drop 2 (drop 8 bytes) ≡ drop (length view - 16) view = drop-drop 2 8 bytes ∙ ap (λ n. drop n bytes) ten ∙ sym (drop-drop (10 - start) start bytes) ∙ ap (λ n. drop n view) (sym after) in
+    drop-append-le start (take 8 bytes) (ys ++ drop 2 (drop 8 bytes)) (omega (arith, h, length-take-le 8 bytes (omega (arith, len)))) ∙ sym (append_assoc (drop start (take 8 bytes)) ys (drop 2 (drop 8 bytes)))
+    ∙ ap₂ (λ x y. x ++ ys ++ y) front back ∙ ap (λ x. take (length view - 18) view ++ x ++ drop (length view - 16) view) e
+
+-- a number of three digits or more has two after those of its hundreds
+pub long_digits : (p n : ℕ) (old : List ℕ) → old ≡ padded p → 100 ≤ n → n / 100 ≡ p / 100 → p < 2 ^ 64 → 18 ≤ length old
+long_digits p n old e h same small =
+    let front = decimal (p / 100) in
+    let two = pair (p % 100) in
+    let dots = codes "..00000000000000" in
+    let was = ap length (decimal_from_100 p (omega (arith, h, same)) small) ∙ length-append front two in
+    omega (arith, ap length e, length-append (decimal p) dots, was)
+
+-- the last two digits of a number are put in place of those of another with the same digits in front
+pub last_two : (p n : ℕ) (old new : List ℕ) → old ≡ padded p → 100 ≤ n → n / 100 ≡ p / 100 → n < 2 ^ 33 → new ≡ take (length old - 18) old ++ pair (n % 100) ++ drop (length old - 16) old → new ≡ padded n
+last_two p n old new e h same small g =
+    let front = decimal (p / 100) in
+    let dots = codes "..00000000000000" in
+    let was : old ≡ front ++ (pair (p % 100) ++ dots) = e ∙ ap (λ d. d ++ dots) (decimal_from_100 p (omega (arith, h, same)) (omega (arith, same, small))) ∙ append_assoc front (pair (p % 100)) dots in
+    let long = ap length was ∙ length-append front (pair (p % 100) ++ dots) in
+    let before : length old - 18 ≡ length front = omega (arith, long) in
+    let after : length old - 16 ≡ length front + 2 = omega (arith, long) in
+    let first : take (length old - 18) old ≡ front = ap (λ k. take k old) before ∙ ap (λ x. take (length front) x) was ∙ take-append_seam front (pair (p % 100) ++ dots) in
+    let last : drop (length old - 16) old ≡ dots = ap (λ k. drop k old) after ∙ ap (λ x. drop (length front + 2) x) was ∙ drop-append-add front (pair (p % 100) ++ dots) 2 in
+    g ∙ ap₂ (λ x y. x ++ pair (n % 100) ++ y) first last ∙ ap (λ k. decimal k ++ pair (n % 100) ++ dots) (sym same) ∙ ap (λ d. d ++ dots) (sym (decimal_from_100 n h (omega (arith, small))))
 
 -- three pieces are a line
 pub line_of : (t : Token) (m n i j k to_dots to_name to_end : ℕ) (room room1 room2 room3 first second third : List ℕ) → m ≡ t.offset → n ≡ t.offset + t.len

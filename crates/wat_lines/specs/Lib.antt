@@ -5,4 +5,5 @@ pub mod JsonStrings
 pub mod Lines
 pub mod Plain
 pub mod Streams
+pub mod TextLines
 pub mod lemmas

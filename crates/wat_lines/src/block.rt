@@ -1,13 +1,15 @@
 //! Bytes on their way to a sink. They are gathered in a block, which is written whenever it is full.
 ghost use Rattle.std.specs.Prelude.{◌≡◌, ◌++◌, ◌+◌, ◌<◌, ◌≤◌, ◌^◌, ℕ, List, []};
-ghost use Rattle.std.specs.Prelude.{length, take, OnOk, OnErr};
+ghost use Rattle.std.specs.Prelude.{length, take, codes, OnOk, OnErr};
 ghost use Rattle.std.specs.Io.KnownBytes.{Appends};
 ghost use Rattle.wat_lines.specs.Blocks.{Puts};
+ghost use Rattle.wat_lines.specs.JsonRows.{json_after, json_head};
 ghost use Rattle.wat_lines.specs.Lines.{line};
 ghost use Rattle.wat_lines.specs.Streams.{AppendsPrefix, failure_after};
 
 use crate::ends::{Failed, Sink};
 use crate::line::{Place, ROOM, put_line};
+use crate::members::{put_after, put_head};
 use std::marker::Model;
 use wat_lex::lexer::Token;
 
@@ -56,7 +58,7 @@ impl Block {
 
     /// Writes the bytes that are gathered where there is not room for so many more.
     #[inline(always)]
-    fn make_room<W: Sink>(&mut self, output: &mut W, count: usize) -> Result<(), Failed>
+    pub(crate) fn make_room<W: Sink>(&mut self, output: &mut W, count: usize) -> Result<(), Failed>
         requires { count ≤ 65536 }
         ensures put { OnOk result
             (Puts (W.held output.old) (W.held output.new) self.old self.new []) }
@@ -71,14 +73,18 @@ impl Block {
         self.write(output)
     }
 
-    /// Gathers bytes for which there is room.
+    /// Gathers bytes for which there is room. A byte alone is put without a call.
     #[inline(always)]
     fn push(&mut self, bytes: &[u8])
         requires { length self.old + length bytes.now ≤ 65536 }
         ensures { self.new ≡ self.old ++ bytes.now }
     {
         let end = self.used + bytes.len();
-        self.bytes[self.used..end].copy_from_slice(bytes);
+        if bytes.len() == 1 {
+            self.bytes[self.used] = bytes[0];
+        } else {
+            self.bytes[self.used..end].copy_from_slice(bytes);
+        }
         self.used = end;
     }
 
@@ -90,6 +96,27 @@ impl Block {
         ensures { self.new ≡ self.old ++ line token.now }
     {
         self.used += put_line(&mut self.bytes[self.used..], place, token);
+    }
+
+    /// Gathers what is before a token's text in its line, but for what each line begins with.
+    #[inline(always)]
+    pub(crate) fn push_head(&mut self, place: &mut Place, token: &Token)
+        requires room { length self.old + 96 ≤ 65536 }
+        requires short { token.now.offset + token.now.len < 2 ^ 32 }
+        ensures { self.new ≡ self.old ++ (json_head token.now ++ codes "\"") }
+    {
+        self.used += put_head(&mut self.bytes[self.used..], place, token);
+    }
+
+    /// Gathers what is after a token's text in its line.
+    #[inline(always)]
+    pub(crate) fn push_after(&mut self, place: &mut Place, line: usize, column: usize)
+        requires room { length self.old + 96 ≤ 65536 }
+        requires line { line < 2 ^ 32 }
+        requires column { column < 2 ^ 32 }
+        ensures { self.new ≡ self.old ++ (codes "\"" ++ json_after (line, column)) }
+    {
+        self.used += put_after(&mut self.bytes[self.used..], place, line, column);
     }
 
     /// Puts bytes after the others.

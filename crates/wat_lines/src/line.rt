@@ -34,11 +34,11 @@ static PAIRS: [[u8; 2]; 100] = [
     *b"96", *b"97", *b"98", *b"99",
 ];
 
-fn two_digits(number: u32) -> [u8; 2]
+fn two_digits(number: usize) -> [u8; 2]
     requires { number < 100 }
     ensures { result ≡ (48 + number / 10) ∷ (48 + number % 10) ∷ [] }
 {
-    PAIRS[number as usize]
+    PAIRS[number]
 }
 
 /// Digits, and two dots after them.
@@ -75,14 +75,6 @@ impl Digits {
         MOST_DIGITS - self.start
     }
 
-    /// The digits alone.
-    pub(crate) fn digits(&self) -> &[u8]
-        ensures digits { result.now ≡ take (length self.now - 16) self.now }
-        ensures few { length result.now ≤ 10 }
-    {
-        &self.bytes[self.start..MOST_DIGITS]
-    }
-
     /// The first sixteen bytes.
     fn first_16_bytes(&self) -> &[u8]
         ensures piece { result.now ≡ take 16 self.now }
@@ -103,8 +95,9 @@ impl Digits {
     }
 
     /// Puts a number in front, two digits at a time.
-    fn put_number(&mut self, number: u32)
-        requires { length self.old + 10 ≤ 26 }
+    fn put_number(&mut self, number: usize)
+        requires short { number < 2 ^ 33 }
+        requires room { length self.old + 10 ≤ 26 }
         ensures digits { self.new ≡ decimal number ++ self.old }
         ensures len { length self.new ≤ 10 + length self.old }
     {
@@ -119,10 +112,45 @@ impl Digits {
             self.put(&[b'0' + rest as u8]);
         }
     }
+
+    /// Puts the last two digits in place of those that are there.
+    fn put_last_two(&mut self, pair: [u8; 2])
+        requires { 18 ≤ length self.old }
+        ensures { self.new ≡ take (length self.old - 18) self.old ++ pair ++ drop (length self.old - 16) self.old }
+    {
+        self.bytes[MOST_DIGITS - 2..MOST_DIGITS].copy_from_slice(&pair);
+    }
+
+    /// Puts a number in place of that which is there. Most often the last two digits alone differ.
+    #[inline(always)]
+    fn change(&mut self, from: usize, to: usize)
+        requires short { to < 2 ^ 33 }
+        requires from { self.old ≡ decimal from ++ codes "..00000000000000" }
+        ensures { self.new ≡ decimal to ++ codes "..00000000000000" }
+    {
+        if to < 100 || to / 100 != from / 100 {
+            *self = digits_of(to);
+            return;
+        }
+        self.put_last_two(two_digits(to % 100));
+    }
+
+    /// Puts the digits at a place of the room, and answers where they end.
+    #[inline(always)]
+    fn put_in(&self, room: &mut [u8], at: usize) -> usize
+        requires wide { at + 16 ≤ length room.old }
+        ensures put { take result room.new ≡ take at room.old ++ take (length self.now - 16) self.now }
+        ensures end { result + 16 ≡ at + length self.now }
+        ensures few { result ≤ at + 10 }
+        ensures room { length room.new ≡ length room.old }
+    {
+        put_piece(room, at, self.first_16_bytes(), self.count())
+    }
 }
 
 /// A number's digits.
-pub(crate) fn digits_of(number: u32) -> Digits
+fn digits_of(number: usize) -> Digits
+    requires { number < 2 ^ 33 }
     ensures { result ≡ decimal number ++ codes "..00000000000000" }
 {
     let mut digits = Digits::none();
@@ -130,10 +158,30 @@ pub(crate) fn digits_of(number: u32) -> Digits
     digits
 }
 
+/// Puts a number at a place of the room, and answers where it ends.
+#[inline(always)]
+pub(crate) fn put_number(room: &mut [u8], at: usize, number: usize) -> usize
+    requires short { number < 2 ^ 33 }
+    requires wide { at + 16 ≤ length room.old }
+    ensures put { take result room.new ≡ take at room.old ++ decimal number }
+    ensures end { result ≤ at + 10 }
+    ensures room { length room.new ≡ length room.old }
+{
+    if number < 10 {
+        room[at] = b'0' + number as u8;
+        return at + 1;
+    }
+    if number < 100 {
+        room[at..at + 2].copy_from_slice(&two_digits(number));
+        return at + 2;
+    }
+    digits_of(number).put_in(room, at)
+}
+
 /// A place in a text, with its digits at hand.
 #[derive(Drop)]
 pub struct Place {
-    offset: u32,
+    offset: usize,
     digits: Digits,
 }
 
@@ -157,13 +205,25 @@ impl Place {
     }
 
     /// Moves to another place. The end of a token is where most often the next begins.
-    fn move_to(&mut self, offset: u32)
+    pub(crate) fn move_to(&mut self, offset: usize)
+        requires { offset < 2 ^ 33 }
         ensures { self.new ≡ offset }
     {
         if offset != self.offset {
-            self.digits = digits_of(offset);
+            self.digits.change(self.offset, offset);
             self.offset = offset;
         }
+    }
+
+    /// Puts the digits at a place of the room, and answers where they end.
+    #[inline(always)]
+    pub(crate) fn put_in(&self, room: &mut [u8], at: usize) -> usize
+        requires wide { at + 16 ≤ length room.old }
+        ensures put { take result room.new ≡ take at room.old ++ decimal self.now }
+        ensures end { result ≤ at + 10 }
+        ensures room { length room.new ≡ length room.old }
+    {
+        self.digits.put_in(room, at)
     }
 
     /// The digits, two dots after them, and what fills the piece.
@@ -217,7 +277,7 @@ pub fn line_end(kind: TokenKind) -> &'static str
 
 /// Puts the first bytes of a piece at a place of the room, and answers where they end.
 #[inline(always)]
-fn put_piece(room: &mut [u8], at: usize, piece: &[u8], count: usize) -> usize
+pub(crate) fn put_piece(room: &mut [u8], at: usize, piece: &[u8], count: usize) -> usize
     requires piece { length piece.now ≡ 16 }
     requires count { count ≤ 16 }
     requires wide { at + 16 ≤ length room.old }
@@ -238,9 +298,9 @@ pub fn put_line(room: &mut [u8], place: &mut Place, token: &Token) -> usize
     ensures end { result ≤ length room.new }
     ensures room { length room.new ≡ length room.old }
 {
-    place.move_to(token.offset as u32);
+    place.move_to(token.offset);
     let dots = put_piece(room, 0, place.first_16_bytes(), place.count() + 2);
-    place.move_to((token.offset + token.len as usize) as u32);
+    place.move_to(token.offset + token.len as usize);
     let name = put_piece(room, dots, place.first_16_bytes(), place.count());
     let (padded, count) = padded_end(token.kind);
     put_piece(room, name, padded.as_bytes(), count)

@@ -1,32 +1,80 @@
 //! Lines and columns of a text, one place after the other.
-ghost use Rattle.std.specs.Prelude.{◌≡◌, ◌<◌, ◌^◌, length};
+ghost use Rattle.std.specs.Prelude.{◌≡◌, ◌++◌, ◌+◌, ◌<◌, ◌≤◌, ◌^◌, length, codes};
 ghost use Rattle.std.specs.Str.{IsCharBoundary};
 ghost use Rattle.wat_lex.specs.errors.Positions.{line_and_column};
+ghost use Rattle.wat_lines.specs.JsonRows.{json_after, json_head};
+ghost use Rattle.wat_lines.specs.TextLines.{EndsLine, IsLine};
 
+use crate::block::Block;
+use crate::line::Place;
+use memchr::memchr;
 use std::marker::Model;
+use wat_lex::lexer::Token;
 use wat_lex::token::Span;
+
+/// A line of a text: its number from 0, where it begins, and where its line feed is or the text ends.
+#[derive(Clone, Copy)]
+struct Line {
+    number: usize,
+    start: usize,
+    end: usize,
+}
+
+/// Where the line ends that begins here.
+fn line_end(text: &[u8], start: usize) -> usize
+    requires { start ≤ length text.now }
+    ensures { EndsLine text.now start result }
+{
+    match memchr(b'\n', &text[start..]) {
+        Some(len) => start + len,
+        None => text.len(),
+    }
+}
+
+/// The line of a place that is not before a line.
+#[inline(never)]
+fn line_from(text: &[u8], line: Line, offset: usize) -> Line
+    requires short { length text.now < 2 ^ 32 }
+    requires line { IsLine text.now line.number line.start line.end }
+    requires after { line.start ≤ offset }
+    requires within { offset ≤ length text.now }
+    ensures line { IsLine text.now result.number result.start result.end }
+    ensures start { result.start ≤ offset }
+    ensures end { offset ≤ result.end }
+{
+    let mut line = line;
+    while line.end < offset {
+        let start = line.end + 1;
+        line = Line {
+            number: line.number + 1,
+            start,
+            end: line_end(text, start),
+        };
+    }
+    line
+}
 
 /// Where the places of a text are, for those who ask for them in their order: each is found from
 /// the one before it.
 #[derive(Drop)]
 pub struct Positions<'a> {
     text: &'a str,
-    offset: usize,
-    line: usize,
-    column: usize,
+    line: Line,
+    /// The offset that was written last, and the line.
+    offset_place: Place,
+    line_place: Place,
 }
 
 impl<'a> Model for Positions<'a> {
-    ghost use Rattle.std.specs.Prelude.{◌≡◌, ◌<◌, ◌^◌, ℕ, List, length};
-    ghost use Rattle.std.specs.Str.{IsCharBoundary};
-    ghost use Rattle.wat_lex.specs.errors.Positions.{line_and_column};
+    ghost use Rattle.std.specs.Prelude.{◌<◌, ◌^◌, ℕ, List, length};
+    ghost use Rattle.wat_lines.specs.TextLines.{IsLine};
 
     ghost Value = { List ℕ };
 
     ghost view = { λ p. p.text.now };
 
-    ghost invariant = { λ p. (length p.text.now < 2 ^ 32) × IsCharBoundary p.text.now p.offset
-        × (line_and_column p.text.now p.offset ≡ (p.line, p.column)) };
+    ghost invariant = { λ p. (length p.text.now < 2 ^ 32)
+        × IsLine p.text.now p.line.number p.line.start p.line.end };
 }
 
 impl<'a> Positions<'a> {
@@ -37,15 +85,20 @@ impl<'a> Positions<'a> {
     {
         Positions {
             text,
-            offset: 0,
-            line: 0,
-            column: 0,
+            line: Line {
+                number: 0,
+                start: 0,
+                end: line_end(text.as_bytes(), 0),
+            },
+            offset_place: Place::start(),
+            line_place: Place::start(),
         }
     }
 
     /// The text.
     pub fn text(&self) -> &'a str
-        ensures { result.now ≡ self.now }
+        ensures text { result.now ≡ self.now }
+        ensures short { length result.now < 2 ^ 32 }
     {
         self.text
     }
@@ -59,18 +112,35 @@ impl<'a> Positions<'a> {
         ensures column { result.1 < 2 ^ 32 }
         ensures text { self.new ≡ self.old }
     {
-        if offset < self.offset {
+        if offset < self.line.start {
             return Span::from_offset(offset).linecol_in(self.text);
         }
-        let passed = &self.text[self.offset..offset];
-        let (lines, column) = Span::from_offset(passed.len()).linecol_in(passed);
-        self.line += lines;
-        if column == passed.len() {
-            self.column += column;
-        } else {
-            self.column = column;
+        if self.line.end < offset {
+            self.line = line_from(self.text.as_bytes(), self.line, offset);
         }
-        self.offset = offset;
-        (self.line, self.column)
+        (self.line.number, offset - self.line.start)
+    }
+
+    /// Gathers what is before a token's text in its line, but for what each line begins with.
+    #[inline(always)]
+    pub(crate) fn push_head(&mut self, block: &mut Block, token: &Token)
+        requires room { length block.old + 96 ≤ 65536 }
+        requires short { token.now.offset + token.now.len < 2 ^ 32 }
+        ensures put { block.new ≡ block.old ++ (json_head token.now ++ codes "\"") }
+        ensures text { self.new ≡ self.old }
+    {
+        block.push_head(&mut self.offset_place, token);
+    }
+
+    /// Gathers what is after a token's text in its line.
+    #[inline(always)]
+    pub(crate) fn push_after(&mut self, block: &mut Block, line: usize, column: usize)
+        requires room { length block.old + 96 ≤ 65536 }
+        requires line { line < 2 ^ 32 }
+        requires column { column < 2 ^ 32 }
+        ensures put { block.new ≡ block.old ++ (codes "\"" ++ json_after (line, column)) }
+        ensures text { self.new ≡ self.old }
+    {
+        block.push_after(&mut self.line_place, line, column);
     }
 }

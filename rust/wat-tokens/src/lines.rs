@@ -6,5 +6,6 @@ pub mod block;
 pub mod ends;
 pub mod failed;
 pub mod line;
+mod members;
 pub mod position;
 pub mod row;

@@ -4,6 +4,7 @@
 use crate::shim::prelude::*;
 use crate::lines::ends::{Failed, Sink};
 use crate::lines::line::{Place, ROOM, put_line};
+use crate::lines::members::{put_after, put_head};
 
 use wat_lex::proved::lexer::Token;
 
@@ -63,14 +64,18 @@ impl Block {
     /// ensures failed { W.failure output.new ≡ failure_after (W.failure output.old) result }
     /// ```
     #[inline(always)]
-    fn make_room<W: Sink>(&mut self, output: &mut W, count: usize) -> Result<(), Failed> {
+    pub(crate) fn make_room<W: Sink>(
+        &mut self,
+        output: &mut W,
+        count: usize,
+    ) -> Result<(), Failed> {
         if count <= BLOCK - self.used {
             return Ok(());
         }
         self.write(output)
     }
 
-    /// Gathers bytes for which there is room.
+    /// Gathers bytes for which there is room. A byte alone is put without a call.
     ///
     /// # Proved
     ///
@@ -81,7 +86,11 @@ impl Block {
     #[inline(always)]
     fn push(&mut self, bytes: &[u8]) {
         let end = self.used + bytes.len();
-        self.bytes[self.used..end].copy_from_slice(bytes);
+        if bytes.len() == 1 {
+            self.bytes[self.used] = bytes[0];
+        } else {
+            self.bytes[self.used..end].copy_from_slice(bytes);
+        }
         self.used = end;
     }
 
@@ -97,6 +106,35 @@ impl Block {
     #[inline(always)]
     fn push_line(&mut self, place: &mut Place, token: &Token) {
         self.used += put_line(&mut self.bytes[self.used..], place, token);
+    }
+
+    /// Gathers what is before a token's text in its line, but for what each line begins with.
+    ///
+    /// # Proved
+    ///
+    /// ```text
+    /// requires room { length self.old + 96 ≤ 65536 }
+    /// requires short { token.now.offset + token.now.len < 2 ^ 32 }
+    /// ensures { self.new ≡ self.old ++ (json_head token.now ++ codes "\"") }
+    /// ```
+    #[inline(always)]
+    pub(crate) fn push_head(&mut self, place: &mut Place, token: &Token) {
+        self.used += put_head(&mut self.bytes[self.used..], place, token);
+    }
+
+    /// Gathers what is after a token's text in its line.
+    ///
+    /// # Proved
+    ///
+    /// ```text
+    /// requires room { length self.old + 96 ≤ 65536 }
+    /// requires line { line < 2 ^ 32 }
+    /// requires column { column < 2 ^ 32 }
+    /// ensures { self.new ≡ self.old ++ (codes "\"" ++ json_after (line, column)) }
+    /// ```
+    #[inline(always)]
+    pub(crate) fn push_after(&mut self, place: &mut Place, line: usize, column: usize) {
+        self.used += put_after(&mut self.bytes[self.used..], place, line, column);
     }
 
     /// Puts bytes after the others.

@@ -5,159 +5,12 @@
 use crate::shim::prelude::*;
 use crate::lines::block::Block;
 use crate::lines::ends::{Failed, Sink};
-use crate::lines::line::digits_of;
+use crate::lines::members::ROOM;
 use crate::lines::position::Positions;
 use crate::shim::itoa::Buffer;
 use crate::shim::alloc::{AllocError, Global};
-
-use wat_lex::proved::lexer::{Token, TokenKind};
+use wat_lex::proved::lexer::Token;
 use wat_lex::proved::token::Span;
-
-/// The room for what is in a line before a token's text, or after it.
-const ROOM: usize = 96;
-
-/// The bytes of a line before a token's text, or after it.
-struct Part {
-    bytes: [u8; ROOM],
-    used: usize,
-}
-
-impl Part {
-    /// # Proved
-    ///
-    /// ```text
-    /// ensures { result ≡ [] }
-    /// ```
-    fn new() -> Part {
-        Part {
-            bytes: [0; ROOM],
-            used: 0,
-        }
-    }
-
-    /// # Proved
-    ///
-    /// ```text
-    /// ensures { result.now ≡ self.now }
-    /// ```
-    fn bytes(&self) -> &[u8] {
-        &self.bytes[..self.used]
-    }
-
-    /// # Proved
-    ///
-    /// ```text
-    /// requires { length self.old + length text.now ≤ 96 }
-    /// ensures { self.new ≡ self.old ++ text.now }
-    /// ```
-    fn push(&mut self, text: &str) {
-        self.push_bytes(text.as_bytes());
-    }
-
-    /// # Proved
-    ///
-    /// ```text
-    /// requires { length self.old + length bytes.now ≤ 96 }
-    /// ensures { self.new ≡ self.old ++ bytes.now }
-    /// ```
-    fn push_bytes(&mut self, bytes: &[u8]) {
-        let end = self.used + bytes.len();
-        self.bytes[self.used..end].copy_from_slice(bytes);
-        self.used = end;
-    }
-
-    /// # Proved
-    ///
-    /// ```text
-    /// requires { length self.old + 20 ≤ 96 }
-    /// ensures digits { self.new ≡ self.old ++ decimal number }
-    /// ensures len { length self.new ≤ length self.old + 20 }
-    /// ```
-    fn push_number(&mut self, number: usize) {
-        match u32::try_from(number) {
-            Ok(small) => self.push_bytes(digits_of(small).digits()),
-            Err(_) => self.push(Buffer::new().format(number)),
-        }
-    }
-}
-
-/// The name of a kind.
-///
-/// # Proved
-///
-/// ```text
-/// ensures name { result.now ≡ kind_name kind }
-/// ensures short { length result.now ≤ 12 }
-/// ```
-fn kind_name(kind: TokenKind) -> &'static str {
-    match kind {
-        TokenKind::LineComment => "LineComment",
-        TokenKind::BlockComment => "BlockComment",
-        TokenKind::Whitespace => "Whitespace",
-        TokenKind::LParen => "LParen",
-        TokenKind::RParen => "RParen",
-        TokenKind::String => "String",
-        TokenKind::Id => "Id",
-        TokenKind::Keyword => "Keyword",
-        TokenKind::Annotation => "Annotation",
-        TokenKind::Reserved => "Reserved",
-        TokenKind::Integer(_) => "Integer",
-        TokenKind::Float(_) => "Float",
-    }
-}
-
-/// What comes in a token's line before its text, but for what each line begins with.
-///
-/// # Proved
-///
-/// ```text
-/// ensures { result ≡ json_head token.now }
-/// ```
-fn head_of(token: &Token) -> Part {
-    let mut front = Part::new();
-    front.push("\"offset\":");
-    front.push_number(token.offset);
-    front.push(",\"length\":");
-    front.push_number(token.len as usize);
-    front.push(",\"kind\":\"");
-    front.push(kind_name(token.kind));
-    front.push("\",\"text\":");
-    front
-}
-
-/// What comes in a fault's line before its message, but for what each line begins with.
-///
-/// # Proved
-///
-/// ```text
-/// ensures { result ≡ json_fault_head offset }
-/// ```
-fn fault_head(offset: usize) -> Part {
-    let mut front = Part::new();
-    front.push("\"offset\":");
-    front.push_number(offset);
-    front.push(",\"fault\":");
-    front
-}
-
-/// What comes last: line and column, which count from 0, and are written from 1.
-///
-/// # Proved
-///
-/// ```text
-/// requires line { line < 2 ^ 32 }
-/// requires column { column < 2 ^ 32 }
-/// ensures { result ≡ json_after (line, column) }
-/// ```
-fn after_of(line: usize, column: usize) -> Part {
-    let mut after = Part::new();
-    after.push(",\"line\":");
-    after.push_number(line + 1);
-    after.push(",\"column\":");
-    after.push_number(column + 1);
-    after.push("}\n");
-    after
-}
 
 /// A digit to base 16.
 ///
@@ -198,6 +51,59 @@ fn escaped(byte: u8) -> ([u8; 6], usize) {
     }
 }
 
+/// Whether a byte stands for itself in a string.
+///
+/// # Proved
+///
+/// ```text
+/// ensures { IsTrue result → escaped byte ≡ byte ∷ [] }
+/// ```
+fn is_plain(byte: u8) -> bool {
+    byte >= b' ' && byte != b'"' && byte != b'\\'
+}
+
+/// How many bytes at the start of a text stand for themselves in a string.
+///
+/// # Proved
+///
+/// ```text
+/// ensures plain { flat_map escaped (take result text.now) ≡ take result text.now }
+/// ensures within { result ≤ length text.now }
+/// ```
+fn plain_len(text: &[u8]) -> usize {
+    let mut len = 0;
+    while len < text.len() && is_plain(text[len]) {
+        len += 1;
+    }
+    len
+}
+
+/// Puts what stands for the first bytes of a text in a string after the others, and answers how many
+/// bytes these are: all that stand for themselves, or one that does not.
+///
+/// # Proved
+///
+/// ```text
+/// requires { 0 < length text.now }
+/// ensures put { IfOk result (λ count. Puts (W.held output.old) (W.held output.new)
+///     block.old block.new (flat_map escaped (take count text.now))) }
+/// ensures on { IfOk result (λ count. 0 < count) }
+/// ensures within { IfOk result (λ count. count ≤ length text.now) }
+/// ensures cut { OnErr result (AppendsPrefix (W.held output.old) (W.held output.new)
+///     (block.old ++ flat_map escaped text.now)) }
+/// ensures failed { W.failure output.new ≡ failure_after (W.failure output.old) result }
+/// ```
+fn put_some<W: Sink>(block: &mut Block, output: &mut W, text: &[u8]) -> Result<usize, Failed> {
+    let plain = plain_len(text);
+    if plain > 0 {
+        block.put(output, &text[..plain])?;
+        return Ok(plain);
+    }
+    let (bytes, count) = escaped(text[0]);
+    block.put(output, &bytes[..count])?;
+    Ok(1)
+}
+
 /// Puts what stands for the bytes of a text in a string after the others.
 ///
 /// # Proved
@@ -210,28 +116,12 @@ fn escaped(byte: u8) -> ([u8; 6], usize) {
 /// ensures failed { W.failure output.new ≡ failure_after (W.failure output.old) result }
 /// ```
 fn put_escaped<W: Sink>(block: &mut Block, output: &mut W, text: &[u8]) -> Result<(), Failed> {
-    for byte in text {
-        let (bytes, count) = escaped(*byte);
-        block.put(output, &bytes[..count])?;
+    let mut put = 0;
+    while put < text.len() {
+        let count = put_some(block, output, &text[put..])?;
+        put += count;
     }
     Ok(())
-}
-
-/// Puts a text as a string after the others.
-///
-/// # Proved
-///
-/// ```text
-/// ensures put { OnOk result (Puts (W.held output.old) (W.held output.new)
-///     block.old block.new (json_string text.now)) }
-/// ensures cut { OnErr result (AppendsPrefix (W.held output.old) (W.held output.new)
-///     (block.old ++ json_string text.now)) }
-/// ensures failed { W.failure output.new ≡ failure_after (W.failure output.old) result }
-/// ```
-fn put_string<W: Sink>(block: &mut Block, output: &mut W, text: &[u8]) -> Result<(), Failed> {
-    block.put(output, b"\"")?;
-    put_escaped(block, output, text)?;
-    block.put(output, b"\"")
 }
 
 /// Puts what comes in a token's line before its text after the others.
@@ -239,20 +129,50 @@ fn put_string<W: Sink>(block: &mut Block, output: &mut W, text: &[u8]) -> Result
 /// # Proved
 ///
 /// ```text
+/// requires { token.now.offset + token.now.len < 2 ^ 32 }
 /// ensures put { OnOk result (Puts (W.held output.old) (W.held output.new)
-///     block.old block.new (json_front begin.now token.now)) }
+///     block.old block.new (json_front begin.now token.now ++ codes "\"")) }
 /// ensures cut { OnErr result (AppendsPrefix (W.held output.old) (W.held output.new)
-///     (block.old ++ json_front begin.now token.now)) }
+///     (block.old ++ (json_front begin.now token.now ++ codes "\""))) }
 /// ensures failed { W.failure output.new ≡ failure_after (W.failure output.old) result }
+/// ensures positions { positions.new ≡ positions.old }
 /// ```
 fn put_front<W: Sink>(
     block: &mut Block,
     output: &mut W,
+    positions: &mut Positions<'_>,
     begin: &[u8],
     token: &Token,
 ) -> Result<(), Failed> {
     block.put(output, begin)?;
-    block.put(output, head_of(token).bytes())
+    block.make_room(output, ROOM)?;
+    positions.push_head(block, token);
+    Ok(())
+}
+
+/// Puts what comes in a token's line after its text after the others.
+///
+/// # Proved
+///
+/// ```text
+/// requires place { IsCharBoundary positions.old offset }
+/// ensures put { OnOk result (Puts (W.held output.old) (W.held output.new)
+///     block.old block.new (codes "\"" ++ json_after (line_and_column positions.old offset))) }
+/// ensures cut { OnErr result (AppendsPrefix (W.held output.old) (W.held output.new)
+///     (block.old ++ (codes "\"" ++ json_after (line_and_column positions.old offset)))) }
+/// ensures failed { W.failure output.new ≡ failure_after (W.failure output.old) result }
+/// ensures positions { positions.new ≡ positions.old }
+/// ```
+fn put_back<W: Sink>(
+    block: &mut Block,
+    output: &mut W,
+    positions: &mut Positions<'_>,
+    offset: usize,
+) -> Result<(), Failed> {
+    let (line, column) = positions.linecol(offset);
+    block.make_room(output, ROOM)?;
+    positions.push_after(block, line, column);
+    Ok(())
 }
 
 /// Puts a token's line after the others. Each line begins with `begin`, which [`object_open`] makes.
@@ -277,14 +197,13 @@ pub fn put_row<W: Sink>(
     token: &Token,
 ) -> Result<(), Failed> {
     let text = positions.text().as_bytes();
-    let (line, column) = positions.linecol(token.offset);
-    put_front(block, output, begin, token)?;
-    put_string(
+    put_front(block, output, positions, begin, token)?;
+    put_escaped(
         block,
         output,
         &text[token.offset..token.offset + token.len as usize],
     )?;
-    block.put(output, after_of(line, column).bytes())
+    put_back(block, output, positions, token.offset)
 }
 
 /// Writes what stands for the bytes of a text in a string after the others.
@@ -333,6 +252,23 @@ pub fn object_open(alloc: Global, file: Option<&str>) -> Result<Vec<u8>, AllocEr
     Ok(begin)
 }
 
+/// Writes what comes last after the others: line and column, which count from 0, and are written from 1.
+///
+/// # Proved
+///
+/// ```text
+/// requires line { line < 2 ^ 32 }
+/// requires column { column < 2 ^ 32 }
+/// ensures { OnOk result (lines.new.items ≡ lines.old.items ++ json_after (line, column)) }
+/// ```
+fn push_place(lines: &mut Vec<u8>, line: usize, column: usize) -> Result<(), AllocError> {
+    lines.extend_from_slice(b",\"line\":")?;
+    lines.extend_from_slice(Buffer::new().format(line + 1).as_bytes())?;
+    lines.extend_from_slice(b",\"column\":")?;
+    lines.extend_from_slice(Buffer::new().format(column + 1).as_bytes())?;
+    lines.extend_from_slice(b"}\n")
+}
+
 /// Writes the line of a fault of a text after the others, with its message.
 ///
 /// # Proved
@@ -351,7 +287,9 @@ pub fn push_fault(
 ) -> Result<(), AllocError> {
     let (line, column) = Span::from_offset(offset).linecol_in(text);
     lines.extend_from_slice(begin)?;
-    lines.extend_from_slice(fault_head(offset).bytes())?;
+    lines.extend_from_slice(b"\"offset\":")?;
+    lines.extend_from_slice(Buffer::new().format(offset).as_bytes())?;
+    lines.extend_from_slice(b",\"fault\":")?;
     push_string(lines, message.as_bytes())?;
-    lines.extend_from_slice(after_of(line, column).bytes())
+    push_place(lines, line, column)
 }

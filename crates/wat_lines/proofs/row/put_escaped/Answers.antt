@@ -1,15 +1,27 @@
-use Rattle.std.proofs.Common.{◌∙◌}
+use Rattle.std.proofs.Common.{◌∙◌, ap, arith, drop, length, length-drop, take}
+use Rattle.std.specs.Prelude.{flat_map}
+use Rattle.std.proofs.lemmas.List.{take_rest}
 use Rattle.wat_lines.specs.JsonStrings.{escaped}
-use Rattle.wat_lines.specs.lemmas.BlockLaws.{on_err}
-use Rattle.wat_lines.proofs.JsonLaws.{puts_each, cut_each}
+use Rattle.wat_lines.specs.lemmas.BlockLaws.{on_err, puts_more, cut_more}
+use Rattle.wat_lines.proofs.JsonLaws.{each_more, each_split}
 use Rattle.wat_lines.proofs.row.put_escaped.Goals as goal
 
-pub loop-byte-preserved : goal.loop-byte-preserved
-loop-byte-preserved g c = record {
-  puts = puts_each escaped _ _ _ _ _ _ c.args.text.now _ c.loop-byte.byte-index c.loop-byte-test.true c.escaped-count.ensures.text c.loop-byte.invariant.puts c.in_ok-put.ensures.put;
-  failed = c.in_ok-put.ensures.failed ∙ c.loop-byte.invariant.failed;
-}
+pub loop-put-preserved : goal.loop-put-preserved
+loop-put-preserved g c =
+    let text = c.args.text.now in
+    let put = c.loop-put.put in
+    let rest = take_rest text put in
+    let some = rw rest at c.in_ok-count.ensures.put in
+    let few = c.in_ok-count.ensures.within in
+    record {
+      within = omega (arith, few, ap length rest, length-drop put text, c.loop-put.invariant.within);
+      puts = puts_more _ _ _ _ _ _ (flat_map escaped (take put text)) (flat_map escaped (take c.in_ok-count.count (drop put text))) _ c.loop-put.invariant.puts some (each_more escaped text put c.in_ok-count.count);
+      failed = c.in_ok-count.ensures.failed ∙ c.loop-put.invariant.failed;
+    }
 
-pub returns-in_err-put-clause-cut : goal.returns-in_err-put-clause-cut
-returns-in_err-put-clause-cut g c =
-    on_err c.from_residual.result (cut_each escaped _ _ _ _ _ c.args.text.now _ c.loop-byte.byte-index c.loop-byte-test.true c.escaped-count.ensures.text c.loop-byte.invariant.puts c.in_err-put.ensures.cut)
+pub returns-in_err-count-clause-cut : goal.returns-in_err-count-clause-cut
+returns-in_err-count-clause-cut g c =
+    let text = c.args.text.now in
+    let put = c.loop-put.put in
+    let some = rw (take_rest text put) at c.in_err-count.ensures.cut in
+    on_err c.from_residual.result (cut_more _ _ _ _ _ (flat_map escaped (take put text)) (flat_map escaped (drop put text)) (flat_map escaped text) c.loop-put.invariant.puts some (each_split escaped text put))

@@ -1,19 +1,27 @@
-use Rattle.std.proofs.Common.{refl}
+use Rattle.std.proofs.Common.{◌++◌, [], append_assoc, refl}
+use Rattle.std.specs.Prelude.{codes}
 use Rattle.wat_lines.specs.JsonRows.{json_head}
-use Rattle.wat_lines.specs.lemmas.BlockLaws.{on_err, ok_then, err_then, puts_more, cut_more}
-use Rattle.wat_lines.proofs.JsonLaws.{cut_front}
+use Rattle.wat_lines.specs.lemmas.BlockLaws.{on_err, puts_more, cut_longer, cut_more}
+use Rattle.wat_lines.proofs.JsonLaws.{cut_front, puts_pushed}
 use Rattle.wat_lines.proofs.row.put_front.Goals as goal
 
 pub returns-in_err-put-clause-cut : goal.returns-in_err-put-clause-cut
 returns-in_err-put-clause-cut g c =
-    on_err c.from_residual.result (cut_front _ _ c.args.block.now c.args.begin.now (json_head c.args.token.now) c.in_err-put.ensures.cut)
+    let begin = c.args.begin.now in
+    let head = json_head c.args.token.now in
+    let cut = cut_front _ _ c.args.block.now begin (head ++ codes "\"") c.in_err-put.ensures.cut in
+    on_err c.from_residual.result (rw (append_assoc begin head (codes "\"")) cut)
+
+pub returns-in_err-make_room-clause-cut : goal.returns-in_err-make_room-clause-cut
+returns-in_err-make_room-clause-cut g c =
+    let begin = c.args.begin.now in
+    let head = json_head c.args.token.now in
+    let cut = cut_longer _ _ c.put.new.self (head ++ codes "\"") _ c.in_err-make_room.ensures.cut refl in
+    on_err c.from_residual-in_err-make_room.result (cut_more _ _ _ c.args.block.now c.put.new.self begin (head ++ codes "\"") (begin ++ head ++ codes "\"") c.in_ok-put.ensures.put cut (append_assoc begin head (codes "\"")))
 
 pub returns-clause-put : goal.returns-clause-put
 returns-clause-put g c =
-    let head = rw (c.bytes.ensures, c.head_of.ensures) at c.put-2.ensures.put in
-    ok_then c.put-2.result (λ h. puts_more _ _ _ _ _ _ c.args.begin.now (json_head c.args.token.now) _ c.in_ok-put.ensures.put h refl) head
-
-pub returns-clause-cut : goal.returns-clause-cut
-returns-clause-cut g c =
-    let head = rw (c.bytes.ensures, c.head_of.ensures) at c.put-2.ensures.cut in
-    err_then c.put-2.result (λ h. cut_more _ _ _ c.args.block.now _ c.args.begin.now (json_head c.args.token.now) _ c.in_ok-put.ensures.put h refl) head
+    let begin = c.args.begin.now in
+    let head = json_head c.args.token.now in
+    let pushed = puts_pushed _ _ c.put.new.self c.make_room.new.self c.push_head.new.block [] (head ++ codes "\"") c.in_ok-make_room.ensures.put c.push_head.ensures.put in
+    puts_more _ _ _ c.args.block.now c.put.new.self c.push_head.new.block begin (head ++ codes "\"") (begin ++ head ++ codes "\"") c.in_ok-put.ensures.put pushed (append_assoc begin head (codes "\""))
