@@ -37,7 +37,9 @@ extern crate alloc;
 #[cfg(any(test, feature = "std"))]
 extern crate std;
 
+mod document;
 mod error;
+mod gap;
 mod lexer;
 mod lines;
 mod number;
@@ -74,9 +76,12 @@ mod number;
     clippy::sliced_string_as_bytes
 )]
 pub mod proved;
+mod recover;
 pub mod shim;
 mod token;
+mod traits;
 
+pub use document::{Change, Document};
 pub use error::Error;
 pub use lexer::{Lexer, Tokens};
 pub use lines::LineIndex;
@@ -85,6 +90,7 @@ pub use number::Float;
 pub use proved::lexer::{FloatKind, Integer, IntegerKind, LexError, SignToken, TokenKind};
 #[doc(inline)]
 pub use proved::token::Span;
+pub use recover::{Fault, Piece, Pieces};
 pub use token::Token;
 
 /// The examples of the README, as tests.

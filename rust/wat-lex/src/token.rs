@@ -3,9 +3,10 @@ use crate::proved;
 use crate::shim::alloc::{Global, granted};
 use crate::{Float, FloatKind, Integer, IntegerKind, TokenKind};
 use alloc::borrow::Cow;
+use core::ops::Range;
 
 /// A single token of a text.
-#[derive(Clone, Copy, Debug, PartialEq)]
+#[derive(Clone, Copy, Debug, PartialEq, Eq, Hash)]
 pub struct Token {
     /// What kind of token this is.
     pub kind: TokenKind,
@@ -24,6 +25,26 @@ impl From<proved::lexer::Token> for Token {
 }
 
 impl Token {
+    /// Where the token ends, in bytes from the text's start.
+    ///
+    /// ```
+    /// let token = wat_lex::Lexer::new("(func)").parse(&mut 1)?.unwrap();
+    /// assert_eq!((token.end(), token.range()), (5, 1..5));
+    /// # Ok::<(), wat_lex::Error>(())
+    /// ```
+    #[must_use]
+    #[inline]
+    pub fn end(&self) -> usize {
+        self.offset + self.len as usize
+    }
+
+    /// The token's bytes, from the text's start.
+    #[must_use]
+    #[inline]
+    pub fn range(&self) -> Range<usize> {
+        self.offset..self.end()
+    }
+
     /// The token's text in the text that it is of.
     ///
     /// # Panics
