@@ -17,7 +17,7 @@ use memchr::memchr_iter;
 /// use wat_lex::{Document, Span};
 ///
 /// let mut document = Document::new("(func $f)\n(func $g)")?;
-/// assert_eq!(document.replace(6..8, "$\"first\"")?.added, 1);
+/// document.replace(6..8, "$\"first\"")?;
 /// assert_eq!(document.text(), "(func $\"first\")\n(func $g)");
 /// assert_eq!(document.tokens().filter(|token| !token.kind.is_blank()).count(), 8);
 /// assert_eq!(document.linecol(Span::from_offset(22)), (1, 6));
@@ -45,14 +45,14 @@ pub struct Document {
     feeds: Gap<usize>,
 }
 
-/// Which pieces an edit changed: those from `first` on, so many of which are others now.
+/// Which pieces were read again after an edit: those from `first` on. All others are as before, those after the edit moved.
 #[derive(Clone, Copy, Debug, PartialEq, Eq, Hash)]
 pub struct Change {
-    /// How many pieces are before the change.
+    /// How many pieces before the edit stayed.
     pub first: usize,
-    /// How many pieces from there on are gone.
+    /// How many pieces after those were dropped.
     pub removed: usize,
-    /// How many pieces from there on are new.
+    /// How many pieces were read in their place. Some may be equal to dropped ones.
     pub added: usize,
 }
 
@@ -182,6 +182,7 @@ impl Document {
     }
 
     /// The tokens and the faults with what they cover, in their order. Each byte of the text is in one of them.
+    #[must_use]
     pub fn pieces(&self) -> impl DoubleEndedIterator<Item = Piece> + Clone + '_ {
         self.reading.pieces.iter(self.text.len())
     }

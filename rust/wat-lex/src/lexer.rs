@@ -19,6 +19,7 @@ pub struct Lexer<'a> {
 
 impl<'a> Lexer<'a> {
     /// A lexer over a text, with both settings off. A text of more than `u32::MAX` bytes is refused by what reads of it.
+    #[must_use]
     pub fn new(input: &'a str) -> Lexer<'a> {
         let taken = if is_too_long(input.len()) { "" } else { input };
         Lexer {
@@ -28,6 +29,7 @@ impl<'a> Lexer<'a> {
     }
 
     /// The text.
+    #[must_use]
     pub fn input(&self) -> &'a str {
         self.input
     }
@@ -95,6 +97,7 @@ impl<'a> Lexer<'a> {
     /// # Panics
     ///
     /// It does where no character begins at the byte, and the text does not end there.
+    #[must_use]
     pub fn iter(&self, pos: usize) -> Tokens<'_, 'a> {
         Tokens {
             lexer: Some(self),
@@ -259,6 +262,7 @@ pub(crate) fn too_long() -> Error {
 }
 
 /// The tokens from a place on. It ends for good after the first fault, or at the text's end.
+#[must_use = "tokens are read as they are asked for"]
 #[derive(Clone, Debug)]
 pub struct Tokens<'l, 'a> {
     /// None after a fault.

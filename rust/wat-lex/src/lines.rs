@@ -22,6 +22,7 @@ pub struct LineIndex<'a> {
 
 impl<'a> LineIndex<'a> {
     /// Finds the lines of a text.
+    #[must_use]
     pub fn new(text: &'a str) -> LineIndex<'a> {
         LineIndex {
             proved: granted(proved::token::LineIndex::new(Global, text)),
@@ -29,12 +30,14 @@ impl<'a> LineIndex<'a> {
     }
 
     /// Line and column of a place in the text, the column in bytes, as [`Span::linecol_in`] answers them.
+    #[must_use]
     pub fn linecol(&self, span: Span) -> (usize, usize) {
         self.proved.linecol(span)
     }
 
     /// Line and column of a place in the text, the column in code units of UTF-16, as editors and the language server protocol have them: those of
     /// the characters of the line that begin before the place. It reads the line up to the place.
+    #[must_use]
     pub fn utf16_linecol(&self, span: Span) -> (usize, usize) {
         self.proved.utf16_linecol(span)
     }

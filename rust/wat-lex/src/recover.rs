@@ -168,6 +168,7 @@ impl Placed for Piece {
 /// The tokens of a text from a place on, up to its end, and its faults with what they cover. Each byte from the place on is in one of them.
 ///
 /// [`Lexer::pieces`](crate::Lexer::pieces) makes it.
+#[must_use = "pieces are read as they are asked for"]
 #[derive(Clone)]
 pub struct Pieces<'a> {
     lexer: Lexer<'a>,

@@ -50,6 +50,7 @@ impl Token {
     /// # Panics
     ///
     /// Where the text is too short for the token, or a character begins neither or not at its ends.
+    #[must_use]
     #[inline]
     pub fn src<'a>(&self, s: &'a str) -> &'a str {
         &s[self.offset..][..self.len as usize]
@@ -60,6 +61,7 @@ impl Token {
     /// # Panics
     ///
     /// As [`src`](Token::src).
+    #[must_use]
     #[inline]
     pub fn keyword<'a>(&self, s: &'a str) -> &'a str {
         self.src(s)
@@ -70,6 +72,7 @@ impl Token {
     /// # Panics
     ///
     /// As [`src`](Token::src).
+    #[must_use]
     #[inline]
     pub fn reserved<'a>(&self, s: &'a str) -> &'a str {
         self.src(s)
@@ -80,6 +83,7 @@ impl Token {
     /// # Panics
     ///
     /// Where the token is no string. One of another text may panic, or read as something else.
+    #[must_use]
     #[inline]
     pub fn string<'a>(&self, s: &'a str) -> Cow<'a, [u8]> {
         let token = self.readable(TokenKind::String);
@@ -121,6 +125,7 @@ impl Token {
     /// # Panics
     ///
     /// Where the token is no integer of this kind. One of another text may panic, or read as something else.
+    #[must_use]
     #[inline]
     pub fn integer<'a>(&self, s: &'a str, kind: IntegerKind) -> Integer<'a> {
         let token = self.readable(TokenKind::Integer(kind));
@@ -132,6 +137,7 @@ impl Token {
     /// # Panics
     ///
     /// Where the token is no floating-point number of this kind. One of another text may panic, or read as something else.
+    #[must_use]
     #[inline]
     pub fn float<'a>(&self, s: &'a str, kind: FloatKind) -> Float<'a> {
         let token = self.readable(TokenKind::Float(kind));
@@ -157,6 +163,7 @@ fn refuse(kind: TokenKind) -> ! {
 
 impl TokenKind {
     /// The kind's name, without what it says of a number.
+    #[must_use]
     pub fn name(self) -> &'static str {
         match self {
             TokenKind::LineComment => "LineComment",
