@@ -97,7 +97,6 @@ impl<'a> Lexer<'a> {
     /// # Panics
     ///
     /// It does where no character begins at the byte, and the text does not end there.
-    #[must_use]
     pub fn iter(&self, pos: usize) -> Tokens<'_, 'a> {
         Tokens {
             lexer: Some(self),

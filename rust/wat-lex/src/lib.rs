@@ -32,6 +32,10 @@
 #![no_std]
 #![warn(missing_docs)]
 #![deny(unsafe_code)]
+// Of clippy's pedantic lints these are not followed. What a loop over tokens calls is to be a part of the loop, which was measured.
+#![allow(clippy::inline_always)]
+// A text has at most `u32::MAX` bytes.
+#![allow(clippy::cast_possible_truncation)]
 
 extern crate alloc;
 #[cfg(any(test, feature = "std"))]
@@ -72,11 +76,14 @@ mod number;
 #[allow(
     clippy::style,
     clippy::complexity,
+    clippy::pedantic,
     clippy::manual_unwrap_or_default,
     clippy::sliced_string_as_bytes
 )]
 pub mod proved;
 mod recover;
+// Names and signatures are those of Rattle's library, whose documentation has their errors; the blocks of bytes are numbers that are cut.
+#[allow(clippy::pedantic)]
 pub mod shim;
 mod token;
 mod traits;

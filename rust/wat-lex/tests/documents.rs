@@ -2,19 +2,36 @@
 
 mod texts;
 
+use std::iter;
 use std::ops::Range;
 use texts::Random;
-use wat_lex::{Change, Document, LexError, Lexer, LineIndex, Piece, Span};
+use wat_lex::{Change, Document, LexError, Lexer, LineIndex, Piece, Span, TokenKind};
 
 /// The pieces of a text, each found by itself.
 fn whole(lexer: &Lexer<'_>) -> Vec<Piece> {
-    lexer.pieces(0).unwrap().collect()
+    let mut at = 0;
+    let next = || {
+        if let Ok(token) = lexer.parse(&mut at) {
+            token.map(Piece::Token)
+        } else {
+            let fault = lexer.fault_at(at).unwrap();
+            at = fault.end();
+            Some(Piece::Fault(fault))
+        }
+    };
+    iter::from_fn(next).collect()
 }
 
-fn moved(piece: Piece, by: isize) -> (usize, usize, Option<LexError>) {
-    let at = |place: usize| place.checked_add_signed(by).unwrap();
+/// A piece by its place from the text's end.
+fn from_end(piece: Piece, text: &str) -> (usize, usize, Option<TokenKind>, Option<LexError>) {
+    let kind = piece.token().map(|token| token.kind);
     let error = piece.fault().map(|fault| fault.error);
-    (at(piece.offset()), at(piece.end()), error)
+    (
+        text.len() - piece.offset(),
+        piece.range().len(),
+        kind,
+        error,
+    )
 }
 
 /// A document beside its text, which the test edits itself.
@@ -39,11 +56,11 @@ impl Pair {
     }
 
     fn edit(&mut self, range: Range<usize>, with: &str) {
-        let by = with.len() as isize - range.len() as isize;
+        let was = self.text.clone();
         self.text.replace_range(range.clone(), with);
         let change = self.document.replace(range, with).unwrap();
         let pieces = self.compare();
-        self.compare_change(change, &pieces, by);
+        self.compare_change(change, &was, &pieces);
         self.pieces = pieces;
     }
 
@@ -64,21 +81,19 @@ impl Pair {
         pieces
     }
 
-    /// The pieces that did not change are those that were there.
-    fn compare_change(&mut self, change: Change, pieces: &[Piece], by: isize) {
+    /// The pieces that were not read again are those that were there.
+    fn compare_change(&mut self, change: Change, text: &str, pieces: &[Piece]) {
         let Change {
             first,
             removed,
             added,
         } = change;
         assert_eq!(self.pieces[..first], pieces[..first]);
-        let (was, is) = (&self.pieces[first + removed..], &pieces[first + added..]);
-        let was = was.iter().map(|piece| moved(*piece, by));
-        assert!(
-            was.eq(is.iter().map(|piece| moved(*piece, 0))),
-            "{:?}",
-            self.text
-        );
+        let was = self.pieces[first + removed..].iter();
+        let was = was.map(|piece| from_end(*piece, text));
+        let is = pieces[first + added..].iter();
+        let is = is.map(|piece| from_end(*piece, &self.text));
+        assert!(was.eq(is), "{text:?} {:?}", self.text);
         let new = pieces[first..first + added].iter();
         self.read += new.map(|piece| piece.range().len()).sum::<usize>();
     }

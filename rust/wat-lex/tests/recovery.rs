@@ -108,7 +108,7 @@ fn run_end(text: &str, lexer: &Lexer<'_>) -> usize {
         alone.allow_confusing_unicode(lexer.proved().unwrap().settings().allow);
         alone.strict_underscores(lexer.proved().unwrap().settings().strict);
         let token = alone.parse(&mut 0).ok().flatten();
-        if !token.is_some_and(|token| token.end() == string.len()) {
+        if token.is_none_or(|token| token.end() != string.len()) {
             return end;
         }
     }

@@ -187,6 +187,8 @@ const fn no_row(moves: usize) -> Row {
 }
 
 /// The rows at first.
+// Each buffer has cells of its own.
+#[allow(clippy::declare_interior_mutable_const)]
 const NO_ROWS: [Cell<Row>; ROWS] = {
     let mut rows = [const { Cell::new(no_row(1)) }; ROWS];
     rows[0] = Cell::new(no_row(0));

@@ -181,7 +181,7 @@ impl Peek for Index<'_> {
 }
 
 /// A group of a keyword and an index: `(func $f)`.
-#[derive(Clone, Copy, Debug, PartialEq, Eq, Hash)]
+#[derive(Clone, Debug)]
 pub struct ItemRef<'a, K> {
     /// The keyword, which says of which kind the item is.
     pub kind: K,
