@@ -39,22 +39,22 @@ impl<T> Default for Gap<T> {
 
 impl<T: Placed> Gap<T> {
     /// How many items there are.
-    pub fn len(&self) -> usize {
+    pub(crate) fn len(&self) -> usize {
         self.before.len() + self.after.len()
     }
 
     /// The items before the gap.
-    pub fn before(&self) -> &[T] {
+    pub(crate) fn before(&self) -> &[T] {
         &self.before
     }
 
     /// How many items are after the gap.
-    pub fn after_len(&self) -> usize {
+    pub(crate) fn after_len(&self) -> usize {
         self.after.len()
     }
 
     /// The item after so many, of a text of so many bytes.
-    pub fn get(&self, index: usize, text_len: usize) -> Option<T> {
+    pub(crate) fn get(&self, index: usize, text_len: usize) -> Option<T> {
         match index.checked_sub(self.before.len()) {
             None => Some(self.before[index]),
             Some(i) => {
@@ -65,41 +65,41 @@ impl<T: Placed> Gap<T> {
     }
 
     /// All of them, of a text of so many bytes.
-    pub fn iter(&self, text_len: usize) -> impl DoubleEndedIterator<Item = T> + Clone + '_ {
+    pub(crate) fn iter(&self, text_len: usize) -> impl DoubleEndedIterator<Item = T> + Clone + '_ {
         let after = self.after.iter().rev();
         let after = after.map(move |item| mirrored(*item, text_len));
         self.before.iter().copied().chain(after)
     }
 
     /// How many items pass, where those that do are before all others.
-    pub fn count_first(&self, text_len: usize, passes: impl Fn(T) -> bool) -> usize {
+    pub(crate) fn count_first(&self, text_len: usize, passes: impl Fn(T) -> bool) -> usize {
         let others = |item: &T| !passes(mirrored(*item, text_len));
         let after = self.after.len() - self.after.partition_point(others);
         self.before.partition_point(|item| passes(*item)) + after
     }
 
     /// The item directly after the gap.
-    pub fn first_after(&self, text_len: usize) -> Option<T> {
+    pub(crate) fn first_after(&self, text_len: usize) -> Option<T> {
         Some(mirrored(*self.after.last()?, text_len))
     }
 
     /// Adds an item directly before the gap.
-    pub fn push(&mut self, item: T) {
+    pub(crate) fn push(&mut self, item: T) {
         self.before.push(item);
     }
 
     /// Leaves off the item directly after the gap.
-    pub fn drop_after(&mut self) {
+    pub(crate) fn drop_after(&mut self) {
         self.after.pop();
     }
 
     /// Leaves off all but so many of the items before the gap.
-    pub fn truncate(&mut self, count: usize) {
+    pub(crate) fn truncate(&mut self, count: usize) {
         self.before.truncate(count);
     }
 
     /// Moves the gap to where the items before it are those that pass. Those that do are before all others.
-    pub fn move_to(&mut self, text_len: usize, passes: impl Fn(T) -> bool) {
+    pub(crate) fn move_to(&mut self, text_len: usize, passes: impl Fn(T) -> bool) {
         self.move_back(text_len, &passes);
         self.move_on(text_len, &passes);
     }
