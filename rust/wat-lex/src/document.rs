@@ -1,6 +1,7 @@
 use crate::error::Error;
 use crate::gap::Gap;
 use crate::lexer::{is_too_long, too_long};
+use crate::lines::chars_before;
 use crate::proved::lexer::{Lexer as ProvedLexer, Settings};
 use crate::recover::{Pieces, unclosed_comments};
 use crate::{Fault, Lexer, Piece, Span, Token};
@@ -237,6 +238,14 @@ impl Document {
         let before = self.text[start..].char_indices();
         let before = before.take_while(|(at, _)| *at < column);
         (line, before.map(|(_, c)| c.len_utf16()).sum())
+    }
+
+    /// Line and column of a place, the column in characters, as those of [`LineIndex::char_linecol`](crate::LineIndex::char_linecol). It reads the
+    /// line up to the place.
+    #[must_use]
+    pub fn char_linecol(&self, span: Span) -> (usize, usize) {
+        let (line, column) = self.linecol(span);
+        (line, chars_before(&self.text, span.offset(), column))
     }
 
     /// The place of a line and a column in bytes, both from 0: where the character begins that has the byte, and the line's or the text's end where

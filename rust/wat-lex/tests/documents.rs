@@ -111,6 +111,11 @@ impl Pair {
             );
             let utf16 = index.utf16_linecol(place);
             assert_eq!(document.utf16_linecol(place), utf16, "{text:?} {place:?}");
+            let chars = index.char_linecol(place);
+            assert_eq!(document.char_linecol(place), chars, "{text:?} {place:?}");
+            let begun = text.char_indices().map(|(at, _)| at);
+            let begun = begun.filter(|at| (place.offset() - column..place.offset()).contains(at));
+            assert_eq!(chars, (line, begun.count()), "{text:?} {place:?}");
             if text.is_char_boundary(place.offset()) {
                 assert_eq!(document.place(line, column), place, "{text:?}");
                 assert_eq!(document.utf16_place(utf16.0, utf16.1), place, "{text:?}");
