@@ -176,16 +176,14 @@ pub struct Pieces<'a> {
     /// Where the block comments begin that nothing closes, from the first of them on that was met. The lexer would look for the end of each up
     /// to the text's end.
     unclosed: Vec<usize>,
+    /// How many of these are before the next piece.
+    passed: usize,
 }
 
 impl<'a> Pieces<'a> {
     /// The pieces from a byte on at which a character begins or the text ends.
     pub(crate) fn new(lexer: Lexer<'a>, pos: usize) -> Pieces<'a> {
-        Pieces {
-            lexer,
-            pos,
-            unclosed: Vec::new(),
-        }
+        Pieces::with_unclosed(lexer, pos, Vec::new())
     }
 
     /// The pieces from a byte on, where these are the block comments that nothing closes from the first of them on.
@@ -194,6 +192,7 @@ impl<'a> Pieces<'a> {
             lexer,
             pos,
             unclosed,
+            passed: 0,
         }
     }
 
@@ -203,13 +202,24 @@ impl<'a> Pieces<'a> {
         self.pos
     }
 
+    /// Whether a block comment begins at the next piece of which it is known that nothing closes it.
+    fn is_unclosed(&mut self) -> bool {
+        let is_passed = |at: &usize| *at < self.pos;
+        while self.unclosed.get(self.passed).is_some_and(is_passed) {
+            self.passed += 1;
+        }
+        self.unclosed.get(self.passed) == Some(&self.pos)
+    }
+
+    #[inline]
     fn piece(&mut self) -> Option<Piece> {
-        if self.unclosed.binary_search(&self.pos).is_ok() {
+        if self.is_unclosed() {
             return Some(Piece::Fault(Fault::unclosed(self.pos)));
         }
         let piece = piece_at(&self.lexer, self.pos)?;
         if piece.is_unclosed() {
             self.unclosed = unclosed_comments(self.lexer.input(), self.pos);
+            self.passed = 0;
         }
         Some(piece)
     }
@@ -218,6 +228,7 @@ impl<'a> Pieces<'a> {
 impl Iterator for Pieces<'_> {
     type Item = Piece;
 
+    #[inline]
     fn next(&mut self) -> Option<Piece> {
         let piece = self.piece()?;
         self.pos = piece.end();
