@@ -1,4 +1,4 @@
-//! The language server of the examples: a session with a client, and many changes after which a document is as one that is opened anew.
+//! The language server of the examples: a session with a client, and many changes, after each of which a document is as one that was just opened.
 
 #[path = "../../examples/language_server/json.rs"]
 mod json;
