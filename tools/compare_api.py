@@ -12,7 +12,7 @@ import pathlib
 import re
 import sys
 
-from rattle_source import ROOT, items_of, split_at, tokens_of, written
+from rattle_source import ROOT, items_of, past_group, split_at, tokens_of, written
 
 LEX, PARSER = ROOT / "rust/wat-lex/src", ROOT / "rust/wat-parser/src"
 PROVED = LEX / "proved"
@@ -65,15 +65,10 @@ def without_attributes(tokens):
     kept, at = [], 0
     while at < len(tokens):
         if tokens[at].text == "#":
-            depth, at = 0, at + 1
-            while True:
-                depth += (tokens[at].text == "[") - (tokens[at].text == "]")
-                at += 1
-                if depth == 0:
-                    break
-            continue
-        kept.append(tokens[at])
-        at += 1
+            at = past_group(tokens, at + 1)
+        else:
+            kept.append(tokens[at])
+            at += 1
     return kept
 
 
