@@ -149,8 +149,11 @@ def past_head(tokens, at, ends):
 
 
 def past_contract(tokens, at):
-    """The place after the clauses of a contract, and its tokens, which begin here."""
+    """The place after the bounds of a `where` and the clauses of a contract, which begin here."""
     while at < len(tokens) and tokens[at].text in CONTRACT | {"where"}:
+        if tokens[at].text == "where":
+            at = past_head(tokens, at + 1, CONTRACT | {"{", ";"})
+            continue
         at = past_head(tokens, at + 1, {"{"})
         at = past_group(tokens, at)
     return at

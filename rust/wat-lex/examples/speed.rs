@@ -58,6 +58,7 @@ fn main() -> io::Result<()> {
             sum = black_box(pass(black_box(&text)));
             best = best.min(start.elapsed());
         }
+        #[allow(clippy::cast_precision_loss)]
         let speed = text.len() as f64 / best.as_secs_f64() / 1e6;
         println!("{name:5} {speed:7.1} MB/s: {sum} from {} bytes", text.len());
     }

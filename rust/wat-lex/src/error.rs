@@ -43,11 +43,13 @@ const NO_NAME: &str = "<anon>";
 
 impl Error {
     /// An error with a message at a place. It prints no more than these until it is given the text.
+    #[must_use]
     pub fn new(span: Span, message: String) -> Error {
         proved::error::Error::new(span, message.into()).into()
     }
 
     /// Where the error is; the text's start for an out-of-memory error.
+    #[must_use]
     pub fn span(&self) -> Span {
         match &self.0 {
             Some(located) => located.error.span(),
@@ -56,16 +58,19 @@ impl Error {
     }
 
     /// What is wrong with the text, where the lexer found it.
+    #[must_use]
     pub fn lex_error(&self) -> Option<&LexError> {
         self.0.as_ref()?.error.lex_error()
     }
 
     /// Whether memory was refused.
+    #[must_use]
     pub fn is_out_of_memory(&self) -> bool {
         self.0.is_none()
     }
 
     /// What is wrong, as a text without its place.
+    #[must_use]
     pub fn message(&self) -> String {
         match &self.0 {
             Some(located) => granted(located.error.message(Global)).into(),
@@ -161,8 +166,18 @@ impl PartialEq for Error {
 
 impl Eq for Error {}
 
-impl core::error::Error for Error {}
+/// Its source is the [`LexError`], where the lexer found it.
+impl core::error::Error for Error {
+    fn source(&self) -> Option<&(dyn core::error::Error + 'static)> {
+        self.lex_error().map(|error| error as _)
+    }
+}
 
 impl core::error::Error for LexError {}
 
-impl core::error::Error for proved::error::Error {}
+/// Its source is the [`LexError`], where the lexer found it.
+impl core::error::Error for proved::error::Error {
+    fn source(&self) -> Option<&(dyn core::error::Error + 'static)> {
+        self.lex_error().map(|error| error as _)
+    }
+}

@@ -32,12 +32,18 @@
 #![no_std]
 #![warn(missing_docs)]
 #![deny(unsafe_code)]
+// Of clippy's pedantic lints these are not followed. What a loop over tokens calls is to be a part of the loop, which was measured.
+#![allow(clippy::inline_always)]
+// A text has at most `u32::MAX` bytes.
+#![allow(clippy::cast_possible_truncation)]
 
 extern crate alloc;
 #[cfg(any(test, feature = "std"))]
 extern crate std;
 
+mod document;
 mod error;
+mod gap;
 mod lexer;
 mod lines;
 mod number;
@@ -70,13 +76,19 @@ mod number;
 #[allow(
     clippy::style,
     clippy::complexity,
+    clippy::pedantic,
     clippy::manual_unwrap_or_default,
     clippy::sliced_string_as_bytes
 )]
 pub mod proved;
+mod recover;
+// Names and signatures are those of Rattle's library, whose documentation has their errors; the blocks of bytes are numbers that are cut.
+#[allow(clippy::pedantic)]
 pub mod shim;
 mod token;
+mod traits;
 
+pub use document::{Change, Document};
 pub use error::Error;
 pub use lexer::{Lexer, Tokens};
 pub use lines::LineIndex;
@@ -85,6 +97,7 @@ pub use number::Float;
 pub use proved::lexer::{FloatKind, Integer, IntegerKind, LexError, SignToken, TokenKind};
 #[doc(inline)]
 pub use proved::token::Span;
+pub use recover::{Fault, Piece, Pieces};
 pub use token::Token;
 
 /// The examples of the README, as tests.

@@ -2,7 +2,7 @@ use crate::proved;
 use alloc::borrow::Cow;
 
 /// A floating-point number of a text, cut into its parts.
-#[derive(Debug, PartialEq, Eq)]
+#[derive(Clone, Debug, PartialEq, Eq, Hash)]
 pub enum Float<'a> {
     /// `nan`, with the digits of its payload.
     Nan {

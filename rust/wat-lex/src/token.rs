@@ -3,9 +3,10 @@ use crate::proved;
 use crate::shim::alloc::{Global, granted};
 use crate::{Float, FloatKind, Integer, IntegerKind, TokenKind};
 use alloc::borrow::Cow;
+use core::ops::Range;
 
 /// A single token of a text.
-#[derive(Clone, Copy, Debug, PartialEq)]
+#[derive(Clone, Copy, Debug, PartialEq, Eq, Hash)]
 pub struct Token {
     /// What kind of token this is.
     pub kind: TokenKind,
@@ -24,11 +25,32 @@ impl From<proved::lexer::Token> for Token {
 }
 
 impl Token {
+    /// Where the token ends, in bytes from the text's start.
+    ///
+    /// ```
+    /// let token = wat_lex::Lexer::new("(func)").parse(&mut 1)?.unwrap();
+    /// assert_eq!((token.end(), token.range()), (5, 1..5));
+    /// # Ok::<(), wat_lex::Error>(())
+    /// ```
+    #[must_use]
+    #[inline]
+    pub fn end(&self) -> usize {
+        self.offset + self.len as usize
+    }
+
+    /// The token's bytes, from the text's start.
+    #[must_use]
+    #[inline]
+    pub fn range(&self) -> Range<usize> {
+        self.offset..self.end()
+    }
+
     /// The token's text in the text that it is of.
     ///
     /// # Panics
     ///
     /// Where the text is too short for the token, or a character begins neither or not at its ends.
+    #[must_use]
     #[inline]
     pub fn src<'a>(&self, s: &'a str) -> &'a str {
         &s[self.offset..][..self.len as usize]
@@ -39,6 +61,7 @@ impl Token {
     /// # Panics
     ///
     /// As [`src`](Token::src).
+    #[must_use]
     #[inline]
     pub fn keyword<'a>(&self, s: &'a str) -> &'a str {
         self.src(s)
@@ -49,6 +72,7 @@ impl Token {
     /// # Panics
     ///
     /// As [`src`](Token::src).
+    #[must_use]
     #[inline]
     pub fn reserved<'a>(&self, s: &'a str) -> &'a str {
         self.src(s)
@@ -59,6 +83,7 @@ impl Token {
     /// # Panics
     ///
     /// Where the token is no string. One of another text may panic, or read as something else.
+    #[must_use]
     #[inline]
     pub fn string<'a>(&self, s: &'a str) -> Cow<'a, [u8]> {
         let token = self.readable(TokenKind::String);
@@ -100,6 +125,7 @@ impl Token {
     /// # Panics
     ///
     /// Where the token is no integer of this kind. One of another text may panic, or read as something else.
+    #[must_use]
     #[inline]
     pub fn integer<'a>(&self, s: &'a str, kind: IntegerKind) -> Integer<'a> {
         let token = self.readable(TokenKind::Integer(kind));
@@ -111,6 +137,7 @@ impl Token {
     /// # Panics
     ///
     /// Where the token is no floating-point number of this kind. One of another text may panic, or read as something else.
+    #[must_use]
     #[inline]
     pub fn float<'a>(&self, s: &'a str, kind: FloatKind) -> Float<'a> {
         let token = self.readable(TokenKind::Float(kind));
@@ -136,6 +163,7 @@ fn refuse(kind: TokenKind) -> ! {
 
 impl TokenKind {
     /// The kind's name, without what it says of a number.
+    #[must_use]
     pub fn name(self) -> &'static str {
         match self {
             TokenKind::LineComment => "LineComment",

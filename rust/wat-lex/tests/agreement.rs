@@ -58,7 +58,7 @@ fn read(token: &Token, text: &str) {
     match token.kind {
         TokenKind::String => assert!(token.string(text).len() <= src.len() - 2),
         TokenKind::Id => {
-            assert!(token.id(text).is_ok_and(|name| !name.is_empty()) || token.id(text).is_err())
+            assert!(token.id(text).is_ok_and(|name| !name.is_empty()) || token.id(text).is_err());
         }
         TokenKind::Annotation => assert!(
             token.annotation(text).is_ok_and(|name| !name.is_empty())
@@ -70,7 +70,7 @@ fn read(token: &Token, text: &str) {
             let plain = src.replace('_', "").replacen('+', "", 1).replacen(
                 "0x",
                 "",
-                if base == 16 { 1 } else { 0 },
+                usize::from(base == 16),
             );
             assert_eq!((digits, integer.sign()), (plain.as_str(), kind.sign()));
         }

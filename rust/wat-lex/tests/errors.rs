@@ -1,5 +1,8 @@
 //! What errors answer and print, and what they are where memory is refused.
 
+// What is compared is passed by value.
+#![allow(clippy::needless_pass_by_value)]
+
 mod refusing;
 
 use refusing::{refusing_in_turn, without_memory};
@@ -136,7 +139,7 @@ fn long_messages_are_kept() {
 fn an_error_for_which_memory_is_refused_is_out_of_memory() {
     let message = "unterminated block comment";
     let printed = format!("{message}\n     --> <anon>:1:1\n      |\n    1 | (;\n      | ^");
-    let call = |_: &mut ()| of_fault(0, "(;", LexError::DanglingBlockComment);
+    let call = |(): &mut ()| of_fault(0, "(;", LexError::DanglingBlockComment);
     let (refused, (error, ())) = refusing_in_turn(|| (), call);
     answers(error, 0, message, &printed);
     for (error, ()) in refused {

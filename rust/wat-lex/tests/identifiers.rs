@@ -1,5 +1,8 @@
 //! Places, identifiers, indices, and identifiers that a program makes.
 
+// Places of one text have names that are alike.
+#![allow(clippy::similar_names)]
+
 mod refusing;
 
 use refusing::refusing_in_turn;

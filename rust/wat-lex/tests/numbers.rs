@@ -1,5 +1,8 @@
 //! The number words of `tests/numbers.txt`, and words that are nearly numbers, each with what it is and reads as.
 
+// Fields are optional.
+#![allow(clippy::ref_option)]
+
 use wat_lex::proved::lexer::{Float, Lexer, Token, TokenKind};
 use wat_lex::shim::alloc::Global;
 use wat_lex::shim::borrow::CowStr;

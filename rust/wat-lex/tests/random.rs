@@ -1,5 +1,8 @@
 //! Random texts, of which the layer answers what the proved lexer and its readers do.
 
+// What is compared is passed by value.
+#![allow(clippy::needless_pass_by_value)]
+
 use std::borrow::Cow;
 use wat_lex::proved::error::Error as ProvedError;
 use wat_lex::proved::lexer as proved;
@@ -121,7 +124,7 @@ fn compare_values(token: Token, found: proved::Token, text: &str) {
             assert_eq!(
                 token.integer(text, kind),
                 found.integer(Global, text, kind).unwrap()
-            )
+            );
         }
         TokenKind::Float(kind) => compare_floats(
             token.float(text, kind),

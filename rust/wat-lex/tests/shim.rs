@@ -1,5 +1,8 @@
 //! What the shim answers, and what it leaves where a request for memory is refused: each request in turn.
 
+// A test whose requests are refused without end is stopped.
+#![allow(clippy::maybe_infinite_iter)]
+
 mod refusing;
 
 use refusing::{granting, refusing, without_memory};
@@ -358,7 +361,7 @@ fn read_all(text: &str) -> Option<std::vec::Vec<std::string::String>> {
                 Err(_) => found[1] += 1000,
             },
             TokenKind::Integer(kind) => {
-                found[2] += token.integer(Global, text, kind).ok()?.val().0.len()
+                found[2] += token.integer(Global, text, kind).ok()?.val().0.len();
             }
             TokenKind::Float(kind) => drop(token.float(Global, text, kind).ok()?),
             _ => found[3] += 1,

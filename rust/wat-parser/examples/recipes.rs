@@ -53,6 +53,7 @@ fn main() {
     }
 }
 
+#[allow(clippy::needless_pass_by_value)]
 fn fail<T>(error: Error) -> T {
     eprintln!("{error}");
     process::exit(1)

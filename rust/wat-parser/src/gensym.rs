@@ -19,6 +19,7 @@ pub fn reset() {
 /// # Panics
 ///
 /// Where `u32::MAX` of them were made since the last [`reset`].
+#[must_use]
 pub fn generate(span: Span) -> Id<'static> {
     let generation = LAST
         .get()

@@ -83,6 +83,13 @@
 #![no_std]
 #![warn(missing_docs)]
 #![forbid(unsafe_code)]
+// Of clippy's pedantic lints these are not followed. What a loop over tokens calls is to be a part of the loop, which was measured.
+#![allow(clippy::inline_always)]
+// A text has at most `u32::MAX` bytes, two numbers of 32 bits are one of 64, and a number is as large as its type when it is made.
+#![allow(clippy::cast_lossless, clippy::cast_possible_truncation)]
+#![allow(clippy::cast_sign_loss)]
+// `wast` has the signatures; some names are as similar as what they name.
+#![allow(clippy::needless_pass_by_value, clippy::similar_names)]
 
 extern crate alloc;
 #[cfg(feature = "std")]
@@ -158,11 +165,12 @@ pub mod parser;
 // may need none. Types of words are named as the words are. Clippy's advice on style is for text that is written in Rust.
 #[allow(dead_code, non_camel_case_types)]
 #[allow(unused_imports, unused_labels, unused_variables)]
-#[allow(clippy::style, clippy::complexity)]
+#[allow(clippy::style, clippy::complexity, clippy::pedantic)]
+#[allow(clippy::manual_unwrap_or_default)]
 pub mod proved;
 pub mod token;
 #[allow(unused_imports)]
-#[allow(clippy::style, clippy::complexity)]
+#[allow(clippy::style, clippy::complexity, clippy::pedantic)]
 pub mod words;
 
 pub use error::Error;
@@ -173,3 +181,21 @@ pub use wat_lex::shim;
 #[cfg(doctest)]
 #[doc = include_str!("../README.md")]
 struct Readme;
+
+/// A name that is registered and dropped at once is warned of.
+///
+/// ```compile_fail
+/// #![deny(unused_must_use)]
+/// fn register(parser: wat_parser::parser::Parser<'_>) {
+///     parser.register_annotation("note");
+/// }
+/// ```
+///
+/// ```
+/// #![deny(unused_must_use)]
+/// fn register(parser: wat_parser::parser::Parser<'_>) {
+///     let _shown = parser.register_annotation("note");
+/// }
+/// ```
+#[cfg(doctest)]
+struct MustUse;

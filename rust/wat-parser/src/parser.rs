@@ -185,6 +185,8 @@ const fn no_row(slot: usize) -> Row {
 }
 
 /// The rows at first.
+// Each buffer has cells of its own.
+#[allow(clippy::declare_interior_mutable_const)]
 const NO_ROWS: [Cell<Row>; ROWS] = {
     let mut rows = [const { Cell::new(no_row(1)) }; ROWS];
     rows[0] = Cell::new(no_row(0));
@@ -400,6 +402,31 @@ pub struct Parser<'a> {
 
 impl<'a> Parser<'a> {
     /// Whether the group that the parser is in, or the text, has no more tokens. False where a fault is shown.
+    ///
+    /// # Examples
+    ///
+    /// ```
+    /// use wat_parser::parser::{self, Parse, ParseBuffer, Parser, Result};
+    /// // Any number of numbers.
+    /// struct Numbers(Vec<u32>);
+    ///
+    /// impl<'a> Parse<'a> for Numbers {
+    ///     fn parse(parser: Parser<'a>) -> Result<Self> {
+    ///         let mut numbers = Vec::new();
+    ///         while !parser.is_empty() {
+    ///             numbers.push(parser.parse()?);
+    ///         }
+    ///         Ok(Numbers(numbers))
+    ///     }
+    /// }
+    ///
+    /// # fn main() -> Result<()> {
+    /// let buffer = ParseBuffer::new("1 (; and ;) 2")?;
+    /// assert_eq!(parser::parse::<Numbers>(&buffer)?.0, [1, 2]);
+    /// # Ok(())
+    /// # }
+    /// ```
+    #[must_use]
     #[inline]
     pub fn is_empty(self) -> bool {
         let (row, known) = self.cursor().row();
@@ -420,6 +447,30 @@ impl<'a> Parser<'a> {
     }
 
     /// Whether the text has a fault or any token that is neither white space nor a comment.
+    ///
+    /// # Examples
+    ///
+    /// ```
+    /// use wat_parser::parser::{self, Parse, ParseBuffer, Parser, Result};
+    /// // A number, or a text of nothing but comments.
+    /// struct Perhaps(Option<u32>);
+    ///
+    /// impl<'a> Parse<'a> for Perhaps {
+    ///     fn parse(parser: Parser<'a>) -> Result<Self> {
+    ///         if !parser.has_meaningful_tokens() {
+    ///             return Ok(Perhaps(None));
+    ///         }
+    ///         parser.parse().map(|number| Perhaps(Some(number)))
+    ///     }
+    /// }
+    ///
+    /// # fn main() -> Result<()> {
+    /// let buffer = ParseBuffer::new(" ;; nothing yet")?;
+    /// assert_eq!(parser::parse::<Perhaps>(&buffer)?.0, None);
+    /// # Ok(())
+    /// # }
+    /// ```
+    #[must_use]
     pub fn has_meaningful_tokens(self) -> bool {
         self.buffer.text.is_meaningful()
     }
@@ -429,6 +480,28 @@ impl<'a> Parser<'a> {
     /// # Errors
     ///
     /// As those of [`Parse::parse`] of the type.
+    ///
+    /// # Examples
+    ///
+    /// ```
+    /// use wat_parser::parser::{self, Parse, ParseBuffer, Parser, Result};
+    /// use wat_parser::token::Id;
+    /// struct Named<'a>(Id<'a>, u32);
+    ///
+    /// impl<'a> Parse<'a> for Named<'a> {
+    ///     fn parse(parser: Parser<'a>) -> Result<Self> {
+    ///         let name = parser.parse::<Id>()?;
+    ///         Ok(Named(name, parser.parse()?))
+    ///     }
+    /// }
+    ///
+    /// # fn main() -> Result<()> {
+    /// let buffer = ParseBuffer::new("$x 0xff")?;
+    /// let Named(name, number) = parser::parse(&buffer)?;
+    /// assert_eq!((name.name(), number), ("x", 255));
+    /// # Ok(())
+    /// # }
+    /// ```
     pub fn parse<T: Parse<'a>>(self) -> Result<T> {
         T::parse(self)
     }
@@ -477,6 +550,32 @@ impl<'a> Parser<'a> {
     /// # Errors
     ///
     /// Where a fault is shown at one of both.
+    ///
+    /// # Examples
+    ///
+    /// ```
+    /// use wat_parser::kw;
+    /// use wat_parser::parser::{self, Parse, ParseBuffer, Parser, Result};
+    /// // A number, with `(mut)` before it or not.
+    /// struct Value(bool, u32);
+    ///
+    /// impl<'a> Parse<'a> for Value {
+    ///     fn parse(parser: Parser<'a>) -> Result<Self> {
+    ///         let is_mut = parser.peek2::<kw::r#mut>()?;
+    ///         if is_mut {
+    ///             parser.parens(|group| group.parse::<kw::r#mut>())?;
+    ///         }
+    ///         Ok(Value(is_mut, parser.parse()?))
+    ///     }
+    /// }
+    ///
+    /// # fn main() -> Result<()> {
+    /// let buffer = ParseBuffer::new("(mut) 7")?;
+    /// let Value(is_mut, number) = parser::parse(&buffer)?;
+    /// assert_eq!((is_mut, number), (true, 7));
+    /// # Ok(())
+    /// # }
+    /// ```
     pub fn peek2<T: Peek>(self) -> Result<bool> {
         T::peek2(self.cursor())
     }
@@ -486,6 +585,35 @@ impl<'a> Parser<'a> {
     /// # Errors
     ///
     /// Where a fault is shown at one of the three.
+    ///
+    /// # Examples
+    ///
+    /// ```
+    /// use wat_parser::parser::{self, Parse, ParseBuffer, Parser, Result};
+    /// use wat_parser::token::RParen;
+    /// // Whether a group of one token is next.
+    /// struct IsSingle(bool);
+    ///
+    /// impl<'a> Parse<'a> for IsSingle {
+    ///     fn parse(parser: Parser<'a>) -> Result<Self> {
+    ///         let is_single = parser.peek3::<RParen>()?;
+    ///         parser.parens(|group| {
+    ///             while !group.is_empty() {
+    ///                 group.parse::<u32>()?;
+    ///             }
+    ///             Ok(IsSingle(is_single))
+    ///         })
+    ///     }
+    /// }
+    ///
+    /// # fn main() -> Result<()> {
+    /// for (text, is_single) in [("(1)", true), ("(1 2)", false)] {
+    ///     let buffer = ParseBuffer::new(text)?;
+    ///     assert_eq!(parser::parse::<IsSingle>(&buffer)?.0, is_single);
+    /// }
+    /// # Ok(())
+    /// # }
+    /// ```
     pub fn peek3<T: Peek>(self) -> Result<bool> {
         let Some(second) = self.cursor().past_any()? else {
             return Ok(false);
@@ -530,6 +658,7 @@ impl<'a> Parser<'a> {
     /// # Ok(())
     /// # }
     /// ```
+    #[must_use]
     pub fn lookahead1(self) -> Lookahead1<'a> {
         Lookahead1::new(self)
     }
@@ -592,6 +721,30 @@ impl<'a> Parser<'a> {
     }
 
     /// How many groups are open, as [`parens`](Parser::parens) counts them.
+    ///
+    /// # Examples
+    ///
+    /// ```
+    /// use wat_parser::parser::{self, Parse, ParseBuffer, Parser, Result};
+    /// // How deep the innermost of nested groups is.
+    /// struct Depth(usize);
+    ///
+    /// impl<'a> Parse<'a> for Depth {
+    ///     fn parse(parser: Parser<'a>) -> Result<Self> {
+    ///         if parser.is_empty() {
+    ///             return Ok(Depth(parser.parens_depth()));
+    ///         }
+    ///         parser.parens(|group| group.parse())
+    ///     }
+    /// }
+    ///
+    /// # fn main() -> Result<()> {
+    /// let buffer = ParseBuffer::new("((()))")?;
+    /// assert_eq!(parser::parse::<Depth>(&buffer)?.0, 3);
+    /// # Ok(())
+    /// # }
+    /// ```
+    #[must_use]
     pub fn parens_depth(&self) -> usize {
         self.buffer.depth.get()
     }
@@ -601,6 +754,33 @@ impl<'a> Parser<'a> {
     /// # Errors
     ///
     /// Where more than [`MAX_PARENS_DEPTH`] groups are open.
+    ///
+    /// # Examples
+    ///
+    /// ```
+    /// use wat_parser::parser::{self, Parse, ParseBuffer, Parser, Result};
+    /// // Groups in groups.
+    /// struct Nested;
+    ///
+    /// impl<'a> Parse<'a> for Nested {
+    ///     fn parse(parser: Parser<'a>) -> Result<Self> {
+    ///         parser.depth_check()?;
+    ///         while !parser.is_empty() {
+    ///             parser.parens(|group| group.parse::<Nested>())?;
+    ///         }
+    ///         Ok(Nested)
+    ///     }
+    /// }
+    ///
+    /// # fn main() -> Result<()> {
+    /// let deep = 2 * parser::MAX_PARENS_DEPTH;
+    /// let text = "(".repeat(deep) + &")".repeat(deep);
+    /// let buffer = ParseBuffer::new(&text)?;
+    /// let error = parser::parse::<Nested>(&buffer).err().unwrap();
+    /// assert_eq!(error.message(), "item nesting too deep");
+    /// # Ok(())
+    /// # }
+    /// ```
     pub fn depth_check(&self) -> Result<()> {
         if self.parens_depth() > MAX_PARENS_DEPTH {
             return Err(self.error("item nesting too deep"));
@@ -699,12 +879,48 @@ impl<'a> Parser<'a> {
     }
 
     /// An error at the token that is shown.
+    ///
+    /// # Examples
+    ///
+    /// ```
+    /// use wat_parser::parser::{self, Parse, ParseBuffer, Parser, Result};
+    /// // A number below ten.
+    /// struct Digit(u32);
+    ///
+    /// impl<'a> Parse<'a> for Digit {
+    ///     fn parse(parser: Parser<'a>) -> Result<Self> {
+    ///         if !parser.peek::<u32>()? {
+    ///             return Err(parser.error("expected a digit"));
+    ///         }
+    ///         let (number, span) = parser.parse()?;
+    ///         if number < 10 {
+    ///             return Ok(Digit(number));
+    ///         }
+    ///         Err(parser.error_at(span, format_args!("{number} is no digit")))
+    ///     }
+    /// }
+    ///
+    /// # fn main() -> Result<()> {
+    /// for (text, message) in [("  a", "expected a digit"), ("  17", "17 is no digit")] {
+    ///     let buffer = ParseBuffer::new(text)?;
+    ///     let error = parser::parse::<Digit>(&buffer).err().unwrap();
+    ///     assert_eq!((error.message().as_str(), error.span().offset()), (message, 2));
+    /// }
+    /// # Ok(())
+    /// # }
+    /// ```
+    #[must_use]
     #[cold]
     pub fn error(self, message: impl fmt::Display) -> Error {
         self.cursor().error(message)
     }
 
     /// An error at a place of the text.
+    ///
+    /// # Examples
+    ///
+    /// That of [`error`](Parser::error) has both.
+    #[must_use]
     #[cold]
     pub fn error_at(self, span: Span, message: impl fmt::Display) -> Error {
         match message.to_string_in(Global) {
@@ -714,11 +930,40 @@ impl<'a> Parser<'a> {
     }
 
     /// Where the token that is shown begins: the text's end where none is left, and the end of what was taken where a fault is shown.
+    ///
+    /// # Examples
+    ///
+    /// ```
+    /// use wat_parser::parser::{self, Parse, ParseBuffer, Parser, Result};
+    /// // A number, from where it begins to where it ends.
+    /// struct Spanned(u64, usize, usize);
+    ///
+    /// impl<'a> Parse<'a> for Spanned {
+    ///     fn parse(parser: Parser<'a>) -> Result<Self> {
+    ///         let start = parser.cur_span().offset();
+    ///         let number = parser.parse()?;
+    ///         Ok(Spanned(number, start, parser.prev_span().offset()))
+    ///     }
+    /// }
+    ///
+    /// # fn main() -> Result<()> {
+    /// let buffer = ParseBuffer::new(" 1_000 ")?;
+    /// let Spanned(number, start, end) = parser::parse(&buffer)?;
+    /// assert_eq!((number, start, end), (1000, 1, 6));
+    /// # Ok(())
+    /// # }
+    /// ```
+    #[must_use]
     pub fn cur_span(&self) -> Span {
         self.cursor().cur_span()
     }
 
     /// Where what was taken ends.
+    ///
+    /// # Examples
+    ///
+    /// That of [`cur_span`](Parser::cur_span) has both.
+    #[must_use]
     pub fn prev_span(&self) -> Span {
         Span::from_offset(self.buffer.position.get().byte())
     }
@@ -767,6 +1012,7 @@ impl<'a> Parser<'a> {
     /// # Ok(())
     /// # }
     /// ```
+    #[must_use = "the name is registered until this is dropped"]
     pub fn register_annotation<'b>(self, annotation: &'b str) -> impl Drop + 'b
     where
         'a: 'b,
@@ -784,6 +1030,31 @@ impl<'a> Parser<'a> {
     }
 
     /// What [`ParseBuffer::track_instr_spans`] set.
+    ///
+    /// # Examples
+    ///
+    /// ```
+    /// use wat_parser::parser::{self, Parse, ParseBuffer, Parser, Result};
+    /// use wat_parser::token::Span;
+    /// // A number, with its place where that is asked for.
+    /// struct Placed(u32, Option<Span>);
+    ///
+    /// impl<'a> Parse<'a> for Placed {
+    ///     fn parse(parser: Parser<'a>) -> Result<Self> {
+    ///         let span = parser.track_instr_spans().then(|| parser.cur_span());
+    ///         Ok(Placed(parser.parse()?, span))
+    ///     }
+    /// }
+    ///
+    /// # fn main() -> Result<()> {
+    /// let mut buffer = ParseBuffer::new(" 7")?;
+    /// buffer.track_instr_spans(true);
+    /// let Placed(number, span) = parser::parse(&buffer)?;
+    /// assert_eq!((number, span), (7, Some(Span::from_offset(1))));
+    /// # Ok(())
+    /// # }
+    /// ```
+    #[must_use]
     pub fn track_instr_spans(&self) -> bool {
         self.buffer.text.tracks()
     }
@@ -793,6 +1064,34 @@ impl<'a> Parser<'a> {
     /// # Errors
     ///
     /// As those of the function.
+    ///
+    /// # Examples
+    ///
+    /// ```
+    /// use wat_parser::annotation;
+    /// use wat_parser::parser::{self, Parse, ParseBuffer, Parser, Result};
+    /// // A number with a name.
+    /// struct Named<'a>(&'a str, u32);
+    ///
+    /// impl<'a> Parse<'a> for Named<'a> {
+    ///     fn parse(parser: Parser<'a>) -> Result<Self> {
+    ///         parser.with_standard_annotations_registered(|parser| {
+    ///             let name = parser.parens(|group| {
+    ///                 group.parse::<annotation::name>()?;
+    ///                 group.parse()
+    ///             })?;
+    ///             Ok(Named(name, parser.parse()?))
+    ///         })
+    ///     }
+    /// }
+    ///
+    /// # fn main() -> Result<()> {
+    /// let buffer = ParseBuffer::new("(@name \"seven\") 7")?;
+    /// let Named(name, number) = parser::parse(&buffer)?;
+    /// assert_eq!((name, number), ("seven", 7));
+    /// # Ok(())
+    /// # }
+    /// ```
     pub fn with_standard_annotations_registered<R>(
         self,
         inside: impl FnOnce(Self) -> Result<R>,

@@ -27,6 +27,7 @@ pub struct Id<'a> {
 
 impl<'a> Id<'a> {
     /// An identifier of a text, with its name without `$`.
+    #[must_use]
     pub fn new(name: &'a str, span: Span) -> Id<'a> {
         Id {
             name,
@@ -36,16 +37,19 @@ impl<'a> Id<'a> {
     }
 
     /// The name, without `$`.
+    #[must_use]
     pub fn name(&self) -> &'a str {
         self.name
     }
 
     /// Where it begins.
+    #[must_use]
     pub fn span(&self) -> Span {
         self.span
     }
 
     /// Whether it was made and is of no text.
+    #[must_use]
     pub fn is_gensym(&self) -> bool {
         self.generation != 0
     }
@@ -110,6 +114,7 @@ pub enum Index<'a> {
 
 impl Index<'_> {
     /// Where it begins.
+    #[must_use]
     pub fn span(&self) -> Span {
         match self {
             Index::Num(_, span) => *span,
@@ -118,6 +123,7 @@ impl Index<'_> {
     }
 
     /// Whether it is a number.
+    #[must_use]
     pub fn is_resolved(&self) -> bool {
         matches!(self, Index::Num(..))
     }
@@ -210,7 +216,7 @@ impl<K: Peek> Peek for ItemRef<'_, K> {
 }
 
 /// The name that an annotation gives an item: `@name "x"`.
-#[derive(Clone, Copy, Debug, PartialEq, Eq)]
+#[derive(Clone, Copy, Debug, PartialEq, Eq, Hash)]
 pub struct NameAnnotation<'a> {
     /// The name.
     pub name: &'a str,

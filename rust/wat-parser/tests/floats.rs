@@ -1,5 +1,8 @@
 //! `F32` and `F64` against exact arithmetic: each value is compared with the two midpoints beside the number that it was rounded to.
 
+// Numbers are cut into their parts.
+#![allow(clippy::cast_possible_truncation, clippy::cast_sign_loss)]
+
 use std::cmp::Ordering;
 use wat_parser::parser::{self, ParseBuffer};
 use wat_parser::token::{F32, F64};

@@ -98,10 +98,14 @@ fn a_value_and_an_error_are_refused() {
         ("x", |parser| parser.parse::<arrow>().map(drop)),
         ("x", |parser| parser.parse::<note>().map(drop)),
         ("x", |parser| {
-            parser.parens(|group| group.parse::<u32>()).map(drop)
+            parser
+                .parens(wat_parser::parser::Parser::parse::<u32>)
+                .map(drop)
         }),
         ("(x)", |parser| {
-            parser.parens(|group| group.parse::<u32>()).map(drop)
+            parser
+                .parens(wat_parser::parser::Parser::parse::<u32>)
+                .map(drop)
         }),
         ("\"\\q\"", |parser| parser.peek::<LParen>().map(drop)),
         ("1.5", |parser| parser.parse::<F64>().map(drop)),

@@ -1,5 +1,8 @@
 //! What types read as and are refused with, what is shown, and what errors print.
 
+// Types and texts of a test are in it.
+#![allow(clippy::items_after_statements, clippy::format_collect)]
+
 use std::collections::HashSet;
 use std::fmt::Debug;
 use std::path::Path;
@@ -218,7 +221,7 @@ fn lookaheads() {
                 || blanks > 1 && look.peek::<Id>()?
                 || blanks > 2 && look.peek::<u32>()?;
             assert!(!seen && look.parser().peek::<a>().is_ok());
-            Err::<(), _>(look.error())?
+            Err::<(), _>(look.error())?;
         })
     };
     for (text, wanted) in [
@@ -323,11 +326,11 @@ impl<'a> Parse<'a> for Shown {
             places.push(cursor.cur_span().offset());
             Ok(((), cursor))
         })?;
-        parser.parens(|group| group.parse::<u32>())?;
+        parser.parens(wat_parser::parser::Parser::parse::<u32>)?;
         // At the text's end nothing is shown that could stay so.
         let _registered = parser.register_annotation("note");
         places.push(shown());
-        parser.parens(|group| group.parse::<note>())?;
+        parser.parens(wat_parser::parser::Parser::parse::<note>)?;
         Ok(Shown(places))
     }
 }
@@ -366,7 +369,7 @@ fn annotations_at_fault() {
 fn name_annotations() {
     let name = |text: &str| {
         run!(text, |parser| parser.with_standard_annotations_registered(
-            |parser| parser.parse::<Option<NameAnnotation>>()
+            wat_parser::parser::Parser::parse::<Option<NameAnnotation>>
         )?)
     };
     assert_eq!(
@@ -379,7 +382,7 @@ fn name_annotations() {
 
 #[test]
 fn comments() {
-    fn all<'a>(mut cursor: Cursor<'a>) -> Result<(Vec<&'a str>, Cursor<'a>)> {
+    fn all(mut cursor: Cursor<'_>) -> Result<(Vec<&str>, Cursor<'_>)> {
         let mut comments = Vec::new();
         while let Some((comment, rest)) = cursor.comment()? {
             comments.push(comment);

@@ -166,6 +166,7 @@ impl<'a> Cursor<'a> {
     }
 
     /// Where the token that is shown begins: the text's end where none is left, and the end of what was taken where a fault is shown.
+    #[must_use]
     #[inline]
     pub fn cur_span(&self) -> Span {
         let (row, known) = self.row();
@@ -186,6 +187,7 @@ impl<'a> Cursor<'a> {
     }
 
     /// An error at the token that is shown.
+    #[must_use]
     #[cold]
     pub fn error(&self, message: impl fmt::Display) -> Error {
         self.parser.error_at(self.cur_span(), message)

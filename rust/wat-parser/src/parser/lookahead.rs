@@ -35,11 +35,13 @@ impl<'a> Lookahead1<'a> {
     }
 
     /// The parser that is looked at.
+    #[must_use]
     pub fn parser(&self) -> Parser<'a> {
         self.parser
     }
 
     /// The error that none of the types is there.
+    #[must_use]
     pub fn error(self) -> Error {
         self.parser.error(Expected(&self))
     }

@@ -28,12 +28,11 @@ impl Strings {
     pub fn keep(&self, bytes: shim::vec::Vec<u8>) -> Result<&[u8], AllocError> {
         let number = self.count.get() + 1;
         let block = number.ilog2() as usize;
-        let slots = match self.blocks[block].get() {
-            Some(slots) => slots,
-            None => {
-                let slots = empty_slots(1 << block)?;
-                self.blocks[block].get_or_init(|| slots)
-            }
+        let slots = if let Some(slots) = self.blocks[block].get() {
+            slots
+        } else {
+            let slots = empty_slots(1 << block)?;
+            self.blocks[block].get_or_init(|| slots)
         };
         self.count.set(number);
         Ok(slots[number - (1 << block)].get_or_init(|| bytes))

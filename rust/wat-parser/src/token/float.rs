@@ -3,15 +3,15 @@ use crate::parser::{Parse, Parser, Result, unless_refused};
 use wat_lex::shim::alloc::{AllocError, Global};
 use wat_lex::shim::prelude::try_format;
 
-/// The bits of a 32-bit floating-point number.
-#[derive(Clone, Copy, Debug)]
+/// The bits of a 32-bit floating-point number. Two of them are equal where all bits are.
+#[derive(Clone, Copy, Debug, PartialEq, Eq, Hash)]
 pub struct F32 {
     /// Sign, exponent and significand, as IEEE 754 lays them.
     pub bits: u32,
 }
 
-/// The bits of a 64-bit floating-point number.
-#[derive(Clone, Copy, Debug)]
+/// The bits of a 64-bit floating-point number. Two of them are equal where all bits are.
+#[derive(Clone, Copy, Debug, PartialEq, Eq, Hash)]
 pub struct F64 {
     /// Sign, exponent and significand, as IEEE 754 lays them.
     pub bits: u64,

@@ -21,7 +21,7 @@ fn refusal(refusals: Refusals, error: &Error) -> String {
 }
 
 /// The lexer of a row's text, by the end of its call.
-fn lexer<'r>(row: &'r Row) -> Lexer<'r> {
+fn lexer(row: &Row) -> Lexer<'_> {
     let mut lexer = Lexer::new(&row.text);
     lexer
         .allow_confusing_unicode(row.call.ends_with("-allowing"))
@@ -250,7 +250,7 @@ fn peeks(parser: Parser) -> String {
 }
 
 /// What a parser at the start of the text answers, through a type that asks it.
-fn parsing<'a>(row: &Row, parser: Parser<'a>) -> Option<Result<String, Error>> {
+fn parsing(row: &Row, parser: Parser<'_>) -> Option<Result<String, Error>> {
     Some(match row.call {
         "shown" | "shown-allowing" => Ok(shown(row, parser)),
         "peeks" => Ok(peeks(parser)),

@@ -1,6 +1,9 @@
 //! `tests/answers.txt`: each row is a call and its text, and in the next line what it answers. The proved calls are asked all of them, over both
 //! buffers, and the layer with the names of `wast` those that it has.
 
+// Calls that answer alike have arms of their own, and what is shown is passed by value.
+#![allow(clippy::match_same_arms, clippy::needless_pass_by_value)]
+
 mod layer;
 mod pictures;
 mod printed;

@@ -26,12 +26,11 @@ pub fn spelled(row: &str) -> String {
 /// A part that was after `‹`: the number of a character, or a count and what is repeated, then `›` and plain text.
 fn spelled_part(part: &str) -> String {
     let (spelled, after) = part.split_once('›').expect("an end of what is spelled");
-    let text = match spelled.split_once('×') {
-        Some((count, piece)) => piece.repeat(count.parse().expect("a count")),
-        None => {
-            let number = u32::from_str_radix(spelled, 16).expect("a number");
-            char::from_u32(number).expect("a character").to_string()
-        }
+    let text = if let Some((count, piece)) = spelled.split_once('×') {
+        piece.repeat(count.parse().expect("a count"))
+    } else {
+        let number = u32::from_str_radix(spelled, 16).expect("a number");
+        char::from_u32(number).expect("a character").to_string()
     };
     text + after
 }

@@ -7,7 +7,7 @@ use wat_lex::proved::lexer::{Float, Lexer, TokenKind};
 use wat_lex::shim::alloc::Global;
 
 /// The lexer of a row's text, by the end of its call.
-pub fn lexer<'r>(row: &'r Row) -> Lexer<'r> {
+pub fn lexer(row: &Row) -> Lexer<'_> {
     let mut lexer = Lexer::new(&row.text);
     lexer
         .allow_confusing_unicode(row.call.ends_with("-allowing"))

@@ -1,0 +1,256 @@
+//! Texts that are edited: after each edit a document has what a whole read of its text has.
+
+mod texts;
+
+use std::iter;
+use std::ops::Range;
+use texts::Random;
+use wat_lex::{Change, Document, LexError, Lexer, LineIndex, Piece, Span, TokenKind};
+
+/// The pieces of a text, each found by itself.
+fn whole(lexer: &Lexer<'_>) -> Vec<Piece> {
+    let mut at = 0;
+    let next = || {
+        if let Ok(token) = lexer.parse(&mut at) {
+            token.map(Piece::Token)
+        } else {
+            let fault = lexer.fault_at(at).unwrap();
+            at = fault.end();
+            Some(Piece::Fault(fault))
+        }
+    };
+    iter::from_fn(next).collect()
+}
+
+/// A piece by its place from the text's end.
+fn from_end(piece: Piece, text: &str) -> (usize, usize, Option<TokenKind>, Option<LexError>) {
+    let kind = piece.token().map(|token| token.kind);
+    let error = piece.fault().map(|fault| fault.error);
+    (
+        text.len() - piece.offset(),
+        piece.range().len(),
+        kind,
+        error,
+    )
+}
+
+/// A document beside its text, which the test edits itself.
+struct Pair {
+    document: Document,
+    text: String,
+    pieces: Vec<Piece>,
+    /// Bytes that were read again, by the pieces that are new.
+    read: usize,
+}
+
+impl Pair {
+    fn new(text: String, allow: bool) -> Pair {
+        let mut lexer = Lexer::new(&text);
+        lexer.allow_confusing_unicode(allow);
+        Pair {
+            document: Document::with_lexer(&lexer).unwrap(),
+            pieces: whole(&lexer),
+            text,
+            read: 0,
+        }
+    }
+
+    fn edit(&mut self, range: Range<usize>, with: &str) {
+        let was = self.text.clone();
+        self.text.replace_range(range.clone(), with);
+        let change = self.document.replace(range, with).unwrap();
+        let pieces = self.compare();
+        self.compare_change(change, &was, &pieces);
+        self.pieces = pieces;
+    }
+
+    /// The pieces of the text, after all that a document answers was compared with a whole read.
+    fn compare(&self) -> Vec<Piece> {
+        let (document, text) = (&self.document, &self.text);
+        assert_eq!(document.text(), text);
+        let lexer = document.lexer();
+        let pieces = whole(&lexer);
+        assert!(document.pieces().eq(pieces.iter().copied()), "{text:?}");
+        assert_eq!(document.piece_count(), pieces.len());
+        let fault = document.faults().next();
+        let error = lexer.iter(0).find_map(Result::err);
+        assert_eq!(
+            fault.map(|fault| (fault.span(), fault.error)),
+            error.map(|error| (error.span(), *error.lex_error().unwrap()))
+        );
+        pieces
+    }
+
+    /// The pieces that were not read again are those that were there.
+    fn compare_change(&mut self, change: Change, text: &str, pieces: &[Piece]) {
+        let Change {
+            first,
+            removed,
+            added,
+        } = change;
+        assert_eq!(self.pieces[..first], pieces[..first]);
+        let was = self.pieces[first + removed..].iter();
+        let was = was.map(|piece| from_end(*piece, text));
+        let is = pieces[first + added..].iter();
+        let is = is.map(|piece| from_end(*piece, &self.text));
+        assert!(was.eq(is), "{text:?} {:?}", self.text);
+        let new = pieces[first..first + added].iter();
+        self.read += new.map(|piece| piece.range().len()).sum::<usize>();
+    }
+
+    fn compare_lines(&self, random: &mut Random) {
+        let (document, text) = (&self.document, &self.text);
+        let index = LineIndex::new(text);
+        for _ in 0..4 {
+            let place = Span::from_offset(random.below(text.len() + 2));
+            let (line, column) = index.linecol(place);
+            assert_eq!(
+                document.linecol(place),
+                (line, column),
+                "{text:?} {place:?}"
+            );
+            let utf16 = index.utf16_linecol(place);
+            assert_eq!(document.utf16_linecol(place), utf16, "{text:?} {place:?}");
+            let chars = index.char_linecol(place);
+            assert_eq!(document.char_linecol(place), chars, "{text:?} {place:?}");
+            let begun = text.char_indices().map(|(at, _)| at);
+            let begun = begun.filter(|at| (place.offset() - column..place.offset()).contains(at));
+            assert_eq!(chars, (line, begun.count()), "{text:?} {place:?}");
+            if text.is_char_boundary(place.offset()) {
+                assert_eq!(document.place(line, column), place, "{text:?}");
+                assert_eq!(document.utf16_place(utf16.0, utf16.1), place, "{text:?}");
+            }
+        }
+        assert_eq!(document.line_count(), text.split('\n').count());
+        let lines = (0..document.line_count()).map(|line| &text[document.line(line).unwrap()]);
+        assert!(lines.eq(text.split('\n')), "{text:?}");
+        assert_eq!(document.line(document.line_count()), None);
+    }
+}
+
+/// A place from a byte on at which a character begins or the text ends.
+fn place(text: &str, from: usize) -> usize {
+    let mut places = from.min(text.len())..=text.len();
+    places.find(|at| text.is_char_boundary(*at)).unwrap()
+}
+
+/// Bytes of a text, mostly few.
+fn range_of(text: &str, random: &mut Random) -> Range<usize> {
+    let start = place(text, random.below(text.len() + 1));
+    let most = if random.below(8) == 0 {
+        text.len() + 1
+    } else {
+        4
+    };
+    start..place(text, start + random.below(most))
+}
+
+/// So many random edits of texts, each compared with a whole read; how many bytes of all were read again, of a thousand.
+fn edits(seed: u64, count: usize, parts: usize) -> usize {
+    let mut random = Random(seed);
+    let (mut pair, mut read, mut bytes) = (Pair::new(String::new(), false), 0, 0);
+    for done in 0..count {
+        if done % 200 == 0 {
+            read += pair.read;
+            pair = Pair::new(random.text(parts), random.below(2) == 0);
+        }
+        let range = range_of(&pair.text, &mut random);
+        let most = if random.below(8) == 0 { parts / 4 } else { 4 };
+        let with = random.text(most);
+        pair.edit(range, &with);
+        pair.compare_lines(&mut random);
+        bytes += pair.text.len();
+    }
+    (read + pair.read) * 1000 / bytes
+}
+
+#[test]
+fn a_document_has_what_a_whole_read_has() {
+    let read = [(1, 80), (2, 12), (3, 400)].map(|(seed, parts)| edits(seed, 3_000, parts));
+    println!("read again, of a thousand bytes: {read:?}");
+    assert!(read[2] < 300, "{read:?}");
+}
+
+#[test]
+#[ignore = "takes a minute in release"]
+fn a_million_edits() {
+    for (seed, parts) in [(11, 80), (12, 12), (13, 40), (14, 150)] {
+        println!("{}", edits(seed, 300_000, parts));
+    }
+}
+
+#[test]
+fn an_edit_inside_a_long_text_reads_little() {
+    let line = "  (call $f (i32.const 17)) ;; and more\n";
+    let mut document = Document::new(&line.repeat(10_000)).unwrap();
+    let middle = 5_000 * line.len();
+    let change = document.replace(middle + 9..middle + 10, "longer").unwrap();
+    assert_eq!((change.removed, change.added), (1, 1));
+    let change = document.replace(middle + 9..middle + 9, "\"").unwrap();
+    assert_eq!(change.added, 1);
+    let fault = document.faults().next().unwrap();
+    assert_eq!(fault.range(), middle + 8..middle + line.len() + 5);
+    assert_eq!(document.faults().count(), 1);
+}
+
+#[test]
+fn an_open_comment_is_closed_later() {
+    let mut document = Document::new("(; (a) (; (b)").unwrap();
+    let faults = |document: &Document| {
+        document
+            .faults()
+            .map(|fault| fault.offset)
+            .collect::<Vec<_>>()
+    };
+    assert_eq!(faults(&document), [0, 7]);
+    document.replace(13..13, ";)").unwrap();
+    assert_eq!(faults(&document), [0]);
+    let change = document.replace(15..15, " ;) c").unwrap();
+    assert_eq!((faults(&document), change.first), (vec![], 0));
+    assert_eq!(document.piece_count(), 3);
+    document.replace(14..15, "").unwrap();
+    assert_eq!(faults(&document), [0]);
+}
+
+#[test]
+fn pieces_are_found_by_number_and_by_byte() {
+    let mut document = Document::new("(a é)").unwrap();
+    document.replace(1..2, "bc").unwrap();
+    let ranges = [0..1, 1..3, 3..4, 4..6, 6..7];
+    for (i, range) in ranges.iter().enumerate() {
+        assert_eq!(document.piece(i).unwrap().range(), *range);
+        assert!(range.clone().all(|byte| document.piece_at(byte) == i));
+    }
+    assert_eq!((document.piece(5), document.piece_at(7)), (None, 5));
+    assert!(
+        document
+            .pieces()
+            .rev()
+            .map(|piece| piece.range())
+            .eq(ranges.into_iter().rev())
+    );
+    assert_eq!(document.clone().into_text(), "(bc é)");
+}
+
+#[test]
+fn columns_are_those_of_the_line() {
+    let document = Document::new("a\u{1f600}é\n").unwrap();
+    let at = |line, column| document.utf16_place(line, column).offset();
+    assert_eq!(
+        [0, 1, 2, 3, 4, 9].map(|column| at(0, column)),
+        [0, 1, 1, 5, 7, 7]
+    );
+    assert_eq!([at(1, 0), at(1, 3), at(2, 0)], [8, 8, 8]);
+    let at = |line, column| document.place(line, column).offset();
+    assert_eq!(
+        [0, 1, 3, 5, 6, 9].map(|column| at(0, column)),
+        [0, 1, 1, 5, 5, 7]
+    );
+    assert_eq!(at(7, 1), 8);
+}
+
+#[test]
+#[should_panic = "no characters begin and end there"]
+fn a_character_is_not_cut() {
+    let _ = Document::new("é").unwrap().replace(0..1, "");
+}

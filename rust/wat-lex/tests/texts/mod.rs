@@ -1,0 +1,67 @@
+//! Random texts of parts that meet in many ways.
+
+const PARTS: [&str; 44] = [
+    "(",
+    ")",
+    ";",
+    ";;",
+    "(;",
+    ";)",
+    "\"",
+    "\"",
+    "\\",
+    "\\\"",
+    "\\\\",
+    "a",
+    "$",
+    "@",
+    "1",
+    "_",
+    "\n",
+    "\r",
+    " ",
+    "\t",
+    "}",
+    "\\u{",
+    "\u{202e}",
+    "é",
+    "漢",
+    "\u{1f600}",
+    "0x",
+    "1.5",
+    "e+",
+    "nan:0x",
+    "-",
+    "f",
+    "module",
+    "$x",
+    "@name",
+    "\"ab\"",
+    "$\"",
+    "@\"",
+    "\\ff",
+    "\\61",
+    ",",
+    "\u{0}",
+    "; ",
+    ";; \u{2066}",
+];
+
+/// Random numbers below a count, and texts.
+pub struct Random(pub u64);
+
+impl Random {
+    pub fn below(&mut self, count: usize) -> usize {
+        self.0 = self
+            .0
+            .wrapping_mul(6_364_136_223_846_793_005)
+            .wrapping_add(1);
+        (self.0 >> 33) as usize % count
+    }
+
+    /// A text of fewer parts than a number.
+    pub fn text(&mut self, parts: usize) -> String {
+        let count = self.below(parts);
+        (0..count).map(|_| PARTS[self.below(PARTS.len())]).collect()
+    }
+}

@@ -1,0 +1,136 @@
+//! As much of JSON as the protocol needs: values are read, and strings printed.
+
+use std::iter::Peekable;
+use std::str::Chars;
+
+/// How deep arrays and objects may be in one another.
+const DEPTH: usize = 100;
+
+#[derive(Clone, Debug)]
+pub enum Json {
+    /// `null`, `true` and `false`.
+    Word,
+    Number(f64),
+    String(String),
+    Array(Vec<Json>),
+    Object(Vec<(String, Json)>),
+}
+
+impl Json {
+    /// The value that a text begins with, None where it is no JSON.
+    pub fn read(text: &str) -> Option<Json> {
+        let rest = text.chars().peekable();
+        Reader { rest, depth: 0 }.value()
+    }
+
+    /// The value of a key of an object, and a word where it has none.
+    pub fn get(&self, key: &str) -> &Json {
+        let Json::Object(members) = self else {
+            return &Json::Word;
+        };
+        let member = members.iter().find(|(name, _)| name == key);
+        member.map_or(&Json::Word, |(_, value)| value)
+    }
+
+    /// A string, empty where it is none.
+    pub fn text(&self) -> &str {
+        match self {
+            Json::String(text) => text,
+            _ => "",
+        }
+    }
+
+    /// What a number counts, 0 where it is none.
+    pub fn count(&self) -> usize {
+        match self {
+            Json::Number(number) => *number as usize,
+            _ => 0,
+        }
+    }
+}
+
+/// A string as JSON has it.
+pub fn quoted(text: &str) -> String {
+    let quoted = text.chars().map(|c| match c {
+        '"' | '\\' => format!("\\{c}"),
+        '\0'..='\x1f' => format!("\\u{:04x}", u32::from(c)),
+        _ => c.to_string(),
+    });
+    format!("\"{}\"", quoted.collect::<String>())
+}
+
+struct Reader<'t> {
+    rest: Peekable<Chars<'t>>,
+    depth: usize,
+}
+
+impl Reader<'_> {
+    /// Takes a character after white space, where it is there.
+    fn takes(&mut self, wanted: char) -> bool {
+        while self.rest.next_if(char::is_ascii_whitespace).is_some() {}
+        self.rest.next_if_eq(&wanted).is_some()
+    }
+
+    fn value(&mut self) -> Option<Json> {
+        if self.takes('"') {
+            return self.string().map(Json::String);
+        }
+        if self.takes('[') {
+            return self.list(']', Reader::value).map(Json::Array);
+        }
+        if self.takes('{') {
+            return self.list('}', Reader::member).map(Json::Object);
+        }
+        let mut word = String::new();
+        let goes_on = |c: &char| c.is_ascii_alphanumeric() || "+-.".contains(*c);
+        while let Some(c) = self.rest.next_if(goes_on) {
+            word.push(c);
+        }
+        match word.as_str() {
+            "null" | "true" | "false" => Some(Json::Word),
+            number => number.parse().ok().map(Json::Number),
+        }
+    }
+
+    fn member(&mut self) -> Option<(String, Json)> {
+        self.takes('"').then_some(())?;
+        let key = self.string()?;
+        self.takes(':').then_some(())?;
+        Some((key, self.value()?))
+    }
+
+    fn list<T>(&mut self, close: char, item: fn(&mut Self) -> Option<T>) -> Option<Vec<T>> {
+        self.depth += 1;
+        let mut items = Vec::new();
+        while !self.takes(close) {
+            if self.depth > DEPTH || !(items.is_empty() || self.takes(',')) {
+                return None;
+            }
+            items.push(item(self)?);
+        }
+        self.depth -= 1;
+        Some(items)
+    }
+
+    /// A string after its first quote. Escapes are code units of UTF-16.
+    fn string(&mut self) -> Option<String> {
+        let mut units = Vec::new();
+        loop {
+            match self.rest.next()? {
+                '"' => return String::from_utf16(&units).ok(),
+                '\\' => units.push(self.escape()?),
+                c => units.extend(c.encode_utf16(&mut [0; 2]).iter()),
+            }
+        }
+    }
+
+    fn escape(&mut self) -> Option<u16> {
+        let c = self.rest.next()?;
+        if c == 'u' {
+            let digits: String = self.rest.by_ref().take(4).collect();
+            return u16::from_str_radix(&digits, 16).ok();
+        }
+        let number = r#""\/ntrbf"#.find(c)?;
+        Some(b"\"\\/\n\t\r\x08\x0c"[number].into())
+    }
+}
