@@ -598,8 +598,9 @@ async function typeOften(times, place, piece, last) {
 
 // Runs in the page: the module alone, over all of what the server hands out.
 async function readOften(times) {
-  const { load } = await import('./lexer.js');
-  const { lexer } = await load();
+  const { Lexer } = await import('./wat-lex/lexer.js');
+  const module = await WebAssembly.compile(await fetch('wat-lex/wat_lex.wasm').then((it) => it.arrayBuffer()));
+  const lexer = new Lexer(new WebAssembly.Instance(module));
   const given = new Uint8Array(await fetch('generated').then((it) => it.arrayBuffer()));
   lexer.reserve(given.length);
   lexer.bytes(given.length).set(given);

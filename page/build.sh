@@ -1,11 +1,48 @@
 #!/usr/bin/env bash
-# Builds the page: the folder page/out, for a server, and page/out/wat.html, one file that opens without one. Needs rt and python3.
-set -eu
+# Builds the npm package, page/out/wat-lex, and the page over it: the folder page/out, for a server, and page/out/wat.html, one file that opens without
+# one. The module is made of the erased text by cargo, where its rustc has the target wasm32-unknown-unknown. Otherwise, and with BY=rattle, Rattle's
+# compiler makes it of the proved sources, and binaryen's wasm-opt has its memory be one of 32 bits. Needs python3.
+#
+#   WASM_CARGO=COMMAND  a cargo whose rustc has the target, where it is another
+#
+# usage: page/build.sh
+set -euo pipefail
 cd "$(dirname "$0")"
-kit=$(dirname "$(rt doc)")
-mkdir -p out
-(cd ../crates/wat_page && rt lib --target wasm64-unknown-unknown)
-"$kit/bin/rattle-link" --target wasm64-unknown-unknown --toolchain "$kit/toolchain" -o out/wat_page.wasm ../crates/wat_page/out/libwat_page.a
+target=wasm32-unknown-unknown
+
+by_cargo() {
+    local folder=${CARGO_TARGET_DIR:-$PWD/../rust/target} command
+    read -ra command <<< "${WASM_CARGO:-cargo}"
+    (cd ../rust && CARGO_TARGET_DIR=$folder CARGO_PROFILE_RELEASE_STRIP=symbols "${command[@]}" build --quiet --locked --release --package wat-page --target "$target")
+    cp "$folder/$target/release/wat_page.wasm" out/wat-lex/wat_lex.wasm
+}
+
+by_rattle() {
+    local kit
+    kit=$(dirname "$(rt doc)")
+    (cd ../crates/wat_page && rt lib --target wasm64-unknown-unknown)
+    "$kit/bin/rattle-link" --target wasm64-unknown-unknown --toolchain "$kit/toolchain" -o out/wide.wasm ../crates/wat_page/out/libwat_page.a
+    wasm-opt --memory64-lowering -O3 -o out/wat-lex/wat_lex.wasm out/wide.wasm
+    rm out/wide.wasm
+}
+
+# by: which of both makes the module
+by() {
+    if [ "${BY:-cargo}" = cargo ] && { [ -n "${WASM_CARGO:-}" ] || [ -d "$(rustc --print target-libdir --target "$target" 2> /dev/null)" ]; }; then
+        echo cargo
+    elif command -v rt > /dev/null && command -v wasm-opt > /dev/null; then
+        echo rattle
+    else
+        echo "page/build.sh: no rustc for $target is here, and not both of rt and wasm-opt" >&2
+        return 1
+    fi
+}
+
+maker=$(by)
+rm -rf out
+mkdir -p out/wat-lex
+"by_$maker"
+cp wat-lex/* ../LICENSE out/wat-lex/
 cp index.html style.css ./*.js out/
 python3 single.py out > out/wat.html
-ls -l out
+echo "page/build.sh: by $maker: the module has $(stat -c %s out/wat-lex/wat_lex.wasm) bytes, the page $(stat -c %s out/wat.html)"
