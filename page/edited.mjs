@@ -67,7 +67,7 @@ export function readAhead(reader, lexer, bytes, flags, chance, least = 0) {
 }
 
 // Edits, most of which are where the one before ended.
-class Edits {
+export class Edits {
   constructor(chance) {
     this.chance = chance;
     this.at = 0;

@@ -7,6 +7,8 @@
 // Proofs name loops, and each file imports the shim's names, of which it may need none. Clippy's advice on style is for text that is written in Rust.
 #![allow(unused_imports, unused_labels, clippy::style, clippy::complexity)]
 
+#[cfg(target_family = "wasm")]
+mod memory;
 // What JavaScript passes: pointers.
 #[allow(unsafe_code)]
 pub mod page;
