@@ -10,20 +10,23 @@ set -euo pipefail
 cd "$(dirname "$0")"
 target=wasm32-unknown-unknown
 
+# Both print by what they made the module.
 by_cargo() {
-    local folder=${CARGO_TARGET_DIR:-$PWD/../rust/target} command
+    local folder=${CARGO_TARGET_DIR:-$PWD/../rust/target}/page command
     read -ra command <<< "${WASM_CARGO:-cargo}"
     (cd ../rust && CARGO_TARGET_DIR=$folder CARGO_PROFILE_RELEASE_STRIP=symbols "${command[@]}" build --quiet --locked --release --package wat-page --target "$target")
     cp "$folder/$target/release/wat_page.wasm" out/wat-lex/wat_lex.wasm
+    grep -o 'rustc [0-9][^\\"]*)' "$folder/.rustc_info.json" | sort -u | tail -n 1
 }
 
 by_rattle() {
     local kit
     kit=$(dirname "$(rt doc)")
-    (cd ../crates/wat_page && rt lib --target wasm64-unknown-unknown)
+    (cd ../crates/wat_page && rt lib --target wasm64-unknown-unknown) >&2
     "$kit/bin/rattle-link" --target wasm64-unknown-unknown --toolchain "$kit/toolchain" -o out/wide.wasm ../crates/wat_page/out/libwat_page.a
     wasm-opt --memory64-lowering -O3 -o out/wat-lex/wat_lex.wasm out/wide.wasm
     rm out/wide.wasm
+    echo "Rattle's compiler, $(rt version), and $(wasm-opt --version)"
 }
 
 # by: which of both makes the module
@@ -41,8 +44,8 @@ by() {
 maker=$(by)
 rm -rf out
 mkdir -p out/wat-lex
-"by_$maker"
+made_by=$("by_$maker")
 cp wat-lex/* ../LICENSE out/wat-lex/
 cp index.html style.css ./*.js out/
 python3 single.py out > out/wat.html
-echo "page/build.sh: by $maker: the module has $(stat -c %s out/wat-lex/wat_lex.wasm) bytes, the page $(stat -c %s out/wat.html)"
+echo "page/build.sh: by $made_by: the module has $(stat -c %s out/wat-lex/wat_lex.wasm) bytes, the page $(stat -c %s out/wat.html)"

@@ -4,8 +4,9 @@
 # the text says why.
 #
 #   CRATES_FOLDER=FOLDER  the crates that cargo takes, each in a folder of its own, where no registry is at hand
+#   WASM_CARGO=COMMAND    as for page/build.sh
 #   GATE_LOG=FILE         the log of `rt ci` over this commit, which is put into the release
-#   BY=rattle             archives for C by Rattle's compilers too, for x86-64-v2 and AArch64. It proves what has no kept proof
+#   BY=rattle             archives for C by Rattle's compilers too, for x86-64-v2 and AArch64, over the proofs that are kept in `crates`
 #
 # usage: tools/dist.sh OUT
 set -euo pipefail
@@ -54,7 +55,7 @@ prepare() {
     git clone --quiet "$top" "$source"
     cd "$source"
     [ -z "$(git -C "$top" status --porcelain)" ] || say 'what is not committed is not in the release'
-    mkdir -p "$made/proof" "$made/licences" "$room/home"
+    mkdir -p "$made/proof" "$room/home"
     if [ -n "${CRATES_FOLDER:-}" ]; then
         mkdir "$room/handed"
         by_folder "$(realpath "$CRATES_FOLDER")" > "$room/handed/config.toml"
@@ -143,13 +144,105 @@ c_library() {
     record "$folder/lib/libwat.a" "$folder/lib/libwat.so.${version%%.*}" -- "rust/wat-c, by $compiler"
 }
 
+# by_rattle KIND TARGET PROCESSOR TOOLS SOURCE..: an archive by Rattle's compilers, with the C beside it that it takes
+by_rattle() {
+    local kind=$1 folder=$made/c/$1 target=$2 processor=$3 log=$made/proof/$1.log TOOLS=$4 objects=() name
+    shift 4
+    (cd crates/wat_parser_c && rt lib --target "$target" --cpu "$processor") > "$log" 2>&1 || die "$kind: $(tail -n 5 "$log")"
+    for name in "$@"; do
+        "${TOOLS}gcc" -std=c99 -O2 -fPIC -Wall -Wextra -Werror -c -o "$room/$name.o" "tools/c/$name.c"
+        objects+=("$room/$name.o")
+    done
+    c_folder "$folder"
+    one_object "$folder/lib/libwat.a" "${objects[@]}" crates/wat_parser_c/out/libwat_parser_c.a
+    record "$folder/lib/libwat.a" -- "crates/wat_parser_c, by Rattle's compilers ($(rt version)), and tools/c/{$(IFS=, && echo "$*")}.c, by $("${TOOLS}gcc" --version | head -n 1)
+  $(tail -n 1 "$log")"
+}
+
+# Not run yet: `rt lib` takes proofs that are kept.
+rattle_libraries() {
+    local folder
+    [ "${BY:-}" = rattle ] || { leave_out "archives by Rattle's compilers" 'BY=rattle asks for them' && return; }
+    has rt || { leave_out "archives by Rattle's compilers" 'no rt is here' && return; }
+    for folder in "$top"/crates/*/out; do
+        cp -a "$folder" "$source/${folder#"$top/"}"
+    done
+    by_rattle rattle-x86_64-v2-linux x86_64-unknown-linux-gnu x86-64-v2 '' heap processor
+    answers 'C, by Rattle for x86-64-v2' "$made/c/rattle-x86_64-v2-linux/lib/libwat.a"
+    if has aarch64-linux-gnu-gcc; then
+        by_rattle rattle-aarch64-linux aarch64-unknown-linux-gnu generic aarch64-linux-gnu- heap
+    else
+        leave_out "the archive by Rattle's compilers for AArch64" 'no aarch64-linux-gnu-gcc is here'
+    fi
+}
+
+# The npm package, and the page over it.
+npm_and_page() {
+    local package=page/out/wat-lex said
+    if ! has npm || ! said=$(page/build.sh 2> "$room/errors"); then
+        leave_out 'the npm package and the page' "$(tail -n 1 "$room/errors")"
+        return
+    fi
+    cp "$made/THIRD-PARTY.txt" "$package/"
+    mkdir -p "$made/npm"
+    (cd "$package" && npm pack --silent --offline --pack-destination "$made/npm" > /dev/null)
+    install -D -m 644 page/out/wat.html "$made/page/wat.html"
+    record "$made"/npm/*.tgz "$made/page/wat.html" -- "page, and rust/wat-page or crates/wat_page ${said##*build.sh: }"
+}
+
+# Texts of licences: of what is in the program, the libraries and the module beside the code of this project.
+third_parties() {
+    local file kit library
+    library=$(rustc --print sysroot)/share/doc/rust/COPYRIGHT-library.html
+    cp LICENSE docs/RELEASE.md CHANGELOG.md "$made/"
+    {
+        echo 'What is in the program, the libraries for C and the module for JavaScript beside the code of this project. The crates have none of it inside.'
+        for file in "$room"/crates/{memchr,smallvec,unicode-width}-*/{LICENSE*,COPYING,COPYRIGHT,UNLICENSE}; do
+            [ ! -e "$file" ] || { printf '\n==== %s\n\n' "${file#"$room/crates/"}" && cat "$file"; }
+        done
+        printf '\n==== The standard library of Rust\n\nMIT or Apache-2.0; what is in it is in COPYRIGHT-library.html of the release, or of Rust.\n'
+    } > "$made/THIRD-PARTY.txt"
+    [ ! -e "$library" ] || cp "$library" "$made/"
+}
+
+# What was made of what, and by what.
+proof() {
+    local logic
+    logic=$(sed -n 's/.*`rt version` prints `\(.*\)`.*/\1/p' README.md)
+    [ -z "${GATE_LOG:-}" ] || cp "$GATE_LOG" "$made/proof/gate.log"
+    {
+        printf 'wat %s, commit %s of %s\nproved sources: crates, git tree %s, for the kit whose `rt version` prints `%s`\n' \
+            "$version" "$commit" "$(git log -1 --format=%cI)" "$(git rev-parse HEAD:crates)" "$logic"
+        [ -z "${GATE_LOG:-}" ] && echo 'gate: no log was given (GATE_LOG=FILE)' || echo "gate: gate.log, $(tail -n 1 "$GATE_LOG")"
+        printf 'made Rust of the proved sources: %s\n\n' "$(tools/erase/check.py --committed | tail -n 1)"
+        cat "$room/made" "$room/left_out"
+    } > "$made/proof/PROOF.txt"
+}
+
+# Sums of all files, and all of them as one file.
+sums() {
+    local stamp name=wat-$version.tar.gz
+    stamp=$(git log -1 --format=%ct)
+    (cd "$made" && find . -type f ! -name SHA256SUMS -printf '%P\n' | sort | xargs sha256sum > SHA256SUMS)
+    tar --sort=name --mtime="@$stamp" --owner=0 --group=0 --numeric-owner --transform "s,^\.,wat-$version," -C "$made" -cf - . | gzip -n9 > "$room/$name"
+    mv "$room/$name" "$made/"
+    find "$made" -exec touch --no-dereference --date="@$stamp" {} +
+}
+
 main() {
+    : > "$room/left_out"
     prepare
+    third_parties
     crates
     program
     c_library
+    rattle_libraries
+    npm_and_page
+    proof
+    sums
     rm -rf "$out"
     mv "$made" "$out"
+    say "$(sha256sum "$out/wat-$version.tar.gz" | cut -d ' ' -f 1) wat-$version.tar.gz, $(stat -c %s "$out/wat-$version.tar.gz") bytes, in $SECONDS s"
 }
 
 main
