@@ -16,7 +16,7 @@ by_cargo() {
     read -ra command <<< "${WASM_CARGO:-cargo}"
     (cd ../rust && CARGO_TARGET_DIR=$folder CARGO_PROFILE_RELEASE_STRIP=symbols "${command[@]}" build --quiet --locked --release --package wat-page --target "$target")
     cp "$folder/$target/release/wat_page.wasm" out/wat-lex/wat_lex.wasm
-    grep -o 'rustc [0-9][^\\"]*)' "$folder/.rustc_info.json" | sort -u | tail -n 1
+    echo "of rust/wat-page by $(grep -o 'rustc [0-9][^\\"]*)' "$folder/.rustc_info.json" | sort -u | tail -n 1)"
 }
 
 by_rattle() {
@@ -26,7 +26,7 @@ by_rattle() {
     "$kit/bin/rattle-link" --target wasm64-unknown-unknown --toolchain "$kit/toolchain" -o out/wide.wasm ../crates/wat_page/out/libwat_page.a
     wasm-opt --memory64-lowering -O3 -o out/wat-lex/wat_lex.wasm out/wide.wasm
     rm out/wide.wasm
-    echo "Rattle's compiler, $(rt version), and $(wasm-opt --version)"
+    echo "of crates/wat_page by Rattle's compiler, $(rt version), and $(wasm-opt --version)"
 }
 
 # by: which of both makes the module
@@ -48,4 +48,4 @@ made_by=$("by_$maker")
 cp wat-lex/* ../LICENSE out/wat-lex/
 cp index.html style.css ./*.js out/
 python3 single.py out > out/wat.html
-echo "page/build.sh: by $made_by: the module has $(stat -c %s out/wat-lex/wat_lex.wasm) bytes, the page $(stat -c %s out/wat.html)"
+echo "page/build.sh: $made_by: the module has $(stat -c %s out/wat-lex/wat_lex.wasm) bytes, the page $(stat -c %s out/wat.html)"

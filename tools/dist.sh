@@ -187,7 +187,7 @@ npm_and_page() {
     mkdir -p "$made/npm"
     (cd "$package" && npm pack --silent --offline --pack-destination "$made/npm" > /dev/null)
     install -D -m 644 page/out/wat.html "$made/page/wat.html"
-    record "$made"/npm/*.tgz "$made/page/wat.html" -- "page, and rust/wat-page or crates/wat_page ${said##*build.sh: }"
+    record "$made"/npm/*.tgz "$made/page/wat.html" -- "page, with the module ${said##*build.sh: }"
 }
 
 # Texts of licences: of what is in the program, the libraries and the module beside the code of this project.
@@ -208,7 +208,7 @@ third_parties() {
 # What was made of what, and by what.
 proof() {
     local logic
-    logic=$(sed -n 's/.*`rt version` prints `\(.*\)`.*/\1/p' README.md)
+    logic=$(sed -n 's/.*`rt version` prints `\([^`]*\)`.*/\1/p' README.md)
     [ -z "${GATE_LOG:-}" ] || cp "$GATE_LOG" "$made/proof/gate.log"
     {
         printf 'wat %s, commit %s of %s\nproved sources: crates, git tree %s, for the kit whose `rt version` prints `%s`\n' \
