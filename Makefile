@@ -49,8 +49,8 @@ else
 
 folder := $(CARGO_TARGET_DIR)/release
 archive := $(folder)/libwat_parser_c.a
-# What the archive takes of the system, as rustc writes when it makes it.
-private = $(shell cat $(folder)/libwat_parser_c.libs)
+# What the archive takes of the system, as rustc writes when it makes it, but for what a C compiler takes by itself, and has for -static by another name.
+private = $(filter-out -lgcc_s,$(shell cat $(folder)/libwat_parser_c.libs))
 ifeq ($(shell uname -s),Darwin)
 built := libwat_parser_c.dylib
 shared := libwat.dylib

@@ -134,7 +134,7 @@ c_library() {
         return
     fi
     make --silent install DESTDIR="$room" PREFIX=/installed CARGO='cargo --quiet'
-    c_folder "$folder" "$(cat "$room/target/release/libwat_parser_c.libs")"
+    c_folder "$folder" "$(sed -n 's/^Libs.private: //p' "$installed/pkgconfig/wat.pc")"
     one_object "$folder/lib/libwat.a" "$installed/libwat.a"
     install -m 755 "$(realpath "$installed/libwat.so")" "$folder/lib/"
     strip --strip-unneeded "$folder"/lib/libwat.so.*
@@ -159,14 +159,18 @@ by_rattle() {
   $(tail -n 1 "$log")"
 }
 
-# Not run yet: `rt lib` takes proofs that are kept.
-rattle_libraries() {
+# The proofs that are kept here, for `rt lib`, which takes those that fit.
+keep_proofs() {
     local folder
+    for folder in "$top"/crates/*/out; do
+        [ ! -d "$folder" ] || cp -a "$folder" "$source/crates/$(basename "$(dirname "$folder")")/"
+    done
+}
+
+rattle_libraries() {
     [ "${BY:-}" = rattle ] || { leave_out "archives by Rattle's compilers" 'BY=rattle asks for them' && return; }
     has rt || { leave_out "archives by Rattle's compilers" 'no rt is here' && return; }
-    for folder in "$top"/crates/*/out; do
-        cp -a "$folder" "$source/${folder#"$top/"}"
-    done
+    keep_proofs
     by_rattle rattle-x86_64-v2-linux x86_64-unknown-linux-gnu x86-64-v2 '' heap processor
     answers 'C, by Rattle for x86-64-v2' "$made/c/rattle-x86_64-v2-linux/lib/libwat.a"
     if has aarch64-linux-gnu-gcc; then
@@ -176,13 +180,23 @@ rattle_libraries() {
     fi
 }
 
+# makes_module: whether page/build.sh can make the module without a proof from nothing
+makes_module() {
+    [ -n "${WASM_CARGO:-}" ] || [ -d "$(rustc --print target-libdir --target wasm32-unknown-unknown)" ] && return
+    if has rt && has wasm-opt && { [ "${BY:-}" = rattle ] || [ -e "$top/crates/wat_page/out/libwat_page.a" ]; }; then
+        keep_proofs
+        return
+    fi
+    leave_out 'the npm package and the page' 'rustc has no target wasm32-unknown-unknown here, and page/build.sh has not been run with rt and wasm-opt'
+    return 1
+}
+
 # The npm package, and the page over it.
 npm_and_page() {
     local package=page/out/wat-lex said
-    if ! has npm || ! said=$(page/build.sh 2> "$room/errors"); then
-        leave_out 'the npm package and the page' "$(tail -n 1 "$room/errors")"
-        return
-    fi
+    has npm || { leave_out 'the npm package and the page' 'no npm is here' && return; }
+    makes_module || return 0
+    said=$(BY='' page/build.sh 2> "$room/errors") || die "page/build.sh: $(cat "$room/errors")"
     cp "$made/THIRD-PARTY.txt" "$package/"
     mkdir -p "$made/npm"
     (cd "$package" && npm pack --silent --offline --pack-destination "$made/npm" > /dev/null)
