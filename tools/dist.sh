@@ -206,7 +206,7 @@ npm_and_page() {
 
 # Texts of licences: of what is in the program, the libraries and the module beside the code of this project.
 third_parties() {
-    local file kit library
+    local file library
     library=$(rustc --print sysroot)/share/doc/rust/COPYRIGHT-library.html
     cp LICENSE docs/RELEASE.md CHANGELOG.md "$made/"
     {
