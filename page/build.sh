@@ -7,6 +7,7 @@
 #
 # usage: page/build.sh
 set -euo pipefail
+shopt -s inherit_errexit
 cd "$(dirname "$0")"
 target=wasm32-unknown-unknown
 
@@ -24,7 +25,7 @@ by_rattle() {
     kit=$(dirname "$(rt doc)")
     (cd ../crates/wat_page && rt lib --target wasm64-unknown-unknown) >&2
     "$kit/bin/rattle-link" --target wasm64-unknown-unknown --toolchain "$kit/toolchain" -o out/wide.wasm ../crates/wat_page/out/libwat_page.a
-    wasm-opt --memory64-lowering -O3 -o out/wat-lex/wat_lex.wasm out/wide.wasm
+    wasm-opt --enable-memory64 --enable-bulk-memory --memory64-lowering -O3 -o out/wat-lex/wat_lex.wasm out/wide.wasm
     rm out/wide.wasm
     echo "of crates/wat_page by Rattle's compiler, $(rt version), and $(wasm-opt --version)"
 }

@@ -10,6 +10,7 @@
 #
 # usage: tools/dist.sh OUT
 set -euo pipefail
+shopt -s inherit_errexit
 export LC_ALL=C TZ=UTC
 top=$(cd "$(dirname "$0")/.." && pwd)
 out=$(realpath -m "${1:?usage: tools/dist.sh OUT}")
