@@ -160,18 +160,18 @@ by_rattle() {
   $(tail -n 1 "$log")"
 }
 
-# The proofs that are kept here, for `rt lib`, which takes those that fit.
+# keep_proofs CRATE..: the proofs that are kept here, for `rt lib`, which takes those that fit
 keep_proofs() {
-    local folder
-    for folder in "$top"/crates/*/out; do
-        [ ! -d "$folder" ] || cp -a "$folder" "$source/crates/$(basename "$(dirname "$folder")")/"
+    local crate
+    for crate in "$@"; do
+        [ ! -d "$top/crates/$crate/out" ] || cp -a "$top/crates/$crate/out" "$source/crates/$crate/"
     done
 }
 
 rattle_libraries() {
     [ "${BY:-}" = rattle ] || { leave_out "archives by Rattle's compilers" 'BY=rattle asks for them' && return; }
     has rt || { leave_out "archives by Rattle's compilers" 'no rt is here' && return; }
-    keep_proofs
+    keep_proofs wat_lex wat_words wat_lexer_parser wat_rows wat_parser_c
     by_rattle rattle-x86_64-v2-linux x86_64-unknown-linux-gnu x86-64-v2 '' heap processor
     answers 'C, by Rattle for x86-64-v2' "$made/c/rattle-x86_64-v2-linux/lib/libwat.a"
     if has aarch64-linux-gnu-gcc; then
@@ -185,7 +185,7 @@ rattle_libraries() {
 makes_module() {
     [ -n "${WASM_CARGO:-}" ] || [ -d "$(rustc --print target-libdir --target wasm32-unknown-unknown)" ] && return
     if has rt && has wasm-opt && { [ "${BY:-}" = rattle ] || [ -e "$top/crates/wat_page/out/libwat_page.a" ]; }; then
-        keep_proofs
+        keep_proofs wat_lex wat_page
         return
     fi
     leave_out 'the npm package and the page' 'rustc has no target wasm32-unknown-unknown here, and page/build.sh has not been run with rt and wasm-opt'
