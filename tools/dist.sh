@@ -17,6 +17,8 @@ out=$(realpath -m "${1:?usage: tools/dist.sh OUT}")
 room=$(mktemp -d)
 trap 'rm -rf "$room"' EXIT
 source=$room/source made=$room/dist
+crates_folder=${CRATES_FOLDER:+$(realpath "$CRATES_FOLDER")}
+gate_log=${GATE_LOG:+$(realpath "$GATE_LOG")}
 
 say() {
     echo "dist.sh: $*"
@@ -53,13 +55,15 @@ by_folder() {
 
 # A clone of HEAD, and a home for cargo with no other crates than those of Cargo.lock. Where both are is in none of the bytes that rustc writes.
 prepare() {
+    [ -z "$gate_log" ] || [[ $(tail -n 1 "$gate_log") == *' 0 failed'* ]] || die 'GATE_LOG is of no gate that passed'
     git clone --quiet "$top" "$source"
     cd "$source"
     [ -z "$(git -C "$top" status --porcelain)" ] || say 'what is not committed is not in the release'
     mkdir -p "$made/proof" "$room/home"
-    if [ -n "${CRATES_FOLDER:-}" ]; then
+    [ -z "$gate_log" ] || cp "$gate_log" "$made/proof/gate.log"
+    if [ -n "$crates_folder" ]; then
         mkdir "$room/handed"
-        by_folder "$(realpath "$CRATES_FOLDER")" > "$room/handed/config.toml"
+        by_folder "$crates_folder" > "$room/handed/config.toml"
         export CARGO_HOME=$room/handed
     fi
     (cd rust && cargo vendor --locked --quiet --versioned-dirs --respect-source-config "$room/crates" > /dev/null)
@@ -160,9 +164,13 @@ by_rattle() {
   $(tail -n 1 "$log")"
 }
 
-# keep_proofs CRATE..: the proofs that are kept here, for `rt lib`, which takes those that fit
-keep_proofs() {
-    local crate
+# take_proofs CRATE..: the proofs that are kept here, for `rt lib`, which takes those that fit, and the licences of what it builds
+take_proofs() {
+    local crate file
+    for file in "$(dirname "$(rt doc)")"/rattle/{memchr,smallvec,unicode_width}/LICENSE*; do
+        printf "\n==== Rattle's kit: %s\n\n" "${file##*/rattle/}" && cat "$file"
+    done >> "$made/THIRD-PARTY.txt"
+    printf "\n==== Rattle's kit: core, std, heap, compilers\n\nNo licence in writing: RELEASE.md.\n" >> "$made/THIRD-PARTY.txt"
     for crate in "$@"; do
         [ ! -d "$top/crates/$crate/out" ] || cp -a "$top/crates/$crate/out" "$source/crates/$crate/"
     done
@@ -171,7 +179,7 @@ keep_proofs() {
 rattle_libraries() {
     [ "${BY:-}" = rattle ] || { leave_out "archives by Rattle's compilers" 'BY=rattle asks for them' && return; }
     has rt || { leave_out "archives by Rattle's compilers" 'no rt is here' && return; }
-    keep_proofs wat_lex wat_words wat_lexer_parser wat_rows wat_parser_c
+    take_proofs wat_lex wat_words wat_lexer_parser wat_rows wat_parser_c
     by_rattle rattle-x86_64-v2-linux x86_64-unknown-linux-gnu x86-64-v2 '' heap processor
     answers 'C, by Rattle for x86-64-v2' "$made/c/rattle-x86_64-v2-linux/lib/libwat.a"
     if has aarch64-linux-gnu-gcc; then
@@ -185,7 +193,7 @@ rattle_libraries() {
 makes_module() {
     [ -n "${WASM_CARGO:-}" ] || [ -d "$(rustc --print target-libdir --target wasm32-unknown-unknown)" ] && return
     if has rt && has wasm-opt && { [ "${BY:-}" = rattle ] || [ -e "$top/crates/wat_page/out/libwat_page.a" ]; }; then
-        keep_proofs wat_lex wat_page
+        take_proofs wat_lex wat_page
         return
     fi
     leave_out 'the npm package and the page' 'rustc has no target wasm32-unknown-unknown here, and page/build.sh has not been run with rt and wasm-opt'
@@ -224,11 +232,10 @@ third_parties() {
 proof() {
     local logic
     logic=$(sed -n 's/.*`rt version` prints `\([^`]*\)`.*/\1/p' README.md)
-    [ -z "${GATE_LOG:-}" ] || cp "$GATE_LOG" "$made/proof/gate.log"
     {
         printf 'wat %s, commit %s of %s\nproved sources: crates, git tree %s, for the kit whose `rt version` prints `%s`\n' \
             "$version" "$commit" "$(git log -1 --format=%cI)" "$(git rev-parse HEAD:crates)" "$logic"
-        [ -z "${GATE_LOG:-}" ] && echo 'gate: no log was given (GATE_LOG=FILE)' || echo "gate: gate.log, $(tail -n 1 "$GATE_LOG")"
+        [ -z "$gate_log" ] && echo 'gate: no log was given (GATE_LOG=FILE)' || echo "gate: gate.log, $(tail -n 1 "$gate_log")"
         printf 'made Rust of the proved sources: %s\n\n' "$(tools/erase/check.py --committed | tail -n 1)"
         cat "$room/made" "$room/left_out"
     } > "$made/proof/PROOF.txt"
