@@ -16,7 +16,7 @@ by_cargo() {
     local folder=${CARGO_TARGET_DIR:-$PWD/../rust/target}/page command
     read -ra command <<< "${WASM_CARGO:-cargo}"
     (cd ../rust && CARGO_TARGET_DIR=$folder CARGO_PROFILE_RELEASE_STRIP=symbols "${command[@]}" build --quiet --locked --release --package wat-page --target "$target")
-    cp "$folder/$target/release/wat_page.wasm" out/wat-lex/wat_lex.wasm
+    install -m 644 "$folder/$target/release/wat_page.wasm" out/wat-lex/wat_lex.wasm
     echo "of rust/wat-page by $(grep -o 'rustc [0-9][^\\"]*)' "$folder/.rustc_info.json" | sort -u | tail -n 1)"
 }
 

@@ -167,10 +167,12 @@ by_rattle() {
 # take_proofs CRATE..: the proofs that are kept here, for `rt lib`, which takes those that fit, and the licences of what it builds
 take_proofs() {
     local crate file
-    for file in "$(dirname "$(rt doc)")"/rattle/{memchr,smallvec,unicode_width}/LICENSE*; do
-        printf "\n==== Rattle's kit: %s\n\n" "${file##*/rattle/}" && cat "$file"
-    done >> "$made/THIRD-PARTY.txt"
-    printf "\n==== Rattle's kit: core, std, heap, compilers\n\nNo licence in writing: RELEASE.md.\n" >> "$made/THIRD-PARTY.txt"
+    if ! grep -q "^==== Rattle's kit" "$made/THIRD-PARTY.txt"; then
+        for file in "$(dirname "$(rt doc)")"/rattle/{memchr,smallvec,unicode_width}/LICENSE*; do
+            printf "\n==== Rattle's kit: %s\n\n" "${file##*/rattle/}" && cat "$file"
+        done >> "$made/THIRD-PARTY.txt"
+        printf "\n==== Rattle's kit: core, std, heap, compilers\n\nNo licence in writing: RELEASE.md.\n" >> "$made/THIRD-PARTY.txt"
+    fi
     for crate in "$@"; do
         [ ! -d "$top/crates/$crate/out" ] || cp -a "$top/crates/$crate/out" "$source/crates/$crate/"
     done
@@ -246,7 +248,7 @@ sums() {
     local stamp name=wat-$version.tar.gz
     stamp=$(git log -1 --format=%ct)
     (cd "$made" && find . -type f ! -name SHA256SUMS -printf '%P\n' | sort | xargs sha256sum > SHA256SUMS)
-    tar --sort=name --mtime="@$stamp" --owner=0 --group=0 --numeric-owner --transform "s,^\.,wat-$version," -C "$made" -cf - . | gzip -n9 > "$room/$name"
+    tar --sort=name --mtime="@$stamp" --owner=0 --group=0 --numeric-owner --mode=u+w,go=u-w --transform "s,^\.,wat-$version," -C "$made" -cf - . | gzip -n9 > "$room/$name"
     mv "$room/$name" "$made/"
     find "$made" -exec touch --no-dereference --date="@$stamp" {} +
 }
