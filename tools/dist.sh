@@ -138,7 +138,7 @@ c_library() {
         leave_out "the C library by cargo" 'this is no Linux with make and cc'
         return
     fi
-    make --silent install DESTDIR="$room" PREFIX=/installed CARGO='cargo --quiet'
+    env -u MAKEFLAGS make --silent install BY='' DESTDIR="$room" PREFIX=/installed CARGO='cargo --quiet'
     c_folder "$folder" "$(sed -n 's/^Libs.private: //p' "$installed/pkgconfig/wat.pc")"
     one_object "$folder/lib/libwat.a" "$installed/libwat.a"
     install -m 755 "$(realpath "$installed/libwat.so")" "$folder/lib/"
