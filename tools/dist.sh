@@ -126,10 +126,11 @@ c_folder() {
 
 # answers NAME LIBRARY..: the C library's answers are those from outside
 answers() {
-    local name=$1
+    local name=$1 said
     shift
     cc -std=c99 -O2 -Iinclude -o "$room/answers" tools/c/answers.c "$@"
-    say "$name: $("$room/answers" | tail -n 1)"
+    said=$("$room/answers") || die "$name: $said"
+    say "$name: ${said##*$'\n'}"
 }
 
 c_library() {
