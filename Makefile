@@ -11,6 +11,7 @@
 ## make                the C library: an archive and a shared library
 ## make install        both, header and wat.pc (PREFIX, DESTDIR; BY=rattle: by Rattle's own compilers)
 ## make program        the program, rust/target/release/wat_tokens
+## make dist           the folder of a release (OUT; GATE_LOG=FILE; BY=rattle: archives by Rattle's compilers too)
 ## make tests          the tests of the Rust packages
 ## make checks         what takes a minute or two: edits, documents, names, the version, the erased text
 ## make gate           rt ci: proves every crate, tries wrong bodies, runs tests and programs
@@ -20,6 +21,7 @@
 ## make readme         runs the commands of README.md and docs/COMMAND-LINE.md
 
 PREFIX ?= /usr/local
+OUT ?= dist
 CARGO ?= cargo
 CARGO_TARGET_DIR ?= rust/target
 override CARGO_TARGET_DIR := $(abspath $(CARGO_TARGET_DIR))
@@ -29,31 +31,34 @@ major := $(firstword $(subst ., ,$(version)))
 includes := $(DESTDIR)$(PREFIX)/include
 libraries := $(DESTDIR)$(PREFIX)/lib
 
-.PHONY: all install install-shared help program tests checks parts part gate edits readme
+.PHONY: all install install-shared help program dist tests checks parts part gate edits readme
 ifeq ($(BY),rattle)
 
 folder := crates/wat_parser_c/out
-archives := $(folder)/libwat_parser_c.a $(folder)/liblibc_c.a
-libs := -llibc_c
-all: $(archives)
+archive := $(folder)/libwat.a
+all: $(archive)
 
-$(archives) &:
+# Both archives as one, so that a program links one file.
+$(archive):
 	tools/build_c.sh
+	cd $(folder) && rm -f libwat.a && printf 'create libwat.a\naddlib libwat_parser_c.a\naddlib liblibc_c.a\nsave\nend\n' | ar -M
 
 install-shared:
 
 else
 
 folder := $(CARGO_TARGET_DIR)/release
-archives := $(folder)/libwat_parser_c.a
-# What the archive takes of the system, as rustc writes when it makes it.
-private = $(shell cat $(folder)/libwat_parser_c.libs)
+archive := $(folder)/libwat_parser_c.a
+# What the archive takes of the system, as rustc writes when it makes it, but for what a C compiler takes by itself, and has for -static by another name.
+private = $(filter-out -lgcc_s,$(shell cat $(folder)/libwat_parser_c.libs))
 ifeq ($(shell uname -s),Darwin)
-shared := libwat_parser_c.dylib
-named := libwat_parser_c.$(major).dylib
+built := libwat_parser_c.dylib
+shared := libwat.dylib
+named := libwat.$(major).dylib
 name_flag = -Wl,-install_name,$(PREFIX)/lib/$(named)
 else
-shared := libwat_parser_c.so
+built := libwat_parser_c.so
+shared := libwat.so
 named := $(shared).$(major)
 name_flag = -Wl,-soname,$(named)
 endif
@@ -64,7 +69,7 @@ all:
 
 install-shared: all
 	install -d $(libraries)
-	install -m 755 $(folder)/$(shared) $(libraries)/$(named)
+	install -m 755 $(folder)/$(built) $(libraries)/$(named)
 	ln -sf $(named) $(libraries)/$(shared)
 
 endif
@@ -72,8 +77,8 @@ endif
 install: all install-shared
 	install -d $(includes) $(libraries)/pkgconfig
 	install -m 644 include/wat.h $(includes)/
-	install -m 644 $(archives) $(libraries)/
-	sed 's|@PREFIX@|$(PREFIX)|; s|@VERSION@|$(version)|; s|@LIBS@|$(libs)|; s|@PRIVATE@|$(private)|' include/wat.pc.in \
+	install -m 644 $(archive) $(libraries)/libwat.a
+	sed 's|@PREFIX@|$(PREFIX)|; s|@VERSION@|$(version)|; s|@PRIVATE@|$(private)|' include/wat.pc.in \
 	    > $(libraries)/pkgconfig/wat.pc
 
 help:
@@ -81,6 +86,9 @@ help:
 
 program:
 	cd rust && $(CARGO) build --locked --release --package wat-tokens
+
+dist:
+	tools/dist.sh $(OUT)
 
 tests:
 	cd rust && $(CARGO) test --locked --workspace

@@ -2,21 +2,21 @@
 // text: every token and every fault with its message; which tokens count, under several names; and the bytes of modules of types. And what is
 // read part by part, in order or ahead, of a whole text and after each of many edits, with what is read of the whole in one call. And the layouts
 // with tools/layout.py, on all joins of up to three hostile pieces, on longer ones at random, and on these texts.
-// usage: node --experimental-wasm-memory64 agree.mjs PROGRAM, once build.sh has made the module
+// usage: node agree.mjs PROGRAM, once build.sh has made the module
 import { spawnSync } from 'node:child_process';
 import { existsSync, readFileSync, readdirSync } from 'node:fs';
 import { fileURLToPath } from 'node:url';
 import { whatCounts } from './counts.js';
 import { Chance, compare, editOften, readAhead, readOnce } from './edited.mjs';
-import { KINDS, Lexer } from './lexer.js';
-import { Reader } from './reader.js';
-import { Tokens } from './tokens.js';
+import { KINDS, Lexer } from './wat-lex/lexer.js';
+import { Reader } from './wat-lex/reader.js';
+import { Tokens } from './wat-lex/tokens.js';
 import { compileTypes } from './types.js';
 
 const program = process.argv[2];
-if (!program) throw new Error('usage: node --experimental-wasm-memory64 agree.mjs PROGRAM');
+if (!program) throw new Error('usage: node agree.mjs PROGRAM');
 const here = (name) => fileURLToPath(new URL(name, import.meta.url));
-const module = new WebAssembly.Module(readFileSync(here('out/wat_page.wasm')));
+const module = new WebAssembly.Module(readFileSync(here('out/wat-lex/wat_lex.wasm')));
 const lexer = new Lexer(new WebAssembly.Instance(module));
 const reader = new Reader(new Lexer(new WebAssembly.Instance(module)));
 const FLAGS = { '--allow-confusing': 'allow', '--strict-underscores': 'strict' };

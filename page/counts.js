@@ -1,7 +1,7 @@
 // Which tokens count: no white space, no comments, and no groups `(@name ..)` whose names are not registered.
-import { decoder } from './lexer.js';
+import { decoder } from './wat-lex/lexer.js';
 import { nameOf } from './names.js';
-import { ANNOTATION, AT_SIGN, OPENING } from './tokens.js';
+import { ANNOTATION, AT_SIGN, OPENING } from './wat-lex/tokens.js';
 
 const SHOWN = {};
 

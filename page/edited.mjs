@@ -1,8 +1,8 @@
 // Texts that are edited at random, over and over: what is read after each edit has to be what the module says of the whole text in one call.
 import assert from 'node:assert/strict';
 import { changeOf, Places } from './edits.js';
-import { rowsOfPart } from './lexer.js';
-import { Lines } from './lines.js';
+import { rowsOfPart } from './wat-lex/lexer.js';
+import { Lines } from './wat-lex/lines.js';
 
 const PIECES = ['"', '""', '\\', '\\"', '\\q', '\\u{e9}', '(;', ';)', ';;', ';', '(', ')', '(@', '@', '@"', '$', '$"', ',', '[', '0x', '1_000', '1__0', '_', 'nan:0x', '+', 'a', 'i32', ' ', '  ', '\n', '\n\n', '\t', '\r\n', '\r', '\u00e9', '\u202e', '\u6f22', '\u{1f600}', '\u{1fa00}', '\u{1f600}\u{1fa00}', '\0', '\x7f'];
 const LONG = ['x'.repeat(3000), ' '.repeat(2000), '(; (; \u{1f600} ;) ', `"${'\u6f22'.repeat(400)}"`, '(a $b "c" ;; d\n'.repeat(100), ';; e\n'.repeat(40)];
@@ -67,7 +67,7 @@ export function readAhead(reader, lexer, bytes, flags, chance, least = 0) {
 }
 
 // Edits, most of which are where the one before ended.
-class Edits {
+export class Edits {
   constructor(chance) {
     this.chance = chance;
     this.at = 0;

@@ -1,5 +1,5 @@
 // What was typed: which part of a text is another now, and where the text area's places lie in the text's bytes.
-import { CARRIAGE_RETURN } from './lines.js';
+import { CARRIAGE_RETURN } from './wat-lex/lines.js';
 
 // How many units two texts have in common from these places on, at most so many. Slices are compared since the engine does so by words.
 function common(one, other, oneFrom, otherFrom, most) {

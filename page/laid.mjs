@@ -1,13 +1,13 @@
-#!/usr/bin/env -S node --experimental-wasm-memory64
+#!/usr/bin/env node
 // Answers the layout of each line of standard input as a line, or `fault`, as rust/wat-tokens/examples/layouts.rs does: so tools/compare_layouts.py
 // compares the page's layouts too. In a line `\n`, `\r`, `\t` and `\\` stand for line feed, carriage return, tab and backslash.
 // usage: laid.mjs < TEXTS, once build.sh has made the module
 import { readFileSync } from 'node:fs';
-import { layoutOf } from './layout.js';
-import { Lexer, decoder } from './lexer.js';
-import { Tokens } from './tokens.js';
+import { layoutOf } from './wat-lex/layout.js';
+import { Lexer, decoder } from './wat-lex/lexer.js';
+import { Tokens } from './wat-lex/tokens.js';
 
-const module = new WebAssembly.Module(readFileSync(new URL('out/wat_page.wasm', import.meta.url)));
+const module = new WebAssembly.Module(readFileSync(new URL('out/wat-lex/wat_lex.wasm', import.meta.url)));
 const lexer = new Lexer(new WebAssembly.Instance(module));
 const encoder = new TextEncoder();
 const CHARACTERS = { n: '\n', r: '\r', t: '\t', '\\': '\\' };

@@ -4,13 +4,13 @@ import { Columns } from './columns.js';
 import { whatCounts } from './counts.js';
 import { changeOf, Places } from './edits.js';
 import { EXAMPLES } from './examples.js';
-import { layoutOf } from './layout.js';
-import { decoder, isSupported, load } from './lexer.js';
-import { Lines, Sight } from './lines.js';
 import { fragmentOf, givenBy } from './link.js';
-import { Reader } from './reader.js';
-import { Tokens } from './tokens.js';
+import { Sight } from './sight.js';
 import { compileTypes, dumped } from './types.js';
+import { layoutOf } from './wat-lex/layout.js';
+import { Lexer, decoder } from './wat-lex/lexer.js';
+import { Reader } from './wat-lex/reader.js';
+import { Tokens } from './wat-lex/tokens.js';
 
 // In bytes: a longer text is shown, and not edited; of a line, and of a token in the list, no more than these are drawn.
 const EDITABLE = 1 << 20;
@@ -614,13 +614,18 @@ function listen() {
   $('list').addEventListener('click', onListClick);
 }
 
+// Reads half a megabyte, which takes some milliseconds, so that an engine compiles the module for speed before the first long text
+// comes.
+function warmUp(lexer) {
+  const given = encoder.encode('  (func $add (param $a i32) (result i32) local.get 0 i32.const -0x1 i32.add) ;; "b"\n'.repeat(3000));
+  lexer.bytes(given.length).set(given);
+  for (let i = 0; i < 2; i += 1) lexer.tell(0, given.length, 0, given.length, {});
+}
+
 async function start() {
-  if (!isSupported()) {
-    say('This browser has no 64-bit WebAssembly memory, which the lexer needs.', true);
-    for (const it of document.querySelectorAll('main input, main select, main button, main textarea')) it.disabled = true;
-    return;
-  }
-  const { module, lexer } = await load();
+  const module = await WebAssembly.compile(await fetch('wat-lex/wat_lex.wasm').then((answer) => answer.arrayBuffer()));
+  const lexer = new Lexer(new WebAssembly.Instance(module));
+  warmUp(lexer);
   reader = new Reader(lexer);
   ahead = new Ahead(module);
   columns = new Columns(getComputedStyle($('text')));

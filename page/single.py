@@ -12,8 +12,9 @@ import sys
 
 folder = pathlib.Path(sys.argv[1])
 # Each after those that it imports.
-SCRIPTS = ["lexer.js", "lines.js", "columns.js", "reader.js", "ahead.js", "edits.js", "tokens.js", "names.js", "counts.js", "types.js", "layout.js", "examples.js", "link.js", "page.js"]
-WORKER = ["lexer.js", "worker.js"]
+PACKAGE = [f"wat-lex/{name}.js" for name in ("lexer", "lines", "reader", "tokens", "layout")]
+SCRIPTS = [*PACKAGE, *(f"{name}.js" for name in ("sight", "columns", "ahead", "edits", "names", "counts", "types", "examples", "link", "page"))]
+WORKER = ["wat-lex/lexer.js", "worker.js"]
 
 
 def read(name):
@@ -33,11 +34,11 @@ def joined(names):
     return re.sub(r"^export ", "", script, flags=re.M)
 
 
-module = base64.b64encode((folder / "wat_page.wasm").read_bytes()).decode()
+module = base64.b64encode((folder / "wat-lex/wat_lex.wasm").read_bytes()).decode()
 script = joined(SCRIPTS)
 script = replaced(
     script,
-    "fetch('wat_page.wasm').then((answer) => answer.arrayBuffer())",
+    "await fetch('wat-lex/wat_lex.wasm').then((answer) => answer.arrayBuffer())",
     f"Uint8Array.from(atob('{module}'), (it) => it.charCodeAt(0))",
 )
 script = replaced(

@@ -1,6 +1,6 @@
 // The bytes of a module that holds nothing but function types.
 import { whatCounts } from './counts.js';
-import { decoder } from './lexer.js';
+import { decoder } from './wat-lex/lexer.js';
 import { nameOf } from './names.js';
 
 const HEADER = [0x00, 0x61, 0x73, 0x6d, 0x01, 0x00, 0x00, 0x00];

@@ -1,5 +1,5 @@
 // Reads parts of a text for the page.
-import { Lexer, rowsOfPart } from './lexer.js';
+import { Lexer, rowsOfPart } from './wat-lex/lexer.js';
 
 let lexer;
 

@@ -183,9 +183,9 @@ by_cargo() {
     words=$(printf "'%s' " "${options[@]}")
     make -s install PREFIX="$installed" CARGO="cargo --quiet $words" CARGO_TARGET_DIR="$room/target" 2> "$room/errors" || fail "$(cat "$room/errors")"
     read -ra private <<< "$(cat "$room/target/release/libwat_parser_c.libs")"
-    suite 'cargo, static' "$installed/lib/libwat_parser_c.a" "${private[@]}"
-    suite 'cargo, shared' -L"$installed/lib" -lwat_parser_c -Wl,-rpath,"$installed/lib"
-    nm -D --defined-only "$installed/lib/libwat_parser_c.so" | sed 's/.* //' | sort > "$room/exported"
+    suite 'cargo, static' "$installed/lib/libwat.a" "${private[@]}"
+    suite 'cargo, shared' -L"$installed/lib" -lwat -Wl,-rpath,"$installed/lib"
+    nm -D --defined-only "$installed/lib/libwat.so" | sed 's/.* //' | sort > "$room/exported"
     sed -n '/static/d; s/^[a-z].*\(wat_[a-z0-9_]*\)(.*/\1/p' include/wat.h | sort | cmp - "$room/exported"
     say "the shared library has the $(wc -l < "$room/exported") functions of the header, and no other name"
     if has pkg-config; then

@@ -13,7 +13,9 @@ PROGRAM = r'"wat_tokens ([^ ]*), of '
 # The other places, and how the version is found there.
 TEXTS = [
     ("rust/Cargo.lock", r'^name = "wat-.*"\nversion = "(.*)"$'),
-    ("rust/wat-parser/Cargo.toml", r'^wat-lex = \{ version = "([^"]*)"'),
+    ("rust/wat-parser/Cargo.toml", r'^wat-lex = \{ version = "=([^"]*)"'),
+    ("rust/wat-tokens/Cargo.toml", r'^wat-(?:lex|parser) = \{ version = "=([^"]*)"'),
+    ("page/wat-lex/package.json", r'^  "version": "(.*)",$'),
     ("include/wat.h", r'^#define WAT_VERSION_TEXT "(.*)"$'),
     ("crates/wat_commands/src/help.rt", PROGRAM),
     ("crates/wat_commands/specs/Help.antt", PROGRAM),

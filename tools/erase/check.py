@@ -45,6 +45,7 @@ WRITTEN = [
     ("fn main(rt:", "pub fn main(rt:"),
     ("let text = unsafe { str::from_utf8_unchecked(text) };", "// SAFETY: rule 2 of wat.h.\nlet text = unsafe { str::from_utf8_unchecked(text) };"),
     # What is taken away.
+    ("#[cfg(test)] mod tests;", ""),
     ("use std::marker::Model;", ""),
     ("+ Drop", ""),
     (": Drop,", ","),
@@ -57,6 +58,7 @@ PLACES = {
     "wat_lexer_parser": ("wat_parser::proved", "crate::proved"),
     "wat_rows": ("", "crate::rows"),
     "wat_parser_c": ("", "crate::proved"),
+    "wat_page": ("", "crate::page"),
     "wat_format": ("wat_tokens::format", "crate::format"),
     "wat_lines": ("wat_tokens::lines", "crate::lines"),
     "wat_lists": ("wat_tokens::lists", "crate::lists"),

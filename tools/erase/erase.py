@@ -19,6 +19,7 @@ MODULES = {
     "wat_lexer_parser": "wat-parser/src/proved",
     "wat_rows": "wat-c/src/rows",
     "wat_parser_c": "wat-c/src/proved",
+    "wat_page": "wat-page/src/page",
     "wat_format": "wat-tokens/src/format",
     "wat_lines": "wat-tokens/src/lines",
     "wat_lists": "wat-tokens/src/lists",
@@ -32,6 +33,8 @@ WITH_SHIM = [("wat-lex", "src"), ("wat-tokens", "src")]
 # What is written otherwise: the closed list. The first entry that fits counts. SHIM is the path of the shim, STD that of what it leaves to Rust,
 # SELF that of the source's crate.
 WRITTEN = {
+    # The package has tests of its own.
+    "#[cfg(test)] mod tests;": "",
     # Rust has no models, and drops each value.
     "use std::marker::Model;": "",
     "+ Drop": "",
@@ -365,10 +368,10 @@ class Eraser:
 
 
 def sources():
-    """Each source, its crate and the file that it becomes."""
+    """Each source, its crate and the file that it becomes. Tests become none."""
     for crate, module in MODULES.items():
         folder = PROJECT / "crates" / crate / "src"
-        for source in sorted(folder.rglob("*.rt")):
+        for source in sorted(path for path in folder.rglob("*.rt") if path.name != "tests.rt"):
             inside = source.relative_to(folder).with_suffix(".rs")
             yield source, crate, RUST / (f"{module}.rs" if str(inside) in ("lib.rs", "main.rs") else f"{module}/{inside}")
 

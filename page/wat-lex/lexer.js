@@ -5,6 +5,7 @@ export const KINDS = [null, 'LineComment', 'BlockComment', 'Whitespace', 'LParen
 const ENDINGS = ['whole', 'faulty', 'full', 'not UTF-8', 'too long'];
 
 const PAGE = 65536;
+// In bytes: room for the report of either compiler.
 const REPORT = 48;
 const ROW = 8;
 // In bytes: the least room for a text, so that one that is typed seldom needs more.
@@ -12,31 +13,25 @@ const LEAST = 1 << 21;
 const MESSAGE = 4096;
 export const decoder = new TextDecoder('utf-8', { ignoreBOM: true });
 
-// Whether there are 64-bit memories: of a module that has one and nothing else.
-export const isSupported = () => WebAssembly.validate(new Uint8Array([0, 97, 115, 109, 1, 0, 0, 0, 5, 3, 1, 4, 1]));
-
 const aligned = (at) => Math.ceil(at / 16) * 16;
 
 function grow(memory, end) {
   const more = Math.ceil((end - memory.buffer.byteLength) / PAGE);
-  if (more <= 0) return;
-  try {
-    memory.grow(BigInt(more));
-  } catch (error) {
-    // Older engines take a number here.
-    if (!(error instanceof TypeError)) throw error;
-    memory.grow(more);
-  }
+  if (more > 0) memory.grow(more);
 }
 
 export class Lexer {
   #exports;
+  #word;
   #report;
   #text;
 
   constructor(instance) {
     this.#exports = instance.exports;
-    this.#report = aligned(Number(this.#exports.__heap_base.value));
+    const begin = this.#exports.__heap_base.value;
+    // In bytes: a `usize` of the module. By rustc it has 4; by Rattle's compiler 8, also over a memory of 32 bits.
+    this.#word = typeof begin === 'bigint' ? 8 : 4;
+    this.#report = aligned(Number(begin));
     this.#text = this.#report + REPORT;
     this.capacity = 0;
     this.reserve(LEAST);
@@ -81,10 +76,11 @@ export class Lexer {
 
   #call(from, to, rows, most, room, { allow = false, strict = false }) {
     const { memory, wat_page_read } = this.#exports;
-    wat_page_read(BigInt(this.#text + from), BigInt(to - from), allow ? 1 : 0, strict ? 1 : 0, BigInt(rows), BigInt(most), BigInt(this.#message), BigInt(room), BigInt(this.#report));
+    const word = this.#word, size = word === 8 ? BigInt : Number;
+    wat_page_read(size(this.#text + from), size(to - from), allow ? 1 : 0, strict ? 1 : 0, size(rows), size(most), size(this.#message), size(room), size(this.#report));
     const found = new DataView(memory.buffer, this.#report, REPORT);
-    const number = (at) => Number(found.getBigUint64(at, true));
-    return { ending: ENDINGS[found.getUint32(0, true)], count: number(8), offset: number(16), line: number(24), column: number(32), written: number(40) };
+    const number = (place) => (word === 8 ? Number(found.getBigUint64(8 * place, true)) : found.getUint32(4 * place, true));
+    return { ending: ENDINGS[found.getUint32(0, true)], count: number(1), offset: number(2), line: number(3), column: number(4), written: number(5) };
   }
 }
 
@@ -97,19 +93,4 @@ export function rowsOfPart(lexer, part, from, flags) {
   const rows = lexer.rows().slice(0, 2 * (ending === 'whole' ? Math.max(0, count - 1) : count));
   for (let i = 0; i < rows.length; i += 2) rows[i] += from;
   return rows;
-}
-
-// Reads half a megabyte, which takes some milliseconds, so that an engine compiles the module for speed before the first long text
-// comes.
-function warmUp(lexer) {
-  const bytes = new TextEncoder().encode('  (func $add (param $a i32) (result i32) local.get 0 i32.const -0x1 i32.add) ;; "b"\n'.repeat(3000));
-  lexer.bytes(bytes.length).set(bytes);
-  for (let i = 0; i < 2; i += 1) lexer.tell(0, bytes.length, 0, bytes.length, {});
-}
-
-export async function load() {
-  const { module, instance } = await WebAssembly.instantiate(await fetch('wat_page.wasm').then((answer) => answer.arrayBuffer()));
-  const lexer = new Lexer(instance);
-  warmUp(lexer);
-  return { module, lexer };
 }

@@ -1,0 +1,91 @@
+// Compares what the npm package answers, in places of UTF-16, with the program on all stored texts; and, after each of many edits at random, with what
+// it answers of the whole text.
+// usage: node packaged.mjs PROGRAM, once build.sh has made the package
+import assert from 'node:assert/strict';
+import { spawnSync } from 'node:child_process';
+import { existsSync, readFileSync, readdirSync } from 'node:fs';
+import { fileURLToPath } from 'node:url';
+import { changeOf } from './edits.js';
+import { Chance, Edits } from './edited.mjs';
+import { load, loadSync } from './out/wat-lex/node.js';
+
+const program = process.argv[2];
+if (!program) throw new Error('usage: node packaged.mjs PROGRAM');
+const folder = fileURLToPath(new URL('../crates/wat_tokens/agreement/', import.meta.url));
+const EDITS = 40;
+const wat = loadSync();
+assert.deepEqual((await load()).lex('(a)'), wat.lex('(a)'));
+const document = wat.open();
+const seen = { texts: 0, tokens: 0, faults: 0, layouts: 0, edits: 0 };
+
+// What the program prints of a text.
+function ran(words, input) {
+  const { stdout, stderr, status } = spawnSync(program, words, { input, maxBuffer: 2 ** 30 });
+  return { said: stdout.toString(), fault: stderr.toString(), status };
+}
+
+// The list and the fault of a text, as the program prints them: by bytes.
+function printed(text, { tokens, fault }) {
+  let at = 0;
+  const rows = tokens.map(({ kind, start, end }) => {
+    const from = at;
+    at += Buffer.byteLength(text.slice(start, end));
+    return `${from}..${at} ${kind}\n`;
+  });
+  return { said: rows.join(''), fault: fault ? `${fault.printed}\n` : '' };
+}
+
+function compareWithProgram(text, flags, words) {
+  const found = wat.lex(text, flags);
+  const { said, fault } = ran(words, text);
+  assert.deepEqual(printed(text, found), { said, fault });
+  if (found.fault) {
+    const { start, line, column, message } = found.fault;
+    const before = text.slice(0, start).split('\n');
+    assert.deepEqual([line, column], [before.length - 1, before.at(-1).length]);
+    assert.ok(fault.startsWith(message.split('\n')[0]));
+  }
+  const laid = ran(['fmt'], text);
+  if (words.length === 0) assert.equal(wat.format(text), laid.status === 0 ? laid.said : null);
+  seen.texts += 1;
+  seen.tokens += found.tokens.length;
+  seen.faults += found.fault ? 1 : 0;
+  seen.layouts += words.length === 0 ? 1 : 0;
+}
+
+function compareEdited(given, flags, chance) {
+  const edits = new Edits(chance);
+  let text = given.toWellFormed();
+  document.replace(text, flags);
+  for (let i = 0; i < EDITS; i += 1) {
+    const next = edits.next(text).toWellFormed();
+    const change = changeOf(text, next);
+    document.change(change.from, change.to, change.text);
+    text = next;
+    const whole = wat.lex(text, flags);
+    assert.equal(document.text, text);
+    assert.deepEqual({ tokens: document.tokens, fault: document.fault }, whole);
+    if (document.count > 0) {
+      const token = chance.below(document.count);
+      assert.deepEqual([document.token(token), document.at(document.start(token))], [whole.tokens[token], token]);
+    }
+  }
+  seen.edits += EDITS;
+}
+
+const FLAGS = { '--allow-confusing': 'allowConfusingUnicode', '--strict-underscores': 'strictUnderscores' };
+const chance = new Chance(3);
+for (const name of readdirSync(folder).filter((it) => existsSync(`${folder}${it}.stdout`))) {
+  const words = existsSync(`${folder}${name}.args`) ? readFileSync(`${folder}${name}.args`, 'utf8').split('\n').filter(Boolean) : [];
+  const bytes = readFileSync(folder + name), text = bytes.toString();
+  const flags = Object.fromEntries(words.filter((word) => word in FLAGS).map((word) => [FLAGS[word], true]));
+  if (!Buffer.from(text).equals(bytes) || words.some((word) => !(word in FLAGS))) continue;
+  compareWithProgram(text, flags, words);
+  compareEdited(text, flags, chance);
+}
+document.replace('a\u{1f600}b');
+assert.throws(() => document.change(2, 2, 'x'), RangeError);
+assert.throws(() => document.change(5, 5, 'x'), RangeError);
+assert.throws(() => document.token(9), RangeError);
+console.log(`packaged.mjs: ${Object.entries(seen).map(([what, count]) => `${what} ${count}`).join(', ')}; none differ`);
+process.exit(seen.texts > 0 && seen.edits > 0 ? 0 : 1);

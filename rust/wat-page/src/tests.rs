@@ -1,0 +1,108 @@
+//! Reports of texts, whose rows and messages are from outside.
+
+use crate::page::{Report, Row, wat_page_read};
+
+const EMPTY: Row = Row { end: 0, kind: 99 };
+const UNWRITTEN: Report = Report {
+    ending: 9,
+    rows: 9,
+    offset: 9,
+    line: 9,
+    column: 9,
+    message: 9,
+};
+
+/// Reads a text into rows and a message.
+#[allow(unsafe_code)]
+fn read_with(
+    text: &[u8],
+    (allow, strict): (bool, bool),
+    rows: &mut [Row],
+    message: &mut [u8],
+) -> Report {
+    let mut report = UNWRITTEN;
+    // SAFETY: each pointer is that of a slice, with its length.
+    unsafe {
+        wat_page_read(
+            text.as_ptr(),
+            text.len(),
+            allow,
+            strict,
+            rows.as_mut_ptr(),
+            rows.len(),
+            message.as_mut_ptr(),
+            message.len(),
+            &mut report,
+        );
+    }
+    report
+}
+
+fn read(text: &[u8], rows: &mut [Row], message: &mut [u8]) -> Report {
+    read_with(text, (false, false), rows, message)
+}
+
+#[test]
+fn a_text_to_its_end() {
+    let mut rows = [EMPTY; 8];
+    let mut message = [7; 4];
+    let report = read(b"(f 1)", &mut rows, &mut message);
+    let whole = Report {
+        ending: 0,
+        rows: 5,
+        offset: 0,
+        line: 0,
+        column: 0,
+        message: 0,
+    };
+    assert_eq!(report, whole);
+    assert_eq!(message, [7; 4]);
+    let ends: Vec<_> = rows.iter().map(|row| (row.end, row.kind)).collect();
+    assert_eq!(
+        ends[..6],
+        [(1, 4), (2, 8), (3, 3), (4, 11), (5, 5), (0, 99)]
+    );
+}
+
+#[test]
+fn too_few_rows() {
+    let mut rows = [EMPTY; 4];
+    let report = read(b"(f 1)", &mut rows, &mut []);
+    assert_eq!((report.ending, report.rows), (2, 4));
+    let report = read(b"(f 1", &mut rows, &mut []);
+    assert_eq!((report.ending, report.rows), (0, 4));
+    let report = read(b"", &mut [], &mut []);
+    assert_eq!((report.ending, report.rows), (0, 0));
+}
+
+#[test]
+fn a_fault() {
+    let mut message = [7; 128];
+    let report = read("1\n é".as_bytes(), &mut [EMPTY; 8], &mut message);
+    assert_eq!((report.ending, report.rows), (1, 2));
+    assert_eq!((report.offset, report.line, report.column), (3, 1, 1));
+    let known =
+        "unexpected character '\\u{e9}'\n     --> <anon>:2:2\n      |\n    2 |  é\n      |  ^";
+    assert_eq!(message[..report.message], *known.as_bytes());
+    let mut few = [7; 28];
+    let report = read("é".as_bytes(), &mut [], &mut few);
+    assert_eq!((report.ending, report.message), (1, 28));
+    assert!(known.as_bytes().starts_with(&few));
+}
+
+#[test]
+fn no_text() {
+    let report = read(b"(a\xff", &mut [EMPTY; 8], &mut []);
+    assert_eq!((report.ending, report.rows, report.offset), (3, 0, 2));
+}
+
+#[test]
+fn the_flags() {
+    let confusing = ";;\u{202e}".as_bytes();
+    let doubled = b"\"\\u{1__0}\"";
+    let ending = |text: &[u8], flags| read_with(text, flags, &mut [EMPTY; 8], &mut []).ending;
+    assert_eq!(ending(confusing, (false, false)), 1);
+    assert_eq!(ending(confusing, (true, false)), 0);
+    assert_eq!(ending(doubled, (false, true)), 1);
+    assert_eq!(ending(doubled, (false, false)), 0);
+}

@@ -1,0 +1,14 @@
+/* Ends a program before `main`, with a line that says why, where the processor lacks what an archive for x86-64-v2 takes: an instruction that it does not
+ * know would end it later, without one. */
+#include <cpuid.h>
+#include <stdio.h>
+#include <stdlib.h>
+
+__attribute__((constructor)) static void check_processor(void) {
+    const unsigned wanted = bit_SSE3 | bit_SSSE3 | bit_CMPXCHG16B | bit_SSE4_1 | bit_SSE4_2 | bit_POPCNT;
+    unsigned a, b, c = 0, d;
+    if (!__get_cpuid(1, &a, &b, &c, &d) || (c & wanted) != wanted) {
+        fputs("libwat: this library is compiled for x86-64-v2, and the processor lacks SSE4.2 or another part of it\n", stderr);
+        abort();
+    }
+}
