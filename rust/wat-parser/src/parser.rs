@@ -200,7 +200,7 @@ const NO_ROWS: [Cell<Row>; ROWS] = {
 struct Position(u64);
 
 /// The bit of a position whose token stays shown.
-const KEPT: usize = 1 << 31;
+const KEPT: usize = 0x8000_0000;
 
 impl Position {
     #[inline(always)]
