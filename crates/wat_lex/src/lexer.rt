@@ -247,7 +247,7 @@ impl<'a> Lexer<'a> {
         requires { IsCharBoundary self.now.text pos }
         ensures { FoundIn self.now.flags (drop pos self.now.text) result }
     {
-        first_found(&self.input[pos..], &self.settings, stride)
+        first_found(self.input, pos, &self.settings, stride)
     }
 
     /// The token that was found at a byte of the text.

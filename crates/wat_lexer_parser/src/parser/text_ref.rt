@@ -36,6 +36,13 @@ pub struct Row {
     pub from: u32,
 }
 
+/// What is beside the answer that no token is shown so.
+const NO_TOKEN: Token = Token {
+    offset: 0,
+    len: 0,
+    kind: TokenKind::Whitespace,
+};
+
 /// A text, lent to a parser that lexes it as it goes.
 #[derive(Drop)]
 pub struct TextRef<'a> {
@@ -262,25 +269,27 @@ impl<'a> TextRef<'a> {
     }
 
     /// Whether a token is shown whatever names are registered, and whatever comes after it.
-    // The byte after it is looked at before its kind, since that is seldom an `@`.
     #[inline(always)]
     fn is_plain(&self, token: Token) -> bool
         requires { token.offset < 2 ^ 32 }
         ensures { IsTrue result → (names : NamesOf) → (next : Option Lexed) →
             step_of self.now.setting.text names token next ≡ Take }
     {
-        if token.kind.is_blank() {
-            return false;
+        match token.kind {
+            TokenKind::Whitespace | TokenKind::LineComment | TokenKind::BlockComment => false,
+            TokenKind::LParen => !token.is_marked(self.text()),
+            _ => true,
         }
-        !(token.is_marked(self.text()) && matches!(token.kind, TokenKind::LParen))
     }
 
     /// The token that is shown at a place, with the place after it, where it is the same whatever
-    /// names are registered.
+    /// names are registered, and whether it is.
+    // They are apart, as which case an option of a token is would be asked of its kind once more.
     #[inline(always)]
-    pub fn plain_at(&self, place: usize, byte: usize) -> Option<(Token, usize)>
+    pub fn plain_at(&self, place: usize, byte: usize) -> (Token, usize, bool)
         requires { IsPlace self.now place byte }
-        ensures { IfSome result (λ v. (names : NamesOf) → IsNext self.now place names v) }
+        ensures { IsTrue result.2 → (names : NamesOf) →
+            IsNext self.now place names (result.0, result.1) }
     {
         let mut i = place;
         let mut pos = byte;
@@ -288,13 +297,10 @@ impl<'a> TextRef<'a> {
         'tokens: loop {
             let (at, from) = self.past_whitespace(i, pos);
             let Some(token) = self.some_token_at(at, from) else {
-                return None;
+                return (NO_TOKEN, 0, false);
             };
-            if self.is_plain(token) {
-                return Some((token, at + 1));
-            }
             if !token.kind.is_blank() {
-                return None;
+                return (token, at + 1, self.is_plain(token));
             }
             i = at + 1;
             pos = token.offset + token.len as usize;
@@ -319,9 +325,10 @@ impl<'a> TextRef<'a> {
         self.lemma_read();
         let mut filled = 0usize;
         while filled < rows.len() {
-            let Some((token, after)) = self.plain_at(i, pos) else {
+            let (token, after, is_plain) = self.plain_at(i, pos);
+            if !is_plain {
                 return filled;
-            };
+            }
             rows[filled] = Row {
                 offset: token.offset as u32,
                 len: token.len,

@@ -271,7 +271,7 @@ impl<'a> Lexer<'a> {
     /// ```
     #[inline(always)]
     fn found(&self, pos: usize, stride: Stride) -> Found {
-        first_found(&self.input[pos..], &self.settings, stride)
+        first_found(self.input, pos, &self.settings, stride)
     }
 
     /// The token that was found at a byte of the text.

@@ -204,74 +204,78 @@ fn found_by_outline(text: &str, outline: Outline) -> Found {
     lexeme(kind, outline.len)
 }
 
-/// What is at the start of a text that begins with an idchar or a string.
+/// What is at a byte of a text where an idchar or a string begins.
 // The settings are passed by reference, so that they are read only where they are needed.
 /// # Proved
 ///
 /// ```text
-/// requires some { 0 < length text.now }
-/// requires run { is_run_char (slice_index text.now 0) ≡ true }
-/// requires start { Begun (slice_index text.now 0) start }
-/// ensures { FoundIn flags.now text.now result }
+/// requires boundary { IsCharBoundary text.now pos }
+/// requires some { 0 < length (drop pos text.now) }
+/// requires run { is_run_char (slice_index (drop pos text.now) 0) ≡ true }
+/// requires start { Begun (slice_index (drop pos text.now) 0) start }
+/// ensures { FoundIn flags.now (drop pos text.now) result }
 /// ```
 #[inline(always)]
-fn run_found(text: &str, start: Start, flags: &Settings, stride: Stride) -> Found {
-    match word(text.as_bytes(), start, stride) {
+fn run_found(text: &str, pos: usize, start: Start, flags: &Settings, stride: Stride) -> Found {
+    match word(&text.as_bytes()[pos..], start, stride) {
         Some(lexeme) => Found::Lexeme(lexeme),
-        None => found_by_outline(text, run_outline(text, *flags)),
+        None => found_by_outline(&text[pos..], run_outline(&text[pos..], *flags)),
     }
 }
 
-/// What is at the start of a text that begins with `(`.
+/// What is at a byte of a text where `(` is.
 ///
 /// # Proved
 ///
 /// ```text
-/// requires some { 0 < length text.now }
-/// requires first { slice_index text.now 0 ≡ 40 }
-/// ensures { FoundIn flags.now text.now result }
+/// requires boundary { IsCharBoundary text.now pos }
+/// requires some { 0 < length (drop pos text.now) }
+/// requires first { slice_index (drop pos text.now) 0 ≡ 40 }
+/// ensures { FoundIn flags.now (drop pos text.now) result }
 /// ```
 #[inline(always)]
-fn opened(text: &str, flags: &Settings) -> Found {
-    if byte_at(text.as_bytes(), 1) != b';' {
+fn opened(text: &str, pos: usize, flags: &Settings) -> Found {
+    if byte_at(&text.as_bytes()[pos..], 1) != b';' {
         return lexeme(TokenKind::LParen, 1);
     }
-    match block_comment_len(text, *flags) {
+    match block_comment_len(&text[pos..], *flags) {
         Some(len) => lexeme(TokenKind::BlockComment, len),
         None => Found::Fault,
     }
 }
 
-/// What is at the start of a text that begins with `;`.
+/// What is at a byte of a text where `;` is.
 ///
 /// # Proved
 ///
 /// ```text
-/// requires some { 0 < length text.now }
-/// requires first { slice_index text.now 0 ≡ 59 }
-/// ensures { FoundIn flags.now text.now result }
+/// requires boundary { IsCharBoundary text.now pos }
+/// requires some { 0 < length (drop pos text.now) }
+/// requires first { slice_index (drop pos text.now) 0 ≡ 59 }
+/// ensures { FoundIn flags.now (drop pos text.now) result }
 /// ```
 #[inline(always)]
-fn semicolon(text: &str, flags: &Settings) -> Found {
-    if byte_at(text.as_bytes(), 1) != b';' {
+fn semicolon(text: &str, pos: usize, flags: &Settings) -> Found {
+    if byte_at(&text.as_bytes()[pos..], 1) != b';' {
         return lexeme(TokenKind::Reserved, 1);
     }
-    match line_comment_len(text, *flags) {
+    match line_comment_len(&text[pos..], *flags) {
         Some(len) => lexeme(TokenKind::LineComment, len),
         None => Found::Fault,
     }
 }
 
-/// What is at the start.
-///
+/// What is at a byte of a text.
+// A text from there on is cut off only where it is needed, as that looks at the byte once more.
 /// # Proved
 ///
 /// ```text
-/// ensures { FoundIn flags.now text.now result }
+/// requires { IsCharBoundary text.now pos }
+/// ensures { FoundIn flags.now (drop pos text.now) result }
 /// ```
 #[inline(always)]
-pub fn first_found(text: &str, flags: &Settings, stride: Stride) -> Found {
-    let bytes = text.as_bytes();
+pub fn first_found(text: &str, pos: usize, flags: &Settings, stride: Stride) -> Found {
+    let bytes = &text.as_bytes()[pos..];
     if bytes.is_empty() {
         return Found::End;
     }
@@ -281,12 +285,12 @@ pub fn first_found(text: &str, flags: &Settings, stride: Stride) -> Found {
             TokenKind::Whitespace,
             1 + whitespace_len(&bytes[1..], stride),
         ),
-        Start::OpenParen => opened(text, flags),
+        Start::OpenParen => opened(text, pos, flags),
         Start::CloseParen => lexeme(TokenKind::RParen, 1),
-        Start::Semicolon => semicolon(text, flags),
+        Start::Semicolon => semicolon(text, pos, flags),
         Start::Punctuation => lexeme(TokenKind::Reserved, 1),
         Start::Other => Found::Fault,
-        _ => run_found(text, start, flags, stride),
+        _ => run_found(text, pos, start, flags, stride),
     }
 }
 

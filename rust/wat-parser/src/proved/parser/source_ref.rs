@@ -134,7 +134,10 @@ impl<'a> SourceRef<'a> {
     pub fn plain_at(&self, place: usize, byte: usize) -> Option<(Token, usize)> {
         match &self.tokens {
             Tokens::Table(table) => table.plain_at(place),
-            Tokens::Text(text) => text.plain_at(place, byte),
+            Tokens::Text(text) => {
+                let (token, after, is_plain) = text.plain_at(place, byte);
+                if is_plain { Some((token, after)) } else { None }
+            }
         }
     }
 

@@ -22,6 +22,13 @@ pub struct Row {
     pub from: u32,
 }
 
+/// What is beside the answer that no token is shown so.
+const NO_TOKEN: Token = Token {
+    offset: 0,
+    len: 0,
+    kind: TokenKind::Whitespace,
+};
+
 /// A text, lent to a parser that lexes it as it goes.
 pub struct TextRef<'a> {
     lexer: Lexer<'a>,
@@ -270,7 +277,7 @@ impl<'a> TextRef<'a> {
     }
 
     /// Whether a token is shown whatever names are registered, and whatever comes after it.
-    // The byte after it is looked at before its kind, since that is seldom an `@`.
+    ///
     /// # Proved
     ///
     /// ```text
@@ -280,36 +287,35 @@ impl<'a> TextRef<'a> {
     /// ```
     #[inline(always)]
     fn is_plain(&self, token: Token) -> bool {
-        if token.kind.is_blank() {
-            return false;
+        match token.kind {
+            TokenKind::Whitespace | TokenKind::LineComment | TokenKind::BlockComment => false,
+            TokenKind::LParen => !token.is_marked(self.text()),
+            _ => true,
         }
-        !(token.is_marked(self.text()) && matches!(token.kind, TokenKind::LParen))
     }
 
     /// The token that is shown at a place, with the place after it, where it is the same whatever
-    /// names are registered.
-    ///
+    /// names are registered, and whether it is.
+    // They are apart, as which case an option of a token is would be asked of its kind once more.
     /// # Proved
     ///
     /// ```text
     /// requires { IsPlace self.now place byte }
-    /// ensures { IfSome result (λ v. (names : NamesOf) → IsNext self.now place names v) }
+    /// ensures { IsTrue result.2 → (names : NamesOf) →
+    ///     IsNext self.now place names (result.0, result.1) }
     /// ```
     #[inline(always)]
-    pub fn plain_at(&self, place: usize, byte: usize) -> Option<(Token, usize)> {
+    pub fn plain_at(&self, place: usize, byte: usize) -> (Token, usize, bool) {
         let mut i = place;
         let mut pos = byte;
         self.lemma_read();
         'tokens: loop {
             let (at, from) = self.past_whitespace(i, pos);
             let Some(token) = self.some_token_at(at, from) else {
-                return None;
+                return (NO_TOKEN, 0, false);
             };
-            if self.is_plain(token) {
-                return Some((token, at + 1));
-            }
             if !token.kind.is_blank() {
-                return None;
+                return (token, at + 1, self.is_plain(token));
             }
             i = at + 1;
             pos = token.offset + token.len as usize;
@@ -338,9 +344,10 @@ impl<'a> TextRef<'a> {
         self.lemma_read();
         let mut filled = 0usize;
         while filled < rows.len() {
-            let Some((token, after)) = self.plain_at(i, pos) else {
+            let (token, after, is_plain) = self.plain_at(i, pos);
+            if !is_plain {
                 return filled;
-            };
+            }
             rows[filled] = Row {
                 offset: token.offset as u32,
                 len: token.len,

@@ -1,11 +1,21 @@
-use Rattle.std.proofs.Common.{ap, ◌∙◌, get_or, sym}
+use Rattle.std.proofs.Common.{◌≡◌, ◌-◌, ℕ, List, length, take, drop, ap, ◌∙◌, get_or, sym}
+use Rattle.std.proofs.lemmas.List.{take_rest}
+use Rattle.std.proofs.lemmas.Str.{IsUtf8-drop}
 use Rattle.wat_lex.proofs.inside.LineComments.{found_semicolon}
 use Rattle.wat_lex.proofs.lexer.scan.semicolon.Goals as goal
 
+rest_is : (text bs : List ℕ) (n : ℕ) → bs ≡ text → take (length bs - n) (drop n bs) ≡ drop n text
+rest_is text bs n e = take_rest bs n ∙ ap (drop n) e
+
 pub line_comment_len-requires : goal.line_comment_len-requires
-line_comment_len-requires c = record { begun = (c.requires.first, ap (λ t. get_or t 1 0) (sym c.as_bytes.ensures.value) ∙ sym c.byte_at.ensures ∙ c.if-byte_at-ne59.false) }
+line_comment_len-requires c =
+    let cut = c.range_from.ensures.value in
+    let rest = rest_is c.args.text.now c.as_bytes.result.now c.args.pos c.as_bytes.ensures.value in
+    record { begun = (ap (λ t. get_or t 0 0) cut ∙ c.requires.first, ap (λ t. get_or t 1 0) (cut ∙ sym rest) ∙ sym c.byte_at.ensures ∙ c.if-byte_at-ne59.false) }
 
 pub returns-then-byte_at-ne59 : goal.returns-then-byte_at-ne59
 returns-then-byte_at-ne59 c =
-    rw c.lexeme.ensures (found_semicolon c.args.flags.now c.args.text.now c.utf8.text c.requires.some c.requires.first
-    (λ k. c.if-byte_at-ne59.true (c.byte_at.ensures ∙ ap (λ t. get_or t 1 0) c.as_bytes.ensures.value ∙ k)))
+    let text = c.args.text.now in
+    let rest = rest_is text c.as_bytes.result.now c.args.pos c.as_bytes.ensures.value in
+    rw c.lexeme.ensures (found_semicolon c.args.flags.now (drop c.args.pos text) (IsUtf8-drop text c.args.pos c.utf8.text c.requires.boundary) c.requires.some c.requires.first
+    (λ k. c.if-byte_at-ne59.true (c.byte_at.ensures ∙ ap (λ t. get_or t 1 0) rest ∙ k)))

@@ -10,7 +10,7 @@ returns-in-Table c =
     let same : c.in-Table.table ≡ c.args.self.now = search rules in
     subst (λ (s : Source). IfSome c.plain_at.result (λ v. (names : Names) → IsNext s c.args.place names v)) same c.plain_at.ensures
 
-pub returns-in-Text : goal.returns-in-Text
-returns-in-Text c =
+pub returns-then-is_plain : goal.returns-then-is_plain
+returns-then-is_plain c names =
     let same : c.in-Text.text ≡ c.args.self.now = search rules in
-    subst (λ (s : Source). IfSome c.plain_at-in-Text.result (λ v. (names : Names) → IsNext s c.args.place names v)) same c.plain_at-in-Text.ensures
+    subst (λ (s : Source). IsNext s c.args.place names (c.plain_at-after.result.0, c.plain_at-after.result.1)) same (c.plain_at-after.ensures c.if-is_plain.true names)

@@ -1,8 +1,8 @@
-use Rattle.std.proofs.Common.{◌≡◌, ◌<◌, ◌≤◌, ◌+◌, ◌^◌, ◌∙◌, ℕ, arith, rules, ap, sym, subst, inl, inr, length, slice_index_or, slice_set}
+use Rattle.std.proofs.Common.{◌≡◌, ◌<◌, ◌∙◌, arith, rules, ap, sym, subst, inl, inr, length, slice_index_or, slice_set}
 use Rattle.std.proofs.lemmas.Bool.{cases_eq}
 use Rattle.std.proofs.lemmas.List.{get_or-set_same, get_or-set_other}
 use Rattle.wat_lexer_parser.specs.declared.parser.text_ref.Row.{Row}
-use Rattle.wat_lexer_parser.specs.inside.Next.{IsNext, IsPlace}
+use Rattle.wat_lexer_parser.specs.inside.Next.{IsNext}
 use Rattle.wat_lexer_parser.specs.inside.Rows.{IsRow}
 use Rattle.wat_lexer_parser.specs.names.RegisteredNames.{Names, no_names}
 use Rattle.wat_lexer_parser.proofs.places.Bytes.{boundary}
@@ -24,7 +24,7 @@ loop-filled-init c =
 
 pub overflow_cast-rows : goal.overflow_cast-rows
 overflow_cast-rows c =
-    let next : (names : Names) → IsNext c.args.self.now c.loop-filled.i names (c.in-Some.token, c.in-Some.after) = search rules in
+    let next : (names : Names) → IsNext c.args.self.now c.loop-filled.i names (c.plain_at-after.result.0, c.plain_at-after.result.1) = c.plain_at-after.ensures (search rules) in
     omega (arith, (next no_names).after.short)
 
 pub overflow_cast-rows-in-loop-filled : goal.overflow_cast-rows-in-loop-filled
@@ -32,15 +32,15 @@ overflow_cast-rows-in-loop-filled c = omega (arith, c.loop-filled.invariant.shor
 
 pub overflow_add-pos : goal.overflow_add-pos
 overflow_add-pos c =
-    let next : (names : Names) → IsNext c.args.self.now c.loop-filled.i names (c.in-Some.token, c.in-Some.after) = search rules in
+    let next : (names : Names) → IsNext c.args.self.now c.loop-filled.i names (c.plain_at-after.result.0, c.plain_at-after.result.1) = c.plain_at-after.ensures (search rules) in
     omega (arith, (next no_names).after.short)
 
 pub loop-filled-preserved : goal.loop-filled-preserved
 loop-filled-preserved c =
     let s = c.args.self.now in
     let l = c.loop-filled in
-    let next : (names : Names) → IsNext s l.i names (c.in-Some.token, c.in-Some.after) = search rules in
-    let row : Row = record { offset = c.in-Some.token.offset; len = c.in-Some.token.len; kind = c.in-Some.token.kind; from = l.pos } in
+    let next : (names : Names) → IsNext s l.i names (c.plain_at-after.result.0, c.plain_at-after.result.1) = c.plain_at-after.ensures (search rules) in
+    let row : Row = record { offset = c.plain_at-after.result.0.offset; len = c.plain_at-after.result.0.len; kind = c.plain_at-after.result.0.kind; from = l.pos } in
     let room : l.filled < length l.rows = search rules in
     record {
       place = (next no_names).after.place;
@@ -50,7 +50,7 @@ loop-filled-preserved c =
       rows = λ k none h. elim (cases_eq k l.filled) [
         | inl e ↦
             let same : slice_index_or (slice_set l.rows l.filled row) k none ≡ row = ap (λ j. slice_index_or (slice_set l.rows l.filled row) j none) e ∙ get_or-set_same l.rows l.filled row none room in
-            subst (IsRow s) (sym same) (record { place = l.i; after = c.in-Some.after; is_at = l.invariant.place; shown = next })
+            subst (IsRow s) (sym same) (record { place = l.i; after = c.plain_at-after.result.1; is_at = l.invariant.place; shown = next })
         | inr e ↦ subst (IsRow s) (sym (get_or-set_other l.rows l.filled k row none e)) (l.invariant.rows k none (omega (arith, h, e)))
       ];
       first = λ none h. elim (cases_eq 0 l.filled) [

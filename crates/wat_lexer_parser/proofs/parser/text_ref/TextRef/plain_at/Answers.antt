@@ -6,8 +6,8 @@ use Rattle.wat_lexer_parser.proofs.places.Bytes.{next_place}
 use Rattle.wat_lexer_parser.proofs.shown.Looks.{blank_passes, shown_passed, shown_taken}
 use Rattle.wat_lexer_parser.proofs.parser.text_ref.TextRef.plain_at.Goals as goal
 
-pub returns-then-is_plain : goal.returns-then-is_plain
-returns-then-is_plain c names =
+pub returns-then-not-is_blank : goal.returns-then-not-is_blank
+returns-then-not-is_blank c plain names =
     let s = c.args.self.now in
     let i = c.past_whitespace-at.result.0 in
     let t = c.in-Some.token in
@@ -15,7 +15,7 @@ returns-then-is_plain c names =
     let reader : IsTokenOf s.setting.text t = search rules in
     let on : c.tokens.i ≤ i = search rules in
     record {
-      value = c.tokens.invariant.same names ∙ c.past_whitespace-at.ensures.same names ∙ shown_taken s names i t there (c.is_plain.ensures c.if-is_plain.true names (slice_get s.tokens (i + 1)));
+      value = c.tokens.invariant.same names ∙ c.past_whitespace-at.ensures.same names ∙ shown_taken s names i t there (c.is_plain.ensures plain names (slice_get s.tokens (i + 1)));
       on = omega (arith, c.tokens.invariant.on, on);
       after = record { place = next_place s i t there; reader = reader; short = search rules };
     }
