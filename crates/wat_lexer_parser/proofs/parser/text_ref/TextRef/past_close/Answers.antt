@@ -1,6 +1,6 @@
-use Rattle.std.proofs.Common.{◌≡◌, ◌≤◌, ◌<◌, ◌∙◌, arith, rules, Some}
+use Rattle.std.proofs.Common.{◌≡◌, ◌≤◌, ◌<◌, ◌∙◌, arith, rules, None, Some}
 use Rattle.std.specs.Prelude.{slice_get}
-use Rattle.wat_lexer_parser.proofs.shown.Groups.{inside_opens, inside_closes, inside_last, inside_passes, no_paren}
+use Rattle.wat_lexer_parser.proofs.shown.Groups.{inside_ends, inside_opens, inside_closes, inside_last, inside_passes, no_paren}
 use Rattle.wat_lexer_parser.proofs.parser.text_ref.TextRef.past_close.Goals as goal
 
 pub tokens-preserved-in-LParen : goal.tokens-preserved-in-LParen
@@ -54,3 +54,11 @@ tokens-preserved c =
       deep = omega (arith, l.invariant.deep, on);
       same = λ n o. l.invariant.same n o ∙ c.past_whitespace-at.ensures.inside n o l.depth ∙ inside_passes s n o at l.depth c.in-Some.token there (no_paren c.in-Some.token c.in_default-kind.not-LParen c.in_default-kind.not-RParen);
     }
+
+pub returns-in_default-clause-none : goal.returns-in_default-clause-none
+returns-in_default-clause-none c = λ n o.
+    let s = c.args.self.now in
+    let l = c.tokens in
+    let at = c.past_whitespace-at.result.0 in
+    let none : slice_get s.tokens at ≡ None = search rules in
+    l.invariant.same n o ∙ c.past_whitespace-at.ensures.inside n o l.depth ∙ inside_ends s n o at l.depth none
