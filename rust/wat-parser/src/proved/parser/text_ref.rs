@@ -161,40 +161,6 @@ impl<'a> TextRef<'a> {
         }
     }
 
-    /// Where the group ends in which a place is: the place after it, with its byte; None where the
-    /// text ends before, or the fault that comes before.
-    ///
-    /// # Proved
-    ///
-    /// ```text
-    /// requires { IsPlace self.now place byte }
-    /// ensures ends { GroupEnds self.now place result }
-    /// ensures on { IfOk result (λ found. IfSome found (λ v. place < v.0)) }
-    /// ```
-    fn past_group(&self, place: usize, byte: usize) -> Result<Option<(usize, usize)>, LexFault> {
-        let mut i = place;
-        let mut pos = byte;
-        let mut depth = 0usize;
-        self.lemma_read();
-        'tokens: loop {
-            let Some(token) = self.token_at(i, pos)? else {
-                return Ok(None);
-            };
-            i += 1;
-            pos = token.offset + token.len as usize;
-            match token.kind {
-                TokenKind::LParen => depth += 1,
-                TokenKind::RParen => {
-                    if depth == 0 {
-                        return Ok(Some((i, pos)));
-                    }
-                    depth -= 1;
-                }
-                _ => {}
-            }
-        }
-    }
-
     /// What is shown at a place, with the place after it. It takes no memory. The group of an
     /// annotation that is passed over is lexed each time.
     ///
@@ -245,6 +211,7 @@ impl<'a> TextRef<'a> {
     /// ```text
     /// requires { IsPlace self.now place byte }
     /// ensures token { IfSome result (λ t. slice_get self.now.tokens place ≡ Some t) }
+    /// ensures none { IfNone result (slice_get self.now.tokens place ≡ None) }
     /// ensures next { IfSome result (λ t. IsPlace self.now (place + 1) (t.offset + t.len)) }
     /// ensures reader { IfSome result (IsTokenOf self.now.setting.text) }
     /// ensures short { IfSome result (λ t. t.offset + t.len < 2 ^ 32) }
@@ -346,14 +313,16 @@ impl<'a> TextRef<'a> {
         }
     }
 
-    /// The place after the end of the group in which a place is, with its byte; None where no such
-    /// end is found.
+    /// The place after the end of the group in which a place is, with its byte; None where the text
+    /// ends before, or has a fault before.
     ///
     /// # Proved
     ///
     /// ```text
     /// requires { IsPlace self.now place byte }
     /// ensures ends { IfSome result (λ v. GroupEnds self.now place (Ok (Some v))) }
+    /// ensures none { IfNone result ((names : NamesOf) (paren : Lexed) →
+    ///     found_inside self.now place 0 names paren ≡ left_open self.now.ending paren) }
     /// ensures on { IfSome result (λ v. place < v.0) }
     /// ```
     fn past_close(&self, place: usize, byte: usize) -> Option<(usize, usize)> {
@@ -378,6 +347,27 @@ impl<'a> TextRef<'a> {
                 }
                 _ => {}
             }
+        }
+    }
+
+    /// Where the group ends in which a place is: the place after it, with its byte; None where the
+    /// text ends before, or the fault that comes before.
+    ///
+    /// # Proved
+    ///
+    /// ```text
+    /// requires { IsPlace self.now place byte }
+    /// ensures ends { GroupEnds self.now place result }
+    /// ensures on { IfOk result (λ found. IfSome found (λ v. place < v.0)) }
+    /// ```
+    fn past_group(&self, place: usize, byte: usize) -> Result<Option<(usize, usize)>, LexFault> {
+        if let Some(after) = self.past_close(place, byte) {
+            return Ok(Some(after));
+        }
+        self.lemma_read();
+        match self.lexer.first_fault(byte) {
+            Some(fault) => Err(fault),
+            None => Ok(None),
         }
     }
 
@@ -424,13 +414,14 @@ impl<'a> TextRef<'a> {
     #[inline(always)]
     fn past_hidden(&self, place: usize, token: Token, names: &Names) -> Option<(usize, usize)> {
         self.lemma_read();
+        let text = self.text();
         let end = token.offset + token.len as usize;
         match token.kind {
             TokenKind::Whitespace | TokenKind::LineComment | TokenKind::BlockComment => {
                 Some((place + 1, end))
             }
             TokenKind::LParen => {
-                if token.is_marked(self.text()) {
+                if token.is_marked(text) {
                     self.past_annotation(place + 1, end, names)
                 } else {
                     None
