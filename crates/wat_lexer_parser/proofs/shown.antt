@@ -2,6 +2,7 @@
 pub mod Skipping
 pub mod Annotations
 pub mod Looks
+pub mod PassedGroups
 pub mod Steps
 pub mod SomethingShown
 pub mod Marks

@@ -177,9 +177,12 @@ impl<'a> Parser<'a> {
         ensures { self.new ≡ record self.old { place = place } }
     {
         let source = &self.source;
-        match source.plain_at(place, byte) {
-            Some((token, after)) => self.next = Kept::of(token, after),
-            None => self.next = source.kept_by_look(place, byte, &self.names),
+        source.lemma_read();
+        let (token, at, is_plain) = source.first_at(place, byte);
+        if is_plain {
+            self.next = Kept::of(token, at + 1);
+        } else {
+            self.next = source.kept_past(place, byte, at, token, &self.names);
         }
         self.place = place;
         self.byte = byte;

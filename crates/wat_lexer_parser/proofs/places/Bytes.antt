@@ -1,13 +1,13 @@
 -- The bytes of places, and what a lexer finds there.
-use Rattle.std.proofs.Common.{◌≡◌, ◌≤◌, ◌+◌, ℕ, zero, suc, List, [], ◌∷◌, length, drop, arith, refl, ap, sym, ◌∙◌, subst, Some, None, Ok, Err}
-use Rattle.std.specs.Prelude.{IfOk, IfErr, IfSome, IfNone, Option, Result, slice_get}
+use Rattle.std.proofs.Common.{◌≡◌, ◌≤◌, ◌+◌, ℕ, zero, suc, List, [], ◌∷◌, length, drop, arith, refl, ap, sym, ◌∙◌, subst, inl, inr, Some, None, Ok, Err}
+use Rattle.std.specs.Prelude.{◌⊎◌, IfOk, IfErr, IfSome, IfNone, Option, Result, slice_get}
 use Rattle.std.proofs.lemmas.Option.{slice_get_within}
 use Rattle.std.proofs.lemmas.Str.{IsCharBoundary-start}
 use Rattle.std.specs.Str.{IsUtf8, IsCharBoundary}
 use Rattle.wat_lex.specs.tokens.Faults.{FaultAt}
 use Rattle.wat_lex.specs.tokens.Setting.{Setting}
 use Rattle.wat_lex.specs.tokens.Tiling.{TokenAt, Tiling, MaximalTiling}
-use Rattle.wat_lex.specs.tokens.UniqueTilings.{AnswerAt}
+use Rattle.wat_lex.specs.tokens.UniqueTilings.{AnswerAt, EndsFrom}
 use Rattle.wat_lex.specs.declared.lexer.faults.LexFault.{LexFault}
 use Rattle.wat_lex.specs.declared.lexer.kinds.Token.{Token}
 use Rattle.wat_lex.proofs.tokens.MovedTexts.{tiling_ends}
@@ -116,6 +116,17 @@ pub some_is : (s : Source) (p byte : ℕ) (found : Option Token) → IsRead s �
 some_is s p byte None read h a = tt
 some_is s p byte (Some t) read h a = sym (subst (λ r. IfOk r (λ found. found ≡ slice_get s.tokens p)) (is_at_one s.setting byte (answer_of (drop p s.tokens) s.ending) (Ok (Some t)) (answer_at s p byte read h) a) (token_is s p))
 
+-- where no token is there is none at the place
+pub none_is : (s : Source) (p byte : ℕ) (found : Option Token) → IsRead s → IsPlace s p byte → IfNone found ((byte ≡ length s.setting.text) ⊎ ((f : LexFault) × FaultAt s.setting byte f)) → IfNone found (slice_get s.tokens p ≡ None)
+none_is s p byte (Some t) read h a = tt
+none_is s p byte None read h (inl e) = sym (subst (λ r. IfOk r (λ found. found ≡ slice_get s.tokens p)) (is_at_one s.setting byte (answer_of (drop p s.tokens) s.ending) (Ok None) (answer_at s p byte read h) e) (token_is s p))
+none_is s p byte None read h (inr f) = (subst (λ r. IfErr r (λ f. (slice_get s.tokens p ≡ None) × (s.ending ≡ Some f))) (is_at_one s.setting byte (answer_of (drop p s.tokens) s.ending) (Err f.0) (answer_at s p byte read h) f.1) (fault_is s p)).0
+
 pub some_next : (s : Source) (p : ℕ) (found : Option Token) → IfSome found (λ t. slice_get s.tokens p ≡ Some t) → IfSome found (λ t. IsPlace s (p + 1) (t.offset + t.len))
 some_next s p None h = tt
 some_next s p (Some t) h = next_place s p t h
+
+-- from the byte of a place the text ends as it does
+pub ends_from : (s : Source) (p byte : ℕ) → IsRead s → IsPlace s p byte → EndsFrom s.setting byte s.ending
+ends_from s p byte read h =
+    subst (λ q. EndsFrom s.setting q s.ending) (sym h.byte_at) (record { tokens = drop p s.tokens; tiling = tails_are_raw s.setting s.tokens s.ending p read h.within })

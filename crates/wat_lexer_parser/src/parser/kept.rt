@@ -1,28 +1,28 @@
 //! What a parser keeps of its last look.
-ghost use Rattle.std.specs.Prelude.{◌≡◌, Some, None};
+ghost use Rattle.std.specs.Prelude.{◌≡◌, ◌<◌, Some, None};
 
 use std::marker::Model;
 use wat_lex::lexer::{Token, TokenKind};
 
 /// The token that is shown at a parser's place, with the place after it, where that is known.
-// The parts are written and read each for itself: a processor waits where it reads as one what was written in parts just before.
+// The parts are written and read each for itself: a processor waits where it reads as one what was written in parts just before. No token is before
+// the place 0, so that it says that nothing is known, and a move writes no part for that.
 #[derive(Drop)]
 pub struct Kept {
-    is_known: bool,
-    kind: TokenKind,
-    len: u32,
     offset: usize,
     after: usize,
+    len: u32,
+    kind: TokenKind,
 }
 
 impl Model for Kept {
-    ghost use Rattle.std.specs.Prelude.{Option, Some, None, cond, ℕ};
+    ghost use Rattle.std.specs.Prelude.{Option, Some, None, if◌then◌else◌, nat_eq, ℕ};
     ghost use Rattle.wat_lex.specs.declared.lexer.kinds.Token.{Token};
 
     ghost Value = { Option (Token × ℕ) };
 
-    ghost view = { λ k. cond k.is_known
-        (Some (record { offset = k.offset; len = k.len; kind = k.kind }, k.after)) None };
+    ghost view = { λ k. if nat_eq k.after 0 then None
+        else Some (record { offset = k.offset; len = k.len; kind = k.kind }, k.after) };
 }
 
 impl Kept {
@@ -32,25 +32,24 @@ impl Kept {
         ensures { result ≡ None }
     {
         Kept {
-            is_known: false,
-            kind: TokenKind::Whitespace,
-            len: 0,
             offset: 0,
             after: 0,
+            len: 0,
+            kind: TokenKind::Whitespace,
         }
     }
 
     /// This token is shown, and this place is after it.
     #[inline(always)]
     pub fn of(token: Token, after: usize) -> Kept
+        requires { 0 < after }
         ensures { result ≡ Some (token, after) }
     {
         Kept {
-            is_known: true,
-            kind: token.kind,
-            len: token.len,
             offset: token.offset,
             after,
+            len: token.len,
+            kind: token.kind,
         }
     }
 
@@ -59,7 +58,7 @@ impl Kept {
     pub fn found(&self) -> Option<(Token, usize)>
         ensures { result ≡ self.now }
     {
-        if !self.is_known {
+        if self.after == 0 {
             return None;
         }
         let token = Token {

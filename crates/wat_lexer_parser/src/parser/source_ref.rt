@@ -1,8 +1,8 @@
 //! What parsers read: a text with its table, or without.
-ghost use Rattle.std.specs.Prelude.{◌≡◌, ◌<◌, ◌^◌, length, IfOk, IfSome};
+ghost use Rattle.std.specs.Prelude.{◌≡◌, ◌<◌, ◌^◌, ◌+◌, length, IfOk, IfSome, IsTrue, false};
 ghost use Rattle.std.specs.Str.{IsUtf8};
 ghost use Rattle.wat_lex.specs.errors.Errors.{IsUnlessMemory};
-ghost use Rattle.wat_lexer_parser.specs.inside.Next.{IsAfter, IsNext, IsPlace};
+ghost use Rattle.wat_lexer_parser.specs.inside.Next.{IsAfter, IsFirst, IsNext, IsPlace};
 ghost use Rattle.wat_lexer_parser.specs.names.RegisteredNames.{Names as NamesOf};
 ghost use Rattle.wat_lexer_parser.specs.parser.State.{message_at, report_of};
 ghost use Rattle.wat_lexer_parser.specs.places.Places.{comment_at, is_meaningful};
@@ -13,7 +13,7 @@ use crate::parser::fault::{Fault, FaultKind};
 use crate::parser::kept::Kept;
 use crate::parser::names::Names;
 use crate::parser::table_ref::TableRef;
-use crate::parser::text_ref::TextRef;
+use crate::parser::text_ref::{NO_TOKEN, TextRef};
 use std::alloc::Global;
 use std::marker::Model;
 use wat_lex::error::Error;
@@ -122,19 +122,46 @@ impl<'a> SourceRef<'a> {
         }
     }
 
-    /// The token that is shown at a place, with the place after it, where it is the same whatever
-    /// names are registered.
+    /// The first token at a place that is no white space, with its own place, and whether it is
+    /// shown whatever names are registered. It has no bytes where none is found so.
     #[inline(always)]
-    pub fn plain_at(&self, place: usize, byte: usize) -> Option<(Token, usize)>
+    pub fn first_at(&self, place: usize, byte: usize) -> (Token, usize, bool)
         requires { IsPlace self.now place byte }
-        ensures { IfSome result (λ v. (names : NamesOf) → IsNext self.now place names v) }
+        ensures first { result.2 ≡ false → 0 < result.0.len →
+            IsFirst self.now place result.0 result.1 }
+        ensures plain { IsTrue result.2 → (names : NamesOf) →
+            IsNext self.now place names (result.0, result.1 + 1) }
     {
         match &self.tokens {
-            Tokens::Table(table) => table.plain_at(place),
-            Tokens::Text(text) => {
-                let (token, after, is_plain) = text.plain_at(place, byte);
-                if is_plain { Some((token, after)) } else { None }
-            }
+            Tokens::Table(table) => match table.plain_at(place) {
+                Some((token, after)) => (token, after - 1, true),
+                None => (NO_TOKEN, 0, false),
+            },
+            Tokens::Text(text) => text.first_at(place, byte),
+        }
+    }
+
+    /// What a look at a place finds there, for a parser to keep, where this token is the first.
+    #[inline(never)]
+    pub fn kept_past(
+        &self,
+        place: usize,
+        byte: usize,
+        at: usize,
+        first: Token,
+        names: &Names,
+    ) -> Kept
+        requires place { IsPlace self.now place byte }
+        requires first { 0 < first.len → IsFirst self.now place first at }
+        ensures { IfSome result (IsNext self.now place names.now) }
+    {
+        let found = match &self.tokens {
+            Tokens::Text(text) if first.len > 0 => text.next_past(at, first, names),
+            _ => None,
+        };
+        match found {
+            Some((token, after)) => Kept::of(token, after),
+            None => self.kept_by_look(place, byte, names),
         }
     }
 

@@ -5,15 +5,16 @@ ghost use Rattle.std.specs.Str.{IsUtf8};
 ghost use Rattle.wat_lex.specs.tokens.ReadableTokens.{IsTokenOf};
 ghost use Rattle.wat_lex.specs.declared.lexer.kinds.Token.{Token as Lexed};
 ghost use Rattle.wat_lexer_parser.specs.declared.parser.fault.FaultKind.TheVariants.{Unclosed};
-ghost use Rattle.wat_lexer_parser.specs.declared.parser.fault.Step.TheVariants.{Take};
-ghost use Rattle.wat_lexer_parser.specs.inside.Groups.{GroupEnds};
-ghost use Rattle.wat_lexer_parser.specs.inside.Next.{IsAfter, IsNext, IsPlace};
+ghost use Rattle.wat_lexer_parser.specs.declared.parser.fault.Step.TheVariants.{Skip, Take};
+ghost use Rattle.wat_lexer_parser.specs.inside.Groups.{GroupEnds, found_inside};
+ghost use Rattle.wat_lexer_parser.specs.inside.Next.{IsAfter, IsFirst, IsNext, IsPlace};
 ghost use Rattle.wat_lexer_parser.specs.inside.Rows.{IsRow};
 ghost use Rattle.wat_lexer_parser.specs.declared.parser.text_ref.Row.{Row as FilledRow};
 ghost use Rattle.wat_lexer_parser.specs.inside.ShownIn.{step_next, step_of};
 ghost use Rattle.wat_lexer_parser.specs.names.RegisteredNames.{Names as NamesOf};
 ghost use Rattle.wat_lexer_parser.specs.places.Places.{comment_at, is_meaningful, past_space};
 ghost use Rattle.wat_lexer_parser.specs.places.Source.{IsRead};
+ghost use Rattle.wat_lexer_parser.specs.shown.Shown.{left_open};
 ghost use Rattle.wat_lexer_parser.specs.shown.Showing.{shown};
 
 use crate::parser::fault::{Fault, FaultKind, Step};
@@ -37,7 +38,7 @@ pub struct Row {
 }
 
 /// What is beside the answer that no token is shown so.
-const NO_TOKEN: Token = Token {
+pub const NO_TOKEN: Token = Token {
     offset: 0,
     len: 0,
     kind: TokenKind::Whitespace,
@@ -169,36 +170,6 @@ impl<'a> TextRef<'a> {
         }
     }
 
-    /// Where the group ends in which a place is: the place after it, with its byte; None where the
-    /// text ends before, or the fault that comes before.
-    fn past_group(&self, place: usize, byte: usize) -> Result<Option<(usize, usize)>, LexFault>
-        requires { IsPlace self.now place byte }
-        ensures ends { GroupEnds self.now place result }
-        ensures on { IfOk result (λ found. IfSome found (λ v. place < v.0)) }
-    {
-        let mut i = place;
-        let mut pos = byte;
-        let mut depth = 0usize;
-        self.lemma_read();
-        'tokens: loop {
-            let Some(token) = self.token_at(i, pos)? else {
-                return Ok(None);
-            };
-            i += 1;
-            pos = token.offset + token.len as usize;
-            match token.kind {
-                TokenKind::LParen => depth += 1,
-                TokenKind::RParen => {
-                    if depth == 0 {
-                        return Ok(Some((i, pos)));
-                    }
-                    depth -= 1;
-                }
-                _ => {}
-            }
-        }
-    }
-
     /// What is shown at a place, with the place after it. It takes no memory. The group of an
     /// annotation that is passed over is lexed each time.
     pub fn look(
@@ -243,6 +214,7 @@ impl<'a> TextRef<'a> {
     fn some_token_at(&self, place: usize, byte: usize) -> Option<Token>
         requires { IsPlace self.now place byte }
         ensures token { IfSome result (λ t. slice_get self.now.tokens place ≡ Some t) }
+        ensures none { IfNone result (slice_get self.now.tokens place ≡ None) }
         ensures next { IfSome result (λ t. IsPlace self.now (place + 1) (t.offset + t.len)) }
         ensures reader { IfSome result (IsTokenOf self.now.setting.text) }
         ensures short { IfSome result (λ t. t.offset + t.len < 2 ^ 32) }
@@ -259,6 +231,9 @@ impl<'a> TextRef<'a> {
         ensures on { place ≤ result.0 }
         ensures same { (names : NamesOf) →
             shown self.now place names ≡ shown self.now result.0 names }
+        ensures inside { (names : NamesOf) (paren : Lexed) (depth : ℕ) →
+            found_inside self.now place depth names paren
+            ≡ found_inside self.now result.0 depth names paren }
     {
         self.lemma_read();
         let end = self.lexer.past_whitespace(byte);
@@ -304,6 +279,151 @@ impl<'a> TextRef<'a> {
             }
             i = at + 1;
             pos = token.offset + token.len as usize;
+        }
+    }
+
+    /// The first token from a place on that is no white space, with its own place, and whether it is
+    /// shown whatever names are registered. It has no bytes where the text ends, or has a fault.
+    #[inline(always)]
+    pub fn first_at(&self, place: usize, byte: usize) -> (Token, usize, bool)
+        requires { IsPlace self.now place byte }
+        ensures first { 0 < result.0.len → IsFirst self.now place result.0 result.1 }
+        ensures plain { IsTrue result.2 → (names : NamesOf) →
+            IsNext self.now place names (result.0, result.1 + 1) }
+    {
+        self.lemma_read();
+        let (at, from) = self.past_whitespace(place, byte);
+        match self.some_token_at(at, from) {
+            Some(token) => (token, at, self.is_plain(token)),
+            None => (NO_TOKEN, 0, false),
+        }
+    }
+
+    /// The place after the end of the group in which a place is, with its byte; None where the text
+    /// ends before, or has a fault before.
+    fn past_close(&self, place: usize, byte: usize) -> Option<(usize, usize)>
+        requires { IsPlace self.now place byte }
+        ensures ends { IfSome result (λ v. GroupEnds self.now place (Ok (Some v))) }
+        ensures none { IfNone result ((names : NamesOf) (paren : Lexed) →
+            found_inside self.now place 0 names paren ≡ left_open self.now.ending paren) }
+        ensures on { IfSome result (λ v. place < v.0) }
+    {
+        let mut i = place;
+        let mut pos = byte;
+        let mut depth = 0usize;
+        self.lemma_read();
+        'tokens: loop {
+            let (at, from) = self.past_whitespace(i, pos);
+            let Some(token) = self.some_token_at(at, from) else {
+                return None;
+            };
+            i = at + 1;
+            pos = token.offset + token.len as usize;
+            match token.kind {
+                TokenKind::LParen => depth += 1,
+                TokenKind::RParen => {
+                    if depth == 0 {
+                        return Some((i, pos));
+                    }
+                    depth -= 1;
+                }
+                _ => {}
+            }
+        }
+    }
+
+    /// Where the group ends in which a place is: the place after it, with its byte; None where the
+    /// text ends before, or the fault that comes before.
+    fn past_group(&self, place: usize, byte: usize) -> Result<Option<(usize, usize)>, LexFault>
+        requires { IsPlace self.now place byte }
+        ensures ends { GroupEnds self.now place result }
+        ensures on { IfOk result (λ found. IfSome found (λ v. place < v.0)) }
+    {
+        if let Some(after) = self.past_close(place, byte) {
+            return Ok(Some(after));
+        }
+        self.lemma_read();
+        match self.lexer.first_fault(byte) {
+            Some(fault) => Err(fault),
+            None => Ok(None),
+        }
+    }
+
+    /// The place after the group that a parenthesis opens, with its byte, where it is the group of an
+    /// annotation that is passed over. The place is the one after the parenthesis.
+    #[inline(always)]
+    fn past_annotation(&self, place: usize, byte: usize, names: &Names) -> Option<(usize, usize)>
+        requires { IsPlace self.now place byte }
+        ensures skip { IfSome result (λ v. step_next self.now.setting.text names.now
+            (slice_get self.now.tokens place) ≡ Skip) }
+        ensures ends { IfSome result (λ v. GroupEnds self.now place (Ok (Some v))) }
+        ensures on { IfSome result (λ v. place < v.0) }
+    {
+        self.lemma_read();
+        let Some(name) = self.some_token_at(place, byte) else {
+            return None;
+        };
+        match name.kind {
+            TokenKind::Annotation => match step_annotation(self.text(), name, names) {
+                Step::Skip => self.past_close(place + 1, name.offset + name.len as usize),
+                _ => None,
+            },
+            _ => None,
+        }
+    }
+
+    /// The place after what is not shown at a place, with its byte: a blank, or the group of an
+    /// annotation that is passed over.
+    #[inline(always)]
+    fn past_hidden(&self, place: usize, token: Token, names: &Names) -> Option<(usize, usize)>
+        requires there { slice_get self.now.tokens place ≡ Some token }
+        requires after { IsAfter self.now (token, place + 1) }
+        ensures place { IfSome result (λ v. IsPlace self.now v.0 v.1) }
+        ensures on { IfSome result (λ v. place < v.0) }
+        ensures same { IfSome result (λ v. shown self.now place names.now
+            ≡ shown self.now v.0 names.now) }
+    {
+        self.lemma_read();
+        let text = self.text();
+        let end = token.offset + token.len as usize;
+        match token.kind {
+            TokenKind::Whitespace | TokenKind::LineComment | TokenKind::BlockComment => {
+                Some((place + 1, end))
+            }
+            TokenKind::LParen => {
+                if token.is_marked(text) {
+                    self.past_annotation(place + 1, end, names)
+                } else {
+                    None
+                }
+            }
+            _ => None,
+        }
+    }
+
+    /// The token that is shown after blanks and groups that are passed over, the first of which is
+    /// this one, with the place after it. None: it is left to a look.
+    pub fn next_past(&self, place: usize, first: Token, names: &Names) -> Option<(Token, usize)>
+        requires there { slice_get self.now.tokens place ≡ Some first }
+        requires after { IsAfter self.now (first, place + 1) }
+        ensures { IfSome result (IsNext self.now place names.now) }
+    {
+        let mut i = place;
+        let mut token = first;
+        self.lemma_read();
+        'tokens: loop {
+            let Some((next, byte)) = self.past_hidden(i, token, names) else {
+                return None;
+            };
+            let (found, at, is_plain) = self.first_at(next, byte);
+            if is_plain {
+                return Some((found, at + 1));
+            }
+            if found.len == 0 {
+                return None;
+            }
+            i = at;
+            token = found;
         }
     }
 

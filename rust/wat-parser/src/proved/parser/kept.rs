@@ -5,13 +5,13 @@ use wat_lex::shim::prelude::*;
 use wat_lex::proved::lexer::{Token, TokenKind};
 
 /// The token that is shown at a parser's place, with the place after it, where that is known.
-// The parts are written and read each for itself: a processor waits where it reads as one what was written in parts just before.
+// The parts are written and read each for itself: a processor waits where it reads as one what was written in parts just before. No token is before
+// the place 0, so that it says that nothing is known, and a move writes no part for that.
 pub struct Kept {
-    is_known: bool,
-    kind: TokenKind,
-    len: u32,
     offset: usize,
     after: usize,
+    len: u32,
+    kind: TokenKind,
 }
 
 impl Kept {
@@ -25,11 +25,10 @@ impl Kept {
     #[inline(always)]
     pub fn nothing() -> Kept {
         Kept {
-            is_known: false,
-            kind: TokenKind::Whitespace,
-            len: 0,
             offset: 0,
             after: 0,
+            len: 0,
+            kind: TokenKind::Whitespace,
         }
     }
 
@@ -38,16 +37,16 @@ impl Kept {
     /// # Proved
     ///
     /// ```text
+    /// requires { 0 < after }
     /// ensures { result ≡ Some (token, after) }
     /// ```
     #[inline(always)]
     pub fn of(token: Token, after: usize) -> Kept {
         Kept {
-            is_known: true,
-            kind: token.kind,
-            len: token.len,
             offset: token.offset,
             after,
+            len: token.len,
+            kind: token.kind,
         }
     }
 
@@ -60,7 +59,7 @@ impl Kept {
     /// ```
     #[inline(always)]
     pub fn found(&self) -> Option<(Token, usize)> {
-        if !self.is_known {
+        if self.after == 0 {
             return None;
         }
         let token = Token {

@@ -6,7 +6,7 @@ use crate::proved::parser::fault::{Fault, FaultKind};
 use crate::proved::parser::kept::Kept;
 use crate::proved::parser::names::Names;
 use crate::proved::parser::table_ref::TableRef;
-use crate::proved::parser::text_ref::TextRef;
+use crate::proved::parser::text_ref::{NO_TOKEN, TextRef};
 use wat_lex::shim::alloc::Global;
 
 use wat_lex::proved::error::Error;
@@ -121,23 +121,54 @@ impl<'a> SourceRef<'a> {
         }
     }
 
-    /// The token that is shown at a place, with the place after it, where it is the same whatever
-    /// names are registered.
+    /// The first token at a place that is no white space, with its own place, and whether it is
+    /// shown whatever names are registered. It has no bytes where none is found so.
     ///
     /// # Proved
     ///
     /// ```text
     /// requires { IsPlace self.now place byte }
-    /// ensures { IfSome result (λ v. (names : NamesOf) → IsNext self.now place names v) }
+    /// ensures first { result.2 ≡ false → 0 < result.0.len →
+    ///     IsFirst self.now place result.0 result.1 }
+    /// ensures plain { IsTrue result.2 → (names : NamesOf) →
+    ///     IsNext self.now place names (result.0, result.1 + 1) }
     /// ```
     #[inline(always)]
-    pub fn plain_at(&self, place: usize, byte: usize) -> Option<(Token, usize)> {
+    pub fn first_at(&self, place: usize, byte: usize) -> (Token, usize, bool) {
         match &self.tokens {
-            Tokens::Table(table) => table.plain_at(place),
-            Tokens::Text(text) => {
-                let (token, after, is_plain) = text.plain_at(place, byte);
-                if is_plain { Some((token, after)) } else { None }
-            }
+            Tokens::Table(table) => match table.plain_at(place) {
+                Some((token, after)) => (token, after - 1, true),
+                None => (NO_TOKEN, 0, false),
+            },
+            Tokens::Text(text) => text.first_at(place, byte),
+        }
+    }
+
+    /// What a look at a place finds there, for a parser to keep, where this token is the first.
+    ///
+    /// # Proved
+    ///
+    /// ```text
+    /// requires place { IsPlace self.now place byte }
+    /// requires first { 0 < first.len → IsFirst self.now place first at }
+    /// ensures { IfSome result (IsNext self.now place names.now) }
+    /// ```
+    #[inline(never)]
+    pub fn kept_past(
+        &self,
+        place: usize,
+        byte: usize,
+        at: usize,
+        first: Token,
+        names: &Names,
+    ) -> Kept {
+        let found = match &self.tokens {
+            Tokens::Text(text) if first.len > 0 => text.next_past(at, first, names),
+            _ => None,
+        };
+        match found {
+            Some((token, after)) => Kept::of(token, after),
+            None => self.kept_by_look(place, byte, names),
         }
     }
 

@@ -1,68 +1,35 @@
-use Rattle.std.proofs.Common.{◌≡◌, ◌<◌, ◌∙◌, arith, rules, ap, Some, None, Err}
-use Rattle.std.specs.Prelude.{slice_get}
+use Rattle.std.proofs.Common.{◌≡◌, ◌∙◌, ap, rules, subst, sym, None, Some}
+use Rattle.std.specs.Str.{IsCharBoundary}
+use Rattle.wat_lex.specs.tokens.Setting.{Setting}
+use Rattle.wat_lex.specs.tokens.UniqueTilings.{EndsFrom}
+use Rattle.wat_lex.specs.declared.lexer.kinds.Token.{Token}
+use Rattle.wat_lexer_parser.specs.inside.Groups.{found_inside}
+use Rattle.wat_lexer_parser.specs.names.RegisteredNames.{Names}
+use Rattle.wat_lexer_parser.specs.places.Source.{Source}
 use Rattle.wat_lexer_parser.specs.shown.Shown.{left_open}
-use Rattle.wat_lexer_parser.proofs.shown.Groups.{inside_ends, inside_opens, inside_closes, inside_last, inside_passes, no_paren}
+use Rattle.wat_lexer_parser.proofs.places.Bytes.{boundary, ends_from}
 use Rattle.wat_lexer_parser.proofs.parser.text_ref.TextRef.past_group.Goals as goal
 
-pub returns-in_err-token-clause-ends : goal.returns-in_err-token-clause-ends
-returns-in_err-token-clause-ends c =
+pub first_fault-requires : goal.first_fault-requires
+first_fault-requires c =
     let s = c.args.self.now in
-    let l = c.tokens in
-    let f = c.in_err-token.field-0.0 in
-    let none : slice_get s.tokens l.i ≡ None = search rules in
-    let fault : s.ending ≡ Some f = search rules in
-    let is : c.from_residual.result ≡ Err f = search rules in
-    rw is (λ n o. l.invariant.same n o ∙ inside_ends s n o l.i l.depth none ∙ ap (λ e. left_open e o) fault)
+    let same : s.setting ≡ c.self.inside.lexer = ap (λ (x : Source). x.setting) (sym c.self.view_is) in
+    subst (λ (x : Setting). IsCharBoundary x.text c.args.byte) same (boundary s c.args.place c.args.byte c.lemma_read.ensures.utf8 c.lemma_read.ensures.read c.requires)
 
-pub returns-in_default-clause-ends : goal.returns-in_default-clause-ends
-returns-in_default-clause-ends c = λ n o.
+pub returns-in-Some-first_fault-clause-ends : goal.returns-in-Some-first_fault-clause-ends
+returns-in-Some-first_fault-clause-ends c = λ n o.
     let s = c.args.self.now in
-    let l = c.tokens in
-    let none : slice_get s.tokens l.i ≡ None = search rules in
-    let end : s.ending ≡ None = search rules in
-    l.invariant.same n o ∙ inside_ends s n o l.i l.depth none ∙ ap (λ e. left_open e o) end
+    let same : s.setting ≡ c.self.inside.lexer = ap (λ (x : Source). x.setting) (sym c.self.view_is) in
+    let ending : s.ending ≡ c.first_fault.result = c.first_fault.ensures.one s.ending (subst (λ x. EndsFrom x c.args.byte s.ending) same (ends_from s c.args.place c.args.byte c.lemma_read.ensures.read c.requires)) in
+    let is : s.ending ≡ Some c.in-Some-first_fault.fault = search rules in
+    let none : (n : Names) (o : Token) → found_inside s c.args.place 0 n o ≡ left_open s.ending o = search rules in
+    none n o ∙ ap (λ e. left_open e o) is
 
-pub tokens-preserved-in-LParen : goal.tokens-preserved-in-LParen
-tokens-preserved-in-LParen c =
+pub returns-in-None-clause-ends : goal.returns-in-None-clause-ends
+returns-in-None-clause-ends c = λ n o.
     let s = c.args.self.now in
-    let l = c.tokens in
-    let there : slice_get s.tokens l.i ≡ Some c.in-Some.token = search rules in
-    record {
-      place = search rules;
-      on = omega (arith, l.invariant.on);
-      deep = omega (arith, l.invariant.deep);
-      same = λ n o. l.invariant.same n o ∙ inside_opens s n o l.i l.depth c.in-Some.token there c.in-LParen.is;
-    }
-
-pub returns-then-depth-eq0-clause-ends : goal.returns-then-depth-eq0-clause-ends
-returns-then-depth-eq0-clause-ends c =
-    let s = c.args.self.now in
-    let l = c.tokens in
-    let there : slice_get s.tokens l.i ≡ Some c.in-Some.token = search rules in
-    let z : l.depth ≡ 0 = search rules in
-    (search rules, λ n o. l.invariant.same n o ∙ inside_last s n o l.i l.depth c.in-Some.token there c.in-RParen.is z)
-
-pub tokens-preserved-in-RParen : goal.tokens-preserved-in-RParen
-tokens-preserved-in-RParen c =
-    let s = c.args.self.now in
-    let l = c.tokens in
-    let there : slice_get s.tokens l.i ≡ Some c.in-Some.token = search rules in
-    let some : 0 < l.depth = omega (arith, c.if-depth-eq0.false) in
-    record {
-      place = search rules;
-      on = omega (arith, l.invariant.on);
-      deep = omega (arith, l.invariant.deep);
-      same = λ n o. l.invariant.same n o ∙ inside_closes s n o l.i l.depth c.in-Some.token there c.in-RParen.is some;
-    }
-
-pub tokens-preserved : goal.tokens-preserved
-tokens-preserved c =
-    let s = c.args.self.now in
-    let l = c.tokens in
-    let there : slice_get s.tokens l.i ≡ Some c.in-Some.token = search rules in
-    record {
-      place = search rules;
-      on = omega (arith, l.invariant.on);
-      deep = omega (arith, l.invariant.deep);
-      same = λ n o. l.invariant.same n o ∙ inside_passes s n o l.i l.depth c.in-Some.token there (no_paren c.in-Some.token c.in_default-kind.not-LParen c.in_default-kind.not-RParen);
-    }
+    let same : s.setting ≡ c.self.inside.lexer = ap (λ (x : Source). x.setting) (sym c.self.view_is) in
+    let ending : s.ending ≡ c.first_fault.result = c.first_fault.ensures.one s.ending (subst (λ x. EndsFrom x c.args.byte s.ending) same (ends_from s c.args.place c.args.byte c.lemma_read.ensures.read c.requires)) in
+    let is : s.ending ≡ None = search rules in
+    let none : (n : Names) (o : Token) → found_inside s c.args.place 0 n o ≡ left_open s.ending o = search rules in
+    none n o ∙ ap (λ e. left_open e o) is

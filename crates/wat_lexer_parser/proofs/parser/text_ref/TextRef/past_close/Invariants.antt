@@ -3,7 +3,7 @@ use Rattle.wat_lex.specs.declared.lexer.kinds.Token.{Token}
 use Rattle.wat_lexer_parser.specs.inside.Groups.{found_inside}
 use Rattle.wat_lexer_parser.specs.inside.Next.{IsPlace}
 use Rattle.wat_lexer_parser.specs.names.RegisteredNames.{Names}
-use Rattle.wat_lexer_parser.proofs.parser.text_ref.TextRef.past_group.Given as goal
+use Rattle.wat_lexer_parser.proofs.parser.text_ref.TextRef.past_close.Given as goal
 
 abbrev pub invariant-tokens : goal.invariant-tokens
 invariant-tokens l = record {
