@@ -39,20 +39,6 @@ impl Kept {
         }
     }
 
-    /// This token is shown, and this place is after it.
-    #[inline(always)]
-    pub fn of(token: Token, after: usize) -> Kept
-        requires { 0 < after }
-        ensures { result ≡ Some (token, after) }
-    {
-        Kept {
-            offset: token.offset,
-            after,
-            len: token.len,
-            kind: token.kind,
-        }
-    }
-
     /// The token, with the place after it, where it is known.
     #[inline(always)]
     pub fn found(&self) -> Option<(Token, usize)>
@@ -67,5 +53,25 @@ impl Kept {
             kind: self.kind,
         };
         Some((token, self.after))
+    }
+
+    /// Keeps this token, with the place after it.
+    #[inline(always)]
+    pub fn keep(&mut self, token: Token, after: usize)
+        requires { 0 < after }
+        ensures { self.new ≡ Some (token, after) }
+    {
+        self.offset = token.offset;
+        self.after = after;
+        self.len = token.len;
+        self.kind = token.kind;
+    }
+
+    /// Forgets what is known.
+    #[inline(always)]
+    pub fn forget(&mut self)
+        ensures { self.new ≡ None }
+    {
+        self.after = 0;
     }
 }

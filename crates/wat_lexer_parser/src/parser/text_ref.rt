@@ -19,7 +19,7 @@ ghost use Rattle.wat_lexer_parser.specs.shown.Showing.{shown};
 
 use crate::parser::fault::{Fault, FaultKind, Step};
 use crate::parser::names::Names;
-use crate::parser::steps::{is_comment, is_space, lexical, step_annotation};
+use crate::parser::steps::{is_comment, is_passed_over, is_space, lexical, step_annotation};
 use std::alloc::Global;
 use std::marker::Model;
 use wat_lex::lexer::{LexFault, Lexer, Settings, Token, TokenKind};
@@ -301,6 +301,7 @@ impl<'a> TextRef<'a> {
 
     /// The place after the end of the group in which a place is, with its byte; None where the text
     /// ends before, or has a fault before.
+    #[inline(always)]
     fn past_close(&self, place: usize, byte: usize) -> Option<(usize, usize)>
         requires { IsPlace self.now place byte }
         ensures ends { IfSome result (λ v. GroupEnds self.now place (Ok (Some v))) }
@@ -364,10 +365,13 @@ impl<'a> TextRef<'a> {
             return None;
         };
         match name.kind {
-            TokenKind::Annotation => match step_annotation(self.text(), name, names) {
-                Step::Skip => self.past_close(place + 1, name.offset + name.len as usize),
-                _ => None,
-            },
+            TokenKind::Annotation => {
+                if is_passed_over(self.text(), name, names) {
+                    self.past_close(place + 1, name.offset + name.len as usize)
+                } else {
+                    None
+                }
+            }
             _ => None,
         }
     }

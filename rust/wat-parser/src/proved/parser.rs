@@ -172,9 +172,9 @@ impl<'a> Parser<'a> {
         source.lemma_read();
         let (token, at, is_plain) = source.first_at(place, byte);
         if is_plain {
-            self.next = Kept::of(token, at + 1);
+            self.next.keep(token, at + 1);
         } else {
-            self.next = source.kept_past(place, byte, at, token, &self.names);
+            source.keep_past(place, byte, at, token, &self.names, &mut self.next);
         }
         self.place = place;
         self.byte = byte;

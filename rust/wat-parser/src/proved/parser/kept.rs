@@ -32,24 +32,6 @@ impl Kept {
         }
     }
 
-    /// This token is shown, and this place is after it.
-    ///
-    /// # Proved
-    ///
-    /// ```text
-    /// requires { 0 < after }
-    /// ensures { result ≡ Some (token, after) }
-    /// ```
-    #[inline(always)]
-    pub fn of(token: Token, after: usize) -> Kept {
-        Kept {
-            offset: token.offset,
-            after,
-            len: token.len,
-            kind: token.kind,
-        }
-    }
-
     /// The token, with the place after it, where it is known.
     ///
     /// # Proved
@@ -68,5 +50,33 @@ impl Kept {
             kind: self.kind,
         };
         Some((token, self.after))
+    }
+
+    /// Keeps this token, with the place after it.
+    ///
+    /// # Proved
+    ///
+    /// ```text
+    /// requires { 0 < after }
+    /// ensures { self.new ≡ Some (token, after) }
+    /// ```
+    #[inline(always)]
+    pub fn keep(&mut self, token: Token, after: usize) {
+        self.offset = token.offset;
+        self.after = after;
+        self.len = token.len;
+        self.kind = token.kind;
+    }
+
+    /// Forgets what is known.
+    ///
+    /// # Proved
+    ///
+    /// ```text
+    /// ensures { self.new ≡ None }
+    /// ```
+    #[inline(always)]
+    pub fn forget(&mut self) {
+        self.after = 0;
     }
 }

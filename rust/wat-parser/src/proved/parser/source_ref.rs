@@ -144,48 +144,49 @@ impl<'a> SourceRef<'a> {
         }
     }
 
-    /// What a look at a place finds there, for a parser to keep, where this token is the first.
-    ///
+    /// Keeps what is shown at a place, where this token is the first there.
+    // It writes where a parser keeps it: what a call hands over in memory would be read as one just after it was written in parts.
     /// # Proved
     ///
     /// ```text
     /// requires place { IsPlace self.now place byte }
     /// requires first { 0 < first.len → IsFirst self.now place first at }
-    /// ensures { IfSome result (IsNext self.now place names.now) }
+    /// ensures { IfSome kept.new (IsNext self.now place names.now) }
     /// ```
     #[inline(never)]
-    pub fn kept_past(
+    pub fn keep_past(
         &self,
         place: usize,
         byte: usize,
         at: usize,
         first: Token,
         names: &Names,
-    ) -> Kept {
+        kept: &mut Kept,
+    ) {
         let found = match &self.tokens {
             Tokens::Text(text) if first.len > 0 => text.next_past(at, first, names),
             _ => None,
         };
         match found {
-            Some((token, after)) => Kept::of(token, after),
-            None => self.kept_by_look(place, byte, names),
+            Some((token, after)) => kept.keep(token, after),
+            None => self.keep_look(place, byte, names, kept),
         }
     }
 
-    /// What a look at a place finds there, for a parser to keep.
+    /// Keeps what a look at a place finds there.
     ///
     /// # Proved
     ///
     /// ```text
     /// requires { IsPlace self.now place byte }
-    /// ensures { IfSome result (IsNext self.now place names.now) }
+    /// ensures { IfSome kept.new (IsNext self.now place names.now) }
     /// ```
     #[inline(never)]
-    pub fn kept_by_look(&self, place: usize, byte: usize, names: &Names) -> Kept {
+    fn keep_look(&self, place: usize, byte: usize, names: &Names, kept: &mut Kept) {
         match self.look(place, byte, names) {
-            Ok(Some((token, after))) => Kept::of(token, after),
-            Ok(None) => Kept::nothing(),
-            Err(_) => Kept::nothing(),
+            Ok(Some((token, after))) => kept.keep(token, after),
+            Ok(None) => kept.forget(),
+            Err(_) => kept.forget(),
         }
     }
 

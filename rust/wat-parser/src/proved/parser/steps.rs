@@ -114,3 +114,21 @@ pub fn step_annotation(text: &str, token: Token, names: &Names) -> Step {
         }
     }
 }
+
+/// Whether the group of an annotation is passed over. It takes no memory.
+///
+/// # Proved
+///
+/// ```text
+/// requires token { IsTokenOf text.now token }
+/// requires kind { token.kind ≡ Annotation }
+/// requires short { token.offset < 2 ^ 32 }
+/// ensures { IsTrue result → step_named names.now token (name_at text.now token) ≡ Skip }
+/// ```
+#[inline(always)]
+pub fn is_passed_over(text: &str, token: Token, names: &Names) -> bool {
+    if is_unregistered(text, token, names) {
+        return true;
+    }
+    matches!(step_annotation(text, token, names), Step::Skip)
+}

@@ -4,7 +4,7 @@
 use wat_lex::shim::prelude::*;
 use crate::proved::parser::fault::{Fault, FaultKind, Step};
 use crate::proved::parser::names::Names;
-use crate::proved::parser::steps::{is_comment, is_space, lexical, step_annotation};
+use crate::proved::parser::steps::{is_comment, is_passed_over, is_space, lexical, step_annotation};
 use wat_lex::shim::alloc::Global;
 
 use wat_lex::proved::lexer::{LexFault, Lexer, Settings, Token, TokenKind};
@@ -325,6 +325,7 @@ impl<'a> TextRef<'a> {
     ///     found_inside self.now place 0 names paren ≡ left_open self.now.ending paren) }
     /// ensures on { IfSome result (λ v. place < v.0) }
     /// ```
+    #[inline(always)]
     fn past_close(&self, place: usize, byte: usize) -> Option<(usize, usize)> {
         let mut i = place;
         let mut pos = byte;
@@ -390,10 +391,13 @@ impl<'a> TextRef<'a> {
             return None;
         };
         match name.kind {
-            TokenKind::Annotation => match step_annotation(self.text(), name, names) {
-                Step::Skip => self.past_close(place + 1, name.offset + name.len as usize),
-                _ => None,
-            },
+            TokenKind::Annotation => {
+                if is_passed_over(self.text(), name, names) {
+                    self.past_close(place + 1, name.offset + name.len as usize)
+                } else {
+                    None
+                }
+            }
             _ => None,
         }
     }
