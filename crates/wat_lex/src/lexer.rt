@@ -265,7 +265,7 @@ impl<'a> Lexer<'a> {
         ensures boundary { IsCharBoundary self.now.text result }
         ensures tiling { SomeTiling self.now result }
     {
-        pos + covered_len(&self.input()[pos..], fault.error, self.settings)
+        pos + covered_len(&self.input()[pos..], fault.error, self.settings())
     }
 
     ghost use Rattle.wat_lex.specs.inside.Outlines.{FoundIn, IsRefused};

@@ -3,9 +3,9 @@ use Rattle.std.proofs.Common.{◌≡◌, ◌≢◌, ◌≤◌, ◌<◌, ◌+◌,
 use Rattle.std.specs.Prelude.{IsTrue, ◌==◌}
 use Rattle.std.specs.List.{prefix_len}
 use Rattle.std.specs.Str.{chars, IsUtf8, IsCharBoundary}
-use Rattle.std.proofs.lemmas.Bool.{both_ways, cases_Bool, or_cases, ne_eqb, eqb-true, false≢true}
-use Rattle.std.proofs.lemmas.List.{drop-drop}
-use Rattle.std.proofs.lemmas.Str.{encodes-chars, chars-nil, byte_from_char, IsCharBoundary-at_seam, IsUtf8-drop}
+use Rattle.std.proofs.lemmas.Bool.{both_ways, cases_lt, or_cases, ne_eqb, eqb-true, false≢true}
+use Rattle.std.proofs.lemmas.List.{drop-drop, drop_more, get_or_past}
+use Rattle.std.proofs.lemmas.Str.{encodes-chars, chars-nil, byte_from_char, IsCharBoundary-at_seam, IsCharBoundary-from_rest, IsUtf8-drop}
 use lib.Utf8.{encode, encodes}
 use Rattle.wat_lex.specs.grammar.Classes.{quote, size, is_run_char, is_line_end, is_idchar, Begins}
 use Rattle.wat_lex.specs.grammar.Runs.{Piece, Run, none}
@@ -14,16 +14,18 @@ use Rattle.wat_lex.specs.inside.Outlines.{IsRefused}
 use Rattle.wat_lex.specs.inside.Recovered.{PassedIn, PassedTo, BeginsFault, BeginsComment, Covered, SomeCovered}
 use Rattle.wat_lex.specs.inside.ScannedLexemes.{LexemeFound, Refused}
 use Rattle.wat_lex.specs.inside.ScannedStrings.{StringTaken, StringRefused}
-use Rattle.wat_lex.specs.tokens.Faults.{Fault, unexpected, dangling, confusing, in_string}
+use Rattle.wat_lex.specs.tokens.Faults.{Fault, IsComment, unexpected, dangling, confusing, in_string}
 use Rattle.wat_lex.specs.tokens.Recovery.{is_inside, is_escaped, PassesString, closed, line_end, text_end, escape, inside, Covers, character, opening, comment, run, ResumesAt}
 use Rattle.wat_lex.specs.tokens.Setting.{Setting, allowing}
 use Rattle.wat_lex.specs.declared.lexer.settings.Settings.{Settings}
+use Rattle.wat_lex.specs.declared.lexer.kinds.TokenKind.{TokenKind}
 use Rattle.wat_lex.specs.declared.lexer.faults.LexError.{LexError}
 use Rattle.wat_lex.specs.declared.lexer.faults.LexError.TheVariants.{DanglingBlockComment, Unexpected, ConfusingUnicode}
 use Rattle.wat_lex.specs.declared.lexer.faults.LexFault.{LexFault}
 use Rattle.wat_lex.proofs.grammar.AsciiPrefixes.{led}
 use Rattle.wat_lex.proofs.inside.CheckedComments.{halves}
 use Rattle.wat_lex.proofs.inside.Confusing.{size-append}
+use Rattle.wat_lex.proofs.inside.LineComments.{run_char_ascii}
 use Rattle.wat_lex.proofs.inside.Outlines.{run_no_fault, refused_some}
 use Rattle.wat_lex.proofs.inside.RunSteps.{Joined, joined_end, past_quote}
 use Rattle.wat_lex.proofs.inside.StringElements.{left_of}
@@ -83,6 +85,9 @@ pub record Passing (text : List ℕ) (at : ℕ) : Type 0 where
   pub range : at ≤ length text
   pub passes : (r : List ℕ) → PassesString (chars (drop at text)) r → PassesString (chars text) r
 
+pub passing_start : (text : List ℕ) → IsUtf8 text → Passing text 0
+passing_start text u = record { utf8 = u; range = omega arith; passes = λ r p. p }
+
 pub passing_more : (text : List ℕ) (at n : ℕ) → Passing text at → PassedIn (drop at text) n → Passing text (at + n)
 passing_more text at n h k =
     let past = drop-drop n at text in
@@ -95,25 +100,30 @@ passing_more text at n h k =
 rest_size : (text : List ℕ) (at : ℕ) → at ≤ length text → IsUtf8 (drop at text) → at + size (chars (drop at text)) ≡ length text
 rest_size text at l u = omega (arith, l, ap length (encodes-chars (drop at text) u), length-drop at text)
 
-pub passed_quote : (text : List ℕ) (at : ℕ) → Passing text at → at < length text → get_or (drop at text) 0 0 ≡ 34 → PassedTo text (at + 1)
-passed_quote text at h l e =
-    let k = led (drop at text) 34 h.utf8 (omega (arith, l, length-drop at text)) e (omega arith) in
-    let past = drop-drop 1 at text in
-    let u = subst IsUtf8 past k.utf8 in
-    record {
-      rest = chars (drop (at + 1) text);
-      passes = h.passes _ (subst (λ x. PassesString x (chars (drop (at + 1) text))) (sym (k.chars ∙ ap (λ x. 34 ∷ chars x) past)) closed);
-      place = rest_size text (at + 1) (omega (arith, l)) u;
-    }
+pub passed_quote : (text : List ℕ) (at : ℕ) → Passing text at → get_or text at 0 ≡ 34 → PassedTo text (at + 1)
+passed_quote text at h e =
+    elim (cases_lt at (length text)) [
+      | inr past ↦ absurd (omega (arith, sym e ∙ get_or_past text at 0 past))
+      | inl l ↦
+          let k = led (drop at text) 34 h.utf8 (omega (arith, l, length-drop at text)) (ap (λ x. get_or x 0 0) (drop_more text at 0 l) ∙ e) (omega arith) in
+          let past = drop-drop 1 at text in
+          let u = subst IsUtf8 past k.utf8 in
+          record {
+            rest = chars (drop (at + 1) text);
+            passes = h.passes _ (subst (λ x. PassesString x (chars (drop (at + 1) text))) (sym (k.chars ∙ ap (λ x. 34 ∷ chars x) past)) closed);
+            place = rest_size text (at + 1) (omega (arith, l)) u;
+          }
+    ]
 
-pub passed_line : (text : List ℕ) (at : ℕ) → Passing text at → (Begins is_inside (chars (drop at text)) → ⊥) → (at < length text → get_or (drop at text) 0 0 ≢ 34) → PassedTo text at
+pub passed_line : (text : List ℕ) (at : ℕ) → Passing text at → (Begins is_inside (chars (drop at text)) → ⊥) → get_or text at 0 ≢ 34 → PassedTo text at
 passed_line text at h n q = by (chars (drop at text)) refl n
   where
     not_quote : (c : ℕ) (t : List ℕ) → chars (drop at text) ≡ c ∷ t → c ≢ 34
     not_quote c t e k =
         let b = first_byte (drop at text) t c h.utf8 e (omega (arith, k)) in
         let m = b.0 in
-        q (omega (arith, m, length-drop at text)) (b.1 ∙ k)
+        let l : at < length text = omega (arith, m, length-drop at text) in
+        q (sym (ap (λ x. get_or x 0 0) (drop_more text at 0 l)) ∙ b.1 ∙ k)
 
     ends : (c : ℕ) (a b : Bool) → a ≡ false → ((not a && not b) ≡ true → ⊥) → b ≡ true
     ends c true b e k = absurd (false≢true (sym e))
@@ -168,7 +178,7 @@ unfolding covers_start
 unexpected_cut flags s e at c (unexpected {c = d} {t = t} n) k = (t, let a : Unexpected d ≡ Unexpected c = k in cc)
 unexpected_cut flags s e at c (dangling n) k = let a : DanglingBlockComment ≡ Unexpected c = k in cc
 unexpected_cut flags s e at c (confusing {c = d} prefix off kind_is there cut clear is lt) k = let a : ConfusingUnicode d ≡ Unexpected c = k in cc
-unexpected_cut flags s e at c (in_string {t = t} run g) k = absurd (no_start flags t e (Unexpected c) at g k refl)
+unexpected_cut flags s e at c (in_string {t = t} r g) k = absurd (no_start flags t e (Unexpected c) at g k refl)
 
 pub character_covered : (flags : Settings) (text : List ℕ) (c : ℕ) → IsUtf8 text → BeginsFault flags text (Unexpected c) → Covered flags text (Unexpected c) (length (encode c))
 character_covered flags text c u h =
@@ -184,9 +194,10 @@ unfolding covers_start
 dangling_cut flags s e at (unexpected {c = d} n) k = let a : Unexpected d ≡ DanglingBlockComment = k in cc
 dangling_cut flags s e at (dangling {t = t} n) k = (t, refl)
 dangling_cut flags s e at (confusing {c = d} prefix off kind_is there cut clear is lt) k = let a : ConfusingUnicode d ≡ DanglingBlockComment = k in cc
-dangling_cut flags s e at (in_string {t = t} run g) k = absurd (no_start flags t e DanglingBlockComment at g k refl)
+dangling_cut flags s e at (in_string {t = t} r g) k = absurd (no_start flags t e DanglingBlockComment at g k refl)
 
 pub opening_covered : (flags : Settings) (text : List ℕ) → IsUtf8 text → BeginsFault flags text DanglingBlockComment → Covered flags text DanglingBlockComment 2
+unfolding encode
 opening_covered flags text u h =
     let k = dangling_cut flags (chars text) DanglingBlockComment h.0 h.1 refl in
     record {
@@ -197,6 +208,7 @@ opening_covered flags text u h =
 
 -- the first two bytes of a comment
 comment_bytes : (text s : List ℕ) → IsUtf8 text → chars text ≡ s → CommentStart s → ((get_or text 0 0 ≡ 40) ⊎ (get_or text 0 0 ≡ 59)) × (get_or text 1 0 ≡ 59)
+unfolding encode
 comment_bytes text s u e (block {t = t} h) =
     let bytes : text ≡ 40 ∷ 59 ∷ encodes t = sym (encodes-chars text u) ∙ ap encodes e in
     (inl (ap (λ x. get_or x 0 0) bytes), ap (λ x. get_or x 1 0) bytes)
@@ -226,6 +238,16 @@ in_comment flags text e u h r n m = by (chars text) e h.0 refl h.1 n m
         (record { kind = kind; word = w; rest = rest; is_comment = kind_is; is_at = subst (λ x. WordIsAt (allowing flags) x kind w rest) (sym k) there }, (c, refl))
     by s e at k (in_string {t = t} {ps = ps} g i) n m = absurd (both_ways (is_run_char (get_or text 0 0)) r (run_bytes flags text t ps u (subst (λ x. Run flags x ps (quote ∷ t)) (sym k) g)))
 
+pub comment_covered : (flags : Settings) (text : List ℕ) (kind : TokenKind) (n c : ℕ) → IsUtf8 text → IsComment kind → LexemeFound (allowing flags) text (record { kind = kind; len = n }) → Covered flags text (ConfusingUnicode c) n
+comment_covered flags text kind n c u k h = record {
+  rest = h.rest;
+  covers = comment k h.is_at;
+  place = omega (arith, h.len, size-append h.word h.rest, ap size h.is_at.cut, ap length (encodes-chars text u));
+}
+
+pub comment_there : (flags : Settings) (text : List ℕ) → BeginsComment flags text → IsRefused (allowing flags) text → ⊥
+comment_there flags text h r = no_word_at_fault (allowing flags) (chars text) h.kind h.word h.rest r.0.error r.1.at h.is_at r.1.fault
+
 -- ---- the whole text
 
 pub covered_cut : (flags : Settings) (text : List ℕ) (e : LexError) (n : ℕ) → IsUtf8 text → Covered flags text e n → IsCharBoundary text n × (0 < n)
@@ -234,3 +256,15 @@ covered_cut flags text e n u h =
     let p = halves text k.prefix h.rest u k.cut in
     let long : n ≡ size k.prefix = omega (arith, h.place, size-append k.prefix h.rest, ap size k.cut, ap length (encodes-chars text u)) in
     (subst (IsCharBoundary text) (sym long) (IsCharBoundary-at_seam text (encodes k.prefix) (encodes h.rest) p.bytes (h.rest, (p.right, refl))), let s = some_size k.prefix k.some in omega (arith, s, long))
+
+pub resumes : (s : Setting) (p : ℕ) (f : LexFault) (n : ℕ) → p ≤ length s.text → Covered s.flags (drop p s.text) f.error n → ResumesAt s p f (p + n)
+resumes s p f n l h = record {
+  rest = h.rest;
+  covers = h.covers;
+  place = let k = h.place in omega (arith, k, l, length-drop p s.text);
+}
+
+pub resumes_on : (s : Setting) (p : ℕ) (f : LexFault) (n : ℕ) → IsUtf8 s.text → IsCharBoundary s.text p → Covered s.flags (drop p s.text) f.error n → IsCharBoundary s.text (p + n) × (0 < n)
+resumes_on s p f n u b h =
+    let k = covered_cut s.flags (drop p s.text) f.error n (IsUtf8-drop s.text p u b) h in
+    (IsCharBoundary-from_rest s.text p n b.0 k.0, k.1)

@@ -42,7 +42,7 @@ passes_unique s r q (inside h n p) (escape k o) = absurd (n refl k)
 passes_unique s r q (inside {t = t} h n p) (inside k m o) = passes_unique t r q p o
 
 -- an error whose fault covers its first characters alone
-pub covers_start : LexError → Bool
+unfoldable pub covers_start : LexError → Bool
 covers_start DanglingBlockComment = true
 covers_start (Unexpected c) = true
 covers_start e = false

@@ -51,7 +51,7 @@ fn rest_of_string(text: &str) -> usize
     'inside: while let Some(len) = inside_len(&text[at..]) {
         at += len;
     }
-    if text.as_bytes().get(at) == Some(&b'"') {
+    if byte_at(text.as_bytes(), at) == b'"' {
         return at + 1;
     }
     at
