@@ -7,6 +7,7 @@ pub mod OneNumberFault
 pub mod OneStringFault
 pub mod OneFault
 pub mod OneRecovery
+pub mod ReportedFaults
 pub mod OneTilings
 pub mod CutTexts
 pub mod MovedTexts

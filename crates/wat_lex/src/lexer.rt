@@ -1,5 +1,5 @@
 //! The lexer of the WebAssembly text format.
-ghost use Rattle.std.specs.Prelude.{◌≡◌, ◌⊎◌, ◌<◌, ◌^◌, ◌+◌, ℕ, true, false, List, length, drop, Option};
+ghost use Rattle.std.specs.Prelude.{◌≡◌, ◌⊎◌, ◌≤◌, ◌<◌, ◌^◌, ◌+◌, ℕ, true, false, List, length, drop, Option};
 ghost use Rattle.std.specs.Prelude.{Result, IfOk, IfErr, IfSome, IfNone, OnErr};
 ghost use Rattle.std.specs.List.{prefix_len};
 ghost use Rattle.std.specs.Str.{IsCharBoundary, IsUtf8};
@@ -262,6 +262,7 @@ impl<'a> Lexer<'a> {
         ensures place { ResumesAt self.now pos fault result }
         ensures one { (place : ℕ) → ResumesAt self.now pos fault place → place ≡ result }
         ensures progress { pos < result }
+        ensures reported { (pos ≤ fault.offset) × (fault.offset ≤ result) }
         ensures boundary { IsCharBoundary self.now.text result }
         ensures tiling { SomeTiling self.now result }
     {

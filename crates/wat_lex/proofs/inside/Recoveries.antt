@@ -1,20 +1,19 @@
 -- Steps of the functions that pass over what a fault covers.
-use Rattle.std.proofs.Common.{◌≡◌, ◌≢◌, ◌≤◌, ◌<◌, ◌+◌, ◌-◌, ◌⊎◌, ℕ, Bool, true, false, List, [], ◌∷◌, ◌++◌, length, take, drop, get_or, not, ◌&&◌, ◌||◌, refl, arith, ap, sym, ◌∙◌, subst, length-append, length-drop, eq-eqb, inl, inr}
+use Rattle.std.proofs.Common.{◌≡◌, ◌≢◌, ◌≤◌, ◌<◌, ◌+◌, ◌-◌, ◌⊎◌, ℕ, Bool, true, false, List, [], ◌∷◌, ◌++◌, length, drop, get_or, not, ◌&&◌, refl, arith, ap, sym, ◌∙◌, subst, length-append, length-drop, inl, inr}
 use Rattle.std.specs.Prelude.{IsTrue, ◌==◌}
-use Rattle.std.specs.List.{prefix_len}
 use Rattle.std.specs.Str.{chars, IsUtf8, IsCharBoundary}
 use Rattle.std.proofs.lemmas.Bool.{both_ways, cases_lt, or_cases, ne_eqb, eqb-true, false≢true}
 use Rattle.std.proofs.lemmas.List.{drop-drop, drop_more, get_or_past}
 use Rattle.std.proofs.lemmas.Str.{encodes-chars, chars-nil, byte_from_char, IsCharBoundary-at_seam, IsCharBoundary-from_rest, IsUtf8-drop}
 use lib.Utf8.{encode, encodes}
-use Rattle.wat_lex.specs.grammar.Classes.{quote, size, is_run_char, is_line_end, is_idchar, Begins}
+use Rattle.wat_lex.specs.grammar.Classes.{quote, size, is_run_char, is_line_end, Begins}
 use Rattle.wat_lex.specs.grammar.Runs.{Piece, Run, none}
 use Rattle.wat_lex.specs.grammar.Words.{WordIsAt}
 use Rattle.wat_lex.specs.inside.Outlines.{IsRefused}
 use Rattle.wat_lex.specs.inside.Recovered.{PassedIn, PassedTo, BeginsFault, BeginsComment, Covered, SomeCovered}
-use Rattle.wat_lex.specs.inside.ScannedLexemes.{LexemeFound, Refused}
-use Rattle.wat_lex.specs.inside.ScannedStrings.{StringTaken, StringRefused}
-use Rattle.wat_lex.specs.tokens.Faults.{Fault, IsComment, unexpected, dangling, confusing, in_string}
+use Rattle.wat_lex.specs.inside.ScannedLexemes.{LexemeFound}
+use Rattle.wat_lex.specs.inside.ScannedStrings.{StringRefused}
+use Rattle.wat_lex.specs.tokens.Faults.{Fault, FaultAt, IsComment, unexpected, dangling, confusing, in_string}
 use Rattle.wat_lex.specs.tokens.Recovery.{is_inside, is_escaped, PassesString, closed, line_end, text_end, escape, inside, Covers, character, opening, comment, run, ResumesAt}
 use Rattle.wat_lex.specs.tokens.Setting.{Setting, allowing}
 use Rattle.wat_lex.specs.declared.lexer.settings.Settings.{Settings}
@@ -33,6 +32,7 @@ use Rattle.wat_lex.proofs.inside.StringSteps.{Took}
 use Rattle.wat_lex.proofs.tokens.MovedTexts.{fault_fits}
 use Rattle.wat_lex.proofs.tokens.OneFault.{CommentStart, block, line, comment_start, run_begins, fault_unique, no_word_at_fault}
 use Rattle.wat_lex.proofs.tokens.OneRecovery.{covers_start, no_start, covers_cut}
+use Rattle.wat_lex.proofs.tokens.ReportedFaults.{reported_within}
 use Rattle.wat_lex.proofs.tokens.Scans.{some_size}
 
 -- ---- a string at fault
@@ -268,3 +268,15 @@ pub resumes_on : (s : Setting) (p : ℕ) (f : LexFault) (n : ℕ) → IsUtf8 s.t
 resumes_on s p f n u b h =
     let k = covered_cut s.flags (drop p s.text) f.error n (IsUtf8-drop s.text p u b) h in
     (IsCharBoundary-from_rest s.text p n b.0 k.0, k.1)
+
+pub reported : (s : Setting) (p : ℕ) (f : LexFault) (n : ℕ) → IsUtf8 s.text → IsCharBoundary s.text p → FaultAt s p f → Covered s.flags (drop p s.text) f.error n → (p ≤ f.offset) × (f.offset ≤ p + n)
+reported s p f n u b h k =
+    let text = chars (drop p s.text) in
+    let whole = ap length (encodes-chars (drop p s.text) (IsUtf8-drop s.text p u b)) in
+    let long = length-drop p s.text in
+    let left = b.0 in
+    let place = h.place in
+    let rest = k.place in (
+      omega (arith, fault_fits s.flags text f.error h.at h.fault, whole, long, left, place),
+      omega (arith, reported_within s.flags text f.error f.error h.at k.rest refl h.fault k.covers, long, left, place, rest),
+    )

@@ -1,5 +1,5 @@
 -- A fault covers one part of a text, which is not empty.
-use Rattle.std.proofs.Common.{◌≡◌, ◌≢◌, ◌+◌, ℕ, Bool, true, false, List, [], ◌∷◌, ◌++◌, not, ◌&&◌, refl, arith, ap, sym, ◌∙◌, subst, append_assoc, length}
+use Rattle.std.proofs.Common.{◌≡◌, ◌≢◌, ℕ, Bool, true, false, List, [], ◌∷◌, ◌++◌, not, refl, arith, ap, sym, ◌∙◌, subst, append_assoc}
 use Rattle.std.specs.Prelude.{IsTrue, ◌==◌}
 use Rattle.std.proofs.lemmas.Bool.{both_ways, false≢true, and_parts}
 use Rattle.std.proofs.lemmas.List.{append_cancel_left}
@@ -13,7 +13,7 @@ use Rattle.wat_lex.specs.tokens.StringFaults.{StringFault, later, no_quote, cont
 use Rattle.wat_lex.specs.declared.lexer.settings.Settings.{Settings}
 use Rattle.wat_lex.specs.declared.lexer.kinds.TokenKind.{TokenKind}
 use Rattle.wat_lex.specs.declared.lexer.faults.LexError.{LexError}
-use Rattle.wat_lex.specs.declared.lexer.faults.LexError.TheVariants.{DanglingBlockComment, Unexpected, InvalidStringElement, InvalidStringEscape, InvalidHexDigit, InvalidDigit, Expected, UnexpectedEof, NumberTooBig, InvalidUnicodeValue, LoneUnderscore, ConfusingUnicode, InvalidUtf8Id, EmptyId, EmptyAnnotation}
+use Rattle.wat_lex.specs.declared.lexer.faults.LexError.TheVariants.{DanglingBlockComment, Unexpected, ConfusingUnicode}
 use Rattle.wat_lex.specs.declared.lexer.faults.LexFault.{LexFault}
 use Rattle.wat_lex.proofs.grammar.OneString.{quoted_unique, quoted_sound}
 use Rattle.wat_lex.proofs.grammar.OneWord.{is_at_unique}
@@ -77,7 +77,7 @@ pub no_start : (flags : Settings) (s : List ℕ) (e f : LexError) (at : List ℕ
 no_start flags s e f at h k b = false≢true (sym (string_fault_error flags s e at h) ∙ ap covers_start k ∙ b)
 
 -- the string that goes wrong in a run
-run_string_unique : (flags : Settings) (s t u a b : List ℕ) (ps qs : List Piece) (e f : LexError) → Run flags s ps (quote ∷ t) → StringFault flags t e a → Run flags s qs (quote ∷ u) → StringFault flags u f b → t ≡ u
+pub run_string_unique : (flags : Settings) (s t u a b : List ℕ) (ps qs : List Piece) (e f : LexError) → Run flags s ps (quote ∷ t) → StringFault flags t e a → Run flags s qs (quote ∷ u) → StringFault flags u f b → t ≡ u
 run_string_unique flags s t u a b ps qs e f none x none y = refl
 run_string_unique flags s t u a b ps qs e f none x (idchar i j) y = absurd (false≢true i)
 run_string_unique flags s t u a b ps qs e f none x (string {v = w} {m = n} i j) y = absurd (quoted_sound flags t w n a e i x)
@@ -89,12 +89,12 @@ run_string_unique flags s t u a b ps qs e f (string h k) x (idchar i j) y = absu
 run_string_unique flags s t u a b ps qs e f (string {t = l} {v = v} {m = m} {ps = xs} h k) x (string {v = w} {m = n} {ps = ys} i j) y =
     run_string_unique flags m t u a b xs ys e f k x (subst (λ z. Run flags z ys (quote ∷ u)) (sym (quoted_unique flags l v w m n h i).1) j) y
 
-comment_unique : (flags : Settings) (s : List ℕ) (k l : TokenKind) (w x r q : List ℕ) → WordIsAt flags s k w r → WordIsAt flags s l x q → r ≡ q
+pub comment_unique : (flags : Settings) (s : List ℕ) (k l : TokenKind) (w x r q : List ℕ) → WordIsAt flags s k w r → WordIsAt flags s l x q → r ≡ q
 comment_unique flags s k l w x r q h g =
     let same = (is_at_unique flags s k l w x r q h g).1 in
     append_cancel_left w r q (sym h.cut ∙ g.cut ∙ ap (λ y. y ++ q) (sym same))
 
-comment_run : (flags : Settings) (s : List ℕ) (kind : TokenKind) (w r : List ℕ) (ps : List Piece) (t : List ℕ) → IsComment kind → WordIsAt (allowing flags) s kind w r → Run flags s ps (quote ∷ t) → ⊥
+pub comment_run : (flags : Settings) (s : List ℕ) (kind : TokenKind) (w r : List ℕ) (ps : List Piece) (t : List ℕ) → IsComment kind → WordIsAt (allowing flags) s kind w r → Run flags s ps (quote ∷ t) → ⊥
 comment_run flags s kind w r ps t k h g = comment_no_run flags s ps t (comment_start (allowing flags) s kind w r k h) g
 
 pub covers_unique : (flags : Settings) (s : List ℕ) (e f : LexError) (r q : List ℕ) → e ≡ f → Covers flags s e r → Covers flags s f q → r ≡ q
@@ -127,7 +127,7 @@ pub record Passed (s r : List ℕ) : Type 0 where
   pub prefix : List ℕ
   pub cut : s ≡ prefix ++ r
 
-passes_cut : (s r : List ℕ) → PassesString s r → Passed s r
+pub passes_cut : (s r : List ℕ) → PassesString s r → Passed s r
 passes_cut s r closed = record { prefix = quote ∷ []; cut = refl }
 passes_cut s r (line_end h) = record { prefix = []; cut = refl }
 passes_cut s r text_end = record { prefix = []; cut = refl }

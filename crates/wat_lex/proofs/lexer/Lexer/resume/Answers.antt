@@ -1,6 +1,6 @@
-use Rattle.std.proofs.Common.{◌≡◌, ◌∙◌, ℕ, drop, ap, sym, subst, arith}
+use Rattle.std.proofs.Common.{◌∙◌, drop, ap, subst, arith}
 use Rattle.wat_lex.specs.inside.Recovered.{Covered}
-use Rattle.wat_lex.proofs.inside.Recoveries.{resumes, resumes_on}
+use Rattle.wat_lex.proofs.inside.Recoveries.{reported, resumes, resumes_on}
 use Rattle.wat_lex.proofs.tokens.OneRecovery.{resumes_once}
 use Rattle.wat_lex.proofs.tokens.SomeTilings.{some_tiling}
 use Rattle.wat_lex.proofs.lexer.Lexer.resume.Goals as goal
@@ -25,3 +25,6 @@ returns-clause-boundary c = (resumes_on c.args.self.now c.args.pos c.args.fault 
 
 pub returns-clause-tiling : goal.returns-clause-tiling
 returns-clause-tiling c = some_tiling c.args.self.now _ c.input.ensures.utf8 (resumes_on c.args.self.now c.args.pos c.args.fault c.covered_len.result c.input.ensures.utf8 c.requires.start (covered c)).0
+
+pub returns-clause-reported : goal.returns-clause-reported
+returns-clause-reported c = reported c.args.self.now c.args.pos c.args.fault c.covered_len.result c.input.ensures.utf8 c.requires.start c.requires.fault (covered c)

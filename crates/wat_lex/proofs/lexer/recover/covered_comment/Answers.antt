@@ -1,12 +1,9 @@
-use Rattle.std.proofs.Common.{sym, ap, ◌∙◌, subst, ◌≡◌, ◌⊎◌, ℕ, List, get_or, arith, inl, inr, refl}
-use Rattle.std.specs.Prelude.{Option, Some, None, IfSome, IfNone}
+use Rattle.std.proofs.Common.{sym, ap, ◌∙◌, subst, ◌≡◌, ℕ, List, get_or, inl, inr, refl}
+use Rattle.std.specs.Prelude.{IfSome, IfNone}
 use Rattle.wat_lex.specs.inside.Outlines.{IsRefused}
-use Rattle.wat_lex.specs.inside.Recovered.{BeginsComment, Covered}
 use Rattle.wat_lex.specs.inside.ScannedLexemes.{LexemeFound}
 use Rattle.wat_lex.specs.tokens.Setting.{allowing}
-use Rattle.wat_lex.specs.declared.lexer.kinds.TokenKind.{TokenKind}
 use Rattle.wat_lex.specs.declared.lexer.kinds.TokenKind.TheVariants.{LineComment, BlockComment}
-use Rattle.wat_lex.specs.declared.lexer.faults.LexError.TheVariants.{ConfusingUnicode}
 use Rattle.wat_lex.proofs.inside.Recoveries.{comment_begun, comment_covered, comment_there}
 use Rattle.wat_lex.proofs.lexer.recover.covered_comment.Goals as goal
 use Rattle.wat_lex.proofs.lexer.recover.covered_comment.Goals.{then-byte_at-eq40, else-byte_at-eq40}

@@ -3,7 +3,7 @@ use Rattle.std.proofs.lemmas.Str.{length-encode}
 use lib.Utf8.{encode}
 use Rattle.wat_lex.specs.grammar.Classes.{is_run_char}
 use Rattle.wat_lex.specs.inside.Recovered.{Covered, BeginsFault}
-use Rattle.wat_lex.specs.declared.lexer.faults.LexError.TheVariants.{Unexpected, DanglingBlockComment, ConfusingUnicode}
+use Rattle.wat_lex.specs.declared.lexer.faults.LexError.TheVariants.{Unexpected}
 use Rattle.wat_lex.proofs.inside.Recoveries.{refused_by, covered_by, character_covered, opening_covered, in_comment}
 use Rattle.wat_lex.proofs.lexer.recover.covered_len.Goals as goal
 

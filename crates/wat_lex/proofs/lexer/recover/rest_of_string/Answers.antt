@@ -1,8 +1,7 @@
-use Rattle.std.proofs.Common.{◌≡◌, ◌≢◌, ℕ, List, get_or, drop, ap, ◌∙◌, sym, subst}
+use Rattle.std.proofs.Common.{◌≡◌, ℕ, List, get_or, ap, ◌∙◌, sym, subst}
 use Rattle.std.specs.Str.{chars}
 use Rattle.std.proofs.lemmas.Str.{IsCharBoundary-from_drop}
 use Rattle.wat_lex.specs.grammar.Classes.{Begins}
-use Rattle.wat_lex.specs.inside.Recovered.{PassedIn}
 use Rattle.wat_lex.specs.tokens.Recovery.{is_inside}
 use Rattle.wat_lex.proofs.inside.Recoveries.{passed_quote, passed_line}
 use Rattle.wat_lex.proofs.lexer.recover.rest_of_string.Goals as goal
