@@ -26,7 +26,8 @@ fn begins_escaped(text: &str) -> bool
     }
 }
 
-/// How many bytes the character has that a string at fault goes on with, with what it escapes. None where the string ends.
+/// How many bytes come first that end no string at fault: a character, or a backslash with what it
+/// escapes. None where the string ends.
 fn inside_len(text: &str) -> Option<usize>
     ensures some { IfSome result (PassedIn text.now) }
     ensures none { IfNone result (Begins is_inside (chars text.now) → ⊥) }
@@ -42,8 +43,8 @@ fn inside_len(text: &str) -> Option<usize>
     Some(text.len() - it.as_str().len())
 }
 
-/// How many bytes are left of a string at fault, from after its opening quote: up to the next quote in the line that no
-/// backslash escapes, or to the line's end.
+/// How many bytes are left of a string at fault, from after its opening quote: up to and with the next
+/// quote in the line that no backslash escapes, or to the line's end.
 fn rest_of_string(text: &str) -> usize
     ensures { PassedTo text.now result }
 {
