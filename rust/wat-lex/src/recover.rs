@@ -16,7 +16,8 @@ use core::ops::Range;
 /// | in a string | the run that the string is in, up to the string's end |
 ///
 /// The string's end is after the next quote in the line that no backslash escapes, else it is the end of the line, which is not covered. A
-/// backslash escapes a quote or a backslash directly after it. The rule is of this crate; neither the standard nor `wast` has one.
+/// backslash escapes a quote or a backslash directly after it. The rule is of this crate; neither the standard nor `wast` has one. Where it ends is
+/// what [`proved::lexer::Lexer::resume`](crate::proved::lexer::Lexer::resume) is proved to answer.
 ///
 /// ```
 /// use wat_lex::{LexError, Lexer};
