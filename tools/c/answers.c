@@ -131,6 +131,38 @@ static void tokens(void) {
     expect(wat_is_text(bytes_of(text), 5) && !wat_is_text(bytes_of("\xff"), 1), "wat_is_text", text);
 }
 
+/* Where reading goes on after a token, the text's end, and what each fault covers. */
+static void covers(void) {
+    static const struct {
+        const char *text;
+        size_t pos, next;
+    } rows[] = {{"", 0, 0},
+                {"(a)", 1, 2},
+                {"(a)", 3, 3},
+                {"a \xc2\x80" "b", 2, 4},
+                {"(; (; ;) a", 0, 2},
+                {";; \xe2\x80\xae x\na", 0, 8},
+                {"\"a\\q\" b", 0, 5},
+                {"\"a\\q\"b\"c\"", 0, 5},
+                {"\"\xe2\x80\xae\" b", 0, 5},
+                {"(a \"b)\n(c)", 3, 6},
+                {"(a \"b)\r(c)", 3, 6},
+                {"\"\\q\\\"b\" c", 0, 7},
+                {"\"\\q\\\\\" c\"", 0, 6},
+                {"\"\\\nb", 0, 2},
+                {"\"\\", 0, 2},
+                {"a$\"b\"c\"d", 0, 8},
+                {"(@\"a\\q\"b\")", 1, 7}};
+    static const char allowed[] = "\"\xe2\x80\xae\\q\" b", strict[] = "\"\\u{1__0}\" b";
+    size_t i;
+    for (i = 0; i < sizeof rows / sizeof *rows; i++) {
+        const char *text = rows[i].text;
+        expect(wat_resume(bytes_of(text), strlen(text), rows[i].pos, false, false) == rows[i].next, "wat_resume", text);
+    }
+    expect(wat_resume(bytes_of(allowed), strlen(allowed), 0, true, false) == 7, "wat_resume", allowed);
+    expect(wat_resume(bytes_of(strict), strlen(strict), 0, false, true) == 10, "wat_resume", strict);
+}
+
 static bool is_at(struct wat_position position, size_t line, size_t column) {
     return position.line == line && position.column == column;
 }
@@ -227,6 +259,7 @@ static void messages(void) {
 int main(void) {
     readers();
     tokens();
+    covers();
     lines();
     shown();
     values();

@@ -267,6 +267,17 @@ static bool are_same(struct wat_token a, struct wat_token b) {
            a.kind.has_underscores == b.kind.has_underscores && a.kind.hex == b.kind.hex;
 }
 
+/* Reading goes on at the end of a token, and after a fault at a place that is past where it is reported, or there. */
+static void look_after(struct setting s, size_t pos, struct wat_found found) {
+    size_t next = wat_resume(s.text, s.len, pos, s.allow, s.strict);
+    expect(wat_is_place(s.text, s.len, next), "reading goes on at no place", pos);
+    if (found.fault == WAT_NO_FAULT) {
+        expect(next == pos + found.token.len, "reading goes on elsewhere than after a token", pos);
+    } else {
+        expect(next > pos && found.token.offset >= pos && found.token.offset <= next, "a fault is outside of what it covers", pos);
+    }
+}
+
 /* What is at a place, by every function. */
 static struct wat_found look(struct setting s, size_t pos) {
     struct wat_found found = wat_scan(s.text, s.len, pos, s.allow, s.strict);
@@ -286,6 +297,7 @@ static struct wat_found look(struct setting s, size_t pos) {
         }
     }
     look_for_comment(s, pos, found);
+    look_after(s, pos, found);
     if (found.fault != WAT_NO_FAULT) {
         read_message(s, pos, found);
     } else if (found.token.kind.code > WAT_WHITESPACE) {

@@ -13,3 +13,4 @@ pub mod Outlines
 pub mod NumberSteps
 pub mod Blocks
 pub mod Nesting
+pub mod Recoveries

@@ -6,6 +6,8 @@ pub mod RawLaws
 pub mod OneNumberFault
 pub mod OneStringFault
 pub mod OneFault
+pub mod OneRecovery
+pub mod ReportedFaults
 pub mod OneTilings
 pub mod CutTexts
 pub mod MovedTexts

@@ -5,6 +5,7 @@ pub mod StringParts
 pub mod Outlines
 pub mod ScannedLexemes
 pub mod ScannedRuns
+pub mod Recovered
 pub mod Blocks
 pub mod Nesting
 pub mod Utf16Bytes

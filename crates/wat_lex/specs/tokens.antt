@@ -3,6 +3,7 @@ pub mod Setting
 pub mod Blanks
 pub mod StringFaults
 pub mod Faults
+pub mod Recovery
 pub mod Tiling
 pub mod UniqueTilings
 pub mod CutsAndMoves

@@ -1,5 +1,5 @@
 //! The lexer of the WebAssembly text format.
-ghost use Rattle.std.specs.Prelude.{◌≡◌, ◌⊎◌, ◌<◌, ◌^◌, ◌+◌, true, false, List, length, drop, Option};
+ghost use Rattle.std.specs.Prelude.{◌≡◌, ◌⊎◌, ◌≤◌, ◌<◌, ◌^◌, ◌+◌, ℕ, true, false, List, length, drop, Option};
 ghost use Rattle.std.specs.Prelude.{Result, IfOk, IfErr, IfSome, IfNone, OnErr};
 ghost use Rattle.std.specs.List.{prefix_len};
 ghost use Rattle.std.specs.Str.{IsCharBoundary, IsUtf8};
@@ -8,10 +8,11 @@ ghost use Rattle.wat_lex.specs.declared.lexer.faults.LexFault.{LexFault as Fault
 ghost use Rattle.wat_lex.specs.declared.lexer.kinds.Token.{Token as Lexed};
 ghost use Rattle.wat_lex.specs.declared.lexer.kinds.TokenKind.TheVariants.{Whitespace};
 ghost use Rattle.wat_lex.specs.tokens.Faults.{FaultAt};
+ghost use Rattle.wat_lex.specs.tokens.Recovery.{ResumesAt};
 ghost use Rattle.wat_lex.specs.tokens.Raw.{ErrorAt};
 ghost use Rattle.wat_lex.specs.tokens.ReadableTokens.{IsTokenOf};
 ghost use Rattle.wat_lex.specs.tokens.Tiling.{TokenAt};
-ghost use Rattle.wat_lex.specs.tokens.UniqueTilings.{AnswerAt, EndsFrom};
+ghost use Rattle.wat_lex.specs.tokens.UniqueTilings.{AnswerAt, EndsFrom, SomeTiling};
 
 use crate::error::Error;
 use crate::token::Span;
@@ -21,6 +22,7 @@ use std::marker::Model;
 mod faults;
 mod kinds;
 mod read;
+mod recover;
 mod scan;
 mod settings;
 
@@ -28,6 +30,7 @@ pub use faults::{LexError, LexFault};
 pub use kinds::{FloatKind, IntegerKind, SignToken, Token, TokenKind};
 use kinds::{Found, Lexeme, Stride};
 pub use read::numbers::{Float, Integer, magnitude};
+use recover::covered_len;
 pub(crate) use scan::blocks::block_at;
 use scan::classes::blank_len;
 pub(crate) use scan::classes::is_confusing;
@@ -238,6 +241,34 @@ impl<'a> Lexer<'a> {
         }
     }
 
+    /// Where tokens are read again after the fault at a byte of the text: after what the fault covers.
+    ///
+    /// | fault | covers |
+    /// |---|---|
+    /// | a character with which no token begins | that character |
+    /// | a block comment that nothing closes | its `(;` alone |
+    /// | a confusing character in a comment | the comment |
+    /// | in a string | the run that the string is in, up to the string's end |
+    ///
+    /// The string's end is after the next quote in the line that no backslash escapes, else it is the
+    /// end of the line, which is not covered. A backslash escapes a quote or a backslash directly after
+    /// it. The rule is of this crate; neither the standard nor `wast` has one.
+    ///
+    /// The tokens before the fault are those that [`Lexer::scan`] answered. From what is answered on
+    /// the text is read as from any place.
+    pub fn resume(&self, pos: usize, fault: LexFault) -> usize
+        requires start { IsCharBoundary self.now.text pos }
+        requires fault { FaultAt self.now pos fault }
+        ensures place { ResumesAt self.now pos fault result }
+        ensures one { (place : ℕ) → ResumesAt self.now pos fault place → place ≡ result }
+        ensures progress { pos < result }
+        ensures reported { (pos ≤ fault.offset) × (fault.offset ≤ result) }
+        ensures boundary { IsCharBoundary self.now.text result }
+        ensures tiling { SomeTiling self.now result }
+    {
+        pos + covered_len(&self.input()[pos..], fault.error, self.settings())
+    }
+
     ghost use Rattle.wat_lex.specs.inside.Outlines.{FoundIn, IsRefused};
     ghost use Rattle.wat_lex.specs.inside.ScannedLexemes.{LexemeFound};
 
@@ -320,7 +351,7 @@ impl<'a> Lexer<'a> {
     ghost use Rattle.wat_lex.specs.tokens.Laws.{Laws};
     ghost use Rattle.wat_lex.specs.tokens.CutsAndMoves.{Cuts, Moves};
     ghost use Rattle.wat_lex.specs.tokens.Raw.{Item, Raw, token_steps};
-    ghost use Rattle.wat_lex.specs.tokens.UniqueTilings.{SomeTiling, OneTiling};
+    ghost use Rattle.wat_lex.specs.tokens.UniqueTilings.{OneTiling};
 
     /// The tokens from a byte of the text on, up to its end or its first fault.
     pub fn iter<'l>(&'l self, alloc: Global, pos: usize) -> Tokens<'l, 'a>

@@ -5,4 +5,5 @@ pub mod FaultMessages
 pub mod Numbers
 pub mod Printing
 pub mod Readings
+pub mod Resuming
 pub mod Words

@@ -14,6 +14,7 @@ pub mod numbers;
 pub mod positions;
 pub mod printing;
 mod readings;
+pub mod recovery;
 pub mod version;
 pub mod words;
 

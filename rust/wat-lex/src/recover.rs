@@ -5,7 +5,6 @@ use alloc::vec::Vec;
 use core::fmt;
 use core::iter::FusedIterator;
 use core::ops::Range;
-use memchr::memchr;
 
 /// A fault of a text, with the bytes that it covers: those that are passed over, so that tokens are read again after them.
 ///
@@ -17,7 +16,8 @@ use memchr::memchr;
 /// | in a string | the run that the string is in, up to the string's end |
 ///
 /// The string's end is after the next quote in the line that no backslash escapes, else it is the end of the line, which is not covered. A
-/// backslash escapes a quote or a backslash directly after it. The rule is of this crate; neither the standard nor `wast` has one.
+/// backslash escapes a quote or a backslash directly after it. The rule is of this crate; neither the standard nor `wast` has one. Where it ends is
+/// what [`proved::lexer::Lexer::resume`](crate::proved::lexer::Lexer::resume) is proved to answer.
 ///
 /// ```
 /// use wat_lex::{LexError, Lexer};
@@ -47,7 +47,7 @@ impl Fault {
         Fault {
             error: fault.error,
             offset,
-            len: (end_of(lexer, offset, fault) - offset) as u32,
+            len: (lexer.resume(offset, fault) - offset) as u32,
             reported: (fault.offset - offset) as u32,
         }
     }
@@ -252,52 +252,6 @@ pub(crate) fn piece_at(lexer: &Lexer<'_>, pos: usize) -> Option<Piece> {
         Ok(token) => Some(Piece::Token(token?.into())),
         Err(fault) => Some(Piece::Fault(Fault::new(lexer, pos, fault))),
     }
-}
-
-/// Where what the fault covers ends that the lexer has at a byte.
-fn end_of(lexer: &Lexer<'_>, pos: usize, fault: LexFault) -> usize {
-    let bytes = lexer.input().as_bytes();
-    match fault.error {
-        LexError::Unexpected(c) => pos + c.len_utf8(),
-        LexError::DanglingBlockComment => pos + 2,
-        _ if matches!(bytes[pos], b'(' | b';') => comment_end(lexer, pos),
-        _ => run_end(bytes, pos, fault.offset),
-    }
-}
-
-/// Where the comment ends that begins at a byte and has a confusing character.
-fn comment_end(lexer: &Lexer<'_>, pos: usize) -> usize {
-    let mut lexer = lexer.clone();
-    match lexer.allow_confusing_unicode(true).scan(pos) {
-        Ok(Some(comment)) => pos + comment.len as usize,
-        _ => unreachable!("a comment, where confusing characters are allowed"),
-    }
-}
-
-/// Where the first string of a run ends that has a fault, which is reported at a byte. The strings before it end before that byte.
-fn run_end(bytes: &[u8], pos: usize, reported: usize) -> usize {
-    let mut end = pos;
-    while let Some(quote) = memchr(b'"', &bytes[end..reported]) {
-        end = string_end(bytes, end + quote + 1);
-        if end >= reported {
-            return end;
-        }
-    }
-    end
-}
-
-/// Where a string ends, from a byte of it on: after the next quote that no backslash escapes, or at the end of the line.
-fn string_end(bytes: &[u8], from: usize) -> usize {
-    let mut at = from;
-    while let Some(byte) = bytes.get(at) {
-        at += match (byte, bytes.get(at + 1)) {
-            (b'"', _) => return at + 1,
-            (b'\n' | b'\r', _) => return at,
-            (b'\\', Some(b'"' | b'\\')) => 2,
-            _ => 1,
-        };
-    }
-    at
 }
 
 /// Where the block comments begin that nothing closes, of those that begin at a byte or after it. What the text is before each is left open: it

@@ -74,7 +74,7 @@ at_byte : (flags : Settings) (text : List ℕ) (len ids strs c : ℕ) → Joined
 at_byte flags text len ids strs c j l e s =
     led (drop len text) c j.utf8 (omega (arith, length-drop len text)) (ap (λ x. get_or x 0 0) (drop_more text len 0 l) ∙ e) s
 
-past_quote : (flags : Settings) (text : List ℕ) (len ids strs : ℕ) → (j : Joined flags text len ids strs) → len < length text → get_or text len 0 ≡ 34 → chars (drop len text) ≡ 34 ∷ chars (drop (len + 1) text)
+pub past_quote : (flags : Settings) (text : List ℕ) (len ids strs : ℕ) → (j : Joined flags text len ids strs) → len < length text → get_or text len 0 ≡ 34 → chars (drop len text) ≡ 34 ∷ chars (drop (len + 1) text)
 past_quote flags text len ids strs j l e =
     let k = at_byte flags text len ids strs 34 j l e (omega arith) in
     k.chars ∙ ap (λ x. 34 ∷ chars x) (drop-drop 1 len text)

@@ -26,7 +26,7 @@ use Rattle.wat_lex.proofs.inside.StringSteps.{Took, at_end, raw_char}
 -- ---- one element
 
 -- the bytes that are left of a text after a prefix of its characters
-left_of : (text rest prefix : List ℕ) → IsUtf8 text → IsUtf8 rest → chars text ≡ prefix ++ chars rest → (length rest ≤ length text) × (drop (length text - length rest) text ≡ rest)
+pub left_of : (text rest prefix : List ℕ) → IsUtf8 text → IsUtf8 rest → chars text ≡ prefix ++ chars rest → (length rest ≤ length text) × (drop (length text - length rest) text ≡ rest)
 left_of text rest prefix u v e =
     let bytes : text ≡ encodes prefix ++ rest = sym (encodes-chars text u) ∙ ap encodes e ∙ encodes-append prefix (chars rest) ∙ ap (λ x. encodes prefix ++ x) (encodes-chars rest v) in
     let sum : length text ≡ length (encodes prefix) + length rest = ap length bytes ∙ length-append (encodes prefix) rest in

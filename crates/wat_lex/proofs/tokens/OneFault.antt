@@ -66,7 +66,7 @@ comment_no_run_char : (s : List ℕ) → CommentStart s → Begins is_run_char s
 comment_no_run_char s (block h) b = false≢true b
 comment_no_run_char s line b = false≢true b
 
-comment_no_run : (flags : Settings) (s : List ℕ) (ps : List Piece) (t : List ℕ) → CommentStart s → Run flags s ps (quote ∷ t) → ⊥
+pub comment_no_run : (flags : Settings) (s : List ℕ) (ps : List Piece) (t : List ℕ) → CommentStart s → Run flags s ps (quote ∷ t) → ⊥
 comment_no_run flags s ps t c h = comment_no_run_char s c (run_begins flags s (quote ∷ t) ps t refl h)
 
 run_begins_word : (s : List ℕ) → Begins is_run_char s → Begins begins_word s

@@ -39,7 +39,7 @@ pub(super) mod strings;
 
 /// The byte at a place, and 0 past the end.
 #[inline(always)]
-fn byte_at(text: &[u8], i: usize) -> u8
+pub fn byte_at(text: &[u8], i: usize) -> u8
     ensures { result ≡ slice_index text.now i }
 {
     if i < text.len() { text[i] } else { 0 }

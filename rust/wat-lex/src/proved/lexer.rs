@@ -9,6 +9,7 @@ use crate::shim::alloc::Global;
 mod faults;
 mod kinds;
 mod read;
+mod recover;
 mod scan;
 mod settings;
 
@@ -16,6 +17,7 @@ pub use faults::{LexError, LexFault};
 pub use kinds::{FloatKind, IntegerKind, SignToken, Token, TokenKind};
 use kinds::{Found, Lexeme, Stride};
 pub use read::numbers::{Float, Integer, magnitude};
+use recover::covered_len;
 pub(crate) use scan::blocks::block_at;
 use scan::classes::blank_len;
 pub(crate) use scan::classes::is_confusing;
@@ -259,6 +261,38 @@ impl<'a> Lexer<'a> {
                 Err(fault) => return Some(fault),
             }
         }
+    }
+
+    /// Where tokens are read again after the fault at a byte of the text: after what the fault covers.
+    ///
+    /// | fault | covers |
+    /// |---|---|
+    /// | a character with which no token begins | that character |
+    /// | a block comment that nothing closes | its `(;` alone |
+    /// | a confusing character in a comment | the comment |
+    /// | in a string | the run that the string is in, up to the string's end |
+    ///
+    /// The string's end is after the next quote in the line that no backslash escapes, else it is the
+    /// end of the line, which is not covered. A backslash escapes a quote or a backslash directly after
+    /// it. The rule is of this crate; neither the standard nor `wast` has one.
+    ///
+    /// The tokens before the fault are those that [`Lexer::scan`] answered. From what is answered on
+    /// the text is read as from any place.
+    ///
+    /// # Proved
+    ///
+    /// ```text
+    /// requires start { IsCharBoundary self.now.text pos }
+    /// requires fault { FaultAt self.now pos fault }
+    /// ensures place { ResumesAt self.now pos fault result }
+    /// ensures one { (place : ℕ) → ResumesAt self.now pos fault place → place ≡ result }
+    /// ensures progress { pos < result }
+    /// ensures reported { (pos ≤ fault.offset) × (fault.offset ≤ result) }
+    /// ensures boundary { IsCharBoundary self.now.text result }
+    /// ensures tiling { SomeTiling self.now result }
+    /// ```
+    pub fn resume(&self, pos: usize, fault: LexFault) -> usize {
+        pos + covered_len(&self.input()[pos..], fault.error, self.settings())
     }
 
     /// What is at a byte of the text.

@@ -57,6 +57,9 @@ fn lexing(row: &Row) -> Option<Result<String, Error>> {
             Ok(found) => found.map_or("end".to_owned(), token),
             Err(error) => format!("{:?} at {}", error.lex_error()?, error.span().offset()),
         }),
+        "resume" | "resume-allowing" | "resume-strict" => Ok(lexer
+            .fault_at(at)
+            .map_or("no fault".to_owned(), |_| lexer.resume(at).to_string())),
         "annotation" => lexer
             .annotation(at)
             .map(|found| found.map_or("none".to_owned(), token)),

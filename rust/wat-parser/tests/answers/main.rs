@@ -40,5 +40,5 @@ fn the_proved_calls_answer_each_row() {
 #[test]
 fn the_layer_answers_the_rows_of_its_calls() {
     let answered = ask(layer::answer, Source::Text);
-    assert!(answered >= 779, "the layer answers {answered} rows");
+    assert!(answered >= 806, "the layer answers {answered} rows");
 }

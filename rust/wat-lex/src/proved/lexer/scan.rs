@@ -35,7 +35,7 @@ pub(super) mod strings;
 /// ensures { result ≡ slice_index text.now i }
 /// ```
 #[inline(always)]
-fn byte_at(text: &[u8], i: usize) -> u8 {
+pub fn byte_at(text: &[u8], i: usize) -> u8 {
     if i < text.len() { text[i] } else { 0 }
 }
 

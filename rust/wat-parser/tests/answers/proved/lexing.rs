@@ -56,6 +56,15 @@ fn scan(row: &Row) -> String {
     }
 }
 
+/// Where tokens are read again after the fault at a byte.
+fn resume(row: &Row) -> String {
+    let lexer = lexer(row);
+    match lexer.scan(row.at()) {
+        Ok(_) => "no fault".to_owned(),
+        Err(fault) => lexer.resume(row.at(), fault).to_string(),
+    }
+}
+
 /// The annotation at a byte.
 fn annotation(row: &Row) -> Result<String, Error> {
     let found = lexer(row).annotation(Global, row.at())?;
@@ -144,6 +153,7 @@ pub fn answer(row: &Row) -> Option<Result<String, Error>> {
         "has-name" | "name-fault" => name_of(row),
         "scan" | "read" | "read-allowing" if is_inside => Ok("no such byte".to_owned()),
         "scan" => Ok(scan(row)),
+        "resume" | "resume-allowing" | "resume-strict" => Ok(resume(row)),
         "read" | "read-allowing" => read(row),
         _ => return None,
     })
