@@ -4,11 +4,12 @@
 //! be UTF-8. `lexer.js` of the package lays the memory out so.
 #![warn(missing_docs)]
 #![deny(improper_ctypes_definitions, unsafe_code)]
-// Proofs name loops, and each file imports the shim's names, of which it may need none. Clippy's advice on style is for text that is written in Rust.
-#![allow(unused_imports, unused_labels, clippy::style, clippy::complexity)]
 
 #[cfg(target_family = "wasm")]
 mod memory;
+// Proofs name loops, and each file imports the shim's names, of which it may need none. Clippy's advice on style is for text that is written in Rust.
+#[allow(unused_imports, unused_labels)]
+#[allow(clippy::style, clippy::complexity, clippy::pedantic)]
 // What JavaScript passes: pointers.
 #[allow(unsafe_code)]
 pub mod page;
