@@ -20,19 +20,23 @@ export class Document {
   replace(text, flags = {}) {
     this.#reader.open(encoder.encode(text), { allow: flags.allowConfusingUnicode, strict: flags.strictUnderscores });
     this.#read();
+    this.#units = new Units(this.#reader.bytes);
   }
 
   // Puts a piece of text in the place of what is from one place to another, and reads again what that touches.
   change(start, end, piece) {
     if (end < start) throw new RangeError(`from ${start} to ${end} nothing lies`);
-    this.#reader.change(this.#units.byteAt(start), this.#units.byteAt(end), encoder.encode(piece));
+    const from = this.#units.byteAt(start), to = this.#units.byteAt(end), bytes = encoder.encode(piece);
+    this.#units.cut(from, to);
+    this.#reader.change(from, to, bytes);
     this.#read();
+    this.#units.look(this.#reader.bytes);
+    this.#units.put(from, bytes.length);
   }
 
   #read() {
     this.#reader.readOn();
     if (this.#reader.ending === 'too long') throw new RangeError('the text is too long');
-    this.#units = new Units(this.#reader.bytes);
   }
 
   get text() { return decoder.decode(this.#reader.bytes); }
@@ -40,7 +44,7 @@ export class Document {
   // How many tokens there are: all of the text, or those before its fault.
   get count() { return this.#reader.count; }
 
-  kind(i) { return KINDS[this.#reader.rows[2 * this.#checked(i) + 1]]; }
+  kind(i) { return KINDS[this.#reader.rows.code(this.#checked(i))]; }
   start(i) { return this.#checked(i) > 0 ? this.end(i - 1) : 0; }
   end(i) { return this.#units.at(this.#reader.endOf(this.#checked(i))); }
   token(i) { return { kind: this.kind(i), start: this.start(i), end: this.end(i) }; }
