@@ -1,24 +1,28 @@
 // A text that is edited, and what the lexer reads in it. Places are in UTF-16 units, as those of JavaScript's strings are.
-import { layoutOf } from './layout.js';
 import { KINDS, Lexer, decoder } from './lexer.js';
 import { Reader } from './reader.js';
 import { Tokens } from './tokens.js';
 import { Units } from './units.js';
+import { Whole } from './whole.js';
 
 const encoder = new TextEncoder();
 
 export class Document {
   #reader;
   #units;
+  #flags;
+  #whole;
 
   constructor(module, text = '', flags = {}) {
     this.#reader = new Reader(new Lexer(new WebAssembly.Instance(module)));
+    this.#whole = new Whole(module);
     this.replace(text, flags);
   }
 
   // Another text, or other flags, of which all is read.
   replace(text, flags = {}) {
-    this.#reader.open(encoder.encode(text), { allow: flags.allowConfusingUnicode, strict: flags.strictUnderscores });
+    this.#flags = { allow: flags.allowConfusingUnicode, strict: flags.strictUnderscores };
+    this.#reader.open(encoder.encode(text), this.#flags);
     this.#read();
     this.#units = new Units(this.#reader.bytes);
   }
@@ -77,7 +81,10 @@ export class Document {
 
   // The text laid out, or null where it has a fault.
   format() {
-    const { ending, bytes } = this.#reader;
-    return ending === 'whole' ? decoder.decode(layoutOf(new Tokens(this.#reader), bytes).bytes) : null;
+    const laidOut = this.#reader.ending === 'whole' ? this.#whole.layOut(this.#reader.bytes, this.#flags) : null;
+    return laidOut && decoder.decode(laidOut);
   }
+
+  // The bytes of a module of nothing but function types, or null where the text is none.
+  types() { return this.#reader.ending === 'whole' ? this.#whole.types(this.#reader.bytes) : null; }
 }

@@ -1,4 +1,5 @@
-//! The module of the npm package and of the page: one function, which reads a text and writes a row for each of its tokens.
+//! The module of the npm package and of the page: a function that reads a text and writes a row for each of its tokens, and those of [`whole`], which
+//! lay a text out and make the bytes of a module of types.
 //!
 //! [`page`] is made of the proved sources of `wat_page` by `tools/erase`. What JavaScript passes meets rules 1, 5 and 6 of `include/wat.h`; it need not
 //! be UTF-8. `lexer.js` of the package lays the memory out so.
@@ -15,3 +16,6 @@ mod memory;
 pub mod page;
 #[cfg(test)]
 mod tests;
+// The names of functions.
+#[allow(unsafe_code)]
+pub mod whole;
