@@ -5,7 +5,7 @@
 #
 #   CRATES_FOLDER=FOLDER  the crates that cargo takes, each in a folder of its own, where no registry is at hand
 #   WASM_CARGO=COMMAND    as for page/build.sh
-#   GATE_LOG=FILE         the log of `rt ci` over this commit, which is put into the release
+#   GATE_LOG=FILE         the log that tools/gate.sh wrote of this commit, which is put into the release, with the verdict of each crate
 #   BY=rattle             archives for C by Rattle's compilers too, for x86-64-v2 and AArch64, over the proofs that are kept in `crates`
 #
 # usage: tools/dist.sh OUT
@@ -18,7 +18,7 @@ room=$(mktemp -d)
 trap 'rm -rf "$room"' EXIT
 source=$room/source made=$room/dist
 crates_folder=${CRATES_FOLDER:+$(realpath "$CRATES_FOLDER")}
-gate_log=${GATE_LOG:+$(realpath "$GATE_LOG")}
+gate_log=${GATE_LOG:+$(realpath -m "$GATE_LOG")}
 
 say() {
     echo "dist.sh: $*"
@@ -53,9 +53,30 @@ by_folder() {
     printf '[source.crates-io]\nreplace-with = "folder"\n[source.folder]\ndirectory = "%s"\n[net]\noffline = true\n' "$1"
 }
 
+# crate_names: those of crates.txt
+crate_names() {
+    sed -n 's/^\([a-z0-9_]*\)[ :].*/\1/p' "$top/crates.txt"
+}
+
+# check_gate_log: the log of the gate is of HEAD, which passed, with each of its crates
+check_gate_log() {
+    local name
+    [ -f "$gate_log" ] || die "GATE_LOG: there is no file $gate_log"
+    [ "$(head -n 1 "$gate_log")" = "commit $(git -C "$top" rev-parse HEAD)" ] || die 'GATE_LOG is of another commit, or of none'
+    [[ $(tail -n 1 "$gate_log") == *' passed, 0 failed' ]] || die 'GATE_LOG is of no gate that passed'
+    for name in $(crate_names); do
+        grep -qx "rt: $name proved" "$gate_log" || die "GATE_LOG has no proof of $name"
+    done
+}
+
+# verdicts: what the log says last of the proof of each crate, after its name
+verdicts() {
+    awk '/^== / { name = /: its tests$/ ? "" : $2 } /^logic=/ && name { print "  " name ": " $0; name = "" }' "$gate_log"
+}
+
 # A clone of HEAD, and a home for cargo with no other crates than those of Cargo.lock. Where both are is in none of the bytes that rustc writes.
 prepare() {
-    [ -z "$gate_log" ] || [[ $(tail -n 1 "$gate_log") == *' 0 failed'* ]] || die 'GATE_LOG is of no gate that passed'
+    [ -z "$gate_log" ] || check_gate_log
     git clone --quiet "$top" "$source"
     cd "$source"
     [ -z "$(git -C "$top" status --porcelain)" ] || say 'what is not committed is not in the release'
@@ -238,7 +259,7 @@ proof() {
     {
         printf 'wat %s, commit %s of %s\nproved sources: crates, git tree %s, for the kit whose `rt version` prints `%s`\n' \
             "$version" "$commit" "$(git log -1 --format=%cI)" "$(git rev-parse HEAD:crates)" "$logic"
-        [ -z "$gate_log" ] && echo 'gate: no log was given (GATE_LOG=FILE)' || echo "gate: gate.log, $(tail -n 1 "$gate_log")"
+        [ -z "$gate_log" ] && echo 'gate: no log was given (GATE_LOG=FILE)' || { echo "gate: gate.log, $(tail -n 1 "$gate_log")" && verdicts; }
         printf 'made Rust of the proved sources: %s\n\n' "$(tools/erase/check.py --committed | tail -n 1)"
         cat "$room/made" "$room/left_out"
     } > "$made/proof/PROOF.txt"
