@@ -96,6 +96,14 @@ for (let at = 0; at < 6; at += 1) {
   const text = generated.slice(at * 100_000, at * 100_000 + 3_000 * 4 ** (at % 3));
   compareEdited(at < 3 ? text : text.replaceAll('a', () => chance.oneOf(['a', '\u00e9', '\u6f22', '\u{1f600}'])), {}, chance);
 }
+// A text that outgrows the memory that it is opened with.
+const line = generated.indexOf('\n', 500_000), half = generated.slice(0, line);
+const growing = wat.open(`${half};; \u{1f600}\n`.repeat(5).slice(0, 2_600_000));
+growing.change(line, line, half.slice(0, 100_000));
+growing.change(9, 9, ' ');
+const after = wat.lex(growing.text);
+assert.deepEqual([growing.count, growing.fault, growing.end(growing.count - 1)], [after.tokens.length, after.fault, after.tokens.at(-1).end]);
+for (let i = 0; i < growing.count; i += 997) assert.deepEqual(growing.token(i), after.tokens[i]);
 if (isServed) assert.deepEqual(wat.types('(module (type (func (param i32))))'), Uint8Array.of(0, 97, 115, 109, 1, 0, 0, 0, 1, 5, 1, 96, 1, 127, 0));
 document.replace('a\u{1f600}b');
 assert.throws(() => document.change(2, 2, 'x'), RangeError);

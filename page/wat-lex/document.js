@@ -25,17 +25,14 @@ export class Document {
     this.#reader.open(encoder.encode(text), this.#flags);
     this.#read();
     this.#units = new Units(this.#reader.bytes);
+    this.#reader.measures.push(this.#units);
   }
 
   // Puts a piece of text in the place of what is from one place to another, and reads again what that touches.
   change(start, end, piece) {
     if (end < start) throw new RangeError(`from ${start} to ${end} nothing lies`);
-    const from = this.#units.byteAt(start), to = this.#units.byteAt(end), bytes = encoder.encode(piece);
-    this.#units.cut(from, to);
-    this.#reader.change(from, to, bytes);
+    this.#reader.change(this.#units.byteAt(start), this.#units.byteAt(end), encoder.encode(piece));
     this.#read();
-    this.#units.look(this.#reader.bytes);
-    this.#units.put(from, bytes.length);
   }
 
   #read() {

@@ -11,6 +11,8 @@ const PART = 1 << 16;
 // The rows before the gap are those of the tokens that are read. Those after it are of an earlier reading and after all changes since: the first of
 // them begins so many bytes before the text's end as `#keptFrom` says. Once what is read comes to that place they are joined, and the text's too.
 export class Reader {
+  // What is counted of the text and follows its changes: its lines, and what whoever opens it adds.
+  measures = [];
   #lexer;
   #flags = {};
   #place = 0;
@@ -28,9 +30,11 @@ export class Reader {
   // A text of which nothing is read yet, or nothing ever where it is no UTF-8 or too long.
   open(given, flags) {
     this.#lexer.reserve(given.length);
+    this.measures = [];
     this.#look(given.length);
     this.bytes.set(given);
     this.lines = new Lines(this.bytes);
+    this.measures.push(this.lines);
     this.restart(flags);
   }
 
@@ -46,13 +50,15 @@ export class Reader {
   change(from, to, piece) {
     const { length } = this.bytes;
     const more = piece.length - (to - from);
-    this.lines.cut(from, to);
-    if (this.#lexer.reserve(length + more)) this.#forget(); else this.#keep(from, to);
+    const isElsewhere = this.#lexer.reserve(length + more);
+    this.#look(length);
+    for (const measure of this.measures) measure.cut(from, to);
+    if (isElsewhere) this.#forget(); else this.#keep(from, to);
     this.#look(Math.max(length, length + more));
     this.bytes.copyWithin(from + piece.length, to, length);
     this.bytes.set(piece, from);
     this.#look(length + more);
-    this.lines.put(from, piece.length);
+    for (const measure of this.measures) measure.put(from, piece.length);
   }
 
   // The place that the text is read to.
@@ -94,7 +100,7 @@ export class Reader {
   #look(length) {
     this.bytes = this.#lexer.bytes(length);
     this.rows?.look(this.#lexer.rows(), length);
-    this.lines?.look(this.bytes);
+    for (const measure of this.measures) measure.look(this.bytes);
   }
 
   #end({ ending, offset = 0, line = 0, column = 0, message = '' }) { Object.assign(this, { ending, offset, line, column, message }); }

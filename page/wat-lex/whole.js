@@ -4,10 +4,11 @@ export class Whole {
   #module;
   #exports = null;
 
-  constructor(module) { this.#module = module; }
-
-  // Whether the module takes memory at all: that of Rattle's compiler does not.
-  get isServed() { return WebAssembly.Module.exports(this.#module).some(({ name }) => name === 'wat_page_room'); }
+  constructor(module) {
+    this.#module = module;
+    // Whether the module takes memory at all: that of Rattle's compiler does not.
+    this.isServed = WebAssembly.Module.exports(module).some(({ name }) => name === 'wat_page_room');
+  }
 
   // The text laid out, or null where it has a fault or there is no memory.
   layOut(bytes, { allow = false, strict = false } = {}) { return this.#make(bytes, ({ wat_page_lay_out }) => wat_page_lay_out(allow, strict)); }
