@@ -145,13 +145,16 @@ c_folder() {
     sed "s|@PREFIX@|\${pcfiledir}/../..|; s|@VERSION@|$version|; s|@PRIVATE@|${2:-}|" include/wat.pc.in > "$1/lib/pkgconfig/wat.pc"
 }
 
-# answers NAME LIBRARY..: the C library's answers are those from outside
+# answers NAME LIBRARY..: the C library's answers are those from outside, and its tokens those that the header finds inline. Where they run by a
+# machine's EMULATOR, its TOOLS are those that compile.
 answers() {
-    local name=$1 said
+    local name=$1 program said
     shift
-    cc -std=c99 -O2 -Iinclude -o "$room/answers" tools/c/answers.c "$@"
-    said=$("$room/answers") || die "$name: $said"
-    say "$name: ${said##*$'\n'}"
+    for program in answers tokens; do
+        "${TOOLS:+${TOOLS}g}cc" -std=c99 -O2 -Iinclude -o "$room/$program" "tools/c/$program.c" "$@"
+        said=$(${EMULATOR:-} "$room/$program") || die "$name: $said"
+        say "$name: ${said##*$'\n'}"
+    done
 }
 
 c_library() {
@@ -208,6 +211,11 @@ rattle_libraries() {
     answers 'C, by Rattle for x86-64-v2' "$made/c/rattle-x86_64-v2-linux/lib/libwat.a"
     if has aarch64-linux-gnu-gcc; then
         by_rattle rattle-aarch64-linux aarch64-unknown-linux-gnu generic aarch64-linux-gnu- heap
+        if has qemu-aarch64; then
+            TOOLS=aarch64-linux-gnu- EMULATOR='qemu-aarch64 -L /usr/aarch64-linux-gnu' answers 'C, by Rattle for AArch64, emulated' "$made/c/rattle-aarch64-linux/lib/libwat.a"
+        else
+            say 'C, by Rattle for AArch64: not run, as no qemu-aarch64 is here'
+        fi
     else
         leave_out "the archive by Rattle's compilers for AArch64" 'no aarch64-linux-gnu-gcc is here'
     fi
