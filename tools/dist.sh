@@ -185,7 +185,7 @@ by_rattle() {
     done
     c_folder "$folder"
     one_object "$folder/lib/libwat.a" "${objects[@]}" crates/wat_parser_c/out/libwat_parser_c.a
-    record "$folder/lib/libwat.a" -- "crates/wat_parser_c, by Rattle's compilers ($(rt version)), and tools/c/{$(IFS=, && echo "$*")}.c, by $("${TOOLS}gcc" --version | head -n 1)
+    record "$folder/lib/libwat.a" -- "crates/wat_parser_c, by Rattle's compilers ($(rt version)), and $(printf 'tools/c/%s.c ' "$@")by $("${TOOLS}gcc" --version | head -n 1)
   $(tail -n 1 "$log")"
 }
 
