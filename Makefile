@@ -14,7 +14,7 @@
 ## make dist           the folder of a release (OUT; GATE_LOG=FILE; BY=rattle: archives by Rattle's compilers too)
 ## make tests          the tests of the Rust packages
 ## make checks         what takes a minute or two: edits, documents, names, the version, the erased text
-## make gate           rt ci: proves every crate, tries wrong bodies, runs tests and programs
+## make gate           rt ci: proves every crate, tries wrong bodies, runs tests and programs (LOG=FILE: with its log, for make dist)
 ## make parts          the parts of all that CI checks: group, name, command
 ## make part OF=NAME   runs one of them, or a group; all of them: .ci/run
 ## make edits OF=NAME  tries the wrong bodies of a function, of a crate, or of this name
@@ -103,7 +103,7 @@ part:
 	.ci/run $(OF)
 
 gate:
-	rt ci
+	$(if $(LOG),tools/gate.sh $(LOG),rt ci)
 
 edits:
 	tools/edits.py try $(OF)

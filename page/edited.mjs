@@ -2,7 +2,6 @@
 import assert from 'node:assert/strict';
 import { changeOf, Places } from './edits.js';
 import { rowsOfPart } from './wat-lex/lexer.js';
-import { Lines } from './wat-lex/lines.js';
 
 const PIECES = ['"', '""', '\\', '\\"', '\\q', '\\u{e9}', '(;', ';)', ';;', ';', '(', ')', '(@', '@', '@"', '$', '$"', ',', '[', '0x', '1_000', '1__0', '_', 'nan:0x', '+', 'a', 'i32', ' ', '  ', '\n', '\n\n', '\t', '\r\n', '\r', '\u00e9', '\u202e', '\u6f22', '\u{1f600}', '\u{1fa00}', '\u{1f600}\u{1fa00}', '\0', '\x7f'];
 const LONG = ['x'.repeat(3000), ' '.repeat(2000), '(; (; \u{1f600} ;) ', `"${'\u6f22'.repeat(400)}"`, '(a $b "c" ;; d\n'.repeat(100), ';; e\n'.repeat(40)];
@@ -26,16 +25,32 @@ export function readOnce(lexer, bytes, flags) {
   return { ...found, bytes: lexer.bytes(bytes.length) };
 }
 
+// Whether the rows of a reader are the first of those that the module told.
+function areFirst({ rows, count }, numbers) {
+  for (let i = 0; i < count; i += 1) if (rows.end(i) !== numbers[2 * i] || rows.code(i) !== numbers[2 * i + 1]) return false;
+  return true;
+}
+
 const isSame = (one, other) => Buffer.from(one.slice().buffer).equals(Buffer.from(other.slice().buffer));
+
+// Whether the lines of a reader are those of its text, wherever they are looked for.
+function compareLines({ lines, bytes }) {
+  const starts = [0];
+  for (let at = bytes.indexOf(10); at >= 0; at = bytes.indexOf(10, at + 1)) starts.push(at + 1);
+  assert.equal(lines.count, starts.length, 'lines');
+  for (let line = 0; line < starts.length; line += Math.ceil(starts.length / 2000)) {
+    const start = starts[line];
+    assert.deepEqual([lines.start(line), lines.at(start), lines.at(Math.max(0, start - 1))], [start, line, Math.max(0, line - 1)], 'a line');
+  }
+}
 
 // Whether a reader says the same; and where it has not read all, whether what it says is the beginning.
 export function compare(reader, lexer, flags) {
   const whole = readOnce(lexer, reader.bytes, flags);
   const isRead = reader.ending !== null;
   for (const it of isRead ? ['ending', 'count', 'offset', 'line', 'column', 'message'] : []) assert.equal(reader[it], whole[it], it);
-  assert.ok(reader.count <= whole.count && isSame(reader.rows.subarray(0, 2 * reader.count), whole.rows.subarray(0, 2 * reader.count)), 'rows');
-  const lines = new Lines(reader.bytes);
-  assert.deepEqual([reader.lines.count, reader.lines.before], [lines.count, lines.before], 'lines');
+  assert.ok(reader.count <= whole.count && areFirst(reader, whole.rows), 'rows');
+  compareLines(reader);
 }
 
 // Reads a text of which stretches are read elsewhere, wherever they begin, given in any order, and some of them not at all. Answers how many were given.

@@ -1,5 +1,8 @@
-// What was typed: which part of a text is another now, and where the text area's places lie in the text's bytes.
-import { CARRIAGE_RETURN } from './wat-lex/lines.js';
+// What was typed: which part of a text is another now, and where the text area's places lie in the text's bytes, and in its layout.
+import { CARRIAGE_RETURN, LINE_FEED } from './wat-lex/lines.js';
+import { WHITE_SPACE } from './wat-lex/tokens.js';
+
+const BLANK = 32;
 
 // How many units two texts have in common from these places on, at most so many. Slices are compared since the engine does so by words.
 function common(one, other, oneFrom, otherFrom, most) {
@@ -69,4 +72,16 @@ export class Places {
     }
     if (this.#at > 0 && bytes[this.#at - 1] === CARRIAGE_RETURN) this.#at -= 1;
   }
+}
+
+// Where a place of a text is in its layout: in its token, or in front of the next one.
+export function placeInLayout(tokens, laidOut, place) {
+  let at = 0;
+  for (let i = 0; i < tokens.count; i += 1) {
+    if (tokens.code(i) === WHITE_SPACE) continue;
+    while (laidOut[at] === BLANK || laidOut[at] === LINE_FEED) at += 1;
+    if (place < tokens.end(i)) return at + Math.max(0, place - tokens.start(i));
+    at += tokens.end(i) - tokens.start(i);
+  }
+  return laidOut.length;
 }

@@ -1,25 +1,20 @@
 #!/usr/bin/env node
 // Answers the layout of each line of standard input as a line, or `fault`, as rust/wat-tokens/examples/layouts.rs does: so tools/compare_layouts.py
-// compares the page's layouts too. In a line `\n`, `\r`, `\t` and `\\` stand for line feed, carriage return, tab and backslash.
+// compares the module's layouts too. In a line `\n`, `\r`, `\t` and `\\` stand for line feed, carriage return, tab and backslash.
 // usage: laid.mjs < TEXTS, once build.sh has made the module
 import { readFileSync } from 'node:fs';
-import { layoutOf } from './wat-lex/layout.js';
-import { Lexer, decoder } from './wat-lex/lexer.js';
-import { Tokens } from './wat-lex/tokens.js';
+import { decoder } from './wat-lex/lexer.js';
+import { Whole } from './wat-lex/whole.js';
 
 const module = new WebAssembly.Module(readFileSync(new URL('out/wat-lex/wat_lex.wasm', import.meta.url)));
-const lexer = new Lexer(new WebAssembly.Instance(module));
+const whole = new Whole(module);
 const encoder = new TextEncoder();
 const CHARACTERS = { n: '\n', r: '\r', t: '\t', '\\': '\\' };
 const WORDS = { '\n': '\\n', '\r': '\\r', '\t': '\\t', '\\': '\\\\' };
 
 function laid(text) {
-  const given = encoder.encode(text);
-  lexer.reserve(given.length);
-  const bytes = lexer.bytes(given.length);
-  bytes.set(given);
-  const { ending, count } = lexer.tell(0, given.length, 0, given.length, {});
-  return ending === 'whole' ? decoder.decode(layoutOf(new Tokens({ ending, count, rows: lexer.rows() }), bytes).bytes) : null;
+  const laidOut = whole.layOut(encoder.encode(text));
+  return laidOut && decoder.decode(laidOut);
 }
 
 const lines = readFileSync(0, 'utf8').split('\n').slice(0, -1);

@@ -8,15 +8,18 @@ import { fileURLToPath } from 'node:url';
 import { changeOf } from './edits.js';
 import { Chance, Edits } from './edited.mjs';
 import { load, loadSync } from './out/wat-lex/node.js';
+import { Whole } from './wat-lex/whole.js';
 
 const program = process.argv[2];
 if (!program) throw new Error('usage: node packaged.mjs PROGRAM');
 const folder = fileURLToPath(new URL('../crates/wat_tokens/agreement/', import.meta.url));
 const EDITS = 40;
+// Whether the module takes memory, which layouts and bytes of types want.
+const { isServed } = new Whole(new WebAssembly.Module(readFileSync(fileURLToPath(new URL('out/wat-lex/wat_lex.wasm', import.meta.url)))));
 const wat = loadSync();
 assert.deepEqual((await load()).lex('(a)'), wat.lex('(a)'));
 const document = wat.open();
-const seen = { texts: 0, tokens: 0, faults: 0, layouts: 0, edits: 0 };
+const seen = { texts: 0, tokens: 0, faults: 0, layouts: 0, types: 0, edits: 0 };
 
 // What the program prints of a text.
 function ran(words, input) {
@@ -45,12 +48,16 @@ function compareWithProgram(text, flags, words) {
     assert.deepEqual([line, column], [before.length - 1, before.at(-1).length]);
     assert.ok(fault.startsWith(message.split('\n')[0]));
   }
-  const laid = ran(['fmt'], text);
-  if (words.length === 0) assert.equal(wat.format(text), laid.status === 0 ? laid.said : null);
+  if (words.length === 0 && isServed) {
+    const laid = ran(['fmt'], text), types = spawnSync(program, ['types'], { input: text });
+    assert.equal(wat.format(text), laid.status === 0 ? laid.said : null);
+    assert.deepEqual(wat.types(text), types.status === 0 ? new Uint8Array(types.stdout) : null);
+    seen.layouts += 1;
+    seen.types += types.status === 0 ? 1 : 0;
+  }
   seen.texts += 1;
   seen.tokens += found.tokens.length;
   seen.faults += found.fault ? 1 : 0;
-  seen.layouts += words.length === 0 ? 1 : 0;
 }
 
 function compareEdited(given, flags, chance) {
@@ -83,6 +90,21 @@ for (const name of readdirSync(folder).filter((it) => existsSync(`${folder}${it}
   compareWithProgram(text, flags, words);
   compareEdited(text, flags, chance);
 }
+// Long texts of several blocks, also with characters of two, three and four bytes.
+const generated = spawnSync('python3', [fileURLToPath(new URL('../tools/generate.py', import.meta.url)), '1'], { maxBuffer: 2 ** 30 }).stdout.toString();
+for (let at = 0; at < 6; at += 1) {
+  const text = generated.slice(at * 100_000, at * 100_000 + 3_000 * 4 ** (at % 3));
+  compareEdited(at < 3 ? text : text.replaceAll('a', () => chance.oneOf(['a', '\u00e9', '\u6f22', '\u{1f600}'])), {}, chance);
+}
+// A text that outgrows the memory that it is opened with.
+const line = generated.indexOf('\n', 500_000), half = generated.slice(0, line);
+const growing = wat.open(`${half};; \u{1f600}\n`.repeat(5).slice(0, 2_600_000));
+growing.change(line, line, half.slice(0, 100_000));
+growing.change(9, 9, ' ');
+const after = wat.lex(growing.text);
+assert.deepEqual([growing.count, growing.fault, growing.end(growing.count - 1)], [after.tokens.length, after.fault, after.tokens.at(-1).end]);
+for (let i = 0; i < growing.count; i += 997) assert.deepEqual(growing.token(i), after.tokens[i]);
+if (isServed) assert.deepEqual(wat.types('(module (type (func (param i32))))'), Uint8Array.of(0, 97, 115, 109, 1, 0, 0, 0, 1, 5, 1, 96, 1, 127, 0));
 document.replace('a\u{1f600}b');
 assert.throws(() => document.change(2, 2, 'x'), RangeError);
 assert.throws(() => document.change(5, 5, 'x'), RangeError);

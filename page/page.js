@@ -2,15 +2,15 @@
 import { Ahead } from './ahead.js';
 import { Columns } from './columns.js';
 import { whatCounts } from './counts.js';
-import { changeOf, Places } from './edits.js';
+import { changeOf, placeInLayout, Places } from './edits.js';
 import { EXAMPLES } from './examples.js';
 import { fragmentOf, givenBy } from './link.js';
 import { Sight } from './sight.js';
-import { compileTypes, dumped } from './types.js';
-import { layoutOf } from './wat-lex/layout.js';
+import { dumped, mayBeTypes } from './types.js';
 import { Lexer, decoder } from './wat-lex/lexer.js';
 import { Reader } from './wat-lex/reader.js';
 import { Tokens } from './wat-lex/tokens.js';
+import { Whole } from './wat-lex/whole.js';
 
 // In bytes: a longer text is shown, and not edited; of a line, and of a token in the list, no more than these are drawn.
 const EDITABLE = 1 << 20;
@@ -25,7 +25,7 @@ const encoder = new TextEncoder();
 const textOf = (from, to) => decoder.decode(bytes.subarray(from, to));
 const plural = (count, word) => `${count.toLocaleString('en')} ${word}${count === 1 ? '' : 's'}`;
 
-let reader, ahead, view, list, columns;
+let reader, ahead, whole, view, list, columns;
 let bytes, lines, tokens, cursor = 0;
 // The tokens that count, where only these are listed.
 let counted = null;
@@ -361,7 +361,8 @@ function showCounts() {
 
 // The bytes of a module of types, which is read as the standard has it and under no names.
 function showBytes() {
-  const module = reader.ending === 'whole' && !$('allow').checked ? compileTypes(tokens, bytes) : null;
+  const isRead = whole.isServed && reader.ending === 'whole' && !$('allow').checked;
+  const module = isRead && mayBeTypes(tokens, bytes) ? whole.types(bytes) : null;
   $('bytes-part').hidden = !module;
   if (!module) return;
   const rest = module.length > 16 * DUMPED ? `, of which the first ${16 * DUMPED} are shown` : '';
@@ -533,12 +534,13 @@ function retype(from, to, piece) {
 function format() {
   const why = unformatted();
   if (why) return tell('formatted', why);
-  const laid = layoutOf(tokens, bytes, cursor, EDITABLE);
-  if (laid === null) return tell('formatted', 'Formatted it would have more than a megabyte, and is left as it is.');
+  const laidOut = whole.layOut(bytes, flags());
+  if (laidOut === null) return tell('formatted', 'There is no memory to format the text.');
+  if (laidOut.length > EDITABLE) return tell('formatted', 'Formatted it would have more than a megabyte, and is left as it is.');
   const typedAs = (given) => decoder.decode(given).replaceAll('\r\n', '\n');
-  const { from, to, text } = changeOf(typed, typedAs(laid.bytes));
+  const { from, to, text } = changeOf(typed, typedAs(laidOut));
   if (from === to && !text) return tell('formatted', 'The text is formatted already.');
-  const place = typedAs(laid.bytes.subarray(0, laid.place)).length;
+  const place = typedAs(laidOut.subarray(0, placeInLayout(tokens, laidOut, cursor))).length;
   if (!retype(from, to, text)) return tell('formatted', 'The browser refuses to change the text.');
   moveTo(places.byteAt(bytes, place), 'formatted');
   return tell('formatted', 'The text is formatted.');
@@ -628,6 +630,8 @@ async function start() {
   warmUp(lexer);
   reader = new Reader(lexer);
   ahead = new Ahead(module);
+  whole = new Whole(module);
+  $('format').hidden = !whole.isServed;
   columns = new Columns(getComputedStyle($('text')));
   view = new Sight([$('text'), $('view')], $('seen'), drawView);
   list = new Sight([$('list')], $('list').querySelector('.seen'), drawList);

@@ -12,7 +12,7 @@ import sys
 
 folder = pathlib.Path(sys.argv[1])
 # Each after those that it imports.
-PACKAGE = [f"wat-lex/{name}.js" for name in ("lexer", "lines", "reader", "tokens", "layout")]
+PACKAGE = [f"wat-lex/{name}.js" for name in ("lexer", "sums", "lines", "rows", "reader", "tokens", "whole")]
 SCRIPTS = [*PACKAGE, *(f"{name}.js" for name in ("sight", "columns", "ahead", "edits", "names", "counts", "types", "examples", "link", "page"))]
 WORKER = ["wat-lex/lexer.js", "worker.js"]
 

@@ -1,6 +1,7 @@
 #!/usr/bin/env python3
-"""Checks the documents: that each link leads to a file, and to a heading where it has an anchor; that README leads to each document in two
-links at most; that no cell of a table has more than twelve words; that README has 110 lines at most; and that none of a few worn words is used.
+"""Checks the documents: that each link leads to a file, and to a heading where it has an anchor, and in a package for a registry to one of its own;
+that README leads to each document in two links at most; that no cell of a table has more than twelve words; that README has 110 lines at most; and
+that none of a few worn words is used.
 
 usage: tools/check_links.py
 
@@ -37,9 +38,17 @@ def cells(text):
     return [cell.strip() for line in lines for cell in re.split(r"(?<!\\)\|", line)[1:-1]]
 
 
+def is_of_a_package(path):
+    """Whether a document is in a package that a registry would show."""
+    manifest = path.parent / "Cargo.toml"
+    return manifest.exists() and "\ndocumentation" in manifest.read_text(encoding="utf-8")
+
+
 def faults(texts):
     for path, text in texts.items():
         for target, anchor in links(path, text):
+            if is_of_a_package(path) and not target.is_relative_to(path.parent):
+                yield f"{path}: a link out of its package, to {target}"
             if not target.exists() or anchor and (target not in texts or anchor not in anchors(texts[target])):
                 yield f"{path}: a link to {target}#{anchor or ''} leads nowhere"
         yield from (f"{path}: a cell of {len(cell.split())} words: {cell}" for cell in cells(text) if len(cell.split()) > 12)

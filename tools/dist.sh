@@ -5,7 +5,7 @@
 #
 #   CRATES_FOLDER=FOLDER  the crates that cargo takes, each in a folder of its own, where no registry is at hand
 #   WASM_CARGO=COMMAND    as for page/build.sh
-#   GATE_LOG=FILE         the log of `rt ci` over this commit, which is put into the release
+#   GATE_LOG=FILE         the log that tools/gate.sh wrote of this commit, which is put into the release, with the verdict of each crate
 #   BY=rattle             archives for C by Rattle's compilers too, for x86-64-v2 and AArch64, over the proofs that are kept in `crates`
 #
 # usage: tools/dist.sh OUT
@@ -18,7 +18,7 @@ room=$(mktemp -d)
 trap 'rm -rf "$room"' EXIT
 source=$room/source made=$room/dist
 crates_folder=${CRATES_FOLDER:+$(realpath "$CRATES_FOLDER")}
-gate_log=${GATE_LOG:+$(realpath "$GATE_LOG")}
+gate_log=${GATE_LOG:+$(realpath -m "$GATE_LOG")}
 
 say() {
     echo "dist.sh: $*"
@@ -53,9 +53,30 @@ by_folder() {
     printf '[source.crates-io]\nreplace-with = "folder"\n[source.folder]\ndirectory = "%s"\n[net]\noffline = true\n' "$1"
 }
 
+# crate_names: those of crates.txt
+crate_names() {
+    sed -n 's/^\([a-z0-9_]*\)[ :].*/\1/p' "$top/crates.txt"
+}
+
+# check_gate_log: the log of the gate is of HEAD, which passed, with each of its crates
+check_gate_log() {
+    local name
+    [ -f "$gate_log" ] || die "GATE_LOG: there is no file $gate_log"
+    [ "$(head -n 1 "$gate_log")" = "commit $(git -C "$top" rev-parse HEAD)" ] || die 'GATE_LOG is of another commit, or of none'
+    [[ $(tail -n 1 "$gate_log") == *' passed, 0 failed' ]] || die 'GATE_LOG is of no gate that passed'
+    for name in $(crate_names); do
+        grep -qx "rt: $name proved" "$gate_log" || die "GATE_LOG has no proof of $name"
+    done
+}
+
+# verdicts: what the log says last of the proof of each crate, after its name
+verdicts() {
+    awk '/^== / { name = /: its tests$/ ? "" : $2 } /^logic=/ && name { print "  " name ": " $0; name = "" }' "$gate_log"
+}
+
 # A clone of HEAD, and a home for cargo with no other crates than those of Cargo.lock. Where both are is in none of the bytes that rustc writes.
 prepare() {
-    [ -z "$gate_log" ] || [[ $(tail -n 1 "$gate_log") == *' 0 failed'* ]] || die 'GATE_LOG is of no gate that passed'
+    [ -z "$gate_log" ] || check_gate_log
     git clone --quiet "$top" "$source"
     cd "$source"
     [ -z "$(git -C "$top" status --porcelain)" ] || say 'what is not committed is not in the release'
@@ -124,13 +145,16 @@ c_folder() {
     sed "s|@PREFIX@|\${pcfiledir}/../..|; s|@VERSION@|$version|; s|@PRIVATE@|${2:-}|" include/wat.pc.in > "$1/lib/pkgconfig/wat.pc"
 }
 
-# answers NAME LIBRARY..: the C library's answers are those from outside
+# answers NAME LIBRARY..: the C library's answers are those from outside, and its tokens those that the header finds inline. Where they run by a
+# machine's EMULATOR, its TOOLS are those that compile.
 answers() {
-    local name=$1 said
+    local name=$1 program said
     shift
-    cc -std=c99 -O2 -Iinclude -o "$room/answers" tools/c/answers.c "$@"
-    said=$("$room/answers") || die "$name: $said"
-    say "$name: ${said##*$'\n'}"
+    for program in answers tokens; do
+        "${TOOLS:+${TOOLS}g}cc" -std=c99 -O2 -Iinclude -o "$room/$program" "tools/c/$program.c" "$@"
+        said=$(${EMULATOR:-} "$room/$program") || die "$name: $said"
+        say "$name: ${said##*$'\n'}"
+    done
 }
 
 c_library() {
@@ -161,7 +185,7 @@ by_rattle() {
     done
     c_folder "$folder"
     one_object "$folder/lib/libwat.a" "${objects[@]}" crates/wat_parser_c/out/libwat_parser_c.a
-    record "$folder/lib/libwat.a" -- "crates/wat_parser_c, by Rattle's compilers ($(rt version)), and tools/c/{$(IFS=, && echo "$*")}.c, by $("${TOOLS}gcc" --version | head -n 1)
+    record "$folder/lib/libwat.a" -- "crates/wat_parser_c, by Rattle's compilers ($(rt version)), and $(printf 'tools/c/%s.c ' "$@")by $("${TOOLS}gcc" --version | head -n 1)
   $(tail -n 1 "$log")"
 }
 
@@ -187,6 +211,11 @@ rattle_libraries() {
     answers 'C, by Rattle for x86-64-v2' "$made/c/rattle-x86_64-v2-linux/lib/libwat.a"
     if has aarch64-linux-gnu-gcc; then
         by_rattle rattle-aarch64-linux aarch64-unknown-linux-gnu generic aarch64-linux-gnu- heap
+        if has qemu-aarch64; then
+            TOOLS=aarch64-linux-gnu- EMULATOR='qemu-aarch64 -L /usr/aarch64-linux-gnu' answers 'C, by Rattle for AArch64, emulated' "$made/c/rattle-aarch64-linux/lib/libwat.a"
+        else
+            say 'C, by Rattle for AArch64: not run, as no qemu-aarch64 is here'
+        fi
     else
         leave_out "the archive by Rattle's compilers for AArch64" 'no aarch64-linux-gnu-gcc is here'
     fi
@@ -238,7 +267,7 @@ proof() {
     {
         printf 'wat %s, commit %s of %s\nproved sources: crates, git tree %s, for the kit whose `rt version` prints `%s`\n' \
             "$version" "$commit" "$(git log -1 --format=%cI)" "$(git rev-parse HEAD:crates)" "$logic"
-        [ -z "$gate_log" ] && echo 'gate: no log was given (GATE_LOG=FILE)' || echo "gate: gate.log, $(tail -n 1 "$gate_log")"
+        [ -z "$gate_log" ] && echo 'gate: no log was given (GATE_LOG=FILE)' || { echo "gate: gate.log, $(tail -n 1 "$gate_log")" && verdicts; }
         printf 'made Rust of the proved sources: %s\n\n' "$(tools/erase/check.py --committed | tail -n 1)"
         cat "$room/made" "$room/left_out"
     } > "$made/proof/PROOF.txt"

@@ -170,13 +170,20 @@ const { tokens, fault } = loadSync().lex('(func "é\u{1f600}" $f)');
 console.log(tokens.filter(({ kind }) => kind !== 'Whitespace').map(({ kind, start, end }) => `${start}..${end} ${kind}`).join(' '), fault);
 const document = (await load()).open('(module\n( func "é" $f ) )');
 document.change(21, 21, 'oo');
-console.log(document.text.slice(document.start(9), document.end(9)), JSON.stringify(document.format()));
+console.log(document.text.slice(document.start(9), document.end(9)));
+if (process.argv.length > 2) console.log(JSON.stringify(document.format()), (await load()).types('(module (type (func)))').length);
 document.change(16, 17, '\\q');
 const { start, line, column, message } = document.fault;
 console.log(start, line, column, message);
 JS
-    expect 'Node: a program, no flag' $'0..1 LParen 1..5 Keyword 6..11 String 12..14 Id 14..15 RParen null\n$foo "(module\\n  (func \\"é\\" $foo))\\n"\n17 1 9 invalid string escape \'q\'' \
-        node node/main.js
+    local read=$'0..1 LParen 1..5 Keyword 6..11 String 12..14 Id 14..15 RParen null\n$foo' made=$'\n"(module\\n  (func \\"é\\" $foo))\\n" 14'
+    local faulty=$'\n17 1 9 invalid string escape \'q\''
+    expect 'Node: a program, no flag' "$read$faulty" node node/main.js
+    if grep -qa wat_page_room node/node_modules/wat-lex/wat_lex.wasm; then
+        expect 'Node: a layout and the bytes of types' "$read$made$faulty" node node/main.js made
+    else
+        say "Node: layouts and bytes of types are left out, as the package's module is that of Rattle's compiler"
+    fi
 }
 
 # The page from the disk, in two widths: its first text is read to its end.

@@ -1,25 +1,31 @@
 // A text that is edited, and what the lexer reads in it. Places are in UTF-16 units, as those of JavaScript's strings are.
-import { layoutOf } from './layout.js';
 import { KINDS, Lexer, decoder } from './lexer.js';
 import { Reader } from './reader.js';
 import { Tokens } from './tokens.js';
 import { Units } from './units.js';
+import { Whole } from './whole.js';
 
 const encoder = new TextEncoder();
 
 export class Document {
   #reader;
   #units;
+  #flags;
+  #whole;
 
   constructor(module, text = '', flags = {}) {
     this.#reader = new Reader(new Lexer(new WebAssembly.Instance(module)));
+    this.#whole = new Whole(module);
     this.replace(text, flags);
   }
 
   // Another text, or other flags, of which all is read.
   replace(text, flags = {}) {
-    this.#reader.open(encoder.encode(text), { allow: flags.allowConfusingUnicode, strict: flags.strictUnderscores });
+    this.#flags = { allow: flags.allowConfusingUnicode, strict: flags.strictUnderscores };
+    this.#reader.open(encoder.encode(text), this.#flags);
     this.#read();
+    this.#units = new Units(this.#reader.bytes);
+    this.#reader.measures.push(this.#units);
   }
 
   // Puts a piece of text in the place of what is from one place to another, and reads again what that touches.
@@ -32,7 +38,6 @@ export class Document {
   #read() {
     this.#reader.readOn();
     if (this.#reader.ending === 'too long') throw new RangeError('the text is too long');
-    this.#units = new Units(this.#reader.bytes);
   }
 
   get text() { return decoder.decode(this.#reader.bytes); }
@@ -40,7 +45,7 @@ export class Document {
   // How many tokens there are: all of the text, or those before its fault.
   get count() { return this.#reader.count; }
 
-  kind(i) { return KINDS[this.#reader.rows[2 * this.#checked(i) + 1]]; }
+  kind(i) { return KINDS[this.#reader.rows.code(this.#checked(i))]; }
   start(i) { return this.#checked(i) > 0 ? this.end(i - 1) : 0; }
   end(i) { return this.#units.at(this.#reader.endOf(this.#checked(i))); }
   token(i) { return { kind: this.kind(i), start: this.start(i), end: this.end(i) }; }
@@ -73,7 +78,10 @@ export class Document {
 
   // The text laid out, or null where it has a fault.
   format() {
-    const { ending, bytes } = this.#reader;
-    return ending === 'whole' ? decoder.decode(layoutOf(new Tokens(this.#reader), bytes).bytes) : null;
+    const laidOut = this.#reader.ending === 'whole' ? this.#whole.layOut(this.#reader.bytes, this.#flags) : null;
+    return laidOut && decoder.decode(laidOut);
   }
+
+  // The bytes of a module of nothing but function types, or null where the text is none.
+  types() { return this.#reader.ending === 'whole' ? this.#whole.types(this.#reader.bytes) : null; }
 }

@@ -53,6 +53,8 @@ export declare class Document implements Iterable<Token> {
   replace(text: string, flags?: Flags): void;
   /** The text laid out, or null where it has a fault. */
   format(): string | null;
+  /** The bytes of a module of nothing but function types, as the standard has them, or null where the text is none. */
+  types(): Uint8Array | null;
   [Symbol.iterator](): Iterator<Token>;
 }
 
@@ -63,6 +65,8 @@ export declare class WatLex {
   lex(text: string, flags?: Flags): { tokens: Token[]; fault: Fault | null };
   /** The text laid out, or null where it has a fault. */
   format(text: string): string | null;
+  /** The bytes of a module of nothing but function types, or null where the text is none. */
+  types(text: string): Uint8Array | null;
 }
 
 /** The lexer; the module is the package's own where no other is given. */

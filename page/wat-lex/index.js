@@ -24,6 +24,9 @@ export class WatLex {
   // A text laid out, or null where it has a fault.
   format(text) { return this.#once(text).format(); }
 
+  // The bytes of a module of nothing but function types, or null where the text is none.
+  types(text) { return this.#once(text).types(); }
+
   #once(text, flags) {
     this.#shared ??= this.open();
     this.#shared.replace(text, flags);

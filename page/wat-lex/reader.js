@@ -2,37 +2,22 @@
 // characters and the one after it, so those that end before a change stay; and from a place on at which a token began before, after
 // the change, the tokens are those from before, moved.
 import { LINE_FEED, Lines } from './lines.js';
+import { Rows, firstFrom } from './rows.js';
 
 // In bytes: how much is read at once, at first after a change, and of a whole text.
 const FIRST_PART = 512;
 const PART = 1 << 16;
 
-// The first of `count` numbers, given by their places, that is not less; or how many there are.
-function firstFrom(count, numberAt, least) {
-  let low = 0, high = count;
-  while (low < high) {
-    const middle = (low + high) >>> 1;
-    if (numberAt(middle) < least) low = middle + 1; else high = middle;
-  }
-  return low;
-}
-
-// Has the tokens of these rows end so many bytes further on.
-function move(rows, first, last, by) {
-  if (by === 0) return;
-  for (let i = 2 * first; i < 2 * last; i += 2) rows[i] += by;
-}
-
-// The tokens that are read lie in the first rows, `count` of them. In the last rows, from `#kept` on, lie those of an earlier reading that
-// are after all changes since: the first of them begins at `#keptFrom`, and `#moved` is to be added to where each ends. So many bytes
-// as there are rows at least, and each token has one: the two never meet.
+// The rows before the gap are those of the tokens that are read. Those after it are of an earlier reading and after all changes since: the first of
+// them begins so many bytes before the text's end as `#keptFrom` says. Once what is read comes to that place they are joined, and the text's too.
 export class Reader {
+  // What is counted of the text and follows its changes: its lines, and what whoever opens it adds.
+  measures = [];
   #lexer;
   #flags = {};
   #place = 0;
-  #kept = 0;
+  #isJoined = false;
   #keptFrom = 0;
-  #moved = 0;
   #step = PART;
   // Stretches of the text that are read elsewhere, one after another, with their rows once they are known.
   #ahead = [];
@@ -45,9 +30,11 @@ export class Reader {
   // A text of which nothing is read yet, or nothing ever where it is no UTF-8 or too long.
   open(given, flags) {
     this.#lexer.reserve(given.length);
+    this.measures = [];
     this.#look(given.length);
     this.bytes.set(given);
     this.lines = new Lines(this.bytes);
+    this.measures.push(this.lines);
     this.restart(flags);
   }
 
@@ -63,12 +50,15 @@ export class Reader {
   change(from, to, piece) {
     const { length } = this.bytes;
     const more = piece.length - (to - from);
-    if (this.#lexer.reserve(length + more)) this.#forget(); else this.#keep(from, to, more);
+    const isElsewhere = this.#lexer.reserve(length + more);
+    this.#look(length);
+    for (const measure of this.measures) measure.cut(from, to);
+    if (isElsewhere) this.#forget(); else this.#keep(from, to);
     this.#look(Math.max(length, length + more));
     this.bytes.copyWithin(from + piece.length, to, length);
     this.bytes.set(piece, from);
     this.#look(length + more);
-    this.lines = new Lines(this.bytes);
+    for (const measure of this.measures) measure.put(from, piece.length);
   }
 
   // The place that the text is read to.
@@ -101,51 +91,53 @@ export class Reader {
     return true;
   }
 
-  endOf(i) { return this.rows[2 * i]; }
+  // How many tokens are known: those of the text up to the place.
+  get count() { return this.#isJoined ? this.rows.count : this.rows.front; }
 
+  endOf(i) { return this.rows.end(i); }
+
+  // The memory may be another after it grew.
   #look(length) {
     this.bytes = this.#lexer.bytes(length);
-    this.rows = this.#lexer.rows();
-    if (this.lines) this.lines.bytes = this.bytes;
+    this.rows?.look(this.#lexer.rows(), length);
+    for (const measure of this.measures) measure.look(this.bytes);
   }
 
   #end({ ending, offset = 0, line = 0, column = 0, message = '' }) { Object.assign(this, { ending, offset, line, column, message }); }
 
   #forget() {
     this.#ahead = [];
-    this.count = 0;
+    this.rows = new Rows(this.#lexer.rows(), this.bytes.length);
+    this.#isJoined = false;
     this.#place = 0;
-    this.#kept = this.#lexer.capacity;
     this.#step = PART;
     this.#end({ ending: null });
   }
 
   // Keeps the tokens before a change and those after it: where there are none of this reading, those that were kept before.
-  #keep(from, to, more) {
+  #keep(from, to) {
     this.#ahead = [];
-    const next = to === 0 ? 0 : firstFrom(this.count, (i) => this.endOf(i), to) + 1;
-    if (next < this.count) {
-      this.#kept = this.#lexer.capacity - (this.count - next);
-      this.#keptFrom = next > 0 ? this.endOf(next - 1) : 0;
-      this.#moved = 0;
-      this.rows.copyWithin(2 * this.#kept, 2 * next, 2 * this.count);
+    const endOf = (i) => this.endOf(i), { count, rows } = this;
+    const first = firstFrom(count, endOf, from);
+    const next = to === 0 ? 0 : firstFrom(count, endOf, to) + 1;
+    if (next < count) {
+      if (!this.#isJoined) rows.forgetBack();
+      this.#keptFrom = this.bytes.length - (next > 0 ? this.endOf(next - 1) : 0);
+      rows.open(first, next);
     } else {
+      if (this.#isJoined) rows.open(first, count); else rows.front = first;
       this.#leave(to);
     }
-    this.#keptFrom += more;
-    this.#moved += more;
-    this.count = firstFrom(this.count, (i) => this.endOf(i), from);
-    this.#place = this.count > 0 ? this.endOf(this.count - 1) : 0;
+    this.#isJoined = false;
+    this.#place = rows.frontEnd;
     this.#step = FIRST_PART;
     this.#end({ ending: null });
   }
 
-  // Leaves off those of the kept tokens that begin in front of a place.
+  // Leaves off those of the kept tokens that begin before a place.
   #leave(place) {
-    while (this.#kept < this.#lexer.capacity && this.#keptFrom < place) {
-      this.#keptFrom = this.endOf(this.#kept) + this.#moved;
-      this.#kept += 1;
-    }
+    const { rows } = this;
+    while (rows.hasBack && this.bytes.length - this.#keptFrom < place) this.#keptFrom = rows.drop();
   }
 
   #join() { return this.#joinKept() || this.#joinAhead(); }
@@ -157,9 +149,9 @@ export class Reader {
       const next = from < this.#place ? firstFrom(rows.length / 2, (i) => rows[2 * i], this.#place) + 1 : 0;
       if (2 * next < rows.length) {
         if ((next > 0 ? rows[2 * next - 2] : from) !== this.#place) return false;
-        this.rows.set(rows.subarray(2 * next), 2 * this.count);
-        this.count += rows.length / 2 - next;
-        this.#place = this.endOf(this.count - 1);
+        this.#part();
+        this.rows.put(rows.subarray(2 * next));
+        this.#place = this.rows.frontEnd;
         this.#ahead.shift();
         return true;
       }
@@ -168,18 +160,20 @@ export class Reader {
     return false;
   }
 
-  // Puts the kept tokens after those that are read, where they begin there, and answers whether.
+  // Takes the kept tokens as those after what is read, where they begin there, and answers whether.
   #joinKept() {
+    if (this.#isJoined) return false;
     this.#leave(this.#place);
-    if (this.#kept === this.#lexer.capacity || this.#keptFrom !== this.#place) return false;
-    const { capacity } = this.#lexer;
-    const last = this.count + capacity - this.#kept;
-    this.rows.copyWithin(2 * this.count, 2 * this.#kept, 2 * capacity);
-    move(this.rows, this.count, last, this.#moved);
-    this.count = last;
-    this.#kept = this.#lexer.capacity;
+    if (!this.rows.hasBack || this.bytes.length - this.#keptFrom !== this.#place) return false;
+    this.#isJoined = true;
     this.#place = this.endOf(this.count - 1);
     return true;
+  }
+
+  // Has all rows be before the gap, so that others can be put after them.
+  #part() {
+    if (this.#isJoined) this.rows.open(this.count, this.count);
+    this.#isJoined = false;
   }
 
   // Where the part ends that is read next: soon after where something begins that was read elsewhere.
@@ -194,38 +188,46 @@ export class Reader {
   #readPart() {
     if (this.#join()) return;
     const { length } = this.bytes;
+    const { front, gap } = this.rows;
     const from = this.#place;
     const to = this.#partEnd();
-    let found = this.#lexer.tell(from, to, this.count, this.#kept - this.count, this.#flags);
+    let found = this.#lexer.tell(from, to, front, gap, this.#flags);
     let isPart = to < length;
     if (isPart && found.ending === 'whole') found.count -= 1;
     // A token that is as long as the part or longer, or a fault.
     if (isPart && found.count === 0) {
-      found = this.#lexer.tell(from, length, this.count, 1, this.#flags);
+      found = this.#lexer.tell(from, length, front, 1, this.#flags);
       isPart = false;
     }
     this.#step = Math.min(PART, 2 * this.#step);
+    // After tokens that are joined mostly the text ends, or its fault is there.
+    if (this.#isJoined && found.count > 0) {
+      this.#part();
+      return;
+    }
     if (this.#take(found.count, from) || isPart) return;
     if (found.ending === 'whole') this.#end(found);
     if (found.ending === 'faulty') this.#endAt(from + found.offset);
   }
 
-  // The first of the tokens after those that are read, up to one, after which others may be already.
-  #firstToJoin(last) {
+  // How many of so many tokens that are written after those that are read come before one after which others may be already.
+  #aloneOf(count) {
     const [next] = this.#ahead;
-    if (this.#kept < this.#lexer.capacity) return this.count;
-    if (!next?.rows) return last;
-    return this.count + firstFrom(last - this.count, (i) => this.endOf(this.count + i), next.from);
+    if (this.rows.hasBack) return 0;
+    if (!next?.rows) return count;
+    const { front, numbers } = this.rows;
+    return firstFrom(count, (i) => numbers[2 * (front + i)], next.from);
   }
 
   // Takes so many tokens that are written after those that are read, at most until kept ones follow, and answers whether they do.
   #take(count, from) {
-    const last = this.count + count;
-    move(this.rows, this.count, last, from);
-    const alone = this.#firstToJoin(last);
-    while (this.count < last) {
-      this.count = Math.max(this.count + 1, alone);
-      this.#place = this.endOf(this.count - 1);
+    const { rows } = this;
+    rows.shift(count, from);
+    const first = rows.front, alone = this.#aloneOf(count);
+    for (let taken = 0; taken < count;) {
+      taken = Math.max(taken + 1, alone);
+      rows.front = first + taken;
+      this.#place = rows.frontEnd;
       if (this.#join()) return true;
     }
     return false;

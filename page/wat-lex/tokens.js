@@ -1,5 +1,6 @@
 // The tokens of a text by their numbers: where each begins and ends, and what kind it is of.
 import { KINDS } from './lexer.js';
+import { Rows } from './rows.js';
 
 export const LINE_COMMENT = 1;
 export const WHITE_SPACE = 3;
@@ -9,17 +10,27 @@ export const KEYWORD = 8;
 export const ANNOTATION = 9;
 export const AT_SIGN = 64;
 
+// The rows of what the module told in one call.
+function rowsOf({ rows: numbers, count }) {
+  const rows = new Rows(numbers);
+  rows.front = count;
+  return rows;
+}
+
 export class Tokens {
+  #rows;
+
+  // Of a reader, or of what the module told.
   constructor(found) {
-    this.rows = found.rows;
     this.count = found.count;
+    this.#rows = found.rows instanceof Rows ? found.rows : rowsOf(found);
     // Whether the text ends after the last token.
     this.isWhole = found.ending === 'whole';
   }
 
-  end(i) { return this.rows[2 * i]; }
+  end(i) { return this.#rows.end(i); }
   start(i) { return i > 0 ? this.end(i - 1) : 0; }
-  code(i) { return this.rows[2 * i + 1]; }
+  code(i) { return this.#rows.code(i); }
   kind(i) { return KINDS[this.code(i)]; }
 
   // Whether it is white space or a comment.

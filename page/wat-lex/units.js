@@ -1,50 +1,63 @@
-// Places of a text in UTF-8 bytes and in UTF-16 units, which are what JavaScript counts. How many units there are before each block of bytes is
-// counted beforehand; a place is looked for in its block.
-const BLOCK = 512;
-const NOT_ASCII = 0x80808080;
+// Places of a text in UTF-8 bytes and in UTF-16 units, which are what JavaScript counts.
+import { Sums } from './sums.js';
 
-// How many units a byte stands for: those of its character at the first byte, none at the others.
-function unitsOf(byte) {
-  if ((byte & 0xc0) === 0x80) return 0;
-  return byte < 0xf0 ? 1 : 2;
+// In bytes: how near the place that is asked for next mostly is.
+const NEAR = 512;
+// The first bit of each byte of a word.
+const FIRST_BITS = 0x80808080 | 0;
+
+const bitsOf = (firstBits) => Math.imul(firstBits >>> 7, 0x01010101) >>> 24;
+
+// What a byte stands for: the units of its character at the first byte, none at the others.
+function inBytes(bytes, from, to) {
+  let units = 0;
+  for (let at = from; at < to; at += 1) if ((bytes[at] & 0xc0) !== 0x80) units += bytes[at] < 0xf0 ? 1 : 2;
+  return units;
+}
+
+function inWords(words, from, to) {
+  let units = 4 * (to - from);
+  for (let i = from; i < to; i += 1) {
+    const word = words[i], first = word & FIRST_BITS;
+    if (first !== 0) units += bitsOf(first & (word << 1) & (word << 2) & (word << 3)) - bitsOf(first & ~(word << 1));
+  }
+  return units;
 }
 
 export class Units {
+  #sums;
   // The place that was asked for last, since the next is mostly soon after it.
   #byte = 0;
   #units = 0;
 
-  // The bytes begin at a multiple of four.
   constructor(bytes) {
     this.bytes = bytes;
-    this.before = new Uint32Array(Math.floor(bytes.length / BLOCK) + 1);
-    const words = new Uint32Array(bytes.buffer, bytes.byteOffset, bytes.length >>> 2);
-    for (let i = 1; i < this.before.length; i += 1) this.before[i] = this.before[i - 1] + this.#countBlock(words, i - 1);
-    this.length = this.at(bytes.length);
+    this.#sums = new Sums(bytes, inBytes, inWords);
   }
 
-  #countBlock(words, block) {
-    const from = (block * BLOCK) / 4, to = from + BLOCK / 4;
-    for (let i = from; i < to; i += 1) if ((words[i] & NOT_ASCII) !== 0) return this.#count(4 * from, 4 * to);
-    return BLOCK;
+  // The bytes as they are now.
+  look(bytes) {
+    this.bytes = bytes;
+    this.#sums.look(bytes);
   }
 
-  #count(from, to) {
-    let units = 0;
-    for (let at = from; at < to; at += 1) units += unitsOf(this.bytes[at]);
-    return units;
+  // Says that the bytes from one to another are to be replaced, before they are.
+  cut(from, to) { this.#sums.cut(from, to); }
+
+  // Says that so many of the bytes are new from a place on.
+  put(from, more) {
+    this.#sums.put(from, more);
+    [this.#byte, this.#units] = [0, 0];
   }
 
+  get length() { return this.#sums.total; }
   get #isPlain() { return this.length === this.bytes.length; }
 
   // The units before a byte.
   at(byte) {
     if (this.#isPlain) return byte;
-    if (byte < this.#byte || byte - this.#byte > BLOCK) {
-      const block = Math.floor(byte / BLOCK);
-      [this.#byte, this.#units] = [block * BLOCK, this.before[block]];
-    }
-    this.#units += this.#count(this.#byte, byte);
+    const isNear = byte >= this.#byte && byte - this.#byte <= NEAR;
+    this.#units = isNear ? this.#units + inBytes(this.bytes, this.#byte, byte) : this.#sums.before(byte);
     this.#byte = byte;
     return this.#units;
   }
@@ -53,19 +66,9 @@ export class Units {
   byteAt(units) {
     if (!(units >= 0 && units <= this.length)) throw new RangeError(`the text has no place ${units}`);
     if (this.#isPlain) return units;
-    let byte = this.#blockOf(units) * BLOCK;
-    for (let left = units - this.at(byte); left > 0 || (this.bytes[byte] & 0xc0) === 0x80; byte += 1) left -= unitsOf(this.bytes[byte]);
+    let byte = this.#sums.placeOf(units);
+    while ((this.bytes[byte] & 0xc0) === 0x80) byte += 1;
     if (this.at(byte) !== units) throw new RangeError(`place ${units} is within a character`);
     return byte;
-  }
-
-  // The last block that begins at a place or before it.
-  #blockOf(units) {
-    let low = 0, high = this.before.length;
-    while (high - low > 1) {
-      const middle = (low + high) >>> 1;
-      if (this.before[middle] <= units) low = middle; else high = middle;
-    }
-    return low;
   }
 }

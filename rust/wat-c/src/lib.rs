@@ -4,12 +4,23 @@
 //! slices that it makes of what C passes.
 #![warn(missing_docs)]
 #![deny(improper_ctypes_definitions, unsafe_code)]
-// Proofs name loops, and each file imports the shim's names, of which it may need none. Clippy's advice on style is for text that is written in Rust.
-#![allow(unused_imports, unused_labels, clippy::style, clippy::complexity)]
 
-// What C passes: pointers, and bytes that are UTF-8.
-#[allow(unsafe_code)]
-pub mod proved;
-pub mod rows;
+// Proofs name loops, and each file imports the shim's names, of which it may need none. Clippy's advice on style is for text that is written in Rust.
+macro_rules! made {
+    ($($(#[$attribute:meta])* $module:ident)*) => {$(
+        #[allow(unused_imports, unused_labels)]
+        #[allow(clippy::style, clippy::complexity, clippy::pedantic)]
+        $(#[$attribute])*
+        pub mod $module;
+    )*};
+}
+
+made! {
+    // What C passes: pointers, and bytes that are UTF-8.
+    #[allow(unsafe_code)]
+    proved
+    rows
+}
+
 #[cfg(test)]
 mod tests;

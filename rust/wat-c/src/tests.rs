@@ -37,9 +37,12 @@ fn look(text: &str, names: &[&str], place: usize) -> (u32, u32) {
     (found.row(), found.status())
 }
 
+/// A text, the names, the row that a look is from, and the row that it finds with its status.
+type Look = (&'static str, &'static [&'static str], usize, (u32, u32));
+
 #[test]
 fn looks_find_a_row_under_names_or_say_why_not() {
-    let rows: [(&str, &[&str], usize, (u32, u32)); 16] = [
+    let rows: [Look; 16] = [
         ("(@a x) b", &[], 0, (4, 0)),
         ("(@a x) b", &["b", "a"], 0, (0, 0)),
         ("(@a x) b", &["a"], 1, (1, 0)),

@@ -37,6 +37,9 @@
 // A text has at most `u32::MAX` bytes.
 #![allow(clippy::cast_possible_truncation)]
 
+#[cfg(target_pointer_width = "16")]
+compile_error!("wat-lex needs a target of 32 or 64 bits");
+
 extern crate alloc;
 #[cfg(any(test, feature = "std"))]
 extern crate std;

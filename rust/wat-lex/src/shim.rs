@@ -9,6 +9,7 @@ mod macros;
 // The calls of the target's instructions. What a block has is named as in the library of Rattle and of Rust.
 #[allow(missing_docs, unsafe_code)]
 pub mod simd;
+#[cfg(not(target_pointer_width = "16"))]
 pub mod smallvec;
 pub mod string;
 pub mod unicode_width;

@@ -1,6 +1,9 @@
 //! Reports of texts, whose rows and messages are from outside.
 
 use crate::page::{Report, Row, wat_page_read};
+use crate::whole::{
+    wat_page_answer, wat_page_answer_len, wat_page_lay_out, wat_page_room, wat_page_types,
+};
 
 const EMPTY: Row = Row { end: 0, kind: 99 };
 const UNWRITTEN: Report = Report {
@@ -105,4 +108,41 @@ fn the_flags() {
     assert_eq!(ending(confusing, (true, false)), 0);
     assert_eq!(ending(doubled, (false, true)), 1);
     assert_eq!(ending(doubled, (false, false)), 0);
+}
+
+/// What a call makes of a text, None where it makes nothing.
+#[allow(unsafe_code)]
+fn made(text: &[u8], call: impl Fn() -> bool) -> Option<Vec<u8>> {
+    let room = wat_page_room(text.len());
+    // SAFETY: the room is for so many bytes, and the answer has as many as it says.
+    unsafe {
+        room.copy_from_nonoverlapping(text.as_ptr(), text.len());
+        call()
+            .then(|| std::slice::from_raw_parts(wat_page_answer(), wat_page_answer_len()).to_vec())
+    }
+}
+
+// One test, since there is one room.
+#[test]
+fn whole_texts() {
+    let laid_out =
+        |text: &[u8], call: fn() -> bool| made(text, call).map(|it| String::from_utf8(it).unwrap());
+    let plain = || wat_page_lay_out(false, false);
+    assert_eq!(
+        laid_out(b"(module\n( func ) )", plain).unwrap(),
+        "(module\n  (func))\n"
+    );
+    assert_eq!(laid_out(b"", plain).unwrap(), "");
+    assert_eq!(laid_out(b"(\"", plain), None);
+    assert_eq!(laid_out(b"(a\xff", plain), None);
+    let (confusing, doubled) = (";;\u{202e}".as_bytes(), b"\"\\u{1__0}\"".as_slice());
+    assert_eq!(laid_out(confusing, plain), None);
+    assert!(laid_out(confusing, || wat_page_lay_out(true, false)).is_some());
+    assert!(laid_out(doubled, plain).is_some());
+    assert_eq!(laid_out(doubled, || wat_page_lay_out(false, true)), None);
+    let bytes = b"\0asm\x01\0\0\0\x01\x05\x01\x60\x01\x7f\0";
+    let types = made(b"(module (type (func (param i32))))", || wat_page_types());
+    assert_eq!(types.as_deref(), Some(bytes.as_slice()));
+    assert_eq!(made(b"(module (func))", || wat_page_types()), None);
+    assert_eq!(wat_page_room(usize::MAX), std::ptr::null_mut());
 }

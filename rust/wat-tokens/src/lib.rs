@@ -31,13 +31,15 @@
 macro_rules! made {
     ($($module:ident)*) => {$(
         #[allow(missing_docs, unused_imports, unused_labels, unused_variables)]
-        #[allow(clippy::style, clippy::complexity)]
+        #[allow(clippy::style, clippy::complexity, clippy::pedantic, clippy::manual_unwrap_or_default)]
         pub mod $module;
     )*};
 }
 
 made! { commands format lines lists program types }
 
+// Names and signatures are those of Rattle's library, whose documentation has their errors.
+#[allow(clippy::pedantic)]
 pub mod shim;
 
 /// The examples of the README, as tests.

@@ -1,4 +1,6 @@
 //! The calls of `lists`: words of calls, lines of replies, names in errors, layouts; and the list of a text that is cut.
+// A string for each line of a text that is made once does no harm.
+#![allow(clippy::format_collect)]
 
 use wat_lex::proved::error::Error;
 use wat_lex::proved::lexer::{LexError, Token, TokenKind};
@@ -283,7 +285,9 @@ fn cut(text: &str, settings: Settings) {
 fn the_list_of_a_text_that_is_cut_begins_that_of_the_whole() {
     let long = long_line();
     for text in TEXTS.iter().copied().chain([long.as_str()]) {
-        EACH.into_iter().for_each(|settings| cut(text, settings));
+        for settings in EACH {
+            cut(text, settings);
+        }
     }
 }
 

@@ -1,4 +1,6 @@
 //! What words ask of files, in which order, and the answers to long texts and many words.
+// A string for each line of a text that is made once does no harm.
+#![allow(clippy::format_collect)]
 
 use wat_tokens::commands::Settings;
 use wat_tokens::commands::options::Mode;
@@ -143,7 +145,7 @@ fn each_file_is_asked_for_once_and_in_order() {
 }
 
 fn as_strings(lines: &[&str]) -> Vec<String> {
-    lines.iter().map(|line| line.to_string()).collect()
+    lines.iter().copied().map(str::to_owned).collect()
 }
 
 /// Status, output and report of words over a text on standard input.

@@ -43,7 +43,7 @@ impl Json {
     /// What a number counts, 0 where it is none.
     pub fn count(&self) -> usize {
         match self {
-            Json::Number(number) => *number as usize,
+            Json::Number(number) => number.to_string().parse().unwrap_or(0),
             _ => 0,
         }
     }

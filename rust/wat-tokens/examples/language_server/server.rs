@@ -184,7 +184,7 @@ fn type_of(token: Token) -> Option<usize> {
 /// Five numbers for each token. One of several lines is sent line by line.
 #[derive(Default)]
 struct Numbers {
-    numbers: Vec<String>,
+    all: Vec<String>,
     /// Where the text was read to, and where the last token is that was sent: a line and a column.
     at: (usize, usize),
     sent: (usize, usize),
@@ -198,7 +198,7 @@ impl Numbers {
             if let Some(number) = type_number.filter(|_| units > 0) {
                 let lines = self.at.0 - self.sent.0;
                 let column = self.at.1 - if lines > 0 { 0 } else { self.sent.1 };
-                self.numbers
+                self.all
                     .push(format!("{lines},{column},{units},{number},0"));
                 self.sent = self.at;
             }
@@ -213,7 +213,7 @@ fn semantic_tokens(document: &Document) -> String {
         let text = &document.text()[piece.range()];
         numbers.add(text, piece.token().and_then(type_of));
     }
-    format!(r#"{{"data":[{}]}}"#, numbers.numbers.join(","))
+    format!(r#"{{"data":[{}]}}"#, numbers.all.join(","))
 }
 
 /// The groups and the comments that have several lines.

@@ -71,7 +71,7 @@ fn json_is_read() {
         panic!("{value:?}");
     };
     assert_eq!((items[0].count(), items.len()), (1, 6));
-    assert!(matches!(items[1], Json::Number(number) if number == -25.0));
+    assert!(matches!(items[1], Json::Number(number) if number.to_bits() == (-25_f64).to_bits()));
     assert_eq!(items[2].text(), "\"\\/\né\u{1f600}");
     assert_eq!(quoted(items[2].text()), "\"\\\"\\\\/\\u000aé\u{1f600}\"");
     assert!(matches!(value.get("b"), Json::Word) && matches!(value.get("c"), Json::Word));

@@ -15,7 +15,7 @@ fn place(row: &Row, parser: &Parser) -> Ending {
 /// A group of a type, and one that is taken by a function.
 fn groups(row: &Row, parser: &mut Parser) -> Ending {
     let first = parser.parens_of::<u32>();
-    let second = ended(parser.parens(|parser| parser.parse::<u32>()));
+    let second = ended(parser.parens(Parser::parse::<u32>));
     assert!(matches!((first, second), (Ok(12), Ok(13))), "{}", row.name);
     assert_eq!(parser.prev_span().offset(), 9, "{}", row.name);
     Ending::Answer

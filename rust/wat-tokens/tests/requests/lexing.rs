@@ -3,7 +3,7 @@
 use crate::refusing::ended;
 use crate::row::{Ending, Row};
 use wat_lex::proved::error::Error;
-use wat_lex::proved::lexer::{Lexer, Token, TokenKind};
+use wat_lex::proved::lexer::{Integer, Lexer, Token, TokenKind};
 use wat_lex::shim::alloc::Global;
 
 /// One call at the start of the text, which leaves the position where it reports a fault.
@@ -74,7 +74,7 @@ fn read(row: &Row) -> Ending {
         TokenKind::Annotation => row.ending(&ended(token.annotation(Global, text))),
         TokenKind::Integer(kind) => {
             let integer = ended(token.integer(Global, text, kind));
-            let value = integer.as_ref().map(|integer| integer.val());
+            let value = integer.as_ref().map(Integer::val);
             row.ending(&value.map_err(|refused| Error::from(*refused)))
         }
         TokenKind::Float(kind) => {
@@ -102,8 +102,8 @@ fn name_fault(row: &Row) -> Ending {
     row.ending(&Ok(ended(first(row).name_fault(&row.text))))
 }
 
-pub fn ending(row: &Row) -> Result<Ending, Error> {
-    Ok(match row.of {
+pub fn ending(row: &Row) -> Ending {
+    match row.of {
         "parse" => parse(row),
         "fault" => fault(row),
         "count" => count(row),
@@ -116,5 +116,5 @@ pub fn ending(row: &Row) -> Result<Ending, Error> {
         "has-name" => has_name(row),
         "name-fault" => name_fault(row),
         of => panic!("{}: no {of}", row.name),
-    })
+    }
 }

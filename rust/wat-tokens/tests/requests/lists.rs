@@ -33,8 +33,8 @@ fn group_of_type(row: &Row, parser: &mut Parser) -> Ending {
 }
 
 /// How reading ended. The depth stays, and where memory is wanting the place is not past what was read.
-pub fn read<T: Debug>(row: &Row, parser: &Parser, result: Result<T, Error>) -> Ending {
-    let ending = row.ending(&result);
+pub fn read<T: Debug>(row: &Row, parser: &Parser, result: &Result<T, Error>) -> Ending {
+    let ending = row.ending(result);
     let place = parser.prev_span().offset();
     assert_eq!(parser.parens_depth(), 0, "{}", row.name);
     match ending {
@@ -49,15 +49,15 @@ fn list(row: &Row, parser: &mut Parser) -> Ending {
     match row.of {
         "of" => {
             let result = ended(parser.all_of::<u32>());
-            read(row, parser, result)
+            read(row, parser, &result)
         }
         "while" => {
             let result = ended(parser.all_while::<u32, u32>());
-            read(row, parser, result)
+            read(row, parser, &result)
         }
         "after" => {
             let result = ended(parser.all_after::<u32, Parens<u32>>());
-            read(row, parser, result)
+            read(row, parser, &result)
         }
         of => panic!("{}: no {of}", row.name),
     }

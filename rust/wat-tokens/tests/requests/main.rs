@@ -73,7 +73,7 @@ fn ending_of(row: &Row, parser: &mut Parser) -> Result<Ending, Error> {
 /// How the call of a row ended; an error where what it needs could not be made.
 fn ending(row: &Row) -> Result<Ending, Error> {
     match row.call {
-        "lexer" => lexing::ending(row),
+        "lexer" => Ok(lexing::ending(row)),
         "error" => errors::ending(row),
         "identifier" => identifiers::ending(row),
         "encode" => encoding::ending(row),

@@ -73,12 +73,12 @@ unsafe impl GlobalAlloc for Refusing {
         if is_refused(layout.size()) {
             return null_mut();
         }
-        hold(layout.size() as isize);
+        hold(layout.size().cast_signed());
         unsafe { System.alloc(layout) }
     }
 
     unsafe fn dealloc(&self, block: *mut u8, layout: Layout) {
-        hold(-(layout.size() as isize));
+        hold(-(layout.size().cast_signed()));
         unsafe { System.dealloc(block, layout) }
     }
 
@@ -88,7 +88,7 @@ unsafe impl GlobalAlloc for Refusing {
         if more > 0 && is_refused(more) {
             return null_mut();
         }
-        hold(size as isize - layout.size() as isize);
+        hold(size.cast_signed() - layout.size().cast_signed());
         unsafe { System.realloc(block, layout, size) }
     }
 }

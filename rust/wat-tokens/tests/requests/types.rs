@@ -40,7 +40,7 @@ pub fn whole_ending(row: &Row) -> Result<Ending, Error> {
 fn part<'a, T: Parse<'a> + Debug>(row: &Row, parser: &mut Parser<'a>) -> Ending {
     let result = ended(parser.parse::<T>());
     assert!(parser.is_registered("a"), "{}", row.name);
-    read(row, parser, result)
+    read(row, parser, &result)
 }
 
 pub fn part_ending(row: &Row, parser: &mut Parser) -> Ending {

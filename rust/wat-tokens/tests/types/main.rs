@@ -22,7 +22,9 @@ fn rows() -> Vec<(&'static str, &'static str)> {
 /// What the compiler answers, as the table has it.
 fn answer(text: &str) -> String {
     match compile_types(Global, text) {
-        Ok(bytes) => bytes.iter().map(|byte| format!("{byte:02x}")).collect(),
+        Ok(bytes) => bytes
+            .iter()
+            .fold(String::new(), |hex, byte| format!("{hex}{byte:02x}")),
         Err(error) => {
             let message = error.message(Global).unwrap();
             format!("{message} at {}", error.span().offset())

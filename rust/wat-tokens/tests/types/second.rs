@@ -18,7 +18,8 @@ pub fn section(text: &str) -> Option<Vec<u8>> {
         return Some(types);
     }
     types.insert(0, count);
-    Some([&[0x01, types.len() as u8], types.as_slice()].concat())
+    let length = u8::try_from(types.len()).unwrap();
+    Some([&[0x01, length], types.as_slice()].concat())
 }
 
 /// The words of a text that count: no white space, no comments, and no annotations. `None` where it has a fault, an identifier without a name or an
@@ -72,12 +73,12 @@ fn values<'a, 'w>(mut words: &'w [&'a str], name: &str) -> Option<(Vec<u8>, &'w 
         }
         words = &group[end + 1..];
     }
-    types[0] = types.len() as u8 - 1;
+    types[0] = u8::try_from(types.len() - 1).unwrap();
     Some((types, words))
 }
 
 fn value_type(word: &str) -> Option<u8> {
     let types = ["f64", "f32", "i64", "i32"];
     let place = types.iter().position(|name| *name == word)?;
-    Some(0x7c + place as u8)
+    Some(0x7c + u8::try_from(place).unwrap())
 }

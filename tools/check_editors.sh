@@ -1,0 +1,56 @@
+#!/usr/bin/env bash
+# The language server of rust/wat-tokens/examples in editors that have no window: Neovim, and Emacs with eglot and with lsp-mode, as tools/editors has
+# their sessions. Each opens a text with a fault, mends it and lays it out; Neovim and lsp-mode ask for the colours too. What is not here is left
+# out, and that is said.
+#
+# usage: tools/check_editors.sh SERVER
+set -euo pipefail
+server=$(realpath "${1:?usage: tools/check_editors.sh SERVER}")
+sessions=$(dirname "$(realpath "$0")")/editors
+room=$(mktemp -d)
+trap 'rm -rf "$room"' EXIT
+faults=0
+
+# wanted BEYOND COLOURS: what a session writes, with this character in its text and these colours or none
+wanted() {
+    printf '%s\n' "fault 1 invalid character in string '\\n' \"open)" 'no fault' ${2:+"colours $2"} "(module ;; é $1" "  (data (; $1é ;) \"open\")" '  (func nop))'
+}
+
+# session NAME BEYOND COLOURS COMMAND..: a session over a text with this character, which has to write what is wanted
+session() {
+    local name=$1 beyond=$2 colours=$3
+    shift 3
+    printf '(module ;; é %s\n( data (; %sé ;) "open)\n( func nop ) )\n' "$beyond" "$beyond" > "$room/a.wat"
+    if (cd "$room" && HOME=$room SERVER=$server timeout 60 "$@" a.wat > said 2> errors) && diff <(wanted "$beyond" "$colours") "$room/said"; then
+        echo "check_editors.sh: $name: as wanted"
+    else
+        faults=$((faults + 1))
+        echo "check_editors.sh: $name: FAILS: $(tail -n 5 "$room/errors")"
+    fi
+}
+
+# has_library NAME: whether Emacs has a library
+has_library() {
+    emacs --batch --eval "(progn (package-initialize) (kill-emacs (if (locate-library \"$1\") 0 1)))" 2> /dev/null
+}
+
+# in_emacs LIBRARY BEYOND COLOURS
+in_emacs() {
+    if command -v emacs > /dev/null && has_library "$1"; then
+        session "$(emacs --version | head -n 1), $1" "$2" "$3" emacs --batch -l "$sessions/$1.el"
+    else
+        echo "check_editors.sh: Emacs with $1: left out, as it is not here"
+    fi
+}
+
+if command -v nvim > /dev/null; then
+    session "$(nvim --version | head -n 1)" 😀 '0 1 6 2 0 0 7 7 0 0 1 2 4 2 0 0 5 9 0 0 0 10 6 1 0 1 2 4 2 0 0 5 3 2 0' \
+        nvim --headless -u NONE -c "luafile $sessions/neovim.lua"
+else
+    echo 'check_editors.sh: Neovim: left out, as it is not here'
+fi
+in_emacs eglot 😀 ''
+# Its columns are characters, and not units of UTF-16.
+in_emacs lsp-mode 漢 '0 1 6 2 0 0 7 6 0 0 1 2 4 2 0 0 5 8 0 0 0 9 6 1 0 1 2 4 2 0 0 5 3 2 0'
+echo "check_editors.sh: $faults faults"
+[ "$faults" = 0 ]
