@@ -182,7 +182,7 @@ impl<'a> SourceRef<'a> {
     /// ensures { IfSome kept.new (IsNext self.now place names.now) }
     /// ```
     #[inline(never)]
-    fn keep_look(&self, place: usize, byte: usize, names: &Names, kept: &mut Kept) {
+    pub fn keep_look(&self, place: usize, byte: usize, names: &Names, kept: &mut Kept) {
         match self.look(place, byte, names) {
             Ok(Some((token, after))) => kept.keep(token, after),
             Ok(None) => kept.forget(),
