@@ -1,7 +1,7 @@
 -- WebAssembly 2.0 specification, 6.5 (text format, instructions): 6.5.1 labels, 6.5.2 control instructions, 6.5.4 to 6.5.8 plain instructions, 6.5.9
 -- folded instructions. Over the tokens that count. A rule takes tokens from a place on, and leaves the rest. What is spelled is a list of instructions as
 -- the binary format has them (5.4): `end` and `else` are among them, and a folded instruction comes after its operands.
-use Rattle.std.specs.Prelude.{◌≡◌, ℕ, zero, suc, Bool, true, false, List, [], ◌∷◌, ◌++◌, codes, Option, Some, None, Result, Ok, Err, bytes_eq, nat_lt, nat_le, ◌^◌, ◌*◌, ◌==◌, if◌then◌else◌, ℤ, pos, ◌-ℤ◌}
+use Rattle.std.specs.Prelude.{◌≡◌, ℕ, suc, Bool, true, false, List, [], ◌∷◌, ◌++◌, codes, Option, Some, None, Result, Ok, Err, bytes_eq, nat_lt, nat_le, ◌^◌, ◌*◌, ◌==◌, if◌then◌else◌, ℤ, pos, ◌-ℤ◌}
 use Rattle.wat_instructions.specs.declared.pieces.Argument.{Argument}
 use Rattle.wat_instructions.specs.declared.pieces.Argument.TheVariants as argument
 use Rattle.wat_instructions.specs.declared.pieces.Instruction.{Instruction}
@@ -14,7 +14,7 @@ use Rattle.wat_instructions.specs.declared.pieces.ValueType.TheVariants as value
 use Rattle.wat_instructions.specs.declared.table.Immediate.{Immediate}
 use Rattle.wat_instructions.specs.declared.table.Immediate.TheVariants as immediate
 use Rattle.wat_instructions.specs.Table.{Mnemonic, found, mnemonics}
-use Rattle.wat_instructions.specs.Terminals.{Terminal, Open, Close, Word, Id, Integer, Text, Other, Label}
+use Rattle.wat_instructions.specs.Terminals.{Terminal, Open, Close, Word, Id, Integer, Label}
 
 -- what is wrong, and the tokens from the one where it is
 abbrev pub Fault : Type 0

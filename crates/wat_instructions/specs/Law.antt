@@ -1,5 +1,5 @@
 -- What the code does is what the grammar spells; and what it spells has as many `(` as `)`.
-use Rattle.std.specs.Prelude.{◌≡◌, ◌↔◌, ℕ, zero, suc, List, [], ◌∷◌, Bool, Result, Ok, Err}
+use Rattle.std.specs.Prelude.{◌≡◌, ◌≤◌, ◌↔◌, length, ℕ, zero, suc, List, [], ◌∷◌, Bool, Ok}
 use Rattle.wat_instructions.specs.declared.pieces.Instruction.{Instruction}
 use Rattle.wat_instructions.specs.Terminals.{Terminal, Open, Close, Word, Id, Integer, Text, Other, Label}
 use Rattle.wat_instructions.specs.Grammar.{Env, Instructions}
@@ -25,3 +25,7 @@ past d (Other ∷ ts) = past d ts
 -- Who passes over the tokens of instructions by their parentheses comes to the same place.
 abbrev pub InstructionsAreBalanced : Type 0
 InstructionsAreBalanced = (env : Env) (ls : List Label) (folded : Bool) (ts : List Terminal) (is : List Instruction) (r : List Terminal) → Instructions env ls folded ts is r → (d : ℕ) → past d ts ≡ past d r
+
+-- And what is left is no longer.
+abbrev pub InstructionsTakeTokens : Type 0
+InstructionsTakeTokens = (env : Env) (ls : List Label) (folded : Bool) (ts : List Terminal) (is : List Instruction) (r : List Terminal) → Instructions env ls folded ts is r → length r ≤ length ts

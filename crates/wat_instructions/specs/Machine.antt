@@ -1,9 +1,9 @@
 -- What the code does, token by token, over a stack of what is open. Nobody has to believe it: Law.antt says that it is the grammar.
-use Rattle.std.specs.Prelude.{◌≡◌, ℕ, zero, suc, Bool, true, false, ◌&&◌, List, [], ◌∷◌, ◌++◌, length, Option, Some, None, Result, Ok, Err, if◌then◌else◌}
+use Rattle.std.specs.Prelude.{ℕ, zero, suc, Bool, true, false, ◌&&◌, List, [], ◌∷◌, ◌++◌, length, Option, Some, None, Result, Ok, Err, if◌then◌else◌}
 use Rattle.wat_instructions.specs.declared.pieces.Argument.{Argument}
 use Rattle.wat_instructions.specs.declared.pieces.Instruction.{Instruction}
 use Rattle.wat_instructions.specs.declared.pieces.FaultKind.TheVariants.{Unexpected}
-use Rattle.wat_instructions.specs.Terminals.{Terminal, Open, Close, Word, Id, Integer, Text, Other, Label}
+use Rattle.wat_instructions.specs.Terminals.{Terminal, Open, Close, Word, Label}
 use Rattle.wat_instructions.specs.Grammar.{Env, Fault, plain, label_of, end_label, structured, is_end, is_else, is_then, is_if, block_type, instruction, end, otherwise}
 
 -- what is open: the body; `block .. end`, and whether `else` may come in it; `(block ..)`; an instruction that waits for its operands; an `if` that waits
@@ -116,9 +116,13 @@ abbrev pub else_step : List Terminal → List Part → Result Step Fault
 else_step (Close ∷ ts) ps = on_to (end ∷ []) ps ts
 else_step ts ps = Err (Unexpected, ts)
 
+-- after `(else`
+abbrev pub other_part : Label → List Terminal → List Part → Result Step Fault
+other_part l ts ps = on_to (otherwise ∷ []) (Else l ∷ ps) ts
+
 -- a word after `(` after the `)` of `(then`
 abbrev pub other_step : Label → List Terminal → List Part → Result Step Fault
-other_step l (Word w ∷ ts) ps = if is_else w then on_to (otherwise ∷ []) (Else l ∷ ps) ts else Err (Unexpected, Word w ∷ ts)
+other_step l (Word w ∷ ts) ps = if is_else w then other_part l ts ps else Err (Unexpected, Word w ∷ ts)
 other_step l ts ps = Err (Unexpected, ts)
 
 -- after the `)` of `(then`: the `)` of `(if`, or `(else`

@@ -1,6 +1,6 @@
 -- WebAssembly 2.0 specification, 6.2 (text format, lexical format; 6.2.2 tokens) and 6.3 (values): the tokens that count, each with its value, which are
 -- the terminal symbols of the grammar. And the names of labels, local variables and others.
-use Rattle.std.specs.Prelude.{◌≡◌, ℕ, List, Option, Some, None}
+use Rattle.std.specs.Prelude.{ℕ, List, Option, Some, None}
 use Rattle.wat_instructions.specs.declared.pieces.Piece.{Piece}
 use Rattle.wat_instructions.specs.declared.pieces.Piece.TheVariants as piece
 use Rattle.wat_instructions.specs.declared.pieces.Name.{Name}

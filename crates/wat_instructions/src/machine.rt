@@ -238,9 +238,7 @@ fn other_part<'p, 'a>(
     match pieces {
         [Piece::Word(word), rest @ ..] => {
             if reading::is_else(word) {
-                frames.push(Frame::Else(label))?;
-                out.push(ELSE)?;
-                Ok(rest)
+                turned(label, frames, out, rest)
             } else {
                 Err(Refusal::Text(Fault {
                     kind: FaultKind::Unexpected,
@@ -265,6 +263,23 @@ fn other_part<'p, 'a>(
             left: pieces,
         })),
     }
+}
+
+/// After `(else`.
+#[tactic(auto, using(crate::proofs::Stacks::stack_push))]
+fn turned<'p, 'a>(
+    label: Name<'p>,
+    frames: &mut Vec<Frame<'p>>,
+    out: &mut Vec<Instruction>,
+    rest: &'p [Piece<'a>],
+) -> Result<&'p [Piece<'a>], Refusal<'p, 'a>>
+    ensures { MatchResult result
+        (λ r. Stepped (spec.other_part (terminals.label label.entry) (map terminal rest.now) (stack frames.old.items)) out.old.items out.new.items (stack frames.new.items) (map terminal r.now))
+        (λ e. Faults (spec.other_part (terminals.label label.entry) (map terminal rest.now) (stack frames.old.items)) e) }
+{
+    frames.push(Frame::Else(label))?;
+    out.push(ELSE)?;
+    Ok(rest)
 }
 
 /// After `(`, in a part.

@@ -107,6 +107,8 @@ pub enum FaultKind {
     WrongLabel,
     /// A number that its type does not hold.
     OutOfRange,
+    /// A name that is not UTF-8.
+    NotUtf8,
     /// Two items of one kind with the same identifier.
     Duplicate,
 }

@@ -3,8 +3,8 @@ use Rattle.std.specs.Prelude.{◌≡◌, ◌↔◌, ℕ, ◌^◌, nat_lt, List, 
 use Rattle.wat_lex.specs.errors.Errors.{Report, Custom}
 use Rattle.wat_instructions.specs.Terminals.{Terminal}
 use Rattle.wat_pieces.specs.Pieces.{Shows}
-use Rattle.wat_modules.specs.Binary.{module_bytes}
-use Rattle.wat_modules.specs.Fields.{Function, Module}
+use Rattle.wat_fields.specs.Binary.{module_bytes}
+use Rattle.wat_fields.specs.Fields.{Function, Module}
 
 -- the tokens that count of the text are a module of these functions, and then it ends
 pub record Spells (text : List ℕ) (fs : List Function) : Type 0 where

@@ -37,23 +37,23 @@ pub record Function : Type 0 where
 abbrev pub function_name : Function → Label
 function_name f = f.name
 
--- 6.4.1: valtype*
-pub data ValueTypes : List Terminal → List ValueType → List Terminal → Type 0 where
-  by_none : {ts : List Terminal} → ValueTypes ts [] ts
-  by_more : {ts r : List Terminal} {w : List ℕ} {t : ValueType} {vs : List ValueType} → value_type w ≡ Some t → ValueTypes ts vs r → ValueTypes (Word w ∷ ts) (t ∷ vs) r
+-- any number of items, one after another: what they bring together
+pub data Many {V : Type 0} (One : List Terminal → List V → List Terminal → Type 0) : List Terminal → List V → List Terminal → Type 0 where
+  by_none : {ts : List Terminal} → Many One ts [] ts
+  by_more : {ts us r : List Terminal} {vs ws : List V} → One ts vs us → Many One us ws r → Many One ts (vs ++ ws) r
 
--- 6.4.4, 6.6.5: (`(` word valtype* `)`)*, where word is `param`, `result` or `local`; and, of parameters and local variables, `(` word id valtype `)`
-pub data Variables (word : List ℕ) (may_have_name : Bool) : List Terminal → List Variable → List Terminal → Type 0 where
-  by_none : {ts : List Terminal} → Variables word may_have_name ts [] ts
-  by_named : {ts r : List Terminal} {v x w : List ℕ} {t : ValueType} {vs : List Variable}
-      → may_have_name ≡ true → v ≡ word → value_type w ≡ Some t → Variables word may_have_name ts vs r → Variables word may_have_name (Open ∷ Word v ∷ Id x ∷ Word w ∷ Close ∷ ts) (variable (Some x) t ∷ vs) r
-  by_listed : {ts us r : List Terminal} {v : List ℕ} {types : List ValueType} {vs : List Variable}
-      → v ≡ word → ValueTypes ts types (Close ∷ us) → Variables word may_have_name us vs r → Variables word may_have_name (Open ∷ Word v ∷ ts) (map unnamed types ++ vs) r
+-- 6.4.1: valtype
+pub data Value : List Terminal → List ValueType → List Terminal → Type 0 where
+  by_word : {ts : List Terminal} {w : List ℕ} {t : ValueType} → value_type w ≡ Some t → Value (Word w ∷ ts) (t ∷ []) ts
 
--- 6.6.5 abbreviations, 6.3.4 names: (`(` export name `)`)*, each an export of the function; a name is UTF-8
-pub data Exports : List Terminal → List (List ℕ) → List Terminal → Type 0 where
-  by_none : {ts : List Terminal} → Exports ts [] ts
-  by_export : {ts r : List Terminal} {v n : List ℕ} {ns : List (List ℕ)} → v ≡ codes "export" → is_utf8 n ≡ true → Exports ts ns r → Exports (Open ∷ Word v ∷ Text n ∷ Close ∷ ts) (n ∷ ns) r
+-- 6.4.4, 6.6.5: `(` word valtype* `)`, where word is `param`, `result` or `local`; and, of parameters and local variables, `(` word id valtype `)`
+pub data Group (word : List ℕ) (may_have_name : Bool) : List Terminal → List Variable → List Terminal → Type 0 where
+  by_named : {ts : List Terminal} {v x w : List ℕ} {t : ValueType} → may_have_name ≡ true → v ≡ word → value_type w ≡ Some t → Group word may_have_name (Open ∷ Word v ∷ Id x ∷ Word w ∷ Close ∷ ts) (variable (Some x) t ∷ []) ts
+  by_listed : {ts us : List Terminal} {v : List ℕ} {types : List ValueType} → v ≡ word → Many Value ts types (Close ∷ us) → Group word may_have_name (Open ∷ Word v ∷ ts) (map unnamed types) us
+
+-- 6.6.5 abbreviations, 6.3.4 names: `(` export name `)` is an export of the function; a name is UTF-8
+pub data Export : List Terminal → List (List ℕ) → List Terminal → Type 0 where
+  by_export : {ts : List Terminal} {v n : List ℕ} → v ≡ codes "export" → is_utf8 n ≡ true → Export (Open ∷ Word v ∷ Text n ∷ Close ∷ ts) (n ∷ []) ts
 
 -- 6.6.1: no two of these have the same identifier
 abbrev pub has_name : List ℕ → List Label → Bool
@@ -70,18 +70,13 @@ abbrev pub context : List Label → List Variable → Env
 context functions variables = record { locals = map name_of variables; funcs = functions; globals = [] }
 
 -- 6.6.5: func = `(` func id? export* param* result* local* instr* `)`, where functions have these names
-pub data Field (functions : List Label) : List Terminal → Function → List Terminal → Type 0 where
+pub data Field (functions : List Label) : List Terminal → List Function → List Terminal → Type 0 where
   by_function : {w : List ℕ} {ts as bs cs ds r : List Terminal} {names : List (List ℕ)} {params results locals : List Variable} {is : List Instruction}
-      → w ≡ codes "func" → Exports (label_of ts).1 names as → Variables (codes "param") true as params bs → Variables (codes "result") false bs results cs → Variables (codes "local") true cs locals ds
+      → w ≡ codes "func" → Many Export (label_of ts).1 names as → Many (Group (codes "param") true) as params bs → Many (Group (codes "result") false) bs results cs → Many (Group (codes "local") true) cs locals ds
       → are_distinct (map name_of (params ++ locals)) ≡ true → Body (context functions (params ++ locals)) ds is r
-      → Field functions (Open ∷ Word w ∷ ts) (record { name = (label_of ts).0; exports = names; params = params; results = results; locals = locals; body = is }) r
-
--- any number of them
-pub data Fields (functions : List Label) : List Terminal → List Function → List Terminal → Type 0 where
-  by_none : {ts : List Terminal} → Fields functions ts [] ts
-  by_field : {ts us r : List Terminal} {f : Function} {fs : List Function} → Field functions ts f us → Fields functions us fs r → Fields functions ts (f ∷ fs) r
+      → Field functions (Open ∷ Word w ∷ ts) (record { name = (label_of ts).0; exports = names; params = params; results = results; locals = locals; body = is } ∷ []) r
 
 -- 6.6.13: module = `(` module id? field* `)`, and nothing after it. The context is the one that the fields themselves bring.
 pub data Module : List Terminal → List Function → Type 0 where
   by_module : {w : List ℕ} {ts : List Terminal} {fs : List Function}
-      → w ≡ codes "module" → Fields (map function_name fs) (label_of ts).1 fs (Close ∷ []) → are_distinct (map function_name fs) ≡ true → Module (Open ∷ Word w ∷ ts) fs
+      → w ≡ codes "module" → Many (Field (map function_name fs)) (label_of ts).1 fs (Close ∷ []) → are_distinct (map function_name fs) ≡ true → Module (Open ∷ Word w ∷ ts) fs

@@ -11,8 +11,7 @@ use Rattle.wat_instructions.specs.declared.pieces.Argument.TheVariants as argume
 use Rattle.wat_instructions.specs.declared.pieces.Instruction.{Instruction}
 use Rattle.wat_instructions.specs.declared.pieces.ValueType.{ValueType}
 use Rattle.wat_instructions.specs.declared.pieces.ValueType.TheVariants as value
-use Rattle.wat_instructions.specs.Grammar.{end}
-use Rattle.wat_modules.specs.Fields.{Function, Variable, type_of}
+use Rattle.wat_fields.specs.Fields.{Function, Variable}
 
 -- 5.3.1 number types
 abbrev pub type_byte : ValueType → ℕ
@@ -75,35 +74,45 @@ index_or_0 (Some n) = n
 abbrev pub function_bytes : List (List ℕ) → Function → List ℕ
 function_bytes types f = unsigned_leb128 (index_or_0 (type_index 0 (type_bytes f) types))
 
--- 5.5.10: an export of the function of this index
-abbrev pub export_bytes : ℕ → List ℕ → List ℕ
-export_bytes n name = text_encoding name ++ (0x00 ∷ unsigned_leb128 n)
+-- 5.5.10: an export of the function of an index
+pub record Export : Type 0 where
+  pub name : List ℕ
+  pub index : ℕ
+
+abbrev pub export : ℕ → List ℕ → Export
+export n name = record { name = name; index = n }
+
+abbrev pub export_bytes : Export → List ℕ
+export_bytes e = text_encoding e.name ++ (0x00 ∷ unsigned_leb128 e.index)
 
 -- the exports of functions, of which the first has this index
-abbrev pub exports_from : ℕ → List Function → List (List ℕ)
+abbrev pub exports_from : ℕ → List Function → List Export
 exports_from n [] = []
-exports_from n (f ∷ fs) = map (export_bytes n) f.exports ++ exports_from (suc n) fs
+exports_from n (f ∷ fs) = map (export n) f.exports ++ exports_from (suc n) fs
 
--- 5.5.13: how many variables of a type follow one another
+-- 5.5.13: how many local variables of a type follow one another
 pub record Run : Type 0 where
   pub count : ℕ
   pub byte : ℕ
 
--- a variable before these runs
-abbrev pub before_run : ℕ → List Run → List Run
-before_run b [] = record { count = 1; byte = b } ∷ []
-before_run b (r ∷ rs) = if b == r.byte then record { count = suc r.count; byte = b } ∷ rs else record { count = 1; byte = b } ∷ r ∷ rs
+abbrev pub run : ℕ → ℕ → Run
+run n b = record { count = n; byte = b }
+
+-- the runs of types, after so many of one
+abbrev pub runs_after : ℕ → ℕ → List ℕ → List Run
+runs_after n b [] = run n b ∷ []
+runs_after n b (c ∷ cs) = if c == b then runs_after (suc n) b cs else run n b ∷ runs_after 1 c cs
 
 abbrev pub runs_of : List ℕ → List Run
 runs_of [] = []
-runs_of (b ∷ bs) = before_run b (runs_of bs)
+runs_of (b ∷ bs) = runs_after 1 b bs
 
 abbrev pub run_bytes : Run → List ℕ
 run_bytes r = unsigned_leb128 r.count ++ r.byte ∷ []
 
--- 5.5.13: the local variables in runs, and the instructions with the last `end`
+-- 5.5.13: the local variables in runs; 5.4.9: the instructions, and 0x0B
 unfoldable pub code : Function → List ℕ
-code f = list_encoding run_bytes (runs_of (map variable_byte f.locals)) ++ flat_map instruction_bytes (f.body ++ end ∷ [])
+code f = list_encoding run_bytes (runs_of (map variable_byte f.locals)) ++ (flat_map instruction_bytes f.body ++ 0x0B ∷ [])
 
 -- an entry of the code section: after its size
 abbrev pub code_bytes : Function → List ℕ
@@ -114,23 +123,26 @@ abbrev pub section : ℕ → List ℕ → List ℕ
 section number content = number ∷ text_encoding content
 
 -- 5.1.3, 5.5.2: the section of a list of items, each by its bytes; none where there are none
-unfoldable pub list_section : ℕ → List (List ℕ) → List ℕ
-list_section number [] = []
-list_section number (i ∷ is) = section number (list_encoding (λ bytes. bytes) (i ∷ is))
+abbrev pub list_section : {A : Type 0} → ℕ → (A → List ℕ) → List A → List ℕ
+list_section number bytes [] = []
+list_section number bytes (i ∷ is) = section number (list_encoding bytes (i ∷ is))
 
 -- 5.5.16: the magic number and the version
 abbrev pub header : List ℕ
 header = 0x00 ∷ 0x61 ∷ 0x73 ∷ 0x6D ∷ 0x01 ∷ 0x00 ∷ 0x00 ∷ 0x00 ∷ []
 
+abbrev pub type_section : List Function → List ℕ
+type_section fs = list_section 1 (λ bytes. bytes) (types_of fs)
+
+abbrev pub function_section : List Function → List ℕ
+function_section fs = list_section 3 (function_bytes (types_of fs)) fs
+
+abbrev pub export_section : List Function → List ℕ
+export_section fs = list_section 7 export_bytes (exports_from 0 fs)
+
+abbrev pub code_section : List Function → List ℕ
+code_section fs = list_section 10 code_bytes fs
+
 -- 5.5.16: a module of these functions
 unfoldable pub module_bytes : List Function → List ℕ
-module_bytes fs =
-    header
-    ++ list_section 1 (types_of fs)
-    ++ list_section 3 (map (function_bytes (types_of fs)) fs)
-    ++ list_section 7 (exports_from 0 fs)
-    ++ list_section 10 (map code_bytes fs)
-
--- all lengths and indices are `u32`
-abbrev pub Fits : List Function → Type 0
-Fits fs = length (module_bytes fs) < 2 ^ 32
+module_bytes fs = (((header ++ type_section fs) ++ function_section fs) ++ export_section fs) ++ code_section fs

@@ -1,0 +1,4 @@
+pub mod Manies
+pub mod Items
+pub mod Headers
+pub mod Modules
