@@ -1,16 +1,16 @@
 -- What is read before the instructions of a function is what the grammar spells; and no rule takes what the next one is to take.
-use Rattle.std.proofs.Common.{◌≡◌, ◌<◌, ◌≤◌, ℕ, zero, suc, Bool, true, false, List, [], ◌∷◌, ◌++◌, length, map, Option, Some, None, Result, Ok, Err, refl, sym, ap, subst, ◌∙◌, arith}
+use Rattle.std.proofs.Common.{◌≡◌, ℕ, Bool, true, false, List, ◌∷◌, Some, None, Ok, Err, refl, sym, ap, subst, ◌∙◌}
 use Rattle.std.specs.Prelude.{if◌then◌else◌, bytes_eq, codes}
 use Rattle.wat_instructions.specs.declared.pieces.FaultKind.TheVariants.{UnknownWord}
 use Rattle.wat_instructions.specs.declared.pieces.Instruction.{Instruction}
 use Rattle.wat_instructions.specs.Grammar.{Env, Fault, Instructions, plain, structured}
 use Rattle.wat_instructions.specs.Grammar as grammar
 use Rattle.wat_instructions.specs.Table.{mnemonics, low, high}
-use Rattle.wat_instructions.specs.Terminals.{Terminal, Open, Close, Word, Id, Integer, Text, Other, Label}
+use Rattle.wat_instructions.specs.Terminals.{Terminal, Close, Word, Id, Label}
 use Rattle.wat_fields.specs.Fields.{Many, by_none, by_more, Group, by_named, by_listed, Export, Variable}
-use Rattle.wat_fields.specs.Reading.{Read, Item, Header, and_then, all, after, begun, export, export_item, group, group_item, header, params, results, locals}
+use Rattle.wat_fields.specs.Reading.{Read, Header, and_then, all, after, begun, export, export_item, group, group_item, header, params, results, locals}
 use Rattle.wat_fields.proofs.Items.{exports_read, groups_read, word_is}
-use Rattle.wat_fields.proofs.Manies.{Gives, gives_of, of_gives, and_then_inv, all_sound, all_complete}
+use Rattle.wat_fields.proofs.Manies.{gives_of, and_then_inv, all_sound, all_complete}
 
 -- no group of this word begins here
 abbrev pub Ends : List ℕ → List Terminal → Type 0
@@ -74,28 +74,28 @@ item_ends : {V : Type 0} (rest : List Terminal → Read (List V)) (v : List ℕ)
 item_ends {V} rest v ts e = ap (λ o. begun rest o) e
 
 pub record Headed (h : Header) (ts ds : List Terminal) : Type 0 where
-  pub as : List Terminal
+  pub hs : List Terminal
   pub bs : List Terminal
   pub cs : List Terminal
-  pub exports : Many Export ts h.exports as
-  pub params : Many (Group (codes "param") true) as h.params bs
+  pub exports : Many Export ts h.exports hs
+  pub params : Many (Group (codes "param") true) hs h.params bs
   pub results : Many (Group (codes "result") false) bs h.results cs
   pub locals : Many (Group (codes "local") true) cs h.locals ds
 
 pub header_sound : (h : Header) (ts ds : List Terminal) → header ts ≡ Ok (h, ds) → Headed h ts ds
 unfolding header
 header_sound h ts ds e =
-    let (ns, as, e1, r1) = and_then_inv (all export_item ts) (λ ns as. and_then (params as) (λ ps bs. and_then (results bs) (λ rs cs. and_then (locals cs) (λ ls ds. Ok (record { exports = ns; params = ps; results = rs; locals = ls }, ds))))) h ds (gives_of _ h ds e) in
-    let (ps, bs, e2, r2) = and_then_inv (params as) (λ ps bs. and_then (results bs) (λ rs cs. and_then (locals cs) (λ ls ds. Ok (record { exports = ns; params = ps; results = rs; locals = ls }, ds)))) h ds r1 in
+    let (ns, hs, e1, r1) = and_then_inv (all export_item ts) (λ ns hs. and_then (params hs) (λ ps bs. and_then (results bs) (λ rs cs. and_then (locals cs) (λ ls ds. Ok (record { exports = ns; params = ps; results = rs; locals = ls }, ds))))) h ds (gives_of _ h ds e) in
+    let (ps, bs, e2, r2) = and_then_inv (params hs) (λ ps bs. and_then (results bs) (λ rs cs. and_then (locals cs) (λ ls ds. Ok (record { exports = ns; params = ps; results = rs; locals = ls }, ds)))) h ds r1 in
     let (rs, cs, e3, r3) = and_then_inv (results bs) (λ rs cs. and_then (locals cs) (λ ls ds. Ok (record { exports = ns; params = ps; results = rs; locals = ls }, ds))) h ds r2 in
     let (ls, xs, e4, r4) = and_then_inv (locals cs) (λ ls ds. Ok (record { exports = ns; params = ps; results = rs; locals = ls }, ds)) h ds r3 in
     subst (λ x. Headed h ts x) r4.1
     (subst (λ y. Headed y ts xs) r4.0 (record {
-      as = as;
+      hs = hs;
       bs = bs;
       cs = cs;
-      exports = (all_sound export_item Export exports_read ns ts as e1).0;
-      params = (all_sound (group_item (codes "param") true) (Group (codes "param") true) (groups_read (codes "param") true) ps as bs e2).0;
+      exports = (all_sound export_item Export exports_read ns ts hs e1).0;
+      params = (all_sound (group_item (codes "param") true) (Group (codes "param") true) (groups_read (codes "param") true) ps hs bs e2).0;
       results = (all_sound (group_item (codes "result") false) (Group (codes "result") false) (groups_read (codes "result") false) rs bs cs e3).0;
       locals = (all_sound (group_item (codes "local") true) (Group (codes "local") true) (groups_read (codes "local") true) ls cs xs e4).0;
     }))
@@ -114,10 +114,10 @@ header_complete h ts ds k n =
     let no_result = ends_groups (codes "result") (codes "local") true refl k.cs h.locals ds k.locals n.no_result in
     let result_groups = all_complete (group_item (codes "result") false) (Group (codes "result") false) (groups_read (codes "result") false) h.results k.bs k.cs k.results (item_ends (group false) (codes "result") k.cs no_result) in
     let no_param = ends_groups (codes "param") (codes "result") false refl k.bs h.results k.cs k.results (ends_groups (codes "param") (codes "local") true refl k.cs h.locals ds k.locals n.no_param) in
-    let param_groups = all_complete (group_item (codes "param") true) (Group (codes "param") true) (groups_read (codes "param") true) h.params k.as k.bs k.params (item_ends (group true) (codes "param") k.bs no_param) in
-    let no_export = ends_groups (codes "export") (codes "param") true refl k.as h.params k.bs k.params (ends_groups (codes "export") (codes "result") false refl k.bs h.results k.cs k.results (ends_groups (codes "export") (codes "local") true refl k.cs h.locals ds k.locals n.no_export)) in
-    let all_exports = all_complete export_item Export exports_read h.exports ts k.as k.exports (item_ends export (codes "export") k.as no_export) in
-    ap (λ q. and_then q (λ ns as. and_then (params as) (λ ps bs. and_then (results bs) (λ rs cs. and_then (locals cs) (λ ls xs. Ok (record { exports = ns; params = ps; results = rs; locals = ls }, xs)))))) all_exports
+    let param_groups = all_complete (group_item (codes "param") true) (Group (codes "param") true) (groups_read (codes "param") true) h.params k.hs k.bs k.params (item_ends (group true) (codes "param") k.bs no_param) in
+    let no_export = ends_groups (codes "export") (codes "param") true refl k.hs h.params k.bs k.params (ends_groups (codes "export") (codes "result") false refl k.bs h.results k.cs k.results (ends_groups (codes "export") (codes "local") true refl k.cs h.locals ds k.locals n.no_export)) in
+    let all_exports = all_complete export_item Export exports_read h.exports ts k.hs k.exports (item_ends export (codes "export") k.hs no_export) in
+    ap (λ q. and_then q (λ ns hs. and_then (params hs) (λ ps bs. and_then (results bs) (λ rs cs. and_then (locals cs) (λ ls xs. Ok (record { exports = ns; params = ps; results = rs; locals = ls }, xs)))))) all_exports
     ∙ ap (λ q. and_then q (λ ps bs. and_then (results bs) (λ rs cs. and_then (locals cs) (λ ls xs. Ok (record { exports = h.exports; params = ps; results = rs; locals = ls }, xs))))) param_groups
     ∙ ap (λ q. and_then q (λ rs cs. and_then (locals cs) (λ ls xs. Ok (record { exports = h.exports; params = h.params; results = rs; locals = ls }, xs)))) result_groups
     ∙ ap (λ q. and_then q (λ ls xs. Ok (record { exports = h.exports; params = h.params; results = h.results; locals = ls }, xs))) local_groups

@@ -1,16 +1,16 @@
 -- What is read of each item is what the grammar spells.
-use Rattle.std.proofs.Common.{◌≡◌, ◌<◌, ◌≤◌, ℕ, zero, suc, Bool, true, false, List, [], ◌∷◌, ◌++◌, length, map, Option, Some, None, Result, Ok, Err, refl, sym, ap, subst, ◌∙◌, arith}
+use Rattle.std.proofs.Common.{◌≡◌, ◌<◌, ℕ, suc, Bool, true, false, List, [], ◌∷◌, length, map, Option, Some, None, Result, Ok, Err, refl, sym, ap, subst, ◌∙◌, arith}
 use Rattle.std.specs.Prelude.{if◌then◌else◌, bytes_eq, codes}
 use Rattle.std.specs.Str.{is_utf8}
 use Rattle.std.proofs.lemmas.Slice.Eq.{bytes_eq-Decides}
-use Rattle.wat_instructions.specs.declared.pieces.FaultKind.TheVariants.{Unexpected, UnknownWord, NotUtf8}
+use Rattle.wat_instructions.specs.declared.pieces.FaultKind.TheVariants.{Unexpected, NotUtf8}
 use Rattle.wat_instructions.specs.declared.pieces.ValueType.{ValueType}
 use Rattle.wat_instructions.specs.Grammar.{Fault, value_type}
 use Rattle.wat_instructions.specs.Law.{past}
-use Rattle.wat_instructions.specs.Terminals.{Terminal, Open, Close, Word, Id, Integer, Text, Other, Label}
+use Rattle.wat_instructions.specs.Terminals.{Terminal, Open, Close, Word, Id, Integer, Text, Other}
 use Rattle.wat_fields.specs.Fields.{Many, by_none, by_more, Value, by_word, Group, by_named, by_listed, Export, by_export, Variable, variable, unnamed}
-use Rattle.wat_fields.specs.Reading.{Read, Item, and_then, all, closed, closing, after, after_word, begun, utf8_text, export, export_item, typed, value_item, listed, named_type, named_one, group, group_item}
-use Rattle.wat_fields.proofs.Manies.{Gives, gives_of, of_gives, and_then_inv, Brings, brings_of, of_brings, Reads, all_sound, all_complete, many_takes, many_past}
+use Rattle.wat_fields.specs.Reading.{Read, and_then, all, closed, closing, after, after_word, begun, utf8_text, export, export_item, typed, value_item, listed, named_type, named_one, group, group_item}
+use Rattle.wat_fields.proofs.Manies.{Gives, gives_of, and_then_inv, Brings, Reads, all_sound, all_complete, many_takes, many_past}
 
 -- the word that is compared
 pub word_is : (v word : List ℕ) → bytes_eq v word ≡ true → v ≡ word
@@ -133,11 +133,11 @@ utf8_inv (Other ∷ ts) n us h = absurd h
 export_sound : (ts : List Terminal) (vs : List (List ℕ)) (us : List Terminal) → Brings (export_item ts) vs us → Export ts vs us
 unfolding export_item export
 export_sound ts vs us h =
-    let (as, found, given) = begun_inv export (after (codes "export") ts) vs us h in
-    let b = begins (codes "export") ts as found in
-    let (n, bs, read, end) = and_then_inv (utf8_text as) (λ n us. closing (n ∷ []) (closed us)) vs us given in
+    let (hs, found, given) = begun_inv export (after (codes "export") ts) vs us h in
+    let b = begins (codes "export") ts hs found in
+    let (n, bs, read, end) = and_then_inv (utf8_text hs) (λ n us. closing (n ∷ []) (closed us)) vs us given in
     let (same, shut) = closing_inv (n ∷ []) vs (closed bs) us end in
-    let (text, good) = utf8_inv as n bs (gives_of (utf8_text as) n bs read) in
+    let (text, good) = utf8_inv hs n bs (gives_of (utf8_text hs) n bs read) in
     subst (λ x. Export x vs us) (sym (b.is ∙ ap (λ x. Open ∷ Word b.spelled ∷ x) (text ∙ ap (λ x. Text n ∷ x) (closed_is bs us shut)))) (subst (λ x. Export (Open ∷ Word b.spelled ∷ Text n ∷ Close ∷ us) x us) same (by_export b.same good))
 
 export_complete : (ts : List Terminal) (vs : List (List ℕ)) (us : List Terminal) → Export ts vs us → Brings (export_item ts) vs us
@@ -208,9 +208,9 @@ group_sound word may (Other ∷ ts) vs us h = group_listed word may (Other ∷ t
 group_item_sound : (word : List ℕ) (may : Bool) (ts : List Terminal) (vs : List Variable) (us : List Terminal) → Brings (group_item word may ts) vs us → Group word may ts vs us
 unfolding group_item
 group_item_sound word may ts vs us h =
-    let (as, found, given) = begun_inv (group may) (after word ts) vs us h in
-    let b = begins word ts as found in
-    subst (λ x. Group word may x vs us) (sym b.is) (group_sound word may as vs us given b.spelled b.same)
+    let (hs, found, given) = begun_inv (group may) (after word ts) vs us h in
+    let b = begins word ts hs found in
+    subst (λ x. Group word may x vs us) (sym b.is) (group_sound word may hs vs us given b.spelled b.same)
 
 -- value types do not begin with an identifier
 no_name : (may : Bool) (ts : List Terminal) (types : List ValueType) (us : List Terminal) → Many Value ts types (Close ∷ us) → group may ts ≡ listed ts

@@ -2,3 +2,4 @@ pub mod Manies
 pub mod Items
 pub mod Headers
 pub mod Modules
+pub mod Bytes

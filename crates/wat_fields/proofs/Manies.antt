@@ -1,9 +1,16 @@
 -- Items one after another: what is read of them is what the grammar spells.
-use Rattle.std.proofs.Common.{◌≡◌, ◌<◌, ◌≤◌, ℕ, zero, suc, List, [], ◌∷◌, ◌++◌, length, Option, Some, None, Result, Ok, Err, refl, sym, ap, subst, ◌∙◌, arith, append_assoc, append-nil}
+use Rattle.std.proofs.Common.{◌≡◌, ◌<◌, ◌≤◌, ℕ, zero, suc, List, [], ◌++◌, length, Some, None, Ok, Err, refl, sym, ap, subst, ◌∙◌, arith, append_assoc, append-nil}
+use Rattle.std.specs.Prelude.{map}
+use Rattle.std.proofs.lemmas.List.{length-map}
+use Rattle.wat_instructions.specs.declared.pieces.Piece.{Piece}
+use Rattle.wat_instructions.specs.declared.pieces.Refusal.{Refusal}
+use Rattle.wat_instructions.specs.declared.pieces.Refusal.TheVariants as refusal
+use Rattle.wat_instructions.specs.Parts.{Faults, fault_of}
 use Rattle.wat_instructions.specs.Grammar.{Fault}
 use Rattle.wat_instructions.specs.Law.{past}
-use Rattle.wat_instructions.specs.Terminals.{Terminal}
+use Rattle.wat_instructions.specs.Terminals.{Terminal, terminal}
 use Rattle.wat_fields.specs.Fields.{Many, by_none, by_more}
+use Rattle.wat_fields.specs.Views.{ItemFaults}
 use Rattle.wat_fields.specs.Reading.{Read, Item, and_then, many, many_by, all}
 
 -- what a reading gives
@@ -49,25 +56,25 @@ pub record ReadMany {V : Type 0} (item : List Terminal → Item V) (R : One V) (
   pub spelled : Many R ts more r
   pub over : item r ≡ None
 
+sound_by : {V : Type 0} (item : List Terminal → Item V) (R : One V) → Reads item R → (n : ℕ) (vs ws : List V) (ts r : List Terminal) (q : Item V) → item ts ≡ q → ((xs : List V) (us : List Terminal) → Gives (many item n (vs ++ xs) us) ws r → ReadMany item R (vs ++ xs) ws us r) → Gives (many_by (many item n) vs ts q) ws r → ReadMany item R vs ws ts r
+sound_by item R k n vs ws ts r None e more (a, b) = record {
+  more = [];
+  are = append-nil vs ∙ a;
+  spelled = subst (λ x. Many R ts [] x) b by_none;
+  over = subst (λ x. item x ≡ None) b e;
+}
+sound_by item R k n vs ws ts r (Some (Ok (xs, us))) e more g = let m = more xs us g in record {
+  more = xs ++ m.more;
+  are = sym (append_assoc vs xs m.more) ∙ m.are;
+  spelled = by_more (k.sound ts xs us (brings_of (item ts) xs us e)) m.spelled;
+  over = m.over;
+}
+sound_by item R k n vs ws ts r (Some (Err f)) e more g = absurd g
+
 many_sound : {V : Type 0} (item : List Terminal → Item V) (R : One V) → Reads item R → (n : ℕ) (vs ws : List V) (ts r : List Terminal) → Gives (many item n vs ts) ws r → ReadMany item R vs ws ts r
 unfolding many
 many_sound item R k zero vs ws ts r h = absurd h
-many_sound {V} item R k (suc n) vs ws ts r h = by (item ts) refl h
-  where
-    by : (q : Item V) → item ts ≡ q → Gives (many_by (many item n) vs ts q) ws r → ReadMany item R vs ws ts r
-    by None e (a, b) = record {
-      more = [];
-      are = append-nil vs ∙ a;
-      spelled = subst (λ x. Many R ts [] x) b by_none;
-      over = subst (λ x. item x ≡ None) b e;
-    }
-    by (Some (Ok (xs, us))) e g = let m = many_sound item R k n (vs ++ xs) ws us r g in record {
-      more = xs ++ m.more;
-      are = sym (append_assoc vs xs m.more) ∙ m.are;
-      spelled = by_more (k.sound ts xs us (brings_of (item ts) xs us e)) m.spelled;
-      over = m.over;
-    }
-    by (Some (Err f)) e g = absurd g
+many_sound item R k (suc n) vs ws ts r h = sound_by item R k n vs ws ts r (item ts) refl (λ xs us g. many_sound item R k n (vs ++ xs) ws us r g) h
 
 many_complete : {V : Type 0} (item : List Terminal → Item V) (R : One V) → Reads item R → (n : ℕ) (vs xs : List V) (ts r : List Terminal) → Many R ts xs r → item r ≡ None → length ts < n → many item n vs ts ≡ Ok (vs ++ xs, r)
 unfolding many
@@ -117,3 +124,17 @@ leads_into item vs ts f e (suc n) k = ap (many_by (many item n) vs ts) e
 pub leads_all : {V : Type 0} (item : List Terminal → Item V) (ts : List Terminal) (q : Read (List V)) → Leads item [] ts q → all item ts ≡ q
 unfolding all
 leads_all item ts q h = h (suc (length ts)) (omega arith)
+
+pub leads_from : {V : Type 0} (item : List Terminal → Item V) (vs : List V) (ts : List Terminal) (q : Read (List V)) → vs ≡ [] → Leads item vs ts q → all item ts ≡ q
+leads_from item vs ts q e h = leads_all item ts q (subst (λ x. Leads item x ts q) e h)
+
+pub faulted : {V : Type 0} (item : List Terminal → Item V) (vs ws : List V) (ts us : List Terminal) (r : Refusal) → vs ≡ [] → ((q : Read (List V)) → Leads item ws us q → Leads item vs ts q) → ItemFaults (item us) r → Faults (all item ts) r
+faulted item vs ws ts us (refusal.Text f) e inv h = leads_from item vs ts (Err (fault_of f)) e (inv (Err (fault_of f)) (leads_into item ws us (fault_of f) h))
+faulted item vs ws ts us (refusal.Memory m) e inv h = tt
+
+pub smaller : {V : Type 0} (item : List Terminal → Item V) (R : One V) → Reads item R → (xs ys : List Piece) (vs : List V) → item (map terminal xs) ≡ Some (Ok (vs, map terminal ys)) → length ys < length xs
+smaller item R k xs ys vs e =
+    let h = k.takes (map terminal xs) vs (map terminal ys) (k.sound (map terminal xs) vs (map terminal ys) (brings_of (item (map terminal xs)) vs (map terminal ys) e)) in omega (arith, h, length-map xs terminal, length-map ys terminal)
+
+pub smaller_terminals : {V : Type 0} (item : List Terminal → Item V) (R : One V) → Reads item R → (ts us : List Terminal) (vs : List V) → item ts ≡ Some (Ok (vs, us)) → length us < length ts
+smaller_terminals item R k ts us vs e = k.takes ts vs us (k.sound ts vs us (brings_of (item ts) vs us e))

@@ -1,18 +1,18 @@
 -- What is read of a module is what the grammar spells.
-use Rattle.std.proofs.Common.{◌≡◌, ◌<◌, ◌≤◌, ℕ, zero, suc, Bool, true, false, List, [], ◌∷◌, ◌++◌, length, map, Option, Some, None, Result, Ok, Err, refl, sym, ap, subst, ◌∙◌, arith, append_assoc, append-nil}
+use Rattle.std.proofs.Common.{◌≡◌, ◌<◌, ◌≤◌, ℕ, zero, suc, Bool, true, false, List, [], ◌∷◌, ◌++◌, length, map, None, Ok, Err, refl, sym, ap, subst, ◌∙◌, arith, append_assoc, append-nil}
 use Rattle.std.specs.Prelude.{if◌then◌else◌, bytes_eq, codes}
-use Rattle.wat_instructions.specs.declared.pieces.FaultKind.TheVariants.{Unexpected, UnknownWord, Duplicate}
+use Rattle.wat_instructions.specs.declared.pieces.FaultKind.TheVariants.{UnknownWord, Duplicate}
 use Rattle.wat_instructions.specs.declared.pieces.Instruction.{Instruction}
-use Rattle.wat_instructions.specs.Grammar.{Env, Fault, Instructions, Body, label_of}
+use Rattle.wat_instructions.specs.Grammar.{Env, Body, label_of}
 use Rattle.wat_instructions.specs.Law.{InstructionsAreBalanced, InstructionsTakeTokens, MachineIsGrammar, past}
 use Rattle.wat_instructions.specs.Machine as machine
 use Rattle.wat_instructions.specs.Terminals.{Terminal, Open, Close, Word, Id, Integer, Text, Other, Label}
 use Rattle.wat_fields.specs.Fields.{Many, by_none, by_more, Group, Export, Variable, Field, by_function, Function, Module, by_module, are_distinct, context, name_of, function_name}
 use Rattle.wat_fields.specs.Law.{ReadingIsGrammar}
-use Rattle.wat_fields.specs.Reading.{Read, Item, Header, and_then, all, after_header, after_label, field, field_item, fields_at, fields_of, function, header, instructions, module, module_word, ended, names, Before, Opened, Headed, Inside}
+use Rattle.wat_fields.specs.Reading.{Read, Header, and_then, all, after_header, after_label, field, field_item, fields_at, fields_of, function, header, instructions, whole, module_word, ended, names, Before, Headed, Inside}
 use Rattle.wat_fields.proofs.Headers.{NoHeader, header_sound, header_complete, ends_body, export_is_none, param_is_none, result_is_none, local_is_none}
 use Rattle.wat_fields.proofs.Headers as headers
-use Rattle.wat_fields.proofs.Items.{exports_read, groups_read, export_past, group_past, group_takes, word_is, is_word}
+use Rattle.wat_fields.proofs.Items.{exports_read, export_past, group_past, group_takes, word_is, is_word}
 use Rattle.wat_fields.proofs.Manies.{Gives, gives_of, of_gives, and_then_inv, Brings, Reads, all_sound, all_complete, many_takes, many_past}
 
 -- what holds of instructions
@@ -79,14 +79,14 @@ field_sound laws functions (Other ∷ ts) fs r h = absurd h
 
 field_complete : Laws → (functions : List Label) (ts : List Terminal) (fs : List Function) (r : List Terminal) → Field functions ts fs r → Brings (field_item functions ts) fs r
 unfolding field_item
-field_complete laws functions _ _ r (by_function {w = w} {ts = ts} {as = as} {bs = bs} {cs = cs} {ds = ds} {names = ns} {params = ps} {results = rs} {locals = ls} {is = is} e a b c d f k) =
+field_complete laws functions _ _ r (by_function {w = w} {ts = ts} {hs = hs} {bs = bs} {cs = cs} {ds = ds} {names = ns} {params = ps} {results = rs} {locals = ls} {is = is} e a b c d f k) =
     let h : Header = record { exports = ns; params = ps; results = rs; locals = ls } in
-    let headed : headers.Headed h (label_of ts).1 ds = record { as = as; bs = bs; cs = cs; exports = a; params = b; results = c; locals = d } in
+    let headed : headers.Headed h (label_of ts).1 ds = record { hs = hs; bs = bs; cs = cs; exports = a; params = b; results = c; locals = d } in
     gives_of _ (function (label_of ts).0 h is ∷ []) r
     (
-      ap (λ (x : Bool). if x then after_label functions (label_of ts) else Err (UnknownWord, Word w ∷ ts)) (is_word w (codes "func") e)
-      ∙ ap (λ q. and_then q (λ h us. after_header functions (label_of ts).0 h us)) (header_complete h (label_of ts).1 ds headed (no_header (context functions (ps ++ ls)) ds is r k))
-      ∙ ap (λ q. and_then q (λ is us. Ok (function (label_of ts).0 h is ∷ [], us))) (body_complete laws functions h ds is r f k)
+    ap (λ (x : Bool). if x then after_label functions (label_of ts) else Err (UnknownWord, Word w ∷ ts)) (is_word w (codes "func") e)
+    ∙ ap (λ q. and_then q (λ h us. after_header functions (label_of ts).0 h us)) (header_complete h (label_of ts).1 ds headed (no_header (context functions (ps ++ ls)) ds is r k))
+    ∙ ap (λ q. and_then q (λ is us. Ok (function (label_of ts).0 h is ∷ [], us))) (body_complete laws functions h ds is r f k)
     )
 
 label_short : (ts : List Terminal) → length (label_of ts).1 ≤ length ts
@@ -100,19 +100,19 @@ label_short (Text v ∷ ts) = omega arith
 label_short (Other ∷ ts) = omega arith
 
 -- how much a header and a body take
-after_name : Laws → (functions : List Label) (ts as bs cs ds r : List Terminal) (ns : List (List ℕ)) (ps rs ls : List Variable) (is : List Instruction) (env : Env) → Many Export ts ns as → Many (Group (codes "param") true) as ps bs → Many (Group (codes "result") false) bs rs cs → Many (Group (codes "local") true) cs ls ds → Body env ds is r → length r < length ts
-after_name laws functions ts as bs cs ds r ns ps rs ls is env a b c d k =
-    let x = many_takes Export exports_read.takes ts ns as a in
-    let y = many_takes (Group (codes "param") true) (group_takes (codes "param") true) as ps bs b in
+after_name : Laws → (functions : List Label) (ts hs bs cs ds r : List Terminal) (ns : List (List ℕ)) (ps rs ls : List Variable) (is : List Instruction) (env : Env) → Many Export ts ns hs → Many (Group (codes "param") true) hs ps bs → Many (Group (codes "result") false) bs rs cs → Many (Group (codes "local") true) cs ls ds → Body env ds is r → length r < length ts
+after_name laws functions ts hs bs cs ds r ns ps rs ls is env a b c d k =
+    let x = many_takes Export exports_read.takes ts ns hs a in
+    let y = many_takes (Group (codes "param") true) (group_takes (codes "param") true) hs ps bs b in
     let z = many_takes (Group (codes "result") false) (group_takes (codes "result") false) bs rs cs c in
     let v = many_takes (Group (codes "local") true) (group_takes (codes "local") true) cs ls ds d in
     let t = laws.taken env (None ∷ []) false ds is (Close ∷ r) k in omega arith
 
 field_takes : Laws → (functions : List Label) (ts : List Terminal) (fs : List Function) (r : List Terminal) → Field functions ts fs r → length r < length ts
-field_takes laws functions _ _ r (by_function {ts = ts} {as = as} {bs = bs} {cs = cs} {ds = ds} {names = ns} {params = ps} {results = rs} {locals = ls} {is = is} e a b c d f k) =
-    let x = after_name laws functions (label_of ts).1 as bs cs ds r ns ps rs ls is (context functions (ps ++ ls)) a b c d k in let y = label_short ts in omega arith
+field_takes laws functions _ _ r (by_function {ts = ts} {hs = hs} {bs = bs} {cs = cs} {ds = ds} {names = ns} {params = ps} {results = rs} {locals = ls} {is = is} e a b c d f k) =
+    let x = after_name laws functions (label_of ts).1 hs bs cs ds r ns ps rs ls is (context functions (ps ++ ls)) a b c d k in let y = label_short ts in omega arith
 
-fields_read : Laws → (functions : List Label) → Reads (field_item functions) (Field functions)
+pub fields_read : Laws → (functions : List Label) → Reads (field_item functions) (Field functions)
 fields_read laws functions = record { sound = field_sound laws functions; complete = field_complete laws functions; takes = field_takes laws functions }
 
 -- The names of functions, by the parentheses alone.
@@ -147,12 +147,12 @@ headed_inside ls (Other ∷ ts) h = refl
 
 field_names : Laws → (functions : List Label) (ls : List Label) (ts : List Terminal) (fs : List Function) (r : List Terminal) → Field functions ts fs r → names Before ls ts ≡ names Before (ls ++ map function_name fs) r
 unfolding names
-field_names laws functions l _ _ r (by_function {w = w} {ts = ts} {as = as} {bs = bs} {cs = cs} {ds = ds} {names = ns} {params = ps} {results = rs} {locals = ls} {is = is} e a b c d f k) =
-    let x = after_name laws functions (label_of ts).1 as bs cs ds r ns ps rs ls is (context functions (ps ++ ls)) a b c d k in
+field_names laws functions l _ _ r (by_function {w = w} {ts = ts} {hs = hs} {bs = bs} {cs = cs} {ds = ds} {names = ns} {params = ps} {results = rs} {locals = ls} {is = is} e a b c d f k) =
+    let x = after_name laws functions (label_of ts).1 hs bs cs ds r ns ps rs ls is (context functions (ps ++ ls)) a b c d k in
     let y = label_short ts in
     let p : past 0 (label_of ts).1 ≡ r =
-            many_past Export 0 (export_past 0) (label_of ts).1 ns as a ∙ many_past (Group (codes "param") true) 0 (group_past (codes "param") true 0) as ps bs b ∙ many_past (Group (codes "result") false) 0 (group_past (codes "result") false 0) bs rs cs c
-            ∙ many_past (Group (codes "local") true) 0 (group_past (codes "local") true 0) cs ls ds d ∙ laws.balanced (context functions (ps ++ ls)) (None ∷ []) false ds is (Close ∷ r) k 0 in
+    many_past Export 0 (export_past 0) (label_of ts).1 ns hs a ∙ many_past (Group (codes "param") true) 0 (group_past (codes "param") true 0) hs ps bs b ∙ many_past (Group (codes "result") false) 0 (group_past (codes "result") false 0) bs rs cs c
+    ∙ many_past (Group (codes "local") true) 0 (group_past (codes "local") true 0) cs ls ds d ∙ laws.balanced (context functions (ps ++ ls)) (None ∷ []) false ds is (Close ∷ r) k 0 in
     headed_inside l ts (omega arith) ∙ inside_past 0 (l ++ (label_of ts).0 ∷ []) (label_of ts).1 ∙ ap (λ z. names Before (l ++ (label_of ts).0 ∷ []) z) p
 
 map_more : (fs gs : List Function) → map function_name (fs ++ gs) ≡ map function_name fs ++ map function_name gs
@@ -206,8 +206,8 @@ open_module laws (Integer s n ∷ ts) fs h = cc
 open_module laws (Text v ∷ ts) fs h = cc
 open_module laws (Other ∷ ts) fs h = cc
 
-module_sound : Laws → (ts : List Terminal) (fs : List Function) → module ts ≡ Ok fs → Module ts fs
-unfolding module
+module_sound : Laws → (ts : List Terminal) (fs : List Function) → whole ts ≡ Ok fs → Module ts fs
+unfolding whole
 module_sound laws (Open ∷ ts) fs h = open_module laws ts fs h
 module_sound laws [] fs h = cc
 module_sound laws (Close ∷ ts) fs h = cc
@@ -221,8 +221,8 @@ no_field : (functions : List Label) → field_item functions (Close ∷ []) ≡ 
 unfolding field_item
 no_field functions = refl
 
-module_complete : Laws → (ts : List Terminal) (fs : List Function) → Module ts fs → module ts ≡ Ok fs
-unfolding module
+module_complete : Laws → (ts : List Terminal) (fs : List Function) → Module ts fs → whole ts ≡ Ok fs
+unfolding whole
 module_complete laws _ fs (by_module {w = w} {ts = ts} e m d) =
     let ns = map function_name fs in
     ap (λ (x : Bool). if x then fields_at (label_of ts).1 else Err (UnknownWord, Word w ∷ ts)) (is_word w (codes "module") e) ∙ ap (λ x. fields_of x (label_of ts).1) (module_names laws ns (label_of ts).1 fs m)

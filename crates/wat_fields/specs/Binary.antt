@@ -1,8 +1,8 @@
 -- WebAssembly 2.0 specification, 5 (binary format): 5.1.3 vectors, 5.2 values, 5.3 types, 5.4 instructions, 5.5 modules (5.5.2 sections, 5.5.4 type
--- section, 5.5.6 function section, 5.5.10 export section, 5.5.13 code section, 5.5.16 modules). And 6.6.4: the types that type uses without an index bring. What the
+-- section, 5.5.6 function section, 5.5.10 export section, 5.5.13 code section, 5.5.16 modules). And 6.6.3: the types that type uses without an index bring. What the
 -- standard leaves open is fixed: integers in their shortest form, runs of local variables of one type counted together, no section without content, no
--- custom section.
-use Rattle.std.specs.Prelude.{◌≡◌, ℕ, zero, suc, ◌+◌, ◌<◌, ◌^◌, Bool, true, false, List, [], ◌∷◌, ◌++◌, length, map, Option, Some, None, bytes_eq, ◌==◌, if◌then◌else◌}
+-- custom section, an `else` where the text has one.
+use Rattle.std.specs.Prelude.{ℕ, suc, List, [], ◌∷◌, ◌++◌, map, Option, Some, None, bytes_eq, ◌==◌, if◌then◌else◌}
 use Rattle.std.specs.List.{flat_map}
 use Rattle.wat_lex.specs.binary.Encoding.{list_encoding, text_encoding}
 use Rattle.wat_lex.specs.binary.Leb128.{signed_leb128, unsigned_leb128}
@@ -45,7 +45,7 @@ variable_byte v = type_byte v.type
 unfoldable pub type_bytes : Function → List ℕ
 type_bytes f = 0x60 ∷ (text_encoding (map variable_byte f.params) ++ text_encoding (map variable_byte f.results))
 
--- 6.6.4: the index of a type among these, counted from k. A type is its bytes.
+-- 6.6.3: the index of a type among these, counted from k. A type is its bytes, which differ where types do.
 abbrev pub type_index : ℕ → List ℕ → List (List ℕ) → Option ℕ
 type_index k t [] = None
 type_index k t (u ∷ us) = if bytes_eq u t then Some k else type_index (suc k) t us

@@ -6,4 +6,4 @@ use Rattle.wat_fields.specs.Reading as reading
 
 -- Tokens are read as a module of these functions exactly where the grammar spells them with it.
 abbrev pub ReadingIsGrammar : Type 0
-ReadingIsGrammar = (ts : List Terminal) (fs : List Function) → (reading.module ts ≡ Ok fs) ↔ Module ts fs
+ReadingIsGrammar = (ts : List Terminal) (fs : List Function) → (reading.whole ts ≡ Ok fs) ↔ Module ts fs

@@ -1,12 +1,12 @@
 -- What the code reads, token by token. Nobody has to believe it: Law.antt says that it is the grammar.
-use Rattle.std.specs.Prelude.{◌≡◌, ℕ, zero, suc, Bool, true, false, List, [], ◌∷◌, ◌++◌, length, map, codes, bytes_eq, Option, Some, None, Result, Ok, Err, if◌then◌else◌}
+use Rattle.std.specs.Prelude.{ℕ, zero, suc, Bool, true, false, List, [], ◌∷◌, ◌++◌, length, map, codes, bytes_eq, Option, Some, None, Result, Ok, Err, if◌then◌else◌}
 use Rattle.std.specs.Str.{is_utf8}
 use Rattle.wat_instructions.specs.declared.pieces.Instruction.{Instruction}
 use Rattle.wat_instructions.specs.declared.pieces.FaultKind.TheVariants.{Unexpected, UnknownWord, Duplicate, NotUtf8}
 use Rattle.wat_instructions.specs.declared.pieces.ValueType.{ValueType}
 use Rattle.wat_instructions.specs.Grammar.{Fault, label_of, value_type}
 use Rattle.wat_instructions.specs.Machine.{body}
-use Rattle.wat_instructions.specs.Terminals.{Terminal, Open, Close, Word, Id, Integer, Text, Other, Label}
+use Rattle.wat_instructions.specs.Terminals.{Terminal, Open, Close, Word, Id, Text, Label}
 use Rattle.wat_fields.specs.Fields.{Function, Variable, variable, unnamed, name_of, context, are_distinct}
 
 -- a value and the tokens after it, or the fault
@@ -114,7 +114,7 @@ pub record Header : Type 0 where
   pub locals : List Variable
 
 unfoldable pub header : List Terminal → Read Header
-header ts = and_then (all export_item ts) (λ ns as. and_then (params as) (λ ps bs. and_then (results bs) (λ rs cs. and_then (locals cs) (λ ls ds. Ok (record { exports = ns; params = ps; results = rs; locals = ls }, ds)))))
+header ts = and_then (all export_item ts) (λ ns hs. and_then (params hs) (λ ps bs. and_then (results bs) (λ rs cs. and_then (locals cs) (λ ls ds. Ok (record { exports = ns; params = ps; results = rs; locals = ls }, ds)))))
 
 abbrev pub function : Label → Header → List Instruction → Function
 function l h is = record { name = l; exports = h.exports; params = h.params; results = h.results; locals = h.locals; body = is }
@@ -145,6 +145,22 @@ pub data Depth : Type 0 where
   Headed : Depth
   Inside : ℕ → Depth
 
+-- the name that a field has which begins so after its word
+abbrev pub head_name : Terminal → Label
+head_name (Id x) = Some x
+head_name t = None
+
+-- after a first token after its word
+abbrev pub head_depth : Terminal → Depth
+head_depth Open = Inside 1
+head_depth Close = Before
+head_depth t = Inside 0
+
+-- after `)`
+abbrev pub after_close : ℕ → Depth
+after_close zero = Before
+after_close (suc d) = Inside d
+
 -- the names of functions after others, by the parentheses alone
 unfoldable pub names : Depth → List Label → List Terminal → List Label
 names d ls [] = ls
@@ -152,13 +168,9 @@ names Before ls (Open ∷ ts) = names Opened ls ts
 names Before ls (t ∷ ts) = ls
 names Opened ls (Word w ∷ ts) = names Headed ls ts
 names Opened ls (t ∷ ts) = ls
-names Headed ls (Id x ∷ ts) = names (Inside 0) (ls ++ Some x ∷ []) ts
-names Headed ls (Open ∷ ts) = names (Inside 1) (ls ++ None ∷ []) ts
-names Headed ls (Close ∷ ts) = names Before (ls ++ None ∷ []) ts
-names Headed ls (t ∷ ts) = names (Inside 0) (ls ++ None ∷ []) ts
+names Headed ls (t ∷ ts) = names (head_depth t) (ls ++ head_name t ∷ []) ts
 names (Inside d) ls (Open ∷ ts) = names (Inside (suc d)) ls ts
-names (Inside zero) ls (Close ∷ ts) = names Before ls ts
-names (Inside (suc d)) ls (Close ∷ ts) = names (Inside d) ls ts
+names (Inside d) ls (Close ∷ ts) = names (after_close d) ls ts
 names (Inside d) ls (t ∷ ts) = names (Inside d) ls ts
 
 -- `)`, and the end
@@ -180,6 +192,6 @@ abbrev pub module_word : List Terminal → Result (List Function) Fault
 module_word (Word w ∷ ts) = if bytes_eq w (codes "module") then fields_at (label_of ts).1 else Err (UnknownWord, Word w ∷ ts)
 module_word ts = Err (Unexpected, ts)
 
-unfoldable pub module : List Terminal → Result (List Function) Fault
-module (Open ∷ ts) = module_word ts
-module ts = Err (Unexpected, ts)
+unfoldable pub whole : List Terminal → Result (List Function) Fault
+whole (Open ∷ ts) = module_word ts
+whole ts = Err (Unexpected, ts)

@@ -1,7 +1,6 @@
 -- What the code's variables and functions are in the definitions.
 use denote.Ref.{Bor}
-use Rattle.std.specs.Prelude.{◌≡◌, ◌==◌, ◌++◌, ℕ, List, [], map, Option, Some, None, Result, Ok, Err, Vec, if◌then◌else◌}
-use Rattle.wat_instructions.specs.declared.pieces.Piece.{Piece}
+use Rattle.std.specs.Prelude.{◌≡◌, ◌≤◌, ◌==◌, ◌++◌, ℕ, List, [], map, Some, None, Ok, Err, Vec, if◌then◌else◌}
 use Rattle.wat_instructions.specs.declared.pieces.Refusal.{Refusal}
 use Rattle.wat_instructions.specs.declared.pieces.Refusal.TheVariants as refusal
 use Rattle.wat_instructions.specs.Parts.{fault_of}
@@ -11,10 +10,12 @@ use Rattle.wat_fields.specs.declared.fields.Header as declared_header
 use Rattle.wat_fields.specs.declared.fields.Function as declared_function
 use Rattle.wat_fields.specs.declared.binary.Export as declared_export
 use Rattle.wat_fields.specs.declared.binary.Run as declared_run
+use Rattle.wat_fields.specs.declared.names.Depth as declared_depth
+use Rattle.wat_fields.specs.declared.names.Depth.TheVariants as depths
 use Rattle.wat_lex.specs.binary.Leb128.{unsigned_leb128}
 use Rattle.wat_fields.specs.Binary.{Export, Run, export, run, section}
 use Rattle.wat_fields.specs.Fields.{Function, Variable, variable}
-use Rattle.wat_fields.specs.Reading.{Header, Item}
+use Rattle.wat_fields.specs.Reading.{Header, Item, Depth, Before, Opened, Headed, Inside}
 
 abbrev pub variable_of : declared_variable.Variable → Variable
 variable_of v = variable (label v.name) v.of
@@ -74,3 +75,16 @@ run_of r = run r.count r.byte
 -- a section of so many items, which have these bytes together; none where there are none
 abbrev pub counted_section : ℕ → ℕ → List ℕ → List ℕ
 counted_section number count items = if count == 0 then [] else section number (unsigned_leb128 count ++ items)
+
+abbrev pub depth_of : declared_depth.Depth → Depth
+depth_of depths.Before = Before
+depth_of depths.Opened = Opened
+depth_of depths.Headed = Headed
+depth_of (depths.Inside n) = Inside n
+
+-- as many groups are open as there are tokens at most
+abbrev pub IsBelow : Depth → ℕ → Type 0
+IsBelow Before n = Unit {0}
+IsBelow Opened n = Unit {0}
+IsBelow Headed n = 1 ≤ n
+IsBelow (Inside d) n = d ≤ n

@@ -176,10 +176,7 @@ fn push_exports<'p>(
 }
 
 /// The exports of functions.
-fn exports_of<'p>(
-    alloc: Global,
-    functions: &[Function<'p>],
-) -> Result<Vec<Export<'p>>, AllocError>
+fn exports_of<'p>(alloc: Global, functions: &[Function<'p>]) -> Result<Vec<Export<'p>>, AllocError>
     ensures { IfOk result (λ exports. map export_of exports.items ≡ binary.exports_from 0 (functions_of functions.now)) }
 {
     let mut exports = Vec::new(alloc);
@@ -324,11 +321,7 @@ fn put_exports(alloc: Global, out: &mut Vec<u8>, exports: &[Export<'_>]) -> Resu
 }
 
 /// Appends the code section.
-fn put_codes(
-    alloc: Global,
-    out: &mut Vec<u8>,
-    functions: &[Function<'_>],
-) -> Result<(), AllocError>
+fn put_codes(alloc: Global, out: &mut Vec<u8>, functions: &[Function<'_>]) -> Result<(), AllocError>
     ensures { OnOk result (out.new.items ≡ out.old.items ++ binary.list_section 10 binary.code_bytes (functions_of functions.now)) }
 {
     let mut items = Vec::new(alloc);
@@ -341,10 +334,7 @@ fn put_codes(
 
 /// The bytes of a module of these functions.
 #[tactic(auto, unfolding(crate::specs::Binary::module_bytes))]
-pub(crate) fn module_bytes(
-    alloc: Global,
-    functions: &[Function<'_>],
-) -> Result<Vec<u8>, AllocError>
+pub(crate) fn module_bytes(alloc: Global, functions: &[Function<'_>]) -> Result<Vec<u8>, AllocError>
     ensures { IfOk result (λ bytes. bytes.items ≡ binary.module_bytes (functions_of functions.now)) }
 {
     let mut bytes = Vec::new(alloc);

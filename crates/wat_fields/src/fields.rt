@@ -9,7 +9,7 @@ ghost use Rattle.wat_instructions.specs.Parts.{Faults};
 ghost use Rattle.wat_instructions.specs.Terminals.{label, terminal};
 
 use crate::binary::module_bytes;
-use crate::header::header;
+use crate::header::read_header;
 use crate::names::{are_distinct, names, variable_names};
 use std::alloc::Global;
 use wat_instructions::machine;
@@ -50,14 +50,11 @@ pub(crate) struct Left<'p, 'a> {
 ///
 /// It answers bytes exactly where the grammar spells a module, and these are its bytes; any other
 /// refusal is the first fault. Names are searched one by one, and types too.
-pub fn compile<'p, 'a>(
-    alloc: Global,
-    pieces: &'p [Piece<'a>],
-) -> Result<Vec<u8>, Refusal<'p, 'a>>
+pub fn compile<'p, 'a>(alloc: Global, pieces: &'p [Piece<'a>]) -> Result<Vec<u8>, Refusal<'p, 'a>>
     ensures compiled { IfOk result (λ bytes. (fs : List grammar.Function) × grammar.Module (map terminal pieces.now) fs × (bytes.items ≡ module_bytes fs)) }
     ensures spelled { (fs : List grammar.Function) → grammar.Module (map terminal pieces.now) fs →
         MatchResult result (λ bytes. bytes.items ≡ module_bytes fs) IsMemory }
-    ensures refused { MatchResult result (λ _. Unit {0}) (λ e. Faults (reading.module (map terminal pieces.now)) e) }
+    ensures refused { MatchResult result (λ _. Unit {0}) (λ e. Faults (reading.whole (map terminal pieces.now)) e) }
 {
     crate::laws::reading_is_grammar();
     match module(alloc, pieces) {
@@ -67,19 +64,33 @@ pub fn compile<'p, 'a>(
 }
 
 /// The functions of a module.
-#[tactic(auto, unfolding(crate::specs::Reading::module))]
+#[tactic(auto, unfolding(crate::specs::Reading::whole))]
 fn module<'p, 'a>(
     alloc: Global,
     pieces: &'p [Piece<'a>],
 ) -> Result<Vec<Function<'p>>, Refusal<'p, 'a>>
     ensures { MatchResult result
-        (λ fs. reading.module (map terminal pieces.now) ≡ Ok (functions_of fs.items))
-        (λ e. Faults (reading.module (map terminal pieces.now)) e) }
+        (λ fs. reading.whole (map terminal pieces.now) ≡ Ok (functions_of fs.items))
+        (λ e. Faults (reading.whole (map terminal pieces.now)) e) }
 {
     match pieces {
         [Piece::Open, rest @ ..] => module_word(alloc, rest),
-        [Piece::Close | Piece::Word(_) | Piece::Id(_) | Piece::Integer(_, _) | Piece::Text(_) | Piece::Other, ..] => Err(Refusal::Text(Fault { kind: FaultKind::Unexpected, left: pieces })),
-        [] => Err(Refusal::Text(Fault { kind: FaultKind::Unexpected, left: pieces })),
+        [
+            Piece::Close
+            | Piece::Word(_)
+            | Piece::Id(_)
+            | Piece::Integer(_, _)
+            | Piece::Text(_)
+            | Piece::Other,
+            ..
+        ] => Err(Refusal::Text(Fault {
+            kind: FaultKind::Unexpected,
+            left: pieces,
+        })),
+        [] => Err(Refusal::Text(Fault {
+            kind: FaultKind::Unexpected,
+            left: pieces,
+        })),
     }
 }
 
@@ -98,11 +109,28 @@ fn module_word<'p, 'a>(
                 let (_, rest) = reading::label(rest);
                 module_fields(alloc, rest)
             } else {
-                Err(Refusal::Text(Fault { kind: FaultKind::UnknownWord, left: pieces }))
+                Err(Refusal::Text(Fault {
+                    kind: FaultKind::UnknownWord,
+                    left: pieces,
+                }))
             }
         }
-        [Piece::Open | Piece::Close | Piece::Id(_) | Piece::Integer(_, _) | Piece::Text(_) | Piece::Other, ..] => Err(Refusal::Text(Fault { kind: FaultKind::Unexpected, left: pieces })),
-        [] => Err(Refusal::Text(Fault { kind: FaultKind::Unexpected, left: pieces })),
+        [
+            Piece::Open
+            | Piece::Close
+            | Piece::Id(_)
+            | Piece::Integer(_, _)
+            | Piece::Text(_)
+            | Piece::Other,
+            ..
+        ] => Err(Refusal::Text(Fault {
+            kind: FaultKind::Unexpected,
+            left: pieces,
+        })),
+        [] => Err(Refusal::Text(Fault {
+            kind: FaultKind::Unexpected,
+            left: pieces,
+        })),
     }
 }
 
@@ -117,14 +145,34 @@ fn module_fields<'p, 'a>(
 {
     let names = names(alloc, pieces)?;
     if !are_distinct(&names) {
-        return Err(Refusal::Text(Fault { kind: FaultKind::Duplicate, left: pieces }));
+        return Err(Refusal::Text(Fault {
+            kind: FaultKind::Duplicate,
+            left: pieces,
+        }));
     }
     let (functions, rest) = fields(alloc, &names, pieces)?;
     match rest {
         [Piece::Close] => Ok(functions),
-        [Piece::Close, left @ ..] => Err(Refusal::Text(Fault { kind: FaultKind::Unexpected, left: left })),
-        [Piece::Open | Piece::Word(_) | Piece::Id(_) | Piece::Integer(_, _) | Piece::Text(_) | Piece::Other, ..] => Err(Refusal::Text(Fault { kind: FaultKind::Unexpected, left: rest })),
-        [] => Err(Refusal::Text(Fault { kind: FaultKind::Unexpected, left: rest })),
+        [Piece::Close, left @ ..] => Err(Refusal::Text(Fault {
+            kind: FaultKind::Unexpected,
+            left: left,
+        })),
+        [
+            Piece::Open
+            | Piece::Word(_)
+            | Piece::Id(_)
+            | Piece::Integer(_, _)
+            | Piece::Text(_)
+            | Piece::Other,
+            ..
+        ] => Err(Refusal::Text(Fault {
+            kind: FaultKind::Unexpected,
+            left: rest,
+        })),
+        [] => Err(Refusal::Text(Fault {
+            kind: FaultKind::Unexpected,
+            left: rest,
+        })),
     }
 }
 
@@ -138,6 +186,8 @@ fn fields<'p, 'a>(
         (λ r. reading.all (reading.field_item (map label functions.now)) (map terminal pieces.now) ≡ Ok (functions_of r.0.items, map terminal r.1.now))
         (λ e. Faults (reading.all (reading.field_item (map label functions.now)) (map terminal pieces.now)) e) }
 {
+    wat_instructions::laws::machine_is_grammar();
+    wat_instructions::laws::instructions_are_balanced();
     let mut found = Vec::new(alloc);
     let mut left = Left { pieces };
     'fields: loop {
@@ -161,8 +211,8 @@ fn next_field<'p, 'a>(
 ) -> Result<Option<Left<'p, 'a>>, Refusal<'p, 'a>>
     ensures { MatchResult result
         (λ o. MatchOption o
-            (NoItem (reading.field_item (map label functions.now) (map terminal left.entry.pieces.now)) (map function_of found.old.items) (map function_of found.new.items))
-            (λ l. IsItem (reading.field_item (map label functions.now) (map terminal left.entry.pieces.now)) (map function_of found.old.items) (map function_of found.new.items) (map terminal l.pieces.now)))
+        (NoItem (reading.field_item (map label functions.now) (map terminal left.entry.pieces.now)) (map function_of found.old.items) (map function_of found.new.items))
+        (λ l. IsItem (reading.field_item (map label functions.now) (map terminal left.entry.pieces.now)) (map function_of found.old.items) (map function_of found.new.items) (map terminal l.pieces.now)))
         (λ e. ItemFaults (reading.field_item (map label functions.now) (map terminal left.entry.pieces.now)) e) }
 {
     match left.pieces {
@@ -173,7 +223,15 @@ fn next_field<'p, 'a>(
             }
             Err(refusal) => Err(refusal),
         },
-        [Piece::Close | Piece::Word(_) | Piece::Id(_) | Piece::Integer(_, _) | Piece::Text(_) | Piece::Other, ..] => Ok(None),
+        [
+            Piece::Close
+            | Piece::Word(_)
+            | Piece::Id(_)
+            | Piece::Integer(_, _)
+            | Piece::Text(_)
+            | Piece::Other,
+            ..
+        ] => Ok(None),
         [] => Ok(None),
     }
 }
@@ -191,18 +249,35 @@ fn field<'p, 'a>(
     match pieces {
         [Piece::Word(word), rest @ ..] => {
             if *word == "func" {
-                function(alloc, functions, rest)
+                function_after(alloc, functions, rest)
             } else {
-                Err(Refusal::Text(Fault { kind: FaultKind::UnknownWord, left: pieces }))
+                Err(Refusal::Text(Fault {
+                    kind: FaultKind::UnknownWord,
+                    left: pieces,
+                }))
             }
         }
-        [Piece::Open | Piece::Close | Piece::Id(_) | Piece::Integer(_, _) | Piece::Text(_) | Piece::Other, ..] => Err(Refusal::Text(Fault { kind: FaultKind::Unexpected, left: pieces })),
-        [] => Err(Refusal::Text(Fault { kind: FaultKind::Unexpected, left: pieces })),
+        [
+            Piece::Open
+            | Piece::Close
+            | Piece::Id(_)
+            | Piece::Integer(_, _)
+            | Piece::Text(_)
+            | Piece::Other,
+            ..
+        ] => Err(Refusal::Text(Fault {
+            kind: FaultKind::Unexpected,
+            left: pieces,
+        })),
+        [] => Err(Refusal::Text(Fault {
+            kind: FaultKind::Unexpected,
+            left: pieces,
+        })),
     }
 }
 
 /// A function, after its word.
-fn function<'p, 'a>(
+fn function_after<'p, 'a>(
     alloc: Global,
     functions: &[Name<'p>],
     pieces: &'p [Piece<'a>],
@@ -212,12 +287,13 @@ fn function<'p, 'a>(
         (λ e. Faults (reading.after_label (map label functions.now) (label_of (map terminal pieces.now))) e) }
 {
     let (name, rest) = reading::label(pieces);
-    let (header, rest) = header(alloc, rest)?;
+    let (header, rest) = read_header(alloc, rest)?;
     let (body, rest) = instructions(alloc, functions, &header, rest)?;
     Ok((Function { name, header, body }, rest))
 }
 
 /// The instructions of a function, after its header.
+#[tactic(auto, unfolding(crate::specs::Reading::instructions))]
 fn instructions<'p, 'a>(
     alloc: Global,
     functions: &[Name<'p>],
@@ -230,7 +306,10 @@ fn instructions<'p, 'a>(
 {
     let locals = variable_names(alloc, &header.params, &header.locals)?;
     if !are_distinct(&locals) {
-        return Err(Refusal::Text(Fault { kind: FaultKind::Duplicate, left: pieces }));
+        return Err(Refusal::Text(Fault {
+            kind: FaultKind::Duplicate,
+            left: pieces,
+        }));
     }
     let scope = Scope {
         locals: &locals,

@@ -1,5 +1,6 @@
 //! What comes before the instructions of a function: exports, parameters, results, local variables.
 ghost use Rattle.std.specs.Prelude.{◌≡◌, [], ◌∷◌, Ok, Err, map, true, false, codes, IfOk, None, Some, MatchOption, MatchResult};
+ghost use Rattle.std.specs.Str.{is_utf8};
 ghost use Rattle.wat_fields.specs.Fields.{unnamed};
 ghost use Rattle.wat_fields.specs.Reading as reading;
 ghost use Rattle.wat_fields.specs.Views.{IsItem, ItemFaults, NoItem, header_of, text_of, variable_of};
@@ -14,7 +15,7 @@ use wat_instructions::reading::value_type;
 
 /// All that comes before the instructions of a function.
 #[tactic(auto, unfolding(crate::specs::Reading::header))]
-pub(crate) fn header<'p, 'a>(
+pub(crate) fn read_header<'p, 'a>(
     alloc: Global,
     pieces: &'p [Piece<'a>],
 ) -> Result<(Header<'p>, &'p [Piece<'a>]), Refusal<'p, 'a>>
@@ -26,7 +27,12 @@ pub(crate) fn header<'p, 'a>(
     let (params, rest) = variables(alloc, "param", true, rest)?;
     let (results, rest) = variables(alloc, "result", false, rest)?;
     let (locals, rest) = variables(alloc, "local", true, rest)?;
-    let header = Header { exports, params, results, locals };
+    let header = Header {
+        exports,
+        params,
+        results,
+        locals,
+    };
     Ok((header, rest))
 }
 
@@ -104,7 +110,15 @@ fn after<'p, 'a>(word: &str, pieces: &'p [Piece<'a>]) -> Option<&'p [Piece<'a>]>
 {
     match pieces {
         [Piece::Open, rest @ ..] => after_word(word, rest),
-        [Piece::Close | Piece::Word(_) | Piece::Id(_) | Piece::Integer(_, _) | Piece::Text(_) | Piece::Other, ..] => None,
+        [
+            Piece::Close
+            | Piece::Word(_)
+            | Piece::Id(_)
+            | Piece::Integer(_, _)
+            | Piece::Text(_)
+            | Piece::Other,
+            ..
+        ] => None,
         [] => None,
     }
 }
@@ -114,14 +128,16 @@ fn after_word<'p, 'a>(word: &str, pieces: &'p [Piece<'a>]) -> Option<&'p [Piece<
     ensures { MatchOption result (reading.after_word word.now (map terminal pieces.now) ≡ None) (λ r. reading.after_word word.now (map terminal pieces.now) ≡ Some (map terminal r.now)) }
 {
     match pieces {
-        [Piece::Word(of), rest @ ..] => {
-            if *of == word {
-                Some(rest)
-            } else {
-                None
-            }
-        }
-        [Piece::Open | Piece::Close | Piece::Id(_) | Piece::Integer(_, _) | Piece::Text(_) | Piece::Other, ..] => None,
+        [Piece::Word(of), rest @ ..] => { if *of == word { Some(rest) } else { None } }
+        [
+            Piece::Open
+            | Piece::Close
+            | Piece::Id(_)
+            | Piece::Integer(_, _)
+            | Piece::Text(_)
+            | Piece::Other,
+            ..
+        ] => None,
         [] => None,
     }
 }
@@ -134,37 +150,74 @@ fn closed<'p, 'a>(pieces: &'p [Piece<'a>]) -> Result<&'p [Piece<'a>], Fault<'p, 
 {
     match pieces {
         [Piece::Close, rest @ ..] => Ok(rest),
-        [Piece::Open | Piece::Word(_) | Piece::Id(_) | Piece::Integer(_, _) | Piece::Text(_) | Piece::Other, ..] => Err(Fault { kind: FaultKind::Unexpected, left: pieces }),
-        [] => Err(Fault { kind: FaultKind::Unexpected, left: pieces }),
+        [
+            Piece::Open
+            | Piece::Word(_)
+            | Piece::Id(_)
+            | Piece::Integer(_, _)
+            | Piece::Text(_)
+            | Piece::Other,
+            ..
+        ] => Err(Fault {
+            kind: FaultKind::Unexpected,
+            left: pieces,
+        }),
+        [] => Err(Fault {
+            kind: FaultKind::Unexpected,
+            left: pieces,
+        }),
+    }
+}
+
+/// Whether bytes are UTF-8.
+fn is_utf8(bytes: &[u8]) -> bool
+    ensures { result ≡ is_utf8 bytes.now }
+{
+    match str::from_utf8(bytes) {
+        Ok(_) => true,
+        Err(_) => false,
     }
 }
 
 /// A string that is UTF-8.
-fn utf8_text<'p, 'a>(
-    pieces: &'p [Piece<'a>],
-) -> Result<(&'p [u8], &'p [Piece<'a>]), Fault<'p, 'a>>
+fn utf8_text<'p, 'a>(pieces: &'p [Piece<'a>]) -> Result<(&'p [u8], &'p [Piece<'a>]), Fault<'p, 'a>>
     ensures { MatchResult result
         (λ r. reading.utf8_text (map terminal pieces.now) ≡ Ok (r.0.now, map terminal r.1.now))
         (λ f. reading.utf8_text (map terminal pieces.now) ≡ Err (fault_of f)) }
 {
     match pieces {
         [Piece::Text(text), rest @ ..] => {
-            if str::from_utf8(text).is_ok() {
+            if is_utf8(text) {
                 Ok((*text, rest))
             } else {
-                Err(Fault { kind: FaultKind::NotUtf8, left: pieces })
+                Err(Fault {
+                    kind: FaultKind::NotUtf8,
+                    left: pieces,
+                })
             }
         }
-        [Piece::Open | Piece::Close | Piece::Word(_) | Piece::Id(_) | Piece::Integer(_, _) | Piece::Other, ..] => Err(Fault { kind: FaultKind::Unexpected, left: pieces }),
-        [] => Err(Fault { kind: FaultKind::Unexpected, left: pieces }),
+        [
+            Piece::Open
+            | Piece::Close
+            | Piece::Word(_)
+            | Piece::Id(_)
+            | Piece::Integer(_, _)
+            | Piece::Other,
+            ..
+        ] => Err(Fault {
+            kind: FaultKind::Unexpected,
+            left: pieces,
+        }),
+        [] => Err(Fault {
+            kind: FaultKind::Unexpected,
+            left: pieces,
+        }),
     }
 }
 
 /// The name of an export, and `)`.
 #[tactic(auto, unfolding(crate::specs::Reading::export))]
-fn export<'p, 'a>(
-    pieces: &'p [Piece<'a>],
-) -> Result<(&'p [u8], &'p [Piece<'a>]), Fault<'p, 'a>>
+fn export<'p, 'a>(pieces: &'p [Piece<'a>]) -> Result<(&'p [u8], &'p [Piece<'a>]), Fault<'p, 'a>>
     ensures { MatchResult result
         (λ r. reading.export (map terminal pieces.now) ≡ Ok (r.0.now ∷ [], map terminal r.1.now))
         (λ f. reading.export (map terminal pieces.now) ≡ Err (fault_of f)) }
@@ -182,8 +235,8 @@ fn next_export<'p, 'a>(
 ) -> Result<Option<Left<'p, 'a>>, Refusal<'p, 'a>>
     ensures { MatchResult result
         (λ o. MatchOption o
-            (NoItem (reading.export_item (map terminal left.entry.pieces.now)) (map text_of found.old.items) (map text_of found.new.items))
-            (λ l. IsItem (reading.export_item (map terminal left.entry.pieces.now)) (map text_of found.old.items) (map text_of found.new.items) (map terminal l.pieces.now)))
+        (NoItem (reading.export_item (map terminal left.entry.pieces.now)) (map text_of found.old.items) (map text_of found.new.items))
+        (λ l. IsItem (reading.export_item (map terminal left.entry.pieces.now)) (map text_of found.old.items) (map text_of found.new.items) (map terminal l.pieces.now)))
         (λ e. ItemFaults (reading.export_item (map terminal left.entry.pieces.now)) e) }
 {
     match after("export", left.pieces) {
@@ -207,8 +260,8 @@ fn next_group<'p, 'a>(
 ) -> Result<Option<Left<'p, 'a>>, Refusal<'p, 'a>>
     ensures { MatchResult result
         (λ o. MatchOption o
-            (NoItem (reading.group_item word.now may_have_name (map terminal left.entry.pieces.now)) (map variable_of found.old.items) (map variable_of found.new.items))
-            (λ l. IsItem (reading.group_item word.now may_have_name (map terminal left.entry.pieces.now)) (map variable_of found.old.items) (map variable_of found.new.items) (map terminal l.pieces.now)))
+        (NoItem (reading.group_item word.now may_have_name (map terminal left.entry.pieces.now)) (map variable_of found.old.items) (map variable_of found.new.items))
+        (λ l. IsItem (reading.group_item word.now may_have_name (map terminal left.entry.pieces.now)) (map variable_of found.old.items) (map variable_of found.new.items) (map terminal l.pieces.now)))
         (λ e. ItemFaults (reading.group_item word.now may_have_name (map terminal left.entry.pieces.now)) e) }
 {
     match after(word, left.pieces) {
@@ -231,8 +284,8 @@ fn next_value<'p, 'a>(
 ) -> Result<Option<Left<'p, 'a>>, Refusal<'p, 'a>>
     ensures { MatchResult result
         (λ o. MatchOption o
-            (NoItem (reading.value_item (map terminal left.entry.pieces.now)) (found.old.items) (found.new.items))
-            (λ l. IsItem (reading.value_item (map terminal left.entry.pieces.now)) (found.old.items) (found.new.items) (map terminal l.pieces.now)))
+        (NoItem (reading.value_item (map terminal left.entry.pieces.now)) (found.old.items) (found.new.items))
+        (λ l. IsItem (reading.value_item (map terminal left.entry.pieces.now)) (found.old.items) (found.new.items) (map terminal l.pieces.now)))
         (λ e. ItemFaults (reading.value_item (map terminal left.entry.pieces.now)) e) }
 {
     match left.pieces {
@@ -241,9 +294,20 @@ fn next_value<'p, 'a>(
                 found.push(of)?;
                 Ok(Some(Left { pieces }))
             }
-            None => Err(Refusal::Text(Fault { kind: FaultKind::UnknownWord, left: left.pieces })),
+            None => Err(Refusal::Text(Fault {
+                kind: FaultKind::UnknownWord,
+                left: left.pieces,
+            })),
         },
-        [Piece::Open | Piece::Close | Piece::Id(_) | Piece::Integer(_, _) | Piece::Text(_) | Piece::Other, ..] => Ok(None),
+        [
+            Piece::Open
+            | Piece::Close
+            | Piece::Id(_)
+            | Piece::Integer(_, _)
+            | Piece::Text(_)
+            | Piece::Other,
+            ..
+        ] => Ok(None),
         [] => Ok(None),
     }
 }
@@ -264,10 +328,21 @@ fn group<'p, 'a>(
             if may_have_name {
                 named_one(alloc, name, rest)
             } else {
-                Err(Refusal::Text(Fault { kind: FaultKind::Unexpected, left: pieces }))
+                Err(Refusal::Text(Fault {
+                    kind: FaultKind::Unexpected,
+                    left: pieces,
+                }))
             }
         }
-        [Piece::Open | Piece::Close | Piece::Word(_) | Piece::Integer(_, _) | Piece::Text(_) | Piece::Other, ..] => listed(alloc, pieces),
+        [
+            Piece::Open
+            | Piece::Close
+            | Piece::Word(_)
+            | Piece::Integer(_, _)
+            | Piece::Text(_)
+            | Piece::Other,
+            ..
+        ] => listed(alloc, pieces),
         [] => listed(alloc, pieces),
     }
 }
@@ -285,10 +360,27 @@ fn named_one<'p, 'a>(
     match pieces {
         [Piece::Word(word), rest @ ..] => match value_type(word) {
             Some(of) => named_type(alloc, name, of, rest),
-            None => Err(Refusal::Text(Fault { kind: FaultKind::UnknownWord, left: pieces })),
+            None => Err(Refusal::Text(Fault {
+                kind: FaultKind::UnknownWord,
+                left: pieces,
+            })),
         },
-        [Piece::Open | Piece::Close | Piece::Id(_) | Piece::Integer(_, _) | Piece::Text(_) | Piece::Other, ..] => Err(Refusal::Text(Fault { kind: FaultKind::Unexpected, left: pieces })),
-        [] => Err(Refusal::Text(Fault { kind: FaultKind::Unexpected, left: pieces })),
+        [
+            Piece::Open
+            | Piece::Close
+            | Piece::Id(_)
+            | Piece::Integer(_, _)
+            | Piece::Text(_)
+            | Piece::Other,
+            ..
+        ] => Err(Refusal::Text(Fault {
+            kind: FaultKind::Unexpected,
+            left: pieces,
+        })),
+        [] => Err(Refusal::Text(Fault {
+            kind: FaultKind::Unexpected,
+            left: pieces,
+        })),
     }
 }
 

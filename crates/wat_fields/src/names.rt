@@ -2,7 +2,7 @@
 ghost use Rattle.std.specs.Prelude.{◌≡◌, ◌++◌, [], IfOk, map};
 ghost use Rattle.wat_fields.specs.Fields.{are_distinct, has_name, name_of};
 ghost use Rattle.wat_fields.specs.Reading as reading;
-ghost use Rattle.wat_fields.specs.Views.{variable_of};
+ghost use Rattle.wat_fields.specs.Views.{depth_of, variable_of};
 ghost use Rattle.wat_instructions.specs.Terminals.{label, terminal};
 
 use crate::fields::Variable;
@@ -27,34 +27,79 @@ pub(crate) fn names<'p>(alloc: Global, pieces: &'p [Piece<'_>]) -> Result<Vec<Na
     let mut names = Vec::new(alloc);
     let mut depth = Depth::Before;
     for piece in pieces {
-        match (depth, *piece) {
-            (Depth::Before, Piece::Open) => depth = Depth::Opened,
-            (Depth::Before, _) => return Ok(names),
-            (Depth::Opened, Piece::Word(_)) => depth = Depth::Headed,
-            (Depth::Opened, _) => return Ok(names),
-            (Depth::Headed, Piece::Id(name)) => {
-                names.push(Name::Given(name))?;
-                depth = Depth::Inside(0);
+        match depth {
+            Depth::Before => match *piece {
+                Piece::Open => depth = Depth::Opened,
+                Piece::Close
+                | Piece::Word(_)
+                | Piece::Id(_)
+                | Piece::Integer(_, _)
+                | Piece::Text(_)
+                | Piece::Other => return Ok(names),
+            },
+            Depth::Opened => match *piece {
+                Piece::Word(_) => depth = Depth::Headed,
+                Piece::Open
+                | Piece::Close
+                | Piece::Id(_)
+                | Piece::Integer(_, _)
+                | Piece::Text(_)
+                | Piece::Other => return Ok(names),
+            },
+            Depth::Headed => {
+                names.push(name_of(*piece))?;
+                depth = after_head(*piece);
             }
-            (Depth::Headed, Piece::Open) => {
-                names.push(Name::Absent)?;
-                depth = Depth::Inside(1);
-            }
-            (Depth::Headed, Piece::Close) => {
-                names.push(Name::Absent)?;
-                depth = Depth::Before;
-            }
-            (Depth::Headed, _) => {
-                names.push(Name::Absent)?;
-                depth = Depth::Inside(0);
-            }
-            (Depth::Inside(open), Piece::Open) => depth = Depth::Inside(open + 1),
-            (Depth::Inside(0), Piece::Close) => depth = Depth::Before,
-            (Depth::Inside(open), Piece::Close) => depth = Depth::Inside(open - 1),
-            (Depth::Inside(_), _) => {}
+            Depth::Inside(open) => match *piece {
+                Piece::Open => depth = Depth::Inside(open + 1),
+                Piece::Close => depth = closed(open),
+                Piece::Word(_)
+                | Piece::Id(_)
+                | Piece::Integer(_, _)
+                | Piece::Text(_)
+                | Piece::Other => {}
+            },
         }
     }
     Ok(names)
+}
+
+/// The name that a field has which begins so after its word.
+fn name_of<'p>(piece: Piece<'p>) -> Name<'p>
+    ensures { label result ≡ reading.head_name (terminal piece.entry) }
+{
+    match piece {
+        Piece::Id(name) => Name::Given(name),
+        Piece::Open
+        | Piece::Close
+        | Piece::Word(_)
+        | Piece::Integer(_, _)
+        | Piece::Text(_)
+        | Piece::Other => Name::Absent,
+    }
+}
+
+/// Where a field is after a first token after its word.
+fn after_head(piece: Piece<'_>) -> Depth
+    ensures { depth_of result ≡ reading.head_depth (terminal piece.entry) }
+{
+    match piece {
+        Piece::Open => Depth::Inside(1),
+        Piece::Close => Depth::Before,
+        Piece::Word(_) | Piece::Id(_) | Piece::Integer(_, _) | Piece::Text(_) | Piece::Other =>
+            Depth::Inside(0),
+    }
+}
+
+/// Where a field is after `)`.
+fn closed(groups: usize) -> Depth
+    ensures { depth_of result ≡ reading.after_close groups }
+{
+    if groups == 0 {
+        Depth::Before
+    } else {
+        Depth::Inside(groups - 1)
+    }
 }
 
 /// Whether one of the names is this one.

@@ -1,6 +1,7 @@
--- WebAssembly 2.0 specification, 6.5 (text format, instructions): 6.5.1 labels, 6.5.2 control instructions, 6.5.4 to 6.5.8 plain instructions, 6.5.9
--- folded instructions. Over the tokens that count. A rule takes tokens from a place on, and leaves the rest. What is spelled is a list of instructions as
+-- WebAssembly 2.0 specification, 6.5 (text format, instructions): 6.5.1 labels, 6.5.2 control instructions, 6.5.4 to 6.5.8 plain instructions,
+-- 6.5.10 folded instructions. Over the tokens that count. A rule takes tokens from a place on, and leaves the rest. What is spelled is a list of instructions as
 -- the binary format has them (5.4): `end` and `else` are among them, and a folded instruction comes after its operands.
+-- Which fault a text has that the grammar does not spell is no part of the standard: a rule of our own.
 use Rattle.std.specs.Prelude.{◌≡◌, ℕ, suc, Bool, true, false, List, [], ◌∷◌, ◌++◌, codes, Option, Some, None, Result, Ok, Err, bytes_eq, nat_lt, nat_le, ◌^◌, ◌*◌, ◌==◌, if◌then◌else◌, ℤ, pos, ◌-ℤ◌}
 use Rattle.wat_instructions.specs.declared.pieces.Argument.{Argument}
 use Rattle.wat_instructions.specs.declared.pieces.Argument.TheVariants as argument
@@ -20,7 +21,7 @@ use Rattle.wat_instructions.specs.Terminals.{Terminal, Open, Close, Word, Id, In
 abbrev pub Fault : Type 0
 Fault = FaultKind × List Terminal
 
--- 6.5 contexts: the names of local variables, functions and global variables, in the order of their indices
+-- 6.1.3 contexts: the names of local variables, functions and global variables, in the order of their indices
 pub record Env : Type 0 where
   pub locals : List Label
   pub funcs : List Label
@@ -172,7 +173,8 @@ pub data Instructions (env : Env) : List Label → Bool → List Terminal → Li
   -- 6.5.4 to 6.5.8: a plain instruction, and more
   by_plain : {ls : List Label} {w : List ℕ} {ts us r : List Terminal} {i : Instruction} {is : List Instruction}
       → structured w ≡ None → plain env ls (Word w ∷ ts) ≡ Ok (i, us) → Instructions env ls false us is r → Instructions env ls false (Word w ∷ ts) (i ∷ is) r
-  -- 6.5.2: block, loop or if, up to `end`. An `if` without `else` is one whose second part is empty; the binary format (5.4.1) leaves that out.
+  -- 6.5.2: block, loop or if, up to `end`. An `if` without `else` is one whose second part is empty. 5.4.1 has
+  -- bytes for it with and without `else`: it is written as the text has it, which is a choice of our own.
   by_block : {ls : List Label} {w v : List ℕ} {o : ℕ} {a : Argument} {ts bs us vs r : List Terminal} {body is : List Instruction}
       → structured w ≡ Some o → block_type (label_of ts).1 ≡ Ok (a, bs) → Instructions env ((label_of ts).0 ∷ ls) false bs body (Word v ∷ us) → is_end v ≡ true → end_label (label_of ts).0 us ≡ Ok vs → Instructions env ls false vs is r
       → Instructions env ls false (Word w ∷ ts) (instruction o a ∷ (body ++ (end ∷ is))) r
@@ -181,26 +183,26 @@ pub data Instructions (env : Env) : List Label → Bool → List Terminal → Li
       → structured w ≡ Some o → is_if o ≡ true → block_type (label_of ts).1 ≡ Ok (a, bs) → Instructions env ((label_of ts).0 ∷ ls) false bs body (Word v ∷ us) → is_else v ≡ true → end_label (label_of ts).0 us ≡ Ok xs
       → Instructions env ((label_of ts).0 ∷ ls) false xs other (Word x ∷ ys) → is_end x ≡ true → end_label (label_of ts).0 ys ≡ Ok vs → Instructions env ls false vs is r
       → Instructions env ls false (Word w ∷ ts) (instruction o a ∷ (body ++ (otherwise ∷ (other ++ (end ∷ is))))) r
-  -- 6.5.9: `(` plaininstr foldedinstr* `)` is foldedinstr* plaininstr
+  -- 6.5.10: `(` plaininstr foldedinstr* `)` is foldedinstr* plaininstr
   by_folded : {ls : List Label} {folded : Bool} {w : List ℕ} {ts us vs r : List Terminal} {i : Instruction} {operands is : List Instruction}
       → structured w ≡ None → plain env ls (Word w ∷ ts) ≡ Ok (i, us) → Instructions env ls true us operands (Close ∷ vs) → Instructions env ls folded vs is r
       → Instructions env ls folded (Open ∷ Word w ∷ ts) (operands ++ (i ∷ is)) r
-  -- 6.5.9: `(` block label blocktype instr* `)` is block label blocktype instr* end, and so is loop
+  -- 6.5.10: `(` block label blocktype instr* `)` is block label blocktype instr* end, and so is loop
   by_folded_block : {ls : List Label} {folded : Bool} {w : List ℕ} {o : ℕ} {a : Argument} {ts bs vs r : List Terminal} {body is : List Instruction}
       → structured w ≡ Some o → is_if o ≡ false → block_type (label_of ts).1 ≡ Ok (a, bs) → Instructions env ((label_of ts).0 ∷ ls) false bs body (Close ∷ vs) → Instructions env ls folded vs is r
       → Instructions env ls folded (Open ∷ Word w ∷ ts) (instruction o a ∷ (body ++ (end ∷ is))) r
-  -- 6.5.9: `(` if label blocktype foldedinstr* `(` then instr* `)` `)` is foldedinstr* if label blocktype instr* end
+  -- 6.5.10: `(` if label blocktype foldedinstr* `(` then instr* `)` `)` is foldedinstr* if label blocktype instr* end
   by_folded_if : {ls : List Label} {folded : Bool} {w t : List ℕ} {o : ℕ} {a : Argument} {ts bs cs vs r : List Terminal} {condition body is : List Instruction}
       → structured w ≡ Some o → is_if o ≡ true → block_type (label_of ts).1 ≡ Ok (a, bs) → Instructions env ls true bs condition (Open ∷ Word t ∷ cs) → is_then t ≡ true
       → Instructions env ((label_of ts).0 ∷ ls) false cs body (Close ∷ Close ∷ vs) → Instructions env ls folded vs is r
       → Instructions env ls folded (Open ∷ Word w ∷ ts) (condition ++ (instruction o a ∷ (body ++ (end ∷ is)))) r
-  -- 6.5.9: the same with `(` else instr* `)` after it is foldedinstr* if label blocktype instr* else instr* end
+  -- 6.5.10: the same with `(` else instr* `)` after it is foldedinstr* if label blocktype instr* else instr* end
   by_folded_if_else : {ls : List Label} {folded : Bool} {w t e : List ℕ} {o : ℕ} {a : Argument} {ts bs cs es vs r : List Terminal} {condition body other is : List Instruction}
       → structured w ≡ Some o → is_if o ≡ true → block_type (label_of ts).1 ≡ Ok (a, bs) → Instructions env ls true bs condition (Open ∷ Word t ∷ cs) → is_then t ≡ true
       → Instructions env ((label_of ts).0 ∷ ls) false cs body (Close ∷ Open ∷ Word e ∷ es) → is_else e ≡ true
       → Instructions env ((label_of ts).0 ∷ ls) false es other (Close ∷ Close ∷ vs) → Instructions env ls folded vs is r
       → Instructions env ls folded (Open ∷ Word w ∷ ts) (condition ++ (instruction o a ∷ (body ++ (otherwise ∷ (other ++ (end ∷ is)))))) r
 
--- the instructions of a body up to its `)`, which is passed; a body is a block of its own, without a name (3.4.9, 6.6.5)
+-- the instructions of a body up to its `)`, which is passed; a body is in no block, and its label has no name (6.6.5)
 abbrev pub Body : Env → List Terminal → List Instruction → List Terminal → Type 0
 Body env ts is r = Instructions env (None ∷ []) false ts is (Close ∷ r)

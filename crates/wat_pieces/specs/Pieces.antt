@@ -1,5 +1,5 @@
 -- WebAssembly 2.0 specification, 6.2.2 (tokens) and 6.3 (values: integers, strings, identifiers): the tokens that count, each with its value.
-use Rattle.std.specs.Prelude.{◌≡◌, ℕ, ◌^◌, false, List, [], ◌∷◌, map, nat_lt, Option, Some, None, Result, Ok, Err, if◌then◌else◌}
+use Rattle.std.specs.Prelude.{◌≡◌, ℕ, ◌^◌, true, List, map, nat_lt, Option, Some, None, Result, Ok, Err, if◌then◌else◌}
 use Rattle.wat_lex.specs.declared.lexer.faults.LexError.{LexError}
 use Rattle.wat_lex.specs.declared.lexer.faults.LexError.TheVariants.{EmptyId}
 use Rattle.wat_lex.specs.declared.lexer.kinds.SignToken.{SignToken}
@@ -45,9 +45,10 @@ terminal_by text t k = Other
 abbrev pub terminal_of : List ℕ → Token → Terminal
 terminal_of text t = terminal_by text t t.kind
 
--- a text, where neither confusing characters are allowed nor underscores strict
+-- A text under the settings of the lexer that take what 6.2 and 6.3 take: all characters in comments and strings, and no doubled underscores. Beyond
+-- 2.0 an identifier may be `$".."`, and annotations are passed over.
 abbrev pub plain : List ℕ → Setting
-plain text = record { text = text; flags = record { allow = false; strict = false } }
+plain text = record { text = text; flags = record { allow = true; strict = true } }
 
 -- the tokens that count of a text that has no fault, as terminal symbols: white space, comments and annotations are not among them
 pub record Shows (text : List ℕ) (terminals : List Terminal) : Type 0 where

@@ -1,11 +1,10 @@
 -- WebAssembly specification, text format, lexical format: all tokens that a text shows.
-use Rattle.std.specs.Prelude.{◌≡◌, ℕ, false, List, Option, Some, drop}
+use Rattle.std.specs.Prelude.{◌≡◌, ℕ, true, List, Option, Some, drop}
 use Rattle.std.specs.List.{All}
 use Rattle.wat_lex.specs.tokens.ReadableTokens.{IsTokenOf}
 use Rattle.std.specs.Option.{option_map}
 use Rattle.wat_lex.specs.errors.Errors.{Report}
 use Rattle.wat_lex.specs.declared.lexer.kinds.Token.{Token}
-use Rattle.wat_lex.specs.tokens.Setting.{Setting}
 use Rattle.wat_lexer_parser.specs.declared.parser.fault.Fault.{Fault}
 use Rattle.wat_lexer_parser.specs.names.RegisteredNames.{Names, no_names}
 use Rattle.wat_lexer_parser.specs.parser.State.{report_of}
@@ -24,6 +23,6 @@ pub record ShownFrom (s : Source) (names : Names) (place : ℕ) (items : List To
 -- the same of a whole text
 pub record TextShown (text : List ℕ) (items : List Token) (error : Option (Option Report)) : Type 0 where
   pub source : Source
-  pub setting : source.setting ≡ record { text = text; flags = record { allow = false; strict = false } }
+  pub setting : source.setting ≡ record { text = text; flags = record { allow = true; strict = true } }
   pub read : IsRead source
   pub shown : ShownFrom source no_names 0 items error

@@ -1,6 +1,7 @@
 //! The tokens that count of a text, each with its value: the terminal symbols of the grammar of
 //! modules.
 #![tactic(auto)]
+
 ghost use Rattle.std.specs.List.{All};
 ghost use Rattle.std.specs.Prelude.{◌≡◌, ◌≤◌, ◌<◌, ◌^◌, IfErr, IfOk, None, length, map};
 ghost use Rattle.wat_instructions.specs.Terminals.{terminal};
@@ -13,7 +14,7 @@ ghost use Rattle.wat_pieces.specs.Values.{value_terminal};
 use std::alloc::{AllocError, Global};
 use std::borrow::{CowSlice, CowStr};
 use wat_instructions::pieces::{Piece, Sign};
-use wat_lexer_parser::lexer::{IntegerKind, SignToken, Token, TokenKind};
+use wat_lexer_parser::lexer::{Lexer, Settings, SignToken, Token, TokenKind};
 use wat_lexer_parser::parser::{Cursor, LazyBuffer};
 use wat_lexer_parser::{Error, laws};
 
@@ -42,7 +43,11 @@ pub fn shown_tokens(alloc: Global, text: &str) -> Result<Shown, Error>
     ensures shown { IfOk result (λ r. TextShown text.now r.tokens.items r.error) }
     ensures refused { IfErr result (λ e. e ≡ None) }
 {
-    let buffer = LazyBuffer::new(alloc, text);
+    let settings = Settings {
+        allow: true,
+        strict: true,
+    };
+    let buffer = LazyBuffer::new_with_lexer(alloc, Lexer::with_settings(text, settings));
     let mut parser = buffer.parser();
     parser.step(|cursor| tokens_from(alloc, cursor))
 }
@@ -97,7 +102,7 @@ fn sign(sign: Option<SignToken>) -> Sign
 }
 
 /// The value of a token.
-fn value<'a>(alloc: Global, text: &'a str, token: &Token) -> Result<Value<'a>, AllocError>
+fn read_value<'a>(alloc: Global, text: &'a str, token: &Token) -> Result<Value<'a>, AllocError>
     requires { IsTokenOf text.now token.now }
     ensures { IfOk result (λ v. value_terminal v ≡ terminal_of text.now token.now) }
 {
@@ -134,7 +139,7 @@ pub fn values<'a>(
 {
     let mut all = Vec::new(alloc);
     for token in tokens {
-        all.push(value(alloc, text, token)?)?;
+        all.push(read_value(alloc, text, token)?)?;
     }
     Ok(all)
 }
