@@ -3,3 +3,4 @@ pub mod Items
 pub mod Headers
 pub mod Modules
 pub mod Bytes
+pub mod RunLaws

@@ -98,14 +98,14 @@ pub record Run : Type 0 where
 abbrev pub run : ℕ → ℕ → Run
 run n b = record { count = n; byte = b }
 
--- the runs of types, after so many of one
-abbrev pub runs_after : ℕ → ℕ → List ℕ → List Run
-runs_after n b [] = run n b ∷ []
-runs_after n b (c ∷ cs) = if c == b then runs_after (suc n) b cs else run n b ∷ runs_after 1 c cs
+-- a variable before runs
+abbrev pub before_run : ℕ → List Run → List Run
+before_run b [] = run 1 b ∷ []
+before_run b (r ∷ rs) = if b == r.byte then run (suc r.count) b ∷ rs else run 1 b ∷ r ∷ rs
 
 abbrev pub runs_of : List ℕ → List Run
 runs_of [] = []
-runs_of (b ∷ bs) = runs_after 1 b bs
+runs_of (b ∷ bs) = before_run b (runs_of bs)
 
 abbrev pub run_bytes : Run → List ℕ
 run_bytes r = unsigned_leb128 r.count ++ r.byte ∷ []

@@ -1,6 +1,6 @@
 -- What the code's variables and functions are in the definitions.
 use denote.Ref.{Bor}
-use Rattle.std.specs.Prelude.{◌≡◌, ◌≤◌, ◌==◌, ◌++◌, ℕ, List, [], map, Some, None, Ok, Err, Vec, if◌then◌else◌}
+use Rattle.std.specs.Prelude.{suc, ◌∷◌, ◌≡◌, ◌≤◌, ◌==◌, ◌++◌, ℕ, List, [], map, Some, None, Ok, Err, Vec, if◌then◌else◌}
 use Rattle.wat_instructions.specs.declared.pieces.Refusal.{Refusal}
 use Rattle.wat_instructions.specs.declared.pieces.Refusal.TheVariants as refusal
 use Rattle.wat_instructions.specs.Parts.{fault_of}
@@ -68,6 +68,11 @@ list_of v = v.items
 
 abbrev pub export_of : declared_export.Export → Export
 export_of e = export e.index e.name.now
+
+-- the runs of types, after so many of one
+abbrev pub runs_after : ℕ → ℕ → List ℕ → List Run
+runs_after n b [] = run n b ∷ []
+runs_after n b (c ∷ cs) = if c == b then runs_after (suc n) b cs else run n b ∷ runs_after 1 c cs
 
 abbrev pub run_of : declared_run.Run → Run
 run_of r = run r.count r.byte

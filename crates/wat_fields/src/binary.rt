@@ -195,7 +195,7 @@ struct Run {
 
 /// The runs of types, of which this is the first and these are the others.
 fn runs_after(alloc: Global, first: u8, others: &[u8]) -> Result<Vec<Run>, AllocError>
-    ensures { IfOk result (λ runs. map run_of runs.items ≡ binary.runs_after 1 first others.now) }
+    ensures { IfOk result (λ runs. map run_of runs.items ≡ binary.runs_of (first ∷ others.now)) }
 {
     let mut runs = Vec::new(alloc);
     let mut count = 1;

@@ -4,16 +4,19 @@ use Rattle.std.specs.Prelude.{nat_lt, if◌then◌else◌, Vec, IfOk}
 use Rattle.std.specs.List.{All}
 use Rattle.std.specs.declared.alloc.Global.{Global}
 use Rattle.std.specs.Option.{option_map}
+use Rattle.std.specs.Str.{IsUtf8}
+use Rattle.std.proofs.lemmas.Str.{IsCharBoundary-start}
+use Rattle.wat_lexer_parser.specs.places.Source.{Source}
 use Rattle.std.proofs.lemmas.Bool.Decides.{Decides-ltb}
 use Rattle.wat_lex.specs.declared.lexer.kinds.Token.{Token}
 use Rattle.wat_lex.specs.errors.Errors.{Report}
 use Rattle.wat_lex.specs.tokens.ReadableTokens.{IsTokenOf}
 use Rattle.wat_lex.specs.tokens.Tiling.{MaximalTiling}
-use Rattle.wat_lex.specs.tokens.EverySetting.{TilingsAreOne}
+use Rattle.wat_lex.specs.tokens.EverySetting.{EachPlaceIsTiled, TilingsAreOne}
 use Rattle.wat_lexer_parser.specs.declared.parser.fault.Fault.{Fault}
 use Rattle.wat_lexer_parser.specs.laws.AllShown.{AllShown}
 use Rattle.wat_lexer_parser.specs.laws.Blanking.{TextShows}
-use Rattle.wat_lexer_parser.specs.laws.ShownLaws.{AllShownIsOne}
+use Rattle.wat_lexer_parser.specs.laws.ShownLaws.{AllShownIsOne, SomethingIsAllShown}
 use Rattle.wat_lexer_parser.specs.names.RegisteredNames.{no_names}
 use Rattle.wat_lexer_parser.specs.parser.State.{Answers, report_of}
 use Rattle.wat_instructions.specs.Grammar as grammar
@@ -109,3 +112,9 @@ one_module tilings one law text fs gs h k =
     let e = shows_one tilings one text h.shown.tokens k.shown.tokens None None h.shown.shown k.shown.shown in
     let t : h.terminals ≡ k.terminals = h.shown.are ∙ ap (map (terminal_of text)) e.0 ∙ sym k.shown.are in
     let is : ◌≡◌ {A = Result (List Function) grammar.Fault} (Ok fs) (Ok gs) = sym ((law h.terminals fs).1 h.spelled) ∙ ap reading.whole t ∙ (law k.terminals gs).1 k.spelled in cc
+
+-- something is shown
+pub shows_some : EachPlaceIsTiled → SomethingIsAllShown → (text : List ℕ) → IsUtf8 text → (tokens : List Token) × (last : Option Fault) × TextShows (plain text) no_names tokens last
+shows_some tiled some text u =
+    let t = tiled (plain text) 0 u (IsCharBoundary-start text u) in
+    let s : Source = record { setting = plain text; track = true; tokens = t.0; ending = t.1 } in let a = some s no_names 0 u t.2 in (a.0, a.1, record { tokens = t.0; ending = t.1; tiling = t.2; all = a.2 })

@@ -1,6 +1,7 @@
 //! Modules of WebAssembly, from text to bytes: a compiler whose answer is that of the standard's
 //! grammar and binary format, by theorem. As yet modules hold nothing but functions.
 #![tactic(auto)]
+
 ghost use Rattle.std.specs.List.{All};
 ghost use Rattle.std.specs.Prelude.{◌≡◌, ◌<◌, ◌^◌, true, length, IfOk, List, Option, string_bytes};
 ghost use Rattle.wat_fields.specs.Binary.{module_bytes};
@@ -84,7 +85,7 @@ fn of_tokens(alloc: Global, text: &str, tokens: &[Token]) -> Result<Vec<u8>, Err
 
 /// These bytes, where they are not too many.
 fn fitting(alloc: Global, text: &str, bytes: Vec<u8>) -> Result<Vec<u8>, Error>
-    ensures { Answers true (λ bytes. bytes.items) (fitted text.now bytes.entry.items) result }
+    ensures { Answers true (λ out. out.items) (fitted text.now bytes.items) result }
 {
     if bytes.len() < 0x1_0000_0000 {
         return Ok(bytes);

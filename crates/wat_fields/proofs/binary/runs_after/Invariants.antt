@@ -1,6 +1,5 @@
 use Rattle.std.proofs.Common.{◌≡◌, ◌≤◌, ◌++◌, suc, map, drop}
-use Rattle.wat_fields.specs.Binary.{runs_after}
-use Rattle.wat_fields.specs.Views.{run_of}
+use Rattle.wat_fields.specs.Views.{run_of, runs_after}
 use Rattle.wat_fields.proofs.binary.runs_after.Given as goal
 
 abbrev pub invariant-loop-next : goal.invariant-loop-next
