@@ -3,7 +3,7 @@
 functions with inline exports, parameters, results, local variables, and plain, structured and folded instructions; and on texts made from
 them by one change of a token.
 
-PROGRAM reads a module in each line, where U+0001 stands for a line end, and writes a line of hexadecimal digits, or one that begins with
+PROGRAM reads a module in each line, where U+0001 is in place of a line end, and writes a line of hexadecimal digits, or one that begins with
 `error`. An `else` with nothing after it is written by PROGRAM and left out by `wat2wasm`: such texts are not made.
 
 usage: compare_modules.py [--modules N] [--mutants N] [--seed N] PROGRAM [ARGUMENT..]

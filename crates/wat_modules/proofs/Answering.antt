@@ -1,5 +1,5 @@
 -- What compiling answers, from what the passes answered.
-use Rattle.std.proofs.Common.{◌≡◌, ◌∙◌, ◌<◌, ◌≤◌, ◌^◌, ℕ, List, [], ◌∷◌, arith, refl, sym, ap, subst, length, map, drop, Option, Some, None, Result, Ok, Err, ◌↔◌, true, false, Bool}
+use Rattle.std.proofs.Common.{◌≡◌, ◌∙◌, ◌<◌, ◌^◌, ℕ, List, refl, sym, ap, subst, length, map, Option, Some, None, Result, Ok, Err, true, false, Bool}
 use Rattle.std.specs.Prelude.{nat_lt, if◌then◌else◌, Vec, IfOk}
 use Rattle.std.specs.List.{All}
 use Rattle.std.specs.declared.alloc.Global.{Global}
@@ -21,7 +21,7 @@ use Rattle.wat_lexer_parser.specs.names.RegisteredNames.{no_names}
 use Rattle.wat_lexer_parser.specs.parser.State.{Answers, report_of}
 use Rattle.wat_instructions.specs.Grammar as grammar
 use Rattle.wat_fields.specs.Binary.{module_bytes}
-use Rattle.wat_fields.specs.Fields.{Function, Module}
+use Rattle.wat_fields.specs.Fields.{Function}
 use Rattle.wat_fields.specs.Law.{ReadingIsGrammar}
 use Rattle.wat_fields.specs.Reading as reading
 use Rattle.wat_pieces.specs.Pieces.{plain, terminal_of}

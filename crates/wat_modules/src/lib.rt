@@ -18,6 +18,8 @@ ghost use Rattle.wat_modules.specs.Compiling as compiling;
 ghost use Rattle.wat_pieces.specs.Pieces.{plain};
 
 pub mod laws;
+#[cfg(test)]
+mod tests;
 
 use std::alloc::Global;
 use wat_fields::fields;
