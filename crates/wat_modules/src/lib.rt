@@ -77,7 +77,7 @@ fn of_tokens(alloc: Global, text: &str, tokens: &[Token]) -> Result<Vec<u8>, Err
     let pieces = pieces(alloc, &values)?;
     match fields::compile(alloc, &pieces) {
         Ok(bytes) => fitting(alloc, text, bytes),
-        Err(Refusal::Memory(_)) => Err(Error::out_of_memory()),
+        Err(Refusal::Memory(refused)) => Err(Error::from(refused)),
         Err(Refusal::Text(fault)) => {
             let left = fault.left.len();
             Err(error_of(alloc, text, tokens, fault.kind, left))
@@ -106,7 +106,7 @@ fn error_of(alloc: Global, text: &str, tokens: &[Token], kind: FaultKind, left: 
     };
     match String::from_str(alloc, message(kind)) {
         Ok(message) => Error::parse(alloc, Span::from_offset(place), text, message),
-        Err(_) => Error::out_of_memory(),
+        Err(refused) => Error::from(refused),
     }
 }
 
