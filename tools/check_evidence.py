@@ -31,6 +31,7 @@ REFUSALS = [
         "Err(EncodeError::Memory) => Err(Error::out_of_memory())",
         "of a variant that holds nothing, and is made of a refusal",
     ),
+    ("wat_fields/src/binary.rt", "refused", "{ AllocError }", "of a variant that holds nothing, and is made of a refusal"),
     (
         "wat_tokens/src/main.rt",
         "not_read",

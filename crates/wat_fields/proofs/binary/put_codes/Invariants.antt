@@ -1,0 +1,8 @@
+use Rattle.std.proofs.Common.{◌≡◌, map, take}
+use Rattle.std.specs.List.{flat_map}
+use Rattle.wat_fields.specs.Binary.{code_bytes}
+use Rattle.wat_fields.specs.Views.{function_of}
+use Rattle.wat_fields.proofs.binary.put_codes.Given as goal
+
+abbrev pub invariant-loop-function : goal.invariant-loop-function
+invariant-loop-function l = l.items.items ≡ flat_map code_bytes (map function_of (take l.function-index l.functions))

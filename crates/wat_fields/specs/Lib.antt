@@ -1,0 +1,5 @@
+pub mod Fields
+pub mod Binary
+pub mod Reading
+pub mod Law
+pub mod Views

@@ -1,0 +1,6 @@
+pub mod Runs
+pub mod Passing
+pub mod Stacks
+pub mod Steps
+pub mod Opens
+pub mod Tables

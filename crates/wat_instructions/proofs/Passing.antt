@@ -1,0 +1,288 @@
+-- What a rule leaves is no longer than what it takes from, and has the same groups open.
+use Rattle.std.proofs.Common.{◌≡◌, ◌<◌, ◌≤◌, ℕ, suc, Bool, true, false, List, [], ◌∷◌, length, Option, Some, None, Result, Ok, Err, refl, subst, ◌∙◌, arith}
+use Rattle.std.specs.Prelude.{if◌then◌else◌, bytes_eq, codes, nat_lt, ◌^◌, ℤ}
+use Rattle.wat_instructions.specs.declared.pieces.Argument.{Argument}
+use Rattle.wat_instructions.specs.declared.pieces.Argument.TheVariants as argument
+use Rattle.wat_instructions.specs.declared.pieces.Instruction.{Instruction}
+use Rattle.wat_instructions.specs.declared.pieces.FaultKind.TheVariants.{WrongLabel, OutOfRange}
+use Rattle.wat_instructions.specs.declared.pieces.Sign.{Sign}
+use Rattle.wat_instructions.specs.declared.pieces.Sign.TheVariants as sign
+use Rattle.wat_instructions.specs.declared.pieces.ValueType.{ValueType}
+use Rattle.wat_instructions.specs.declared.table.Immediate.{Immediate}
+use Rattle.wat_instructions.specs.declared.table.Immediate.TheVariants as immediate
+use Rattle.wat_instructions.specs.Table.{Mnemonic, found, mnemonics}
+use Rattle.wat_instructions.specs.Terminals.{Terminal, Open, Close, Word, Id, Integer, Text, Other, Label}
+use Rattle.wat_instructions.specs.Grammar.{Env, Fault, Instructions, plain, label_of, end_label, block_type}
+use Rattle.wat_instructions.specs.Grammar as grammar
+use Rattle.wat_instructions.specs.Law.{InstructionsAreBalanced, InstructionsTakeTokens, past}
+
+pub record Passes (ts us : List Terminal) : Type 0 where
+  pub short : length us ≤ length ts
+  pub same : (d : ℕ) → past d ts ≡ past d us
+
+-- and one group more is closed
+pub record Ends (ts us : List Terminal) : Type 0 where
+  pub short : length us ≤ length ts
+  pub same : (d : ℕ) → past (suc d) ts ≡ past d us
+
+pub stay : (ts : List Terminal) → Passes ts ts
+stay ts = record { short = omega arith; same = λ d. refl }
+
+after_id : (x : List ℕ) (ts : List Terminal) → Passes (Id x ∷ ts) ts
+after_id x ts = record { short = omega arith; same = λ d. refl }
+
+after_integer : (s : Sign) (n : ℕ) (ts : List Terminal) → Passes (Integer s n ∷ ts) ts
+after_integer s n ts = record { short = omega arith; same = λ d. refl }
+
+abbrev pub Keeps : {A : Type 0} → Result (A × List Terminal) Fault → List Terminal → Type 0
+Keeps (Ok (a, us)) ts = Passes ts us
+Keeps (Err f) ts = Unit {0}
+
+abbrev pub Closing : {A : Type 0} → Result (A × List Terminal) Fault → List Terminal → Type 0
+Closing (Ok (a, us)) ts = Ends ts us
+Closing (Err f) ts = Unit {0}
+
+named_keeps : (o : Option ℕ) (all ts : List Terminal) → Passes all ts → Keeps (grammar.named o all ts) all
+named_keeps None all ts h = tt
+named_keeps (Some n) all ts h = h
+
+small_by : (b : Bool) (n : ℕ) (all ts : List Terminal) → Passes all ts → Keeps (if b then Ok (argument.Index n, ts) else Err (OutOfRange, all)) all
+small_by true n all ts h = h
+small_by false n all ts h = tt
+
+small_keeps : (s : Sign) (n : ℕ) (all ts : List Terminal) → Passes all ts → Keeps (grammar.small s n all ts) all
+small_keeps sign.Absent n all ts h = small_by (nat_lt n (2 ^ 32)) n all ts h
+small_keeps sign.Plus n all ts h = tt
+small_keeps sign.Minus n all ts h = tt
+
+index_keeps : (ls : List Label) (ts : List Terminal) → Keeps (grammar.index ls ts) ts
+index_keeps ls [] = tt
+index_keeps ls (Integer s n ∷ ts) = small_keeps s n (Integer s n ∷ ts) ts (after_integer s n ts)
+index_keeps ls (Id x ∷ ts) = named_keeps (grammar.position 0 x ls) (Id x ∷ ts) ts (after_id x ts)
+index_keeps ls (Open ∷ ts) = tt
+index_keeps ls (Close ∷ ts) = tt
+index_keeps ls (Word w ∷ ts) = tt
+index_keeps ls (Text v ∷ ts) = tt
+index_keeps ls (Other ∷ ts) = tt
+
+i32_by_keeps : (o : Option ℤ) (all ts : List Terminal) → Passes all ts → Keeps (grammar.i32_by o all ts) all
+i32_by_keeps (Some n) all ts h = h
+i32_by_keeps None all ts h = tt
+
+i64_by_keeps : (o : Option ℤ) (all ts : List Terminal) → Passes all ts → Keeps (grammar.i64_by o all ts) all
+i64_by_keeps (Some n) all ts h = h
+i64_by_keeps None all ts h = tt
+
+i32_keeps : (ts : List Terminal) → Keeps (grammar.i32 ts) ts
+i32_keeps [] = tt
+i32_keeps (Integer s n ∷ ts) = i32_by_keeps (grammar.signed (2 ^ 31) s n) (Integer s n ∷ ts) ts (after_integer s n ts)
+i32_keeps (Id x ∷ ts) = tt
+i32_keeps (Open ∷ ts) = tt
+i32_keeps (Close ∷ ts) = tt
+i32_keeps (Word w ∷ ts) = tt
+i32_keeps (Text v ∷ ts) = tt
+i32_keeps (Other ∷ ts) = tt
+
+i64_keeps : (ts : List Terminal) → Keeps (grammar.i64 ts) ts
+i64_keeps [] = tt
+i64_keeps (Integer s n ∷ ts) = i64_by_keeps (grammar.signed (2 ^ 63) s n) (Integer s n ∷ ts) ts (after_integer s n ts)
+i64_keeps (Id x ∷ ts) = tt
+i64_keeps (Open ∷ ts) = tt
+i64_keeps (Close ∷ ts) = tt
+i64_keeps (Word w ∷ ts) = tt
+i64_keeps (Text v ∷ ts) = tt
+i64_keeps (Other ∷ ts) = tt
+
+immediate_keeps : (env : Env) (ls : List Label) (k : Immediate) (ts : List Terminal) → Keeps (grammar.immediate_of env ls k ts) ts
+immediate_keeps env ls immediate.No ts = stay ts
+immediate_keeps env ls immediate.Local ts = index_keeps env.locals ts
+immediate_keeps env ls immediate.Label ts = index_keeps ls ts
+immediate_keeps env ls immediate.Func ts = index_keeps env.funcs ts
+immediate_keeps env ls immediate.Global ts = index_keeps env.globals ts
+immediate_keeps env ls immediate.I32 ts = i32_keeps ts
+immediate_keeps env ls immediate.I64 ts = i64_keeps ts
+immediate_keeps env ls (immediate.Memory align) ts = stay ts
+immediate_keeps env ls immediate.Zero ts = stay ts
+
+after_word : (w : List ℕ) (ts us : List Terminal) → Passes ts us → Passes (Word w ∷ ts) us
+after_word w ts us h = record { short = omega (arith, h.short); same = h.same }
+
+with_opcode_keeps : (o : ℕ) (q : Result (Argument × List Terminal) Fault) (w : List ℕ) (ts : List Terminal) → Keeps q ts → Keeps (grammar.with_opcode o q) (Word w ∷ ts)
+with_opcode_keeps o (Ok (a, us)) w ts h = after_word w ts us h
+with_opcode_keeps o (Err f) w ts h = tt
+
+plain_by_keeps : (env : Env) (ls : List Label) (m : Option Mnemonic) (w : List ℕ) (ts : List Terminal) → Keeps (grammar.plain_by env ls m (Word w ∷ ts) ts) (Word w ∷ ts)
+plain_by_keeps env ls None w ts = tt
+plain_by_keeps env ls (Some m) w ts = with_opcode_keeps m.opcode (grammar.immediate_of env ls m.immediate ts) w ts (immediate_keeps env ls m.immediate ts)
+
+pub plain_keeps : (env : Env) (ls : List Label) (w : List ℕ) (ts : List Terminal) → Keeps (plain env ls (Word w ∷ ts)) (Word w ∷ ts)
+unfolding plain
+plain_keeps env ls w ts = plain_by_keeps env ls (found w mnemonics) w ts
+
+abbrev pub Takes : {A : Type 0} → Result (A × List Terminal) Fault → List Terminal → Type 0
+Takes (Ok (a, us)) ts = length us < length ts
+Takes (Err f) ts = Unit {0}
+
+with_opcode_takes : (o : ℕ) (q : Result (Argument × List Terminal) Fault) (w : List ℕ) (ts : List Terminal) → Keeps q ts → Takes (grammar.with_opcode o q) (Word w ∷ ts)
+with_opcode_takes o (Ok (a, us)) w ts h = omega (arith, h.short)
+with_opcode_takes o (Err f) w ts h = tt
+
+plain_by_takes : (env : Env) (ls : List Label) (m : Option Mnemonic) (w : List ℕ) (ts : List Terminal) → Takes (grammar.plain_by env ls m (Word w ∷ ts) ts) (Word w ∷ ts)
+plain_by_takes env ls None w ts = tt
+plain_by_takes env ls (Some m) w ts = with_opcode_takes m.opcode (grammar.immediate_of env ls m.immediate ts) w ts (immediate_keeps env ls m.immediate ts)
+
+pub plain_takes : (env : Env) (ls : List Label) (w : List ℕ) (ts : List Terminal) → Takes (plain env ls (Word w ∷ ts)) (Word w ∷ ts)
+unfolding plain
+plain_takes env ls w ts = plain_by_takes env ls (found w mnemonics) w ts
+
+pub plain_short : (env : Env) (ls : List Label) (w : List ℕ) (ts : List Terminal) (i : Instruction) (us : List Terminal) → plain env ls (Word w ∷ ts) ≡ Ok (i, us) → length us < length (Word w ∷ ts)
+plain_short env ls w ts i us e = let K : Result (Instruction × List Terminal) Fault → Type 0 = λ q. Takes q (Word w ∷ ts) in subst K e (plain_takes env ls w ts)
+
+pub plain_passes : (env : Env) (ls : List Label) (w : List ℕ) (ts : List Terminal) (i : Instruction) (us : List Terminal) → plain env ls (Word w ∷ ts) ≡ Ok (i, us) → Passes (Word w ∷ ts) us
+plain_passes env ls w ts i us e = let K : Result (Instruction × List Terminal) Fault → Type 0 = λ q. Keeps q (Word w ∷ ts) in subst K e (plain_keeps env ls w ts)
+
+pub label_passes : (ts : List Terminal) → Passes ts (label_of ts).1
+label_passes [] = stay []
+label_passes (Id x ∷ ts) = after_id x ts
+label_passes (Open ∷ ts) = stay (Open ∷ ts)
+label_passes (Close ∷ ts) = stay (Close ∷ ts)
+label_passes (Word w ∷ ts) = stay (Word w ∷ ts)
+label_passes (Integer s n ∷ ts) = stay (Integer s n ∷ ts)
+label_passes (Text v ∷ ts) = stay (Text v ∷ ts)
+label_passes (Other ∷ ts) = stay (Other ∷ ts)
+
+abbrev pub KeepsAll : Result (List Terminal) Fault → List Terminal → Type 0
+KeepsAll (Ok us) ts = Passes ts us
+KeepsAll (Err f) ts = Unit {0}
+
+id_keeps : (b : Bool) (x : List ℕ) (ts : List Terminal) → KeepsAll (if b then Ok ts else Err (WrongLabel, Id x ∷ ts)) (Id x ∷ ts)
+id_keeps true x ts = after_id x ts
+id_keeps false x ts = tt
+
+pub end_keeps : (l : Label) (ts : List Terminal) → KeepsAll (end_label l ts) ts
+end_keeps l [] = stay []
+end_keeps l (Id x ∷ ts) = id_keeps (grammar.is_name x l) x ts
+end_keeps l (Open ∷ ts) = stay (Open ∷ ts)
+end_keeps l (Close ∷ ts) = stay (Close ∷ ts)
+end_keeps l (Word w ∷ ts) = stay (Word w ∷ ts)
+end_keeps l (Integer s n ∷ ts) = stay (Integer s n ∷ ts)
+end_keeps l (Text v ∷ ts) = stay (Text v ∷ ts)
+end_keeps l (Other ∷ ts) = stay (Other ∷ ts)
+
+pub end_passes : (l : Label) (ts us : List Terminal) → end_label l ts ≡ Ok us → Passes ts us
+end_passes l ts us e = let K : Result (List Terminal) Fault → Type 0 = λ q. KeepsAll q ts in subst K e (end_keeps l ts)
+
+close_type_ends : (t : ValueType) (ts : List Terminal) → Closing (grammar.close_type t ts) ts
+close_type_ends t (Close ∷ ts) = record { short = omega arith; same = λ d. refl }
+close_type_ends t [] = tt
+close_type_ends t (Open ∷ ts) = tt
+close_type_ends t (Word v ∷ ts) = tt
+close_type_ends t (Id x ∷ ts) = tt
+close_type_ends t (Integer s n ∷ ts) = tt
+close_type_ends t (Text v ∷ ts) = tt
+close_type_ends t (Other ∷ ts) = tt
+
+word_ends : (w : List ℕ) (q : Result (Argument × List Terminal) Fault) (ts : List Terminal) → Closing q ts → Closing q (Word w ∷ ts)
+word_ends w (Ok (a, us)) ts h = record { short = omega (arith, h.short); same = h.same }
+word_ends w (Err f) ts h = tt
+
+closed_type_ends : (o : Option ValueType) (w : List ℕ) (ts : List Terminal) → Closing (grammar.closed_type o (Word w ∷ ts) ts) (Word w ∷ ts)
+closed_type_ends (Some t) w ts = word_ends w (grammar.close_type t ts) ts (close_type_ends t ts)
+closed_type_ends None w ts = tt
+
+one_type_ends : (ts : List Terminal) → Closing (grammar.one_type ts) ts
+one_type_ends (Word w ∷ ts) = closed_type_ends (grammar.value_type w) w ts
+one_type_ends [] = tt
+one_type_ends (Open ∷ ts) = tt
+one_type_ends (Close ∷ ts) = tt
+one_type_ends (Id x ∷ ts) = tt
+one_type_ends (Integer s n ∷ ts) = tt
+one_type_ends (Text v ∷ ts) = tt
+one_type_ends (Other ∷ ts) = tt
+
+opened : (w : List ℕ) (q : Result (Argument × List Terminal) Fault) (ts : List Terminal) → Closing q ts → Keeps q (Open ∷ Word w ∷ ts)
+opened w (Ok (a, us)) ts h = record { short = omega (arith, h.short); same = h.same }
+opened w (Err f) ts h = tt
+
+result_keeps : (b : Bool) (w : List ℕ) (ts : List Terminal) → Keeps (if b then grammar.one_type ts else Ok (argument.Block None, Open ∷ Word w ∷ ts)) (Open ∷ Word w ∷ ts)
+result_keeps true w ts = opened w (grammar.one_type ts) ts (one_type_ends ts)
+result_keeps false w ts = stay (Open ∷ Word w ∷ ts)
+
+type_by_keeps : (ts : List Terminal) → Keeps (grammar.type_by ts (Open ∷ ts)) (Open ∷ ts)
+type_by_keeps (Word w ∷ ts) = result_keeps (bytes_eq w (codes "result")) w ts
+type_by_keeps [] = stay (Open ∷ [])
+type_by_keeps (Open ∷ ts) = stay (Open ∷ Open ∷ ts)
+type_by_keeps (Close ∷ ts) = stay (Open ∷ Close ∷ ts)
+type_by_keeps (Id x ∷ ts) = stay (Open ∷ Id x ∷ ts)
+type_by_keeps (Integer s n ∷ ts) = stay (Open ∷ Integer s n ∷ ts)
+type_by_keeps (Text v ∷ ts) = stay (Open ∷ Text v ∷ ts)
+type_by_keeps (Other ∷ ts) = stay (Open ∷ Other ∷ ts)
+
+block_type_keeps : (ts : List Terminal) → Keeps (block_type ts) ts
+unfolding block_type
+block_type_keeps (Open ∷ ts) = type_by_keeps ts
+block_type_keeps [] = stay []
+block_type_keeps (Close ∷ ts) = stay (Close ∷ ts)
+block_type_keeps (Word w ∷ ts) = stay (Word w ∷ ts)
+block_type_keeps (Id x ∷ ts) = stay (Id x ∷ ts)
+block_type_keeps (Integer s n ∷ ts) = stay (Integer s n ∷ ts)
+block_type_keeps (Text v ∷ ts) = stay (Text v ∷ ts)
+block_type_keeps (Other ∷ ts) = stay (Other ∷ ts)
+
+pub on : (ts us vs : List Terminal) → Passes ts us → Passes us vs → Passes ts vs
+on ts us vs h k = record { short = omega (arith, h.short, k.short); same = λ d. h.same d ∙ k.same d }
+
+on_keeps : {A : Type 0} (q : Result (A × List Terminal) Fault) (ts us : List Terminal) → Passes ts us → Keeps q us → Keeps q ts
+on_keeps (Ok (a, vs)) ts us h k = on ts us vs h k
+on_keeps (Err f) ts us h k = tt
+
+-- the label and the type of a block
+pub head_keeps : (ts : List Terminal) → Keeps (block_type (label_of ts).1) ts
+head_keeps ts = on_keeps (block_type (label_of ts).1) ts (label_of ts).1 (label_passes ts) (block_type_keeps (label_of ts).1)
+
+pub head_passes : (ts bs : List Terminal) (a : Argument) → block_type (label_of ts).1 ≡ Ok (a, bs) → Passes ts bs
+head_passes ts bs a e = let K : Result (Argument × List Terminal) Fault → Type 0 = λ q. Keeps q ts in subst K e (head_keeps ts)
+
+pub balanced : InstructionsAreBalanced
+balanced env _ _ _ _ r grammar.by_none d = refl
+balanced env _ _ _ _ r (grammar.by_plain {ls = ls} {w = w} {ts = ts} {us = us} {i = i} {is = is} s h more) d =
+    (plain_passes env ls w ts i us h).same d ∙ balanced env ls false us is r more d
+balanced env _ _ _ _ r (grammar.by_block {ls = ls} {w = w} {v = v} {a = a} {ts = ts} {bs = bs} {us = us} {vs = vs} {body = body} {is = is} s n h e l more) d =
+    (head_passes ts bs a n).same d ∙ balanced env ((label_of ts).0 ∷ ls) false bs body (Word v ∷ us) h d ∙ (end_passes (label_of ts).0 us vs l).same d ∙ balanced env ls false vs is r more d
+balanced env _ _ _ _ r (grammar.by_if_else {ls = ls} {w = w} {v = v} {x = x} {a = a} {ts = ts} {bs = bs} {us = us} {xs = xs} {ys = ys} {vs = vs} {body = body} {other = other} {is = is} s i n h e l k f m more) d =
+    (head_passes ts bs a n).same d ∙ balanced env ((label_of ts).0 ∷ ls) false bs body (Word v ∷ us) h d ∙ (end_passes (label_of ts).0 us xs l).same d
+    ∙ balanced env ((label_of ts).0 ∷ ls) false xs other (Word x ∷ ys) k d ∙ (end_passes (label_of ts).0 ys vs m).same d ∙ balanced env ls false vs is r more d
+balanced env _ _ _ _ r (grammar.by_folded {ls = ls} {folded = folded} {w = w} {ts = ts} {us = us} {vs = vs} {i = i} {operands = operands} {is = is} s h inner more) d =
+    (plain_passes env ls w ts i us h).same (suc d) ∙ balanced env ls true us operands (Close ∷ vs) inner (suc d) ∙ balanced env ls folded vs is r more d
+balanced env _ _ _ _ r (grammar.by_folded_block {ls = ls} {folded = folded} {w = w} {a = a} {ts = ts} {bs = bs} {vs = vs} {body = body} {is = is} s i n inner more) d =
+    (head_passes ts bs a n).same (suc d) ∙ balanced env ((label_of ts).0 ∷ ls) false bs body (Close ∷ vs) inner (suc d) ∙ balanced env ls folded vs is r more d
+balanced env _ _ _ _ r (grammar.by_folded_if {ls = ls} {folded = folded} {w = w} {t = t} {a = a} {ts = ts} {bs = bs} {cs = cs} {vs = vs} {condition = condition} {body = body} {is = is} s i n inner k g more) d =
+    (head_passes ts bs a n).same (suc d) ∙ balanced env ls true bs condition (Open ∷ Word t ∷ cs) inner (suc d) ∙ balanced env ((label_of ts).0 ∷ ls) false cs body (Close ∷ Close ∷ vs) g (suc (suc d)) ∙ balanced env ls folded vs is r more d
+balanced env _ _ _ _ r (grammar.by_folded_if_else {ls = ls} {folded = folded} {w = w} {t = t} {e = e} {a = a} {ts = ts} {bs = bs} {cs = cs} {es = es} {vs = vs} {condition = condition} {body = body} {other = other} {is = is} s i n inner k g f o more) d =
+    (head_passes ts bs a n).same (suc d) ∙ balanced env ls true bs condition (Open ∷ Word t ∷ cs) inner (suc d) ∙ balanced env ((label_of ts).0 ∷ ls) false cs body (Close ∷ Open ∷ Word e ∷ es) g (suc (suc d))
+    ∙ balanced env ((label_of ts).0 ∷ ls) false es other (Close ∷ Close ∷ vs) o (suc (suc d)) ∙ balanced env ls folded vs is r more d
+
+pub taken : InstructionsTakeTokens
+taken env _ _ _ _ r grammar.by_none = omega arith
+taken env _ _ _ _ r (grammar.by_plain {ls = ls} {w = w} {ts = ts} {us = us} {i = i} {is = is} s h more) =
+    let a = plain_short env ls w ts i us h in let z = taken env ls false us is r more in omega arith
+taken env _ _ _ _ r (grammar.by_block {ls = ls} {w = w} {v = v} {a = a} {ts = ts} {bs = bs} {us = us} {vs = vs} {body = body} {is = is} s n h e l more) =
+    let a' = (head_passes ts bs a n).short in let b = taken env ((label_of ts).0 ∷ ls) false bs body (Word v ∷ us) h in let c = (end_passes (label_of ts).0 us vs l).short in let z = taken env ls false vs is r more in omega arith
+taken env _ _ _ _ r (grammar.by_if_else {ls = ls} {w = w} {v = v} {x = x} {a = a} {ts = ts} {bs = bs} {us = us} {xs = xs} {ys = ys} {vs = vs} {body = body} {other = other} {is = is} s i n h e l k f m more) =
+    let a' = (head_passes ts bs a n).short in
+    let b = taken env ((label_of ts).0 ∷ ls) false bs body (Word v ∷ us) h in
+    let c = (end_passes (label_of ts).0 us xs l).short in
+    let d = taken env ((label_of ts).0 ∷ ls) false xs other (Word x ∷ ys) k in
+    let g = (end_passes (label_of ts).0 ys vs m).short in let z = taken env ls false vs is r more in omega arith
+taken env _ _ _ _ r (grammar.by_folded {ls = ls} {folded = folded} {w = w} {ts = ts} {us = us} {vs = vs} {i = i} {operands = operands} {is = is} s h inner more) =
+    let a = plain_short env ls w ts i us h in let b = taken env ls true us operands (Close ∷ vs) inner in let z = taken env ls folded vs is r more in omega arith
+taken env _ _ _ _ r (grammar.by_folded_block {ls = ls} {folded = folded} {w = w} {a = a} {ts = ts} {bs = bs} {vs = vs} {body = body} {is = is} s i n inner more) =
+    let a' = (head_passes ts bs a n).short in let b = taken env ((label_of ts).0 ∷ ls) false bs body (Close ∷ vs) inner in let z = taken env ls folded vs is r more in omega arith
+taken env _ _ _ _ r (grammar.by_folded_if {ls = ls} {folded = folded} {w = w} {t = t} {a = a} {ts = ts} {bs = bs} {cs = cs} {vs = vs} {condition = condition} {body = body} {is = is} s i n inner k g more) =
+    let a' = (head_passes ts bs a n).short in
+    let b = taken env ls true bs condition (Open ∷ Word t ∷ cs) inner in let c = taken env ((label_of ts).0 ∷ ls) false cs body (Close ∷ Close ∷ vs) g in let z = taken env ls folded vs is r more in omega arith
+taken env _ _ _ _ r (grammar.by_folded_if_else {ls = ls} {folded = folded} {w = w} {t = t} {e = e} {a = a} {ts = ts} {bs = bs} {cs = cs} {es = es} {vs = vs} {condition = condition} {body = body} {other = other} {is = is} s i n inner k g f o more) =
+    let a' = (head_passes ts bs a n).short in
+    let b = taken env ls true bs condition (Open ∷ Word t ∷ cs) inner in
+    let c = taken env ((label_of ts).0 ∷ ls) false cs body (Close ∷ Open ∷ Word e ∷ es) g in
+    let d = taken env ((label_of ts).0 ∷ ls) false es other (Close ∷ Close ∷ vs) o in let z = taken env ls folded vs is r more in omega arith

@@ -1,0 +1,208 @@
+-- WebAssembly 2.0 specification, 6.5 (text format, instructions): 6.5.1 labels, 6.5.2 control instructions, 6.5.4 to 6.5.8 plain instructions,
+-- 6.5.10 folded instructions. Over the tokens that count. A rule takes tokens from a place on, and leaves the rest. What is spelled is a list of instructions as
+-- the binary format has them (5.4): `end` and `else` are among them, and a folded instruction comes after its operands.
+-- Which fault a text has that the grammar does not spell is no part of the standard: a rule of our own.
+use Rattle.std.specs.Prelude.{◌≡◌, ℕ, suc, Bool, true, false, List, [], ◌∷◌, ◌++◌, codes, Option, Some, None, Result, Ok, Err, bytes_eq, nat_lt, nat_le, ◌^◌, ◌*◌, ◌==◌, if◌then◌else◌, ℤ, pos, ◌-ℤ◌}
+use Rattle.wat_instructions.specs.declared.pieces.Argument.{Argument}
+use Rattle.wat_instructions.specs.declared.pieces.Argument.TheVariants as argument
+use Rattle.wat_instructions.specs.declared.pieces.Instruction.{Instruction}
+use Rattle.wat_instructions.specs.declared.pieces.FaultKind.{FaultKind}
+use Rattle.wat_instructions.specs.declared.pieces.FaultKind.TheVariants.{Unexpected, UnknownWord, UnknownName, WrongLabel, OutOfRange}
+use Rattle.wat_instructions.specs.declared.pieces.Sign.{Sign}
+use Rattle.wat_instructions.specs.declared.pieces.Sign.TheVariants as sign
+use Rattle.wat_instructions.specs.declared.pieces.ValueType.{ValueType}
+use Rattle.wat_instructions.specs.declared.pieces.ValueType.TheVariants as value
+use Rattle.wat_instructions.specs.declared.table.Immediate.{Immediate}
+use Rattle.wat_instructions.specs.declared.table.Immediate.TheVariants as immediate
+use Rattle.wat_instructions.specs.Table.{Mnemonic, found, mnemonics}
+use Rattle.wat_instructions.specs.Terminals.{Terminal, Open, Close, Word, Id, Integer, Label}
+
+-- what is wrong, and the tokens from the one where it is
+abbrev pub Fault : Type 0
+Fault = FaultKind × List Terminal
+
+-- 6.1.3 contexts: the names of local variables, functions and global variables, in the order of their indices
+pub record Env : Type 0 where
+  pub locals : List Label
+  pub funcs : List Label
+  pub globals : List Label
+
+abbrev pub is_name : List ℕ → Label → Bool
+is_name x None = false
+is_name x (Some y) = bytes_eq y x
+
+-- the first of these that has the name, counted from k
+abbrev pub position : ℕ → List ℕ → List Label → Option ℕ
+position k x [] = None
+position k x (l ∷ ls) = if is_name x l then Some k else position (suc k) x ls
+
+-- the index of a name at the head of tokens, and the others
+abbrev pub named : Option ℕ → List Terminal → List Terminal → Result (Argument × List Terminal) Fault
+named None all ts = Err (UnknownName, all)
+named (Some n) all ts = Ok (argument.Index n, ts)
+
+-- 6.3.1: an unsigned integer of 32 bits has no sign
+abbrev pub small : Sign → ℕ → List Terminal → List Terminal → Result (Argument × List Terminal) Fault
+small sign.Absent n all ts = if nat_lt n (2 ^ 32) then Ok (argument.Index n, ts) else Err (OutOfRange, all)
+small s n all ts = Err (Unexpected, all)
+
+-- 6.6.1 indices: a number of 32 bits, or one of these names
+abbrev pub index : List Label → List Terminal → Result (Argument × List Terminal) Fault
+index ls (Integer s n ∷ ts) = small s n (Integer s n ∷ ts) ts
+index ls (Id x ∷ ts) = named (position 0 x ls) (Id x ∷ ts) ts
+index ls ts = Err (Unexpected, ts)
+
+-- 6.3.1 integers: i32 is a number of 32 bits without a sign, or one with a sign, from -2 ^ 31 to 2 ^ 31 - 1. Both denote the 32 bits; as a number with a
+-- sign these are below 2 ^ 31.
+abbrev pub signed : ℕ → Sign → ℕ → Option ℤ
+signed half sign.Absent n = if nat_lt n half then Some (pos n) else if nat_lt n (half * 2) then Some (pos n -ℤ pos (half * 2)) else None
+signed half sign.Plus n = if nat_lt n half then Some (pos n) else None
+signed half sign.Minus n = if nat_le n half then Some (pos 0 -ℤ pos n) else None
+
+abbrev pub i32_by : Option ℤ → List Terminal → List Terminal → Result (Argument × List Terminal) Fault
+i32_by (Some n) all ts = Ok (argument.I32 n, ts)
+i32_by None all ts = Err (OutOfRange, all)
+
+abbrev pub i64_by : Option ℤ → List Terminal → List Terminal → Result (Argument × List Terminal) Fault
+i64_by (Some n) all ts = Ok (argument.I64 n, ts)
+i64_by None all ts = Err (OutOfRange, all)
+
+abbrev pub i32 : List Terminal → Result (Argument × List Terminal) Fault
+i32 (Integer s n ∷ ts) = i32_by (signed (2 ^ 31) s n) (Integer s n ∷ ts) ts
+i32 ts = Err (Unexpected, ts)
+
+abbrev pub i64 : List Terminal → Result (Argument × List Terminal) Fault
+i64 (Integer s n ∷ ts) = i64_by (signed (2 ^ 63) s n) (Integer s n ∷ ts) ts
+i64 ts = Err (Unexpected, ts)
+
+-- the immediate of a kind, where these labels are bound, the innermost first. 6.5.7: a memory argument that is not written has offset 0 and the natural
+-- alignment, whose exponent the table has; a written one is left out here.
+abbrev pub immediate_of : Env → List Label → Immediate → List Terminal → Result (Argument × List Terminal) Fault
+immediate_of env ls immediate.No ts = Ok (argument.Nothing, ts)
+immediate_of env ls immediate.Local ts = index env.locals ts
+immediate_of env ls immediate.Label ts = index ls ts
+immediate_of env ls immediate.Func ts = index env.funcs ts
+immediate_of env ls immediate.Global ts = index env.globals ts
+immediate_of env ls immediate.I32 ts = i32 ts
+immediate_of env ls immediate.I64 ts = i64 ts
+immediate_of env ls (immediate.Memory align) ts = Ok (argument.Memory align, ts)
+immediate_of env ls immediate.Zero ts = Ok (argument.Zero, ts)
+
+abbrev pub instruction : ℕ → Argument → Instruction
+instruction o a = record { opcode = o; argument = a }
+
+abbrev pub with_opcode : ℕ → Result (Argument × List Terminal) Fault → Result (Instruction × List Terminal) Fault
+with_opcode o (Ok (a, ts)) = Ok (instruction o a, ts)
+with_opcode o (Err f) = Err f
+
+abbrev pub plain_by : Env → List Label → Option Mnemonic → List Terminal → List Terminal → Result (Instruction × List Terminal) Fault
+plain_by env ls None all ts = Err (UnknownWord, all)
+plain_by env ls (Some m) all ts = with_opcode m.opcode (immediate_of env ls m.immediate ts)
+
+-- plaininstr: the instruction of the word that comes first, and the tokens after its immediate
+unfoldable pub plain : Env → List Label → List Terminal → Result (Instruction × List Terminal) Fault
+plain env ls (Word w ∷ ts) = plain_by env ls (found w mnemonics) (Word w ∷ ts) ts
+plain env ls ts = Err (Unexpected, ts)
+
+-- 6.5.1: label = Id or nothing
+abbrev pub label_of : List Terminal → Label × List Terminal
+label_of (Id x ∷ ts) = (Some x, ts)
+label_of ts = (None, ts)
+
+-- 6.5.2: the label after `end` or `else` is that of its block, or none
+abbrev pub end_label : Label → List Terminal → Result (List Terminal) Fault
+end_label l (Id x ∷ ts) = if is_name x l then Ok ts else Err (WrongLabel, Id x ∷ ts)
+end_label l ts = Ok ts
+
+-- 6.5.2: the first byte of a structured instruction
+abbrev pub structured : List ℕ → Option ℕ
+structured w = if bytes_eq w (codes "block") then Some 0x02 else if bytes_eq w (codes "loop") then Some 0x03 else if bytes_eq w (codes "if") then Some 0x04 else None
+
+abbrev pub is_end : List ℕ → Bool
+is_end w = bytes_eq w (codes "end")
+
+abbrev pub is_else : List ℕ → Bool
+is_else w = bytes_eq w (codes "else")
+
+abbrev pub is_then : List ℕ → Bool
+is_then w = bytes_eq w (codes "then")
+
+-- the one that may have an `else`
+abbrev pub is_if : ℕ → Bool
+is_if o = o == 0x04
+
+-- 6.4.1 number types
+abbrev pub value_type : List ℕ → Option ValueType
+value_type w =
+    if bytes_eq w (codes "i32") then Some value.I32 else if bytes_eq w (codes "i64") then Some value.I64 else if bytes_eq w (codes "f32") then Some value.F32 else if bytes_eq w (codes "f64") then Some value.F64 else None
+
+-- `)` after a value type
+abbrev pub close_type : ValueType → List Terminal → Result (Argument × List Terminal) Fault
+close_type t (Close ∷ ts) = Ok (argument.Block (Some t), ts)
+close_type t ts = Err (Unexpected, ts)
+
+abbrev pub closed_type : Option ValueType → List Terminal → List Terminal → Result (Argument × List Terminal) Fault
+closed_type None all ts = Err (UnknownWord, all)
+closed_type (Some t) all ts = close_type t ts
+
+-- one value type and `)`
+abbrev pub one_type : List Terminal → Result (Argument × List Terminal) Fault
+one_type (Word w ∷ ts) = closed_type (value_type w) (Word w ∷ ts) ts
+one_type ts = Err (Unexpected, ts)
+
+-- after `(`, where these tokens begin with it
+abbrev pub type_by : List Terminal → List Terminal → Result (Argument × List Terminal) Fault
+type_by (Word w ∷ ts) all = if bytes_eq w (codes "result") then one_type ts else Ok (argument.Block None, all)
+type_by ts all = Ok (argument.Block None, all)
+
+-- 6.5.2: blocktype = (result valtype) or nothing. Types with parameters, with other than one result, or by their index are left out here.
+unfoldable pub block_type : List Terminal → Result (Argument × List Terminal) Fault
+block_type (Open ∷ ts) = type_by ts (Open ∷ ts)
+block_type ts = Ok (argument.Block None, ts)
+
+abbrev pub end : Instruction
+end = instruction 0x0B argument.Nothing
+
+abbrev pub otherwise : Instruction
+otherwise = instruction 0x05 argument.Nothing
+
+-- instr*; or, where only operands may be, foldedinstr*
+pub data Instructions (env : Env) : List Label → Bool → List Terminal → List Instruction → List Terminal → Type 0 where
+  -- none
+  by_none : {ls : List Label} {folded : Bool} {ts : List Terminal} → Instructions env ls folded ts [] ts
+  -- 6.5.4 to 6.5.8: a plain instruction, and more
+  by_plain : {ls : List Label} {w : List ℕ} {ts us r : List Terminal} {i : Instruction} {is : List Instruction}
+      → structured w ≡ None → plain env ls (Word w ∷ ts) ≡ Ok (i, us) → Instructions env ls false us is r → Instructions env ls false (Word w ∷ ts) (i ∷ is) r
+  -- 6.5.2: block, loop or if, up to `end`. An `if` without `else` is one whose second part is empty. 5.4.1 has
+  -- bytes for it with and without `else`: it is written as the text has it, which is a choice of our own.
+  by_block : {ls : List Label} {w v : List ℕ} {o : ℕ} {a : Argument} {ts bs us vs r : List Terminal} {body is : List Instruction}
+      → structured w ≡ Some o → block_type (label_of ts).1 ≡ Ok (a, bs) → Instructions env ((label_of ts).0 ∷ ls) false bs body (Word v ∷ us) → is_end v ≡ true → end_label (label_of ts).0 us ≡ Ok vs → Instructions env ls false vs is r
+      → Instructions env ls false (Word w ∷ ts) (instruction o a ∷ (body ++ (end ∷ is))) r
+  -- 6.5.2: if, up to `else`, up to `end`
+  by_if_else : {ls : List Label} {w v x : List ℕ} {o : ℕ} {a : Argument} {ts bs us xs ys vs r : List Terminal} {body other is : List Instruction}
+      → structured w ≡ Some o → is_if o ≡ true → block_type (label_of ts).1 ≡ Ok (a, bs) → Instructions env ((label_of ts).0 ∷ ls) false bs body (Word v ∷ us) → is_else v ≡ true → end_label (label_of ts).0 us ≡ Ok xs
+      → Instructions env ((label_of ts).0 ∷ ls) false xs other (Word x ∷ ys) → is_end x ≡ true → end_label (label_of ts).0 ys ≡ Ok vs → Instructions env ls false vs is r
+      → Instructions env ls false (Word w ∷ ts) (instruction o a ∷ (body ++ (otherwise ∷ (other ++ (end ∷ is))))) r
+  -- 6.5.10: `(` plaininstr foldedinstr* `)` is foldedinstr* plaininstr
+  by_folded : {ls : List Label} {folded : Bool} {w : List ℕ} {ts us vs r : List Terminal} {i : Instruction} {operands is : List Instruction}
+      → structured w ≡ None → plain env ls (Word w ∷ ts) ≡ Ok (i, us) → Instructions env ls true us operands (Close ∷ vs) → Instructions env ls folded vs is r
+      → Instructions env ls folded (Open ∷ Word w ∷ ts) (operands ++ (i ∷ is)) r
+  -- 6.5.10: `(` block label blocktype instr* `)` is block label blocktype instr* end, and so is loop
+  by_folded_block : {ls : List Label} {folded : Bool} {w : List ℕ} {o : ℕ} {a : Argument} {ts bs vs r : List Terminal} {body is : List Instruction}
+      → structured w ≡ Some o → is_if o ≡ false → block_type (label_of ts).1 ≡ Ok (a, bs) → Instructions env ((label_of ts).0 ∷ ls) false bs body (Close ∷ vs) → Instructions env ls folded vs is r
+      → Instructions env ls folded (Open ∷ Word w ∷ ts) (instruction o a ∷ (body ++ (end ∷ is))) r
+  -- 6.5.10: `(` if label blocktype foldedinstr* `(` then instr* `)` `)` is foldedinstr* if label blocktype instr* end
+  by_folded_if : {ls : List Label} {folded : Bool} {w t : List ℕ} {o : ℕ} {a : Argument} {ts bs cs vs r : List Terminal} {condition body is : List Instruction}
+      → structured w ≡ Some o → is_if o ≡ true → block_type (label_of ts).1 ≡ Ok (a, bs) → Instructions env ls true bs condition (Open ∷ Word t ∷ cs) → is_then t ≡ true
+      → Instructions env ((label_of ts).0 ∷ ls) false cs body (Close ∷ Close ∷ vs) → Instructions env ls folded vs is r
+      → Instructions env ls folded (Open ∷ Word w ∷ ts) (condition ++ (instruction o a ∷ (body ++ (end ∷ is)))) r
+  -- 6.5.10: the same with `(` else instr* `)` after it is foldedinstr* if label blocktype instr* else instr* end
+  by_folded_if_else : {ls : List Label} {folded : Bool} {w t e : List ℕ} {o : ℕ} {a : Argument} {ts bs cs es vs r : List Terminal} {condition body other is : List Instruction}
+      → structured w ≡ Some o → is_if o ≡ true → block_type (label_of ts).1 ≡ Ok (a, bs) → Instructions env ls true bs condition (Open ∷ Word t ∷ cs) → is_then t ≡ true
+      → Instructions env ((label_of ts).0 ∷ ls) false cs body (Close ∷ Open ∷ Word e ∷ es) → is_else e ≡ true
+      → Instructions env ((label_of ts).0 ∷ ls) false es other (Close ∷ Close ∷ vs) → Instructions env ls folded vs is r
+      → Instructions env ls folded (Open ∷ Word w ∷ ts) (condition ++ (instruction o a ∷ (body ++ (otherwise ∷ (other ++ (end ∷ is)))))) r
+
+-- the instructions of a body up to its `)`, which is passed; a body is in no block, and its label has no name (6.6.5)
+abbrev pub Body : Env → List Terminal → List Instruction → List Terminal → Type 0
+Body env ts is r = Instructions env (None ∷ []) false ts is (Close ∷ r)

@@ -1,0 +1,6 @@
+pub mod Terminals
+pub mod Table
+pub mod Grammar
+pub mod Machine
+pub mod Law
+pub mod Parts

@@ -1,0 +1,166 @@
+-- What the code does, token by token, over a stack of what is open. Nobody has to believe it: Law.antt says that it is the grammar.
+use Rattle.std.specs.Prelude.{ℕ, zero, suc, Bool, true, false, ◌&&◌, List, [], ◌∷◌, ◌++◌, length, Option, Some, None, Result, Ok, Err, if◌then◌else◌}
+use Rattle.wat_instructions.specs.declared.pieces.Argument.{Argument}
+use Rattle.wat_instructions.specs.declared.pieces.Instruction.{Instruction}
+use Rattle.wat_instructions.specs.declared.pieces.FaultKind.TheVariants.{Unexpected}
+use Rattle.wat_instructions.specs.Terminals.{Terminal, Open, Close, Word, Label}
+use Rattle.wat_instructions.specs.Grammar.{Env, Fault, plain, label_of, end_label, structured, is_end, is_else, is_then, is_if, block_type, instruction, end, otherwise}
+
+-- what is open: the body; `block .. end`, and whether `else` may come in it; `(block ..)`; an instruction that waits for its operands; an `if` that waits
+-- for its condition; and its two parts in parentheses
+pub data Part : Type 0 where
+  Body : Part
+  Block : Bool → Label → Part
+  Group : Label → Part
+  Operands : Instruction → Part
+  Condition : Instruction → Label → Part
+  Then : Label → Part
+  Else : Label → Part
+
+-- only folded instructions may be in it
+abbrev pub only_folded : Part → Bool
+only_folded (Operands i) = true
+only_folded (Condition i l) = true
+only_folded p = false
+
+-- the label that a part binds; the body binds one without a name
+abbrev pub bound : Part → List Label
+bound Body = None ∷ []
+bound (Block b l) = l ∷ []
+bound (Group l) = l ∷ []
+bound (Operands i) = []
+bound (Condition i l) = []
+bound (Then l) = l ∷ []
+bound (Else l) = l ∷ []
+
+-- the labels that are bound, the innermost first
+abbrev pub labels_in : List Part → List Label
+labels_in [] = []
+labels_in (p ∷ ps) = bound p ++ labels_in ps
+
+-- what a step comes to: instructions, the stack, and the tokens that are left
+pub record Step : Type 0 where
+  pub output : List Instruction
+  pub stack : List Part
+  pub left : List Terminal
+
+abbrev pub on_to : List Instruction → List Part → List Terminal → Result Step Fault
+on_to is ps ts = Ok (record { output = is; stack = ps; left = ts })
+
+-- after `end`
+abbrev pub ended : Result (List Terminal) Fault → List Part → Result Step Fault
+ended (Ok ts) ps = on_to (end ∷ []) ps ts
+ended (Err f) ps = Err f
+
+abbrev pub at_plain : Result (Instruction × List Terminal) Fault → List Part → Result Step Fault
+at_plain (Ok (i, ts)) ps = on_to (i ∷ []) ps ts
+at_plain (Err f) ps = Err f
+
+abbrev pub at_operands : Result (Instruction × List Terminal) Fault → List Part → Result Step Fault
+at_operands (Ok (i, ts)) ps = on_to [] (Operands i ∷ ps) ts
+at_operands (Err f) ps = Err f
+
+-- the type of a structured instruction, after its label
+abbrev pub at_block : ℕ → Label → Result (Argument × List Terminal) Fault → List Part → Result Step Fault
+at_block o l (Ok (a, ts)) ps = on_to (instruction o a ∷ []) (Block (is_if o) l ∷ ps) ts
+at_block o l (Err f) ps = Err f
+
+abbrev pub at_group : ℕ → Label → Result (Argument × List Terminal) Fault → List Part → Result Step Fault
+at_group o l (Ok (a, ts)) ps = on_to (instruction o a ∷ []) (Group l ∷ ps) ts
+at_group o l (Err f) ps = Err f
+
+abbrev pub at_condition : ℕ → Label → Result (Argument × List Terminal) Fault → List Part → Result Step Fault
+at_condition o l (Ok (a, ts)) ps = on_to [] (Condition (instruction o a) l ∷ ps) ts
+at_condition o l (Err f) ps = Err f
+
+-- after `else`
+abbrev pub turned : Label → Result (List Terminal) Fault → List Part → Result Step Fault
+turned l (Ok ts) ps = on_to (otherwise ∷ []) (Block false l ∷ ps) ts
+turned l (Err f) ps = Err f
+
+-- a word where instructions may be; these tokens begin with it
+abbrev pub word_by : Env → Option ℕ → List Terminal → List Terminal → List Part → Result Step Fault
+word_by env (Some o) all ts ps = at_block o (label_of ts).0 (block_type (label_of ts).1) ps
+word_by env None all ts ps = at_plain (plain env (labels_in ps) all) ps
+
+abbrev pub word_step : Env → Part → List ℕ → List Terminal → List Terminal → List Part → Result Step Fault
+word_step env Body w all ts ps = word_by env (structured w) all ts (Body ∷ ps)
+word_step env (Group l) w all ts ps = word_by env (structured w) all ts (Group l ∷ ps)
+word_step env (Then l) w all ts ps = word_by env (structured w) all ts (Then l ∷ ps)
+word_step env (Else l) w all ts ps = word_by env (structured w) all ts (Else l ∷ ps)
+word_step env (Block b l) w all ts ps =
+    if is_end w then ended (end_label l ts) ps else if b && is_else w then turned l (end_label l ts) ps else word_by env (structured w) all ts (Block b l ∷ ps)
+word_step env (Operands i) w all ts ps = Err (Unexpected, all)
+word_step env (Condition i l) w all ts ps = Err (Unexpected, all)
+
+-- a structured instruction after `(` and its word
+abbrev pub open_block : ℕ → List Terminal → List Part → Result Step Fault
+open_block o ts ps = if is_if o then at_condition o (label_of ts).0 (block_type (label_of ts).1) ps else at_group o (label_of ts).0 (block_type (label_of ts).1) ps
+
+-- a word after `(`; these tokens begin with it
+abbrev pub open_by : Env → Option ℕ → List Terminal → List Terminal → List Part → Result Step Fault
+open_by env (Some o) all ts ps = open_block o ts ps
+open_by env None all ts ps = at_operands (plain env (labels_in ps) all) ps
+
+-- the same in a part: `then` after a condition, or an instruction
+abbrev pub folded_by : Env → Part → List ℕ → List Terminal → List Terminal → List Part → Result Step Fault
+folded_by env (Condition i l) w all ts ps = if is_then w then on_to (i ∷ []) (Then l ∷ ps) ts else open_by env (structured w) all ts (Condition i l ∷ ps)
+folded_by env p w all ts ps = open_by env (structured w) all ts (p ∷ ps)
+
+abbrev pub open_step : Env → Part → List Terminal → List Part → Result Step Fault
+open_step env p (Word w ∷ ts) ps = folded_by env p w (Word w ∷ ts) ts ps
+open_step env p ts ps = Err (Unexpected, ts)
+
+-- after the `)` of `(else`: the `)` of `(if`
+abbrev pub else_step : List Terminal → List Part → Result Step Fault
+else_step (Close ∷ ts) ps = on_to (end ∷ []) ps ts
+else_step ts ps = Err (Unexpected, ts)
+
+-- after `(else`
+abbrev pub other_part : Label → List Terminal → List Part → Result Step Fault
+other_part l ts ps = on_to (otherwise ∷ []) (Else l ∷ ps) ts
+
+-- a word after `(` after the `)` of `(then`
+abbrev pub other_step : Label → List Terminal → List Part → Result Step Fault
+other_step l (Word w ∷ ts) ps = if is_else w then other_part l ts ps else Err (Unexpected, Word w ∷ ts)
+other_step l ts ps = Err (Unexpected, ts)
+
+-- after the `)` of `(then`: the `)` of `(if`, or `(else`
+abbrev pub then_step : Label → List Terminal → List Part → Result Step Fault
+then_step l (Close ∷ ts) ps = on_to (end ∷ []) ps ts
+then_step l (Open ∷ ts) ps = other_step l ts ps
+then_step l ts ps = Err (Unexpected, ts)
+
+-- `)`; these tokens begin with it
+abbrev pub close_step : Part → List Terminal → List Terminal → List Part → Result Step Fault
+close_step Body all ts ps = on_to [] ps ts
+close_step (Group l) all ts ps = on_to (end ∷ []) ps ts
+close_step (Operands i) all ts ps = on_to (i ∷ []) ps ts
+close_step (Then l) all ts ps = then_step l ts ps
+close_step (Else l) all ts ps = else_step ts ps
+close_step (Block b l) all ts ps = Err (Unexpected, all)
+close_step (Condition i l) all ts ps = Err (Unexpected, all)
+
+unfoldable pub step : Env → Part → List Part → List Terminal → Result Step Fault
+step env p ps (Open ∷ ts) = open_step env p ts ps
+step env p ps (Close ∷ ts) = close_step p (Close ∷ ts) ts ps
+step env p ps (Word w ∷ ts) = word_step env p w (Word w ∷ ts) ts ps
+step env p ps ts = Err (Unexpected, ts)
+
+abbrev pub output_before : List Instruction → Result (List Instruction × List Terminal) Fault → Result (List Instruction × List Terminal) Fault
+output_before is (Ok (js, ts)) = Ok (is ++ js, ts)
+output_before is (Err f) = Err f
+
+abbrev pub run_by : (List Part → List Terminal → Result (List Instruction × List Terminal) Fault) → Result Step Fault → Result (List Instruction × List Terminal) Fault
+run_by go (Ok s) = output_before s.output (go s.stack s.left)
+run_by go (Err f) = Err f
+
+-- at most so many steps, until nothing is open; each takes a token
+unfoldable pub run : Env → ℕ → List Part → List Terminal → Result (List Instruction × List Terminal) Fault
+run env n [] ts = Ok ([], ts)
+run env zero (p ∷ ps) ts = Err (Unexpected, ts)
+run env (suc n) (p ∷ ps) ts = run_by (run env n) (step env p ps ts)
+
+-- the instructions of a body up to its `)`, which is passed, and the tokens after it; or the fault
+abbrev pub body : Env → List Terminal → Result (List Instruction × List Terminal) Fault
+body env ts = run env (suc (length ts)) (Body ∷ []) ts

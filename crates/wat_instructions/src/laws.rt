@@ -1,0 +1,13 @@
+//! What holds of the definitions.
+ghost use Rattle.wat_instructions.specs.Law.{InstructionsAreBalanced, InstructionsTakeTokens, MachineIsGrammar};
+
+/// What is read is what is spelled. The function does nothing: its contract is the law.
+pub fn machine_is_grammar()
+    ensures { MachineIsGrammar }
+{}
+
+/// Instructions have as many `(` as `)`, and what is left is no longer. The function does nothing.
+pub fn instructions_are_balanced()
+    ensures balanced { InstructionsAreBalanced }
+    ensures taken { InstructionsTakeTokens }
+{}

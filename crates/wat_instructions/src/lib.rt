@@ -1,0 +1,10 @@
+//! Instructions of WebAssembly text, from the tokens that count to a list of instructions as the
+//! binary format has them. Plain instructions come from a table; `block`, `loop` and `if` bind
+//! labels; folded instructions are laid out after their operands.
+#![tactic(auto)]
+
+pub mod laws;
+pub mod machine;
+pub mod pieces;
+pub mod reading;
+pub mod table;

@@ -1,0 +1,120 @@
+-- What compiling answers, from what the passes answered.
+use Rattle.std.proofs.Common.{◌≡◌, ◌∙◌, ◌<◌, ◌^◌, ℕ, List, refl, sym, ap, subst, length, map, Option, Some, None, Result, Ok, Err, true, false, Bool}
+use Rattle.std.specs.Prelude.{nat_lt, if◌then◌else◌, Vec, IfOk}
+use Rattle.std.specs.List.{All}
+use Rattle.std.specs.declared.alloc.Global.{Global}
+use Rattle.std.specs.Option.{option_map}
+use Rattle.std.specs.Str.{IsUtf8}
+use Rattle.std.proofs.lemmas.Str.{IsCharBoundary-start}
+use Rattle.wat_lexer_parser.specs.places.Source.{Source}
+use Rattle.std.proofs.lemmas.Bool.Decides.{Decides-ltb}
+use Rattle.wat_lex.specs.declared.lexer.kinds.Token.{Token}
+use Rattle.wat_lex.specs.errors.Errors.{Report}
+use Rattle.wat_lex.specs.tokens.ReadableTokens.{IsTokenOf}
+use Rattle.wat_lex.specs.tokens.Tiling.{MaximalTiling}
+use Rattle.wat_lex.specs.tokens.EverySetting.{EachPlaceIsTiled, TilingsAreOne}
+use Rattle.wat_lexer_parser.specs.declared.parser.fault.Fault.{Fault}
+use Rattle.wat_lexer_parser.specs.laws.AllShown.{AllShown}
+use Rattle.wat_lexer_parser.specs.laws.Blanking.{TextShows}
+use Rattle.wat_lexer_parser.specs.laws.ShownLaws.{AllShownIsOne, SomethingIsAllShown}
+use Rattle.wat_lexer_parser.specs.names.RegisteredNames.{no_names}
+use Rattle.wat_lexer_parser.specs.parser.State.{Answers, report_of}
+use Rattle.wat_instructions.specs.Grammar as grammar
+use Rattle.wat_fields.specs.Binary.{module_bytes}
+use Rattle.wat_fields.specs.Fields.{Function}
+use Rattle.wat_fields.specs.Law.{ReadingIsGrammar}
+use Rattle.wat_fields.specs.Reading as reading
+use Rattle.wat_pieces.specs.Pieces.{plain, terminal_of}
+use Rattle.wat_pieces.specs.Shown.{TextShown}
+use Rattle.wat_modules.specs.Compiling.{Fits, Spells, compiled, compiled_by, compiled_tokens, fitted, too_long}
+
+-- what a text shows is one thing
+pub shows_one : TilingsAreOne → AllShownIsOne → (text : List ℕ) (us vs : List Token) (f g : Option Fault) → TextShows (plain text) no_names us f → TextShows (plain text) no_names vs g → (us ≡ vs) × (f ≡ g)
+shows_one tilings one text us vs f g h k =
+    let t = tilings (plain text) 0 h.tokens k.tokens h.ending k.ending h.tiling k.tiling in
+    one text k.ending no_names k.tokens us vs f g (subst (λ e. AllShown text e no_names k.tokens us f) t.1 (subst (λ ts. AllShown text h.ending no_names ts us f) t.0 h.all)) k.all
+
+-- what was shown
+pub record Seen (text : List ℕ) (items : List Token) (error : Option (Option Report)) : Type 0 where
+  pub fault : Option Fault
+  pub shows : TextShows (plain text) no_names items fault
+  pub reported : error ≡ option_map (λ f. Some (report_of text f)) fault
+  pub readable : All (IsTokenOf text) items
+
+pub seen : (text : List ℕ) (items : List Token) (error : Option (Option Report)) → TextShown text items error → Seen text items error
+seen text items error h =
+    let s = h.source in
+    let e = ap (λ x. x.text) h.setting in
+    let f = h.shown.fault in record {
+      fault = f;
+      shows = record {
+        tokens = s.tokens;
+        ending = s.ending;
+        tiling = subst (λ x. MaximalTiling x 0 s.tokens s.ending) h.setting h.read;
+        all = subst (λ t. AllShown t s.ending no_names s.tokens items f) e (subst (λ us. AllShown s.setting.text s.ending no_names s.tokens us f) (sym h.shown.lines) h.shown.shown);
+      };
+      reported = h.shown.reported ∙ ap (λ t. option_map (λ f. Some (report_of t f)) f) e;
+      readable = subst (λ t. All (IsTokenOf t) items) e h.shown.readable;
+    }
+
+abbrev pub Answer : Type 0
+Answer = Result (Vec ℕ Global) (Option Report)
+
+abbrev pub Is : Result (List ℕ) Report → Answer → Type 0
+Is m r = Answers {T = Vec ℕ Global} true (λ bytes. bytes.items) m r
+
+-- the answer is that of all that the text shows
+abbrev pub IsRefused : List ℕ → Answer → Type 0
+IsRefused text r = (tokens : List Token) (last : Option Fault) → TextShows (plain text) no_names tokens last → Is (compiled text tokens last) r
+
+pub refused_by : TilingsAreOne → AllShownIsOne → (text : List ℕ) (us : List Token) (f : Option Fault) (r : Answer) → TextShows (plain text) no_names us f → Is (compiled text us f) r → IsRefused text r
+refused_by tilings one text us f r h a = λ vs g k.
+    let e = shows_one tilings one text us vs f g h k in subst (λ x. Is (compiled text vs x) r) e.1 (subst (λ x. Is (compiled text x f) r) e.0 a)
+
+pub spelled_by : ReadingIsGrammar → (text : List ℕ) (r : Answer) → IsRefused text r → (fs : List Function) → Spells text fs → Is (fitted text (module_bytes fs)) r
+unfolding compiled_tokens
+spelled_by law text r h = λ fs s.
+    subst (λ q. Is (compiled_by text s.shown.tokens q) r) (ap reading.whole (sym s.shown.are) ∙ (law s.terminals fs).1 s.spelled) (h s.shown.tokens None s.shown.shown)
+
+abbrev pub HasBytes : List ℕ → Answer → Type 0
+HasBytes text r = IfOk r (λ bytes. (fs : List Function) × Spells text fs × Fits fs × (bytes.items ≡ module_bytes fs))
+
+fitted_is : (text : List ℕ) (bytes out : List ℕ) (b : Bool) → nat_lt (length bytes) (2 ^ 32) ≡ b → (if b then Ok bytes else Err (too_long text)) ≡ Ok out → (length bytes < 2 ^ 32) × (out ≡ bytes)
+fitted_is text bytes out true e h = let k : bytes ≡ out = cc in ((Decides-ltb (length bytes) (2 ^ 32)).0 e, sym k)
+fitted_is text bytes out false e h = cc
+
+bytes_of : ReadingIsGrammar → (text : List ℕ) (us : List Token) (out : Vec ℕ Global) → TextShows (plain text) no_names us None → (q : Result (List Function) grammar.Fault) → reading.whole (map (terminal_of text) us) ≡ q → compiled_by text us q ≡ Ok out.items
+    → (fs : List Function) × Spells text fs × Fits fs × (out.items ≡ module_bytes fs)
+bytes_of law text us out h (Ok fs) e k =
+    let f = fitted_is text (module_bytes fs) out.items (nat_lt (length (module_bytes fs)) (2 ^ 32)) refl k in
+    (fs, record { terminals = map (terminal_of text) us; shown = record { tokens = us; shown = h; are = refl }; spelled = (law (map (terminal_of text) us) fs).0 e }, f.0, f.1)
+bytes_of law text us out h (Err f) e k = cc
+
+pub bytes_by : ReadingIsGrammar → (text : List ℕ) (us : List Token) (f : Option Fault) (r : Answer) → TextShows (plain text) no_names us f → Is (compiled text us f) r → HasBytes text r
+unfolding compiled_tokens
+bytes_by law text us None (Ok out) h a = bytes_of law text us out h (reading.whole (map (terminal_of text) us)) refl a
+bytes_by law text us (Some f) (Ok out) h a = cc
+bytes_by law text us f (Err e) h a = tt
+
+-- the fault that was shown
+pub fault_is : (text : List ℕ) (us : List Token) (f : Option Fault) (e : Option Report) → Some e ≡ option_map (λ f. Some (report_of text f)) f → Is (compiled text us f) (Err e)
+fault_is text us (Some f) e h = let k : e ≡ Some (report_of text f) = cc in subst (λ x. Is (Err (report_of text f)) (Err x)) (sym k) refl
+fault_is text us None e h = cc
+
+-- none was shown
+pub no_fault : (text : List ℕ) (us : List Token) (f : Option Fault) (r : Answer) → None ≡ option_map (λ f. Some (report_of text f)) f → Is (compiled_tokens text us) r → Is (compiled text us f) r
+no_fault text us None r h a = a
+no_fault text us (Some f) r h a = cc
+
+-- a text spells one module
+pub one_module : TilingsAreOne → AllShownIsOne → ReadingIsGrammar → (text : List ℕ) (fs gs : List Function) → Spells text fs → Spells text gs → fs ≡ gs
+one_module tilings one law text fs gs h k =
+    let e = shows_one tilings one text h.shown.tokens k.shown.tokens None None h.shown.shown k.shown.shown in
+    let t : h.terminals ≡ k.terminals = h.shown.are ∙ ap (map (terminal_of text)) e.0 ∙ sym k.shown.are in
+    let is : ◌≡◌ {A = Result (List Function) grammar.Fault} (Ok fs) (Ok gs) = sym ((law h.terminals fs).1 h.spelled) ∙ ap reading.whole t ∙ (law k.terminals gs).1 k.spelled in cc
+
+-- something is shown
+pub shows_some : EachPlaceIsTiled → SomethingIsAllShown → (text : List ℕ) → IsUtf8 text → (tokens : List Token) × (last : Option Fault) × TextShows (plain text) no_names tokens last
+shows_some tiled some text u =
+    let t = tiled (plain text) 0 u (IsCharBoundary-start text u) in
+    let s : Source = record { setting = plain text; track = true; tokens = t.0; ending = t.1 } in let a = some s no_names 0 u t.2 in (a.0, a.1, record { tokens = t.0; ending = t.1; tiling = t.2; all = a.2 })

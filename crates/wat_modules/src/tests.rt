@@ -1,0 +1,62 @@
+//! Texts with the bytes after the header that the standard's chapters give them, and texts that are
+//! refused.
+use crate::compile;
+use std::test::Fail;
+
+const HEADER: usize = 8;
+
+#[test]
+fn bytes(rt: HostRuntime) -> Result<(), Fail> {
+    let rows: [(&str, &[u8]); 4] = [
+        ("(module)", &[]),
+        (
+            "(module $m (func (export \"a\") (param $x i32) (result i32) local.get $x))",
+            &[
+                0x01, 0x06, 0x01, 0x60, 0x01, 0x7F, 0x01, 0x7F, 0x03, 0x02, 0x01, 0x00, 0x07, 0x05,
+                0x01, 0x01, 0x61, 0x00, 0x00, 0x0A, 0x06, 0x01, 0x04, 0x00, 0x20, 0x00, 0x0B,
+            ],
+        ),
+        (
+            "(module (func (if (result i32) (i32.const 1) (then (i32.const 2)) (else (i32.const -3))) drop))",
+            &[
+                0x01, 0x04, 0x01, 0x60, 0x00, 0x00, 0x03, 0x02, 0x01, 0x00, 0x0A, 0x0F, 0x01, 0x0D,
+                0x00, 0x41, 0x01, 0x04, 0x7F, 0x41, 0x02, 0x05, 0x41, 0x7D, 0x0B, 0x1A, 0x0B,
+            ],
+        ),
+        (
+            "(module (func (local i32 i32) (local $z i32 ) (local i64) block $a br $a end))",
+            &[
+                0x01, 0x04, 0x01, 0x60, 0x00, 0x00, 0x03, 0x02, 0x01, 0x00, 0x0A, 0x0D, 0x01, 0x0B,
+                0x02, 0x03, 0x7F, 0x01, 0x7E, 0x02, 0x40, 0x0C, 0x00, 0x0B, 0x0B,
+            ],
+        ),
+    ];
+    for (text, expected) in rows.iter() {
+        match compile(rt.alloc(), text) {
+            Ok(bytes) => assert_eq!(rt; &bytes[HEADER..], *expected),
+            Err(_) => panic!(rt; "{text} is refused"),
+        }
+    }
+    Ok(())
+}
+
+#[test]
+fn refused(rt: HostRuntime) -> Result<(), Fail> {
+    let rows = [
+        ("(module (func nop)", "unexpected token", 18),
+        ("(module (func call $f))", "unknown identifier", 19),
+        ("(module (func frob))", "unknown keyword", 14),
+        ("(module (func $f) (func $f))", "duplicate identifier", 8),
+        ("(module (func \"", "unexpected end-of-file", 15),
+    ];
+    for (text, expected, place) in rows.iter() {
+        match compile(rt.alloc(), text) {
+            Ok(_) => panic!(rt; "{text} is taken"),
+            Err(error) => {
+                assert_eq!(rt; error.message(rt.alloc())?.as_str(), *expected);
+                assert_eq!(rt; error.span().offset(), *place);
+            }
+        }
+    }
+    Ok(())
+}

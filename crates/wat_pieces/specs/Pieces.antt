@@ -1,0 +1,57 @@
+-- WebAssembly 2.0 specification, 6.2.2 (tokens) and 6.3 (values: integers, strings, identifiers): the tokens that count, each with its value.
+use Rattle.std.specs.Prelude.{◌≡◌, ℕ, ◌^◌, true, List, map, nat_lt, Option, Some, None, Result, Ok, Err, if◌then◌else◌}
+use Rattle.wat_lex.specs.declared.lexer.faults.LexError.{LexError}
+use Rattle.wat_lex.specs.declared.lexer.faults.LexError.TheVariants.{EmptyId}
+use Rattle.wat_lex.specs.declared.lexer.kinds.SignToken.{SignToken}
+use Rattle.wat_lex.specs.declared.lexer.kinds.SignToken.TheVariants as token_sign
+use Rattle.wat_lex.specs.declared.lexer.kinds.Token.{Token}
+use Rattle.wat_lex.specs.declared.lexer.kinds.TokenKind.{TokenKind}
+use Rattle.wat_lex.specs.declared.lexer.kinds.TokenKind.TheVariants as kind
+use Rattle.wat_lex.specs.tokens.ReadableTokens.{token_text, word_of}
+use Rattle.wat_lex.specs.tokens.Setting.{Setting}
+use Rattle.wat_lex.specs.values.IntegerFacts.{kind_hex, kind_sign}
+use Rattle.wat_lex.specs.values.NumberValues.{integer_value}
+use Rattle.wat_lex.specs.values.WordValues.{name_value, string_value}
+use Rattle.wat_lexer_parser.specs.laws.Blanking.{TextShows}
+use Rattle.wat_lexer_parser.specs.names.RegisteredNames.{no_names}
+use Rattle.wat_instructions.specs.declared.pieces.Sign.{Sign}
+use Rattle.wat_instructions.specs.declared.pieces.Sign.TheVariants as sign
+use Rattle.wat_instructions.specs.Terminals.{Terminal, Open, Close, Word, Id, Integer, Text, Other}
+
+abbrev pub sign_of : Option SignToken → Sign
+sign_of None = sign.Absent
+sign_of (Some token_sign.Plus) = sign.Plus
+sign_of (Some token_sign.Minus) = sign.Minus
+
+-- an integer of at most 64 bits
+abbrev pub integer : Sign → ℕ → Terminal
+integer s n = if nat_lt n (2 ^ 64) then Integer s n else Other
+
+-- an identifier whose name is UTF-8 and not empty
+abbrev pub identifier : Result (List ℕ) LexError → Terminal
+identifier (Ok name) = Id name
+identifier (Err e) = Other
+
+-- the terminal symbol that a token is, by its kind: floating-point numbers, reserved tokens and annotations are none that a rule takes
+abbrev pub terminal_by : List ℕ → Token → TokenKind → Terminal
+terminal_by text t kind.LParen = Open
+terminal_by text t kind.RParen = Close
+terminal_by text t kind.Keyword = Word (token_text text t)
+terminal_by text t kind.Id = identifier (name_value EmptyId (word_of text t))
+terminal_by text t (kind.Integer k) = integer (sign_of (kind_sign k)) (integer_value (kind_hex k) (word_of text t))
+terminal_by text t kind.String = Text (string_value (word_of text t))
+terminal_by text t k = Other
+
+abbrev pub terminal_of : List ℕ → Token → Terminal
+terminal_of text t = terminal_by text t t.kind
+
+-- A text under the settings of the lexer that take what 6.2 and 6.3 take: all characters in comments and strings, and no doubled underscores. Beyond
+-- 2.0 an identifier may be `$".."`, and annotations are passed over.
+abbrev pub plain : List ℕ → Setting
+plain text = record { text = text; flags = record { allow = true; strict = true } }
+
+-- the tokens that count of a text that has no fault, as terminal symbols: white space, comments and annotations are not among them
+pub record Shows (text : List ℕ) (terminals : List Terminal) : Type 0 where
+  pub tokens : List Token
+  pub shown : TextShows (plain text) no_names tokens None
+  pub are : terminals ≡ map (terminal_of text) tokens
