@@ -67,9 +67,9 @@ impl Kept {
         self.kind = token.kind;
     }
 
-    /// Forgets what is known.
+    /// Nothing is known any more.
     #[inline(always)]
-    pub fn forget(&mut self)
+    pub fn clear(&mut self)
         ensures { self.new ≡ None }
     {
         self.after = 0;

@@ -175,8 +175,8 @@ impl<'a> SourceRef<'a> {
     {
         match self.look(place, byte, names) {
             Ok(Some((token, after))) => kept.keep(token, after),
-            Ok(None) => kept.forget(),
-            Err(_) => kept.forget(),
+            Ok(None) => kept.clear(),
+            Err(_) => kept.clear(),
         }
     }
 

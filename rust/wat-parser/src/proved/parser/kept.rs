@@ -68,7 +68,7 @@ impl Kept {
         self.kind = token.kind;
     }
 
-    /// Forgets what is known.
+    /// Nothing is known any more.
     ///
     /// # Proved
     ///
@@ -76,7 +76,7 @@ impl Kept {
     /// ensures { self.new ≡ None }
     /// ```
     #[inline(always)]
-    pub fn forget(&mut self) {
+    pub fn clear(&mut self) {
         self.after = 0;
     }
 }

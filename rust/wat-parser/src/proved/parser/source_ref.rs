@@ -185,8 +185,8 @@ impl<'a> SourceRef<'a> {
     pub fn keep_look(&self, place: usize, byte: usize, names: &Names, kept: &mut Kept) {
         match self.look(place, byte, names) {
             Ok(Some((token, after))) => kept.keep(token, after),
-            Ok(None) => kept.forget(),
-            Err(_) => kept.forget(),
+            Ok(None) => kept.clear(),
+            Err(_) => kept.clear(),
         }
     }
 
