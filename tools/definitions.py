@@ -214,7 +214,7 @@ def paths_of(tokens):
 def of_source(name):
     """The definitions that the contracts of a source cite."""
     path, _, wanted = name.partition(":")
-    text = (ROOT / path).read_text(encoding="utf-8").split("#[cfg(test)]")[0]
+    text = re.sub(r"#\[cfg\(test\)\]\s*mod \w+;", "", (ROOT / path).read_text(encoding="utf-8")).split("#[cfg(test)]")[0]
     module = Module()
     for use in re.findall(r"ghost (use [^;]*);", text):
         note_use(USE.fullmatch(" ".join(use.split())), module)
