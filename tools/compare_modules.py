@@ -7,6 +7,7 @@ PROGRAM reads a module from standard input and writes its bytes to standard outp
 rust/wat-modules/examples/module.rs. An `else` with nothing after it is written by PROGRAM and left out by `wat2wasm`: such texts are not made.
 
 usage: compare_modules.py [--modules N] [--mutants N] [--seed N] [--show] PROGRAM [ARGUMENT..]
+       compare_modules.py --write FUNCTIONS [--named] [--seed N] > TEXT
 """
 import argparse
 import pathlib
@@ -126,10 +127,13 @@ def variables(rng, word, prefix):
     return tokens, names
 
 
-def module(rng, rows):
-    """The tokens of a module."""
-    count = rng.randrange(5)
-    functions = [rng.choice([None, f"$f{at}", f"$a.b-{at}!"]) for at in range(count)]
+def some_names(rng):
+    """The names of up to four functions."""
+    return [rng.choice([None, f"$f{at}", f"$a.b-{at}!"]) for at in range(rng.randrange(5))]
+
+
+def module(rng, rows, functions):
+    """The tokens of a module of functions with these names."""
     tokens = ["(", "module"] + rng.choice([[], ["$m"]])
     for name in functions:
         tokens += ["(", "func"] + ([name] if name else [])
@@ -271,14 +275,22 @@ def main():
     parser.add_argument("--mutants", type=int, default=400)
     parser.add_argument("--seed", type=int, default=1)
     parser.add_argument("--show", action="store_true", help="shows each text that a known departure explains")
-    parser.add_argument("program", nargs="+")
+    parser.add_argument("--write", type=int, help="writes a module of so many functions, and compares nothing")
+    parser.add_argument("--named", action="store_true", help="each of these has a name")
+    parser.add_argument("program", nargs="*")
     given = parser.parse_args()
+    if not given.write and not given.program:
+        parser.error("PROGRAM is not given")
     rng = random.Random(given.seed)
     with open(TABLE, encoding="utf-8") as it:
         rows = ROW.findall(it.read())
+    if given.write:
+        functions = [f"$f{at}" if given.named else None for at in range(given.write)]
+        print(" ".join(module(rng, rows, functions)).replace(" ( func", "\n( func"))
+        return
     texts = []
     while len(texts) < given.modules:
-        tokens = module(rng, rows)
+        tokens = module(rng, rows, some_names(rng))
         texts.append((False, tokens))
     whole = [tokens for _, tokens in texts]
     while len(texts) < given.modules + given.mutants:
@@ -290,9 +302,9 @@ def main():
     with tempfile.TemporaryDirectory() as room:
         for mutant, tokens, text in texts:
             ours, theirs = answer_of(given.program, text), reference(text, room)
-            if ours[0] == theirs[0]:
+            if ours[0] == theirs[0] and (mutant or ours[0]):
                 counts["both refuse" if ours[0] is None else "same bytes"] += 1
-            elif explained := departure(tokens, ours, theirs):
+            elif explained := mutant and departure(tokens, ours, theirs):
                 counts[explained] += 1
                 if given.show:
                     print(f"--- {explained}", text, f"ours:   {ours[1]}", sep="\n")
