@@ -7,11 +7,16 @@ use wat_modules::parse_str;
 const HEADER: &[u8] = b"\0asm\x01\0\0\0";
 
 /// A module of one function without parameters: its body, and the bytes of that in the code section.
-const BODIES: [(&str, &[u8]); 4] = [
+const BODIES: [(&str, &[u8]); 5] = [
     ("", b"\x00\x0b"),
     (
         "(if (result i32) (i32.const 1) (then (i32.const 2)) (else (i32.const -3))) drop",
         b"\x00\x41\x01\x04\x7f\x41\x02\x05\x41\x7d\x0b\x1a\x0b",
+    ),
+    // An `else` with nothing after it is an instruction too.
+    (
+        "(if (i32.const 1) (then) (else))",
+        b"\x00\x41\x01\x04\x40\x05\x0b\x0b",
     ),
     (
         "(local i32 i32) (local $z i32 ) (local i64) block $a br $a end",
@@ -65,6 +70,11 @@ fn refusals_have_their_place() {
             24,
         ),
         ("(module (func $f) (func $f))", "duplicate identifier", 8),
+        (
+            "(module (func (param $x i32) (local $x i32) nop))",
+            "duplicate identifier",
+            44,
+        ),
         ("(module (func (export \"\\ff\")))", "name is not UTF-8", 22),
         // Faults of the lexer.
         ("(module (func \"", "unexpected end-of-file", 15),
@@ -84,6 +94,15 @@ fn refusals_have_their_place() {
         "unexpected token\n     --> <anon>:2:14\n      |\n    2 |   (func nop) ?)\n      |              ^"
     );
     assert!(!error.is_out_of_memory());
+}
+
+/// A text of more than `u32::MAX` bytes, none of which is ever written.
+#[cfg(target_pointer_width = "64")]
+#[test]
+fn a_text_that_is_too_long_is_refused() {
+    let text = String::from_utf8(vec![0; 1 << 32]).unwrap();
+    let message = "the text has more than 4294967295 bytes at byte offset 0";
+    assert_eq!(parse_str(&text).unwrap_err().to_string(), message);
 }
 
 /// What is run on a stack of 64 KiB.
