@@ -51,8 +51,8 @@ pub use wat_lex::{Error, Span};
 ///
 /// # Errors
 ///
-/// The lexer's, or that of the first token that no rule takes: an unknown word or name, a number out of range, any other. Two functions of one name are
-/// refused after the module's own name, two variables of one name after the last of them. A text or a module of more than `u32::MAX` bytes is
+/// The lexer's, or that of the first token that no rule takes: an unknown word or name, a number out of range, any other. Two functions of one name
+/// are refused after the module's own name, two variables of one name after the last of them. A text or a module of more than `u32::MAX` bytes is
 /// refused at the text's start. Or memory was refused. An error has its place, and prints the line of it.
 pub fn parse_str(text: impl AsRef<str>) -> Result<Vec<u8>, Error> {
     let text = text.as_ref();
