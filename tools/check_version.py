@@ -13,6 +13,7 @@ PROGRAM = r'"wat_tokens ([^ ]*), of '
 # The other places, and how the version is found there.
 TEXTS = [
     ("rust/Cargo.lock", r'^name = "wat-.*"\nversion = "(.*)"$'),
+    ("rust/wat-modules/Cargo.toml", r'^wat-(?:lex|parser) = \{ version = "=([^"]*)"'),
     ("rust/wat-parser/Cargo.toml", r'^wat-lex = \{ version = "=([^"]*)"'),
     ("rust/wat-tokens/Cargo.toml", r'^wat-(?:lex|parser) = \{ version = "=([^"]*)"'),
     ("page/wat-lex/package.json", r'^  "version": "(.*)",$'),

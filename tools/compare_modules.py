@@ -3,12 +3,14 @@
 functions with inline exports, parameters, results, local variables, and plain, structured and folded instructions; and on texts made from
 them by one change of a token.
 
-PROGRAM reads a module in each line, where U+0001 is in place of a line end, and writes a line of hexadecimal digits, or one that begins with
-`error`. An `else` with nothing after it is written by PROGRAM and left out by `wat2wasm`: such texts are not made.
+PROGRAM reads a module from standard input and writes its bytes to standard output; where it refuses the text its status is 1. It is
+rust/wat-modules/examples/module.rs. An `else` with nothing after it is written by PROGRAM and left out by `wat2wasm`: such texts are not made.
 
-usage: compare_modules.py [--modules N] [--mutants N] [--seed N] PROGRAM [ARGUMENT..]
+usage: compare_modules.py [--modules N] [--mutants N] [--seed N] [--show] PROGRAM [ARGUMENT..]
+       compare_modules.py --write FUNCTIONS [--named] [--seed N] > TEXT
 """
 import argparse
+import pathlib
 import random
 import re
 import subprocess
@@ -18,7 +20,7 @@ import tempfile
 GAPS = [" ", "\n", "\t", " (; a comment ;) ", " ;; a comment\n", "  "]
 TYPES = ["i32", "i64", "f32", "f64"]
 ROW = re.compile(r'row!\(\s*"([^"]+)",\s*0x[0-9A-F]+,\s*Immediate::(\w+)', re.S)
-TABLE = "crates/wat_instructions/src/table.rt"
+TABLE = pathlib.Path(__file__).resolve().parents[1] / "crates/wat_instructions/src/table.rt"
 
 
 class Body:
@@ -125,10 +127,13 @@ def variables(rng, word, prefix):
     return tokens, names
 
 
-def module(rng, rows):
-    """The tokens of a module."""
-    count = rng.randrange(5)
-    functions = [rng.choice([None, f"$f{at}", f"$a.b-{at}!"]) for at in range(count)]
+def some_names(rng):
+    """The names of up to four functions."""
+    return [rng.choice([None, f"$f{at}", f"$a.b-{at}!"]) for at in range(rng.randrange(5))]
+
+
+def module(rng, rows, functions):
+    """The tokens of a module of functions with these names."""
     tokens = ["(", "module"] + rng.choice([[], ["$m"]])
     for name in functions:
         tokens += ["(", "func"] + ([name] if name else [])
@@ -183,6 +188,78 @@ def has_empty_else(tokens):
     return False
 
 
+def after_group(tokens, at):
+    """The place after the group that begins with the `(` there, or the end."""
+    depth = 0
+    while at < len(tokens):
+        depth += (tokens[at] == "(") - (tokens[at] == ")")
+        at += 1
+        if depth == 0:
+            break
+    return at
+
+
+def has_other_type(tokens):
+    """Whether a block has another type than one result or none."""
+    for at, token in enumerate(tokens):
+        if token in ("block", "loop", "if"):
+            at += 2 if tokens[at + 1 : at + 2] and tokens[at + 1].startswith("$") else 1
+            end, word = after_group(tokens, at), tokens[at + 1 : at + 2]
+            if tokens[at : at + 1] == ["("] and word[0] in ("result", "param", "type"):
+                if word != ["result"] or end - at != 4 or tokens[end : end + 2] == ["(", "result"]:
+                    return True
+    return False
+
+
+def has_bare_part(tokens):
+    """Whether a part of a folded `if` has no `then` or `else` of its own."""
+    for at in range(len(tokens) - 1):
+        if tokens[at : at + 2] == ["(", "then"]:
+            end = after_group(tokens, at)
+            if tokens[end : end + 1] == ["("] and tokens[end + 1 : end + 2] != ["else"]:
+                return True
+        if tokens[at : at + 2] == ["(", "if"]:
+            inside, depth = tokens[at + 1 : after_group(tokens, at)], 0
+            opened = []
+            for token, word in zip(inside, inside[1:]):
+                depth += (token == "(") - (token == ")")
+                if token == "(" and depth == 1:
+                    opened.append(word)
+            if "then" not in opened:
+                return True
+    return False
+
+
+def has_typed_select(tokens):
+    """Whether a `select` has a type."""
+    return any(tokens[at : at + 3] == ["select", "(", "result"] for at in range(len(tokens)))
+
+
+# What `wat2wasm` takes and PROGRAM refuses: its message, and what such a text has.
+DEPARTURES = {
+    "of an `if` without `then` or `else`, which wat2wasm takes": ("unexpected token", has_bare_part),
+    "of a block with another type than one result or none, not read as yet": ("unexpected token", has_other_type),
+    "of a `select` with a type, not read as yet": ("unknown keyword", has_typed_select),
+}
+
+
+def departure(tokens, ours, theirs):
+    """The name of the departure that explains these answers, or None."""
+    if theirs[0] is None:
+        return None
+    found = (name for name, (message, has) in DEPARTURES.items() if ours[1].startswith(message + "\n") and has(tokens))
+    return next(found, None)
+
+
+def answer_of(program, text):
+    """The bytes that the program makes, or None, and what it says."""
+    ran = subprocess.run(program, input=text.encode(), capture_output=True, check=False)
+    said = ran.stderr.decode(errors="replace")
+    if ran.returncode not in (0, 1) or (ran.returncode == 1) == (not said):
+        sys.exit(f"compare_modules.py: status {ran.returncode} of {text!r}: {said}")
+    return (None, said) if ran.returncode else (ran.stdout.hex(), "")
+
+
 def reference(text, room):
     """The bytes that `wat2wasm` makes, or None, and what it says."""
     with open(f"{room}/module.wat", "w", encoding="utf-8") as it:
@@ -197,37 +274,46 @@ def main():
     parser.add_argument("--modules", type=int, default=200)
     parser.add_argument("--mutants", type=int, default=400)
     parser.add_argument("--seed", type=int, default=1)
-    parser.add_argument("program", nargs="+")
+    parser.add_argument("--show", action="store_true", help="shows each text that a known departure explains")
+    parser.add_argument("--write", type=int, help="writes a module of so many functions, and compares nothing")
+    parser.add_argument("--named", action="store_true", help="each of these has a name")
+    parser.add_argument("program", nargs="*")
     given = parser.parse_args()
+    if not given.write and not given.program:
+        parser.error("PROGRAM is not given")
     rng = random.Random(given.seed)
     with open(TABLE, encoding="utf-8") as it:
         rows = ROW.findall(it.read())
+    if given.write:
+        functions = [f"$f{at}" if given.named else None for at in range(given.write)]
+        print(" ".join(module(rng, rows, functions)).replace(" ( func", "\n( func"))
+        return
     texts = []
     while len(texts) < given.modules:
-        tokens = module(rng, rows)
+        tokens = module(rng, rows, some_names(rng))
         texts.append((False, tokens))
     whole = [tokens for _, tokens in texts]
     while len(texts) < given.modules + given.mutants:
         tokens = mutated(rng, rng.choice(whole))
         if tokens and not has_empty_else(tokens):
             texts.append((True, tokens))
-    texts = [(mutant, laid(rng, tokens)) for mutant, tokens in texts]
-    fed = "".join(text.replace("\n", "\x01") + "\n" for _, text in texts)
-    ran = subprocess.run(given.program, input=fed.encode(), capture_output=True, check=False)
-    answers = ran.stdout.decode().splitlines()
-    counts, differ = {"same bytes": 0, "both refuse": 0}, []
+    texts = [(mutant, tokens, laid(rng, tokens)) for mutant, tokens in texts]
+    counts, differ = {"same bytes": 0, "both refuse": 0, **{name: 0 for name in DEPARTURES}}, []
     with tempfile.TemporaryDirectory() as room:
-        for (mutant, text), answer in zip(texts, answers):
-            bytes_of, said = reference(text, room)
-            ours = None if answer.startswith("error") else answer
-            if ours == bytes_of:
-                counts["both refuse" if ours is None else "same bytes"] += 1
+        for mutant, tokens, text in texts:
+            ours, theirs = answer_of(given.program, text), reference(text, room)
+            if ours[0] == theirs[0] and (mutant or ours[0]):
+                counts["both refuse" if ours[0] is None else "same bytes"] += 1
+            elif explained := mutant and departure(tokens, ours, theirs):
+                counts[explained] += 1
+                if given.show:
+                    print(f"--- {explained}", text, f"ours:   {ours[1]}", sep="\n")
             else:
-                differ.append((mutant, text, answer, bytes_of, said))
-    for mutant, text, answer, bytes_of, said in differ[:20]:
-        print("--- mutant" if mutant else "--- module", text, "ours:   " + answer, f"theirs: {bytes_of} {said}", sep="\n")
-    print(f"compare_modules.py: {len(answers)} of {len(texts)} texts answered, {given.modules} modules and {given.mutants} mutants: {counts}, {len(differ)} differ")
-    sys.exit(1 if differ or len(answers) != len(texts) else 0)
+                differ.append((mutant, text, ours, theirs))
+    for mutant, text, ours, theirs in differ[:20]:
+        print("--- mutant" if mutant else "--- module", text, f"ours:   {ours[0]} {ours[1]}", f"theirs: {theirs[0]} {theirs[1]}", sep="\n")
+    print(f"compare_modules.py: {given.modules} modules, {given.mutants} mutants: " + "".join(f"{n} {what}, " for what, n in counts.items()) + f"{len(differ)} differ")
+    sys.exit(1 if differ else 0)
 
 
 if __name__ == "__main__":

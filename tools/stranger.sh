@@ -109,12 +109,13 @@ RUST
 
 # The tests that the packages have in them, and the program as a package.
 rust_packages() {
-    local lex parser
-    lex=$(echo wat-lex-*) parser=$(echo wat-parser-*)
+    local lex parser modules
+    lex=$(echo wat-lex-*) parser=$(echo wat-parser-*) modules=$(echo wat-modules-*)
     export CARGO_TARGET_DIR=$room/target
     local patch=(--config "patch.crates-io.wat-lex.path='$room/$lex'" --config "patch.crates-io.wat-parser.path='$room/$parser'")
     timed "Rust: tests of $lex" 300 cargo test --quiet --manifest-path "$lex/Cargo.toml"
     timed "Rust: tests of $parser" 300 cargo test --quiet "${patch[@]:0:2}" --manifest-path "$parser/Cargo.toml"
+    timed "Rust: tests of $modules" 300 cargo test --quiet "${patch[@]}" --manifest-path "$modules/Cargo.toml"
     timed 'Rust: cargo install of the program' 120 cargo install --quiet "${patch[@]}" --path wat-tokens-*
     expect 'Rust: the program that cargo installs' $'0..1 LParen\n1..2 Keyword\n2..3 RParen' "$CARGO_HOME/bin/wat_tokens" < <(printf '(a)')
 }

@@ -26,6 +26,10 @@ MODULES = {
     "wat_types": "wat-tokens/src/types",
     "wat_commands": "wat-tokens/src/commands",
     "wat_tokens": "wat-tokens/src/program",
+    "wat_instructions": "wat-modules/src/instructions",
+    "wat_pieces": "wat-modules/src/pieces",
+    "wat_fields": "wat-modules/src/fields",
+    "wat_modules": "wat-modules/src/proved",
     "wat_imports": "wat-tokens/tests/requests/imports",
 }
 # What is compiled with a shim of its own.

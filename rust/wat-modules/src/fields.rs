@@ -1,0 +1,8 @@
+// Made by tools/erase from crates/wat_fields/src/lib.rt; do not edit.
+//! Modules that hold nothing but functions, from the tokens that count to bytes.
+use wat_lex::shim::prelude::*;
+mod binary;
+pub mod fields;
+mod header;
+pub mod laws;
+mod names;

@@ -1,0 +1,499 @@
+// Made by tools/erase from crates/wat_fields/src/header.rt; do not edit.
+//! What comes before the instructions of a function: exports, parameters, results, local variables.
+
+use wat_lex::shim::prelude::*;
+use crate::fields::fields::{Header, Left, Variable};
+use wat_lex::shim::alloc::{AllocError, Global};
+use core::str;
+use crate::instructions::pieces::{Fault, FaultKind, Name, Piece, Refusal, ValueType};
+use crate::instructions::reading::value_type;
+
+/// All that comes before the instructions of a function.
+///
+/// # Proved
+///
+/// ```text
+/// ensures { MatchResult result
+/// (λ r. reading.header (map terminal pieces.now) ≡ Ok (header_of r.0, map terminal r.1.now))
+/// (λ e. Faults (reading.header (map terminal pieces.now)) e) }
+/// ```
+pub(crate) fn read_header<'p, 'a>(
+    alloc: Global,
+    pieces: &'p [Piece<'a>],
+) -> Result<(Header<'p>, &'p [Piece<'a>]), Refusal<'p, 'a>> {
+    let (exports, rest) = exports(alloc, pieces)?;
+    let (params, rest) = variables(alloc, "param", true, rest)?;
+    let (results, rest) = variables(alloc, "result", false, rest)?;
+    let (locals, rest) = variables(alloc, "local", true, rest)?;
+    let header = Header {
+        exports,
+        params,
+        results,
+        locals,
+    };
+    Ok((header, rest))
+}
+
+/// The names under which a function is exported.
+///
+/// # Proved
+///
+/// ```text
+/// ensures { MatchResult result
+/// (λ r. reading.all reading.export_item (map terminal pieces.now) ≡ Ok (map text_of r.0.items, map terminal r.1.now))
+/// (λ e. Faults (reading.all reading.export_item (map terminal pieces.now)) e) }
+/// ```
+fn exports<'p, 'a>(
+    alloc: Global,
+    pieces: &'p [Piece<'a>],
+) -> Result<(Vec<&'p [u8]>, &'p [Piece<'a>]), Refusal<'p, 'a>> {
+    let mut found = Vec::new(alloc);
+    let mut left = Left { pieces };
+    'exports: loop {
+        match next_export(&mut found, left) {
+            Ok(Some(next)) => {
+                left = next;
+            }
+            Ok(None) => return Ok((found, left.pieces)),
+            Err(refusal) => return Err(refusal),
+        }
+    }
+}
+
+/// All variables in groups that begin with a word.
+///
+/// # Proved
+///
+/// ```text
+/// ensures { MatchResult result
+/// (λ r. reading.all (reading.group_item word.now may_have_name) (map terminal pieces.now) ≡ Ok (map variable_of r.0.items, map terminal r.1.now))
+/// (λ e. Faults (reading.all (reading.group_item word.now may_have_name) (map terminal pieces.now)) e) }
+/// ```
+fn variables<'p, 'a>(
+    alloc: Global,
+    word: &str,
+    may_have_name: bool,
+    pieces: &'p [Piece<'a>],
+) -> Result<(Vec<Variable<'p>>, &'p [Piece<'a>]), Refusal<'p, 'a>> {
+    let mut found = Vec::new(alloc);
+    let mut left = Left { pieces };
+    'groups: loop {
+        match next_group(alloc, word, may_have_name, &mut found, left) {
+            Ok(Some(next)) => {
+                left = next;
+            }
+            Ok(None) => return Ok((found, left.pieces)),
+            Err(refusal) => return Err(refusal),
+        }
+    }
+}
+
+/// Value types.
+///
+/// # Proved
+///
+/// ```text
+/// ensures { MatchResult result
+/// (λ r. reading.all reading.value_item (map terminal pieces.now) ≡ Ok (r.0.items, map terminal r.1.now))
+/// (λ e. Faults (reading.all reading.value_item (map terminal pieces.now)) e) }
+/// ```
+fn values<'p, 'a>(
+    alloc: Global,
+    pieces: &'p [Piece<'a>],
+) -> Result<(Vec<ValueType>, &'p [Piece<'a>]), Refusal<'p, 'a>> {
+    let mut found = Vec::new(alloc);
+    let mut left = Left { pieces };
+    'values: loop {
+        match next_value(&mut found, left) {
+            Ok(Some(next)) => {
+                left = next;
+            }
+            Ok(None) => return Ok((found, left.pieces)),
+            Err(refusal) => return Err(refusal),
+        }
+    }
+}
+
+/// What comes after `(` and a word, where the tokens begin so.
+///
+/// # Proved
+///
+/// ```text
+/// ensures { MatchOption result (reading.after word.now (map terminal pieces.now) ≡ None) (λ r. reading.after word.now (map terminal pieces.now) ≡ Some (map terminal r.now)) }
+/// ```
+fn after<'p, 'a>(word: &str, pieces: &'p [Piece<'a>]) -> Option<&'p [Piece<'a>]> {
+    match pieces {
+        [Piece::Open, rest @ ..] => after_word(word, rest),
+        [
+            Piece::Close
+            | Piece::Word(_)
+            | Piece::Id(_)
+            | Piece::Integer(_, _)
+            | Piece::Text(_)
+            | Piece::Other,
+            ..,
+        ] => None,
+        [] => None,
+    }
+}
+
+/// What comes after a word, where the tokens begin with it.
+///
+/// # Proved
+///
+/// ```text
+/// ensures { MatchOption result (reading.after_word word.now (map terminal pieces.now) ≡ None) (λ r. reading.after_word word.now (map terminal pieces.now) ≡ Some (map terminal r.now)) }
+/// ```
+fn after_word<'p, 'a>(word: &str, pieces: &'p [Piece<'a>]) -> Option<&'p [Piece<'a>]> {
+    match pieces {
+        [Piece::Word(of), rest @ ..] => {
+            if *of == word {
+                Some(rest)
+            } else {
+                None
+            }
+        }
+        [
+            Piece::Open
+            | Piece::Close
+            | Piece::Id(_)
+            | Piece::Integer(_, _)
+            | Piece::Text(_)
+            | Piece::Other,
+            ..,
+        ] => None,
+        [] => None,
+    }
+}
+
+/// What comes after `)`.
+///
+/// # Proved
+///
+/// ```text
+/// ensures { MatchResult result
+/// (λ r. reading.closed (map terminal pieces.now) ≡ Ok (map terminal r.now))
+/// (λ f. reading.closed (map terminal pieces.now) ≡ Err (fault_of f)) }
+/// ```
+fn closed<'p, 'a>(pieces: &'p [Piece<'a>]) -> Result<&'p [Piece<'a>], Fault<'p, 'a>> {
+    match pieces {
+        [Piece::Close, rest @ ..] => Ok(rest),
+        [
+            Piece::Open
+            | Piece::Word(_)
+            | Piece::Id(_)
+            | Piece::Integer(_, _)
+            | Piece::Text(_)
+            | Piece::Other,
+            ..,
+        ] => Err(Fault {
+            kind: FaultKind::Unexpected,
+            left: pieces,
+        }),
+        [] => Err(Fault {
+            kind: FaultKind::Unexpected,
+            left: pieces,
+        }),
+    }
+}
+
+/// Whether bytes are UTF-8.
+///
+/// # Proved
+///
+/// ```text
+/// ensures { result ≡ is_utf8 bytes.now }
+/// ```
+fn is_utf8(bytes: &[u8]) -> bool {
+    match str::from_utf8(bytes) {
+        Ok(_) => true,
+        Err(_) => false,
+    }
+}
+
+/// A string that is UTF-8.
+///
+/// # Proved
+///
+/// ```text
+/// ensures { MatchResult result
+/// (λ r. reading.utf8_text (map terminal pieces.now) ≡ Ok (r.0.now, map terminal r.1.now))
+/// (λ f. reading.utf8_text (map terminal pieces.now) ≡ Err (fault_of f)) }
+/// ```
+fn utf8_text<'p, 'a>(
+    pieces: &'p [Piece<'a>],
+) -> Result<(&'p [u8], &'p [Piece<'a>]), Fault<'p, 'a>> {
+    match pieces {
+        [Piece::Text(text), rest @ ..] => {
+            if is_utf8(text) {
+                Ok((*text, rest))
+            } else {
+                Err(Fault {
+                    kind: FaultKind::NotUtf8,
+                    left: pieces,
+                })
+            }
+        }
+        [
+            Piece::Open
+            | Piece::Close
+            | Piece::Word(_)
+            | Piece::Id(_)
+            | Piece::Integer(_, _)
+            | Piece::Other,
+            ..,
+        ] => Err(Fault {
+            kind: FaultKind::Unexpected,
+            left: pieces,
+        }),
+        [] => Err(Fault {
+            kind: FaultKind::Unexpected,
+            left: pieces,
+        }),
+    }
+}
+
+/// The name of an export, and `)`.
+///
+/// # Proved
+///
+/// ```text
+/// ensures { MatchResult result
+/// (λ r. reading.export (map terminal pieces.now) ≡ Ok (r.0.now ∷ [], map terminal r.1.now))
+/// (λ f. reading.export (map terminal pieces.now) ≡ Err (fault_of f)) }
+/// ```
+fn export<'p, 'a>(pieces: &'p [Piece<'a>]) -> Result<(&'p [u8], &'p [Piece<'a>]), Fault<'p, 'a>> {
+    let (name, rest) = utf8_text(pieces)?;
+    let rest = closed(rest)?;
+    Ok((name, rest))
+}
+
+/// One export, where there is one.
+///
+/// # Proved
+///
+/// ```text
+/// ensures { MatchResult result
+/// (λ o. MatchOption o
+/// (NoItem (reading.export_item (map terminal left.entry.pieces.now)) (map text_of found.old.items) (map text_of found.new.items))
+/// (λ l. IsItem (reading.export_item (map terminal left.entry.pieces.now)) (map text_of found.old.items) (map text_of found.new.items) (map terminal l.pieces.now)))
+/// (λ e. ItemFaults (reading.export_item (map terminal left.entry.pieces.now)) e) }
+/// ```
+fn next_export<'p, 'a>(
+    found: &mut Vec<&'p [u8]>,
+    left: Left<'p, 'a>,
+) -> Result<Option<Left<'p, 'a>>, Refusal<'p, 'a>> {
+    match after("export", left.pieces) {
+        Some(rest) => {
+            let (name, pieces) = export(rest)?;
+            found.push(name)?;
+            Ok(Some(Left { pieces }))
+        }
+        None => Ok(None),
+    }
+}
+
+/// The variables of one group that begins with the word, where there is one.
+///
+/// # Proved
+///
+/// ```text
+/// ensures { MatchResult result
+/// (λ o. MatchOption o
+/// (NoItem (reading.group_item word.now may_have_name (map terminal left.entry.pieces.now)) (map variable_of found.old.items) (map variable_of found.new.items))
+/// (λ l. IsItem (reading.group_item word.now may_have_name (map terminal left.entry.pieces.now)) (map variable_of found.old.items) (map variable_of found.new.items) (map terminal l.pieces.now)))
+/// (λ e. ItemFaults (reading.group_item word.now may_have_name (map terminal left.entry.pieces.now)) e) }
+/// ```
+fn next_group<'p, 'a>(
+    alloc: Global,
+    word: &str,
+    may_have_name: bool,
+    found: &mut Vec<Variable<'p>>,
+    left: Left<'p, 'a>,
+) -> Result<Option<Left<'p, 'a>>, Refusal<'p, 'a>> {
+    match after(word, left.pieces) {
+        Some(rest) => match group(alloc, may_have_name, rest) {
+            Ok((variables, pieces)) => {
+                found.extend_from_slice(&variables)?;
+                Ok(Some(Left { pieces }))
+            }
+            Err(refusal) => Err(refusal),
+        },
+        None => Ok(None),
+    }
+}
+
+/// One value type, where there is a word.
+///
+/// # Proved
+///
+/// ```text
+/// ensures { MatchResult result
+/// (λ o. MatchOption o
+/// (NoItem (reading.value_item (map terminal left.entry.pieces.now)) (found.old.items) (found.new.items))
+/// (λ l. IsItem (reading.value_item (map terminal left.entry.pieces.now)) (found.old.items) (found.new.items) (map terminal l.pieces.now)))
+/// (λ e. ItemFaults (reading.value_item (map terminal left.entry.pieces.now)) e) }
+/// ```
+fn next_value<'p, 'a>(
+    found: &mut Vec<ValueType>,
+    left: Left<'p, 'a>,
+) -> Result<Option<Left<'p, 'a>>, Refusal<'p, 'a>> {
+    match left.pieces {
+        [Piece::Word(word), pieces @ ..] => match value_type(word) {
+            Some(of) => {
+                found.push(of)?;
+                Ok(Some(Left { pieces }))
+            }
+            None => Err(Refusal::Text(Fault {
+                kind: FaultKind::UnknownWord,
+                left: left.pieces,
+            })),
+        },
+        [
+            Piece::Open
+            | Piece::Close
+            | Piece::Id(_)
+            | Piece::Integer(_, _)
+            | Piece::Text(_)
+            | Piece::Other,
+            ..,
+        ] => Ok(None),
+        [] => Ok(None),
+    }
+}
+
+/// A group after its word.
+///
+/// # Proved
+///
+/// ```text
+/// ensures { MatchResult result
+/// (λ r. reading.group may_have_name (map terminal pieces.now) ≡ Ok (map variable_of r.0.items, map terminal r.1.now))
+/// (λ e. Faults (reading.group may_have_name (map terminal pieces.now)) e) }
+/// ```
+fn group<'p, 'a>(
+    alloc: Global,
+    may_have_name: bool,
+    pieces: &'p [Piece<'a>],
+) -> Result<(Vec<Variable<'p>>, &'p [Piece<'a>]), Refusal<'p, 'a>> {
+    match pieces {
+        [Piece::Id(name), rest @ ..] => {
+            if may_have_name {
+                named_one(alloc, name, rest)
+            } else {
+                Err(Refusal::Text(Fault {
+                    kind: FaultKind::Unexpected,
+                    left: pieces,
+                }))
+            }
+        }
+        [
+            Piece::Open
+            | Piece::Close
+            | Piece::Word(_)
+            | Piece::Integer(_, _)
+            | Piece::Text(_)
+            | Piece::Other,
+            ..,
+        ] => listed(alloc, pieces),
+        [] => listed(alloc, pieces),
+    }
+}
+
+/// After a name: its type, and `)`.
+///
+/// # Proved
+///
+/// ```text
+/// ensures { MatchResult result
+/// (λ r. reading.named_one name.now (map terminal pieces.now) ≡ Ok (map variable_of r.0.items, map terminal r.1.now))
+/// (λ e. Faults (reading.named_one name.now (map terminal pieces.now)) e) }
+/// ```
+fn named_one<'p, 'a>(
+    alloc: Global,
+    name: &'p str,
+    pieces: &'p [Piece<'a>],
+) -> Result<(Vec<Variable<'p>>, &'p [Piece<'a>]), Refusal<'p, 'a>> {
+    match pieces {
+        [Piece::Word(word), rest @ ..] => match value_type(word) {
+            Some(of) => named_type(alloc, name, of, rest),
+            None => Err(Refusal::Text(Fault {
+                kind: FaultKind::UnknownWord,
+                left: pieces,
+            })),
+        },
+        [
+            Piece::Open
+            | Piece::Close
+            | Piece::Id(_)
+            | Piece::Integer(_, _)
+            | Piece::Text(_)
+            | Piece::Other,
+            ..,
+        ] => Err(Refusal::Text(Fault {
+            kind: FaultKind::Unexpected,
+            left: pieces,
+        })),
+        [] => Err(Refusal::Text(Fault {
+            kind: FaultKind::Unexpected,
+            left: pieces,
+        })),
+    }
+}
+
+/// After a name and its type: `)`.
+///
+/// # Proved
+///
+/// ```text
+/// ensures { MatchResult result
+/// (λ r. reading.named_type name.now (Some of) (map terminal pieces.now) (map terminal pieces.now) ≡ Ok (map variable_of r.0.items, map terminal r.1.now))
+/// (λ e. Faults (reading.named_type name.now (Some of) (map terminal pieces.now) (map terminal pieces.now)) e) }
+/// ```
+fn named_type<'p, 'a>(
+    alloc: Global,
+    name: &'p str,
+    of: ValueType,
+    pieces: &'p [Piece<'a>],
+) -> Result<(Vec<Variable<'p>>, &'p [Piece<'a>]), Refusal<'p, 'a>> {
+    let rest = closed(pieces)?;
+    let name = Name::Given(name);
+    let mut variables = Vec::new(alloc);
+    variables.push(Variable { name, of })?;
+    Ok((variables, rest))
+}
+
+/// Value types and `)`.
+///
+/// # Proved
+///
+/// ```text
+/// ensures { MatchResult result
+/// (λ r. reading.listed (map terminal pieces.now) ≡ Ok (map variable_of r.0.items, map terminal r.1.now))
+/// (λ e. Faults (reading.listed (map terminal pieces.now)) e) }
+/// ```
+fn listed<'p, 'a>(
+    alloc: Global,
+    pieces: &'p [Piece<'a>],
+) -> Result<(Vec<Variable<'p>>, &'p [Piece<'a>]), Refusal<'p, 'a>> {
+    let (types, rest) = values(alloc, pieces)?;
+    let rest = closed(rest)?;
+    let variables = unnamed(alloc, &types)?;
+    Ok((variables, rest))
+}
+
+/// Variables without names.
+///
+/// # Proved
+///
+/// ```text
+/// ensures { IfOk result (λ variables. map variable_of variables.items ≡ map unnamed types.now) }
+/// ```
+fn unnamed<'p>(alloc: Global, types: &[ValueType]) -> Result<Vec<Variable<'p>>, AllocError> {
+    let mut variables = Vec::new(alloc);
+    let name = Name::Absent;
+    for of in types {
+        variables.push(Variable { name, of: *of })?;
+    }
+    Ok(variables)
+}

@@ -1,0 +1,10 @@
+// Made by tools/erase from crates/wat_instructions/src/lib.rt; do not edit.
+//! Instructions of WebAssembly text, from the tokens that count to a list of instructions as the
+//! binary format has them. Plain instructions come from a table; `block`, `loop` and `if` bind
+//! labels; folded instructions are laid out after their operands.
+use wat_lex::shim::prelude::*;
+pub mod laws;
+pub mod machine;
+pub mod pieces;
+pub mod reading;
+pub mod table;

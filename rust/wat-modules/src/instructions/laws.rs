@@ -1,0 +1,22 @@
+// Made by tools/erase from crates/wat_instructions/src/laws.rt; do not edit.
+//! What holds of the definitions.
+
+use wat_lex::shim::prelude::*;
+/// What is read is what is spelled. The function does nothing: its contract is the law.
+///
+/// # Proved
+///
+/// ```text
+/// ensures { MachineIsGrammar }
+/// ```
+pub fn machine_is_grammar() {}
+
+/// Instructions have as many `(` as `)`, and what is left is no longer. The function does nothing.
+///
+/// # Proved
+///
+/// ```text
+/// ensures balanced { InstructionsAreBalanced }
+/// ensures taken { InstructionsTakeTokens }
+/// ```
+pub fn instructions_are_balanced() {}

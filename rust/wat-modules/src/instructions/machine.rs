@@ -1,0 +1,528 @@
+// Made by tools/erase from crates/wat_instructions/src/machine.rt; do not edit.
+//! The instructions of a body, over a stack of what is open.
+
+use wat_lex::shim::prelude::*;
+use crate::instructions::pieces::{
+    Argument, Fault, FaultKind, Frame, Instruction, Name, Piece, Refusal,
+};
+use crate::instructions::reading::{self, Scope};
+use wat_lex::shim::alloc::Global;
+
+/// The first byte of `if`.
+const IF: u8 = 0x04;
+
+const ELSE: Instruction = Instruction {
+    opcode: 0x05,
+    argument: Argument::Nothing,
+};
+
+const END: Instruction = Instruction {
+    opcode: 0x0B,
+    argument: Argument::Nothing,
+};
+
+/// The instructions of a body up to its `)`, and what comes after that.
+///
+/// # Proved
+///
+/// ```text
+/// ensures { MatchResult result
+/// (λ r. spec.body (scope_of scope.now) (map terminal pieces.now) ≡ Ok (r.0.items, map terminal r.1.now))
+/// (λ e. Faults (spec.body (scope_of scope.now) (map terminal pieces.now)) e) }
+/// ```
+pub fn instructions<'p, 'a>(
+    alloc: Global,
+    scope: &Scope<'_, 'p>,
+    pieces: &'p [Piece<'a>],
+) -> Result<(Vec<Instruction>, &'p [Piece<'a>]), Refusal<'p, 'a>> {
+    let mut out = Vec::new(alloc);
+    let mut frames = Vec::new(alloc);
+    frames.push(Frame::Body)?;
+    match steps(scope, &mut frames, &mut out, pieces) {
+        Ok(rest) => Ok((out, rest)),
+        Err(refusal) => Err(refusal),
+    }
+}
+
+/// The same, until nothing is open. In a loop: no depth of the text is a depth of the stack.
+///
+/// # Proved
+///
+/// ```text
+/// ensures { MatchResult result
+/// (λ r. RunsTo (scope_of scope.now) (stack frames.old.items) (map terminal pieces.now) out.old.items out.new.items (map terminal r.now))
+/// (λ e. RunsInto (scope_of scope.now) (stack frames.old.items) (map terminal pieces.now) e) }
+/// ```
+fn steps<'p, 'a>(
+    scope: &Scope<'_, 'p>,
+    frames: &mut Vec<Frame<'p>>,
+    out: &mut Vec<Instruction>,
+    pieces: &'p [Piece<'a>],
+) -> Result<&'p [Piece<'a>], Refusal<'p, 'a>> {
+    let mut left = Left { pieces };
+    'open: loop {
+        match frames.pop() {
+            Some(frame) => match step_on(scope, frame, frames, out, left) {
+                Ok(next) => {
+                    left = next;
+                }
+                Err(refusal) => return Err(refusal),
+            },
+            None => return Ok(left.pieces),
+        }
+    }
+}
+
+/// What is left to read.
+#[derive(Clone, Copy)]
+struct Left<'p, 'a> {
+    pieces: &'p [Piece<'a>],
+}
+
+/// A step.
+///
+/// # Proved
+///
+/// ```text
+/// ensures { MatchResult result
+/// (λ r. Stepped (spec.step (scope_of scope.now) (part frame.entry) (stack frames.old.items) (map terminal left.entry.pieces.now)) out.old.items out.new.items (stack frames.new.items) (map terminal r.pieces.now))
+/// (λ e. Faults (spec.step (scope_of scope.now) (part frame.entry) (stack frames.old.items) (map terminal left.entry.pieces.now)) e) }
+/// ```
+fn step_on<'p, 'a>(
+    scope: &Scope<'_, 'p>,
+    frame: Frame<'p>,
+    frames: &mut Vec<Frame<'p>>,
+    out: &mut Vec<Instruction>,
+    left: Left<'p, 'a>,
+) -> Result<Left<'p, 'a>, Refusal<'p, 'a>> {
+    match step(scope, frame, frames, out, left.pieces) {
+        Ok(pieces) => Ok(Left { pieces }),
+        Err(refusal) => Err(refusal),
+    }
+}
+
+/// One step: what comes next in what is open, or what closes it. It takes a token.
+///
+/// # Proved
+///
+/// ```text
+/// ensures { MatchResult result
+/// (λ r. Stepped (spec.step (scope_of scope.now) (part frame.entry) (stack frames.old.items) (map terminal pieces.now)) out.old.items out.new.items (stack frames.new.items) (map terminal r.now))
+/// (λ e. Faults (spec.step (scope_of scope.now) (part frame.entry) (stack frames.old.items) (map terminal pieces.now)) e) }
+/// ```
+fn step<'p, 'a>(
+    scope: &Scope<'_, 'p>,
+    frame: Frame<'p>,
+    frames: &mut Vec<Frame<'p>>,
+    out: &mut Vec<Instruction>,
+    pieces: &'p [Piece<'a>],
+) -> Result<&'p [Piece<'a>], Refusal<'p, 'a>> {
+    match pieces {
+        [Piece::Open, rest @ ..] => folded(scope, frame, frames, out, rest),
+        [Piece::Close, rest @ ..] => closed(frame, frames, out, pieces, rest),
+        [Piece::Word(word), rest @ ..] => at_word(scope, frame, frames, out, word, pieces, rest),
+        [
+            Piece::Id(_) | Piece::Integer(_, _) | Piece::Text(_) | Piece::Other,
+            ..,
+        ] => Err(Refusal::Text(Fault {
+            kind: FaultKind::Unexpected,
+            left: pieces,
+        })),
+        [] => Err(Refusal::Text(Fault {
+            kind: FaultKind::Unexpected,
+            left: pieces,
+        })),
+    }
+}
+
+/// At `)`: what the part that it closes leaves.
+///
+/// # Proved
+///
+/// ```text
+/// ensures { MatchResult result
+/// (λ r. Stepped (spec.close_step (part frame.entry) (map terminal pieces.now) (map terminal rest.now) (stack frames.old.items)) out.old.items out.new.items (stack frames.new.items) (map terminal r.now))
+/// (λ e. Faults (spec.close_step (part frame.entry) (map terminal pieces.now) (map terminal rest.now) (stack frames.old.items)) e) }
+/// ```
+fn closed<'p, 'a>(
+    frame: Frame<'p>,
+    frames: &mut Vec<Frame<'p>>,
+    out: &mut Vec<Instruction>,
+    pieces: &'p [Piece<'a>],
+    rest: &'p [Piece<'a>],
+) -> Result<&'p [Piece<'a>], Refusal<'p, 'a>> {
+    match frame {
+        Frame::Body => Ok(rest),
+        Frame::Group(_) => {
+            out.push(END)?;
+            Ok(rest)
+        }
+        Frame::Operands(instruction) => {
+            out.push(instruction)?;
+            Ok(rest)
+        }
+        Frame::Then(label) => after_then(label, frames, out, rest),
+        Frame::Else(_) => after_else(frames, out, rest),
+        Frame::Block(_, _) => Err(Refusal::Text(Fault {
+            kind: FaultKind::Unexpected,
+            left: pieces,
+        })),
+        Frame::Condition(_, _) => Err(Refusal::Text(Fault {
+            kind: FaultKind::Unexpected,
+            left: pieces,
+        })),
+    }
+}
+
+/// After the `)` of `(else`: the `)` of `(if`.
+///
+/// # Proved
+///
+/// ```text
+/// ensures { MatchResult result
+/// (λ r. Stepped (spec.else_step (map terminal pieces.now) (stack frames.old.items)) out.old.items out.new.items (stack frames.new.items) (map terminal r.now))
+/// (λ e. Faults (spec.else_step (map terminal pieces.now) (stack frames.old.items)) e) }
+/// ```
+fn after_else<'p, 'a>(
+    frames: &mut Vec<Frame<'p>>,
+    out: &mut Vec<Instruction>,
+    pieces: &'p [Piece<'a>],
+) -> Result<&'p [Piece<'a>], Refusal<'p, 'a>> {
+    match pieces {
+        [Piece::Close, rest @ ..] => {
+            out.push(END)?;
+            Ok(rest)
+        }
+        [
+            Piece::Open
+            | Piece::Word(_)
+            | Piece::Id(_)
+            | Piece::Integer(_, _)
+            | Piece::Text(_)
+            | Piece::Other,
+            ..,
+        ] => Err(Refusal::Text(Fault {
+            kind: FaultKind::Unexpected,
+            left: pieces,
+        })),
+        [] => Err(Refusal::Text(Fault {
+            kind: FaultKind::Unexpected,
+            left: pieces,
+        })),
+    }
+}
+
+/// After the `)` of `(then`: the `)` of `(if`, or `(else`.
+///
+/// # Proved
+///
+/// ```text
+/// ensures { MatchResult result
+/// (λ r. Stepped (spec.then_step (terminals.label label.entry) (map terminal pieces.now) (stack frames.old.items)) out.old.items out.new.items (stack frames.new.items) (map terminal r.now))
+/// (λ e. Faults (spec.then_step (terminals.label label.entry) (map terminal pieces.now) (stack frames.old.items)) e) }
+/// ```
+fn after_then<'p, 'a>(
+    label: Name<'p>,
+    frames: &mut Vec<Frame<'p>>,
+    out: &mut Vec<Instruction>,
+    pieces: &'p [Piece<'a>],
+) -> Result<&'p [Piece<'a>], Refusal<'p, 'a>> {
+    match pieces {
+        [Piece::Close, rest @ ..] => {
+            out.push(END)?;
+            Ok(rest)
+        }
+        [Piece::Open, rest @ ..] => other_part(label, frames, out, rest),
+        [
+            Piece::Word(_) | Piece::Id(_) | Piece::Integer(_, _) | Piece::Text(_) | Piece::Other,
+            ..,
+        ] => Err(Refusal::Text(Fault {
+            kind: FaultKind::Unexpected,
+            left: pieces,
+        })),
+        [] => Err(Refusal::Text(Fault {
+            kind: FaultKind::Unexpected,
+            left: pieces,
+        })),
+    }
+}
+
+/// After `(`, after the `)` of `(then`: `else`.
+///
+/// # Proved
+///
+/// ```text
+/// ensures { MatchResult result
+/// (λ r. Stepped (spec.other_step (terminals.label label.entry) (map terminal pieces.now) (stack frames.old.items)) out.old.items out.new.items (stack frames.new.items) (map terminal r.now))
+/// (λ e. Faults (spec.other_step (terminals.label label.entry) (map terminal pieces.now) (stack frames.old.items)) e) }
+/// ```
+fn other_part<'p, 'a>(
+    label: Name<'p>,
+    frames: &mut Vec<Frame<'p>>,
+    out: &mut Vec<Instruction>,
+    pieces: &'p [Piece<'a>],
+) -> Result<&'p [Piece<'a>], Refusal<'p, 'a>> {
+    match pieces {
+        [Piece::Word(word), rest @ ..] => {
+            if reading::is_else(word) {
+                turned(label, frames, out, rest)
+            } else {
+                Err(Refusal::Text(Fault {
+                    kind: FaultKind::Unexpected,
+                    left: pieces,
+                }))
+            }
+        }
+        [
+            Piece::Open
+            | Piece::Close
+            | Piece::Id(_)
+            | Piece::Integer(_, _)
+            | Piece::Text(_)
+            | Piece::Other,
+            ..,
+        ] => Err(Refusal::Text(Fault {
+            kind: FaultKind::Unexpected,
+            left: pieces,
+        })),
+        [] => Err(Refusal::Text(Fault {
+            kind: FaultKind::Unexpected,
+            left: pieces,
+        })),
+    }
+}
+
+/// After `(else`.
+///
+/// # Proved
+///
+/// ```text
+/// ensures { MatchResult result
+/// (λ r. Stepped (spec.other_part (terminals.label label.entry) (map terminal rest.now) (stack frames.old.items)) out.old.items out.new.items (stack frames.new.items) (map terminal r.now))
+/// (λ e. Faults (spec.other_part (terminals.label label.entry) (map terminal rest.now) (stack frames.old.items)) e) }
+/// ```
+fn turned<'p, 'a>(
+    label: Name<'p>,
+    frames: &mut Vec<Frame<'p>>,
+    out: &mut Vec<Instruction>,
+    rest: &'p [Piece<'a>],
+) -> Result<&'p [Piece<'a>], Refusal<'p, 'a>> {
+    frames.push(Frame::Else(label))?;
+    out.push(ELSE)?;
+    Ok(rest)
+}
+
+/// After `(`, in a part.
+///
+/// # Proved
+///
+/// ```text
+/// ensures { MatchResult result
+/// (λ r. Stepped (spec.open_step (scope_of scope.now) (part frame.entry) (map terminal pieces.now) (stack frames.old.items)) out.old.items out.new.items (stack frames.new.items) (map terminal r.now))
+/// (λ e. Faults (spec.open_step (scope_of scope.now) (part frame.entry) (map terminal pieces.now) (stack frames.old.items)) e) }
+/// ```
+fn folded<'p, 'a>(
+    scope: &Scope<'_, 'p>,
+    frame: Frame<'p>,
+    frames: &mut Vec<Frame<'p>>,
+    out: &mut Vec<Instruction>,
+    pieces: &'p [Piece<'a>],
+) -> Result<&'p [Piece<'a>], Refusal<'p, 'a>> {
+    match pieces {
+        [Piece::Word(word), rest @ ..] => {
+            folded_word(scope, frame, frames, out, word, pieces, rest)
+        }
+        [
+            Piece::Open
+            | Piece::Close
+            | Piece::Id(_)
+            | Piece::Integer(_, _)
+            | Piece::Text(_)
+            | Piece::Other,
+            ..,
+        ] => Err(Refusal::Text(Fault {
+            kind: FaultKind::Unexpected,
+            left: pieces,
+        })),
+        [] => Err(Refusal::Text(Fault {
+            kind: FaultKind::Unexpected,
+            left: pieces,
+        })),
+    }
+}
+
+/// At a word after `(`: `then`, or a folded instruction.
+///
+/// # Proved
+///
+/// ```text
+/// ensures { MatchResult result
+/// (λ r. Stepped (spec.folded_by (scope_of scope.now) (part frame.entry) word.now (map terminal pieces.now) (map terminal rest.now) (stack frames.old.items)) out.old.items out.new.items (stack frames.new.items) (map terminal r.now))
+/// (λ e. Faults (spec.folded_by (scope_of scope.now) (part frame.entry) word.now (map terminal pieces.now) (map terminal rest.now) (stack frames.old.items)) e) }
+/// ```
+fn folded_word<'p, 'a>(
+    scope: &Scope<'_, 'p>,
+    frame: Frame<'p>,
+    frames: &mut Vec<Frame<'p>>,
+    out: &mut Vec<Instruction>,
+    word: &str,
+    pieces: &'p [Piece<'a>],
+    rest: &'p [Piece<'a>],
+) -> Result<&'p [Piece<'a>], Refusal<'p, 'a>> {
+    match frame {
+        Frame::Condition(instruction, label) => {
+            if reading::is_then(word) {
+                frames.push(Frame::Then(label))?;
+                out.push(instruction)?;
+                return Ok(rest);
+            }
+            frames.push(frame)?;
+            folded_instruction(scope, frames, out, word, pieces, rest)
+        }
+        Frame::Body
+        | Frame::Block(_, _)
+        | Frame::Group(_)
+        | Frame::Operands(_)
+        | Frame::Then(_)
+        | Frame::Else(_) => {
+            frames.push(frame)?;
+            folded_instruction(scope, frames, out, word, pieces, rest)
+        }
+    }
+}
+
+/// A folded instruction, which begins with a word.
+///
+/// # Proved
+///
+/// ```text
+/// ensures { MatchResult result
+/// (λ r. Stepped (spec.open_by (scope_of scope.now) (structured word.now) (map terminal pieces.now) (map terminal rest.now) (stack frames.old.items)) out.old.items out.new.items (stack frames.new.items) (map terminal r.now))
+/// (λ e. Faults (spec.open_by (scope_of scope.now) (structured word.now) (map terminal pieces.now) (map terminal rest.now) (stack frames.old.items)) e) }
+/// ```
+fn folded_instruction<'p, 'a>(
+    scope: &Scope<'_, 'p>,
+    frames: &mut Vec<Frame<'p>>,
+    out: &mut Vec<Instruction>,
+    word: &str,
+    pieces: &'p [Piece<'a>],
+    rest: &'p [Piece<'a>],
+) -> Result<&'p [Piece<'a>], Refusal<'p, 'a>> {
+    match reading::structured(word) {
+        Some(opcode) => folded_block(frames, out, opcode, rest),
+        None => {
+            let (instruction, rest) = reading::plain(scope, frames, pieces)?;
+            frames.push(Frame::Operands(instruction))?;
+            Ok(rest)
+        }
+    }
+}
+
+/// A folded block, after its word.
+///
+/// # Proved
+///
+/// ```text
+/// ensures { MatchResult result
+/// (λ r. Stepped (spec.open_block opcode (map terminal pieces.now) (stack frames.old.items)) out.old.items out.new.items (stack frames.new.items) (map terminal r.now))
+/// (λ e. Faults (spec.open_block opcode (map terminal pieces.now) (stack frames.old.items)) e) }
+/// ```
+fn folded_block<'p, 'a>(
+    frames: &mut Vec<Frame<'p>>,
+    out: &mut Vec<Instruction>,
+    opcode: u8,
+    pieces: &'p [Piece<'a>],
+) -> Result<&'p [Piece<'a>], Refusal<'p, 'a>> {
+    let (label, rest) = reading::label(pieces);
+    let (argument, rest) = reading::block_type(rest)?;
+    let instruction = Instruction { opcode, argument };
+    if opcode == IF {
+        frames.push(Frame::Condition(instruction, label))?;
+        return Ok(rest);
+    }
+    frames.push(Frame::Group(label))?;
+    out.push(instruction)?;
+    Ok(rest)
+}
+
+/// At a word: `end`, `else`, or an instruction.
+///
+/// # Proved
+///
+/// ```text
+/// ensures { MatchResult result
+/// (λ r. Stepped (spec.word_step (scope_of scope.now) (part frame.entry) word.now (map terminal pieces.now) (map terminal rest.now) (stack frames.old.items)) out.old.items out.new.items (stack frames.new.items) (map terminal r.now))
+/// (λ e. Faults (spec.word_step (scope_of scope.now) (part frame.entry) word.now (map terminal pieces.now) (map terminal rest.now) (stack frames.old.items)) e) }
+/// ```
+fn at_word<'p, 'a>(
+    scope: &Scope<'_, 'p>,
+    frame: Frame<'p>,
+    frames: &mut Vec<Frame<'p>>,
+    out: &mut Vec<Instruction>,
+    word: &str,
+    pieces: &'p [Piece<'a>],
+    rest: &'p [Piece<'a>],
+) -> Result<&'p [Piece<'a>], Refusal<'p, 'a>> {
+    match frame {
+        Frame::Operands(_) => Err(Refusal::Text(Fault {
+            kind: FaultKind::Unexpected,
+            left: pieces,
+        })),
+        Frame::Condition(_, _) => Err(Refusal::Text(Fault {
+            kind: FaultKind::Unexpected,
+            left: pieces,
+        })),
+        Frame::Block(may_turn, label) => {
+            if reading::is_end(word) {
+                let rest = reading::end_label(label, rest)?;
+                out.push(END)?;
+                return Ok(rest);
+            }
+            if may_turn && reading::is_else(word) {
+                let rest = reading::end_label(label, rest)?;
+                frames.push(Frame::Block(false, label))?;
+                out.push(ELSE)?;
+                return Ok(rest);
+            }
+            frames.push(frame)?;
+            instruction(scope, frames, out, word, pieces, rest)
+        }
+        Frame::Body | Frame::Group(_) | Frame::Then(_) | Frame::Else(_) => {
+            frames.push(frame)?;
+            instruction(scope, frames, out, word, pieces, rest)
+        }
+    }
+}
+
+/// An instruction that is not folded, which begins with a word.
+///
+/// # Proved
+///
+/// ```text
+/// ensures { MatchResult result
+/// (λ r. Stepped (spec.word_by (scope_of scope.now) (structured word.now) (map terminal pieces.now) (map terminal rest.now) (stack frames.old.items)) out.old.items out.new.items (stack frames.new.items) (map terminal r.now))
+/// (λ e. Faults (spec.word_by (scope_of scope.now) (structured word.now) (map terminal pieces.now) (map terminal rest.now) (stack frames.old.items)) e) }
+/// ```
+fn instruction<'p, 'a>(
+    scope: &Scope<'_, 'p>,
+    frames: &mut Vec<Frame<'p>>,
+    out: &mut Vec<Instruction>,
+    word: &str,
+    pieces: &'p [Piece<'a>],
+    rest: &'p [Piece<'a>],
+) -> Result<&'p [Piece<'a>], Refusal<'p, 'a>> {
+    match reading::structured(word) {
+        Some(opcode) => {
+            let (label, rest) = reading::label(rest);
+            let (argument, rest) = reading::block_type(rest)?;
+            frames.push(Frame::Block(opcode == IF, label))?;
+            out.push(Instruction { opcode, argument })?;
+            Ok(rest)
+        }
+        None => {
+            let (instruction, rest) = reading::plain(scope, frames, pieces)?;
+            out.push(instruction)?;
+            Ok(rest)
+        }
+    }
+}

@@ -1,0 +1,149 @@
+// Made by tools/erase from crates/wat_instructions/src/pieces.rt; do not edit.
+//! What is read, and what comes of it.
+
+use wat_lex::shim::prelude::*;
+use wat_lex::shim::alloc::{AllocError, AllocFailed};
+
+/// The sign that an integer begins with.
+#[derive(Clone, Copy)]
+pub enum Sign {
+    Absent,
+    Plus,
+    Minus,
+}
+
+/// A token that counts, with its value.
+#[derive(Clone, Copy)]
+pub enum Piece<'a> {
+    Open,
+    Close,
+    /// A keyword.
+    Word(&'a str),
+    /// An identifier, by its name without `$`.
+    Id(&'a str),
+    /// An integer below 2^64 in size.
+    Integer(Sign, u64),
+    /// A string, by its value.
+    Text(&'a [u8]),
+    /// Any other token: no rule takes it.
+    Other,
+}
+
+/// The name of a label, a local variable or another item, where it has one.
+#[derive(Clone, Copy)]
+pub enum Name<'p> {
+    Given(&'p str),
+    Absent,
+}
+
+impl Name<'_> {
+    /// Whether it is this name.
+    ///
+    /// # Proved
+    ///
+    /// ```text
+    /// ensures { result ≡ is_name name.now (label self.entry) }
+    /// ```
+    pub fn is(self, name: &str) -> bool {
+        match self {
+            Name::Given(given) => given == name,
+            Name::Absent => false,
+        }
+    }
+}
+
+/// A number type.
+#[derive(Clone, Copy, PartialEq, Eq)]
+pub enum ValueType {
+    I32,
+    I64,
+    F32,
+    F64,
+}
+
+/// The immediate of an instruction.
+#[derive(Clone, Copy)]
+pub enum Argument {
+    Nothing,
+    Index(usize),
+    I32(i32),
+    I64(i64),
+    /// The type of a block: one result, or none.
+    Block(Option<ValueType>),
+    /// A memory argument of offset 0, by the exponent of its alignment.
+    Memory(u8),
+    /// A byte 0.
+    Zero,
+}
+
+/// An instruction of the binary format, where `end` and `else` are two.
+#[derive(Clone, Copy)]
+pub struct Instruction {
+    pub opcode: u8,
+    pub argument: Argument,
+}
+
+/// What is open: the body; `block .. end`, and whether `else` may come in it; `(block ..)`; an
+/// instruction that waits for its operands; an `if` that waits for its condition; and its two parts
+/// in parentheses.
+#[derive(Clone, Copy)]
+pub enum Frame<'p> {
+    Body,
+    Block(bool, Name<'p>),
+    Group(Name<'p>),
+    Operands(Instruction),
+    Condition(Instruction, Name<'p>),
+    Then(Name<'p>),
+    Else(Name<'p>),
+}
+
+/// What is wrong with a text.
+#[derive(Clone, Copy)]
+pub enum FaultKind {
+    /// A token that no rule takes here, or the end.
+    Unexpected,
+    /// A keyword that is no instruction, or no number type.
+    UnknownWord,
+    /// An identifier that nothing has.
+    UnknownName,
+    /// The label after `end` or `else` is not that of its block.
+    WrongLabel,
+    /// A number that its type does not hold.
+    OutOfRange,
+    /// A name that is not UTF-8.
+    NotUtf8,
+    /// Two items of one kind with the same identifier.
+    Duplicate,
+}
+
+/// Why a text is refused, and the tokens from the one where that is.
+#[derive(Clone, Copy)]
+pub struct Fault<'p, 'a> {
+    pub kind: FaultKind,
+    pub left: &'p [Piece<'a>],
+}
+
+/// Why nothing is answered: the text is refused, or out of memory.
+#[derive(Clone, Copy)]
+pub enum Refusal<'p, 'a> {
+    Text(Fault<'p, 'a>),
+    Memory(AllocError),
+}
+
+impl<'p, 'a> From<AllocError> for Refusal<'p, 'a> {
+    fn from(refused: AllocError) -> Refusal<'p, 'a> {
+        Refusal::Memory(refused)
+    }
+}
+
+impl<'p, 'a, T> From<AllocFailed<T>> for Refusal<'p, 'a> {
+    fn from(failed: AllocFailed<T>) -> Refusal<'p, 'a> {
+        Refusal::Memory(AllocError::from(failed))
+    }
+}
+
+impl<'p, 'a> From<Fault<'p, 'a>> for Refusal<'p, 'a> {
+    fn from(fault: Fault<'p, 'a>) -> Refusal<'p, 'a> {
+        Refusal::Text(fault)
+    }
+}

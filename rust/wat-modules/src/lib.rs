@@ -1,0 +1,71 @@
+//! WebAssembly modules from text to bytes, by a proved compiler.
+//!
+//! ```
+//! let bytes = wat_modules::parse_str("(module (func (export \"one\") (result i32) i32.const 1))")?;
+//! assert_eq!(bytes[..8], *b"\0asm\x01\0\0\0");
+//! assert!(bytes.ends_with(b"\x41\x01\x0b"));
+//!
+//! let error = wat_modules::parse_str("(module (func\n  frob))").unwrap_err();
+//! assert_eq!((error.message().as_str(), error.span().offset()), ("unknown keyword", 16));
+//! assert_eq!(
+//!     error.to_string(),
+//!     "unknown keyword\n     --> <anon>:2:3\n      |\n    2 |   frob))\n      |   ^"
+//! );
+//! # Ok::<(), wat_modules::Error>(())
+//! ```
+//!
+//! It takes the modules that [`parse_str`] names: as yet those that hold nothing but functions. Any other text is refused with its place.
+//!
+//! The crate is `no_std` with `alloc`. The feature `std`, which is on unless it is turned off, has `Error::set_path`.
+#![no_std]
+#![warn(missing_docs)]
+#![forbid(unsafe_code)]
+
+extern crate alloc;
+
+// Proofs name loops, contracts speak of parameters and fields that the code leaves alone, and each file imports the shim's names, of which it
+// may need none. Clippy's advice on style is for text that is written in Rust.
+macro_rules! made {
+    ($($module:ident)*) => {$(
+        #[allow(dead_code, missing_docs, unused_imports, unused_labels, unused_variables)]
+        #[allow(clippy::style, clippy::complexity, clippy::pedantic)]
+        mod $module;
+    )*};
+}
+
+made! { fields instructions pieces proved }
+
+use alloc::format;
+use alloc::vec::Vec;
+use wat_lex::shim::alloc::Global;
+pub use wat_lex::{Error, Span};
+
+/// The bytes of the module that a text spells, in WebAssembly's binary format.
+///
+/// As yet a module is `(module $name? function..)`. A function has its name, inline exports, parameters, results and local variables of the types
+/// `i32`, `i64`, `f32` and `f64`, and instructions, plain, in blocks and folded: those of WebAssembly 1.0 and the sign extensions, but for
+/// `br_table`, `call_indirect`, constants that are floats, and offsets and alignments of memory. Blocks have at most one result.
+///
+/// Where the text is such a module the answer is its bytes; where it is none, an error: both are proved of the text that this function is made of. A
+/// text spells one module at most. That the module is valid is not promised: no type of an operand is checked. There is no section of names.
+///
+/// # Errors
+///
+/// The lexer's, or that of the first token that no rule takes: an unknown word or name, a number out of range, any other. Two functions of one name
+/// are refused after the module's own name, two variables of one name after the last of them. A text or a module of more than `u32::MAX` bytes is
+/// refused at the text's start. Or memory was refused. An error has its place, and prints the line of it.
+pub fn parse_str(text: impl AsRef<str>) -> Result<Vec<u8>, Error> {
+    let text = text.as_ref();
+    // `requires` of `proved::compile`.
+    if u32::try_from(text.len()).is_err() {
+        let message = format!("the text has more than {} bytes", u32::MAX);
+        return Err(Error::new(Span::from_offset(0), message));
+    }
+    let bytes = proved::compile(Global, text)?;
+    Ok(bytes.into())
+}
+
+/// The examples of the README, as tests.
+#[cfg(doctest)]
+#[doc = include_str!("../README.md")]
+struct Readme;

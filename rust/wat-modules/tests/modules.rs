@@ -1,0 +1,151 @@
+//! Texts with the bytes that the standard's chapters give them, texts that are refused, and texts that are deep.
+
+use std::thread;
+use wat_modules::parse_str;
+
+/// What each module begins with.
+const HEADER: &[u8] = b"\0asm\x01\0\0\0";
+
+/// A module of one function without parameters: its body, and the bytes of that in the code section.
+const BODIES: [(&str, &[u8]); 5] = [
+    ("", b"\x00\x0b"),
+    (
+        "(if (result i32) (i32.const 1) (then (i32.const 2)) (else (i32.const -3))) drop",
+        b"\x00\x41\x01\x04\x7f\x41\x02\x05\x41\x7d\x0b\x1a\x0b",
+    ),
+    // An `else` with nothing after it is an instruction too.
+    (
+        "(if (i32.const 1) (then) (else))",
+        b"\x00\x41\x01\x04\x40\x05\x0b\x0b",
+    ),
+    (
+        "(local i32 i32) (local $z i32 ) (local i64) block $a br $a end",
+        b"\x02\x03\x7f\x01\x7e\x02\x40\x0c\x00\x0b\x0b",
+    ),
+    (
+        "i64.const 0xffff_ffff_ffff_ffff loop $l (block $m (br $l) (br 0)) end $l",
+        b"\x00\x42\x7f\x03\x40\x02\x40\x0c\x01\x0c\x00\x0b\x0b\x0b",
+    ),
+];
+
+#[test]
+fn functions_have_their_bytes() {
+    for (body, bytes) in BODIES {
+        let length = u8::try_from(bytes.len()).unwrap();
+        let sections = b"\x01\x04\x01\x60\x00\x00\x03\x02\x01\x00\x0a";
+        let code = [&[length + 2, 1, length], bytes].concat();
+        let text = format!("(module (func {body}))");
+        assert_eq!(
+            parse_str(&text).unwrap(),
+            [HEADER, sections, &code].concat(),
+            "{text}"
+        );
+    }
+}
+
+#[test]
+fn modules_have_their_bytes() {
+    assert_eq!(parse_str("(module)").unwrap(), HEADER);
+    let text = "(module $m (func (export \"a\") (param $x i32) (result i32) local.get $x))";
+    let sections = b"\x01\x06\x01\x60\x01\x7f\x01\x7f\x03\x02\x01\x00\x07\x05\x01\x01a\x00\x00\x0a\x06\x01\x04\x00\x20\x00\x0b";
+    assert_eq!(
+        parse_str(String::from(text)).unwrap(),
+        [HEADER, sections].concat()
+    );
+}
+
+#[test]
+fn refusals_have_their_place() {
+    let rows = [
+        ("", "unexpected token", 0),
+        ("(module) x", "unexpected token", 9),
+        ("(module (func nop)", "unexpected token", 18),
+        ("(module (memory 1))", "unknown keyword", 9),
+        ("(module (func frob))", "unknown keyword", 14),
+        ("(module (func call $f))", "unknown identifier", 19),
+        ("(module (func block $a end $b))", "mismatching label", 27),
+        (
+            "(module (func i32.const 4294967296))",
+            "number out of range",
+            24,
+        ),
+        ("(module (func $f) (func $f))", "duplicate identifier", 8),
+        (
+            "(module (func (param $x i32) (local $x i32) nop))",
+            "duplicate identifier",
+            44,
+        ),
+        ("(module (func (export \"\\ff\")))", "name is not UTF-8", 22),
+        // Faults of the lexer.
+        ("(module (func \"", "unexpected end-of-file", 15),
+        ("(module (; ", "unterminated block comment", 8),
+    ];
+    for (text, message, place) in rows {
+        let error = parse_str(text).expect_err(text);
+        assert_eq!(
+            (error.message().as_str(), error.span().offset()),
+            (message, place),
+            "{text}"
+        );
+    }
+    let error = parse_str("(module\n  (func nop) ?)").unwrap_err();
+    assert_eq!(
+        error.to_string(),
+        "unexpected token\n     --> <anon>:2:14\n      |\n    2 |   (func nop) ?)\n      |              ^"
+    );
+    assert!(!error.is_out_of_memory());
+}
+
+/// A text of more than `u32::MAX` bytes, none of which is ever written.
+#[cfg(target_pointer_width = "64")]
+#[test]
+fn a_text_that_is_too_long_is_refused() {
+    let text = String::from_utf8(vec![0; 1 << 32]).unwrap();
+    let message = "the text has more than 4294967295 bytes at byte offset 0";
+    assert_eq!(parse_str(&text).unwrap_err().to_string(), message);
+}
+
+/// What is run on a stack of 64 KiB.
+fn on_a_small_stack(run: impl FnOnce() + Send + 'static) {
+    let thread = thread::Builder::new().stack_size(0x1_0000).spawn(run);
+    thread.unwrap().join().unwrap();
+}
+
+#[test]
+fn no_depth_of_the_text_is_a_depth_of_the_stack() {
+    const DEPTH: usize = 100_000;
+    on_a_small_stack(|| {
+        let blocks = format!(
+            "(module (func {}{}))",
+            "block ".repeat(DEPTH),
+            "end ".repeat(DEPTH)
+        );
+        let bytes = parse_str(&blocks).unwrap();
+        let body = [b"\x02\x40".repeat(DEPTH), b"\x0b".repeat(DEPTH + 1)].concat();
+        assert!(bytes.ends_with(&body));
+        assert!(parse_str(&blocks[..blocks.len() - 3]).is_err());
+
+        let folded = format!(
+            "(module (func {}(i32.const 7){}))",
+            "(i32.eqz ".repeat(DEPTH),
+            ")".repeat(DEPTH)
+        );
+        let bytes = parse_str(&folded).unwrap();
+        assert!(bytes.ends_with(&[b"\x41\x07", &*b"\x45".repeat(DEPTH), b"\x0b"].concat()));
+        assert!(parse_str(&folded[..folded.len() - 2]).is_err());
+    });
+}
+
+#[test]
+fn prefixes_are_answered() {
+    let function = "(func $fN (export \"é N\") (param $x i32) (result i64) (local f32 f64)\n \
+        (block $a (br_if $a (local.get $x)) ;; one\n (call $fN (i32.const -0x1_0))) (; two ;) drop i64.const 5)\n";
+    let functions = (0..12).map(|at| function.replace('N', &at.to_string()));
+    let text = format!("(module {})", functions.collect::<String>());
+    assert!(text.len() > 2000, "{} bytes", text.len());
+    for end in (0..text.len()).filter(|end| text.is_char_boundary(*end)) {
+        let error = parse_str(&text[..end]).expect_err("a part of a module");
+        assert!(error.span().offset() <= end, "{end}");
+    }
+    assert!(parse_str(&text).is_ok());
+}
