@@ -74,8 +74,11 @@ class Body:
         return made
 
     def head(self, label):
-        of = self.rng.choice([[], [], ["(", "result", self.rng.choice(TYPES), ")"]])
-        return ([label] if label else []) + of
+        """The label and the type of a block, among groups that list nothing."""
+        rng = self.rng
+        of = rng.choice([[], [], ["(", "result", rng.choice(TYPES), ")"]])
+        before = ["(", "param", ")"] * rng.choice([0, 0, 0, 1, 2]) + ["(", "result", ")"] * rng.choice([0, 0, 0, 1])
+        return ([label] if label else []) + before + of + ["(", "result", ")"] * rng.choice([0, 0, 0, 1])
 
     def tail(self, label):
         return [label] if label and self.rng.random() < 0.3 else []

@@ -12,7 +12,7 @@ use Rattle.wat_instructions.specs.declared.table.Immediate.{Immediate}
 use Rattle.wat_instructions.specs.declared.table.Immediate.TheVariants as immediate
 use Rattle.wat_instructions.specs.Table.{Mnemonic, found, mnemonics}
 use Rattle.wat_instructions.specs.Terminals.{Terminal, Open, Close, Word, Id, Integer, Text, Other, Label}
-use Rattle.wat_instructions.specs.Grammar.{Env, Fault, Instructions, plain, label_of, end_label, block_type}
+use Rattle.wat_instructions.specs.Grammar.{Env, Fault, Instructions, plain, label_of, end_label, after_empty, result_type, block_type}
 use Rattle.wat_instructions.specs.Grammar as grammar
 use Rattle.wat_instructions.specs.Law.{InstructionsAreBalanced, InstructionsTakeTokens, past}
 
@@ -172,8 +172,37 @@ end_keeps l (Other ∷ ts) = stay (Other ∷ ts)
 pub end_passes : (l : Label) (ts us : List Terminal) → end_label l ts ≡ Ok us → Passes ts us
 end_passes l ts us e = let K : Result (List Terminal) Fault → Type 0 = λ q. KeepsAll q ts in subst K e (end_keeps l ts)
 
+empty_by : (b : Bool) (word w : List ℕ) (ts : List Terminal) → Passes ts (after_empty word ts) → Passes (Open ∷ Word w ∷ Close ∷ ts) (if b then after_empty word ts else Open ∷ Word w ∷ Close ∷ ts)
+empty_by true word w ts h = record { short = omega (arith, h.short); same = h.same }
+empty_by false word w ts h = stay (Open ∷ Word w ∷ Close ∷ ts)
+
+pub empty_passes : (word : List ℕ) (ts : List Terminal) → Passes ts (after_empty word ts)
+unfolding after_empty
+empty_passes word (Open ∷ Word w ∷ Close ∷ ts) = empty_by (bytes_eq w word) word w ts (empty_passes word ts)
+empty_passes word [] = stay []
+empty_passes word (Open ∷ Word w ∷ []) = stay (Open ∷ Word w ∷ [])
+empty_passes word (Open ∷ Word w ∷ Open ∷ ts) = stay (Open ∷ Word w ∷ Open ∷ ts)
+empty_passes word (Open ∷ Word w ∷ Word v ∷ ts) = stay (Open ∷ Word w ∷ Word v ∷ ts)
+empty_passes word (Open ∷ Word w ∷ Id x ∷ ts) = stay (Open ∷ Word w ∷ Id x ∷ ts)
+empty_passes word (Open ∷ Word w ∷ Integer s n ∷ ts) = stay (Open ∷ Word w ∷ Integer s n ∷ ts)
+empty_passes word (Open ∷ Word w ∷ Text v ∷ ts) = stay (Open ∷ Word w ∷ Text v ∷ ts)
+empty_passes word (Open ∷ Word w ∷ Other ∷ ts) = stay (Open ∷ Word w ∷ Other ∷ ts)
+empty_passes word (Open ∷ []) = stay (Open ∷ [])
+empty_passes word (Open ∷ Open ∷ ts) = stay (Open ∷ Open ∷ ts)
+empty_passes word (Open ∷ Close ∷ ts) = stay (Open ∷ Close ∷ ts)
+empty_passes word (Open ∷ Id x ∷ ts) = stay (Open ∷ Id x ∷ ts)
+empty_passes word (Open ∷ Integer s n ∷ ts) = stay (Open ∷ Integer s n ∷ ts)
+empty_passes word (Open ∷ Text v ∷ ts) = stay (Open ∷ Text v ∷ ts)
+empty_passes word (Open ∷ Other ∷ ts) = stay (Open ∷ Other ∷ ts)
+empty_passes word (Close ∷ ts) = stay (Close ∷ ts)
+empty_passes word (Word v ∷ ts) = stay (Word v ∷ ts)
+empty_passes word (Id x ∷ ts) = stay (Id x ∷ ts)
+empty_passes word (Integer s n ∷ ts) = stay (Integer s n ∷ ts)
+empty_passes word (Text v ∷ ts) = stay (Text v ∷ ts)
+empty_passes word (Other ∷ ts) = stay (Other ∷ ts)
+
 close_type_ends : (t : ValueType) (ts : List Terminal) → Closing (grammar.close_type t ts) ts
-close_type_ends t (Close ∷ ts) = record { short = omega arith; same = λ d. refl }
+close_type_ends t (Close ∷ ts) = let h = empty_passes (codes "result") ts in record { short = omega (arith, h.short); same = h.same }
 close_type_ends t [] = tt
 close_type_ends t (Open ∷ ts) = tt
 close_type_ends t (Word v ∷ ts) = tt
@@ -218,16 +247,16 @@ type_by_keeps (Integer s n ∷ ts) = stay (Open ∷ Integer s n ∷ ts)
 type_by_keeps (Text v ∷ ts) = stay (Open ∷ Text v ∷ ts)
 type_by_keeps (Other ∷ ts) = stay (Open ∷ Other ∷ ts)
 
-block_type_keeps : (ts : List Terminal) → Keeps (block_type ts) ts
-unfolding block_type
-block_type_keeps (Open ∷ ts) = type_by_keeps ts
-block_type_keeps [] = stay []
-block_type_keeps (Close ∷ ts) = stay (Close ∷ ts)
-block_type_keeps (Word w ∷ ts) = stay (Word w ∷ ts)
-block_type_keeps (Id x ∷ ts) = stay (Id x ∷ ts)
-block_type_keeps (Integer s n ∷ ts) = stay (Integer s n ∷ ts)
-block_type_keeps (Text v ∷ ts) = stay (Text v ∷ ts)
-block_type_keeps (Other ∷ ts) = stay (Other ∷ ts)
+result_type_keeps : (ts : List Terminal) → Keeps (result_type ts) ts
+unfolding result_type
+result_type_keeps (Open ∷ ts) = type_by_keeps ts
+result_type_keeps [] = stay []
+result_type_keeps (Close ∷ ts) = stay (Close ∷ ts)
+result_type_keeps (Word w ∷ ts) = stay (Word w ∷ ts)
+result_type_keeps (Id x ∷ ts) = stay (Id x ∷ ts)
+result_type_keeps (Integer s n ∷ ts) = stay (Integer s n ∷ ts)
+result_type_keeps (Text v ∷ ts) = stay (Text v ∷ ts)
+result_type_keeps (Other ∷ ts) = stay (Other ∷ ts)
 
 pub on : (ts us vs : List Terminal) → Passes ts us → Passes us vs → Passes ts vs
 on ts us vs h k = record { short = omega (arith, h.short, k.short); same = λ d. h.same d ∙ k.same d }
@@ -235,6 +264,11 @@ on ts us vs h k = record { short = omega (arith, h.short, k.short); same = λ d.
 on_keeps : {A : Type 0} (q : Result (A × List Terminal) Fault) (ts us : List Terminal) → Passes ts us → Keeps q us → Keeps q ts
 on_keeps (Ok (a, vs)) ts us h k = on ts us vs h k
 on_keeps (Err f) ts us h k = tt
+
+block_type_keeps : (ts : List Terminal) → Keeps (block_type ts) ts
+block_type_keeps ts =
+    let us = after_empty (codes "param") ts in
+    on_keeps (block_type ts) ts us (empty_passes (codes "param") ts) (on_keeps (block_type ts) us (after_empty (codes "result") us) (empty_passes (codes "result") us) (result_type_keeps (after_empty (codes "result") us)))
 
 -- the label and the type of a block
 pub head_keeps : (ts : List Terminal) → Keeps (block_type (label_of ts).1) ts

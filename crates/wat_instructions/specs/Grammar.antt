@@ -136,9 +136,19 @@ abbrev pub value_type : List ℕ → Option ValueType
 value_type w =
     if bytes_eq w (codes "i32") then Some value.I32 else if bytes_eq w (codes "i64") then Some value.I64 else if bytes_eq w (codes "f32") then Some value.F32 else if bytes_eq w (codes "f64") then Some value.F64 else None
 
+-- the tokens after `)`, where these begin with it
+abbrev pub closed : List Terminal → Option (List Terminal)
+closed (Close ∷ ts) = Some ts
+closed ts = None
+
+-- 6.4.5: a group of this word that lists nothing is an abbreviation of nothing. The tokens after all such groups
+unfoldable pub after_empty : List ℕ → List Terminal → List Terminal
+after_empty word (Open ∷ Word w ∷ Close ∷ ts) = if bytes_eq w word then after_empty word ts else Open ∷ Word w ∷ Close ∷ ts
+after_empty word ts = ts
+
 -- `)` after a value type
 abbrev pub close_type : ValueType → List Terminal → Result (Argument × List Terminal) Fault
-close_type t (Close ∷ ts) = Ok (argument.Block (Some t), ts)
+close_type t (Close ∷ ts) = Ok (argument.Block (Some t), after_empty (codes "result") ts)
 close_type t ts = Err (Unexpected, ts)
 
 abbrev pub closed_type : Option ValueType → List Terminal → List Terminal → Result (Argument × List Terminal) Fault
@@ -155,10 +165,15 @@ abbrev pub type_by : List Terminal → List Terminal → Result (Argument × Lis
 type_by (Word w ∷ ts) all = if bytes_eq w (codes "result") then one_type ts else Ok (argument.Block None, all)
 type_by ts all = Ok (argument.Block None, all)
 
--- 6.5.2: blocktype = (result valtype) or nothing. Types with parameters, with other than one result, or by their index are left out here.
-unfoldable pub block_type : List Terminal → Result (Argument × List Terminal) Fault
-block_type (Open ∷ ts) = type_by ts (Open ∷ ts)
-block_type ts = Ok (argument.Block None, ts)
+-- one result, or none; and groups of results that list nothing
+unfoldable pub result_type : List Terminal → Result (Argument × List Terminal) Fault
+result_type (Open ∷ ts) = type_by ts (Open ∷ ts)
+result_type ts = Ok (argument.Block None, ts)
+
+-- 6.5.2: blocktype = (result valtype) or nothing, or a type use (6.6.3), which is param* result*. Those that bring no parameter and at most one result:
+-- others, and types by their index, are left out here.
+abbrev pub block_type : List Terminal → Result (Argument × List Terminal) Fault
+block_type ts = result_type (after_empty (codes "result") (after_empty (codes "param") ts))
 
 abbrev pub end : Instruction
 end = instruction 0x0B argument.Nothing

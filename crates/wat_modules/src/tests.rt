@@ -5,7 +5,7 @@ use std::test::Fail;
 
 #[test]
 fn bytes(rt: HostRuntime) -> Result<(), Fail> {
-    let rows: [(&str, &[u8]); 4] = [
+    let rows: [(&str, &[u8]); 5] = [
         (
             "(module)",
             &[0x00, 0x61, 0x73, 0x6D, 0x01, 0x00, 0x00, 0x00],
@@ -34,6 +34,14 @@ fn bytes(rt: HostRuntime) -> Result<(), Fail> {
                 0x40, 0x0C, 0x00, 0x0B, 0x0B,
             ],
         ),
+        (
+            "(module (func (block (param) (param) (result)) loop (result) (result i32) (result) i32.const 1 end drop))",
+            &[
+                0x00, 0x61, 0x73, 0x6D, 0x01, 0x00, 0x00, 0x00, 0x01, 0x04, 0x01, 0x60, 0x00, 0x00,
+                0x03, 0x02, 0x01, 0x00, 0x0A, 0x0D, 0x01, 0x0B, 0x00, 0x02, 0x40, 0x0B, 0x03, 0x7F,
+                0x41, 0x01, 0x0B, 0x1A, 0x0B,
+            ],
+        ),
     ];
     for (text, expected) in rows.iter() {
         match compile(rt.alloc(), text) {
@@ -50,6 +58,7 @@ fn refused(rt: HostRuntime) -> Result<(), Fail> {
         ("(module (func nop)", "unexpected token", 18),
         ("(module (func call $f))", "unknown identifier", 19),
         ("(module (func frob))", "unknown keyword", 14),
+        ("(module (func (block (result) (param))))", "unknown keyword", 31),
         ("(module (func $f) (func $f))", "duplicate identifier", 8),
         ("(module (func \"", "unexpected end-of-file", 15),
     ];
