@@ -14,6 +14,7 @@ use Rattle.wat_instructions.specs.Table.{Mnemonic, found, mnemonics}
 use Rattle.wat_instructions.specs.Terminals.{Terminal, Open, Close, Word, Id, Integer, Text, Other, Label}
 use Rattle.wat_instructions.specs.Grammar.{Env, Fault, Instructions, plain, label_of, end_label, after_empty, result_type, block_type}
 use Rattle.wat_instructions.specs.Grammar as grammar
+use Rattle.wat_instructions.specs.Memory as memory
 use Rattle.wat_instructions.specs.Law.{InstructionsAreBalanced, InstructionsTakeTokens, past}
 
 pub record Passes (ts us : List Terminal) : Type 0 where
@@ -93,6 +94,36 @@ i64_keeps (Word w ∷ ts) = tt
 i64_keeps (Text v ∷ ts) = tt
 i64_keeps (Other ∷ ts) = tt
 
+pub on : (ts us vs : List Terminal) → Passes ts us → Passes us vs → Passes ts vs
+on ts us vs h k = record { short = omega (arith, h.short, k.short); same = λ d. h.same d ∙ k.same d }
+
+number_passes : (n : ℕ) (o : Option ℕ) (w : List ℕ) (ts : List Terminal) → Passes (Word w ∷ ts) (grammar.number_or n o (Word w ∷ ts) ts).1
+number_passes n (Some m) w ts = record { short = omega arith; same = λ d. refl }
+number_passes n None w ts = stay (Word w ∷ ts)
+
+offset_passes : (ts : List Terminal) → Passes ts (grammar.offset_of ts).1
+offset_passes (Word w ∷ ts) = number_passes 0 (memory.offset w) w ts
+offset_passes [] = stay []
+offset_passes (Open ∷ ts) = stay (Open ∷ ts)
+offset_passes (Close ∷ ts) = stay (Close ∷ ts)
+offset_passes (Id x ∷ ts) = stay (Id x ∷ ts)
+offset_passes (Integer s n ∷ ts) = stay (Integer s n ∷ ts)
+offset_passes (Text v ∷ ts) = stay (Text v ∷ ts)
+offset_passes (Other ∷ ts) = stay (Other ∷ ts)
+
+align_passes : (n : ℕ) (ts : List Terminal) → Passes ts (grammar.align_of n ts).1
+align_passes n (Word w ∷ ts) = number_passes n (memory.align w) w ts
+align_passes n [] = stay []
+align_passes n (Open ∷ ts) = stay (Open ∷ ts)
+align_passes n (Close ∷ ts) = stay (Close ∷ ts)
+align_passes n (Id x ∷ ts) = stay (Id x ∷ ts)
+align_passes n (Integer s m ∷ ts) = stay (Integer s m ∷ ts)
+align_passes n (Text v ∷ ts) = stay (Text v ∷ ts)
+align_passes n (Other ∷ ts) = stay (Other ∷ ts)
+
+memory_keeps : (n : ℕ) (ts : List Terminal) → Passes ts (grammar.memory_of n ts).1
+memory_keeps n ts = on ts (grammar.offset_of ts).1 (grammar.align_of n (grammar.offset_of ts).1).1 (offset_passes ts) (align_passes n (grammar.offset_of ts).1)
+
 immediate_keeps : (env : Env) (ls : List Label) (k : Immediate) (ts : List Terminal) → Keeps (grammar.immediate_of env ls k ts) ts
 immediate_keeps env ls immediate.No ts = stay ts
 immediate_keeps env ls immediate.Local ts = index_keeps env.locals ts
@@ -101,7 +132,7 @@ immediate_keeps env ls immediate.Func ts = index_keeps env.funcs ts
 immediate_keeps env ls immediate.Global ts = index_keeps env.globals ts
 immediate_keeps env ls immediate.I32 ts = i32_keeps ts
 immediate_keeps env ls immediate.I64 ts = i64_keeps ts
-immediate_keeps env ls (immediate.Memory align) ts = stay ts
+immediate_keeps env ls (immediate.Memory natural) ts = memory_keeps natural ts
 immediate_keeps env ls immediate.Zero ts = stay ts
 
 after_word : (w : List ℕ) (ts us : List Terminal) → Passes ts us → Passes (Word w ∷ ts) us
@@ -257,9 +288,6 @@ result_type_keeps (Id x ∷ ts) = stay (Id x ∷ ts)
 result_type_keeps (Integer s n ∷ ts) = stay (Integer s n ∷ ts)
 result_type_keeps (Text v ∷ ts) = stay (Text v ∷ ts)
 result_type_keeps (Other ∷ ts) = stay (Other ∷ ts)
-
-pub on : (ts us vs : List Terminal) → Passes ts us → Passes us vs → Passes ts vs
-on ts us vs h k = record { short = omega (arith, h.short, k.short); same = λ d. h.same d ∙ k.same d }
 
 on_keeps : {A : Type 0} (q : Result (A × List Terminal) Fault) (ts us : List Terminal) → Passes ts us → Keeps q us → Keeps q ts
 on_keeps (Ok (a, vs)) ts us h k = on ts us vs h k

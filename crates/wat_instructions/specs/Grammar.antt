@@ -14,6 +14,7 @@ use Rattle.wat_instructions.specs.declared.pieces.ValueType.{ValueType}
 use Rattle.wat_instructions.specs.declared.pieces.ValueType.TheVariants as value
 use Rattle.wat_instructions.specs.declared.table.Immediate.{Immediate}
 use Rattle.wat_instructions.specs.declared.table.Immediate.TheVariants as immediate
+use Rattle.wat_instructions.specs.Memory.{offset, align}
 use Rattle.wat_instructions.specs.Table.{Mnemonic, found, mnemonics}
 use Rattle.wat_instructions.specs.Terminals.{Terminal, Open, Close, Word, Id, Integer, Label}
 
@@ -75,8 +76,25 @@ abbrev pub i64 : List Terminal → Result (Argument × List Terminal) Fault
 i64 (Integer s n ∷ ts) = i64_by (signed (2 ^ 63) s n) (Integer s n ∷ ts) ts
 i64 ts = Err (Unexpected, ts)
 
--- the immediate of a kind, where these labels are bound, the innermost first. 6.5.7: a memory argument that is not written has offset 0 and the natural
--- alignment, whose exponent the table has; a written one is left out here.
+abbrev pub number_or : ℕ → Option ℕ → List Terminal → List Terminal → ℕ × List Terminal
+number_or n (Some m) all ts = (m, ts)
+number_or n None all ts = (n, all)
+
+-- 6.5.7: offset = offset=u32 or nothing, which is 0
+abbrev pub offset_of : List Terminal → ℕ × List Terminal
+offset_of (Word w ∷ ts) = number_or 0 (offset w) (Word w ∷ ts) ts
+offset_of ts = (0, ts)
+
+-- 6.5.7: align = align=u32 or nothing, which is the natural alignment; by its exponent
+abbrev pub align_of : ℕ → List Terminal → ℕ × List Terminal
+align_of natural (Word w ∷ ts) = number_or natural (align w) (Word w ∷ ts) ts
+align_of natural ts = (natural, ts)
+
+-- 6.5.7: memarg = offset align
+abbrev pub memory_of : ℕ → List Terminal → Argument × List Terminal
+memory_of natural ts = (argument.Memory (align_of natural (offset_of ts).1).0 (offset_of ts).0, (align_of natural (offset_of ts).1).1)
+
+-- the immediate of a kind, where these labels are bound, the innermost first
 abbrev pub immediate_of : Env → List Label → Immediate → List Terminal → Result (Argument × List Terminal) Fault
 immediate_of env ls immediate.No ts = Ok (argument.Nothing, ts)
 immediate_of env ls immediate.Local ts = index env.locals ts
@@ -85,7 +103,7 @@ immediate_of env ls immediate.Func ts = index env.funcs ts
 immediate_of env ls immediate.Global ts = index env.globals ts
 immediate_of env ls immediate.I32 ts = i32 ts
 immediate_of env ls immediate.I64 ts = i64 ts
-immediate_of env ls (immediate.Memory align) ts = Ok (argument.Memory align, ts)
+immediate_of env ls (immediate.Memory natural) ts = Ok (memory_of natural ts)
 immediate_of env ls immediate.Zero ts = Ok (argument.Zero, ts)
 
 abbrev pub instruction : ℕ → Argument → Instruction

@@ -5,6 +5,7 @@ ghost use Rattle.wat_instructions.specs.Machine.{bound, labels_in};
 ghost use Rattle.wat_instructions.specs.Parts.{fault_of, part, scope_of, stack};
 ghost use Rattle.wat_instructions.specs.Terminals.{Open, Word, label, terminal};
 
+use crate::memory;
 use crate::pieces::{Argument, Fault, FaultKind, Frame, Instruction, Name, Piece, Sign, ValueType};
 use crate::table::{self, Immediate};
 
@@ -293,7 +294,7 @@ fn immediate<'p, 'a>(
         Immediate::Global => index(scope.globals, pieces),
         Immediate::I32 => number_32(pieces),
         Immediate::I64 => number_64(pieces),
-        Immediate::Memory(align) => Ok((Argument::Memory(align), pieces)),
+        Immediate::Memory(natural) => Ok(memory::argument(natural, pieces)),
         Immediate::Zero => Ok((Argument::Zero, pieces)),
     }
 }
