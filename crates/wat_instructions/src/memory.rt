@@ -88,7 +88,6 @@ fn align(word: &[u8]) -> Option<u8>
 }
 
 /// What comes after a prefix.
-#[tactic(auto, unfolding(crate::specs::Memory::after))]
 fn after<'w>(prefix: &[u8], word: &'w [u8]) -> Option<&'w [u8]>
     ensures { MatchOption result (memory.after prefix.now word.now ≡ None) (λ r. memory.after prefix.now word.now ≡ Some r.now) }
 {
