@@ -56,11 +56,21 @@ class Body:
             return f"{str(size)[0]}_{str(size)[1:]}"
         return str(size)
 
+    def memory(self):
+        """A memory argument, of which each part may be left out."""
+        rng = self.rng
+        size = rng.choice([0, 1, 127, 128, 2 ** 32 - 1, rng.randrange(10, 2 ** 32)])
+        offset = rng.choice([str(size), hex(size), f"0_{size}", f"0x0_{size:X}"])
+        align = 2 ** rng.choice([0, 1, 2, 3, rng.randrange(32)])
+        return rng.choice([[], [f"offset={offset}"]]) + rng.choice([[], [f"align={rng.choice([str(align), hex(align)])}"]])
+
     def plain(self):
         """A plain instruction with its immediate."""
         word, kind = self.rng.choice(self.rows)
         if kind == "Local" and not self.variables:
             return ["nop"]
+        if kind == "Memory":
+            return [word] + self.memory()
         if kind == "Global":
             return [word, str(self.rng.randrange(200))]
         given = {"Local": lambda: self.index(self.variables), "Func": lambda: self.index(self.functions), "Label": lambda: self.index(self.labels[::-1]), "I32": lambda: self.number(32), "I64": lambda: self.number(64)}
@@ -76,8 +86,11 @@ class Body:
         return made
 
     def head(self, label):
-        of = self.rng.choice([[], [], ["(", "result", self.rng.choice(TYPES), ")"]])
-        return ([label] if label else []) + of
+        """The label and the type of a block, among groups that list nothing."""
+        rng = self.rng
+        of = rng.choice([[], [], ["(", "result", rng.choice(TYPES), ")"]])
+        before = ["(", "param", ")"] * rng.choice([0, 0, 0, 1, 2]) + ["(", "result", ")"] * rng.choice([0, 0, 0, 1])
+        return ([label] if label else []) + before + of + ["(", "result", ")"] * rng.choice([0, 0, 0, 1])
 
     def tail(self, label):
         return [label] if label and self.rng.random() < 0.3 else []

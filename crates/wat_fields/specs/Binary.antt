@@ -25,14 +25,14 @@ abbrev pub block_byte : Option ValueType → ℕ
 block_byte None = 0x40
 block_byte (Some t) = type_byte t
 
--- 5.4: what follows the first byte of an instruction; 5.4.6 memory arguments: the exponent of the alignment, and the offset, which is 0
+-- 5.4: what follows the first byte of an instruction; 5.4.6 memory arguments: the exponent of the alignment, and the offset
 abbrev pub argument_bytes : Argument → List ℕ
 argument_bytes argument.Nothing = []
 argument_bytes (argument.Index n) = unsigned_leb128 n
 argument_bytes (argument.I32 n) = signed_leb128 n
 argument_bytes (argument.I64 n) = signed_leb128 n
 argument_bytes (argument.Block t) = block_byte t ∷ []
-argument_bytes (argument.Memory align) = align ∷ 0 ∷ []
+argument_bytes (argument.Memory align offset) = unsigned_leb128 align ++ unsigned_leb128 offset
 argument_bytes argument.Zero = 0 ∷ []
 
 abbrev pub instruction_bytes : Instruction → List ℕ

@@ -1,7 +1,7 @@
 -- WebAssembly 2.0 specification, 6.6 (text format, modules): 6.6.3 type uses, 6.6.5 functions, 6.6.13 modules; 6.4 (types). Modules that hold nothing but
 -- functions, over the tokens that count. A rule takes tokens from a place on, and leaves the rest. Left out of the standard: all other fields, type uses
 -- by `(type ..)`, inline imports, value types but four, a module without its parentheses; and what Table and Grammar of `wat_instructions` leave out:
--- written memory arguments, types of blocks but none or one result, br_table, call_indirect, select with types, floating-point constants, references,
+-- types of blocks that bring parameters or more than one result, br_table, call_indirect, select with types, floating-point constants, references,
 -- tables, bulk memory, saturating conversions, vectors.
 use Rattle.std.specs.Prelude.{◌≡◌, ℕ, Bool, true, false, List, [], ◌∷◌, ◌++◌, map, codes, Some, None, if◌then◌else◌}
 use Rattle.std.specs.Str.{is_utf8}

@@ -12,8 +12,9 @@ use Rattle.wat_instructions.specs.declared.table.Immediate.{Immediate}
 use Rattle.wat_instructions.specs.declared.table.Immediate.TheVariants as immediate
 use Rattle.wat_instructions.specs.Table.{Mnemonic, found, mnemonics}
 use Rattle.wat_instructions.specs.Terminals.{Terminal, Open, Close, Word, Id, Integer, Text, Other, Label}
-use Rattle.wat_instructions.specs.Grammar.{Env, Fault, Instructions, plain, label_of, end_label, block_type}
+use Rattle.wat_instructions.specs.Grammar.{Env, Fault, Instructions, plain, label_of, end_label, after_empty, result_type, block_type}
 use Rattle.wat_instructions.specs.Grammar as grammar
+use Rattle.wat_instructions.specs.Memory as memory
 use Rattle.wat_instructions.specs.Law.{InstructionsAreBalanced, InstructionsTakeTokens, past}
 
 pub record Passes (ts us : List Terminal) : Type 0 where
@@ -93,6 +94,36 @@ i64_keeps (Word w ∷ ts) = tt
 i64_keeps (Text v ∷ ts) = tt
 i64_keeps (Other ∷ ts) = tt
 
+pub on : (ts us vs : List Terminal) → Passes ts us → Passes us vs → Passes ts vs
+on ts us vs h k = record { short = omega (arith, h.short, k.short); same = λ d. h.same d ∙ k.same d }
+
+number_passes : (n : ℕ) (o : Option ℕ) (w : List ℕ) (ts : List Terminal) → Passes (Word w ∷ ts) (grammar.number_or n o (Word w ∷ ts) ts).1
+number_passes n (Some m) w ts = record { short = omega arith; same = λ d. refl }
+number_passes n None w ts = stay (Word w ∷ ts)
+
+offset_passes : (ts : List Terminal) → Passes ts (grammar.offset_of ts).1
+offset_passes (Word w ∷ ts) = number_passes 0 (memory.offset w) w ts
+offset_passes [] = stay []
+offset_passes (Open ∷ ts) = stay (Open ∷ ts)
+offset_passes (Close ∷ ts) = stay (Close ∷ ts)
+offset_passes (Id x ∷ ts) = stay (Id x ∷ ts)
+offset_passes (Integer s n ∷ ts) = stay (Integer s n ∷ ts)
+offset_passes (Text v ∷ ts) = stay (Text v ∷ ts)
+offset_passes (Other ∷ ts) = stay (Other ∷ ts)
+
+align_passes : (n : ℕ) (ts : List Terminal) → Passes ts (grammar.align_of n ts).1
+align_passes n (Word w ∷ ts) = number_passes n (memory.align w) w ts
+align_passes n [] = stay []
+align_passes n (Open ∷ ts) = stay (Open ∷ ts)
+align_passes n (Close ∷ ts) = stay (Close ∷ ts)
+align_passes n (Id x ∷ ts) = stay (Id x ∷ ts)
+align_passes n (Integer s m ∷ ts) = stay (Integer s m ∷ ts)
+align_passes n (Text v ∷ ts) = stay (Text v ∷ ts)
+align_passes n (Other ∷ ts) = stay (Other ∷ ts)
+
+memory_keeps : (n : ℕ) (ts : List Terminal) → Passes ts (grammar.memory_of n ts).1
+memory_keeps n ts = on ts (grammar.offset_of ts).1 (grammar.align_of n (grammar.offset_of ts).1).1 (offset_passes ts) (align_passes n (grammar.offset_of ts).1)
+
 immediate_keeps : (env : Env) (ls : List Label) (k : Immediate) (ts : List Terminal) → Keeps (grammar.immediate_of env ls k ts) ts
 immediate_keeps env ls immediate.No ts = stay ts
 immediate_keeps env ls immediate.Local ts = index_keeps env.locals ts
@@ -101,7 +132,7 @@ immediate_keeps env ls immediate.Func ts = index_keeps env.funcs ts
 immediate_keeps env ls immediate.Global ts = index_keeps env.globals ts
 immediate_keeps env ls immediate.I32 ts = i32_keeps ts
 immediate_keeps env ls immediate.I64 ts = i64_keeps ts
-immediate_keeps env ls (immediate.Memory align) ts = stay ts
+immediate_keeps env ls (immediate.Memory natural) ts = memory_keeps natural ts
 immediate_keeps env ls immediate.Zero ts = stay ts
 
 after_word : (w : List ℕ) (ts us : List Terminal) → Passes ts us → Passes (Word w ∷ ts) us
@@ -172,8 +203,37 @@ end_keeps l (Other ∷ ts) = stay (Other ∷ ts)
 pub end_passes : (l : Label) (ts us : List Terminal) → end_label l ts ≡ Ok us → Passes ts us
 end_passes l ts us e = let K : Result (List Terminal) Fault → Type 0 = λ q. KeepsAll q ts in subst K e (end_keeps l ts)
 
+empty_by : (b : Bool) (word w : List ℕ) (ts : List Terminal) → Passes ts (after_empty word ts) → Passes (Open ∷ Word w ∷ Close ∷ ts) (if b then after_empty word ts else Open ∷ Word w ∷ Close ∷ ts)
+empty_by true word w ts h = record { short = omega (arith, h.short); same = h.same }
+empty_by false word w ts h = stay (Open ∷ Word w ∷ Close ∷ ts)
+
+pub empty_passes : (word : List ℕ) (ts : List Terminal) → Passes ts (after_empty word ts)
+unfolding after_empty
+empty_passes word (Open ∷ Word w ∷ Close ∷ ts) = empty_by (bytes_eq w word) word w ts (empty_passes word ts)
+empty_passes word [] = stay []
+empty_passes word (Open ∷ Word w ∷ []) = stay (Open ∷ Word w ∷ [])
+empty_passes word (Open ∷ Word w ∷ Open ∷ ts) = stay (Open ∷ Word w ∷ Open ∷ ts)
+empty_passes word (Open ∷ Word w ∷ Word v ∷ ts) = stay (Open ∷ Word w ∷ Word v ∷ ts)
+empty_passes word (Open ∷ Word w ∷ Id x ∷ ts) = stay (Open ∷ Word w ∷ Id x ∷ ts)
+empty_passes word (Open ∷ Word w ∷ Integer s n ∷ ts) = stay (Open ∷ Word w ∷ Integer s n ∷ ts)
+empty_passes word (Open ∷ Word w ∷ Text v ∷ ts) = stay (Open ∷ Word w ∷ Text v ∷ ts)
+empty_passes word (Open ∷ Word w ∷ Other ∷ ts) = stay (Open ∷ Word w ∷ Other ∷ ts)
+empty_passes word (Open ∷ []) = stay (Open ∷ [])
+empty_passes word (Open ∷ Open ∷ ts) = stay (Open ∷ Open ∷ ts)
+empty_passes word (Open ∷ Close ∷ ts) = stay (Open ∷ Close ∷ ts)
+empty_passes word (Open ∷ Id x ∷ ts) = stay (Open ∷ Id x ∷ ts)
+empty_passes word (Open ∷ Integer s n ∷ ts) = stay (Open ∷ Integer s n ∷ ts)
+empty_passes word (Open ∷ Text v ∷ ts) = stay (Open ∷ Text v ∷ ts)
+empty_passes word (Open ∷ Other ∷ ts) = stay (Open ∷ Other ∷ ts)
+empty_passes word (Close ∷ ts) = stay (Close ∷ ts)
+empty_passes word (Word v ∷ ts) = stay (Word v ∷ ts)
+empty_passes word (Id x ∷ ts) = stay (Id x ∷ ts)
+empty_passes word (Integer s n ∷ ts) = stay (Integer s n ∷ ts)
+empty_passes word (Text v ∷ ts) = stay (Text v ∷ ts)
+empty_passes word (Other ∷ ts) = stay (Other ∷ ts)
+
 close_type_ends : (t : ValueType) (ts : List Terminal) → Closing (grammar.close_type t ts) ts
-close_type_ends t (Close ∷ ts) = record { short = omega arith; same = λ d. refl }
+close_type_ends t (Close ∷ ts) = let h = empty_passes (codes "result") ts in record { short = omega (arith, h.short); same = h.same }
 close_type_ends t [] = tt
 close_type_ends t (Open ∷ ts) = tt
 close_type_ends t (Word v ∷ ts) = tt
@@ -218,23 +278,25 @@ type_by_keeps (Integer s n ∷ ts) = stay (Open ∷ Integer s n ∷ ts)
 type_by_keeps (Text v ∷ ts) = stay (Open ∷ Text v ∷ ts)
 type_by_keeps (Other ∷ ts) = stay (Open ∷ Other ∷ ts)
 
-block_type_keeps : (ts : List Terminal) → Keeps (block_type ts) ts
-unfolding block_type
-block_type_keeps (Open ∷ ts) = type_by_keeps ts
-block_type_keeps [] = stay []
-block_type_keeps (Close ∷ ts) = stay (Close ∷ ts)
-block_type_keeps (Word w ∷ ts) = stay (Word w ∷ ts)
-block_type_keeps (Id x ∷ ts) = stay (Id x ∷ ts)
-block_type_keeps (Integer s n ∷ ts) = stay (Integer s n ∷ ts)
-block_type_keeps (Text v ∷ ts) = stay (Text v ∷ ts)
-block_type_keeps (Other ∷ ts) = stay (Other ∷ ts)
-
-pub on : (ts us vs : List Terminal) → Passes ts us → Passes us vs → Passes ts vs
-on ts us vs h k = record { short = omega (arith, h.short, k.short); same = λ d. h.same d ∙ k.same d }
+result_type_keeps : (ts : List Terminal) → Keeps (result_type ts) ts
+unfolding result_type
+result_type_keeps (Open ∷ ts) = type_by_keeps ts
+result_type_keeps [] = stay []
+result_type_keeps (Close ∷ ts) = stay (Close ∷ ts)
+result_type_keeps (Word w ∷ ts) = stay (Word w ∷ ts)
+result_type_keeps (Id x ∷ ts) = stay (Id x ∷ ts)
+result_type_keeps (Integer s n ∷ ts) = stay (Integer s n ∷ ts)
+result_type_keeps (Text v ∷ ts) = stay (Text v ∷ ts)
+result_type_keeps (Other ∷ ts) = stay (Other ∷ ts)
 
 on_keeps : {A : Type 0} (q : Result (A × List Terminal) Fault) (ts us : List Terminal) → Passes ts us → Keeps q us → Keeps q ts
 on_keeps (Ok (a, vs)) ts us h k = on ts us vs h k
 on_keeps (Err f) ts us h k = tt
+
+block_type_keeps : (ts : List Terminal) → Keeps (block_type ts) ts
+block_type_keeps ts =
+    let us = after_empty (codes "param") ts in
+    on_keeps (block_type ts) ts us (empty_passes (codes "param") ts) (on_keeps (block_type ts) us (after_empty (codes "result") us) (empty_passes (codes "result") us) (result_type_keeps (after_empty (codes "result") us)))
 
 -- the label and the type of a block
 pub head_keeps : (ts : List Terminal) → Keeps (block_type (label_of ts).1) ts

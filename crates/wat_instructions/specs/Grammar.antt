@@ -14,6 +14,7 @@ use Rattle.wat_instructions.specs.declared.pieces.ValueType.{ValueType}
 use Rattle.wat_instructions.specs.declared.pieces.ValueType.TheVariants as value
 use Rattle.wat_instructions.specs.declared.table.Immediate.{Immediate}
 use Rattle.wat_instructions.specs.declared.table.Immediate.TheVariants as immediate
+use Rattle.wat_instructions.specs.Memory.{offset, align}
 use Rattle.wat_instructions.specs.Table.{Mnemonic, found, mnemonics}
 use Rattle.wat_instructions.specs.Terminals.{Terminal, Open, Close, Word, Id, Integer, Label}
 
@@ -75,8 +76,25 @@ abbrev pub i64 : List Terminal → Result (Argument × List Terminal) Fault
 i64 (Integer s n ∷ ts) = i64_by (signed (2 ^ 63) s n) (Integer s n ∷ ts) ts
 i64 ts = Err (Unexpected, ts)
 
--- the immediate of a kind, where these labels are bound, the innermost first. 6.5.7: a memory argument that is not written has offset 0 and the natural
--- alignment, whose exponent the table has; a written one is left out here.
+abbrev pub number_or : ℕ → Option ℕ → List Terminal → List Terminal → ℕ × List Terminal
+number_or n (Some m) all ts = (m, ts)
+number_or n None all ts = (n, all)
+
+-- 6.5.7: offset = offset=u32 or nothing, which is 0
+abbrev pub offset_of : List Terminal → ℕ × List Terminal
+offset_of (Word w ∷ ts) = number_or 0 (offset w) (Word w ∷ ts) ts
+offset_of ts = (0, ts)
+
+-- 6.5.7: align = align=u32 or nothing, which is the natural alignment; by its exponent
+abbrev pub align_of : ℕ → List Terminal → ℕ × List Terminal
+align_of natural (Word w ∷ ts) = number_or natural (align w) (Word w ∷ ts) ts
+align_of natural ts = (natural, ts)
+
+-- 6.5.7: memarg = offset align
+abbrev pub memory_of : ℕ → List Terminal → Argument × List Terminal
+memory_of natural ts = (argument.Memory (align_of natural (offset_of ts).1).0 (offset_of ts).0, (align_of natural (offset_of ts).1).1)
+
+-- the immediate of a kind, where these labels are bound, the innermost first
 abbrev pub immediate_of : Env → List Label → Immediate → List Terminal → Result (Argument × List Terminal) Fault
 immediate_of env ls immediate.No ts = Ok (argument.Nothing, ts)
 immediate_of env ls immediate.Local ts = index env.locals ts
@@ -85,7 +103,7 @@ immediate_of env ls immediate.Func ts = index env.funcs ts
 immediate_of env ls immediate.Global ts = index env.globals ts
 immediate_of env ls immediate.I32 ts = i32 ts
 immediate_of env ls immediate.I64 ts = i64 ts
-immediate_of env ls (immediate.Memory align) ts = Ok (argument.Memory align, ts)
+immediate_of env ls (immediate.Memory natural) ts = Ok (memory_of natural ts)
 immediate_of env ls immediate.Zero ts = Ok (argument.Zero, ts)
 
 abbrev pub instruction : ℕ → Argument → Instruction
@@ -136,9 +154,19 @@ abbrev pub value_type : List ℕ → Option ValueType
 value_type w =
     if bytes_eq w (codes "i32") then Some value.I32 else if bytes_eq w (codes "i64") then Some value.I64 else if bytes_eq w (codes "f32") then Some value.F32 else if bytes_eq w (codes "f64") then Some value.F64 else None
 
+-- the tokens after `)`, where these begin with it
+abbrev pub closed : List Terminal → Option (List Terminal)
+closed (Close ∷ ts) = Some ts
+closed ts = None
+
+-- 6.4.5: a group of this word that lists nothing is an abbreviation of nothing. The tokens after all such groups
+unfoldable pub after_empty : List ℕ → List Terminal → List Terminal
+after_empty word (Open ∷ Word w ∷ Close ∷ ts) = if bytes_eq w word then after_empty word ts else Open ∷ Word w ∷ Close ∷ ts
+after_empty word ts = ts
+
 -- `)` after a value type
 abbrev pub close_type : ValueType → List Terminal → Result (Argument × List Terminal) Fault
-close_type t (Close ∷ ts) = Ok (argument.Block (Some t), ts)
+close_type t (Close ∷ ts) = Ok (argument.Block (Some t), after_empty (codes "result") ts)
 close_type t ts = Err (Unexpected, ts)
 
 abbrev pub closed_type : Option ValueType → List Terminal → List Terminal → Result (Argument × List Terminal) Fault
@@ -155,10 +183,15 @@ abbrev pub type_by : List Terminal → List Terminal → Result (Argument × Lis
 type_by (Word w ∷ ts) all = if bytes_eq w (codes "result") then one_type ts else Ok (argument.Block None, all)
 type_by ts all = Ok (argument.Block None, all)
 
--- 6.5.2: blocktype = (result valtype) or nothing. Types with parameters, with other than one result, or by their index are left out here.
-unfoldable pub block_type : List Terminal → Result (Argument × List Terminal) Fault
-block_type (Open ∷ ts) = type_by ts (Open ∷ ts)
-block_type ts = Ok (argument.Block None, ts)
+-- one result, or none; and groups of results that list nothing
+unfoldable pub result_type : List Terminal → Result (Argument × List Terminal) Fault
+result_type (Open ∷ ts) = type_by ts (Open ∷ ts)
+result_type ts = Ok (argument.Block None, ts)
+
+-- 6.5.2: blocktype = (result valtype) or nothing, or a type use (6.6.3), which is param* result*. Those that bring no parameter and at most one result:
+-- others, and types by their index, are left out here.
+abbrev pub block_type : List Terminal → Result (Argument × List Terminal) Fault
+block_type ts = result_type (after_empty (codes "result") (after_empty (codes "param") ts))
 
 abbrev pub end : Instruction
 end = instruction 0x0B argument.Nothing

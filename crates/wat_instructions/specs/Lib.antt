@@ -1,4 +1,5 @@
 pub mod Terminals
+pub mod Memory
 pub mod Table
 pub mod Grammar
 pub mod Machine

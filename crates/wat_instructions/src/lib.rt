@@ -5,6 +5,7 @@
 
 pub mod laws;
 pub mod machine;
+mod memory;
 pub mod pieces;
 pub mod reading;
 pub mod table;

@@ -1,10 +1,11 @@
 //! Plain instructions and their immediates, names and labels.
-ghost use Rattle.std.specs.Prelude.{◌≡◌, ◌^◌, [], ◌∷◌, Ok, Err, map, MatchOption, MatchResult};
-ghost use Rattle.wat_instructions.specs.Grammar.{block_type, close_type, end_label, i32, i64, immediate_of, index, is_else, is_end, is_then, label_of, one_type, plain, position, signed, structured, type_by, value_type};
+ghost use Rattle.std.specs.Prelude.{◌≡◌, ◌<◌, ◌^◌, [], ◌∷◌, IfSome, None, Ok, Err, Some, length, map, MatchOption, MatchResult};
+ghost use Rattle.wat_instructions.specs.Grammar.{after_empty, block_type, close_type, closed, end_label, i32, i64, immediate_of, index, is_else, is_end, is_then, label_of, one_type, plain, position, result_type, signed, structured, type_by, value_type};
 ghost use Rattle.wat_instructions.specs.Machine.{bound, labels_in};
 ghost use Rattle.wat_instructions.specs.Parts.{fault_of, part, scope_of, stack};
-ghost use Rattle.wat_instructions.specs.Terminals.{label, terminal};
+ghost use Rattle.wat_instructions.specs.Terminals.{Open, Word, label, terminal};
 
+use crate::memory;
 use crate::pieces::{Argument, Fault, FaultKind, Frame, Instruction, Name, Piece, Sign, ValueType};
 use crate::table::{self, Immediate};
 
@@ -293,7 +294,7 @@ fn immediate<'p, 'a>(
         Immediate::Global => index(scope.globals, pieces),
         Immediate::I32 => number_32(pieces),
         Immediate::I64 => number_64(pieces),
-        Immediate::Memory(align) => Ok((Argument::Memory(align), pieces)),
+        Immediate::Memory(natural) => Ok(memory::argument(natural, pieces)),
         Immediate::Zero => Ok((Argument::Zero, pieces)),
     }
 }
@@ -446,14 +447,140 @@ pub fn value_type(word: &str) -> Option<ValueType>
     }
 }
 
-/// The type of a block: one result, or none.
-#[tactic(auto, unfolding(crate::specs::Grammar::block_type))]
+/// What is left to read.
+#[derive(Clone, Copy)]
+struct Left<'p, 'a> {
+    pieces: &'p [Piece<'a>],
+}
+
+/// What comes after the groups of a word that list nothing.
+#[tactic(auto, unfolding(crate::specs::Grammar::after_empty))]
+fn after_empty<'p, 'a>(word: &str, pieces: &'p [Piece<'a>]) -> &'p [Piece<'a>]
+    ensures { map terminal result.now ≡ after_empty word.now (map terminal pieces.now) }
+{
+    let mut left = Left { pieces };
+    'groups: loop {
+        match next_empty(word, left) {
+            Some(next) => {
+                left = next;
+            }
+            None => return left.pieces,
+        }
+    }
+}
+
+/// What comes after one such group, where there is one.
+fn next_empty<'p, 'a>(word: &str, left: Left<'p, 'a>) -> Option<Left<'p, 'a>>
+    ensures is { MatchOption result
+        (after_empty word.now (map terminal left.entry.pieces.now) ≡ map terminal left.entry.pieces.now)
+        (λ l. after_empty word.now (map terminal left.entry.pieces.now) ≡ after_empty word.now (map terminal l.pieces.now)) }
+    ensures shorter { IfSome result (λ l. length l.pieces.now < length left.entry.pieces.now) }
+{
+    match empty_group(word, left.pieces) {
+        Some(pieces) => Some(Left { pieces }),
+        None => None,
+    }
+}
+
+/// The same of tokens.
+#[tactic(auto, unfolding(crate::specs::Grammar::after_empty))]
+fn empty_group<'p, 'a>(word: &str, pieces: &'p [Piece<'a>]) -> Option<&'p [Piece<'a>]>
+    ensures is { MatchOption result
+        (after_empty word.now (map terminal pieces.now) ≡ map terminal pieces.now)
+        (λ r. after_empty word.now (map terminal pieces.now) ≡ after_empty word.now (map terminal r.now)) }
+    ensures shorter { IfSome result (λ r. length r.now < length pieces.now) }
+{
+    match pieces {
+        [Piece::Open, rest @ ..] => empty_word(word, rest),
+        [
+            Piece::Close
+            | Piece::Word(_)
+            | Piece::Id(_)
+            | Piece::Integer(_, _)
+            | Piece::Text(_)
+            | Piece::Other,
+            ..
+        ] => None,
+        [] => None,
+    }
+}
+
+/// The same after `(`.
+#[tactic(auto, unfolding(crate::specs::Grammar::after_empty))]
+fn empty_word<'p, 'a>(word: &str, pieces: &'p [Piece<'a>]) -> Option<&'p [Piece<'a>]>
+    ensures is { MatchOption result
+        (after_empty word.now (Open ∷ map terminal pieces.now) ≡ Open ∷ map terminal pieces.now)
+        (λ r. after_empty word.now (Open ∷ map terminal pieces.now) ≡ after_empty word.now (map terminal r.now)) }
+    ensures shorter { IfSome result (λ r. length r.now < length pieces.now) }
+{
+    match pieces {
+        [Piece::Word(given), rest @ ..] => empty_rest(word, *given, rest),
+        [
+            Piece::Open
+            | Piece::Close
+            | Piece::Id(_)
+            | Piece::Integer(_, _)
+            | Piece::Text(_)
+            | Piece::Other,
+            ..
+        ] => None,
+        [] => None,
+    }
+}
+
+/// The same after `(` and the word that is given.
+#[tactic(auto, using(crate::proofs::Opens::one_empty, crate::proofs::Opens::other_word, crate::proofs::Opens::not_closed))]
+fn empty_rest<'p, 'a>(word: &str, given: &str, pieces: &'p [Piece<'a>]) -> Option<&'p [Piece<'a>]>
+    ensures is { MatchOption result
+        (after_empty word.now (Open ∷ Word given.now ∷ map terminal pieces.now) ≡ Open ∷ Word given.now ∷ map terminal pieces.now)
+        (λ r. after_empty word.now (Open ∷ Word given.now ∷ map terminal pieces.now) ≡ after_empty word.now (map terminal r.now)) }
+    ensures shorter { IfSome result (λ r. length r.now < length pieces.now) }
+{
+    match after_close(pieces) {
+        Some(rest) => { if given == word { Some(rest) } else { None } }
+        None => None,
+    }
+}
+
+/// What comes after `)`, where the tokens begin with it.
+fn after_close<'p, 'a>(pieces: &'p [Piece<'a>]) -> Option<&'p [Piece<'a>]>
+    ensures is { MatchOption result (closed (map terminal pieces.now) ≡ None) (λ r. closed (map terminal pieces.now) ≡ Some (map terminal r.now)) }
+    ensures shorter { IfSome result (λ r. length r.now < length pieces.now) }
+{
+    match pieces {
+        [Piece::Close, rest @ ..] => Some(rest),
+        [
+            Piece::Open
+            | Piece::Word(_)
+            | Piece::Id(_)
+            | Piece::Integer(_, _)
+            | Piece::Text(_)
+            | Piece::Other,
+            ..
+        ] => None,
+        [] => None,
+    }
+}
+
+/// The type of a block: one result, or none, among groups that list nothing.
 pub fn block_type<'p, 'a>(
     pieces: &'p [Piece<'a>],
 ) -> Result<(Argument, &'p [Piece<'a>]), Fault<'p, 'a>>
     ensures { MatchResult result
         (λ r. block_type (map terminal pieces.now) ≡ Ok (r.0, map terminal r.1.now))
         (λ f. block_type (map terminal pieces.now) ≡ Err (fault_of f)) }
+{
+    result_type(after_empty("result", after_empty("param", pieces)))
+}
+
+/// The same after the first groups that list nothing.
+#[tactic(auto, unfolding(crate::specs::Grammar::result_type))]
+fn result_type<'p, 'a>(
+    pieces: &'p [Piece<'a>],
+) -> Result<(Argument, &'p [Piece<'a>]), Fault<'p, 'a>>
+    ensures { MatchResult result
+        (λ r. result_type (map terminal pieces.now) ≡ Ok (r.0, map terminal r.1.now))
+        (λ f. result_type (map terminal pieces.now) ≡ Err (fault_of f)) }
 {
     match pieces {
         [Piece::Open, rest @ ..] => type_after(rest, pieces),
@@ -543,7 +670,7 @@ fn close_type<'p, 'a>(
         (λ f. close_type of (map terminal pieces.now) ≡ Err (fault_of f)) }
 {
     match pieces {
-        [Piece::Close, rest @ ..] => Ok((Argument::Block(Some(of)), rest)),
+        [Piece::Close, rest @ ..] => Ok((Argument::Block(Some(of)), after_empty("result", rest))),
         [
             Piece::Open
             | Piece::Word(_)

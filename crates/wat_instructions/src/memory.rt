@@ -1,0 +1,164 @@
+//! Memory arguments.
+ghost use Rattle.std.specs.Prelude.{◌≡◌, MatchOption, None, Some, map};
+ghost use Rattle.wat_instructions.specs.Grammar.{align_of, memory_of, offset_of};
+ghost use Rattle.wat_instructions.specs.Memory as memory;
+ghost use Rattle.wat_instructions.specs.Terminals.{terminal};
+ghost use Rattle.wat_lex.specs.grammar.Numbers.{is_digit};
+
+use crate::pieces::{Argument, Piece};
+use wat_lex::lexer::magnitude;
+
+/// The argument, which is one of offset 0 and of this alignment where nothing is written.
+pub(crate) fn argument<'p, 'a>(natural: u8, pieces: &'p [Piece<'a>]) -> (Argument, &'p [Piece<'a>])
+    ensures argument { result.0 ≡ (memory_of natural (map terminal pieces.now)).0 }
+    ensures rest { map terminal result.1.now ≡ (memory_of natural (map terminal pieces.now)).1 }
+{
+    let (offset, rest) = offset_at(pieces);
+    let (align, rest) = align_at(natural, rest);
+    (Argument::Memory(align, offset), rest)
+}
+
+/// The offset, and what comes after it.
+fn offset_at<'p, 'a>(pieces: &'p [Piece<'a>]) -> (u32, &'p [Piece<'a>])
+    ensures offset { result.0 ≡ (offset_of (map terminal pieces.now)).0 }
+    ensures rest { map terminal result.1.now ≡ (offset_of (map terminal pieces.now)).1 }
+{
+    match pieces {
+        [Piece::Word(word), rest @ ..] => match offset(word.as_bytes()) {
+            Some(n) => (n, rest),
+            None => (0, pieces),
+        },
+        [
+            Piece::Open
+            | Piece::Close
+            | Piece::Id(_)
+            | Piece::Integer(_, _)
+            | Piece::Text(_)
+            | Piece::Other,
+            ..
+        ] => (0, pieces),
+        [] => (0, pieces),
+    }
+}
+
+/// The exponent of the alignment, and what comes after it.
+fn align_at<'p, 'a>(natural: u8, pieces: &'p [Piece<'a>]) -> (u8, &'p [Piece<'a>])
+    ensures align { result.0 ≡ (align_of natural (map terminal pieces.now)).0 }
+    ensures rest { map terminal result.1.now ≡ (align_of natural (map terminal pieces.now)).1 }
+{
+    match pieces {
+        [Piece::Word(word), rest @ ..] => match align(word.as_bytes()) {
+            Some(n) => (n, rest),
+            None => (natural, pieces),
+        },
+        [
+            Piece::Open
+            | Piece::Close
+            | Piece::Id(_)
+            | Piece::Integer(_, _)
+            | Piece::Text(_)
+            | Piece::Other,
+            ..
+        ] => (natural, pieces),
+        [] => (natural, pieces),
+    }
+}
+
+/// The number of a word `offset=`.
+fn offset(word: &[u8]) -> Option<u32>
+    ensures { result ≡ memory.offset word.now }
+{
+    match after(b"offset=", word) {
+        Some(digits) => number(digits),
+        None => None,
+    }
+}
+
+/// The exponent of a word `align=`.
+fn align(word: &[u8]) -> Option<u8>
+    ensures { result ≡ memory.align word.now }
+{
+    match after(b"align=", word) {
+        Some(digits) => match number(digits) {
+            Some(of) => exponent(of),
+            None => None,
+        },
+        None => None,
+    }
+}
+
+/// What comes after a prefix.
+fn after<'w>(prefix: &[u8], word: &'w [u8]) -> Option<&'w [u8]>
+    ensures { MatchOption result (memory.after prefix.now word.now ≡ None) (λ r. memory.after prefix.now word.now ≡ Some r.now) }
+{
+    word.strip_prefix(prefix)
+}
+
+/// A number of 32 bits, decimal or hexadecimal.
+fn number(digits: &[u8]) -> Option<u32>
+    ensures { result ≡ memory.u32 digits.now }
+{
+    match after(b"0x", digits) {
+        Some(rest) => number_of(true, rest),
+        None => number_of(false, digits),
+    }
+}
+
+/// The number of 32 bits that digits write.
+fn number_of(hex: bool, digits: &[u8]) -> Option<u32>
+    ensures { result ≡ memory.number hex digits.now }
+{
+    if !are_digits(hex, digits) {
+        return None;
+    }
+    match magnitude(digits, hex) {
+        Some(n) if n < 0x1_0000_0000 => Some(n as u32),
+        Some(_) => None,
+        None => None,
+    }
+}
+
+/// Whether these are digits, with underscores between them or without.
+#[tactic(auto, using(crate::proofs::Digits::from_first))]
+fn are_digits(hex: bool, digits: &[u8]) -> bool
+    ensures { result ≡ memory.are_digits hex digits.now }
+{
+    let mut after_digit = false;
+    for byte in digits {
+        if after_digit && *byte == b'_' {
+            after_digit = false;
+        } else if is_digit(hex, *byte) {
+            after_digit = true;
+        } else {
+            return false;
+        }
+    }
+    after_digit
+}
+
+/// Whether it is a digit.
+fn is_digit(hex: bool, byte: u8) -> bool
+    ensures { result ≡ is_digit hex byte }
+{
+    if hex {
+        byte.is_ascii_hexdigit()
+    } else {
+        byte.is_ascii_digit()
+    }
+}
+
+/// The exponent of a power of two.
+fn exponent(of: u32) -> Option<u8>
+    ensures { result ≡ memory.exponent_below 32 of }
+{
+    let mut n = 32;
+    let mut power: u64 = 0x1_0000_0000;
+    while n > 0 {
+        n -= 1;
+        power /= 2;
+        if power == u64::from(of) {
+            return Some(n);
+        }
+    }
+    None
+}
