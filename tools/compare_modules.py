@@ -212,16 +212,27 @@ def after_group(tokens, at):
     return at
 
 
-def has_other_type(tokens):
-    """Whether a block has another type than one result or none."""
+def types_of_blocks(tokens):
+    """Of each block how many items its groups list, by their words."""
     for at, token in enumerate(tokens):
         if token in ("block", "loop", "if"):
             at += 2 if tokens[at + 1 : at + 2] and tokens[at + 1].startswith("$") else 1
-            end, word = after_group(tokens, at), tokens[at + 1 : at + 2]
-            if tokens[at : at + 1] == ["("] and word[0] in ("result", "param", "type"):
-                if word != ["result"] or end - at != 4 or tokens[end : end + 2] == ["(", "result"]:
-                    return True
-    return False
+            counts = {"type": 0, "param": 0, "result": 0}
+            while tokens[at : at + 1] == ["("] and tokens[at + 1] in counts:
+                end = after_group(tokens, at)
+                counts[tokens[at + 1]] += end - at - 3
+                at = end
+            yield counts
+
+
+def has_other_type(tokens):
+    """Whether a block has more than one result, or what is no type in its place."""
+    return any(counts["result"] > 1 for counts in types_of_blocks(tokens))
+
+
+def has_parameters(tokens):
+    """Whether a block has parameters, or a type by its index."""
+    return any(counts["param"] or counts["type"] for counts in types_of_blocks(tokens))
 
 
 def has_bare_part(tokens):
@@ -251,7 +262,8 @@ def has_typed_select(tokens):
 # What `wat2wasm` takes and PROGRAM refuses: its message, and what such a text has.
 DEPARTURES = {
     "of an `if` without `then` or `else`, which wat2wasm takes": ("unexpected token", has_bare_part),
-    "of a block with another type than one result or none, not read as yet": ("unexpected token", has_other_type),
+    "of a block with more results than one, not read as yet": ("unexpected token", has_other_type),
+    "of a block with parameters, not read as yet": ("unknown keyword", has_parameters),
     "of a `select` with a type, not read as yet": ("unknown keyword", has_typed_select),
 }
 

@@ -44,7 +44,7 @@ pub use wat_lex::{Error, Span};
 ///
 /// As yet a module is `(module $name? function..)`. A function has its name, inline exports, parameters, results and local variables of the types
 /// `i32`, `i64`, `f32` and `f64`, and instructions, plain, in blocks and folded: those of WebAssembly 1.0 and the sign extensions, but for
-/// `br_table`, `call_indirect`, constants that are floats, and offsets and alignments of memory. Blocks have at most one result.
+/// `br_table`, `call_indirect`, and constants that are floats. Blocks have at most one result.
 ///
 /// Where the text is such a module the answer is its bytes; where it is none, an error: both are proved of the text that this function is made of. A
 /// text spells one module at most. That the module is valid is not promised: no type of an operand is checked. There is no section of names.

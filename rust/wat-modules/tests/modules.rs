@@ -7,7 +7,7 @@ use wat_modules::parse_str;
 const HEADER: &[u8] = b"\0asm\x01\0\0\0";
 
 /// A module of one function without parameters: its body, and the bytes of that in the code section.
-const BODIES: [(&str, &[u8]); 5] = [
+const BODIES: [(&str, &[u8]); 6] = [
     ("", b"\x00\x0b"),
     (
         "(if (result i32) (i32.const 1) (then (i32.const 2)) (else (i32.const -3))) drop",
@@ -21,6 +21,10 @@ const BODIES: [(&str, &[u8]); 5] = [
     (
         "(local i32 i32) (local $z i32 ) (local i64) block $a br $a end",
         b"\x02\x03\x7f\x01\x7e\x02\x40\x0c\x00\x0b\x0b",
+    ),
+    (
+        "i32.const 0 i32.load offset=0x1_00 align=1 drop",
+        b"\x00\x41\x00\x28\x00\x80\x02\x1a\x0b",
     ),
     (
         "i64.const 0xffff_ffff_ffff_ffff loop $l (block $m (br $l) (br 0)) end $l",

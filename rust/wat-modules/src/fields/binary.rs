@@ -96,9 +96,9 @@ fn put_instruction(out: &mut Vec<u8>, instruction: Instruction) -> Result<(), Al
             out.push(block_byte(of))?;
             Ok(())
         }
-        Argument::Memory(align) => {
-            out.push(align)?;
-            out.push(0)?;
+        Argument::Memory(align, offset) => {
+            put(out, usize::from(align))?;
+            put(out, offset as usize)?;
             Ok(())
         }
         Argument::Zero => {

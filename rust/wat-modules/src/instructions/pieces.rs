@@ -70,8 +70,8 @@ pub enum Argument {
     I64(i64),
     /// The type of a block: one result, or none.
     Block(Option<ValueType>),
-    /// A memory argument of offset 0, by the exponent of its alignment.
-    Memory(u8),
+    /// A memory argument: the exponent of its alignment, and its offset.
+    Memory(u8, u32),
     /// A byte 0.
     Zero,
 }

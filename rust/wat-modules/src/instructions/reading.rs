@@ -2,6 +2,7 @@
 //! Plain instructions and their immediates, names and labels.
 
 use wat_lex::shim::prelude::*;
+use crate::instructions::memory;
 use crate::instructions::pieces::{
     Argument, Fault, FaultKind, Frame, Instruction, Name, Piece, Sign, ValueType,
 };
@@ -337,7 +338,7 @@ fn immediate<'p, 'a>(
         Immediate::Global => index(scope.globals, pieces),
         Immediate::I32 => number_32(pieces),
         Immediate::I64 => number_64(pieces),
-        Immediate::Memory(align) => Ok((Argument::Memory(align), pieces)),
+        Immediate::Memory(natural) => Ok(memory::argument(natural, pieces)),
         Immediate::Zero => Ok((Argument::Zero, pieces)),
     }
 }
@@ -521,7 +522,148 @@ pub fn value_type(word: &str) -> Option<ValueType> {
     }
 }
 
-/// The type of a block: one result, or none.
+/// What is left to read.
+#[derive(Clone, Copy)]
+struct Left<'p, 'a> {
+    pieces: &'p [Piece<'a>],
+}
+
+/// What comes after the groups of a word that list nothing.
+///
+/// # Proved
+///
+/// ```text
+/// ensures { map terminal result.now ≡ after_empty word.now (map terminal pieces.now) }
+/// ```
+fn after_empty<'p, 'a>(word: &str, pieces: &'p [Piece<'a>]) -> &'p [Piece<'a>] {
+    let mut left = Left { pieces };
+    'groups: loop {
+        match next_empty(word, left) {
+            Some(next) => {
+                left = next;
+            }
+            None => return left.pieces,
+        }
+    }
+}
+
+/// What comes after one such group, where there is one.
+///
+/// # Proved
+///
+/// ```text
+/// ensures is { MatchOption result
+///     (after_empty word.now (map terminal left.entry.pieces.now) ≡ map terminal left.entry.pieces.now)
+///     (λ l. after_empty word.now (map terminal left.entry.pieces.now) ≡ after_empty word.now (map terminal l.pieces.now)) }
+/// ensures shorter { IfSome result (λ l. length l.pieces.now < length left.entry.pieces.now) }
+/// ```
+fn next_empty<'p, 'a>(word: &str, left: Left<'p, 'a>) -> Option<Left<'p, 'a>> {
+    match empty_group(word, left.pieces) {
+        Some(pieces) => Some(Left { pieces }),
+        None => None,
+    }
+}
+
+/// The same of tokens.
+///
+/// # Proved
+///
+/// ```text
+/// ensures is { MatchOption result
+///     (after_empty word.now (map terminal pieces.now) ≡ map terminal pieces.now)
+///     (λ r. after_empty word.now (map terminal pieces.now) ≡ after_empty word.now (map terminal r.now)) }
+/// ensures shorter { IfSome result (λ r. length r.now < length pieces.now) }
+/// ```
+fn empty_group<'p, 'a>(word: &str, pieces: &'p [Piece<'a>]) -> Option<&'p [Piece<'a>]> {
+    match pieces {
+        [Piece::Open, rest @ ..] => empty_word(word, rest),
+        [
+            Piece::Close
+            | Piece::Word(_)
+            | Piece::Id(_)
+            | Piece::Integer(_, _)
+            | Piece::Text(_)
+            | Piece::Other,
+            ..,
+        ] => None,
+        [] => None,
+    }
+}
+
+/// The same after `(`.
+///
+/// # Proved
+///
+/// ```text
+/// ensures is { MatchOption result
+///     (after_empty word.now (Open ∷ map terminal pieces.now) ≡ Open ∷ map terminal pieces.now)
+///     (λ r. after_empty word.now (Open ∷ map terminal pieces.now) ≡ after_empty word.now (map terminal r.now)) }
+/// ensures shorter { IfSome result (λ r. length r.now < length pieces.now) }
+/// ```
+fn empty_word<'p, 'a>(word: &str, pieces: &'p [Piece<'a>]) -> Option<&'p [Piece<'a>]> {
+    match pieces {
+        [Piece::Word(given), rest @ ..] => empty_rest(word, *given, rest),
+        [
+            Piece::Open
+            | Piece::Close
+            | Piece::Id(_)
+            | Piece::Integer(_, _)
+            | Piece::Text(_)
+            | Piece::Other,
+            ..,
+        ] => None,
+        [] => None,
+    }
+}
+
+/// The same after `(` and the word that is given.
+///
+/// # Proved
+///
+/// ```text
+/// ensures is { MatchOption result
+///     (after_empty word.now (Open ∷ Word given.now ∷ map terminal pieces.now) ≡ Open ∷ Word given.now ∷ map terminal pieces.now)
+///     (λ r. after_empty word.now (Open ∷ Word given.now ∷ map terminal pieces.now) ≡ after_empty word.now (map terminal r.now)) }
+/// ensures shorter { IfSome result (λ r. length r.now < length pieces.now) }
+/// ```
+fn empty_rest<'p, 'a>(word: &str, given: &str, pieces: &'p [Piece<'a>]) -> Option<&'p [Piece<'a>]> {
+    match after_close(pieces) {
+        Some(rest) => {
+            if given == word {
+                Some(rest)
+            } else {
+                None
+            }
+        }
+        None => None,
+    }
+}
+
+/// What comes after `)`, where the tokens begin with it.
+///
+/// # Proved
+///
+/// ```text
+/// ensures is { MatchOption result (closed (map terminal pieces.now) ≡ None) (λ r. closed (map terminal pieces.now) ≡ Some (map terminal r.now)) }
+/// ensures shorter { IfSome result (λ r. length r.now < length pieces.now) }
+/// ```
+fn after_close<'p, 'a>(pieces: &'p [Piece<'a>]) -> Option<&'p [Piece<'a>]> {
+    match pieces {
+        [Piece::Close, rest @ ..] => Some(rest),
+        [
+            Piece::Open
+            | Piece::Word(_)
+            | Piece::Id(_)
+            | Piece::Integer(_, _)
+            | Piece::Text(_)
+            | Piece::Other,
+            ..,
+        ] => None,
+        [] => None,
+    }
+}
+
+/// The type of a block: one result, or none, among groups that list nothing.
 ///
 /// # Proved
 ///
@@ -531,6 +673,21 @@ pub fn value_type(word: &str) -> Option<ValueType> {
 /// (λ f. block_type (map terminal pieces.now) ≡ Err (fault_of f)) }
 /// ```
 pub fn block_type<'p, 'a>(
+    pieces: &'p [Piece<'a>],
+) -> Result<(Argument, &'p [Piece<'a>]), Fault<'p, 'a>> {
+    result_type(after_empty("result", after_empty("param", pieces)))
+}
+
+/// The same after the first groups that list nothing.
+///
+/// # Proved
+///
+/// ```text
+/// ensures { MatchResult result
+/// (λ r. result_type (map terminal pieces.now) ≡ Ok (r.0, map terminal r.1.now))
+/// (λ f. result_type (map terminal pieces.now) ≡ Err (fault_of f)) }
+/// ```
+fn result_type<'p, 'a>(
     pieces: &'p [Piece<'a>],
 ) -> Result<(Argument, &'p [Piece<'a>]), Fault<'p, 'a>> {
     match pieces {
@@ -633,7 +790,7 @@ fn close_type<'p, 'a>(
     pieces: &'p [Piece<'a>],
 ) -> Result<(Argument, &'p [Piece<'a>]), Fault<'p, 'a>> {
     match pieces {
-        [Piece::Close, rest @ ..] => Ok((Argument::Block(Some(of)), rest)),
+        [Piece::Close, rest @ ..] => Ok((Argument::Block(Some(of)), after_empty("result", rest))),
         [
             Piece::Open
             | Piece::Word(_)
