@@ -25,7 +25,7 @@ export function readOnce(lexer, bytes, flags) {
   return { ...found, bytes: lexer.bytes(bytes.length) };
 }
 
-// Whether the rows of a reader are the first of those that the module told.
+// Whether the rows of a reader are the first of those that the module gave.
 function areFirst({ rows, count }, numbers) {
   for (let i = 0; i < count; i += 1) if (rows.end(i) !== numbers[2 * i] || rows.code(i) !== numbers[2 * i + 1]) return false;
   return true;

@@ -10,7 +10,7 @@ export const KEYWORD = 8;
 export const ANNOTATION = 9;
 export const AT_SIGN = 64;
 
-// The rows of what the module told in one call.
+// The rows that the module gave in one call.
 function rowsOf({ rows: numbers, count }) {
   const rows = new Rows(numbers);
   rows.front = count;
@@ -20,7 +20,7 @@ function rowsOf({ rows: numbers, count }) {
 export class Tokens {
   #rows;
 
-  // Of a reader, or of what the module told.
+  // Of a reader, or of what the module gave.
   constructor(found) {
     this.count = found.count;
     this.#rows = found.rows instanceof Rows ? found.rows : rowsOf(found);

@@ -8,7 +8,7 @@ const FIRST_BITS = 0x80808080 | 0;
 
 const bitsOf = (firstBits) => Math.imul(firstBits >>> 7, 0x01010101) >>> 24;
 
-// What a byte stands for: the units of its character at the first byte, none at the others.
+// What a byte counts for: the units of its character at the first byte, none at the others.
 function inBytes(bytes, from, to) {
   let units = 0;
   for (let at = from; at < to; at += 1) if ((bytes[at] & 0xc0) !== 0x80) units += bytes[at] < 0xf0 ? 1 : 2;
