@@ -5,6 +5,7 @@
 
 pub mod laws;
 pub mod machine;
+pub mod names;
 mod memory;
 pub mod pieces;
 pub mod reading;
