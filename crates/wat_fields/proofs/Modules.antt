@@ -3,7 +3,7 @@ use Rattle.std.proofs.Common.{◌≡◌, ◌<◌, ◌≤◌, ℕ, zero, suc, Boo
 use Rattle.std.specs.Prelude.{if◌then◌else◌, bytes_eq, codes}
 use Rattle.wat_instructions.specs.declared.pieces.FaultKind.TheVariants.{UnknownWord, Duplicate}
 use Rattle.wat_instructions.specs.declared.pieces.Instruction.{Instruction}
-use Rattle.wat_instructions.specs.Grammar.{Env, Body, label_of}
+use Rattle.wat_instructions.specs.Grammar.{Context, Body, label_of}
 use Rattle.wat_instructions.specs.Law.{InstructionsAreBalanced, InstructionsTakeTokens, MachineIsGrammar, past}
 use Rattle.wat_instructions.specs.Machine as machine
 use Rattle.wat_instructions.specs.Terminals.{Terminal, Open, Close, Word, Id, Integer, Text, Other, Label}
@@ -23,12 +23,12 @@ pub record Laws : Type 0 where
 
 -- One field.
 
-no_header : (env : Env) (ds : List Terminal) (is : List Instruction) (r : List Terminal) → Body env ds is r → NoHeader ds
-no_header env ds is r h = record {
-  no_export = ends_body (codes "export") export_is_none env (None ∷ []) ds is (Close ∷ r) r refl h;
-  no_param = ends_body (codes "param") param_is_none env (None ∷ []) ds is (Close ∷ r) r refl h;
-  no_result = ends_body (codes "result") result_is_none env (None ∷ []) ds is (Close ∷ r) r refl h;
-  no_local = ends_body (codes "local") local_is_none env (None ∷ []) ds is (Close ∷ r) r refl h;
+no_header : (context : Context) (ds : List Terminal) (is : List Instruction) (r : List Terminal) → Body context ds is r → NoHeader ds
+no_header context ds is r h = record {
+  no_export = ends_body (codes "export") export_is_none context (None ∷ []) ds is (Close ∷ r) r refl h;
+  no_param = ends_body (codes "param") param_is_none context (None ∷ []) ds is (Close ∷ r) r refl h;
+  no_result = ends_body (codes "result") result_is_none context (None ∷ []) ds is (Close ∷ r) r refl h;
+  no_local = ends_body (codes "local") local_is_none context (None ∷ []) ds is (Close ∷ r) r refl h;
 }
 
 body_sound : Laws → (functions : List Label) (h : Header) (ds : List Terminal) (is : List Instruction) (r : List Terminal) → instructions functions h ds ≡ Ok (is, r) → (are_distinct (map name_of (h.params ++ h.locals)) ≡ true) × Body (context functions (h.params ++ h.locals)) ds is r
@@ -100,13 +100,13 @@ label_short (Text v ∷ ts) = omega arith
 label_short (Other ∷ ts) = omega arith
 
 -- how much a header and a body take
-after_name : Laws → (functions : List Label) (ts hs bs cs ds r : List Terminal) (ns : List (List ℕ)) (ps rs ls : List Variable) (is : List Instruction) (env : Env) → Many Export ts ns hs → Many (Group (codes "param") true) hs ps bs → Many (Group (codes "result") false) bs rs cs → Many (Group (codes "local") true) cs ls ds → Body env ds is r → length r < length ts
-after_name laws functions ts hs bs cs ds r ns ps rs ls is env a b c d k =
+after_name : Laws → (functions : List Label) (ts hs bs cs ds r : List Terminal) (ns : List (List ℕ)) (ps rs ls : List Variable) (is : List Instruction) (context : Context) → Many Export ts ns hs → Many (Group (codes "param") true) hs ps bs → Many (Group (codes "result") false) bs rs cs → Many (Group (codes "local") true) cs ls ds → Body context ds is r → length r < length ts
+after_name laws functions ts hs bs cs ds r ns ps rs ls is context a b c d k =
     let x = many_takes Export exports_read.takes ts ns hs a in
     let y = many_takes (Group (codes "param") true) (group_takes (codes "param") true) hs ps bs b in
     let z = many_takes (Group (codes "result") false) (group_takes (codes "result") false) bs rs cs c in
     let v = many_takes (Group (codes "local") true) (group_takes (codes "local") true) cs ls ds d in
-    let t = laws.taken env (None ∷ []) false ds is (Close ∷ r) k in omega arith
+    let t = laws.taken context (None ∷ []) false ds is (Close ∷ r) k in omega arith
 
 field_takes : Laws → (functions : List Label) (ts : List Terminal) (fs : List Function) (r : List Terminal) → Field functions ts fs r → length r < length ts
 field_takes laws functions _ _ r (by_function {ts = ts} {hs = hs} {bs = bs} {cs = cs} {ds = ds} {names = ns} {params = ps} {results = rs} {locals = ls} {is = is} e a b c d f k) =
