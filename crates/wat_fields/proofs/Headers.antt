@@ -7,7 +7,7 @@ use Rattle.wat_instructions.specs.Grammar.{Context, Fault, Instructions, plain, 
 use Rattle.wat_instructions.specs.Grammar as grammar
 use Rattle.wat_instructions.specs.Table.{mnemonics, low, high}
 use Rattle.wat_instructions.specs.Terminals.{Terminal, Close, Word, Id, Label}
-use Rattle.wat_fields.specs.Fields.{Many, by_none, by_more, Group, by_named, by_listed, Export, Variable}
+use Rattle.wat_fields.specs.Fields.{Many, by_none, by_more, Group, by_named, by_listed, InlineExport, Variable}
 use Rattle.wat_fields.specs.Reading.{Read, Header, and_then, all, after, begun, export, export_item, group, group_item, header, params, results, locals}
 use Rattle.wat_fields.proofs.Items.{exports_read, groups_read, word_is}
 use Rattle.wat_fields.proofs.Manies.{gives_of, and_then_inv, all_sound, all_complete}
@@ -77,7 +77,7 @@ pub record Headed (h : Header) (ts ds : List Terminal) : Type 0 where
   pub hs : List Terminal
   pub bs : List Terminal
   pub cs : List Terminal
-  pub exports : Many Export ts h.exports hs
+  pub exports : Many InlineExport ts h.exports hs
   pub params : Many (Group (codes "param") true) hs h.params bs
   pub results : Many (Group (codes "result") false) bs h.results cs
   pub locals : Many (Group (codes "local") true) cs h.locals ds
@@ -94,7 +94,7 @@ header_sound h ts ds e =
       hs = hs;
       bs = bs;
       cs = cs;
-      exports = (all_sound export_item Export exports_read ns ts hs e1).0;
+      exports = (all_sound export_item InlineExport exports_read ns ts hs e1).0;
       params = (all_sound (group_item (codes "param") true) (Group (codes "param") true) (groups_read (codes "param") true) ps hs bs e2).0;
       results = (all_sound (group_item (codes "result") false) (Group (codes "result") false) (groups_read (codes "result") false) rs bs cs e3).0;
       locals = (all_sound (group_item (codes "local") true) (Group (codes "local") true) (groups_read (codes "local") true) ls cs xs e4).0;
@@ -116,7 +116,7 @@ header_complete h ts ds k n =
     let no_param = ends_groups (codes "param") (codes "result") false refl k.bs h.results k.cs k.results (ends_groups (codes "param") (codes "local") true refl k.cs h.locals ds k.locals n.no_param) in
     let param_groups = all_complete (group_item (codes "param") true) (Group (codes "param") true) (groups_read (codes "param") true) h.params k.hs k.bs k.params (item_ends (group true) (codes "param") k.bs no_param) in
     let no_export = ends_groups (codes "export") (codes "param") true refl k.hs h.params k.bs k.params (ends_groups (codes "export") (codes "result") false refl k.bs h.results k.cs k.results (ends_groups (codes "export") (codes "local") true refl k.cs h.locals ds k.locals n.no_export)) in
-    let all_exports = all_complete export_item Export exports_read h.exports ts k.hs k.exports (item_ends export (codes "export") k.hs no_export) in
+    let all_exports = all_complete export_item InlineExport exports_read h.exports ts k.hs k.exports (item_ends export (codes "export") k.hs no_export) in
     ap (λ q. and_then q (λ ns hs. and_then (params hs) (λ ps bs. and_then (results bs) (λ rs cs. and_then (locals cs) (λ ls xs. Ok (record { exports = ns; params = ps; results = rs; locals = ls }, xs)))))) all_exports
     ∙ ap (λ q. and_then q (λ ps bs. and_then (results bs) (λ rs cs. and_then (locals cs) (λ ls xs. Ok (record { exports = h.exports; params = ps; results = rs; locals = ls }, xs))))) param_groups
     ∙ ap (λ q. and_then q (λ rs cs. and_then (locals cs) (λ ls xs. Ok (record { exports = h.exports; params = h.params; results = rs; locals = ls }, xs)))) result_groups

@@ -8,7 +8,7 @@ use Rattle.wat_instructions.specs.declared.pieces.ValueType.{ValueType}
 use Rattle.wat_instructions.specs.Grammar.{Fault, value_type}
 use Rattle.wat_instructions.specs.Law.{past}
 use Rattle.wat_instructions.specs.Terminals.{Terminal, Open, Close, Word, Id, Integer, Text, Other}
-use Rattle.wat_fields.specs.Fields.{Many, by_none, by_more, Value, by_word, Group, by_named, by_listed, Export, by_export, Variable, variable, unnamed}
+use Rattle.wat_fields.specs.Fields.{Many, by_none, by_more, Value, by_word, Group, by_named, by_listed, InlineExport, by_inline_export, Variable, variable, unnamed}
 use Rattle.wat_fields.specs.Reading.{Read, and_then, all, closed, closing, after, after_word, begun, utf8_text, export, export_item, typed, value_item, listed, named_type, named_one, group, group_item}
 use Rattle.wat_fields.proofs.Manies.{Gives, gives_of, and_then_inv, Brings, Reads, all_sound, all_complete, many_takes, many_past}
 
@@ -51,15 +51,15 @@ value_past d _ _ us (by_word e) = refl
 
 -- `)`
 
-abbrev GivesAll : Result (List Terminal) Fault → List Terminal → Type 0
+abbrev pub GivesAll : Result (List Terminal) Fault → List Terminal → Type 0
 GivesAll (Ok ts) r = ts ≡ r
 GivesAll (Err f) r = ⊥
 
-closing_inv : {V : Type 0} (v w : V) (q : Result (List Terminal) Fault) (r : List Terminal) → Gives (closing v q) w r → (v ≡ w) × GivesAll q r
+pub closing_inv : {V : Type 0} (v w : V) (q : Result (List Terminal) Fault) (r : List Terminal) → Gives (closing v q) w r → (v ≡ w) × GivesAll q r
 closing_inv v w (Ok ts) r h = h
 closing_inv v w (Err f) r h = absurd h
 
-closed_is : (ts r : List Terminal) → GivesAll (closed ts) r → ts ≡ Close ∷ r
+pub closed_is : (ts r : List Terminal) → GivesAll (closed ts) r → ts ≡ Close ∷ r
 closed_is (Close ∷ ts) r h = ap (λ x. Close ∷ x) h
 closed_is [] r h = absurd h
 closed_is (Open ∷ ts) r h = absurd h
@@ -116,7 +116,7 @@ begun_is {V} rest word v us vs r e h = subst (λ o. Brings (begun rest o) vs r) 
 
 -- Exports.
 
-utf8_inv : (ts : List Terminal) (n : List ℕ) (us : List Terminal) → Gives (utf8_text ts) n us → (ts ≡ Text n ∷ us) × (is_utf8 n ≡ true)
+pub utf8_inv : (ts : List Terminal) (n : List ℕ) (us : List Terminal) → Gives (utf8_text ts) n us → (ts ≡ Text n ∷ us) × (is_utf8 n ≡ true)
 utf8_inv (Text m ∷ ts) n us h = by (is_utf8 m) refl h
   where
     by : (b : Bool) → is_utf8 m ≡ b → Gives (if b then Ok (m, ts) else Err (NotUtf8, Text m ∷ ts)) n us → (Text m ∷ ts ≡ Text n ∷ us) × (is_utf8 n ≡ true)
@@ -130,7 +130,7 @@ utf8_inv (Id x ∷ ts) n us h = absurd h
 utf8_inv (Integer s m ∷ ts) n us h = absurd h
 utf8_inv (Other ∷ ts) n us h = absurd h
 
-export_sound : (ts : List Terminal) (vs : List (List ℕ)) (us : List Terminal) → Brings (export_item ts) vs us → Export ts vs us
+export_sound : (ts : List Terminal) (vs : List (List ℕ)) (us : List Terminal) → Brings (export_item ts) vs us → InlineExport ts vs us
 unfolding export_item export
 export_sound ts vs us h =
     let (hs, found, given) = begun_inv export (after (codes "export") ts) vs us h in
@@ -138,22 +138,22 @@ export_sound ts vs us h =
     let (n, bs, read, end) = and_then_inv (utf8_text hs) (λ n us. closing (n ∷ []) (closed us)) vs us given in
     let (same, shut) = closing_inv (n ∷ []) vs (closed bs) us end in
     let (text, good) = utf8_inv hs n bs (gives_of (utf8_text hs) n bs read) in
-    subst (λ x. Export x vs us) (sym (b.is ∙ ap (λ x. Open ∷ Word b.spelled ∷ x) (text ∙ ap (λ x. Text n ∷ x) (closed_is bs us shut)))) (subst (λ x. Export (Open ∷ Word b.spelled ∷ Text n ∷ Close ∷ us) x us) same (by_export b.same good))
+    subst (λ x. InlineExport x vs us) (sym (b.is ∙ ap (λ x. Open ∷ Word b.spelled ∷ x) (text ∙ ap (λ x. Text n ∷ x) (closed_is bs us shut)))) (subst (λ x. InlineExport (Open ∷ Word b.spelled ∷ Text n ∷ Close ∷ us) x us) same (by_inline_export b.same good))
 
-export_complete : (ts : List Terminal) (vs : List (List ℕ)) (us : List Terminal) → Export ts vs us → Brings (export_item ts) vs us
+export_complete : (ts : List Terminal) (vs : List (List ℕ)) (us : List Terminal) → InlineExport ts vs us → Brings (export_item ts) vs us
 unfolding export_item export
-export_complete _ _ us (by_export {v = v} {n = n} e g) =
+export_complete _ _ us (by_inline_export {v = v} {n = n} e g) =
     begun_is export (codes "export") v (Text n ∷ Close ∷ us) (n ∷ []) us e
     (gives_of (export (Text n ∷ Close ∷ us)) (n ∷ []) us (ap (λ (b : Bool). and_then (if b then Ok (n, Close ∷ us) else Err (NotUtf8, Text n ∷ Close ∷ us)) (λ n us. closing (n ∷ []) (closed us))) g))
 
-export_takes : (ts : List Terminal) (vs : List (List ℕ)) (us : List Terminal) → Export ts vs us → length us < length ts
-export_takes _ _ us (by_export e g) = omega arith
+export_takes : (ts : List Terminal) (vs : List (List ℕ)) (us : List Terminal) → InlineExport ts vs us → length us < length ts
+export_takes _ _ us (by_inline_export e g) = omega arith
 
-pub exports_read : Reads export_item Export
+pub exports_read : Reads export_item InlineExport
 exports_read = record { sound = export_sound; complete = export_complete; takes = export_takes }
 
-pub export_past : (d : ℕ) (ts : List Terminal) (vs : List (List ℕ)) (us : List Terminal) → Export ts vs us → past d ts ≡ past d us
-export_past d _ _ us (by_export e g) = refl
+pub export_past : (d : ℕ) (ts : List Terminal) (vs : List (List ℕ)) (us : List Terminal) → InlineExport ts vs us → past d ts ≡ past d us
+export_past d _ _ us (by_inline_export e g) = refl
 
 -- Groups of variables.
 

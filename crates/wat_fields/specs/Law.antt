@@ -12,4 +12,4 @@ ReadingIsGrammar = (ts : List Terminal) (fs : List Field) → (reading.whole ts 
 
 -- 5.5.6: the type of each function is among the types, where its index says.
 abbrev pub TypesAreThere : Type 0
-TypesAreThere = (fs : List Function) (f : Function) → Contains f fs → slice_get (types_of fs) (type_index (function_type f) (types_of fs)) ≡ Some (function_type f)
+TypesAreThere = (fs : List Function) (f : Function) → Contains fs f → slice_get (types_of fs) (type_index (function_type f) (types_of fs)) ≡ Some (function_type f)

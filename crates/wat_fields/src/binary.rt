@@ -217,8 +217,8 @@ struct Counts {
 
 /// The same after a field more.
 fn counted(counts: Counts, field: &Field<'_>) -> Counts
-    requires { AreBelow (counts_of counts.entry) (2 ^ 63) }
-    ensures { counts_of result ≡ counted (field_of field.now) (counts_of counts.entry) }
+    requires { AreBelow (counts_of counts) (2 ^ 63) }
+    ensures { counts_of result ≡ counted (field_of field.now) (counts_of counts) }
 {
     let mut counts = counts;
     match field {

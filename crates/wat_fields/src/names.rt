@@ -147,7 +147,7 @@ fn push_head<'p>(
     space: Option<IndexSpace>,
     name: Name<'p>,
 ) -> Result<(), AllocError>
-    ensures { OnOk result (map head_of heads.new.items ≡ map head_of heads.old.items ++ reading.head_by space (label name)) }
+    ensures { OnOk result (map head_of heads.new.items ≡ map head_of heads.old.items ++ reading.head_by space (label name.entry)) }
 {
     match space {
         Some(space) => {
