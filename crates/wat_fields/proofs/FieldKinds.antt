@@ -13,13 +13,13 @@ use Rattle.wat_fields.specs.declared.fields.IndexSpace.{IndexSpace}
 use Rattle.wat_fields.specs.declared.fields.IndexSpace.TheVariants as space
 use Rattle.wat_fields.specs.declared.fields.Limits.{Limits}
 use Rattle.wat_fields.specs.declared.fields.ReferenceType.{ReferenceType}
-use Rattle.wat_fields.specs.Fields.{Many, Group, InlineExport, LimitsAre, GlobalTypeIs, Variable, Field, Func, Table, Memory, Global, Export, Start, FieldIs, by_func, by_table, by_memory, by_global, by_export, by_start, are_distinct, name_of, names_of, with_locals, space_of, reference_type}
+use Rattle.wat_fields.specs.Fields.{Many, Group, InlineExport, IndexIs, by_number, by_identifier, LimitsAre, GlobalTypeIs, Variable, Field, Func, Table, Memory, Global, Export, Start, FieldIs, by_func, by_table, by_memory, by_global, by_export, by_start, are_distinct, name_of, names_of, with_locals, space_of, reference_type}
 use Rattle.wat_fields.specs.Reading.{Read, Header, and_then, all, closed, closing, utf8_text, after_header, export_item, function, func_at, header, instructions, table, limits_at, reference_at, table_at, memory_at, global_type_at, global_at, twice_closed, external_by, external_word, external_at, export_at, start_at, other_at, field_by, field, field_item}
 use Rattle.wat_fields.proofs.Headers.{NoHeader, header_sound, header_complete, ends_body, export_is_none, param_is_none, result_is_none, local_is_none}
 use Rattle.wat_fields.proofs.Headers as headers
 use Rattle.wat_fields.proofs.Items.{exports_read, export_past, group_past, group_takes, word_is, is_word, closing_inv, closed_is, utf8_inv}
 use Rattle.wat_fields.proofs.Manies.{Gives, gives_of, of_gives, and_then_inv, Brings, Reads, all_sound, all_complete, many_takes, many_past}
-use Rattle.wat_fields.proofs.TypeRules.{Passes, limits_sound, limits_complete, limits_pass, limits_no_export, reference_sound, reference_complete, global_type_sound, global_type_complete, global_type_pass, global_type_no_export, index_pass, twice_closed_is}
+use Rattle.wat_fields.proofs.TypeRules.{Passes, limits_sound, limits_complete, limits_pass, limits_no_export, reference_sound, reference_complete, global_type_sound, global_type_complete, global_type_pass, global_type_no_export, index_sound, index_complete, index_pass, twice_closed_is}
 
 -- what holds of instructions
 pub record Laws : Type 0 where
@@ -93,7 +93,7 @@ external_by_sound : (context : Context) (w n v : List ℕ) (ts : List Terminal) 
 external_by_sound context w n v ts fs r (Some s) e u k g =
     let (i, us, read, end) = and_then_inv (index (names_of context s) ts) (λ i us. closing (Export n s i ∷ []) (twice_closed us)) fs r g in
     let (same, shut) = closing_inv (Export n s i ∷ []) fs (twice_closed us) r end in
-    subst (λ x. FieldIs context (Open ∷ Word w ∷ Text n ∷ Open ∷ Word v ∷ ts) x r) same (by_export e u k (read ∙ ap (λ x. Ok (i, x)) (twice_closed_is us r shut)))
+    subst (λ x. FieldIs context (Open ∷ Word w ∷ Text n ∷ Open ∷ Word v ∷ ts) x r) same (by_export e u k (subst (λ x. IndexIs (names_of context s) ts i x) (twice_closed_is us r shut) (index_sound (names_of context s) ts i us (gives_of _ i us read))))
 external_by_sound context w n v ts fs r None e u k g = absurd g
 
 external_word_sound : (context : Context) (w n : List ℕ) (ts : List Terminal) (fs : List Field) (r : List Terminal) → w ≡ codes "export" → is_utf8 n ≡ true → Gives (external_word context n ts) fs r → FieldIs context (Open ∷ Word w ∷ Text n ∷ Open ∷ ts) fs r
@@ -127,7 +127,7 @@ start_sound : (context : Context) (w : List ℕ) (ts : List Terminal) (fs : List
 start_sound context w ts fs r e g =
     let (i, us, read, end) = and_then_inv (index context.funcs ts) (λ i us. closing (Start i ∷ []) (closed us)) fs r g in
     let (same, shut) = closing_inv (Start i ∷ []) fs (closed us) r end in
-    subst (λ x. FieldIs context (Open ∷ Word w ∷ ts) x r) same (by_start e (read ∙ ap (λ x. Ok (i, x)) (closed_is us r shut)))
+    subst (λ x. FieldIs context (Open ∷ Word w ∷ ts) x r) same (by_start e (subst (λ x. IndexIs context.funcs ts i x) (closed_is us r shut) (index_sound context.funcs ts i us (gives_of _ i us read))))
 
 other_sound : (context : Context) (w : List ℕ) (ts : List Terminal) (fs : List Field) (r : List Terminal) (b c : Bool) → bytes_eq w (codes "export") ≡ b → bytes_eq w (codes "start") ≡ c → Gives (if b then export_at context ts else if c then start_at context ts else Err (UnknownWord, Word w ∷ ts)) fs r → FieldIs context (Open ∷ Word w ∷ ts) fs r
 other_sound context w ts fs r true c e f g = export_sound context w ts fs r (word_is w (codes "export") e) g
@@ -187,14 +187,14 @@ brings_word : (context : Context) (w v : List ℕ) (ts : List Terminal) (fs : Li
 unfolding field_item
 brings_word context w v ts fs r e h = gives_of (field context (Word w ∷ ts)) fs r (ap (λ x. field context (Word x ∷ ts)) e ∙ h)
 
-external_complete : (context : Context) (w n v : List ℕ) (ts : List Terminal) (s : IndexSpace) (i : ℕ) (r : List Terminal) → w ≡ codes "export" → is_utf8 n ≡ true → space_of v ≡ Some s → index (names_of context s) ts ≡ Ok (i, Close ∷ Close ∷ r) → Brings (field_item context (Open ∷ Word w ∷ Text n ∷ Open ∷ Word v ∷ ts)) (Export n s i ∷ []) r
+external_complete : (context : Context) (w n v : List ℕ) (ts : List Terminal) (s : IndexSpace) (i : ℕ) (r : List Terminal) → w ≡ codes "export" → is_utf8 n ≡ true → space_of v ≡ Some s → IndexIs (names_of context s) ts i (Close ∷ Close ∷ r) → Brings (field_item context (Open ∷ Word w ∷ Text n ∷ Open ∷ Word v ∷ ts)) (Export n s i ∷ []) r
 unfolding external_at
 external_complete context w n v ts s i r e u k f =
     brings_word context w (codes "export") (Text n ∷ Open ∷ Word v ∷ ts) (Export n s i ∷ []) r e
     (
     ap (λ (b : Bool). and_then (if b then Ok (n, Open ∷ Word v ∷ ts) else Err (NotUtf8, Text n ∷ Open ∷ Word v ∷ ts)) (λ n us. external_at context n us)) u
     ∙ ap (λ o. external_by context n o (Word v ∷ ts) ts) k
-    ∙ ap (λ q. and_then q (λ i us. closing (Export n s i ∷ []) (twice_closed us))) f
+    ∙ ap (λ q. and_then q (λ i us. closing (Export n s i ∷ []) (twice_closed us))) (index_complete (names_of context s) ts i (Close ∷ Close ∷ r) f)
     )
 
 field_complete : Laws → (context : Context) (ts : List Terminal) (fs : List Field) (r : List Terminal) → FieldIs context ts fs r → Brings (field_item context ts) fs r
@@ -230,7 +230,7 @@ field_complete laws context _ _ r (by_global {w = w} {ts = ts} {hs = hs} {bs = b
     ∙ ap (λ q. and_then q (λ is xs. Ok (Global l ns t is ∷ [], xs))) ((laws.same context bs is r).1 k)
     )
 field_complete laws context _ _ r (by_export {w = w} {n = n} {v = v} {ts = ts} {s = s} {i = i} e u k f) = external_complete context w n v ts s i r e u k f
-field_complete laws context _ _ r (by_start {w = w} {ts = ts} {i = i} e f) = brings_word context w (codes "start") ts (Start i ∷ []) r e (ap (λ q. and_then q (λ i us. closing (Start i ∷ []) (closed us))) f)
+field_complete laws context _ _ r (by_start {w = w} {ts = ts} {i = i} e f) = brings_word context w (codes "start") ts (Start i ∷ []) r e (ap (λ q. and_then q (λ i us. closing (Start i ∷ []) (closed us))) (index_complete context.funcs ts i (Close ∷ r) f))
 
 -- What a field takes.
 
@@ -277,18 +277,9 @@ on_to : (ts us r : List Terminal) → Passes ts us → Closes us r → Closes ts
 on_to ts us r p c = let x = p.short in let y = c.short in record { short = omega arith; same = p.same 0 ∙ c.same }
 
 -- a label is passed
-off_label : (ts r : List Terminal) (i : ℕ) (ls : List Label) → index ls ts ≡ Ok (i, Close ∷ r) → Closes (label_of ts).1 r
-off_label (Id x ∷ ts) r i ls e = let p = index_pass ls (Id x ∷ ts) i (Close ∷ r) e in let q : past 0 ts ≡ r = p.same 0 in by ts p.short q
-  where
-    by : (us : List Terminal) → length (Close ∷ r) < length (Id x ∷ us) → past 0 us ≡ r → Closes us r
-    by us s q = record { short = omega arith; same = q }
-off_label (Integer s n ∷ ts) r i ls e = let p = index_pass ls (Integer s n ∷ ts) i (Close ∷ r) e in let s = p.short in record { short = omega arith; same = p.same 0 }
-off_label [] r i ls e = cc
-off_label (Open ∷ ts) r i ls e = cc
-off_label (Close ∷ ts) r i ls e = cc
-off_label (Word w ∷ ts) r i ls e = cc
-off_label (Text v ∷ ts) r i ls e = cc
-off_label (Other ∷ ts) r i ls e = cc
+off_label : (ts r : List Terminal) (i : ℕ) (ls : List Label) → IndexIs ls ts i (Close ∷ r) → Closes (label_of ts).1 r
+off_label _ r i ls (by_number e) = record { short = omega arith; same = refl }
+off_label _ r i ls (by_identifier e) = record { short = omega arith; same = refl }
 
 closed_now : (r : List Terminal) → Closes (Close ∷ r) r
 closed_now r = record { short = omega arith; same = refl }
@@ -296,7 +287,7 @@ closed_now r = record { short = omega arith; same = refl }
 reference_now : (v : List ℕ) (r : List Terminal) → Closes (Word v ∷ Close ∷ r) r
 reference_now v r = record { short = omega arith; same = refl }
 
-external_closes : (ls : List Label) (n v : List ℕ) (ts r : List Terminal) (i : ℕ) → index ls ts ≡ Ok (i, Close ∷ Close ∷ r) → Closes (Text n ∷ Open ∷ Word v ∷ ts) r
+external_closes : (ls : List Label) (n v : List ℕ) (ts r : List Terminal) (i : ℕ) → IndexIs ls ts i (Close ∷ Close ∷ r) → Closes (Text n ∷ Open ∷ Word v ∷ ts) r
 external_closes ls n v ts r i e = let p = index_pass ls ts i (Close ∷ Close ∷ r) e in let s = p.short in record { short = omega arith; same = p.same 1 }
 
 pub field_after : Laws → (context : Context) (ts : List Terminal) (fs : List Field) (r : List Terminal) → FieldIs context ts fs r → After context ts r fs

@@ -10,17 +10,17 @@ use Rattle.wat_instructions.specs.Law.{past}
 use Rattle.wat_instructions.specs.Terminals.{Terminal, Open, Close, Word, Id, Integer, Text, Other}
 use Rattle.wat_fields.specs.declared.fields.IndexSpace.{IndexSpace}
 use Rattle.wat_fields.specs.declared.fields.IndexSpace.TheVariants as space
-use Rattle.wat_fields.specs.Fields.{Many, by_none, by_more, Field, FieldIs, by_func, by_table, by_memory, by_global, by_export, by_start, Head, Module, by_module, all_distinct, context_of, head_of, heads_of, space_of, starts_of}
+use Rattle.wat_fields.specs.Fields.{Many, by_none, by_more, Field, FieldIs, by_func, by_table, by_memory, by_global, by_export, by_start, Binding, Module, by_module, all_distinct, context_of, binding_of, bindings_of, space_of, starts_of}
 use Rattle.wat_fields.specs.Law.{ReadingIsGrammar}
-use Rattle.wat_fields.specs.Reading.{Read, all, field_item, fields_at, fields_of, head_by, whole, module_word, ended, started, heads, Before, Headed, Inside}
+use Rattle.wat_fields.specs.Reading.{Read, all, field_item, fields_at, fields_of, binding_by, whole, module_word, ended, started, bindings, Before, Headed, Inside}
 use Rattle.wat_fields.proofs.Items.{word_is, is_word}
 use Rattle.wat_fields.proofs.FieldKinds.{Laws, Closes, After, field_after, fields_read}
 use Rattle.wat_fields.proofs.Manies.{all_sound, all_complete}
 
 -- The items that fields define, by the parentheses alone.
 
-inside_past : (d : ℕ) (hs : List Head) (ts : List Terminal) → heads (Inside d) hs ts ≡ heads Before hs (past d ts)
-unfolding heads
+inside_past : (d : ℕ) (hs : List Binding) (ts : List Terminal) → bindings (Inside d) hs ts ≡ bindings Before hs (past d ts)
+unfolding bindings
 inside_past d hs [] = refl
 inside_past d hs (Open ∷ ts) = inside_past (suc d) hs ts
 inside_past zero hs (Close ∷ ts) = refl
@@ -36,8 +36,8 @@ inside_past (suc d) hs (Text v ∷ ts) = inside_past (suc d) hs ts
 inside_past zero hs (Other ∷ ts) = inside_past zero hs ts
 inside_past (suc d) hs (Other ∷ ts) = inside_past (suc d) hs ts
 
-headed_inside : (s : Option IndexSpace) (hs : List Head) (ts : List Terminal) → 0 < length (label_of ts).1 → heads (Headed s) hs ts ≡ heads (Inside 0) (hs ++ head_by s (label_of ts).0) (label_of ts).1
-unfolding heads
+headed_inside : (s : Option IndexSpace) (hs : List Binding) (ts : List Terminal) → 0 < length (label_of ts).1 → bindings (Headed s) hs ts ≡ bindings (Inside 0) (hs ++ binding_by s (label_of ts).0) (label_of ts).1
+unfolding bindings
 headed_inside s hs [] h = absurd (omega arith)
 headed_inside s hs (Id x ∷ ts) h = refl
 headed_inside s hs (Open ∷ ts) h = refl
@@ -47,11 +47,11 @@ headed_inside s hs (Integer n m ∷ ts) h = refl
 headed_inside s hs (Text v ∷ ts) h = refl
 headed_inside s hs (Other ∷ ts) h = refl
 
-after_word : (s : Option IndexSpace) (hs : List Head) (w : List ℕ) (ts r : List Terminal) → space_of w ≡ s → Closes (label_of ts).1 r → heads Before hs (Open ∷ Word w ∷ ts) ≡ heads Before (hs ++ head_by s (label_of ts).0) r
-unfolding heads
+after_word : (s : Option IndexSpace) (hs : List Binding) (w : List ℕ) (ts r : List Terminal) → space_of w ≡ s → Closes (label_of ts).1 r → bindings Before hs (Open ∷ Word w ∷ ts) ≡ bindings Before (hs ++ binding_by s (label_of ts).0) r
+unfolding bindings
 after_word s hs w ts r e c =
     let l = c.short in
-    ap (λ x. heads (Headed x) hs ts) e ∙ headed_inside s hs ts (omega arith) ∙ inside_past 0 (hs ++ head_by s (label_of ts).0) (label_of ts).1 ∙ ap (λ x. heads Before (hs ++ head_by s (label_of ts).0) x) c.same
+    ap (λ x. bindings (Headed x) hs ts) e ∙ headed_inside s hs ts (omega arith) ∙ inside_past 0 (hs ++ binding_by s (label_of ts).0) (label_of ts).1 ∙ ap (λ x. bindings Before (hs ++ binding_by s (label_of ts).0) x) c.same
 
 open_is : (v w : List ℕ) (ts us r : List Terminal) → Open ∷ Word v ∷ ts ≡ Open ∷ Word w ∷ us → Closes (label_of us).1 r → Closes (label_of ts).1 r
 open_is v w ts us r e c = let k : ts ≡ us = cc in subst (λ x. Closes (label_of x).1 r) (sym k) c
@@ -59,7 +59,7 @@ open_is v w ts us r e c = let k : ts ≡ us = cc in subst (λ x. Closes (label_o
 closes_of : Laws → (context : Context) (w : List ℕ) (ts : List Terminal) (fs : List Field) (r : List Terminal) → FieldIs context (Open ∷ Word w ∷ ts) fs r → Closes (label_of ts).1 r
 closes_of laws context w ts fs r h = let a = field_after laws context (Open ∷ Word w ∷ ts) fs r h in open_is w a.w ts a.us r a.is a.closes
 
-field_heads : Laws → (context : Context) (hs : List Head) (ts : List Terminal) (fs : List Field) (r : List Terminal) → FieldIs context ts fs r → heads Before hs ts ≡ heads Before (hs ++ heads_of fs) r
+field_heads : Laws → (context : Context) (hs : List Binding) (ts : List Terminal) (fs : List Field) (r : List Terminal) → FieldIs context ts fs r → bindings Before hs ts ≡ bindings Before (hs ++ bindings_of fs) r
 field_heads laws context hs _ fs r (by_func {w = w} {ts = ts} e a b c d f k) = after_word (Some space.Func) hs w ts r (ap space_of e) (closes_of laws context w ts fs r (by_func e a b c d f k))
 field_heads laws context hs _ fs r (by_table {w = w} {ts = ts} e a b c) = after_word (Some space.Table) hs w ts r (ap space_of e) (closes_of laws context w ts fs r (by_table e a b c))
 field_heads laws context hs _ fs r (by_memory {w = w} {ts = ts} e a b) = after_word (Some space.Memory) hs w ts r (ap space_of e) (closes_of laws context w ts fs r (by_memory e a b))
@@ -67,18 +67,18 @@ field_heads laws context hs _ fs r (by_global {w = w} {ts = ts} e a b k) = after
 field_heads laws context hs _ fs r (by_export {w = w} {n = n} {v = v} {ts = ts} e u k f) = after_word None hs w (Text n ∷ Open ∷ Word v ∷ ts) r (ap space_of e) (closes_of laws context w (Text n ∷ Open ∷ Word v ∷ ts) fs r (by_export e u k f))
 field_heads laws context hs _ fs r (by_start {w = w} {ts = ts} e f) = after_word None hs w ts r (ap space_of e) (closes_of laws context w ts fs r (by_start e f))
 
-fields_heads : Laws → (context : Context) (hs : List Head) (ts : List Terminal) (fs : List Field) (r : List Terminal) → Many (FieldIs context) ts fs r → heads Before hs ts ≡ heads Before (hs ++ heads_of fs) r
-fields_heads laws context hs _ _ r by_none = ap (λ x. heads Before x r) (sym (append-nil hs))
+fields_heads : Laws → (context : Context) (hs : List Binding) (ts : List Terminal) (fs : List Field) (r : List Terminal) → Many (FieldIs context) ts fs r → bindings Before hs ts ≡ bindings Before (hs ++ bindings_of fs) r
+fields_heads laws context hs _ _ r by_none = ap (λ x. bindings Before x r) (sym (append-nil hs))
 fields_heads laws context hs _ _ r (by_more {ts = ts} {us = us} {vs = fs} {ws = gs} one rest) =
-    field_heads laws context hs ts fs us one ∙ fields_heads laws context (hs ++ heads_of fs) us gs r rest
-    ∙ ap (λ x. heads Before x r) (append_assoc hs (heads_of fs) (heads_of gs) ∙ ap (λ x. hs ++ x) (sym (flat_map-append head_of fs gs)))
+    field_heads laws context hs ts fs us one ∙ fields_heads laws context (hs ++ bindings_of fs) us gs r rest
+    ∙ ap (λ x. bindings Before x r) (append_assoc hs (bindings_of fs) (bindings_of gs) ∙ ap (λ x. hs ++ x) (sym (flat_map-append binding_of fs gs)))
 
-close_heads : (hs : List Head) → heads Before hs (Close ∷ []) ≡ hs
-unfolding heads
+close_heads : (hs : List Binding) → bindings Before hs (Close ∷ []) ≡ hs
+unfolding bindings
 close_heads hs = refl
 
-module_heads : Laws → (context : Context) (ts : List Terminal) (fs : List Field) → Many (FieldIs context) ts fs (Close ∷ []) → heads Before [] ts ≡ heads_of fs
-module_heads laws context ts fs m = fields_heads laws context [] ts fs (Close ∷ []) m ∙ close_heads (heads_of fs)
+module_heads : Laws → (context : Context) (ts : List Terminal) (fs : List Field) → Many (FieldIs context) ts fs (Close ∷ []) → bindings Before [] ts ≡ bindings_of fs
+module_heads laws context ts fs m = fields_heads laws context [] ts fs (Close ∷ []) m ∙ close_heads (bindings_of fs)
 
 -- The module.
 
@@ -105,7 +105,7 @@ started_sound ts (Err f) fs e = cc
 started_complete : (ts : List Terminal) (fs : List Field) → length (starts_of fs) ≤ 1 → started ts (Ok fs) ≡ Ok fs
 started_complete ts fs l = ap (λ (b : Bool). if b then Ok fs else Err (SecondStart, ts)) ((Decides-ltb (length (starts_of fs)) 2).1 (omega (arith, l)))
 
-of_heads : Laws → (hs : List Head) (w : List ℕ) (ts : List Terminal) (fs : List Field) → w ≡ codes "module" → hs ≡ heads Before [] (label_of ts).1 → (b : Bool) → all_distinct (context_of hs) ≡ b
+of_heads : Laws → (hs : List Binding) (w : List ℕ) (ts : List Terminal) (fs : List Field) → w ≡ codes "module" → hs ≡ bindings Before [] (label_of ts).1 → (b : Bool) → all_distinct (context_of hs) ≡ b
     → (if b then started (label_of ts).1 (ended (all (field_item (context_of hs)) (label_of ts).1)) else Err (Duplicate, (label_of ts).1)) ≡ Ok fs → Module (Open ∷ Word w ∷ ts) fs
 of_heads laws hs w ts fs e n true d h =
     let s = started_sound (label_of ts).1 (ended (all (field_item (context_of hs)) (label_of ts).1)) fs h in
@@ -114,7 +114,7 @@ of_heads laws hs w ts fs e n true d h =
 of_heads laws hs w ts fs e n false d h = cc
 
 word_module : Laws → (w : List ℕ) (ts : List Terminal) (fs : List Field) (b : Bool) → bytes_eq w (codes "module") ≡ b → (if b then fields_at (label_of ts).1 else Err (UnknownWord, Word w ∷ ts)) ≡ Ok fs → Module (Open ∷ Word w ∷ ts) fs
-word_module laws w ts fs true e h = let hs = heads Before [] (label_of ts).1 in of_heads laws hs w ts fs (word_is w (codes "module") e) refl (all_distinct (context_of hs)) refl h
+word_module laws w ts fs true e h = let hs = bindings Before [] (label_of ts).1 in of_heads laws hs w ts fs (word_is w (codes "module") e) refl (all_distinct (context_of hs)) refl h
 word_module laws w ts fs false e h = cc
 
 open_module : Laws → (ts : List Terminal) (fs : List Field) → module_word ts ≡ Ok fs → Module (Open ∷ ts) fs
@@ -145,7 +145,7 @@ no_field context = refl
 module_complete : Laws → (ts : List Terminal) (fs : List Field) → Module ts fs → whole ts ≡ Ok fs
 unfolding whole
 module_complete laws _ fs (by_module {w = w} {ts = ts} e m d l) =
-    let context = context_of (heads_of fs) in
+    let context = context_of (bindings_of fs) in
     ap (λ (x : Bool). if x then fields_at (label_of ts).1 else Err (UnknownWord, Word w ∷ ts)) (is_word w (codes "module") e) ∙ ap (λ x. fields_of (context_of x) (label_of ts).1) (module_heads laws context (label_of ts).1 fs m)
     ∙ ap (λ (x : Bool). if x then started (label_of ts).1 (ended (all (field_item context) (label_of ts).1)) else Err (Duplicate, (label_of ts).1)) d
     ∙ ap (λ q. started (label_of ts).1 (ended q)) (all_complete (field_item context) (FieldIs context) (fields_read laws context) fs (label_of ts).1 (Close ∷ []) m (no_field context)) ∙ started_complete (label_of ts).1 fs l

@@ -11,7 +11,7 @@ use Rattle.wat_instructions.specs.Terminals.{Terminal, Open, Close, Word, Id, In
 use Rattle.wat_fields.specs.declared.fields.GlobalType.{GlobalType}
 use Rattle.wat_fields.specs.declared.fields.Limits.{Limits}
 use Rattle.wat_fields.specs.declared.fields.ReferenceType.{ReferenceType}
-use Rattle.wat_fields.specs.Fields.{LimitsAre, by_min, by_min_max, GlobalTypeIs, by_constant, by_mutable, is_u32, reference_type}
+use Rattle.wat_fields.specs.Fields.{IndexIs, by_number, by_identifier, LimitsAre, by_min, by_min_max, GlobalTypeIs, by_constant, by_mutable, is_u32, reference_type}
 use Rattle.wat_fields.specs.Reading.{Read, and_then, closed, closing, limits, max_at, limits_at, reference_by, reference_at, global_type, constant_by, mutable_by, mutable_type, mutable_at, global_type_at, twice_closed, export_item}
 use Rattle.wat_fields.proofs.Items.{GivesAll, closing_inv, closed_is, word_is, is_word}
 use Rattle.wat_fields.proofs.Manies.{Gives, gives_of, and_then_inv}
@@ -172,22 +172,30 @@ global_type_no_export _ _ us (by_mutable {v = v} {w = w} m e) = subst (λ x. exp
 
 -- Indices.
 
-named_pass : (x : List ℕ) (ts : List Terminal) (i : ℕ) (us : List Terminal) (o : Option ℕ) → Gives (named o (Id x ∷ ts) ts) i us → Passes (Id x ∷ ts) us
-named_pass x ts i us (Some n) h = subst (λ y. Passes (Id x ∷ ts) y) h.1 (record { short = omega arith; same = λ d. refl })
-named_pass x ts i us None h = absurd h
+named_sound : (ls : List Label) (x : List ℕ) (ts : List Terminal) (i : ℕ) (us : List Terminal) (o : Option ℕ) → position 0 x ls ≡ o → Gives (named o (Id x ∷ ts) ts) i us → IndexIs ls (Id x ∷ ts) i us
+named_sound ls x ts i us (Some n) e h = subst (λ y. IndexIs ls (Id x ∷ ts) y us) h.0 (subst (λ y. IndexIs ls (Id x ∷ ts) n y) h.1 (by_identifier e))
+named_sound ls x ts i us None e h = absurd h
 
-index_passes : (ls : List Label) (ts : List Terminal) (i : ℕ) (us : List Terminal) → Gives (index ls ts) i us → Passes ts us
-index_passes ls (Integer s n ∷ ts) i us h = let k = small_inv s n i (Integer s n ∷ ts) ts us h in subst (λ y. Passes (Integer s n ∷ ts) y) k.3 (record { short = omega arith; same = λ d. refl })
-index_passes ls (Id x ∷ ts) i us h = named_pass x ts i us (position 0 x ls) h
-index_passes ls [] i us h = absurd h
-index_passes ls (Open ∷ ts) i us h = absurd h
-index_passes ls (Close ∷ ts) i us h = absurd h
-index_passes ls (Word w ∷ ts) i us h = absurd h
-index_passes ls (Text v ∷ ts) i us h = absurd h
-index_passes ls (Other ∷ ts) i us h = absurd h
+number_sound : (ls : List Label) (s : Sign) (n : ℕ) (ts : List Terminal) (i : ℕ) (us : List Terminal) → (s ≡ sign.Absent) × (is_u32 n ≡ true) × (n ≡ i) × (ts ≡ us) → IndexIs ls (Integer s n ∷ ts) i us
+number_sound ls s n ts i us (a, l, e, f) = subst (λ x. IndexIs ls (Integer x n ∷ ts) i us) (sym a) (subst (λ x. IndexIs ls (Integer sign.Absent n ∷ ts) x us) e (subst (λ x. IndexIs ls (Integer sign.Absent n ∷ ts) n x) f (by_number l)))
 
-pub index_pass : (ls : List Label) (ts : List Terminal) (i : ℕ) (us : List Terminal) → index ls ts ≡ Ok (i, us) → Passes ts us
-index_pass ls ts i us e = index_passes ls ts i us (gives_of (index ls ts) i us e)
+pub index_sound : (ls : List Label) (ts : List Terminal) (i : ℕ) (us : List Terminal) → Gives (index ls ts) i us → IndexIs ls ts i us
+index_sound ls (Integer s n ∷ ts) i us h = number_sound ls s n ts i us (small_inv s n i (Integer s n ∷ ts) ts us h)
+index_sound ls (Id x ∷ ts) i us h = named_sound ls x ts i us (position 0 x ls) refl h
+index_sound ls [] i us h = absurd h
+index_sound ls (Open ∷ ts) i us h = absurd h
+index_sound ls (Close ∷ ts) i us h = absurd h
+index_sound ls (Word w ∷ ts) i us h = absurd h
+index_sound ls (Text v ∷ ts) i us h = absurd h
+index_sound ls (Other ∷ ts) i us h = absurd h
+
+pub index_complete : (ls : List Label) (ts : List Terminal) (i : ℕ) (us : List Terminal) → IndexIs ls ts i us → index ls ts ≡ Ok (i, us)
+index_complete ls _ i us (by_number e) = small_is i (Integer sign.Absent i ∷ us) us e
+index_complete ls _ i us (by_identifier {x = x} e) = ap (λ o. named o (Id x ∷ us) us) e
+
+pub index_pass : (ls : List Label) (ts : List Terminal) (i : ℕ) (us : List Terminal) → IndexIs ls ts i us → Passes ts us
+index_pass ls _ i us (by_number e) = record { short = omega arith; same = λ d. refl }
+index_pass ls _ i us (by_identifier e) = record { short = omega arith; same = λ d. refl }
 
 -- `)` and `)`.
 

@@ -19,7 +19,7 @@ use Rattle.wat_fields.specs.declared.fields.Limits.{Limits}
 use Rattle.wat_fields.specs.declared.fields.ReferenceType.{ReferenceType}
 use Rattle.wat_fields.specs.declared.fields.ReferenceType.TheVariants as reference
 use Rattle.wat_fields.specs.declared.fields.TableType.{TableType}
-use Rattle.wat_fields.specs.Fields.{Field, Func, Table, Memory, Global, Start, Function, Variable, heads_of, names_in, starts_of, type_of}
+use Rattle.wat_fields.specs.Fields.{Field, Func, Table, Memory, Global, Start, Function, Variable, bindings_of, names_in, starts_of, type_of}
 use Rattle.wat_fields.specs.Fields as field
 
 -- 5.3.1 number types
@@ -58,7 +58,7 @@ pub record FunctionType : Type 0 where
 abbrev pub function_type : Function → FunctionType
 function_type f = record { params = map type_of f.params; results = map type_of f.results }
 
--- 5.3.6: 0x60, and both
+-- 5.3.6: 0x60, and both; 5.3.5: each a vector of value types, a byte each
 unfoldable pub type_bytes : FunctionType → List ℕ
 type_bytes t = 0x60 ∷ (text_encoding (map type_byte t.params) ++ text_encoding (map type_byte t.results))
 
@@ -95,14 +95,13 @@ types_of fs = types_after [] fs
 abbrev pub function_bytes : List FunctionType → Function → List ℕ
 function_bytes types f = unsigned_leb128 (type_index (function_type f) types)
 
--- 5.3.7 limits
-abbrev pub limit_bytes : ℕ → Option ℕ → List ℕ
-limit_bytes n None = 0x00 ∷ unsigned_leb128 n
-limit_bytes n (Some m) = 0x01 ∷ (unsigned_leb128 n ++ unsigned_leb128 m)
+abbrev pub min_max_bytes : ℕ → Option ℕ → List ℕ
+min_max_bytes n None = 0x00 ∷ unsigned_leb128 n
+min_max_bytes n (Some m) = 0x01 ∷ (unsigned_leb128 n ++ unsigned_leb128 m)
 
--- 5.3.8 memory types
-abbrev pub memory_bytes : Limits → List ℕ
-memory_bytes l = limit_bytes l.min l.max
+-- 5.3.7 limits, 5.3.8 memory types
+abbrev pub limits_bytes : Limits → List ℕ
+limits_bytes l = min_max_bytes l.min l.max
 
 -- 5.3.3 reference types
 abbrev pub reference_byte : ReferenceType → ℕ
@@ -111,7 +110,7 @@ reference_byte reference.Extern = 0x6F
 
 -- 5.3.9 table types
 abbrev pub table_bytes : TableType → List ℕ
-table_bytes t = reference_byte t.of ∷ memory_bytes t.limits
+table_bytes t = reference_byte t.element ∷ limits_bytes t.limits
 
 abbrev pub mutability_byte : Bool → ℕ
 mutability_byte false = 0x00
@@ -123,7 +122,7 @@ expression_bytes is = flat_map instruction_bytes is ++ 0x0B ∷ []
 
 -- 5.3.10 global types, 5.5.9: the type of a global, and its first value
 abbrev pub global_bytes : GlobalType × List Instruction → List ℕ
-global_bytes g = type_byte g.0.of ∷ mutability_byte g.0.is_mutable ∷ expression_bytes g.1
+global_bytes g = type_byte g.0.value ∷ mutability_byte g.0.is_mutable ∷ expression_bytes g.1
 
 -- 5.5.10: an export of the item of an index
 pub record Export : Type 0 where
@@ -145,7 +144,7 @@ export_bytes e = text_encoding e.name ++ (space_byte e.space ∷ unsigned_leb128
 
 -- 6.6.1: the index that the next item of an index space has, after these fields
 abbrev pub next_index : IndexSpace → List Field → ℕ
-next_index s fs = length (names_in s (heads_of fs))
+next_index s fs = length (names_in s (bindings_of fs))
 
 -- the exports of a field after others
 abbrev pub field_exports : List Field → Field → List Export
@@ -191,7 +190,7 @@ code f = list_encoding run_bytes (runs_of (map variable_byte f.locals)) ++ expre
 abbrev pub code_bytes : Function → List ℕ
 code_bytes f = text_encoding (code f)
 
--- 5.5.2: a section: its number, its size and its content
+-- 5.5.2: a section: its number, its size and its content, which are written as a vector of bytes is
 abbrev pub section : ℕ → List ℕ → List ℕ
 section number content = number ∷ text_encoding content
 
@@ -237,7 +236,7 @@ abbrev pub table_section : List Field → List ℕ
 table_section fs = list_section 4 table_bytes (flat_map table_of fs)
 
 abbrev pub memory_section : List Field → List ℕ
-memory_section fs = list_section 5 memory_bytes (flat_map memory_of fs)
+memory_section fs = list_section 5 limits_bytes (flat_map memory_of fs)
 
 abbrev pub global_section : List Field → List ℕ
 global_section fs = list_section 6 global_bytes (flat_map global_of fs)

@@ -3,13 +3,13 @@
 -- out of the standard: the fields `type`, `import`, `elem` and `data`, type uses by `(type ..)`, inline imports, elements and data, value types but four, a module
 -- without its parentheses; and what Table and Grammar of `wat_instructions` leave out: types of blocks that bring parameters or more than one result,
 -- br_table, call_indirect, select with types, floating-point constants, references, tables, bulk memory, saturating conversions, vectors.
-use Rattle.std.specs.Prelude.{◌≡◌, ◌&&◌, ◌^◌, ◌≤◌, ℕ, Bool, true, false, List, [], ◌∷◌, ◌++◌, length, map, codes, bytes_eq, nat_lt, Option, Some, None, Ok, if◌then◌else◌}
+use Rattle.std.specs.Prelude.{◌≡◌, ◌&&◌, ◌^◌, ◌≤◌, ℕ, Bool, true, false, List, [], ◌∷◌, ◌++◌, length, map, codes, bytes_eq, nat_lt, Option, Some, None, if◌then◌else◌}
 use Rattle.std.specs.List.{flat_map}
 use Rattle.std.specs.Str.{is_utf8}
 use Rattle.wat_instructions.specs.declared.pieces.Instruction.{Instruction}
 use Rattle.wat_instructions.specs.declared.pieces.Sign.TheVariants.{Absent}
 use Rattle.wat_instructions.specs.declared.pieces.ValueType.{ValueType}
-use Rattle.wat_instructions.specs.Grammar.{Body, Context, index, is_name, label_of, value_type}
+use Rattle.wat_instructions.specs.Grammar.{Body, Context, is_name, label_of, position, value_type}
 use Rattle.wat_instructions.specs.Terminals.{Terminal, Open, Close, Word, Id, Integer, Text, Label}
 use Rattle.wat_fields.specs.declared.fields.GlobalType.{GlobalType}
 use Rattle.wat_fields.specs.declared.fields.IndexSpace.{IndexSpace}
@@ -56,24 +56,24 @@ pub data Field : Type 0 where
   Start : ℕ → Field
 
 -- an item of an index space, by its name or by none
-pub record Head : Type 0 where
+pub record Binding : Type 0 where
   pub space : IndexSpace
   pub name : Label
 
-abbrev pub head : IndexSpace → Label → Head
-head s l = record { space = s; name = l }
+abbrev pub binding : IndexSpace → Label → Binding
+binding s l = record { space = s; name = l }
 
 -- the item that a field defines
-abbrev pub head_of : Field → List Head
-head_of (Func f) = head space.Func f.name ∷ []
-head_of (Table l ns t) = head space.Table l ∷ []
-head_of (Memory l ns t) = head space.Memory l ∷ []
-head_of (Global l ns t is) = head space.Global l ∷ []
-head_of (Export n s i) = []
-head_of (Start i) = []
+abbrev pub binding_of : Field → List Binding
+binding_of (Func f) = binding space.Func f.name ∷ []
+binding_of (Table l ns t) = binding space.Table l ∷ []
+binding_of (Memory l ns t) = binding space.Memory l ∷ []
+binding_of (Global l ns t is) = binding space.Global l ∷ []
+binding_of (Export n s i) = []
+binding_of (Start i) = []
 
-abbrev pub heads_of : List Field → List Head
-heads_of fs = flat_map head_of fs
+abbrev pub bindings_of : List Field → List Binding
+bindings_of fs = flat_map binding_of fs
 
 abbrev pub is_space : IndexSpace → IndexSpace → Bool
 is_space space.Func space.Func = true
@@ -83,12 +83,12 @@ is_space space.Global space.Global = true
 is_space s t = false
 
 -- the names of an index space, in the order of their indices
-abbrev pub names_in : IndexSpace → List Head → List Label
+abbrev pub names_in : IndexSpace → List Binding → List Label
 names_in s [] = []
 names_in s (h ∷ hs) = if is_space s h.space then h.name ∷ names_in s hs else names_in s hs
 
 -- 6.1.3: the context of these items
-abbrev pub context_of : List Head → Context
+abbrev pub context_of : List Binding → Context
 context_of hs = record {
   locals = [];
   funcs = names_in space.Func hs;
@@ -128,13 +128,13 @@ pub data Many {V : Type 0} (One : List Terminal → List V → List Terminal →
   by_more : {ts us r : List Terminal} {vs ws : List V} → One ts vs us → Many One us ws r → Many One ts (vs ++ ws) r
 
 -- 6.4.4: valtype
-pub data Value : List Terminal → List ValueType → List Terminal → Type 0 where
-  by_word : {ts : List Terminal} {w : List ℕ} {t : ValueType} → value_type w ≡ Some t → Value (Word w ∷ ts) (t ∷ []) ts
+pub data ValueTypeIs : List Terminal → List ValueType → List Terminal → Type 0 where
+  by_word : {ts : List Terminal} {w : List ℕ} {t : ValueType} → value_type w ≡ Some t → ValueTypeIs (Word w ∷ ts) (t ∷ []) ts
 
 -- 6.4.5, 6.6.5: `(` word valtype* `)`, where word is `param`, `result` or `local`; and, of parameters and local variables, `(` word id valtype `)`
 pub data Group (word : List ℕ) (may_have_name : Bool) : List Terminal → List Variable → List Terminal → Type 0 where
   by_named : {ts : List Terminal} {v x w : List ℕ} {t : ValueType} → may_have_name ≡ true → v ≡ word → value_type w ≡ Some t → Group word may_have_name (Open ∷ Word v ∷ Id x ∷ Word w ∷ Close ∷ ts) (variable (Some x) t ∷ []) ts
-  by_listed : {ts us : List Terminal} {v : List ℕ} {types : List ValueType} → v ≡ word → Many Value ts types (Close ∷ us) → Group word may_have_name (Open ∷ Word v ∷ ts) (map unnamed types) us
+  by_listed : {ts us : List Terminal} {v : List ℕ} {types : List ValueType} → v ≡ word → Many ValueTypeIs ts types (Close ∷ us) → Group word may_have_name (Open ∷ Word v ∷ ts) (map unnamed types) us
 
 -- 6.6.5 to 6.6.8 abbreviations, 6.3.4 names: `(` export name `)` in a field is an export of its item; a name is UTF-8
 pub data InlineExport : List Terminal → List (List ℕ) → List Terminal → Type 0 where
@@ -148,6 +148,11 @@ reference_type w = if bytes_eq w (codes "funcref") then Some reference.Func else
 abbrev pub is_u32 : ℕ → Bool
 is_u32 n = nat_lt n (2 ^ 32)
 
+-- 6.6.1: an index in an index space of these names = u32; or an identifier, the first of this name
+pub data IndexIs (names : List Label) : List Terminal → ℕ → List Terminal → Type 0 where
+  by_number : {ts : List Terminal} {n : ℕ} → is_u32 n ≡ true → IndexIs names (Integer Absent n ∷ ts) n ts
+  by_identifier : {ts : List Terminal} {x : List ℕ} {n : ℕ} → position 0 x names ≡ Some n → IndexIs names (Id x ∷ ts) n ts
+
 -- 6.4.6: limits = u32, the minimum; or u32 u32, the minimum and the maximum
 pub data LimitsAre : List Terminal → Limits → List Terminal → Type 0 where
   by_min : {ts : List Terminal} {n : ℕ} → is_u32 n ≡ true → LimitsAre (Integer Absent n ∷ ts) (record { min = n; max = None }) ts
@@ -155,8 +160,8 @@ pub data LimitsAre : List Terminal → Limits → List Terminal → Type 0 where
 
 -- 6.4.9: globaltype = valtype; or `(` mut valtype `)`
 pub data GlobalTypeIs : List Terminal → GlobalType → List Terminal → Type 0 where
-  by_constant : {ts : List Terminal} {w : List ℕ} {t : ValueType} → value_type w ≡ Some t → GlobalTypeIs (Word w ∷ ts) (record { is_mutable = false; of = t }) ts
-  by_mutable : {ts : List Terminal} {v w : List ℕ} {t : ValueType} → v ≡ codes "mut" → value_type w ≡ Some t → GlobalTypeIs (Open ∷ Word v ∷ Word w ∷ Close ∷ ts) (record { is_mutable = true; of = t }) ts
+  by_constant : {ts : List Terminal} {w : List ℕ} {t : ValueType} → value_type w ≡ Some t → GlobalTypeIs (Word w ∷ ts) (record { is_mutable = false; value = t }) ts
+  by_mutable : {ts : List Terminal} {v w : List ℕ} {t : ValueType} → v ≡ codes "mut" → value_type w ≡ Some t → GlobalTypeIs (Open ∷ Word v ∷ Word w ∷ Close ∷ ts) (record { is_mutable = true; value = t }) ts
 
 -- 6.6.9: the index space that a word of an export names; the word of a field is the same
 abbrev pub space_of : List ℕ → Option IndexSpace
@@ -187,7 +192,7 @@ pub data FieldIs (context : Context) : List Terminal → List Field → List Ter
   -- 6.6.6, 6.4.8: table = `(` table id? export* limits reftype `)`
   by_table : {w v : List ℕ} {ts hs r : List Terminal} {names : List (List ℕ)} {limits : Limits} {t : ReferenceType}
       → w ≡ codes "table" → Many InlineExport (label_of ts).1 names hs → LimitsAre hs limits (Word v ∷ Close ∷ r) → reference_type v ≡ Some t
-      → FieldIs context (Open ∷ Word w ∷ ts) (Table (label_of ts).0 names (record { limits = limits; of = t }) ∷ []) r
+      → FieldIs context (Open ∷ Word w ∷ ts) (Table (label_of ts).0 names (record { limits = limits; element = t }) ∷ []) r
   -- 6.6.7, 6.4.7: mem = `(` memory id? export* limits `)`
   by_memory : {w : List ℕ} {ts hs r : List Terminal} {names : List (List ℕ)} {limits : Limits}
       → w ≡ codes "memory" → Many InlineExport (label_of ts).1 names hs → LimitsAre hs limits (Close ∷ r) → FieldIs context (Open ∷ Word w ∷ ts) (Memory (label_of ts).0 names limits ∷ []) r
@@ -196,12 +201,12 @@ pub data FieldIs (context : Context) : List Terminal → List Field → List Ter
       → w ≡ codes "global" → Many InlineExport (label_of ts).1 names hs → GlobalTypeIs hs t bs → Body context bs is r → FieldIs context (Open ∷ Word w ∷ ts) (Global (label_of ts).0 names t is ∷ []) r
   -- 6.6.9: export = `(` export name `(` func index `)` `)`, and so of a table, a memory or a global
   by_export : {w n v : List ℕ} {ts r : List Terminal} {s : IndexSpace} {i : ℕ}
-      → w ≡ codes "export" → is_utf8 n ≡ true → space_of v ≡ Some s → index (names_of context s) ts ≡ Ok (i, Close ∷ Close ∷ r) → FieldIs context (Open ∷ Word w ∷ Text n ∷ Open ∷ Word v ∷ ts) (Export n s i ∷ []) r
+      → w ≡ codes "export" → is_utf8 n ≡ true → space_of v ≡ Some s → IndexIs (names_of context s) ts i (Close ∷ Close ∷ r) → FieldIs context (Open ∷ Word w ∷ Text n ∷ Open ∷ Word v ∷ ts) (Export n s i ∷ []) r
   -- 6.6.10: start = `(` start index `)`
-  by_start : {w : List ℕ} {ts r : List Terminal} {i : ℕ} → w ≡ codes "start" → index context.funcs ts ≡ Ok (i, Close ∷ r) → FieldIs context (Open ∷ Word w ∷ ts) (Start i ∷ []) r
+  by_start : {w : List ℕ} {ts r : List Terminal} {i : ℕ} → w ≡ codes "start" → IndexIs context.funcs ts i (Close ∷ r) → FieldIs context (Open ∷ Word w ∷ ts) (Start i ∷ []) r
 
 -- 6.6.13: module = `(` module id? field* `)`, and nothing after it. The context is the one that the fields themselves bring; there is one start function
 -- at most.
 pub data Module : List Terminal → List Field → Type 0 where
   by_module : {w : List ℕ} {ts : List Terminal} {fs : List Field}
-      → w ≡ codes "module" → Many (FieldIs (context_of (heads_of fs))) (label_of ts).1 fs (Close ∷ []) → all_distinct (context_of (heads_of fs)) ≡ true → length (starts_of fs) ≤ 1 → Module (Open ∷ Word w ∷ ts) fs
+      → w ≡ codes "module" → Many (FieldIs (context_of (bindings_of fs))) (label_of ts).1 fs (Close ∷ []) → all_distinct (context_of (bindings_of fs)) ≡ true → length (starts_of fs) ≤ 1 → Module (Open ∷ Word w ∷ ts) fs

@@ -13,7 +13,7 @@ use Rattle.wat_fields.specs.declared.fields.IndexSpace.TheVariants as space
 use Rattle.wat_fields.specs.declared.fields.Limits.{Limits}
 use Rattle.wat_fields.specs.declared.fields.ReferenceType.{ReferenceType}
 use Rattle.wat_fields.specs.declared.fields.TableType.{TableType}
-use Rattle.wat_fields.specs.Fields.{Field, Func, Table, Memory, Global, Export, Start, Function, Head, Variable, head, variable, unnamed, name_of, names_of, context_of, with_locals, are_distinct, all_distinct, reference_type, space_of, starts_of}
+use Rattle.wat_fields.specs.Fields.{Field, Func, Table, Memory, Global, Export, Start, Function, Binding, Variable, binding, variable, unnamed, name_of, names_of, context_of, with_locals, are_distinct, all_distinct, reference_type, space_of, starts_of}
 
 -- a value and the tokens after it, or the fault
 abbrev pub Read : Type 0 → Type 0
@@ -157,7 +157,7 @@ reference_at (Word w ∷ ts) = reference_by (reference_type w) (Word w ∷ ts) t
 reference_at ts = Err (Unexpected, ts)
 
 abbrev pub table : Label → List (List ℕ) → Limits → ReferenceType → Field
-table l ns limits t = Table l ns (record { limits = limits; of = t })
+table l ns limits t = Table l ns (record { limits = limits; element = t })
 
 abbrev pub table_at : Label × List Terminal → Read (List Field)
 table_at p = and_then (all export_item p.1) (λ ns us. and_then (limits_at us) (λ limits vs. and_then (reference_at vs) (λ t xs. Ok (table p.0 ns limits t ∷ [], xs))))
@@ -166,7 +166,7 @@ abbrev pub memory_at : Label × List Terminal → Read (List Field)
 memory_at p = and_then (all export_item p.1) (λ ns us. and_then (limits_at us) (λ limits vs. closing (Memory p.0 ns limits ∷ []) (closed vs)))
 
 abbrev pub global_type : Bool → ValueType → GlobalType
-global_type b t = record { is_mutable = b; of = t }
+global_type b t = record { is_mutable = b; value = t }
 
 abbrev pub constant_by : Option ValueType → List Terminal → List Terminal → Read GlobalType
 constant_by None all ts = Err (UnknownWord, all)
@@ -253,9 +253,9 @@ head_name (Id x) = Some x
 head_name t = None
 
 -- the item that it defines
-abbrev pub head_by : Option IndexSpace → Label → List Head
-head_by None l = []
-head_by (Some s) l = head s l ∷ []
+abbrev pub binding_by : Option IndexSpace → Label → List Binding
+binding_by None l = []
+binding_by (Some s) l = binding s l ∷ []
 
 -- after a first token after its word
 abbrev pub head_depth : Terminal → Depth
@@ -269,16 +269,16 @@ after_close zero = Before
 after_close (suc d) = Inside d
 
 -- the items after others, by the parentheses alone
-unfoldable pub heads : Depth → List Head → List Terminal → List Head
-heads d hs [] = hs
-heads Before hs (Open ∷ ts) = heads Opened hs ts
-heads Before hs (t ∷ ts) = hs
-heads Opened hs (Word w ∷ ts) = heads (Headed (space_of w)) hs ts
-heads Opened hs (t ∷ ts) = hs
-heads (Headed s) hs (t ∷ ts) = heads (head_depth t) (hs ++ head_by s (head_name t)) ts
-heads (Inside d) hs (Open ∷ ts) = heads (Inside (suc d)) hs ts
-heads (Inside d) hs (Close ∷ ts) = heads (after_close d) hs ts
-heads (Inside d) hs (t ∷ ts) = heads (Inside d) hs ts
+unfoldable pub bindings : Depth → List Binding → List Terminal → List Binding
+bindings d hs [] = hs
+bindings Before hs (Open ∷ ts) = bindings Opened hs ts
+bindings Before hs (t ∷ ts) = hs
+bindings Opened hs (Word w ∷ ts) = bindings (Headed (space_of w)) hs ts
+bindings Opened hs (t ∷ ts) = hs
+bindings (Headed s) hs (t ∷ ts) = bindings (head_depth t) (hs ++ binding_by s (head_name t)) ts
+bindings (Inside d) hs (Open ∷ ts) = bindings (Inside (suc d)) hs ts
+bindings (Inside d) hs (Close ∷ ts) = bindings (after_close d) hs ts
+bindings (Inside d) hs (t ∷ ts) = bindings (Inside d) hs ts
 
 -- `)`, and the end
 abbrev pub ended : Read (List Field) → Result (List Field) Fault
@@ -297,7 +297,7 @@ abbrev pub fields_of : Context → List Terminal → Result (List Field) Fault
 fields_of context ts = if all_distinct context then started ts (ended (all (field_item context) ts)) else Err (Duplicate, ts)
 
 abbrev pub fields_at : List Terminal → Result (List Field) Fault
-fields_at ts = fields_of (context_of (heads Before [] ts)) ts
+fields_at ts = fields_of (context_of (bindings Before [] ts)) ts
 
 -- a module after its `(`
 abbrev pub module_word : List Terminal → Result (List Field) Fault

@@ -20,13 +20,13 @@ use Rattle.wat_fields.specs.declared.fields.IndexSpace.TheVariants as space
 use Rattle.wat_fields.specs.declared.binary.Counts as declared_counts
 use Rattle.wat_fields.specs.declared.binary.FunctionType as declared_type
 use Rattle.wat_fields.specs.declared.binary.Run as declared_run
-use Rattle.wat_fields.specs.declared.names.Head as declared_head
+use Rattle.wat_fields.specs.declared.names.Binding as declared_binding
 use Rattle.wat_fields.specs.declared.names.Names as declared_names
 use Rattle.wat_fields.specs.declared.names.Depth as declared_depth
 use Rattle.wat_fields.specs.declared.names.Depth.TheVariants as depths
 use Rattle.wat_lex.specs.binary.Leb128.{unsigned_leb128}
 use Rattle.wat_fields.specs.Binary.{Export, FunctionType, Run, export, next_index, run, section}
-use Rattle.wat_fields.specs.Fields.{Field, Func, Table, Memory, Global, Start, Function, Head, Variable, head, variable}
+use Rattle.wat_fields.specs.Fields.{Field, Func, Table, Memory, Global, Start, Function, Binding, Variable, binding, variable}
 use Rattle.wat_fields.specs.Fields as field
 use Rattle.wat_fields.specs.Reading.{Header, Item, Depth, Before, Opened, Headed, Inside}
 
@@ -66,8 +66,8 @@ field_of (fields.Start i) = Start i
 abbrev pub fields_of : List declared_field.Field → List Field
 fields_of fs = map field_of fs
 
-abbrev pub head_of : declared_head.Head → Head
-head_of h = head h.space (label h.name)
+abbrev pub binding_of : declared_binding.Binding → Binding
+binding_of h = binding h.space (label h.name)
 
 abbrev pub context_of : declared_names.Names → Context
 context_of n = record {

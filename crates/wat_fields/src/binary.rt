@@ -427,7 +427,7 @@ fn put_functions(
 
 /// Appends limits.
 fn put_limits(out: &mut Vec<u8>, limits: Limits) -> Result<(), AllocError>
-    ensures { OnOk result (out.new.items ≡ out.old.items ++ binary.memory_bytes limits) }
+    ensures { OnOk result (out.new.items ≡ out.old.items ++ binary.limits_bytes limits) }
 {
     match limits.max {
         Some(max) => {
@@ -456,7 +456,7 @@ fn reference_byte(of: ReferenceType) -> u8
 fn put_table(out: &mut Vec<u8>, of: TableType) -> Result<(), AllocError>
     ensures { OnOk result (out.new.items ≡ out.old.items ++ binary.table_bytes of) }
 {
-    out.push(reference_byte(of.of))?;
+    out.push(reference_byte(of.element))?;
     put_limits(out, of.limits)
 }
 
@@ -505,7 +505,7 @@ fn put_global(
 ) -> Result<(), AllocError>
     ensures { OnOk result (out.new.items ≡ out.old.items ++ binary.global_bytes (of, first.now)) }
 {
-    out.push(type_byte(of.of))?;
+    out.push(type_byte(of.value))?;
     out.push(mutability_byte(of.is_mutable))?;
     put_instructions(out, first)?;
     out.push(0x0B)?;

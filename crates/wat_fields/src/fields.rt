@@ -68,14 +68,14 @@ pub struct Limits {
 #[derive(Clone, Copy)]
 pub struct TableType {
     pub limits: Limits,
-    pub of: ReferenceType,
+    pub element: ReferenceType,
 }
 
 /// The type of a global variable.
 #[derive(Clone, Copy)]
 pub struct GlobalType {
     pub is_mutable: bool,
-    pub of: ValueType,
+    pub value: ValueType,
 }
 
 /// A table.
@@ -429,8 +429,8 @@ fn table_at<'p, 'a>(
     let (name, rest) = reading::label(pieces);
     let (exports, rest) = exports(alloc, rest)?;
     let (limits, rest) = limits(rest)?;
-    let (of, rest) = reference_type(rest)?;
-    let of = TableType { limits, of };
+    let (element, rest) = reference_type(rest)?;
+    let of = TableType { limits, element };
     Ok((Field::Table(Table { name, exports, of }), rest))
 }
 

@@ -3,7 +3,7 @@ ghost use Rattle.std.specs.Prelude.{◌≡◌, ◌++◌, ◌∷◌, [], IfOk, On
 ghost use Rattle.wat_fields.specs.Fields.{all_distinct, are_distinct, has_name, is_space, name_of, names_in, names_of};
 ghost use Rattle.wat_fields.specs.Fields as grammar;
 ghost use Rattle.wat_fields.specs.Reading as reading;
-ghost use Rattle.wat_fields.specs.Views.{context_of, depth_of, head_of, variable_of};
+ghost use Rattle.wat_fields.specs.Views.{context_of, depth_of, binding_of, variable_of};
 ghost use Rattle.wat_instructions.specs.Terminals.{label, terminal};
 
 use crate::fields::{IndexSpace, Variable};
@@ -23,7 +23,7 @@ enum Depth {
 
 /// An item of an index space.
 #[derive(Clone, Copy)]
-struct Head<'p> {
+struct Binding<'p> {
     space: IndexSpace,
     name: Name<'p>,
 }
@@ -39,13 +39,13 @@ pub(crate) struct Names<'p> {
 
 /// The names of the items that fields define, by the parentheses alone.
 pub(crate) fn names_of<'p>(alloc: Global, pieces: &'p [Piece<'_>]) -> Result<Names<'p>, AllocError>
-    ensures { IfOk result (λ names. context_of names ≡ grammar.context_of (reading.heads reading.Before [] (map terminal pieces.now))) }
+    ensures { IfOk result (λ names. context_of names ≡ grammar.context_of (reading.bindings reading.Before [] (map terminal pieces.now))) }
 {
-    let heads = heads(alloc, pieces)?;
-    let funcs = names_among(alloc, &heads, IndexSpace::Func)?;
-    let tables = names_among(alloc, &heads, IndexSpace::Table)?;
-    let memories = names_among(alloc, &heads, IndexSpace::Memory)?;
-    let globals = names_among(alloc, &heads, IndexSpace::Global)?;
+    let bindings = bindings(alloc, pieces)?;
+    let funcs = names_among(alloc, &bindings, IndexSpace::Func)?;
+    let tables = names_among(alloc, &bindings, IndexSpace::Table)?;
+    let memories = names_among(alloc, &bindings, IndexSpace::Memory)?;
+    let globals = names_among(alloc, &bindings, IndexSpace::Global)?;
     Ok(Names {
         funcs,
         tables,
@@ -70,15 +70,15 @@ fn is_space(a: IndexSpace, b: IndexSpace) -> bool
 /// The names of an index space.
 fn names_among<'p>(
     alloc: Global,
-    heads: &[Head<'p>],
+    bindings: &[Binding<'p>],
     space: IndexSpace,
 ) -> Result<Vec<Name<'p>>, AllocError>
-    ensures { IfOk result (λ names. map label names.items ≡ names_in space (map head_of heads.now)) }
+    ensures { IfOk result (λ names. map label names.items ≡ names_in space (map binding_of bindings.now)) }
 {
     let mut names = Vec::new(alloc);
-    for head in heads {
-        if is_space(space, head.space) {
-            names.push(head.name)?;
+    for binding in bindings {
+        if is_space(space, binding.space) {
+            names.push(binding.name)?;
         }
     }
     Ok(names)
@@ -97,11 +97,11 @@ pub(crate) fn names_in<'s, 'p>(names: &'s Names<'p>, space: IndexSpace) -> &'s [
 }
 
 /// The items that fields define, in their order, by the parentheses alone.
-#[tactic(auto, unfolding(crate::specs::Reading::heads))]
-fn heads<'p>(alloc: Global, pieces: &'p [Piece<'_>]) -> Result<Vec<Head<'p>>, AllocError>
-    ensures { IfOk result (λ heads. map head_of heads.items ≡ reading.heads reading.Before [] (map terminal pieces.now)) }
+#[tactic(auto, unfolding(crate::specs::Reading::bindings))]
+fn bindings<'p>(alloc: Global, pieces: &'p [Piece<'_>]) -> Result<Vec<Binding<'p>>, AllocError>
+    ensures { IfOk result (λ bindings. map binding_of bindings.items ≡ reading.bindings reading.Before [] (map terminal pieces.now)) }
 {
-    let mut heads = Vec::new(alloc);
+    let mut bindings = Vec::new(alloc);
     let mut depth = Depth::Before;
     for piece in pieces {
         match depth {
@@ -112,7 +112,7 @@ fn heads<'p>(alloc: Global, pieces: &'p [Piece<'_>]) -> Result<Vec<Head<'p>>, Al
                 | Piece::Id(_)
                 | Piece::Integer(_, _)
                 | Piece::Text(_)
-                | Piece::Other => return Ok(heads),
+                | Piece::Other => return Ok(bindings),
             },
             Depth::Opened => match *piece {
                 Piece::Word(word) => depth = Depth::Headed(space_of(word)),
@@ -121,10 +121,10 @@ fn heads<'p>(alloc: Global, pieces: &'p [Piece<'_>]) -> Result<Vec<Head<'p>>, Al
                 | Piece::Id(_)
                 | Piece::Integer(_, _)
                 | Piece::Text(_)
-                | Piece::Other => return Ok(heads),
+                | Piece::Other => return Ok(bindings),
             },
             Depth::Headed(space) => {
-                push_head(&mut heads, space, name_of(*piece))?;
+                push_binding(&mut bindings, space, name_of(*piece))?;
                 depth = after_head(*piece);
             }
             Depth::Inside(open) => match *piece {
@@ -138,20 +138,20 @@ fn heads<'p>(alloc: Global, pieces: &'p [Piece<'_>]) -> Result<Vec<Head<'p>>, Al
             },
         }
     }
-    Ok(heads)
+    Ok(bindings)
 }
 
 /// Appends the item of a field, where it defines one.
-fn push_head<'p>(
-    heads: &mut Vec<Head<'p>>,
+fn push_binding<'p>(
+    bindings: &mut Vec<Binding<'p>>,
     space: Option<IndexSpace>,
     name: Name<'p>,
 ) -> Result<(), AllocError>
-    ensures { OnOk result (map head_of heads.new.items ≡ map head_of heads.old.items ++ reading.head_by space (label name.entry)) }
+    ensures { OnOk result (map binding_of bindings.new.items ≡ map binding_of bindings.old.items ++ reading.binding_by space (label name.entry)) }
 {
     match space {
         Some(space) => {
-            heads.push(Head { space, name })?;
+            bindings.push(Binding { space, name })?;
             Ok(())
         }
         None => Ok(()),

@@ -191,9 +191,9 @@ pub(crate) fn global_type<'p, 'a>(
 {
     match pieces {
         [Piece::Word(word), rest @ ..] => match value_type(word) {
-            Some(of) => {
+            Some(value) => {
                 let is_mutable = false;
-                Ok((GlobalType { is_mutable, of }, rest))
+                Ok((GlobalType { is_mutable, value }, rest))
             }
             None => Err(Fault {
                 kind: FaultKind::UnknownWord,
@@ -297,7 +297,7 @@ fn closing_mutable<'p, 'a>(
 {
     let rest = closed(pieces)?;
     let is_mutable = true;
-    Ok((GlobalType { is_mutable, of }, rest))
+    Ok((GlobalType { is_mutable, value: of }, rest))
 }
 
 /// `)` and `)`.

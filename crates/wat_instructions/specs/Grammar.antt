@@ -22,7 +22,7 @@ use Rattle.wat_instructions.specs.Terminals.{Terminal, Open, Close, Word, Id, In
 abbrev pub Fault : Type 0
 Fault = FaultKind × List Terminal
 
--- 6.1.3 contexts: the names of each index space but that of labels, in the order of their indices
+-- 6.1.3 contexts: the names of the items of five index spaces, each in the order of their indices
 pub record Context : Type 0 where
   pub locals : List Label
   pub funcs : List Label

@@ -9,7 +9,7 @@ use crate::memory;
 use crate::pieces::{Argument, Fault, FaultKind, Frame, Instruction, Name, Piece, Sign, ValueType};
 use crate::table::{self, Immediate};
 
-/// The names of each index space but that of labels, in the order of their indices.
+/// The names of the items of five index spaces, each in the order of their indices.
 #[derive(Clone, Copy)]
 pub struct Scope<'s, 'n> {
     pub locals: &'s [Name<'n>],

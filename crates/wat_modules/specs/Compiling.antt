@@ -23,7 +23,8 @@ pub record Spells (text : List ℕ) (fs : List Field) : Type 0 where
 abbrev pub SpellingIsOne : Type 0
 SpellingIsOne = (text : List ℕ) (fs gs : List Field) → Spells text fs → Spells text gs → fs ≡ gs
 
--- A rule of our own, so that all sizes are `u32`: 5.5.2 bounds each size, and not the whole.
+-- A rule of our own, so that all sizes are `u32`: 5.5.2 bounds each size, and not the whole. That counts of local variables are (5.5.13) follows from the
+-- length of the text, which is below 2 ^ 32.
 abbrev pub Fits : List Field → Type 0
 Fits fs = length (module_bytes fs) < 2 ^ 32
 
