@@ -147,6 +147,32 @@ fn refused(rt: HostRuntime) -> Result<(), Fail> {
             23,
         ),
         ("(module (func $f) (func $f))", "duplicate identifier", 8),
+        (
+            "(module (memory $a 1) (memory $a 1))",
+            "duplicate identifier",
+            8,
+        ),
+        (
+            "(module (start 1) (start 2))",
+            "more than one start function",
+            8,
+        ),
+        ("(module (memory +1))", "unexpected token", 16),
+        ("(module (memory 4294967296))", "number out of range", 16),
+        ("(module (table 1 func))", "unknown keyword", 17),
+        ("(module (global (const i32)))", "unknown keyword", 17),
+        ("(module (export \"e\" (func $f)))", "unknown identifier", 26),
+        (
+            "(module (func $f) (export \"e\" (memory $f)))",
+            "unknown identifier",
+            38,
+        ),
+        (
+            "(module (export \"\\ff\" (func 0)))",
+            "name is not UTF-8",
+            16,
+        ),
+        ("(module (data 0))", "unknown keyword", 9),
         ("(module (func \"", "unexpected end-of-file", 15),
     ];
     for (text, expected, place) in rows.iter() {
