@@ -8,16 +8,14 @@ use Rattle.wat_instructions.specs.Grammar.{Context, Body, index, label_of}
 use Rattle.wat_instructions.specs.Law.{InstructionsAreBalanced, InstructionsTakeTokens, MachineIsGrammar, past}
 use Rattle.wat_instructions.specs.Machine as machine
 use Rattle.wat_instructions.specs.Terminals.{Terminal, Open, Close, Word, Id, Integer, Text, Other, Label}
-use Rattle.wat_fields.specs.declared.fields.GlobalType.{GlobalType}
 use Rattle.wat_fields.specs.declared.fields.IndexSpace.{IndexSpace}
 use Rattle.wat_fields.specs.declared.fields.IndexSpace.TheVariants as space
-use Rattle.wat_fields.specs.declared.fields.Limits.{Limits}
-use Rattle.wat_fields.specs.declared.fields.ReferenceType.{ReferenceType}
-use Rattle.wat_fields.specs.Fields.{Many, Group, InlineExport, IndexIs, by_number, by_identifier, LimitsAre, GlobalTypeIs, Variable, Field, Func, Table, Memory, Global, Export, Start, FieldIs, by_func, by_table, by_memory, by_global, by_export, by_start, are_distinct, name_of, names_of, with_locals, space_of, reference_type}
-use Rattle.wat_fields.specs.Reading.{Read, Header, and_then, all, closed, closing, utf8_text, after_header, export_item, function, func_at, header, instructions, table, limits_at, reference_at, table_at, memory_at, global_type_at, global_at, twice_closed, external_by, external_word, external_at, export_at, start_at, other_at, field_by, field, field_item}
+use Rattle.wat_fields.specs.Fields.{Many, Group, InlineExport, IndexIs, by_number, by_identifier, LimitsAre, Variable, Field, Func, Memory, Global, Export, Start, FieldIs, by_func, by_table, by_memory, by_global, by_export, by_start, name_of, names_of, with_locals, space_of}
+use Rattle.wat_instructions.specs.Names.{are_distinct}
+use Rattle.wat_fields.specs.Reading.{Header, and_then, all, closed, closing, utf8_text, after_header, export_item, function, func_at, header, instructions, table, limits_at, reference_at, table_at, memory_at, global_type_at, global_at, twice_closed, external_by, external_word, external_at, export_at, start_at, field_by, field, field_item}
 use Rattle.wat_fields.proofs.Headers.{NoHeader, header_sound, header_complete, ends_body, export_is_none, param_is_none, result_is_none, local_is_none}
 use Rattle.wat_fields.proofs.Headers as headers
-use Rattle.wat_fields.proofs.Items.{exports_read, export_past, group_past, group_takes, word_is, is_word, closing_inv, closed_is, utf8_inv}
+use Rattle.wat_fields.proofs.Items.{exports_read, export_past, group_past, group_takes, word_is, closing_inv, closed_is, utf8_inv}
 use Rattle.wat_fields.proofs.Manies.{Gives, gives_of, of_gives, and_then_inv, Brings, Reads, all_sound, all_complete, many_takes, many_past}
 use Rattle.wat_fields.proofs.TypeRules.{Passes, limits_sound, limits_complete, limits_pass, limits_no_export, reference_sound, reference_complete, global_type_sound, global_type_complete, global_type_pass, global_type_no_export, index_sound, index_complete, index_pass, twice_closed_is}
 

@@ -1,11 +1,10 @@
 -- What is read of a module is what the grammar spells.
-use Rattle.std.proofs.Common.{◌≡◌, ◌<◌, ◌≤◌, ℕ, zero, suc, Bool, true, false, List, [], ◌∷◌, ◌++◌, length, map, Option, Some, None, Result, Ok, Err, refl, sym, ap, subst, ◌∙◌, arith, append_assoc, append-nil}
+use Rattle.std.proofs.Common.{◌≡◌, ◌<◌, ◌≤◌, ℕ, zero, suc, Bool, true, false, List, [], ◌∷◌, ◌++◌, length, Option, Some, None, Result, Ok, Err, refl, sym, ap, subst, ◌∙◌, arith, append_assoc, append-nil}
 use Rattle.std.specs.Prelude.{if◌then◌else◌, bytes_eq, codes, nat_lt}
-use Rattle.std.specs.List.{flat_map}
 use Rattle.std.proofs.lemmas.Bool.Decides.{Decides-ltb}
 use Rattle.std.proofs.lemmas.Grind.{flat_map-append}
 use Rattle.wat_instructions.specs.declared.pieces.FaultKind.TheVariants.{UnknownWord, Duplicate, SecondStart}
-use Rattle.wat_instructions.specs.Grammar.{Context, Fault, index, label_of}
+use Rattle.wat_instructions.specs.Grammar.{Context, Fault, label_of}
 use Rattle.wat_instructions.specs.Law.{past}
 use Rattle.wat_instructions.specs.Terminals.{Terminal, Open, Close, Word, Id, Integer, Text, Other}
 use Rattle.wat_fields.specs.declared.fields.IndexSpace.{IndexSpace}
@@ -14,7 +13,7 @@ use Rattle.wat_fields.specs.Fields.{Many, by_none, by_more, Field, FieldIs, by_f
 use Rattle.wat_fields.specs.Law.{ReadingIsGrammar}
 use Rattle.wat_fields.specs.Reading.{Read, all, field_item, fields_at, fields_of, binding_by, whole, module_word, ended, started, bindings, Before, Headed, Inside}
 use Rattle.wat_fields.proofs.Items.{word_is, is_word}
-use Rattle.wat_fields.proofs.FieldKinds.{Laws, Closes, After, field_after, fields_read}
+use Rattle.wat_fields.proofs.FieldKinds.{Laws, Closes, field_after, fields_read}
 use Rattle.wat_fields.proofs.Manies.{all_sound, all_complete}
 
 -- The items that fields define, by the parentheses alone.

@@ -9,7 +9,8 @@ use Rattle.std.specs.Str.{is_utf8}
 use Rattle.wat_instructions.specs.declared.pieces.Instruction.{Instruction}
 use Rattle.wat_instructions.specs.declared.pieces.Sign.TheVariants.{Absent}
 use Rattle.wat_instructions.specs.declared.pieces.ValueType.{ValueType}
-use Rattle.wat_instructions.specs.Grammar.{Body, Context, is_name, label_of, position, value_type}
+use Rattle.wat_instructions.specs.Grammar.{Body, Context, label_of, position, value_type}
+use Rattle.wat_instructions.specs.Names.{are_distinct}
 use Rattle.wat_instructions.specs.Terminals.{Terminal, Open, Close, Word, Id, Integer, Text, Label}
 use Rattle.wat_fields.specs.declared.fields.GlobalType.{GlobalType}
 use Rattle.wat_fields.specs.declared.fields.IndexSpace.{IndexSpace}
@@ -168,17 +169,7 @@ abbrev pub space_of : List ℕ → Option IndexSpace
 space_of w =
     if bytes_eq w (codes "func") then Some space.Func else if bytes_eq w (codes "table") then Some space.Table else if bytes_eq w (codes "memory") then Some space.Memory else if bytes_eq w (codes "global") then Some space.Global else None
 
--- 6.1.3, 6.6.5, 6.6.13: no two of these have the same identifier
-abbrev pub has_name : List ℕ → List Label → Bool
-has_name x [] = false
-has_name x (l ∷ ls) = if is_name x l then true else has_name x ls
-
-abbrev pub are_distinct : List Label → Bool
-are_distinct [] = true
-are_distinct (None ∷ ls) = are_distinct ls
-are_distinct (Some x ∷ ls) = if has_name x ls then false else are_distinct ls
-
--- 6.6.13: in each index space
+-- 6.6.13: the identifiers are distinct in each index space
 abbrev pub all_distinct : Context → Bool
 all_distinct context = are_distinct context.funcs && are_distinct context.tables && are_distinct context.memories && are_distinct context.globals
 

@@ -12,8 +12,8 @@ use Rattle.wat_fields.specs.declared.fields.IndexSpace.{IndexSpace}
 use Rattle.wat_fields.specs.declared.fields.IndexSpace.TheVariants as space
 use Rattle.wat_fields.specs.declared.fields.Limits.{Limits}
 use Rattle.wat_fields.specs.declared.fields.ReferenceType.{ReferenceType}
-use Rattle.wat_fields.specs.declared.fields.TableType.{TableType}
-use Rattle.wat_fields.specs.Fields.{Field, Func, Table, Memory, Global, Export, Start, Function, Binding, Variable, binding, variable, unnamed, name_of, names_of, context_of, with_locals, are_distinct, all_distinct, reference_type, space_of, starts_of}
+use Rattle.wat_fields.specs.Fields.{Field, Func, Table, Memory, Global, Export, Start, Function, Binding, Variable, binding, variable, unnamed, name_of, names_of, context_of, with_locals, all_distinct, reference_type, space_of, starts_of}
+use Rattle.wat_instructions.specs.Names.{are_distinct}
 
 -- a value and the tokens after it, or the fault
 abbrev pub Read : Type 0 → Type 0

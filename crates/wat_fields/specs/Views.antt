@@ -12,10 +12,6 @@ use Rattle.wat_fields.specs.declared.fields.Function as declared_function
 use Rattle.wat_fields.specs.declared.fields.Export as declared_export
 use Rattle.wat_fields.specs.declared.fields.Field as declared_field
 use Rattle.wat_fields.specs.declared.fields.Field.TheVariants as fields
-use Rattle.wat_fields.specs.declared.fields.GlobalVariable as declared_global
-use Rattle.wat_fields.specs.declared.fields.Memory as declared_memory
-use Rattle.wat_fields.specs.declared.fields.Table as declared_table
-use Rattle.wat_fields.specs.declared.fields.IndexSpace.{IndexSpace}
 use Rattle.wat_fields.specs.declared.fields.IndexSpace.TheVariants as space
 use Rattle.wat_fields.specs.declared.binary.Counts as declared_counts
 use Rattle.wat_fields.specs.declared.binary.FunctionType as declared_type
@@ -72,10 +68,10 @@ binding_of h = binding h.space (label h.name)
 abbrev pub context_of : declared_names.Names → Context
 context_of n = record {
   locals = [];
-  funcs = map label n.funcs.items;
-  tables = map label n.tables.items;
-  memories = map label n.memories.items;
-  globals = map label n.globals.items;
+  funcs = n.funcs;
+  tables = n.tables;
+  memories = n.memories;
+  globals = n.globals;
 }
 
 -- the same with names of local variables

@@ -498,11 +498,7 @@ fn mutability_byte(is_mutable: bool) -> u8
 }
 
 /// Appends a global variable.
-fn put_global(
-    out: &mut Vec<u8>,
-    of: GlobalType,
-    first: &[Instruction],
-) -> Result<(), AllocError>
+fn put_global(out: &mut Vec<u8>, of: GlobalType, first: &[Instruction]) -> Result<(), AllocError>
     ensures { OnOk result (out.new.items ≡ out.old.items ++ binary.global_bytes (of, first.now)) }
 {
     out.push(type_byte(of.value))?;

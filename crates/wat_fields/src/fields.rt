@@ -10,10 +10,11 @@ ghost use Rattle.wat_instructions.specs.Terminals.{Close, label, terminal};
 
 use crate::binary::module_bytes;
 use crate::header::{closed, exports, read_header, utf8_text};
-use crate::names::{Names, all_distinct, are_distinct, names_in, names_of, variable_names};
+use crate::names::{Names, names_in, names_of, variable_names};
 use crate::types::{global_type, limits, reference_type, space_of, twice_closed};
 use std::alloc::Global;
 use wat_instructions::machine;
+use wat_instructions::names::IndexedNames;
 use wat_instructions::pieces::{Fault, FaultKind, Instruction, Name, Piece, Refusal, ValueType};
 use wat_instructions::reading::{self, Scope};
 
@@ -147,10 +148,7 @@ pub fn compile<'p, 'a>(alloc: Global, pieces: &'p [Piece<'a>]) -> Result<Vec<u8>
 
 /// The fields of a module.
 #[tactic(auto, unfolding(crate::specs::Reading::whole))]
-fn module<'p, 'a>(
-    alloc: Global,
-    pieces: &'p [Piece<'a>],
-) -> Result<Vec<Field<'p>>, Refusal<'p, 'a>>
+fn module<'p, 'a>(alloc: Global, pieces: &'p [Piece<'a>]) -> Result<Vec<Field<'p>>, Refusal<'p, 'a>>
     ensures { MatchResult result
         (λ fs. reading.whole (map terminal pieces.now) ≡ Ok (fields_of fs.items))
         (λ e. Faults (reading.whole (map terminal pieces.now)) e) }
@@ -225,13 +223,12 @@ fn module_fields<'p, 'a>(
         (λ fs. reading.fields_at (map terminal pieces.now) ≡ Ok (fields_of fs.items))
         (λ e. Faults (reading.fields_at (map terminal pieces.now)) e) }
 {
-    let names = names_of(alloc, pieces)?;
-    if !all_distinct(&names) {
+    let Some(names) = names_of(alloc, pieces)? else {
         return Err(Refusal::Text(Fault {
             kind: FaultKind::Duplicate,
             left: pieces,
         }));
-    }
+    };
     let (fields, rest) = fields(alloc, &names, pieces)?;
     ended(rest)?;
     if starts(&fields) > 1 {
@@ -358,9 +355,7 @@ fn field_at<'p, 'a>(
         (λ e. Faults (reading.field (context_of names.now) (map terminal pieces.now)) e) }
 {
     match pieces {
-        [Piece::Word(word), rest @ ..] => {
-            field_after(alloc, names, *word, pieces, rest)
-        }
+        [Piece::Word(word), rest @ ..] => { field_after(alloc, names, *word, pieces, rest) }
         [
             Piece::Open
             | Piece::Close
@@ -470,7 +465,8 @@ fn global_at<'p, 'a>(
     let (name, rest) = reading::label(pieces);
     let (exports, rest) = exports(alloc, rest)?;
     let (of, rest) = global_type(rest)?;
-    let scope = scope(names, &[]);
+    let locals = IndexedNames::none(alloc);
+    let scope = scope(names, &locals);
     let (first, rest) = machine::instructions(alloc, &scope, rest)?;
     Ok((
         Field::Global(GlobalVariable {
@@ -619,8 +615,8 @@ fn start_at<'p, 'a>(
 }
 
 /// The context of instructions.
-fn scope<'s, 'n>(names: &'s Names<'n>, locals: &'s [Name<'n>]) -> Scope<'s, 'n>
-    ensures { scope_of result ≡ with_names (map label locals.now) (context_of names.now) }
+fn scope<'s, 'n>(names: &'s Names<'n>, locals: &'s IndexedNames<'n>) -> Scope<'s, 'n>
+    ensures { scope_of result ≡ with_names locals.now (context_of names.now) }
 {
     Scope {
         locals,
@@ -643,13 +639,12 @@ fn instructions<'p, 'a>(
         (λ r. reading.instructions (context_of names.now) (header_of header.now) (map terminal pieces.now) ≡ Ok (r.0.items, map terminal r.1.now))
         (λ e. Faults (reading.instructions (context_of names.now) (header_of header.now) (map terminal pieces.now)) e) }
 {
-    let locals = variable_names(alloc, &header.params, &header.locals)?;
-    if !are_distinct(&locals) {
+    let Some(locals) = variable_names(alloc, &header.params, &header.locals)? else {
         return Err(Refusal::Text(Fault {
             kind: FaultKind::Duplicate,
             left: pieces,
         }));
-    }
+    };
     let scope = scope(names, &locals);
     machine::instructions(alloc, &scope, pieces)
 }

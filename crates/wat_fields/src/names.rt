@@ -1,14 +1,16 @@
 //! The items that fields define, before the fields are read; and whether names are distinct.
-ghost use Rattle.std.specs.Prelude.{◌≡◌, ◌++◌, ◌∷◌, [], IfOk, OnOk, map};
-ghost use Rattle.wat_fields.specs.Fields.{all_distinct, are_distinct, has_name, is_space, name_of, names_in, names_of};
+ghost use Rattle.std.specs.Prelude.{◌≡◌, ◌++◌, ◌∷◌, [], IfOk, IfSome, OnOk, is_some, map};
+ghost use Rattle.wat_fields.specs.Fields.{all_distinct, is_space, name_of, names_in, names_of};
 ghost use Rattle.wat_fields.specs.Fields as grammar;
 ghost use Rattle.wat_fields.specs.Reading as reading;
 ghost use Rattle.wat_fields.specs.Views.{context_of, depth_of, binding_of, variable_of};
+ghost use Rattle.wat_instructions.specs.Names.{are_distinct};
 ghost use Rattle.wat_instructions.specs.Terminals.{label, terminal};
 
 use crate::fields::{IndexSpace, Variable};
 use crate::types::space_of;
 use std::alloc::{AllocError, Global};
+use wat_instructions::names::IndexedNames;
 use wat_instructions::pieces::{Name, Piece};
 
 /// Where in the fields a token is: before `(`, after it, after its word, and in a field, in so many
@@ -31,27 +33,35 @@ struct Binding<'p> {
 /// The names of each index space, in the order of their indices.
 #[derive(Drop)]
 pub(crate) struct Names<'p> {
-    pub(crate) funcs: Vec<Name<'p>>,
-    pub(crate) tables: Vec<Name<'p>>,
-    pub(crate) memories: Vec<Name<'p>>,
-    pub(crate) globals: Vec<Name<'p>>,
+    pub(crate) funcs: IndexedNames<'p>,
+    pub(crate) tables: IndexedNames<'p>,
+    pub(crate) memories: IndexedNames<'p>,
+    pub(crate) globals: IndexedNames<'p>,
 }
 
-/// The names of the items that fields define, by the parentheses alone.
-pub(crate) fn names_of<'p>(alloc: Global, pieces: &'p [Piece<'_>]) -> Result<Names<'p>, AllocError>
-    ensures { IfOk result (λ names. context_of names ≡ grammar.context_of (reading.bindings reading.Before [] (map terminal pieces.now))) }
+/// The names of the items that fields define, by the parentheses alone; None where two in an index
+/// space are the same.
+pub(crate) fn names_of<'p>(
+    alloc: Global,
+    pieces: &'p [Piece<'_>],
+) -> Result<Option<Names<'p>>, AllocError>
+    ensures these { IfOk result (λ found. IfSome found (λ names. context_of names ≡ grammar.context_of (reading.bindings reading.Before [] (map terminal pieces.now)))) }
+    ensures distinct { IfOk result (λ found. is_some found ≡ all_distinct (grammar.context_of (reading.bindings reading.Before [] (map terminal pieces.now)))) }
 {
     let bindings = bindings(alloc, pieces)?;
     let funcs = names_among(alloc, &bindings, IndexSpace::Func)?;
     let tables = names_among(alloc, &bindings, IndexSpace::Table)?;
     let memories = names_among(alloc, &bindings, IndexSpace::Memory)?;
     let globals = names_among(alloc, &bindings, IndexSpace::Global)?;
-    Ok(Names {
-        funcs,
-        tables,
-        memories,
-        globals,
-    })
+    match (funcs, tables, memories, globals) {
+        (Some(funcs), Some(tables), Some(memories), Some(globals)) => Ok(Some(Names {
+            funcs,
+            tables,
+            memories,
+            globals,
+        })),
+        _ => Ok(None),
+    }
 }
 
 /// Whether two index spaces are the same.
@@ -67,13 +77,14 @@ fn is_space(a: IndexSpace, b: IndexSpace) -> bool
     }
 }
 
-/// The names of an index space.
+/// The names of an index space; None where two are the same.
 fn names_among<'p>(
     alloc: Global,
     bindings: &[Binding<'p>],
     space: IndexSpace,
-) -> Result<Vec<Name<'p>>, AllocError>
-    ensures { IfOk result (λ names. map label names.items ≡ names_in space (map binding_of bindings.now)) }
+) -> Result<Option<IndexedNames<'p>>, AllocError>
+    ensures these { IfOk result (λ found. IfSome found (λ names. names ≡ names_in space (map binding_of bindings.now))) }
+    ensures distinct { IfOk result (λ found. is_some found ≡ are_distinct (names_in space (map binding_of bindings.now))) }
 {
     let mut names = Vec::new(alloc);
     for binding in bindings {
@@ -81,12 +92,12 @@ fn names_among<'p>(
             names.push(binding.name)?;
         }
     }
-    Ok(names)
+    IndexedNames::new(alloc, names)
 }
 
 /// The same of these.
-pub(crate) fn names_in<'s, 'p>(names: &'s Names<'p>, space: IndexSpace) -> &'s [Name<'p>]
-    ensures { map label result.now ≡ names_of (context_of names.now) space }
+pub(crate) fn names_in<'s, 'p>(names: &'s Names<'p>, space: IndexSpace) -> &'s IndexedNames<'p>
+    ensures { result.now ≡ names_of (context_of names.now) space }
 {
     match space {
         IndexSpace::Func => &names.funcs,
@@ -196,49 +207,14 @@ fn closed(groups: usize) -> Depth
     }
 }
 
-/// Whether one of the names is this one.
-fn has_name(names: &[Name<'_>], name: &str) -> bool
-    ensures { result ≡ has_name name.now (map label names.now) }
-{
-    for given in names {
-        if given.is(name) {
-            return true;
-        }
-    }
-    false
-}
-
-/// Whether no two of the names are the same.
-pub(crate) fn are_distinct(names: &[Name<'_>]) -> bool
-    ensures { result ≡ are_distinct (map label names.now) }
-{
-    for (i, name) in names.iter().enumerate() {
-        if let Name::Given(given) = *name {
-            if has_name(&names[i + 1..], given) {
-                return false;
-            }
-        }
-    }
-    true
-}
-
-/// Whether they are distinct in each index space.
-pub(crate) fn all_distinct(names: &Names<'_>) -> bool
-    ensures { result ≡ all_distinct (context_of names.now) }
-{
-    are_distinct(&names.funcs)
-        && are_distinct(&names.tables)
-        && are_distinct(&names.memories)
-        && are_distinct(&names.globals)
-}
-
-/// The names of parameters and local variables.
+/// The names of parameters and local variables; None where two are the same.
 pub(crate) fn variable_names<'p>(
     alloc: Global,
     params: &[Variable<'p>],
     locals: &[Variable<'p>],
-) -> Result<Vec<Name<'p>>, AllocError>
-    ensures { IfOk result (λ names. map label names.items ≡ map name_of (map variable_of params.now ++ map variable_of locals.now)) }
+) -> Result<Option<IndexedNames<'p>>, AllocError>
+    ensures these { IfOk result (λ found. IfSome found (λ names. names ≡ map name_of (map variable_of params.now ++ map variable_of locals.now))) }
+    ensures distinct { IfOk result (λ found. is_some found ≡ are_distinct (map name_of (map variable_of params.now ++ map variable_of locals.now))) }
 {
     let mut names = Vec::new(alloc);
     for param in params {
@@ -247,5 +223,5 @@ pub(crate) fn variable_names<'p>(
     for local in locals {
         names.push(local.name)?;
     }
-    Ok(names)
+    IndexedNames::new(alloc, names)
 }

@@ -297,7 +297,13 @@ fn closing_mutable<'p, 'a>(
 {
     let rest = closed(pieces)?;
     let is_mutable = true;
-    Ok((GlobalType { is_mutable, value: of }, rest))
+    Ok((
+        GlobalType {
+            is_mutable,
+            value: of,
+        },
+        rest,
+    ))
 }
 
 /// `)` and `)`.

@@ -145,6 +145,7 @@ inserted names i d y m n o g h e f k u was = (where_each, ap are_distinct (taken
   where
     new : has_name y.now (map label (take i names)) ≡ false
     new = has_is_found 0 y.now (map label (take i names)) ∙ f
+
     where_each : AreIndices o (map label (take (i + 1) names))
     where_each x = ap (get_by (λ k. slice_cmp nat_cmp x k.now)) g ∙ btree_map_updates_str y.now m n (Some i) u x ∙ ap (λ o. cond (bytes_eq y.now x) (Some i) o) (was.0 x)
         ∙ ap (λ j. if bytes_eq y.now x then Some j else position 0 x (map label (take i names))) (sym k)

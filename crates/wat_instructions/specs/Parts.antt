@@ -30,11 +30,11 @@ stack fs = stack_on fs []
 
 abbrev pub scope_of : Scope → Context
 scope_of s = record {
-  locals = map label s.locals.now;
-  funcs = map label s.funcs.now;
-  tables = map label s.tables.now;
-  memories = map label s.memories.now;
-  globals = map label s.globals.now;
+  locals = s.locals.now;
+  funcs = s.funcs.now;
+  tables = s.tables.now;
+  memories = s.memories.now;
+  globals = s.globals.now;
 }
 
 abbrev pub fault_of : declared.Fault → Fault

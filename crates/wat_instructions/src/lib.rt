@@ -5,8 +5,8 @@
 
 pub mod laws;
 pub mod machine;
-pub mod names;
 mod memory;
+pub mod names;
 pub mod pieces;
 pub mod reading;
 pub mod table;

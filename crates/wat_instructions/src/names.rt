@@ -1,5 +1,5 @@
 //! Names and their indices.
-ghost use Rattle.std.specs.Prelude.{◌≡◌, ◌≤◌, length, map, is_some, IfOk, IfSome};
+ghost use Rattle.std.specs.Prelude.{◌≡◌, ◌≤◌, [], length, map, is_some, IfOk, IfSome};
 ghost use Rattle.wat_instructions.specs.Grammar.{position};
 ghost use Rattle.wat_instructions.specs.Indices.{AreIndices, IndicesOf};
 ghost use Rattle.wat_instructions.specs.Names.{are_distinct, has_name};
@@ -12,13 +12,13 @@ use std::marker::Model;
 
 /// The names of a kind of items, in the order of their indices.
 #[derive(Drop)]
-pub struct Names<'n> {
+pub struct IndexedNames<'n> {
     names: Vec<Name<'n>>,
     /// The index of each, where they are more than `FEW`.
     indices: BTreeMap<&'n str, usize>,
 }
 
-impl<'n> Model for Names<'n> {
+impl<'n> Model for IndexedNames<'n> {
     ghost use Rattle.std.specs.Prelude.{List, map};
     ghost use Rattle.wat_instructions.specs.Indices.{IndicesOf};
     ghost use Rattle.wat_instructions.specs.Terminals.{Label, label};
@@ -33,9 +33,19 @@ impl<'n> Model for Names<'n> {
 /// So many names are searched one by one.
 const FEW: usize = 16;
 
-impl<'n> Names<'n> {
+impl<'n> IndexedNames<'n> {
+    /// No names. It takes no memory.
+    pub fn none(alloc: Global) -> IndexedNames<'n>
+        ensures { result ≡ [] }
+    {
+        IndexedNames {
+            names: Vec::new(alloc),
+            indices: BTreeMap::new(alloc),
+        }
+    }
+
     /// These names; None where two of them are the same.
-    pub fn new(alloc: Global, names: Vec<Name<'n>>) -> Result<Option<Names<'n>>, AllocError>
+    pub fn new(alloc: Global, names: Vec<Name<'n>>) -> Result<Option<IndexedNames<'n>>, AllocError>
         ensures these { IfOk result (λ found. IfSome found (λ these. these ≡ map label names.entry.items)) }
         ensures distinct { IfOk result (λ found. is_some found ≡ are_distinct (map label names.entry.items)) }
     {
@@ -43,7 +53,7 @@ impl<'n> Names<'n> {
             return Ok(few(alloc, names));
         }
         match indices(alloc, &names)? {
-            Some(indices) => Ok(Some(Names { names, indices })),
+            Some(indices) => Ok(Some(IndexedNames { names, indices })),
             None => Ok(None),
         }
     }
@@ -60,13 +70,13 @@ impl<'n> Names<'n> {
 }
 
 /// Few names.
-fn few<'n>(alloc: Global, names: Vec<Name<'n>>) -> Option<Names<'n>>
+fn few<'n>(alloc: Global, names: Vec<Name<'n>>) -> Option<IndexedNames<'n>>
     requires { length names.items ≤ 16 }
     ensures these { IfSome result (λ these. these ≡ map label names.entry.items) }
     ensures distinct { is_some result ≡ are_distinct (map label names.entry.items) }
 {
     if are_distinct(&names) {
-        return Some(Names {
+        return Some(IndexedNames {
             names,
             indices: BTreeMap::new(alloc),
         });

@@ -1,4 +1,4 @@
-use Rattle.std.proofs.Common.{◌≡◌, ℕ, List, map, take, true}
+use Rattle.std.proofs.Common.{◌≡◌, map, take, true}
 use Rattle.wat_instructions.specs.Indices.{AreIndices}
 use Rattle.wat_instructions.specs.Names.{are_distinct}
 use Rattle.wat_instructions.specs.Terminals.{label}
