@@ -8,16 +8,13 @@ use Rattle.wat_instructions.specs.Grammar.{Context, Body, index, label_of}
 use Rattle.wat_instructions.specs.Law.{InstructionsAreBalanced, InstructionsTakeTokens, MachineIsGrammar, past}
 use Rattle.wat_instructions.specs.Machine as machine
 use Rattle.wat_instructions.specs.Terminals.{Terminal, Open, Close, Word, Id, Integer, Text, Other, Label}
-use Rattle.wat_fields.specs.declared.fields.GlobalType.{GlobalType}
 use Rattle.wat_fields.specs.declared.fields.IndexSpace.{IndexSpace}
 use Rattle.wat_fields.specs.declared.fields.IndexSpace.TheVariants as space
-use Rattle.wat_fields.specs.declared.fields.Limits.{Limits}
-use Rattle.wat_fields.specs.declared.fields.ReferenceType.{ReferenceType}
-use Rattle.wat_fields.specs.Fields.{Many, Group, InlineExport, IndexIs, by_number, by_identifier, LimitsAre, GlobalTypeIs, Variable, Field, Func, Table, Memory, Global, Export, Start, FieldIs, by_func, by_table, by_memory, by_global, by_export, by_start, are_distinct, name_of, names_of, with_locals, space_of, reference_type}
-use Rattle.wat_fields.specs.Reading.{Read, Header, and_then, all, closed, closing, utf8_text, after_header, export_item, function, func_at, header, instructions, table, limits_at, reference_at, table_at, memory_at, global_type_at, global_at, twice_closed, external_by, external_word, external_at, export_at, start_at, other_at, field_by, field, field_item}
+use Rattle.wat_fields.specs.Fields.{Many, Group, InlineExport, IndexIs, by_number, by_identifier, LimitsAre, Variable, Field, Func, Memory, Global, Export, Start, FieldIs, by_func, by_table, by_memory, by_global, by_export, by_start, are_distinct, name_of, names_of, with_locals, space_of}
+use Rattle.wat_fields.specs.Reading.{Header, and_then, all, closed, closing, utf8_text, after_header, export_item, function, func_at, header, instructions, table, limits_at, reference_at, table_at, memory_at, global_type_at, global_at, twice_closed, external_by, external_word, external_at, export_at, start_at, field_by, field, field_item}
 use Rattle.wat_fields.proofs.Headers.{NoHeader, header_sound, header_complete, ends_body, export_is_none, param_is_none, result_is_none, local_is_none}
 use Rattle.wat_fields.proofs.Headers as headers
-use Rattle.wat_fields.proofs.Items.{exports_read, export_past, group_past, group_takes, word_is, is_word, closing_inv, closed_is, utf8_inv}
+use Rattle.wat_fields.proofs.Items.{exports_read, export_past, group_past, group_takes, word_is, closing_inv, closed_is, utf8_inv}
 use Rattle.wat_fields.proofs.Manies.{Gives, gives_of, of_gives, and_then_inv, Brings, Reads, all_sound, all_complete, many_takes, many_past}
 use Rattle.wat_fields.proofs.TypeRules.{Passes, limits_sound, limits_complete, limits_pass, limits_no_export, reference_sound, reference_complete, global_type_sound, global_type_complete, global_type_pass, global_type_no_export, index_sound, index_complete, index_pass, twice_closed_is}
 
@@ -138,11 +135,11 @@ other_sound context w ts fs r false false e f g = absurd g
 pub record IsSpaceWord (w : List ℕ) (s : Option IndexSpace) : Type 0 where
   pub func : s ≡ Some space.Func → w ≡ codes "func"
   pub table : s ≡ Some space.Table → w ≡ codes "table"
-  pub memory : s ≡ Some space.Memory → w ≡ codes "memory"
+  pub memory : s ≡ Some space.Mem → w ≡ codes "memory"
   pub global : s ≡ Some space.Global → w ≡ codes "global"
 
 space_by : (w : List ℕ) (a b c d : Bool) → bytes_eq w (codes "func") ≡ a → bytes_eq w (codes "table") ≡ b → bytes_eq w (codes "memory") ≡ c → bytes_eq w (codes "global") ≡ d
-    → IsSpaceWord w (if a then Some space.Func else if b then Some space.Table else if c then Some space.Memory else if d then Some space.Global else None)
+    → IsSpaceWord w (if a then Some space.Func else if b then Some space.Table else if c then Some space.Mem else if d then Some space.Global else None)
 space_by w true b c d e f g h = record { func = λ k. word_is w (codes "func") e; table = λ k. cc; memory = λ k. cc; global = λ k. cc }
 space_by w false true c d e f g h = record { func = λ k. cc; table = λ k. word_is w (codes "table") f; memory = λ k. cc; global = λ k. cc }
 space_by w false false true d e f g h = record { func = λ k. cc; table = λ k. cc; memory = λ k. word_is w (codes "memory") g; global = λ k. cc }
@@ -155,7 +152,7 @@ space_words w = space_by w (bytes_eq w (codes "func")) (bytes_eq w (codes "table
 word_sound : Laws → (context : Context) (w : List ℕ) (ts : List Terminal) (fs : List Field) (r : List Terminal) (s : Option IndexSpace) → IsSpaceWord w s → Gives (field_by context s w (Word w ∷ ts) ts) fs r → FieldIs context (Open ∷ Word w ∷ ts) fs r
 word_sound laws context w ts fs r (Some space.Func) k g = func_sound laws context w ts fs r (k.func refl) g
 word_sound laws context w ts fs r (Some space.Table) k g = table_sound context w ts fs r (k.table refl) g
-word_sound laws context w ts fs r (Some space.Memory) k g = memory_sound context w ts fs r (k.memory refl) g
+word_sound laws context w ts fs r (Some space.Mem) k g = memory_sound context w ts fs r (k.memory refl) g
 word_sound laws context w ts fs r (Some space.Global) k g = global_sound laws context w ts fs r (k.global refl) g
 word_sound laws context w ts fs r None k g = other_sound context w ts fs r (bytes_eq w (codes "export")) (bytes_eq w (codes "start")) refl refl g
 

@@ -1,11 +1,10 @@
 -- What is read of a module is what the grammar spells.
-use Rattle.std.proofs.Common.{◌≡◌, ◌<◌, ◌≤◌, ℕ, zero, suc, Bool, true, false, List, [], ◌∷◌, ◌++◌, length, map, Option, Some, None, Result, Ok, Err, refl, sym, ap, subst, ◌∙◌, arith, append_assoc, append-nil}
+use Rattle.std.proofs.Common.{◌≡◌, ◌<◌, ◌≤◌, ℕ, zero, suc, Bool, true, false, List, [], ◌∷◌, ◌++◌, length, Option, Some, None, Result, Ok, Err, refl, sym, ap, subst, ◌∙◌, arith, append_assoc, append-nil}
 use Rattle.std.specs.Prelude.{if◌then◌else◌, bytes_eq, codes, nat_lt}
-use Rattle.std.specs.List.{flat_map}
 use Rattle.std.proofs.lemmas.Bool.Decides.{Decides-ltb}
 use Rattle.std.proofs.lemmas.Grind.{flat_map-append}
 use Rattle.wat_instructions.specs.declared.pieces.FaultKind.TheVariants.{UnknownWord, Duplicate, SecondStart}
-use Rattle.wat_instructions.specs.Grammar.{Context, Fault, index, label_of}
+use Rattle.wat_instructions.specs.Grammar.{Context, Fault, label_of}
 use Rattle.wat_instructions.specs.Law.{past}
 use Rattle.wat_instructions.specs.Terminals.{Terminal, Open, Close, Word, Id, Integer, Text, Other}
 use Rattle.wat_fields.specs.declared.fields.IndexSpace.{IndexSpace}
@@ -14,7 +13,7 @@ use Rattle.wat_fields.specs.Fields.{Many, by_none, by_more, Field, FieldIs, by_f
 use Rattle.wat_fields.specs.Law.{ReadingIsGrammar}
 use Rattle.wat_fields.specs.Reading.{Read, all, field_item, fields_at, fields_of, binding_by, whole, module_word, ended, started, bindings, Before, Headed, Inside}
 use Rattle.wat_fields.proofs.Items.{word_is, is_word}
-use Rattle.wat_fields.proofs.FieldKinds.{Laws, Closes, After, field_after, fields_read}
+use Rattle.wat_fields.proofs.FieldKinds.{Laws, Closes, field_after, fields_read}
 use Rattle.wat_fields.proofs.Manies.{all_sound, all_complete}
 
 -- The items that fields define, by the parentheses alone.
@@ -62,7 +61,7 @@ closes_of laws context w ts fs r h = let a = field_after laws context (Open ∷ 
 field_heads : Laws → (context : Context) (hs : List Binding) (ts : List Terminal) (fs : List Field) (r : List Terminal) → FieldIs context ts fs r → bindings Before hs ts ≡ bindings Before (hs ++ bindings_of fs) r
 field_heads laws context hs _ fs r (by_func {w = w} {ts = ts} e a b c d f k) = after_word (Some space.Func) hs w ts r (ap space_of e) (closes_of laws context w ts fs r (by_func e a b c d f k))
 field_heads laws context hs _ fs r (by_table {w = w} {ts = ts} e a b c) = after_word (Some space.Table) hs w ts r (ap space_of e) (closes_of laws context w ts fs r (by_table e a b c))
-field_heads laws context hs _ fs r (by_memory {w = w} {ts = ts} e a b) = after_word (Some space.Memory) hs w ts r (ap space_of e) (closes_of laws context w ts fs r (by_memory e a b))
+field_heads laws context hs _ fs r (by_memory {w = w} {ts = ts} e a b) = after_word (Some space.Mem) hs w ts r (ap space_of e) (closes_of laws context w ts fs r (by_memory e a b))
 field_heads laws context hs _ fs r (by_global {w = w} {ts = ts} e a b k) = after_word (Some space.Global) hs w ts r (ap space_of e) (closes_of laws context w ts fs r (by_global e a b k))
 field_heads laws context hs _ fs r (by_export {w = w} {n = n} {v = v} {ts = ts} e u k f) = after_word None hs w (Text n ∷ Open ∷ Word v ∷ ts) r (ap space_of e) (closes_of laws context w (Text n ∷ Open ∷ Word v ∷ ts) fs r (by_export e u k f))
 field_heads laws context hs _ fs r (by_start {w = w} {ts = ts} e f) = after_word None hs w ts r (ap space_of e) (closes_of laws context w ts fs r (by_start e f))

@@ -1,7 +1,7 @@
 -- What is read of limits, of types and of indices is what the grammar spells; and how many tokens they take.
-use Rattle.std.proofs.Common.{◌≡◌, ◌<◌, ◌≤◌, ℕ, suc, Bool, true, false, List, [], ◌∷◌, length, Option, Some, None, Result, Ok, Err, refl, sym, ap, subst, ◌∙◌, arith}
-use Rattle.std.specs.Prelude.{if◌then◌else◌, bytes_eq, codes, nat_lt, ◌^◌}
-use Rattle.wat_instructions.specs.declared.pieces.FaultKind.TheVariants.{Unexpected, UnknownWord, OutOfRange}
+use Rattle.std.proofs.Common.{◌≡◌, ◌<◌, ℕ, Bool, true, false, List, [], ◌∷◌, length, Option, Some, None, Ok, Err, refl, sym, ap, subst, ◌∙◌, arith}
+use Rattle.std.specs.Prelude.{if◌then◌else◌, bytes_eq, codes}
+use Rattle.wat_instructions.specs.declared.pieces.FaultKind.TheVariants.{UnknownWord, OutOfRange}
 use Rattle.wat_instructions.specs.declared.pieces.Sign.{Sign}
 use Rattle.wat_instructions.specs.declared.pieces.Sign.TheVariants as sign
 use Rattle.wat_instructions.specs.declared.pieces.ValueType.{ValueType}
@@ -12,7 +12,7 @@ use Rattle.wat_fields.specs.declared.fields.GlobalType.{GlobalType}
 use Rattle.wat_fields.specs.declared.fields.Limits.{Limits}
 use Rattle.wat_fields.specs.declared.fields.ReferenceType.{ReferenceType}
 use Rattle.wat_fields.specs.Fields.{IndexIs, by_number, by_identifier, LimitsAre, by_min, by_min_max, GlobalTypeIs, by_constant, by_mutable, is_u32, reference_type}
-use Rattle.wat_fields.specs.Reading.{Read, and_then, closed, closing, limits, max_at, limits_at, reference_by, reference_at, global_type, constant_by, mutable_by, mutable_type, mutable_at, global_type_at, twice_closed, export_item}
+use Rattle.wat_fields.specs.Reading.{and_then, closed, limits, max_at, limits_at, reference_by, reference_at, global_type, constant_by, mutable_by, mutable_type, mutable_at, global_type_at, twice_closed, export_item}
 use Rattle.wat_fields.proofs.Items.{GivesAll, closing_inv, closed_is, word_is, is_word}
 use Rattle.wat_fields.proofs.Manies.{Gives, gives_of, and_then_inv}
 

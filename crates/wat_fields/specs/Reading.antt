@@ -12,7 +12,6 @@ use Rattle.wat_fields.specs.declared.fields.IndexSpace.{IndexSpace}
 use Rattle.wat_fields.specs.declared.fields.IndexSpace.TheVariants as space
 use Rattle.wat_fields.specs.declared.fields.Limits.{Limits}
 use Rattle.wat_fields.specs.declared.fields.ReferenceType.{ReferenceType}
-use Rattle.wat_fields.specs.declared.fields.TableType.{TableType}
 use Rattle.wat_fields.specs.Fields.{Field, Func, Table, Memory, Global, Export, Start, Function, Binding, Variable, binding, variable, unnamed, name_of, names_of, context_of, with_locals, are_distinct, all_distinct, reference_type, space_of, starts_of}
 
 -- a value and the tokens after it, or the fault
@@ -227,7 +226,7 @@ other_at context w all ts = if bytes_eq w (codes "export") then export_at contex
 abbrev pub field_by : Context → Option IndexSpace → List ℕ → List Terminal → List Terminal → Read (List Field)
 field_by context (Some space.Func) w all ts = func_at context (label_of ts)
 field_by context (Some space.Table) w all ts = table_at (label_of ts)
-field_by context (Some space.Memory) w all ts = memory_at (label_of ts)
+field_by context (Some space.Mem) w all ts = memory_at (label_of ts)
 field_by context (Some space.Global) w all ts = global_at context (label_of ts)
 field_by context None w all ts = other_at context w all ts
 

@@ -12,10 +12,6 @@ use Rattle.wat_fields.specs.declared.fields.Function as declared_function
 use Rattle.wat_fields.specs.declared.fields.Export as declared_export
 use Rattle.wat_fields.specs.declared.fields.Field as declared_field
 use Rattle.wat_fields.specs.declared.fields.Field.TheVariants as fields
-use Rattle.wat_fields.specs.declared.fields.GlobalVariable as declared_global
-use Rattle.wat_fields.specs.declared.fields.Memory as declared_memory
-use Rattle.wat_fields.specs.declared.fields.Table as declared_table
-use Rattle.wat_fields.specs.declared.fields.IndexSpace.{IndexSpace}
 use Rattle.wat_fields.specs.declared.fields.IndexSpace.TheVariants as space
 use Rattle.wat_fields.specs.declared.binary.Counts as declared_counts
 use Rattle.wat_fields.specs.declared.binary.FunctionType as declared_type
@@ -127,7 +123,7 @@ abbrev pub counts_after : List Field → Counts
 counts_after fs = record {
   funcs = next_index space.Func fs;
   tables = next_index space.Table fs;
-  memories = next_index space.Memory fs;
+  memories = next_index space.Mem fs;
   globals = next_index space.Global fs;
 }
 
@@ -144,7 +140,7 @@ counted (Start i) c = c
 abbrev pub exports_by : Counts → Field → List Export
 exports_by c (Func f) = map (export space.Func c.funcs) f.exports
 exports_by c (Table l ns t) = map (export space.Table c.tables) ns
-exports_by c (Memory l ns t) = map (export space.Memory c.memories) ns
+exports_by c (Memory l ns t) = map (export space.Mem c.memories) ns
 exports_by c (Global l ns t is) = map (export space.Global c.globals) ns
 exports_by c (field.Export n s i) = export s i n ∷ []
 exports_by c (Start i) = []

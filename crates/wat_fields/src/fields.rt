@@ -46,7 +46,7 @@ pub struct Function<'p> {
 pub enum IndexSpace {
     Func,
     Table,
-    Memory,
+    Mem,
     Global,
 }
 
@@ -147,10 +147,7 @@ pub fn compile<'p, 'a>(alloc: Global, pieces: &'p [Piece<'a>]) -> Result<Vec<u8>
 
 /// The fields of a module.
 #[tactic(auto, unfolding(crate::specs::Reading::whole))]
-fn module<'p, 'a>(
-    alloc: Global,
-    pieces: &'p [Piece<'a>],
-) -> Result<Vec<Field<'p>>, Refusal<'p, 'a>>
+fn module<'p, 'a>(alloc: Global, pieces: &'p [Piece<'a>]) -> Result<Vec<Field<'p>>, Refusal<'p, 'a>>
     ensures { MatchResult result
         (λ fs. reading.whole (map terminal pieces.now) ≡ Ok (fields_of fs.items))
         (λ e. Faults (reading.whole (map terminal pieces.now)) e) }
@@ -358,9 +355,7 @@ fn field_at<'p, 'a>(
         (λ e. Faults (reading.field (context_of names.now) (map terminal pieces.now)) e) }
 {
     match pieces {
-        [Piece::Word(word), rest @ ..] => {
-            field_after(alloc, names, *word, pieces, rest)
-        }
+        [Piece::Word(word), rest @ ..] => { field_after(alloc, names, *word, pieces, rest) }
         [
             Piece::Open
             | Piece::Close
@@ -395,7 +390,7 @@ fn field_after<'p, 'a>(
     match space_of(word) {
         Some(IndexSpace::Func) => func_at(alloc, names, pieces),
         Some(IndexSpace::Table) => table_at(alloc, pieces),
-        Some(IndexSpace::Memory) => memory_at(alloc, pieces),
+        Some(IndexSpace::Mem) => memory_at(alloc, pieces),
         Some(IndexSpace::Global) => global_at(alloc, names, pieces),
         None => other_at(names, word, all, pieces),
     }

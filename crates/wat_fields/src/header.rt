@@ -180,7 +180,9 @@ fn is_utf8(bytes: &[u8]) -> bool
 }
 
 /// A string that is UTF-8.
-pub(crate) fn utf8_text<'p, 'a>(pieces: &'p [Piece<'a>]) -> Result<(&'p [u8], &'p [Piece<'a>]), Fault<'p, 'a>>
+pub(crate) fn utf8_text<'p, 'a>(
+    pieces: &'p [Piece<'a>],
+) -> Result<(&'p [u8], &'p [Piece<'a>]), Fault<'p, 'a>>
     ensures { MatchResult result
         (λ r. reading.utf8_text (map terminal pieces.now) ≡ Ok (r.0.now, map terminal r.1.now))
         (λ f. reading.utf8_text (map terminal pieces.now) ≡ Err (fault_of f)) }

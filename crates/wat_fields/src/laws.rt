@@ -13,5 +13,4 @@ pub fn reading_is_grammar()
 /// its contract is the law.
 pub fn types_are_there()
     ensures { TypesAreThere }
-{
-}
+{}

@@ -20,7 +20,7 @@ pub(crate) fn space_of(word: &str) -> Option<IndexSpace>
     } else if word == "table" {
         Some(IndexSpace::Table)
     } else if word == "memory" {
-        Some(IndexSpace::Memory)
+        Some(IndexSpace::Mem)
     } else if word == "global" {
         Some(IndexSpace::Global)
     } else {
@@ -297,7 +297,13 @@ fn closing_mutable<'p, 'a>(
 {
     let rest = closed(pieces)?;
     let is_mutable = true;
-    Ok((GlobalType { is_mutable, value: of }, rest))
+    Ok((
+        GlobalType {
+            is_mutable,
+            value: of,
+        },
+        rest,
+    ))
 }
 
 /// `)` and `)`.

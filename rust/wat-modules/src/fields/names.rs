@@ -46,7 +46,7 @@ pub(crate) fn names_of<'p>(
     let bindings = bindings(alloc, pieces)?;
     let funcs = names_among(alloc, &bindings, IndexSpace::Func)?;
     let tables = names_among(alloc, &bindings, IndexSpace::Table)?;
-    let memories = names_among(alloc, &bindings, IndexSpace::Memory)?;
+    let memories = names_among(alloc, &bindings, IndexSpace::Mem)?;
     let globals = names_among(alloc, &bindings, IndexSpace::Global)?;
     Ok(Names {
         funcs,
@@ -67,7 +67,7 @@ fn is_space(a: IndexSpace, b: IndexSpace) -> bool {
     match (a, b) {
         (IndexSpace::Func, IndexSpace::Func)
         | (IndexSpace::Table, IndexSpace::Table)
-        | (IndexSpace::Memory, IndexSpace::Memory)
+        | (IndexSpace::Mem, IndexSpace::Mem)
         | (IndexSpace::Global, IndexSpace::Global) => true,
         _ => false,
     }
@@ -105,7 +105,7 @@ pub(crate) fn names_in<'s, 'p>(names: &'s Names<'p>, space: IndexSpace) -> &'s [
     match space {
         IndexSpace::Func => &names.funcs,
         IndexSpace::Table => &names.tables,
-        IndexSpace::Memory => &names.memories,
+        IndexSpace::Mem => &names.memories,
         IndexSpace::Global => &names.globals,
     }
 }

@@ -1,5 +1,5 @@
 use Rattle.std.proofs.Common.{◌≡◌, ◌++◌, suc, map, drop}
-use Rattle.wat_fields.specs.Views.{AreBelow, Counts, counts_of, exports_from, export_of, field_of}
+use Rattle.wat_fields.specs.Views.{AreBelow, counts_of, exports_from, export_of, field_of}
 use Rattle.wat_fields.proofs.Counting.{none}
 use Rattle.wat_fields.proofs.binary.exports_of.Given as goal
 

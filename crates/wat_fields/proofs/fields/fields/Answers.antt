@@ -1,6 +1,5 @@
 use Rattle.std.proofs.Common.{ap, map, Ok}
 use Rattle.wat_fields.specs.Views.{context_of, field_of}
-use Rattle.wat_instructions.specs.Terminals.{label}
 use Rattle.wat_fields.proofs.FieldKinds.{fields_read}
 use Rattle.wat_instructions.specs.Terminals.{terminal}
 use Rattle.wat_fields.specs.Fields as fields
