@@ -322,12 +322,21 @@ def has_index_type(tokens):
     return has_type_in(tokens, "memory") or has_type_in(tokens, "table")
 
 
+GROUPS = [["param"], ["result"], ["local"], ["global"]]
+
+
+def has_reference(tokens):
+    """Whether a variable, a result or a global is of a reference type."""
+    return any({"funcref", "externref"} & set(tokens[at : after_group(tokens, at)]) for at in range(len(tokens)) if tokens[at] == "(" and tokens[at + 1 : at + 2] in GROUPS)
+
+
 # What `wat2wasm` takes and PROGRAM refuses: its message, and what such a text has.
 DEPARTURES = {
     "of an `if` without `then` or `else`, which wat2wasm takes": ("unexpected token", has_bare_part),
     "of a block with more results than one, not read as yet": ("unexpected token", has_other_type),
     "of a block with parameters, not read as yet": ("unknown keyword", has_parameters),
     "of a `select` with a type, not read as yet": ("unknown keyword", has_typed_select),
+    "of a variable of a reference type, not read as yet": ("unknown keyword", has_reference),
     "of a table of numbers, which wat2wasm takes": ("unknown keyword", has_number_table),
     "of limits with a type, which wat2wasm takes": ("unexpected token", has_index_type),
 }
