@@ -45,16 +45,16 @@ counts a b c d = record { funcs = a; tables = b; memories = c; globals = d }
 counts_by : (a b c d w x y z : ℕ) → a ≡ w → b ≡ x → c ≡ y → d ≡ z → counts a b c d ≡ counts w x y z
 counts_by a b c d w x y z e f g h = ap (λ k. counts k b c d) e ∙ ap (λ k. counts w k c d) f ∙ ap (λ k. counts w x k d) g ∙ ap (λ k. counts w x y k) h
 
-by_head : (fs : List Field) (f : Field) (h : Binding) → bindings_of (f ∷ []) ≡ h ∷ [] → counts_after (fs ++ f ∷ []) ≡ counts (if is_space space.Func h.space then suc (next_index space.Func fs) else next_index space.Func fs) (if is_space space.Table h.space then suc (next_index space.Table fs) else next_index space.Table fs) (if is_space space.Memory h.space then suc (next_index space.Memory fs) else next_index space.Memory fs) (if is_space space.Global h.space then suc (next_index space.Global fs) else next_index space.Global fs)
-by_head fs f h e = counts_by _ _ _ _ _ _ _ _ (one_more space.Func fs f h e) (one_more space.Table fs f h e) (one_more space.Memory fs f h e) (one_more space.Global fs f h e)
+by_head : (fs : List Field) (f : Field) (h : Binding) → bindings_of (f ∷ []) ≡ h ∷ [] → counts_after (fs ++ f ∷ []) ≡ counts (if is_space space.Func h.space then suc (next_index space.Func fs) else next_index space.Func fs) (if is_space space.Table h.space then suc (next_index space.Table fs) else next_index space.Table fs) (if is_space space.Mem h.space then suc (next_index space.Mem fs) else next_index space.Mem fs) (if is_space space.Global h.space then suc (next_index space.Global fs) else next_index space.Global fs)
+by_head fs f h e = counts_by _ _ _ _ _ _ _ _ (one_more space.Func fs f h e) (one_more space.Table fs f h e) (one_more space.Mem fs f h e) (one_more space.Global fs f h e)
 
 by_none : (fs : List Field) (f : Field) → bindings_of (f ∷ []) ≡ [] → counts_after (fs ++ f ∷ []) ≡ counts_after fs
-by_none fs f e = counts_by _ _ _ _ _ _ _ _ (no_more space.Func fs f e) (no_more space.Table fs f e) (no_more space.Memory fs f e) (no_more space.Global fs f e)
+by_none fs f e = counts_by _ _ _ _ _ _ _ _ (no_more space.Func fs f e) (no_more space.Table fs f e) (no_more space.Mem fs f e) (no_more space.Global fs f e)
 
 counts_more : (fs : List Field) (f : Field) → counts_after (fs ++ f ∷ []) ≡ counted f (counts_after fs)
 counts_more fs (Func f) = by_head fs (Func f) (field.binding space.Func f.name) refl
 counts_more fs (Table l ns t) = by_head fs (Table l ns t) (field.binding space.Table l) refl
-counts_more fs (Memory l ns t) = by_head fs (Memory l ns t) (field.binding space.Memory l) refl
+counts_more fs (Memory l ns t) = by_head fs (Memory l ns t) (field.binding space.Mem l) refl
 counts_more fs (Global l ns t is) = by_head fs (Global l ns t is) (field.binding space.Global l) refl
 counts_more fs (field.Export n s i) = by_none fs (field.Export n s i) refl
 counts_more fs (Start i) = by_none fs (Start i) refl

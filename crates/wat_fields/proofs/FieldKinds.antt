@@ -136,11 +136,11 @@ other_sound context w ts fs r false false e f g = absurd g
 pub record IsSpaceWord (w : List ℕ) (s : Option IndexSpace) : Type 0 where
   pub func : s ≡ Some space.Func → w ≡ codes "func"
   pub table : s ≡ Some space.Table → w ≡ codes "table"
-  pub memory : s ≡ Some space.Memory → w ≡ codes "memory"
+  pub memory : s ≡ Some space.Mem → w ≡ codes "memory"
   pub global : s ≡ Some space.Global → w ≡ codes "global"
 
 space_by : (w : List ℕ) (a b c d : Bool) → bytes_eq w (codes "func") ≡ a → bytes_eq w (codes "table") ≡ b → bytes_eq w (codes "memory") ≡ c → bytes_eq w (codes "global") ≡ d
-    → IsSpaceWord w (if a then Some space.Func else if b then Some space.Table else if c then Some space.Memory else if d then Some space.Global else None)
+    → IsSpaceWord w (if a then Some space.Func else if b then Some space.Table else if c then Some space.Mem else if d then Some space.Global else None)
 space_by w true b c d e f g h = record { func = λ k. word_is w (codes "func") e; table = λ k. cc; memory = λ k. cc; global = λ k. cc }
 space_by w false true c d e f g h = record { func = λ k. cc; table = λ k. word_is w (codes "table") f; memory = λ k. cc; global = λ k. cc }
 space_by w false false true d e f g h = record { func = λ k. cc; table = λ k. cc; memory = λ k. word_is w (codes "memory") g; global = λ k. cc }
@@ -153,7 +153,7 @@ space_words w = space_by w (bytes_eq w (codes "func")) (bytes_eq w (codes "table
 word_sound : Laws → (context : Context) (w : List ℕ) (ts : List Terminal) (fs : List Field) (r : List Terminal) (s : Option IndexSpace) → IsSpaceWord w s → Gives (field_by context s w (Word w ∷ ts) ts) fs r → FieldIs context (Open ∷ Word w ∷ ts) fs r
 word_sound laws context w ts fs r (Some space.Func) k g = func_sound laws context w ts fs r (k.func refl) g
 word_sound laws context w ts fs r (Some space.Table) k g = table_sound context w ts fs r (k.table refl) g
-word_sound laws context w ts fs r (Some space.Memory) k g = memory_sound context w ts fs r (k.memory refl) g
+word_sound laws context w ts fs r (Some space.Mem) k g = memory_sound context w ts fs r (k.memory refl) g
 word_sound laws context w ts fs r (Some space.Global) k g = global_sound laws context w ts fs r (k.global refl) g
 word_sound laws context w ts fs r None k g = other_sound context w ts fs r (bytes_eq w (codes "export")) (bytes_eq w (codes "start")) refl refl g
 

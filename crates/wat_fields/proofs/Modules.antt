@@ -61,7 +61,7 @@ closes_of laws context w ts fs r h = let a = field_after laws context (Open ∷ 
 field_heads : Laws → (context : Context) (hs : List Binding) (ts : List Terminal) (fs : List Field) (r : List Terminal) → FieldIs context ts fs r → bindings Before hs ts ≡ bindings Before (hs ++ bindings_of fs) r
 field_heads laws context hs _ fs r (by_func {w = w} {ts = ts} e a b c d f k) = after_word (Some space.Func) hs w ts r (ap space_of e) (closes_of laws context w ts fs r (by_func e a b c d f k))
 field_heads laws context hs _ fs r (by_table {w = w} {ts = ts} e a b c) = after_word (Some space.Table) hs w ts r (ap space_of e) (closes_of laws context w ts fs r (by_table e a b c))
-field_heads laws context hs _ fs r (by_memory {w = w} {ts = ts} e a b) = after_word (Some space.Memory) hs w ts r (ap space_of e) (closes_of laws context w ts fs r (by_memory e a b))
+field_heads laws context hs _ fs r (by_memory {w = w} {ts = ts} e a b) = after_word (Some space.Mem) hs w ts r (ap space_of e) (closes_of laws context w ts fs r (by_memory e a b))
 field_heads laws context hs _ fs r (by_global {w = w} {ts = ts} e a b k) = after_word (Some space.Global) hs w ts r (ap space_of e) (closes_of laws context w ts fs r (by_global e a b k))
 field_heads laws context hs _ fs r (by_export {w = w} {n = n} {v = v} {ts = ts} e u k f) = after_word None hs w (Text n ∷ Open ∷ Word v ∷ ts) r (ap space_of e) (closes_of laws context w (Text n ∷ Open ∷ Word v ∷ ts) fs r (by_export e u k f))
 field_heads laws context hs _ fs r (by_start {w = w} {ts = ts} e f) = after_word None hs w ts r (ap space_of e) (closes_of laws context w ts fs r (by_start e f))

@@ -136,7 +136,7 @@ export s n name = record { name = name; space = s; index = n }
 abbrev pub space_byte : IndexSpace → ℕ
 space_byte space.Func = 0x00
 space_byte space.Table = 0x01
-space_byte space.Memory = 0x02
+space_byte space.Mem = 0x02
 space_byte space.Global = 0x03
 
 abbrev pub export_bytes : Export → List ℕ
@@ -150,7 +150,7 @@ next_index s fs = length (names_in s (bindings_of fs))
 abbrev pub field_exports : List Field → Field → List Export
 field_exports before (Func f) = map (export space.Func (next_index space.Func before)) f.exports
 field_exports before (Table l ns t) = map (export space.Table (next_index space.Table before)) ns
-field_exports before (Memory l ns t) = map (export space.Memory (next_index space.Memory before)) ns
+field_exports before (Memory l ns t) = map (export space.Mem (next_index space.Mem before)) ns
 field_exports before (Global l ns t is) = map (export space.Global (next_index space.Global before)) ns
 field_exports before (field.Export n s i) = export s i n ∷ []
 field_exports before (Start i) = []

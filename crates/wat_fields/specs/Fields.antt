@@ -68,7 +68,7 @@ binding s l = record { space = s; name = l }
 abbrev pub binding_of : Field → List Binding
 binding_of (Func f) = binding space.Func f.name ∷ []
 binding_of (Table l ns t) = binding space.Table l ∷ []
-binding_of (Memory l ns t) = binding space.Memory l ∷ []
+binding_of (Memory l ns t) = binding space.Mem l ∷ []
 binding_of (Global l ns t is) = binding space.Global l ∷ []
 binding_of (Export n s i) = []
 binding_of (Start i) = []
@@ -79,7 +79,7 @@ bindings_of fs = flat_map binding_of fs
 abbrev pub is_space : IndexSpace → IndexSpace → Bool
 is_space space.Func space.Func = true
 is_space space.Table space.Table = true
-is_space space.Memory space.Memory = true
+is_space space.Mem space.Mem = true
 is_space space.Global space.Global = true
 is_space s t = false
 
@@ -94,7 +94,7 @@ context_of hs = record {
   locals = [];
   funcs = names_in space.Func hs;
   tables = names_in space.Table hs;
-  memories = names_in space.Memory hs;
+  memories = names_in space.Mem hs;
   globals = names_in space.Global hs;
 }
 
@@ -102,7 +102,7 @@ context_of hs = record {
 abbrev pub names_of : Context → IndexSpace → List Label
 names_of context space.Func = context.funcs
 names_of context space.Table = context.tables
-names_of context space.Memory = context.memories
+names_of context space.Mem = context.memories
 names_of context space.Global = context.globals
 
 -- 6.1.3, 6.6.5: the parameters come before the local variables
@@ -167,7 +167,7 @@ pub data GlobalTypeIs : List Terminal → GlobalType → List Terminal → Type 
 -- 6.6.9: the index space that a word of an export names; the word of a field is the same
 abbrev pub space_of : List ℕ → Option IndexSpace
 space_of w =
-    if bytes_eq w (codes "func") then Some space.Func else if bytes_eq w (codes "table") then Some space.Table else if bytes_eq w (codes "memory") then Some space.Memory else if bytes_eq w (codes "global") then Some space.Global else None
+    if bytes_eq w (codes "func") then Some space.Func else if bytes_eq w (codes "table") then Some space.Table else if bytes_eq w (codes "memory") then Some space.Mem else if bytes_eq w (codes "global") then Some space.Global else None
 
 -- 6.6.13: the identifiers are distinct in each index space
 abbrev pub all_distinct : Context → Bool

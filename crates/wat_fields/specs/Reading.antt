@@ -227,7 +227,7 @@ other_at context w all ts = if bytes_eq w (codes "export") then export_at contex
 abbrev pub field_by : Context → Option IndexSpace → List ℕ → List Terminal → List Terminal → Read (List Field)
 field_by context (Some space.Func) w all ts = func_at context (label_of ts)
 field_by context (Some space.Table) w all ts = table_at (label_of ts)
-field_by context (Some space.Memory) w all ts = memory_at (label_of ts)
+field_by context (Some space.Mem) w all ts = memory_at (label_of ts)
 field_by context (Some space.Global) w all ts = global_at context (label_of ts)
 field_by context None w all ts = other_at context w all ts
 

@@ -123,7 +123,7 @@ abbrev pub counts_after : List Field → Counts
 counts_after fs = record {
   funcs = next_index space.Func fs;
   tables = next_index space.Table fs;
-  memories = next_index space.Memory fs;
+  memories = next_index space.Mem fs;
   globals = next_index space.Global fs;
 }
 
@@ -140,7 +140,7 @@ counted (Start i) c = c
 abbrev pub exports_by : Counts → Field → List Export
 exports_by c (Func f) = map (export space.Func c.funcs) f.exports
 exports_by c (Table l ns t) = map (export space.Table c.tables) ns
-exports_by c (Memory l ns t) = map (export space.Memory c.memories) ns
+exports_by c (Memory l ns t) = map (export space.Mem c.memories) ns
 exports_by c (Global l ns t is) = map (export space.Global c.globals) ns
 exports_by c (field.Export n s i) = export s i n ∷ []
 exports_by c (Start i) = []

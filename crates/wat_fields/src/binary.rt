@@ -257,7 +257,7 @@ fn push_exports<'p>(
     match field {
         Field::Func(f) => push_names(exports, &f.header.exports, IndexSpace::Func, counts.funcs),
         Field::Table(t) => push_names(exports, &t.exports, IndexSpace::Table, counts.tables),
-        Field::Memory(m) => push_names(exports, &m.exports, IndexSpace::Memory, counts.memories),
+        Field::Memory(m) => push_names(exports, &m.exports, IndexSpace::Mem, counts.memories),
         Field::Global(g) => push_names(exports, &g.exports, IndexSpace::Global, counts.globals),
         Field::Export(export) => {
             exports.push(*export)?;
@@ -530,7 +530,7 @@ fn space_byte(space: IndexSpace) -> u8
     match space {
         IndexSpace::Func => 0x00,
         IndexSpace::Table => 0x01,
-        IndexSpace::Memory => 0x02,
+        IndexSpace::Mem => 0x02,
         IndexSpace::Global => 0x03,
     }
 }

@@ -47,7 +47,7 @@ pub struct Function<'p> {
 pub enum IndexSpace {
     Func,
     Table,
-    Memory,
+    Mem,
     Global,
 }
 
@@ -390,7 +390,7 @@ fn field_after<'p, 'a>(
     match space_of(word) {
         Some(IndexSpace::Func) => func_at(alloc, names, pieces),
         Some(IndexSpace::Table) => table_at(alloc, pieces),
-        Some(IndexSpace::Memory) => memory_at(alloc, pieces),
+        Some(IndexSpace::Mem) => memory_at(alloc, pieces),
         Some(IndexSpace::Global) => global_at(alloc, names, pieces),
         None => other_at(names, word, all, pieces),
     }

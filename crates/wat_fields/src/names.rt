@@ -51,7 +51,7 @@ pub(crate) fn names_of<'p>(
     let bindings = bindings(alloc, pieces)?;
     let funcs = names_among(alloc, &bindings, IndexSpace::Func)?;
     let tables = names_among(alloc, &bindings, IndexSpace::Table)?;
-    let memories = names_among(alloc, &bindings, IndexSpace::Memory)?;
+    let memories = names_among(alloc, &bindings, IndexSpace::Mem)?;
     let globals = names_among(alloc, &bindings, IndexSpace::Global)?;
     match (funcs, tables, memories, globals) {
         (Some(funcs), Some(tables), Some(memories), Some(globals)) => Ok(Some(Names {
@@ -71,7 +71,7 @@ fn is_space(a: IndexSpace, b: IndexSpace) -> bool
     match (a, b) {
         (IndexSpace::Func, IndexSpace::Func)
         | (IndexSpace::Table, IndexSpace::Table)
-        | (IndexSpace::Memory, IndexSpace::Memory)
+        | (IndexSpace::Mem, IndexSpace::Mem)
         | (IndexSpace::Global, IndexSpace::Global) => true,
         _ => false,
     }
@@ -102,7 +102,7 @@ pub(crate) fn names_in<'s, 'p>(names: &'s Names<'p>, space: IndexSpace) -> &'s I
     match space {
         IndexSpace::Func => &names.funcs,
         IndexSpace::Table => &names.tables,
-        IndexSpace::Memory => &names.memories,
+        IndexSpace::Mem => &names.memories,
         IndexSpace::Global => &names.globals,
     }
 }

@@ -20,7 +20,7 @@ pub(crate) fn space_of(word: &str) -> Option<IndexSpace>
     } else if word == "table" {
         Some(IndexSpace::Table)
     } else if word == "memory" {
-        Some(IndexSpace::Memory)
+        Some(IndexSpace::Mem)
     } else if word == "global" {
         Some(IndexSpace::Global)
     } else {
