@@ -4,10 +4,11 @@
 use wat_lex::shim::prelude::*;
 use crate::fields::binary::module_bytes;
 use crate::fields::header::{closed, exports, read_header, utf8_text};
-use crate::fields::names::{Names, all_distinct, are_distinct, names_in, names_of, variable_names};
+use crate::fields::names::{Names, names_in, names_of, variable_names};
 use crate::fields::types::{global_type, limits, reference_type, space_of, twice_closed};
 use wat_lex::shim::alloc::Global;
 use crate::instructions::machine;
+use crate::instructions::names::IndexedNames;
 use crate::instructions::pieces::{Fault, FaultKind, Instruction, Name, Piece, Refusal, ValueType};
 use crate::instructions::reading::{self, Scope};
 
@@ -228,13 +229,12 @@ fn module_fields<'p, 'a>(
     alloc: Global,
     pieces: &'p [Piece<'a>],
 ) -> Result<Vec<Field<'p>>, Refusal<'p, 'a>> {
-    let names = names_of(alloc, pieces)?;
-    if !all_distinct(&names) {
+    let Some(names) = names_of(alloc, pieces)? else {
         return Err(Refusal::Text(Fault {
             kind: FaultKind::Duplicate,
             left: pieces,
         }));
-    }
+    };
     let (fields, rest) = fields(alloc, &names, pieces)?;
     ended(rest)?;
     if starts(&fields) > 1 {
@@ -510,7 +510,8 @@ fn global_at<'p, 'a>(
     let (name, rest) = reading::label(pieces);
     let (exports, rest) = exports(alloc, rest)?;
     let (of, rest) = global_type(rest)?;
-    let scope = scope(names, &[]);
+    let locals = IndexedNames::none(alloc);
+    let scope = scope(names, &locals);
     let (first, rest) = machine::instructions(alloc, &scope, rest)?;
     Ok((
         Field::Global(GlobalVariable {
@@ -686,9 +687,9 @@ fn start_at<'p, 'a>(
 /// # Proved
 ///
 /// ```text
-/// ensures { scope_of result ≡ with_names (map label locals.now) (context_of names.now) }
+/// ensures { scope_of result ≡ with_names locals.now (context_of names.now) }
 /// ```
-fn scope<'s, 'n>(names: &'s Names<'n>, locals: &'s [Name<'n>]) -> Scope<'s, 'n> {
+fn scope<'s, 'n>(names: &'s Names<'n>, locals: &'s IndexedNames<'n>) -> Scope<'s, 'n> {
     Scope {
         locals,
         funcs: &names.funcs,
@@ -713,13 +714,12 @@ fn instructions<'p, 'a>(
     header: &Header<'p>,
     pieces: &'p [Piece<'a>],
 ) -> Result<(Vec<Instruction>, &'p [Piece<'a>]), Refusal<'p, 'a>> {
-    let locals = variable_names(alloc, &header.params, &header.locals)?;
-    if !are_distinct(&locals) {
+    let Some(locals) = variable_names(alloc, &header.params, &header.locals)? else {
         return Err(Refusal::Text(Fault {
             kind: FaultKind::Duplicate,
             left: pieces,
         }));
-    }
+    };
     let scope = scope(names, &locals);
     machine::instructions(alloc, &scope, pieces)
 }

@@ -5,6 +5,7 @@ use wat_lex::shim::prelude::*;
 use crate::fields::fields::{IndexSpace, Variable};
 use crate::fields::types::space_of;
 use wat_lex::shim::alloc::{AllocError, Global};
+use crate::instructions::names::IndexedNames;
 use crate::instructions::pieces::{Name, Piece};
 
 /// Where in the fields a token is: before `(`, after it, after its word, and in a field, in so many
@@ -26,34 +27,39 @@ struct Binding<'p> {
 
 /// The names of each index space, in the order of their indices.
 pub(crate) struct Names<'p> {
-    pub(crate) funcs: Vec<Name<'p>>,
-    pub(crate) tables: Vec<Name<'p>>,
-    pub(crate) memories: Vec<Name<'p>>,
-    pub(crate) globals: Vec<Name<'p>>,
+    pub(crate) funcs: IndexedNames<'p>,
+    pub(crate) tables: IndexedNames<'p>,
+    pub(crate) memories: IndexedNames<'p>,
+    pub(crate) globals: IndexedNames<'p>,
 }
 
-/// The names of the items that fields define, by the parentheses alone.
+/// The names of the items that fields define, by the parentheses alone; None where two in an index
+/// space are the same.
 ///
 /// # Proved
 ///
 /// ```text
-/// ensures { IfOk result (λ names. context_of names ≡ grammar.context_of (reading.bindings reading.Before [] (map terminal pieces.now))) }
+/// ensures these { IfOk result (λ found. IfSome found (λ names. context_of names ≡ grammar.context_of (reading.bindings reading.Before [] (map terminal pieces.now)))) }
+/// ensures distinct { IfOk result (λ found. is_some found ≡ all_distinct (grammar.context_of (reading.bindings reading.Before [] (map terminal pieces.now)))) }
 /// ```
 pub(crate) fn names_of<'p>(
     alloc: Global,
     pieces: &'p [Piece<'_>],
-) -> Result<Names<'p>, AllocError> {
+) -> Result<Option<Names<'p>>, AllocError> {
     let bindings = bindings(alloc, pieces)?;
     let funcs = names_among(alloc, &bindings, IndexSpace::Func)?;
     let tables = names_among(alloc, &bindings, IndexSpace::Table)?;
     let memories = names_among(alloc, &bindings, IndexSpace::Mem)?;
     let globals = names_among(alloc, &bindings, IndexSpace::Global)?;
-    Ok(Names {
-        funcs,
-        tables,
-        memories,
-        globals,
-    })
+    match (funcs, tables, memories, globals) {
+        (Some(funcs), Some(tables), Some(memories), Some(globals)) => Ok(Some(Names {
+            funcs,
+            tables,
+            memories,
+            globals,
+        })),
+        _ => Ok(None),
+    }
 }
 
 /// Whether two index spaces are the same.
@@ -73,25 +79,26 @@ fn is_space(a: IndexSpace, b: IndexSpace) -> bool {
     }
 }
 
-/// The names of an index space.
+/// The names of an index space; None where two are the same.
 ///
 /// # Proved
 ///
 /// ```text
-/// ensures { IfOk result (λ names. map label names.items ≡ names_in space (map binding_of bindings.now)) }
+/// ensures these { IfOk result (λ found. IfSome found (λ names. names ≡ names_in space (map binding_of bindings.now))) }
+/// ensures distinct { IfOk result (λ found. is_some found ≡ are_distinct (names_in space (map binding_of bindings.now))) }
 /// ```
 fn names_among<'p>(
     alloc: Global,
     bindings: &[Binding<'p>],
     space: IndexSpace,
-) -> Result<Vec<Name<'p>>, AllocError> {
+) -> Result<Option<IndexedNames<'p>>, AllocError> {
     let mut names = Vec::new(alloc);
     for binding in bindings {
         if is_space(space, binding.space) {
             names.push(binding.name)?;
         }
     }
-    Ok(names)
+    IndexedNames::new(alloc, names)
 }
 
 /// The same of these.
@@ -99,9 +106,9 @@ fn names_among<'p>(
 /// # Proved
 ///
 /// ```text
-/// ensures { map label result.now ≡ names_of (context_of names.now) space }
+/// ensures { result.now ≡ names_of (context_of names.now) space }
 /// ```
-pub(crate) fn names_in<'s, 'p>(names: &'s Names<'p>, space: IndexSpace) -> &'s [Name<'p>] {
+pub(crate) fn names_in<'s, 'p>(names: &'s Names<'p>, space: IndexSpace) -> &'s IndexedNames<'p> {
     match space {
         IndexSpace::Func => &names.funcs,
         IndexSpace::Table => &names.tables,
@@ -230,66 +237,19 @@ fn closed(groups: usize) -> Depth {
     }
 }
 
-/// Whether one of the names is this one.
+/// The names of parameters and local variables; None where two are the same.
 ///
 /// # Proved
 ///
 /// ```text
-/// ensures { result ≡ has_name name.now (map label names.now) }
-/// ```
-fn has_name(names: &[Name<'_>], name: &str) -> bool {
-    for given in names {
-        if given.is(name) {
-            return true;
-        }
-    }
-    false
-}
-
-/// Whether no two of the names are the same.
-///
-/// # Proved
-///
-/// ```text
-/// ensures { result ≡ are_distinct (map label names.now) }
-/// ```
-pub(crate) fn are_distinct(names: &[Name<'_>]) -> bool {
-    for (i, name) in names.iter().enumerate() {
-        if let Name::Given(given) = *name {
-            if has_name(&names[i + 1..], given) {
-                return false;
-            }
-        }
-    }
-    true
-}
-
-/// Whether they are distinct in each index space.
-///
-/// # Proved
-///
-/// ```text
-/// ensures { result ≡ all_distinct (context_of names.now) }
-/// ```
-pub(crate) fn all_distinct(names: &Names<'_>) -> bool {
-    are_distinct(&names.funcs)
-        && are_distinct(&names.tables)
-        && are_distinct(&names.memories)
-        && are_distinct(&names.globals)
-}
-
-/// The names of parameters and local variables.
-///
-/// # Proved
-///
-/// ```text
-/// ensures { IfOk result (λ names. map label names.items ≡ map name_of (map variable_of params.now ++ map variable_of locals.now)) }
+/// ensures these { IfOk result (λ found. IfSome found (λ names. names ≡ map name_of (map variable_of params.now ++ map variable_of locals.now))) }
+/// ensures distinct { IfOk result (λ found. is_some found ≡ are_distinct (map name_of (map variable_of params.now ++ map variable_of locals.now))) }
 /// ```
 pub(crate) fn variable_names<'p>(
     alloc: Global,
     params: &[Variable<'p>],
     locals: &[Variable<'p>],
-) -> Result<Vec<Name<'p>>, AllocError> {
+) -> Result<Option<IndexedNames<'p>>, AllocError> {
     let mut names = Vec::new(alloc);
     for param in params {
         names.push(param.name)?;
@@ -297,5 +257,5 @@ pub(crate) fn variable_names<'p>(
     for local in locals {
         names.push(local.name)?;
     }
-    Ok(names)
+    IndexedNames::new(alloc, names)
 }

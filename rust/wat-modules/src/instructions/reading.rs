@@ -3,6 +3,7 @@
 
 use wat_lex::shim::prelude::*;
 use crate::instructions::memory;
+use crate::instructions::names::IndexedNames;
 use crate::instructions::pieces::{
     Argument, Fault, FaultKind, Frame, Instruction, Name, Piece, Sign, ValueType,
 };
@@ -11,27 +12,11 @@ use crate::instructions::table::{self, Immediate};
 /// The names of the items of five index spaces, each in the order of their indices.
 #[derive(Clone, Copy)]
 pub struct Scope<'s, 'n> {
-    pub locals: &'s [Name<'n>],
-    pub funcs: &'s [Name<'n>],
-    pub tables: &'s [Name<'n>],
-    pub memories: &'s [Name<'n>],
-    pub globals: &'s [Name<'n>],
-}
-
-/// The first of these names that is this one.
-///
-/// # Proved
-///
-/// ```text
-/// ensures { result ≡ position 0 name.now (map label names.now) }
-/// ```
-fn name_index(names: &[Name<'_>], name: &str) -> Option<usize> {
-    for (i, given) in names.iter().enumerate() {
-        if given.is(name) {
-            return Some(i);
-        }
-    }
-    None
+    pub locals: &'s IndexedNames<'n>,
+    pub funcs: &'s IndexedNames<'n>,
+    pub tables: &'s IndexedNames<'n>,
+    pub memories: &'s IndexedNames<'n>,
+    pub globals: &'s IndexedNames<'n>,
 }
 
 /// The label that a part binds.
@@ -79,11 +64,11 @@ fn label_index(frames: &[Frame<'_>], name: &str) -> Option<usize> {
 ///
 /// ```text
 /// ensures { MatchResult result
-/// (λ r. index (map label names.now) (map terminal pieces.now) ≡ Ok (r.0, map terminal r.1.now))
-/// (λ f. index (map label names.now) (map terminal pieces.now) ≡ Err (fault_of f)) }
+/// (λ r. index names.now (map terminal pieces.now) ≡ Ok (r.0, map terminal r.1.now))
+/// (λ f. index names.now (map terminal pieces.now) ≡ Err (fault_of f)) }
 /// ```
 pub fn index<'p, 'a>(
-    names: &[Name<'_>],
+    names: &IndexedNames<'_>,
     pieces: &'p [Piece<'a>],
 ) -> Result<(usize, &'p [Piece<'a>]), Fault<'p, 'a>> {
     match pieces {
@@ -101,7 +86,7 @@ pub fn index<'p, 'a>(
             kind: FaultKind::Unexpected,
             left: pieces,
         }),
-        [Piece::Id(name), rest @ ..] => match name_index(names, name) {
+        [Piece::Id(name), rest @ ..] => match names.position(name) {
             Some(n) => Ok((n, rest)),
             None => Err(Fault {
                 kind: FaultKind::UnknownName,
@@ -177,11 +162,11 @@ fn label_number<'p, 'a>(
 ///
 /// ```text
 /// ensures { MatchResult result
-/// (λ r. with_index (index (map label names.now) (map terminal pieces.now)) ≡ Ok (r.0, map terminal r.1.now))
-/// (λ f. with_index (index (map label names.now) (map terminal pieces.now)) ≡ Err (fault_of f)) }
+/// (λ r. with_index (index names.now (map terminal pieces.now)) ≡ Ok (r.0, map terminal r.1.now))
+/// (λ f. with_index (index names.now (map terminal pieces.now)) ≡ Err (fault_of f)) }
 /// ```
 fn name_argument<'p, 'a>(
-    names: &[Name<'_>],
+    names: &IndexedNames<'_>,
     pieces: &'p [Piece<'a>],
 ) -> Result<(Argument, &'p [Piece<'a>]), Fault<'p, 'a>> {
     let (n, rest) = index(names, pieces)?;
