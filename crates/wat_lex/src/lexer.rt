@@ -1,12 +1,13 @@
 //! The lexer of the WebAssembly text format.
-ghost use Rattle.std.specs.Prelude.{◌≡◌, ◌⊎◌, ◌≤◌, ◌<◌, ◌^◌, ◌+◌, ℕ, true, false, List, length, drop, Option};
+ghost use Rattle.std.specs.Prelude.{◌≡◌, ◌≢◌, ◌⊎◌, ◌≤◌, ◌<◌, ◌^◌, ◌+◌, ℕ, true, false, List, length, drop, Option};
 ghost use Rattle.std.specs.Prelude.{Result, IfOk, IfErr, IfSome, IfNone, OnErr};
 ghost use Rattle.std.specs.List.{prefix_len};
 ghost use Rattle.std.specs.Str.{IsCharBoundary, IsUtf8};
 ghost use Rattle.wat_lex.specs.grammar.Classes.{is_whitespace};
 ghost use Rattle.wat_lex.specs.declared.lexer.faults.LexFault.{LexFault as Fault};
 ghost use Rattle.wat_lex.specs.declared.lexer.kinds.Token.{Token as Lexed};
-ghost use Rattle.wat_lex.specs.declared.lexer.kinds.TokenKind.TheVariants.{Whitespace};
+ghost use Rattle.wat_lex.specs.declared.lexer.kinds.TokenKind.TheVariants.{Whitespace, LParen, RParen};
+ghost use Rattle.wat_lex.specs.tokens.BareWords.{bare_len};
 ghost use Rattle.wat_lex.specs.tokens.Faults.{FaultAt};
 ghost use Rattle.wat_lex.specs.tokens.Recovery.{ResumesAt};
 ghost use Rattle.wat_lex.specs.tokens.Raw.{ErrorAt};
@@ -35,7 +36,7 @@ pub(crate) use scan::blocks::block_at;
 use scan::classes::blank_len;
 pub(crate) use scan::classes::is_confusing;
 pub(crate) use scan::comments::first_confusing;
-use scan::{fault_at_start, first_found};
+use scan::{bare_len, fault_at_start, first_found};
 pub use settings::Settings;
 
 /// A lexer over a text: it cuts the text into tokens, whitespace and comments, and accounts for
@@ -222,6 +223,20 @@ impl<'a> Lexer<'a> {
     {
         let text = self.input();
         pos + blank_len(&text.as_bytes()[pos..])
+    }
+
+    /// Where the word of idchars ends that is at a byte of the text: at that byte, where none is, or a
+    /// string is joined to it.
+    #[inline(always)]
+    pub fn past_bare_word(&self, pos: usize) -> usize
+        requires { IsCharBoundary self.now.text pos }
+        ensures value { result ≡ pos + bare_len (drop pos self.now.text) }
+        ensures token { pos < result → (t : Lexed) × TokenAt self.now pos t
+            × (t.kind ≢ LParen) × (t.kind ≢ RParen) × (result ≡ t.offset + t.len) }
+        ensures boundary { IsCharBoundary self.now.text result }
+    {
+        let text = self.input();
+        pos + bare_len(&text.as_bytes()[pos..])
     }
 
     /// The first fault from a byte of the text on, or None where there is none.
