@@ -1,13 +1,13 @@
 //! The lexer of the WebAssembly text format.
-ghost use Rattle.std.specs.Prelude.{◌≡◌, ◌≢◌, ◌⊎◌, ◌≤◌, ◌<◌, ◌^◌, ◌+◌, ℕ, true, false, List, length, drop, Option};
+ghost use Rattle.std.specs.Prelude.{◌≡◌, ◌⊎◌, ◌≤◌, ◌<◌, ◌^◌, ◌+◌, ℕ, true, false, List, length, drop, Option};
 ghost use Rattle.std.specs.Prelude.{Result, IfOk, IfErr, IfSome, IfNone, OnErr};
 ghost use Rattle.std.specs.List.{prefix_len};
 ghost use Rattle.std.specs.Str.{IsCharBoundary, IsUtf8};
 ghost use Rattle.wat_lex.specs.grammar.Classes.{is_whitespace};
 ghost use Rattle.wat_lex.specs.declared.lexer.faults.LexFault.{LexFault as Fault};
 ghost use Rattle.wat_lex.specs.declared.lexer.kinds.Token.{Token as Lexed};
-ghost use Rattle.wat_lex.specs.declared.lexer.kinds.TokenKind.TheVariants.{Whitespace, LParen, RParen};
-ghost use Rattle.wat_lex.specs.tokens.BareWords.{bare_len};
+ghost use Rattle.wat_lex.specs.declared.lexer.kinds.TokenKind.TheVariants.{Whitespace};
+ghost use Rattle.wat_lex.specs.tokens.BareWords.{bare_len, BareWordAt};
 ghost use Rattle.wat_lex.specs.tokens.Faults.{FaultAt};
 ghost use Rattle.wat_lex.specs.tokens.Recovery.{ResumesAt};
 ghost use Rattle.wat_lex.specs.tokens.Raw.{ErrorAt};
@@ -231,8 +231,7 @@ impl<'a> Lexer<'a> {
     pub fn past_bare_word(&self, pos: usize) -> usize
         requires { IsCharBoundary self.now.text pos }
         ensures value { result ≡ pos + bare_len (drop pos self.now.text) }
-        ensures token { pos < result → (t : Lexed) × TokenAt self.now pos t
-            × (t.kind ≢ LParen) × (t.kind ≢ RParen) × (result ≡ t.offset + t.len) }
+        ensures token { pos < result → BareWordAt self.now pos result }
         ensures boundary { IsCharBoundary self.now.text result }
     {
         let text = self.input();

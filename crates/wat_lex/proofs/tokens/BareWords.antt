@@ -1,5 +1,5 @@
 -- A word of idchars alone is a token, and no parenthesis.
-use Rattle.std.proofs.Common.{◌≡◌, ◌≢◌, ◌≤◌, ◌<◌, ◌+◌, ℕ, List, length, take, drop, get_or, refl, arith, ap, sym, ◌∙◌, subst, Bool, true, false, inl, inr}
+use Rattle.std.proofs.Common.{◌≡◌, ◌≢◌, ◌≤◌, ◌<◌, ◌+◌, ℕ, List, length, take, drop, get_or, refl, arith, ap, sym, ◌∙◌, subst, true, false, inl, inr}
 use Rattle.std.specs.Prelude.{◌==◌, ◌||◌, if◌then◌else◌}
 use Rattle.std.specs.List.{prefix_len}
 use Rattle.std.specs.Str.{IsCharBoundary, IsUtf8}
@@ -7,15 +7,17 @@ use Rattle.std.proofs.lemmas.Bool.{cases_Bool, cases_eq, both_ways, eq-eqb}
 use Rattle.std.proofs.lemmas.List.Sums.{prefix_len-le-length, prefix_len_passes}
 use Rattle.std.proofs.lemmas.Str.{IsUtf8-drop}
 use Rattle.wat_lex.specs.declared.lexer.kinds.TokenKind.{TokenKind}
-use Rattle.wat_lex.specs.declared.lexer.kinds.TokenKind.TheVariants.{LParen, RParen}
+use Rattle.wat_lex.specs.declared.lexer.kinds.TokenKind.TheVariants.{LParen, RParen, Annotation}
 use Rattle.wat_lex.specs.declared.lexer.settings.Settings.{Settings}
 use Rattle.wat_lex.specs.grammar.Classes.{is_idchar, is_run_char}
 use Rattle.wat_lex.specs.inside.ScannedLexemes.{LexemeFound}
 use Rattle.wat_lex.specs.tokens.BareWords.{bare_len}
 use Rattle.wat_lex.specs.tokens.Setting.{Setting}
+use Rattle.wat_lex.proofs.grammar.OneKind.{word_one}
 use Rattle.wat_lex.proofs.grammar.RunKinds.{is_run_kind, of_word}
 use Rattle.wat_lex.proofs.grammar.SomeRun.{some_word_kind}
-use Rattle.wat_lex.proofs.inside.Outlines.{idchars_there}
+use Rattle.wat_lex.proofs.inside.Outlines.{idchars_there, start_tells}
+use Rattle.wat_lex.proofs.inside.Starts.{annotation_start}
 use Rattle.wat_lex.proofs.tokens.Scans.{part_ends}
 
 -- a word of idchars alone
@@ -24,6 +26,7 @@ pub record Bare (flags : Settings) (text : List ℕ) (n : ℕ) : Type 0 where
   pub found : LexemeFound flags text (record { kind = kind; len = n })
   pub not_open : kind ≢ LParen
   pub not_close : kind ≢ RParen
+  pub marked : get_or text 0 0 ≡ 64 → kind ≡ Annotation
 
 no_open : (k : TokenKind) → is_run_kind k ≡ true → k ≢ LParen
 no_open k h e = let no : true ≡ false = sym h ∙ ap is_run_kind e in cc
@@ -54,6 +57,7 @@ bare flags text n u e some =
       found = idchars_there flags text k.kind n u long (idchar_runs (get_or text 0 0) first) len (subst (λ i. get_or text i 0 ≢ 34) (sym len) m.1) k.is;
       not_open = no_open k.kind run;
       not_close = no_close k.kind run;
+      marked = λ a. word_one (take n text) k.kind Annotation k.is (start_tells text Annotation n long (annotation_start (get_or text 0 0) a) len);
     }
 
 pub ends : (s : Setting) (p n : ℕ) → IsUtf8 s.text → IsCharBoundary s.text p → n ≡ bare_len (drop p s.text) → IsCharBoundary s.text (p + n)

@@ -243,6 +243,25 @@ impl<'a> TextRef<'a> {
         (place + 1, end)
     }
 
+    /// The place after the word of idchars that is at a place in a group, if any is, with its byte. Its
+    /// kind is not looked for.
+    #[inline(always)]
+    fn past_bare_word(&self, place: usize, byte: usize) -> (usize, usize)
+        requires { IsPlace self.now place byte }
+        ensures place { IsPlace self.now result.0 result.1 }
+        ensures on { place ≤ result.0 }
+        ensures inside { (names : NamesOf) (paren : Lexed) (depth : ℕ) →
+            found_inside self.now place depth names paren
+            ≡ found_inside self.now result.0 depth names paren }
+    {
+        self.lemma_read();
+        let end = self.lexer.past_bare_word(byte);
+        if end == byte {
+            return (place, byte);
+        }
+        (place + 1, end)
+    }
+
     /// Whether a token is shown whatever names are registered, and whatever comes after it.
     #[inline(always)]
     fn is_plain(&self, token: Token) -> bool
@@ -314,7 +333,8 @@ impl<'a> TextRef<'a> {
         let mut depth = 0usize;
         self.lemma_read();
         'tokens: loop {
-            let (at, from) = self.past_whitespace(i, pos);
+            let (word, start) = self.past_whitespace(i, pos);
+            let (at, from) = self.past_bare_word(word, start);
             let Some(token) = self.some_token_at(at, from) else {
                 return None;
             };
