@@ -2,11 +2,12 @@
 ghost use Rattle.std.specs.Prelude.{◌≡◌, ◌<◌, ◌≤◌, ◌^◌, ◌+◌, ℕ, length, drop, slice_index_or, None, Some, slice_get};
 ghost use Rattle.std.specs.Prelude.{IfOk, IfErr, IfSome, IfNone, IsTrue, Option};
 ghost use Rattle.std.specs.Str.{IsUtf8};
+ghost use Rattle.wat_lex.specs.grammar.Classes.{at_sign};
 ghost use Rattle.wat_lex.specs.tokens.ReadableTokens.{IsTokenOf};
 ghost use Rattle.wat_lex.specs.declared.lexer.kinds.Token.{Token as Lexed};
 ghost use Rattle.wat_lexer_parser.specs.declared.parser.fault.FaultKind.TheVariants.{Unclosed};
 ghost use Rattle.wat_lexer_parser.specs.declared.parser.fault.Step.TheVariants.{Skip, Take};
-ghost use Rattle.wat_lexer_parser.specs.inside.Groups.{GroupEnds, found_inside};
+ghost use Rattle.wat_lexer_parser.specs.inside.Groups.{GroupEnds, IsPassedName, found_inside};
 ghost use Rattle.wat_lexer_parser.specs.inside.Next.{IsAfter, IsFirst, IsNext, IsPlace};
 ghost use Rattle.wat_lexer_parser.specs.inside.Rows.{IsRow};
 ghost use Rattle.wat_lexer_parser.specs.declared.parser.text_ref.Row.{Row as FilledRow};
@@ -370,29 +371,73 @@ impl<'a> TextRef<'a> {
         }
     }
 
-    /// The place after the group that a parenthesis opens, with its byte, where it is the group of an
-    /// annotation that is passed over. The place is the one after the parenthesis.
+    /// The place after the annotation at a place, with its byte, where its name is no string, and no
+    /// name is registered.
     #[inline(always)]
-    fn past_annotation(&self, place: usize, byte: usize, names: &Names) -> Option<(usize, usize)>
+    fn past_plain_name(&self, place: usize, byte: usize, names: &Names) -> Option<(usize, usize)>
+        requires place { IsPlace self.now place byte }
+        requires marked { slice_get self.now.setting.text byte ≡ Some at_sign }
+        ensures { IfSome result (IsPassedName self.now place names.now) }
+    {
+        self.lemma_read();
+        wat_lex::laws::names();
+        wat_lex::laws::tokens();
+        if !names.are_none() {
+            return None;
+        }
+        let end = self.lexer.past_bare_word(byte);
+        if end - byte < 2 {
+            return None;
+        }
+        Some((place + 1, end))
+    }
+
+    /// The place after the annotation at a place, with its byte, where its group is passed over.
+    // It stays a call, so that a move past most names is small.
+    #[inline(never)]
+    fn past_read_name(&self, place: usize, byte: usize, names: &Names) -> Option<(usize, usize)>
         requires { IsPlace self.now place byte }
-        ensures skip { IfSome result (λ v. step_next self.now.setting.text names.now
-            (slice_get self.now.tokens place) ≡ Skip) }
-        ensures ends { IfSome result (λ v. GroupEnds self.now place (Ok (Some v))) }
-        ensures on { IfSome result (λ v. place < v.0) }
+        ensures { IfSome result (IsPassedName self.now place names.now) }
     {
         self.lemma_read();
         let Some(name) = self.some_token_at(place, byte) else {
             return None;
         };
         match name.kind {
-            TokenKind::Annotation => {
-                if is_passed_over(self.text(), name, names) {
-                    self.past_close(place + 1, name.offset + name.len as usize)
-                } else {
-                    None
-                }
+            TokenKind::Annotation if is_passed_over(self.text(), name, names) => {
+                Some((place + 1, name.offset + name.len as usize))
             }
             _ => None,
+        }
+    }
+
+    /// The same, by its first byte.
+    #[inline(always)]
+    fn past_name(&self, place: usize, byte: usize, names: &Names) -> Option<(usize, usize)>
+        requires place { IsPlace self.now place byte }
+        requires marked { slice_get self.now.setting.text byte ≡ Some at_sign }
+        ensures { IfSome result (IsPassedName self.now place names.now) }
+    {
+        match self.past_plain_name(place, byte, names) {
+            Some(after) => Some(after),
+            None => self.past_read_name(place, byte, names),
+        }
+    }
+
+    /// The place after the group that a parenthesis opens, with its byte, where it is the group of an
+    /// annotation that is passed over. The place is the one after the parenthesis.
+    #[inline(always)]
+    fn past_annotation(&self, place: usize, byte: usize, names: &Names) -> Option<(usize, usize)>
+        requires place { IsPlace self.now place byte }
+        requires marked { slice_get self.now.setting.text byte ≡ Some at_sign }
+        ensures skip { IfSome result (λ v. step_next self.now.setting.text names.now
+            (slice_get self.now.tokens place) ≡ Skip) }
+        ensures ends { IfSome result (λ v. GroupEnds self.now place (Ok (Some v))) }
+        ensures on { IfSome result (λ v. place < v.0) }
+    {
+        match self.past_name(place, byte, names) {
+            Some((after, end)) => self.past_close(after, end),
+            None => None,
         }
     }
 

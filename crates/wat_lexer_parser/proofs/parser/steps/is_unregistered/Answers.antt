@@ -1,5 +1,5 @@
-use Rattle.std.proofs.Common.{◌≡◌, ◌<◌, ◌∙◌, ap, sym, false, true, arith, rules, List, ℕ}
-use Rattle.std.specs.Prelude.{Result, Ok, Err, Option, Some, None, is_none}
+use Rattle.std.proofs.Common.{◌≡◌, ◌<◌, ◌∙◌, ap, sym, refl, Bool, true, false, arith, rules, List, ℕ}
+use Rattle.std.specs.Prelude.{Result, Ok, Err, Option, Some, None, IsTrue, is_some, not}
 use Rattle.std.specs.Result.{result_err}
 use Rattle.wat_lex.specs.declared.lexer.faults.LexError.{LexError}
 use Rattle.wat_lex.specs.declared.lexer.faults.LexError.TheVariants.{EmptyAnnotation}
@@ -16,8 +16,13 @@ named : (r : Result (List ℕ) LexError) → result_err r ≡ None → (x : List
 named (Ok x) e = (x, refl)
 named (Err f) e = cc
 
+none_is : {X : Type 0} → (o : Option X) (b : Bool) → is_some o ≡ not b → IsTrue b → o ≡ None
+none_is None b e t = refl
+none_is (Some x) b e t = let no : true ≡ false = e ∙ ap not t in cc
+
 pub returns : goal.returns
-returns c = λ long.
+returns c = λ more.
+    let long : 1 < c.args.token.len = search rules in
     let text = c.args.text.now in
     let plain : is_quoted text c.args.token ≡ false = search rules in
     let none : c.args.names.now ≡ no_names = search rules in
@@ -28,5 +33,7 @@ pub returns-then-is_quoted : goal.returns-then-is_quoted
 returns-then-is_quoted c = λ fine.
     let text = c.args.text.now in
     let none : c.args.names.now ≡ no_names = search rules in
-    let name = named (name_value EmptyAnnotation (word_of text c.args.token)) ? in
+    let word = word_of text c.args.token in
+    let whole = ap (λ k. result_err (name_value (empty_name k) word)) (sym c.requires.kind) ∙ sym c.name_fault.ensures ∙ none_is c.name_fault.result c.is_none.result c.is_none.ensures fine in
+    let name = named (name_value EmptyAnnotation word) whole in
     skipped text c.args.names.now c.args.token name.0 none c.requires.kind name.1

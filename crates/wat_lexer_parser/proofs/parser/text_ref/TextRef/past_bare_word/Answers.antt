@@ -1,8 +1,7 @@
 use Rattle.std.proofs.Common.{◌≡◌, ◌<◌, ◌+◌, ap, sym, subst, arith, Some}
 use Rattle.std.specs.Str.{IsCharBoundary}
-use Rattle.wat_lex.specs.tokens.BareWords.{bare_len}
+use Rattle.wat_lex.specs.tokens.BareWords.{BareWordAt}
 use Rattle.wat_lex.specs.tokens.Setting.{Setting}
-use Rattle.wat_lex.specs.tokens.Tiling.{TokenAt}
 use Rattle.wat_lexer_parser.specs.inside.Next.{IsPlace}
 use Rattle.wat_lexer_parser.specs.places.Source.{Source}
 use Rattle.wat_lexer_parser.proofs.places.Bytes.{boundary, some_is, next_place}
@@ -20,15 +19,15 @@ returns-clause-place c =
     let s = c.args.self.now in
     let same : c.self.inside.lexer ≡ s.setting = ap (λ (x : Source). x.setting) c.self.view_is in
     let some : c.args.byte < c.past_bare_word-end.result = omega (arith, c.past_bare_word-end.ensures.value, c.if-end-byte.false) in
-    let word = c.past_bare_word-end.ensures.token some in
-    let there = some_is s c.args.place c.args.byte (Some word.0) c.lemma_read.ensures.read c.requires (subst (λ (x : Setting). TokenAt x c.args.byte word.0) same word.1) in
-    subst (IsPlace s (c.args.place + 1)) (sym word.4) (next_place s c.args.place word.0 there)
+    let word = subst (λ (x : Setting). BareWordAt x c.args.byte c.past_bare_word-end.result) same (c.past_bare_word-end.ensures.token some) in
+    let there = some_is s c.args.place c.args.byte (Some word.token) c.lemma_read.ensures.read c.requires word.there in
+    subst (IsPlace s (c.args.place + 1)) (sym word.ends) (next_place s c.args.place word.token there)
 
 pub returns-clause-inside : goal.returns-clause-inside
 returns-clause-inside c = λ names paren depth.
     let s = c.args.self.now in
     let same : c.self.inside.lexer ≡ s.setting = ap (λ (x : Source). x.setting) c.self.view_is in
     let some : c.args.byte < c.past_bare_word-end.result = omega (arith, c.past_bare_word-end.ensures.value, c.if-end-byte.false) in
-    let word = c.past_bare_word-end.ensures.token some in
-    let there = some_is s c.args.place c.args.byte (Some word.0) c.lemma_read.ensures.read c.requires (subst (λ (x : Setting). TokenAt x c.args.byte word.0) same word.1) in
-    inside_passes s names paren c.args.place depth word.0 there (no_paren word.0 word.2 word.3)
+    let word = subst (λ (x : Setting). BareWordAt x c.args.byte c.past_bare_word-end.result) same (c.past_bare_word-end.ensures.token some) in
+    let there = some_is s c.args.place c.args.byte (Some word.token) c.lemma_read.ensures.read c.requires word.there in
+    inside_passes s names paren c.args.place depth word.token there (no_paren word.token word.not_open word.not_close)
