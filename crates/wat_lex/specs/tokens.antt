@@ -2,6 +2,7 @@
 pub mod Setting
 pub mod Blanks
 pub mod BareWords
+pub mod QuotedNames
 pub mod StringFaults
 pub mod Faults
 pub mod Recovery

@@ -9,6 +9,7 @@ ghost use Rattle.wat_lex.specs.declared.lexer.kinds.Token.{Token as Lexed};
 ghost use Rattle.wat_lex.specs.declared.lexer.kinds.TokenKind.TheVariants.{Whitespace};
 ghost use Rattle.wat_lex.specs.tokens.BareWords.{bare_len, BareWordAt};
 ghost use Rattle.wat_lex.specs.tokens.Faults.{FaultAt};
+ghost use Rattle.wat_lex.specs.tokens.QuotedNames.{quoted_name_len, NamedAt};
 ghost use Rattle.wat_lex.specs.tokens.Recovery.{ResumesAt};
 ghost use Rattle.wat_lex.specs.tokens.Raw.{ErrorAt};
 ghost use Rattle.wat_lex.specs.tokens.ReadableTokens.{IsTokenOf};
@@ -36,6 +37,7 @@ pub(crate) use scan::blocks::block_at;
 use scan::classes::blank_len;
 pub(crate) use scan::classes::is_confusing;
 pub(crate) use scan::comments::first_confusing;
+use scan::plain::quoted_name_len;
 use scan::{bare_len, fault_at_start, first_found};
 pub use settings::Settings;
 
@@ -236,6 +238,19 @@ impl<'a> Lexer<'a> {
     {
         let text = self.input();
         pos + bare_len(&text.as_bytes()[pos..])
+    }
+
+    /// Where the annotation ends that is at a byte of the text, whose name is in quotes and has no
+    /// escape: at that byte, where no such annotation is.
+    #[inline(always)]
+    pub fn past_quoted_name(&self, pos: usize) -> usize
+        requires { IsCharBoundary self.now.text pos }
+        ensures value { result ≡ pos + quoted_name_len (drop pos self.now.text) }
+        ensures token { pos < result → NamedAt self.now pos result }
+        ensures boundary { IsCharBoundary self.now.text result }
+    {
+        let text = self.input();
+        pos + quoted_name_len(&text.as_bytes()[pos..])
     }
 
     /// The first fault from a byte of the text on, or None where there is none.

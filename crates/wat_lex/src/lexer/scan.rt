@@ -32,7 +32,7 @@ pub(super) mod blocks;
 pub(super) mod classes;
 pub(super) mod comments;
 pub(super) mod numbers;
-mod plain;
+pub(super) mod plain;
 mod runs;
 mod short;
 mod starts;
