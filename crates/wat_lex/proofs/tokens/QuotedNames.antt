@@ -6,7 +6,7 @@ use Rattle.std.specs.List.{prefix_len}
 use Rattle.std.specs.Str.{chars, IsCharBoundary, IsUtf8}
 use Rattle.std.proofs.lemmas.Bool.{and_parts, both_ways, cases_Bool, eqb-true, ltb-true, ltb-false}
 use Rattle.std.proofs.lemmas.List.{get_or-take}
-use Rattle.std.proofs.lemmas.List.Sums.{prefix_len-le-length, prefix_len-drop_no, prefix_len_passes}
+use Rattle.std.proofs.lemmas.List.Sums.{prefix_len_passes}
 use Rattle.std.proofs.lemmas.Str.{IsUtf8-drop, IsUtf8-take}
 use Rattle.memchr.specs.Find.{IsFirstByte, is_byte}
 use Rattle.wat_lex.specs.declared.lexer.faults.LexError.TheVariants.{EmptyAnnotation}
@@ -20,7 +20,7 @@ use Rattle.wat_lex.specs.inside.ScannedLexemes.{LexemeFound}
 use Rattle.wat_lex.specs.inside.ScannedRuns.{RunFound}
 use Rattle.wat_lex.specs.inside.ScannedStrings.{is_plain}
 use Rattle.wat_lex.specs.tokens.QuotedNames.{is_quoted_name, quoted_name_len, NamedAt}
-use Rattle.wat_lex.specs.tokens.ReadableTokens.{IsTokenOf, token_text}
+use Rattle.wat_lex.specs.tokens.ReadableTokens.{IsTokenOf}
 use Rattle.wat_lex.specs.tokens.Setting.{Setting}
 use Rattle.wat_lex.specs.tokens.Tiling.{TokenAt}
 use Rattle.wat_lex.specs.values.WordValues.{checked_name, name_value, named_bytes}

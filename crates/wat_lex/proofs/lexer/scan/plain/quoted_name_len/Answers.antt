@@ -1,9 +1,8 @@
-use Rattle.std.proofs.Common.{◌≡◌, ◌≤◌, ◌<◌, ◌-◌, ◌+◌, ◌∙◌, ℕ, List, length, length-drop, take, drop, get_or, ap, sym, arith, Bool, true, false}
+use Rattle.std.proofs.Common.{◌≡◌, ◌-◌, ◌∙◌, ℕ, List, length, length-drop, take, drop, ap, sym, arith}
 use Rattle.std.specs.List.{prefix_len}
 use Rattle.std.proofs.lemmas.List.{take_rest}
 use Rattle.std.proofs.lemmas.List.Sums.{prefix_len-le-length}
 use Rattle.wat_lex.specs.inside.ScannedStrings.{is_plain}
-use Rattle.wat_lex.specs.tokens.QuotedNames.{is_quoted_name, quoted_name_len}
 use Rattle.wat_lex.proofs.tokens.QuotedNames.{too_short, with_name, without_name}
 use Rattle.wat_lex.proofs.lexer.scan.plain.quoted_name_len.Goals as goal
 

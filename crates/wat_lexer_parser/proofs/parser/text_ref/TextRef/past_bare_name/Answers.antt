@@ -14,7 +14,7 @@ use Rattle.wat_lexer_parser.proofs.inside.BareNames.{bare_plain, first_byte}
 use Rattle.wat_lexer_parser.proofs.inside.PlainNames.{plain_value}
 use Rattle.wat_lexer_parser.proofs.places.Bytes.{boundary, some_is, next_place}
 use Rattle.wat_lexer_parser.proofs.shown.Annotations.{skipped}
-use Rattle.wat_lexer_parser.proofs.parser.text_ref.TextRef.past_plain_name.Goals as goal
+use Rattle.wat_lexer_parser.proofs.parser.text_ref.TextRef.past_bare_name.Goals as goal
 
 pub past_bare_word-end-requires : goal.past_bare_word-end-requires
 past_bare_word-end-requires c =
