@@ -177,6 +177,8 @@ impl<'a> Parser<'a> {
         requires place { IsPlace self.old.source place byte }
         ensures { self.new ≡ record self.old { place = place } }
     {
+        self.place = place;
+        self.byte = byte;
         let source = &self.source;
         source.lemma_read();
         let (token, at, sight) = source.first_at(place, byte);
@@ -189,8 +191,6 @@ impl<'a> Parser<'a> {
             Sight::Marked => source.keep_past(at, token.offset, true, &self.names, &mut self.next),
             Sight::Nothing => source.keep_look(place, byte, &self.names, &mut self.next),
         }
-        self.place = place;
-        self.byte = byte;
     }
 
     /// Puts the place back, and the depth.
