@@ -57,7 +57,7 @@ sighted s p i t Blank on same here there reader short h = record {
   short = short;
 }
 sighted s p i t Marked on same here there reader short h = (record { on = on; same = same }, marked_at s i t here there reader h.0 h.1)
-sighted s p i t Nothing on same here there reader short h = tt
+sighted s p i t Nothing on same here there reader short h = absurd h
 
 -- what is next at a place is next at an earlier one that shows the same
 pub next_from : (s : Source) (p q : ℕ) (names : Names) (found : Option (Token × ℕ)) → IsShownFrom s p q → IfSome found (IsNext s q names) → IfSome found (IsNext s p names)

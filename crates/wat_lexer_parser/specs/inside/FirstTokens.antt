@@ -18,7 +18,7 @@ abbrev pub SightOf : Source → Token → Sight → Type 0
 SightOf s t Plain = (names : Names) (next : Option Token) → step_of s.setting.text names t next ≡ Take
 SightOf s t Blank = is_blank t.kind ≡ true
 SightOf s t Marked = (t.kind ≡ LParen) × (is_marked s.setting.text t ≡ true)
-SightOf s t Nothing = ⊤
+SightOf s t Nothing = ⊥
 
 -- a parenthesis that `@` comes directly after is at the place, with this byte
 pub record IsMarkedAt (s : Source) (p byte : ℕ) : Type 0 where

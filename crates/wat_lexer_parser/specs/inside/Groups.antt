@@ -2,7 +2,7 @@
 use Rattle.std.specs.Prelude.{◌≡◌, ◌+◌, ℕ, drop, slice_get, Option, Some, None, Result, Ok, Err}
 use Rattle.wat_lex.specs.declared.lexer.faults.LexFault.{LexFault}
 use Rattle.wat_lex.specs.declared.lexer.kinds.Token.{Token}
-use Rattle.wat_lex.specs.declared.lexer.kinds.TokenKind.TheVariants.{Annotation}
+use Rattle.wat_lex.specs.declared.lexer.kinds.TokenKind.TheVariants.{Annotation, RParen}
 use Rattle.wat_lexer_parser.specs.declared.parser.fault.Step.TheVariants.{Skip}
 use Rattle.wat_lexer_parser.specs.inside.Next.{IsPlace}
 use Rattle.wat_lexer_parser.specs.inside.ShownIn.{Inside, Showing, shown_in, step_next}
@@ -28,3 +28,10 @@ pub record IsPassedName (s : Source) (p : ℕ) (names : Names) (v : ℕ × ℕ) 
   pub skip : step_next s.setting.text names (slice_get s.tokens p) ≡ Skip
   pub next : v.0 ≡ p + 1
   pub place : IsPlace s v.0 v.1
+
+-- `)` is at the place, with this byte
+pub record IsCloseAt (s : Source) (p byte : ℕ) : Type 0 where
+  pub paren : Token
+  pub there : slice_get s.tokens p ≡ Some paren
+  pub kind : paren.kind ≡ RParen
+  pub after : IsPlace s (p + 1) (byte + 1)

@@ -1,13 +1,13 @@
 //! A text without a table, as parsers read it.
 ghost use Rattle.std.specs.Prelude.{◌≡◌, ◌<◌, ◌≤◌, ◌^◌, ◌+◌, ℕ, length, drop, slice_index_or, None, Some, slice_get};
-ghost use Rattle.std.specs.Prelude.{IfOk, IfErr, IfSome, IfNone, IsTrue, Option};
+ghost use Rattle.std.specs.Prelude.{IfOk, IfErr, IfSome, IfNone, IsTrue, Option, false, slice_index, ◌≢◌};
 ghost use Rattle.std.specs.Str.{IsUtf8};
-ghost use Rattle.wat_lex.specs.grammar.Classes.{at_sign};
+ghost use Rattle.wat_lex.specs.grammar.Classes.{at_sign, close_paren};
 ghost use Rattle.wat_lex.specs.tokens.ReadableTokens.{IsTokenOf};
 ghost use Rattle.wat_lex.specs.declared.lexer.kinds.Token.{Token as Lexed};
 ghost use Rattle.wat_lexer_parser.specs.declared.parser.fault.FaultKind.TheVariants.{Unclosed};
 ghost use Rattle.wat_lexer_parser.specs.declared.parser.fault.Step.TheVariants.{Skip, Take};
-ghost use Rattle.wat_lexer_parser.specs.inside.Groups.{GroupEnds, IsPassedName, found_inside};
+ghost use Rattle.wat_lexer_parser.specs.inside.Groups.{GroupEnds, IsCloseAt, IsPassedName, found_inside};
 ghost use Rattle.wat_lexer_parser.specs.inside.FirstTokens.{IsMarkedAt, IsSight, SightOf, not_passed};
 ghost use Rattle.wat_lexer_parser.specs.inside.Next.{IsAfter, IsNext, IsPlace};
 ghost use Rattle.wat_lexer_parser.specs.inside.Rows.{IsRow};
@@ -278,6 +278,17 @@ impl<'a> TextRef<'a> {
         (place + 1, end)
     }
 
+    /// Whether `)` is at a place.
+    #[inline(always)]
+    fn is_close(&self, place: usize, byte: usize) -> bool
+        requires { IsPlace self.now place byte }
+        ensures yes { IsTrue result → IsCloseAt self.now place byte }
+        ensures no { result ≡ false → slice_index self.now.setting.text byte ≢ close_paren }
+    {
+        self.lemma_read();
+        self.lexer.is_close(byte)
+    }
+
     /// What a token means for a look at it.
     #[inline(always)]
     fn sight(&self, token: Token) -> Sight
@@ -285,7 +296,8 @@ impl<'a> TextRef<'a> {
         ensures { SightOf self.now token result }
     {
         match token.kind {
-            TokenKind::Whitespace | TokenKind::LineComment | TokenKind::BlockComment => Sight::Blank,
+            TokenKind::Whitespace | TokenKind::LineComment | TokenKind::BlockComment =>
+                Sight::Blank,
             TokenKind::LParen if token.is_marked(self.text()) => Sight::Marked,
             _ => Sight::Plain,
         }
@@ -348,21 +360,29 @@ impl<'a> TextRef<'a> {
         let mut depth = 0usize;
         self.lemma_read();
         'tokens: loop {
+            if self.is_close(i, pos) {
+                i += 1;
+                pos += 1;
+                if depth == 0 {
+                    return Some((i, pos));
+                }
+                depth -= 1;
+                continue 'tokens;
+            }
             let (word, start) = self.past_whitespace(i, pos);
             let (at, from) = self.past_bare_word(word, start);
-            let Some(token) = self.some_token_at(at, from) else {
+            if at > i {
+                i = at;
+                pos = from;
+                continue 'tokens;
+            }
+            let Some(token) = self.some_token_at(i, pos) else {
                 return None;
             };
-            i = at + 1;
+            i += 1;
             pos = token.offset + token.len as usize;
             match token.kind {
                 TokenKind::LParen => depth += 1,
-                TokenKind::RParen => {
-                    if depth == 0 {
-                        return Some((i, pos));
-                    }
-                    depth -= 1;
-                }
                 _ => {}
             }
         }
