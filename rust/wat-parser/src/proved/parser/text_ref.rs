@@ -283,6 +283,21 @@ impl<'a> TextRef<'a> {
         (place + 1, end)
     }
 
+    /// Whether `)` is at a place.
+    ///
+    /// # Proved
+    ///
+    /// ```text
+    /// requires { IsPlace self.now place byte }
+    /// ensures yes { IsTrue result → IsCloseAt self.now place byte }
+    /// ensures no { result ≡ false → slice_index self.now.setting.text byte ≢ close_paren }
+    /// ```
+    #[inline(always)]
+    fn is_close(&self, place: usize, byte: usize) -> bool {
+        self.lemma_read();
+        self.lexer.is_close(byte)
+    }
+
     /// What a token means for a look at it.
     ///
     /// # Proved
@@ -370,21 +385,29 @@ impl<'a> TextRef<'a> {
         let mut depth = 0usize;
         self.lemma_read();
         'tokens: loop {
+            if self.is_close(i, pos) {
+                i += 1;
+                pos += 1;
+                if depth == 0 {
+                    return Some((i, pos));
+                }
+                depth -= 1;
+                continue 'tokens;
+            }
             let (word, start) = self.past_whitespace(i, pos);
             let (at, from) = self.past_bare_word(word, start);
-            let Some(token) = self.some_token_at(at, from) else {
+            if at > i {
+                i = at;
+                pos = from;
+                continue 'tokens;
+            }
+            let Some(token) = self.some_token_at(i, pos) else {
                 return None;
             };
-            i = at + 1;
+            i += 1;
             pos = token.offset + token.len as usize;
             match token.kind {
                 TokenKind::LParen => depth += 1,
-                TokenKind::RParen => {
-                    if depth == 0 {
-                        return Some((i, pos));
-                    }
-                    depth -= 1;
-                }
                 _ => {}
             }
         }
