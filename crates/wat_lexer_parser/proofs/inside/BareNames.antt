@@ -1,8 +1,6 @@
 -- The name of an annotation that is a word of idchars alone.
-use Rattle.std.proofs.Common.{◌≡◌, ◌⊎◌, ◌<◌, zero, suc, [], ◌∷◌, refl, ◌+◌, ◌∙◌, ℕ, List, drop, get_or, get_or-drop, ap, sym, arith, Bool, true, false, inl, inr}
+use Rattle.std.proofs.Common.{◌≡◌, ◌⊎◌, ◌<◌, zero, suc, [], ◌∷◌, refl, ◌+◌, ◌∙◌, ℕ, List, drop, get_or, get_or-drop, ap, sym, arith, true, false, inl, inr}
 use Rattle.std.specs.Prelude.{◌==◌, Option, Some, None, slice_get, slice_index, option_map, unwrap_or}
-use Rattle.std.specs.List.{prefix_len}
-use Rattle.std.proofs.lemmas.Bool.{cases_Bool, eqb-true}
 use Rattle.std.proofs.lemmas.List.Sums.{prefix_len_passes}
 use Rattle.wat_lex.specs.grammar.Classes.{at_sign, is_idchar, quote}
 use Rattle.wat_lex.specs.tokens.BareWords.{bare_len}

@@ -4,7 +4,6 @@ use Rattle.std.proofs.Common.{◌≡◌, ◌≤◌, ◌<◌, ◌+◌, ◌^◌, �
 use Rattle.std.specs.Prelude.{◌==◌, Option, IfSome, slice_get, option_map, unwrap_or}
 use Rattle.std.proofs.lemmas.Bool.{eqb-true}
 use Rattle.wat_lex.specs.declared.lexer.kinds.Token.{Token}
-use Rattle.wat_lex.specs.declared.lexer.kinds.TokenKind.{TokenKind}
 use Rattle.wat_lex.specs.declared.lexer.kinds.TokenKind.TheVariants.{LParen}
 use Rattle.wat_lex.specs.grammar.Classes.{at_sign, size}
 use Rattle.wat_lex.specs.grammar.Words.{Word}

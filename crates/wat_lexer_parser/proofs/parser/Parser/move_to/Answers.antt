@@ -1,5 +1,5 @@
 use Rattle.std.proofs.Common.{arith, subst}
-use Rattle.wat_lexer_parser.specs.inside.FirstTokens.{IsSight, IsBlankAt, IsMarkedAt, IsShownFrom}
+use Rattle.wat_lexer_parser.specs.inside.FirstTokens.{IsSight, IsBlankAt}
 use Rattle.wat_lexer_parser.specs.names.RegisteredNames.{no_names}
 use Rattle.wat_lexer_parser.proofs.parser.Parser.move_to.Goals as goal
 use Rattle.wat_lexer_parser.proofs.parser.Parser.move_to.Goals.{In-Blank}

@@ -1,4 +1,4 @@
-use Rattle.std.proofs.Common.{◌≡◌, ◌<◌, ◌∙◌, ap, sym, refl, Bool, true, false, arith, rules, List, ℕ}
+use Rattle.std.proofs.Common.{◌≡◌, ◌<◌, ◌∙◌, ap, sym, refl, Bool, true, false, rules, List, ℕ}
 use Rattle.std.specs.Prelude.{Result, Ok, Err, Option, Some, None, IsTrue, is_some, not}
 use Rattle.std.specs.Result.{result_err}
 use Rattle.wat_lex.specs.declared.lexer.faults.LexError.{LexError}

@@ -1,13 +1,10 @@
-use Rattle.std.proofs.Common.{◌≡◌, ◌<◌, ◌≤◌, ◌+◌, ◌∙◌, ap, sym, subst, arith, drop, refl, rules, Some}
-use Rattle.std.specs.Prelude.{slice_get}
+use Rattle.std.proofs.Common.{◌≡◌, ◌<◌, ◌+◌, ◌∙◌, ap, sym, subst, arith, drop, refl, rules, Some}
 use Rattle.std.specs.Str.{IsCharBoundary}
-use Rattle.wat_lex.specs.grammar.Classes.{at_sign}
 use Rattle.wat_lex.specs.tokens.BareWords.{BareWordAt, bare_len}
 use Rattle.wat_lex.specs.tokens.Setting.{Setting}
 use Rattle.wat_lex.proofs.tokens.ReadableTokens.{token_of}
 use Rattle.wat_lexer_parser.specs.inside.Next.{IsPlace}
 use Rattle.wat_lexer_parser.specs.inside.ShownIn.{step_next}
-use Rattle.wat_lexer_parser.specs.inside.Table.{is_quoted}
 use Rattle.wat_lexer_parser.specs.names.RegisteredNames.{no_names}
 use Rattle.wat_lexer_parser.specs.places.Source.{Source}
 use Rattle.wat_lexer_parser.proofs.inside.BareNames.{bare_plain, first_byte}
