@@ -181,7 +181,7 @@ impl<'a> Parser<'a> {
                 source.keep_past(at + 1, end, false, &self.names, &mut self.next);
             }
             Sight::Marked => source.keep_past(at, token.offset, true, &self.names, &mut self.next),
-            Sight::Nothing => source.keep_look(place, byte, &self.names, &mut self.next),
+            Sight::Nothing => source.keep_look(self.place, self.byte, &self.names, &mut self.next),
         }
     }
 
