@@ -1,5 +1,7 @@
 -- Lemmas on the tokens of a text: that there is one tiling, its faults, its laws, cuts and moves.
 pub mod Scans
+pub mod BareWords
+pub mod QuotedNames
 pub mod Raws
 pub mod ReadableTokens
 pub mod RawLaws

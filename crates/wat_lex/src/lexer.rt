@@ -1,13 +1,16 @@
 //! The lexer of the WebAssembly text format.
 ghost use Rattle.std.specs.Prelude.{◌≡◌, ◌⊎◌, ◌≤◌, ◌<◌, ◌^◌, ◌+◌, ℕ, true, false, List, length, drop, Option};
-ghost use Rattle.std.specs.Prelude.{Result, IfOk, IfErr, IfSome, IfNone, OnErr};
+ghost use Rattle.std.specs.Prelude.{Result, IfOk, IfErr, IfSome, IfNone, IsTrue, OnErr, slice_index};
+ghost use Rattle.std.specs.Bool.{Decides};
 ghost use Rattle.std.specs.List.{prefix_len};
 ghost use Rattle.std.specs.Str.{IsCharBoundary, IsUtf8};
-ghost use Rattle.wat_lex.specs.grammar.Classes.{is_whitespace};
+ghost use Rattle.wat_lex.specs.grammar.Classes.{close_paren, is_whitespace};
 ghost use Rattle.wat_lex.specs.declared.lexer.faults.LexFault.{LexFault as Fault};
 ghost use Rattle.wat_lex.specs.declared.lexer.kinds.Token.{Token as Lexed};
-ghost use Rattle.wat_lex.specs.declared.lexer.kinds.TokenKind.TheVariants.{Whitespace};
+ghost use Rattle.wat_lex.specs.declared.lexer.kinds.TokenKind.TheVariants.{Whitespace, RParen};
+ghost use Rattle.wat_lex.specs.tokens.BareWords.{bare_len, BareWordAt};
 ghost use Rattle.wat_lex.specs.tokens.Faults.{FaultAt};
+ghost use Rattle.wat_lex.specs.tokens.QuotedNames.{quoted_name_len, NamedAt};
 ghost use Rattle.wat_lex.specs.tokens.Recovery.{ResumesAt};
 ghost use Rattle.wat_lex.specs.tokens.Raw.{ErrorAt};
 ghost use Rattle.wat_lex.specs.tokens.ReadableTokens.{IsTokenOf};
@@ -35,7 +38,8 @@ pub(crate) use scan::blocks::block_at;
 use scan::classes::blank_len;
 pub(crate) use scan::classes::is_confusing;
 pub(crate) use scan::comments::first_confusing;
-use scan::{fault_at_start, first_found};
+use scan::plain::quoted_name_len;
+use scan::{bare_len, byte_at, fault_at_start, first_found};
 pub use settings::Settings;
 
 /// A lexer over a text: it cuts the text into tokens, whitespace and comments, and accounts for
@@ -222,6 +226,48 @@ impl<'a> Lexer<'a> {
     {
         let text = self.input();
         pos + blank_len(&text.as_bytes()[pos..])
+    }
+
+    /// Whether `)` is at a byte of the text.
+    #[inline(always)]
+    pub fn is_close(&self, pos: usize) -> bool
+        requires { IsCharBoundary self.now.text pos }
+        ensures value { Decides result (slice_index self.now.text pos ≡ close_paren) }
+        ensures token { IsTrue result → TokenAt self.now pos (record {
+          offset = pos;
+          len = 1;
+          kind = RParen;
+        }) }
+        ensures boundary { IsTrue result → IsCharBoundary self.now.text (pos + 1) }
+    {
+        let text = self.input();
+        byte_at(text.as_bytes(), pos) == b')'
+    }
+
+    /// Where the word of idchars ends that is at a byte of the text: at that byte, where none is, or a
+    /// string is joined to it.
+    #[inline(always)]
+    pub fn past_bare_word(&self, pos: usize) -> usize
+        requires { IsCharBoundary self.now.text pos }
+        ensures value { result ≡ pos + bare_len (drop pos self.now.text) }
+        ensures token { pos < result → BareWordAt self.now pos result }
+        ensures boundary { IsCharBoundary self.now.text result }
+    {
+        let text = self.input();
+        pos + bare_len(&text.as_bytes()[pos..])
+    }
+
+    /// Where the annotation ends that is at a byte of the text, whose name is in quotes and has no
+    /// escape: at that byte, where no such annotation is.
+    #[inline(always)]
+    pub fn past_quoted_name(&self, pos: usize) -> usize
+        requires { IsCharBoundary self.now.text pos }
+        ensures value { result ≡ pos + quoted_name_len (drop pos self.now.text) }
+        ensures token { pos < result → NamedAt self.now pos result }
+        ensures boundary { IsCharBoundary self.now.text result }
+    {
+        let text = self.input();
+        pos + quoted_name_len(&text.as_bytes()[pos..])
     }
 
     /// The first fault from a byte of the text on, or None where there is none.

@@ -4,4 +4,5 @@ pub mod Pairing
 pub mod Stacks
 pub mod Filling
 pub mod PlainNames
+pub mod BareNames
 pub mod RawTokens

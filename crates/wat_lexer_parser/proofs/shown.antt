@@ -12,3 +12,4 @@ pub mod BlankBytes
 pub mod Counting
 pub mod CountingTokens
 pub mod Groups
+pub mod FirstTokens

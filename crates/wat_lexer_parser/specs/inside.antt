@@ -2,6 +2,7 @@
 pub mod ShownIn
 pub mod MapEntries
 pub mod Next
+pub mod FirstTokens
 pub mod Table
 pub mod TableNames
 pub mod Codes

@@ -38,6 +38,7 @@ use crate::parser::fault::Fault;
 use crate::parser::kept::Kept;
 use crate::parser::names::{Names, RegisterError};
 use crate::parser::source_ref::SourceRef;
+use crate::parser::text_ref::Sight;
 pub use buffer::ParseBuffer;
 pub use calls::{Call, Reply, replay};
 pub use cursor::Cursor;
@@ -176,16 +177,20 @@ impl<'a> Parser<'a> {
         requires place { IsPlace self.old.source place byte }
         ensures { self.new ≡ record self.old { place = place } }
     {
-        let source = &self.source;
-        source.lemma_read();
-        let (token, at, is_plain) = source.first_at(place, byte);
-        if is_plain {
-            self.next.keep(token, at + 1);
-        } else {
-            source.keep_past(place, byte, at, token, &self.names, &mut self.next);
-        }
         self.place = place;
         self.byte = byte;
+        let source = &self.source;
+        source.lemma_read();
+        let (token, at, sight) = source.first_at(place, byte);
+        match sight {
+            Sight::Plain => self.next.keep(token, at + 1),
+            Sight::Blank => {
+                let end = token.offset + token.len as usize;
+                source.keep_past(at + 1, end, false, &self.names, &mut self.next);
+            }
+            Sight::Marked => source.keep_past(at, token.offset, true, &self.names, &mut self.next),
+            Sight::Nothing => source.keep_look(self.place, self.byte, &self.names, &mut self.next),
+        }
     }
 
     /// Puts the place back, and the depth.

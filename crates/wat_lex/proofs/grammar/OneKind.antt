@@ -125,7 +125,7 @@ pub number_one : (w : List ℕ) (k l : TokenKind) → Number w k → Number w l 
 number_one w k l h g = one w k l (is_number w k h) (is_number w l g)
 
 -- and so has a run
-word_one : (w : List ℕ) (k l : TokenKind) → WordKind w k → WordKind w l → k ≡ l
+pub word_one : (w : List ℕ) (k l : TokenKind) → WordKind w k → WordKind w l → k ≡ l
 word_one w k l (inl a) (inl b) = number_one w k l a b
 word_one w k l (inl a) (inr b) = absurd (b.0 k a)
 word_one w k l (inr a) (inl b) = absurd (a.0 l b)

@@ -79,7 +79,7 @@ kind_of_two flags w (Idchar c ∷ Quoted v ∷ Idchar d ∷ ps) r h m = absurd (
 kind_of_two flags w (Idchar c ∷ Idchar d ∷ ps) r h m = absurd (omega (arith, m))
 
 -- the kinds that runs have
-abbrev is_run_kind : TokenKind → Bool
+abbrev pub is_run_kind : TokenKind → Bool
 is_run_kind LineComment = false
 is_run_kind BlockComment = false
 is_run_kind Whitespace = false
@@ -124,7 +124,7 @@ of_number w Keyword h = refl
 of_number w Annotation h = refl
 of_number w Reserved h = refl
 
-of_word : (w : List ℕ) (kind : TokenKind) → WordKind w kind → is_run_kind kind ≡ true
+pub of_word : (w : List ℕ) (kind : TokenKind) → WordKind w kind → is_run_kind kind ≡ true
 of_word w kind (inl n) = of_number w kind n
 of_word w kind (inr h) = ap is_run_kind h.1 ∙ by_first w
 

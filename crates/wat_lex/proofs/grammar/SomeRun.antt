@@ -50,11 +50,11 @@ pub record SomeKind (ps : List Piece) : Type 0 where
   pub kind : TokenKind
   pub is : RunKind ps kind
 
-record SomeWordKind (w : List ℕ) : Type 0 where
-  kind : TokenKind
-  is : WordKind w kind
+pub record SomeWordKind (w : List ℕ) : Type 0 where
+  pub kind : TokenKind
+  pub is : WordKind w kind
 
-some_word_kind : (w : List ℕ) → SomeWordKind w
+pub some_word_kind : (w : List ℕ) → SomeWordKind w
 some_word_kind w = by (some_number w)
   where
     by : SomeNumber w → SomeWordKind w

@@ -25,7 +25,7 @@ ghost use Rattle.wat_lex.specs.declared.lexer.kinds.TokenKind.TheVariants.{Annot
 ghost use Rattle.wat_lex.specs.declared.lexer.kinds.TokenKind.TheVariants as token_kind;
 
 use crate::error::Error;
-use crate::lexer::read::names::{is_named, is_utf8_name};
+use crate::lexer::read::names::{is_named, is_plain_name, is_utf8_name};
 use crate::lexer::read::numbers::magnitude_of;
 use crate::lexer::read::strings::{name, plain, unescaped};
 use crate::lexer::{Float, FloatKind, Integer, IntegerKind, LexError, Token, TokenKind};
@@ -204,6 +204,9 @@ impl Token {
             ≡ result_err (name_value (empty_name self.now.kind) (word_of s.now self.now)) }
     {
         let name = &self.src(s)[1..];
+        if is_plain_name(name) {
+            return None;
+        }
         if is_named(name, &[]) {
             return Some(empty_name(self.kind));
         }

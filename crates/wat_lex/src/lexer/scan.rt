@@ -5,6 +5,7 @@ ghost use Rattle.std.specs.List.{prefix_len};
 ghost use Rattle.std.specs.Str.{IsCharBoundary};
 ghost use Rattle.wat_lex.specs.grammar.Classes.{is_idchar, is_run_char};
 ghost use Rattle.wat_lex.specs.grammar.Numbers.{sign_of};
+ghost use Rattle.wat_lex.specs.tokens.BareWords.{bare_len};
 ghost use Rattle.wat_lex.specs.tokens.Faults.{begins_word};
 ghost use Rattle.wat_lex.specs.inside.ScannedLexemes.{Refused};
 ghost use Rattle.wat_lex.specs.inside.Outlines.{BeginsWord, Begun, FoundIn, IdcharsOnly, IsRefused};
@@ -16,7 +17,7 @@ use crate::lexer::faults::{LexError, LexFault};
 use crate::lexer::kinds::{Found, Lexeme, Outline, Shape, Sign, Stride, TokenKind};
 use crate::lexer::scan::blocks::{block_at, other_than_idchars};
 use crate::lexer::scan::classes::{
-    idchar_len_by_block, idchar_len_of_word, is_run_char, whitespace_len,
+    idchar_len, idchar_len_by_block, idchar_len_of_word, is_run_char, whitespace_len,
 };
 use crate::lexer::scan::comments::{
     block_comment, block_comment_len, line_comment, line_comment_len,
@@ -31,7 +32,7 @@ pub(super) mod blocks;
 pub(super) mod classes;
 pub(super) mod comments;
 pub(super) mod numbers;
-mod plain;
+pub(super) mod plain;
 mod runs;
 mod short;
 mod starts;
@@ -51,6 +52,16 @@ fn string_follows(text: &[u8], len: usize) -> bool
     ensures { IsTrue result ↔ slice_index text.now len ≡ 34 }
 {
     byte_at(text, len) == b'"'
+}
+
+/// How many bytes the word of idchars has that is at the start: none where a string is joined to
+/// them.
+#[inline(always)]
+pub fn bare_len(text: &[u8]) -> usize
+    ensures { result ≡ bare_len text.now }
+{
+    let len = idchar_len(text);
+    if string_follows(text, len) { 0 } else { len }
 }
 
 /// A token of this kind and length.

@@ -24,7 +24,7 @@ use Rattle.wat_lexer_parser.specs.inside.Table.{is_quoted}
 abbrev Parts : List ℕ → Type 0
 Parts w = (t : List ℕ) × (w ≡ at_sign ∷ t) × (Each is_idchar t ⊎ ((u : List ℕ) × (t ≡ quote ∷ u)))
 
-no_quote : (c : ℕ) → is_idchar c ≡ true → (c == quote) ≡ false
+pub no_quote : (c : ℕ) → is_idchar c ≡ true → (c == quote) ≡ false
 no_quote c h = elim (cases_Bool (c == quote)) [
   | inl e ↦ let k : false ≡ true = ap is_idchar (sym (eqb-true c quote e)) ∙ h in cc
   | inr e ↦ e

@@ -1,6 +1,12 @@
 -- A group that is passed over, a token at a time.
-use Rattle.std.proofs.Common.{◌≡◌, ◌+◌, ◌-◌, ◌<◌, ◌∙◌, ℕ, suc, zero, drop, arith, ap, inl, inr, Some, None, false}
-use Rattle.std.specs.Prelude.{slice_get}
+use lib.Utf8.{encode, encodes}
+use Rattle.std.proofs.Common.{◌≡◌, ◌+◌, ◌-◌, ◌<◌, ◌∙◌, ◌++◌, ◌∷◌, [], ℕ, List, suc, zero, drop, get_or, get_or-drop, arith, ap, sym, subst, inl, inr, Some, None, false}
+use Rattle.std.specs.Prelude.{slice_get, slice_index}
+use Rattle.std.specs.Str.{IsUtf8}
+use Rattle.std.proofs.lemmas.Str.{encodes-chars, IsUtf8-drop}
+use Rattle.wat_lex.specs.grammar.Words.{Word}
+use Rattle.wat_lex.specs.tokens.ReadableTokens.{IsTokenOf}
+use Rattle.wat_lex.specs.tokens.Setting.{lenient}
 use Rattle.wat_lex.specs.declared.lexer.kinds.Token.{Token}
 use Rattle.wat_lex.specs.declared.lexer.kinds.TokenKind.TheVariants.{LParen, RParen}
 use Rattle.wat_lexer_parser.specs.inside.Groups.{found_inside}
@@ -49,3 +55,13 @@ no_paren t f g = elim (kind_cases t.kind) [
   | inl e ↦ absurd (f e)
   | inr h ↦ elim h [ inl e ↦ absurd (g e) | inr e ↦ e ]
 ]
+
+-- the byte of a parenthesis that closes
+pub close_byte : (text : List ℕ) (t : Token) → IsUtf8 text → IsTokenOf text t → t.kind ≡ RParen → slice_index text t.offset ≡ 41
+unfolding encode
+close_byte text t u r e =
+    let bs = drop t.offset text in
+    let w : r.word ≡ 41 ∷ [] = subst (λ k. Word k r.word lenient) e r.is in
+    let b : bs ≡ 41 ∷ encodes r.rest = sym (encodes-chars bs (IsUtf8-drop text t.offset u r.boundary)) ∙ ap encodes (r.cut ∙ ap (λ x. x ++ r.rest) w) in
+    let plus : t.offset + 0 ≡ t.offset = omega arith in
+    sym (get_or-drop t.offset text 0 0 ∙ ap (λ i. get_or text i 0) plus) ∙ ap (λ x. get_or x 0 0) b

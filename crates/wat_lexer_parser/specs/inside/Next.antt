@@ -1,6 +1,6 @@
 -- Places of a text with their bytes, and what a parser keeps of its last look, so that it looks but once at a place under the same names. No
 -- part of the standard.
-use Rattle.std.specs.Prelude.{◌≡◌, ◌≤◌, ◌<◌, ◌+◌, ◌^◌, ℕ, length, slice_get, Some, Result, Ok, Err}
+use Rattle.std.specs.Prelude.{◌≡◌, ◌≤◌, ◌<◌, ◌+◌, ◌^◌, ℕ, length, Some, Result, Ok, Err}
 use Rattle.wat_lex.specs.declared.lexer.kinds.Token.{Token}
 use Rattle.wat_lex.specs.tokens.ReadableTokens.{IsTokenOf}
 use Rattle.wat_lexer_parser.specs.names.RegisteredNames.{Names}
@@ -24,13 +24,6 @@ pub record IsNext (s : Source) (p : ℕ) (names : Names) (v : Token × ℕ) : Ty
   pub value : shown s p names ≡ Ok (Some v)
   pub on : p < v.1
   pub after : IsAfter s v
-
--- the token is the first from the place on that is no white space, and this is its own place
-pub record IsFirst (s : Source) (p : ℕ) (t : Token) (at : ℕ) : Type 0 where
-  pub there : slice_get s.tokens at ≡ Some t
-  pub on : p ≤ at
-  pub after : IsAfter s (t, at + 1)
-  pub same : (names : Names) → shown s p names ≡ shown s at names
 
 -- the place without its byte
 abbrev pub known_place : {E : Type 0} → Result (ℕ × ℕ) E → Result ℕ E

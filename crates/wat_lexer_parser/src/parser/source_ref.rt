@@ -2,8 +2,8 @@
 ghost use Rattle.std.specs.Prelude.{◌≡◌, ◌<◌, ◌^◌, ◌+◌, length, IfOk, IfSome, IsTrue, false};
 ghost use Rattle.std.specs.Str.{IsUtf8};
 ghost use Rattle.wat_lex.specs.errors.Errors.{IsUnlessMemory};
-ghost use Rattle.wat_lexer_parser.specs.inside.Next.{IsAfter, IsFirst, IsNext, IsPlace};
-ghost use Rattle.wat_lexer_parser.specs.names.RegisteredNames.{Names as NamesOf};
+ghost use Rattle.wat_lexer_parser.specs.inside.FirstTokens.{IsMarkedAt, IsSight};
+ghost use Rattle.wat_lexer_parser.specs.inside.Next.{IsAfter, IsNext, IsPlace};
 ghost use Rattle.wat_lexer_parser.specs.parser.State.{message_at, report_of};
 ghost use Rattle.wat_lexer_parser.specs.places.Places.{comment_at, is_meaningful};
 ghost use Rattle.wat_lexer_parser.specs.places.Source.{IsRead};
@@ -13,7 +13,7 @@ use crate::parser::fault::{Fault, FaultKind};
 use crate::parser::kept::Kept;
 use crate::parser::names::Names;
 use crate::parser::table_ref::TableRef;
-use crate::parser::text_ref::{NO_TOKEN, TextRef};
+use crate::parser::text_ref::{NO_TOKEN, Sight, TextRef};
 use std::alloc::Global;
 use std::marker::Model;
 use wat_lex::error::Error;
@@ -122,44 +122,40 @@ impl<'a> SourceRef<'a> {
         }
     }
 
-    /// The first token at a place that is no white space, with its own place, and whether it is
-    /// shown whatever names are registered. It has no bytes where none is found so.
+    /// The first token at a place that is no white space, with its own place, and what it means. A
+    /// table tells of none that is not shown.
     #[inline(always)]
-    pub fn first_at(&self, place: usize, byte: usize) -> (Token, usize, bool)
+    pub fn first_at(&self, place: usize, byte: usize) -> (Token, usize, Sight)
         requires { IsPlace self.now place byte }
-        ensures first { result.2 ≡ false → 0 < result.0.len →
-            IsFirst self.now place result.0 result.1 }
-        ensures plain { IsTrue result.2 → (names : NamesOf) →
-            IsNext self.now place names (result.0, result.1 + 1) }
+        ensures { IsSight self.now place result.2 result.0 result.1 }
     {
         match &self.tokens {
             Tokens::Table(table) => match table.plain_at(place) {
-                Some((token, after)) => (token, after - 1, true),
-                None => (NO_TOKEN, 0, false),
+                Some((token, after)) => (token, after - 1, Sight::Plain),
+                None => (NO_TOKEN, 0, Sight::Nothing),
             },
             Tokens::Text(text) => text.first_at(place, byte),
         }
     }
 
-    /// Keeps what is shown at a place, where this token is the first there.
+    /// Keeps what is shown at a place, where a parenthesis may be that `@` comes directly after.
     // It writes where a parser keeps it: what a call hands over in memory would be read as one just after it was written in parts.
     #[inline(never)]
     pub fn keep_past(
         &self,
         place: usize,
         byte: usize,
-        at: usize,
-        first: Token,
+        is_marked: bool,
         names: &Names,
         kept: &mut Kept,
     )
         requires place { IsPlace self.now place byte }
-        requires first { 0 < first.len → IsFirst self.now place first at }
+        requires marked { IsTrue is_marked → IsMarkedAt self.now place byte }
         ensures { IfSome kept.new (IsNext self.now place names.now) }
     {
         let found = match &self.tokens {
-            Tokens::Text(text) if first.len > 0 => text.next_past(at, first, names),
-            _ => None,
+            Tokens::Text(text) => text.next_past(place, byte, is_marked, names),
+            Tokens::Table(_) => None,
         };
         match found {
             Some((token, after)) => kept.keep(token, after),

@@ -55,8 +55,7 @@ pub fn step_refused(error: LexError, token: Token) -> Step
     })
 }
 
-/// Whether the annotation is skipped since no name is registered and it has one. Its name is not
-/// read for that; false says nothing.
+/// Whether the annotation is skipped since no name is registered and it has one. False says nothing.
 pub fn is_unregistered(text: &str, token: Token, names: &Names) -> bool
     requires token { IsTokenOf text.now token }
     requires kind { token.kind ≡ Annotation }
@@ -65,10 +64,14 @@ pub fn is_unregistered(text: &str, token: Token, names: &Names) -> bool
 {
     wat_lex::laws::names();
     wat_lex::laws::tokens();
-    if token.len < 2 {
+    if !names.are_none() {
         return false;
     }
-    names.are_none() && !is_quoted(text, token)
+    // A name without quotes is not read for that.
+    if is_quoted(text, token) {
+        return token.name_fault(text).is_none();
+    }
+    token.len > 1
 }
 
 /// What an annotation means for the parenthesis before it, by its name. It takes no memory, as a

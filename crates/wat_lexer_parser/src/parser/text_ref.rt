@@ -1,13 +1,15 @@
 //! A text without a table, as parsers read it.
 ghost use Rattle.std.specs.Prelude.{◌≡◌, ◌<◌, ◌≤◌, ◌^◌, ◌+◌, ℕ, length, drop, slice_index_or, None, Some, slice_get};
-ghost use Rattle.std.specs.Prelude.{IfOk, IfErr, IfSome, IfNone, IsTrue, Option};
+ghost use Rattle.std.specs.Prelude.{IfOk, IfErr, IfSome, IfNone, IsTrue, Option, false, slice_index, ◌≢◌};
 ghost use Rattle.std.specs.Str.{IsUtf8};
+ghost use Rattle.wat_lex.specs.grammar.Classes.{at_sign, close_paren};
 ghost use Rattle.wat_lex.specs.tokens.ReadableTokens.{IsTokenOf};
 ghost use Rattle.wat_lex.specs.declared.lexer.kinds.Token.{Token as Lexed};
 ghost use Rattle.wat_lexer_parser.specs.declared.parser.fault.FaultKind.TheVariants.{Unclosed};
 ghost use Rattle.wat_lexer_parser.specs.declared.parser.fault.Step.TheVariants.{Skip, Take};
-ghost use Rattle.wat_lexer_parser.specs.inside.Groups.{GroupEnds, found_inside};
-ghost use Rattle.wat_lexer_parser.specs.inside.Next.{IsAfter, IsFirst, IsNext, IsPlace};
+ghost use Rattle.wat_lexer_parser.specs.inside.Groups.{GroupEnds, IsCloseAt, IsPassedName, found_inside};
+ghost use Rattle.wat_lexer_parser.specs.inside.FirstTokens.{IsMarkedAt, IsSight, SightOf, not_passed};
+ghost use Rattle.wat_lexer_parser.specs.inside.Next.{IsAfter, IsNext, IsPlace};
 ghost use Rattle.wat_lexer_parser.specs.inside.Rows.{IsRow};
 ghost use Rattle.wat_lexer_parser.specs.declared.parser.text_ref.Row.{Row as FilledRow};
 ghost use Rattle.wat_lexer_parser.specs.inside.ShownIn.{step_next, step_of};
@@ -35,6 +37,19 @@ pub struct Row {
     pub kind: TokenKind,
     /// The byte of the places where it is shown: where the token before it ends.
     pub from: u32,
+}
+
+/// What the first token at a place means for a look there.
+#[derive(Clone, Copy)]
+pub enum Sight {
+    /// It is shown, whatever names are registered, and whatever comes after it.
+    Plain,
+    /// It is a blank.
+    Blank,
+    /// It is a parenthesis that `@` comes directly after.
+    Marked,
+    /// No token is known.
+    Nothing,
 }
 
 /// What is beside the answer that no token is shown so.
@@ -215,6 +230,7 @@ impl<'a> TextRef<'a> {
         requires { IsPlace self.now place byte }
         ensures token { IfSome result (λ t. slice_get self.now.tokens place ≡ Some t) }
         ensures none { IfNone result (slice_get self.now.tokens place ≡ None) }
+        ensures at { IfSome result (λ t. t.offset ≡ byte) }
         ensures next { IfSome result (λ t. IsPlace self.now (place + 1) (t.offset + t.len)) }
         ensures reader { IfSome result (IsTokenOf self.now.setting.text) }
         ensures short { IfSome result (λ t. t.offset + t.len < 2 ^ 32) }
@@ -243,17 +259,47 @@ impl<'a> TextRef<'a> {
         (place + 1, end)
     }
 
-    /// Whether a token is shown whatever names are registered, and whatever comes after it.
+    /// The place after the word of idchars that is at a place in a group, if any is, with its byte. Its
+    /// kind is not looked for.
     #[inline(always)]
-    fn is_plain(&self, token: Token) -> bool
+    fn past_bare_word(&self, place: usize, byte: usize) -> (usize, usize)
+        requires { IsPlace self.now place byte }
+        ensures place { IsPlace self.now result.0 result.1 }
+        ensures on { place ≤ result.0 }
+        ensures inside { (names : NamesOf) (paren : Lexed) (depth : ℕ) →
+            found_inside self.now place depth names paren
+            ≡ found_inside self.now result.0 depth names paren }
+    {
+        self.lemma_read();
+        let end = self.lexer.past_bare_word(byte);
+        if end == byte {
+            return (place, byte);
+        }
+        (place + 1, end)
+    }
+
+    /// Whether `)` is at a place.
+    #[inline(always)]
+    fn is_close(&self, place: usize, byte: usize) -> bool
+        requires { IsPlace self.now place byte }
+        ensures yes { IsTrue result → IsCloseAt self.now place byte }
+        ensures no { result ≡ false → slice_index self.now.setting.text byte ≢ close_paren }
+    {
+        self.lemma_read();
+        self.lexer.is_close(byte)
+    }
+
+    /// What a token means for a look at it.
+    #[inline(always)]
+    fn sight(&self, token: Token) -> Sight
         requires { token.offset < 2 ^ 32 }
-        ensures { IsTrue result → (names : NamesOf) → (next : Option Lexed) →
-            step_of self.now.setting.text names token next ≡ Take }
+        ensures { SightOf self.now token result }
     {
         match token.kind {
-            TokenKind::Whitespace | TokenKind::LineComment | TokenKind::BlockComment => false,
-            TokenKind::LParen => !token.is_marked(self.text()),
-            _ => true,
+            TokenKind::Whitespace | TokenKind::LineComment | TokenKind::BlockComment =>
+                Sight::Blank,
+            TokenKind::LParen if token.is_marked(self.text()) => Sight::Marked,
+            _ => Sight::Plain,
         }
     }
 
@@ -274,28 +320,28 @@ impl<'a> TextRef<'a> {
             let Some(token) = self.some_token_at(at, from) else {
                 return (NO_TOKEN, 0, false);
             };
-            if !token.kind.is_blank() {
-                return (token, at + 1, self.is_plain(token));
+            match self.sight(token) {
+                Sight::Blank => {
+                    i = at + 1;
+                    pos = token.offset + token.len as usize;
+                }
+                Sight::Plain => return (token, at + 1, true),
+                _ => return (NO_TOKEN, 0, false),
             }
-            i = at + 1;
-            pos = token.offset + token.len as usize;
         }
     }
 
-    /// The first token from a place on that is no white space, with its own place, and whether it is
-    /// shown whatever names are registered. It has no bytes where the text ends, or has a fault.
+    /// The first token from a place on that is no white space, with its own place, and what it means.
     #[inline(always)]
-    pub fn first_at(&self, place: usize, byte: usize) -> (Token, usize, bool)
+    pub fn first_at(&self, place: usize, byte: usize) -> (Token, usize, Sight)
         requires { IsPlace self.now place byte }
-        ensures first { 0 < result.0.len → IsFirst self.now place result.0 result.1 }
-        ensures plain { IsTrue result.2 → (names : NamesOf) →
-            IsNext self.now place names (result.0, result.1 + 1) }
+        ensures { IsSight self.now place result.2 result.0 result.1 }
     {
         self.lemma_read();
         let (at, from) = self.past_whitespace(place, byte);
         match self.some_token_at(at, from) {
-            Some(token) => (token, at, self.is_plain(token)),
-            None => (NO_TOKEN, 0, false),
+            Some(token) => (token, at, self.sight(token)),
+            None => (NO_TOKEN, 0, Sight::Nothing),
         }
     }
 
@@ -314,20 +360,29 @@ impl<'a> TextRef<'a> {
         let mut depth = 0usize;
         self.lemma_read();
         'tokens: loop {
-            let (at, from) = self.past_whitespace(i, pos);
-            let Some(token) = self.some_token_at(at, from) else {
+            if self.is_close(i, pos) {
+                i += 1;
+                pos += 1;
+                if depth == 0 {
+                    return Some((i, pos));
+                }
+                depth -= 1;
+                continue 'tokens;
+            }
+            let (word, start) = self.past_whitespace(i, pos);
+            let (at, from) = self.past_bare_word(word, start);
+            if at > i {
+                i = at;
+                pos = from;
+                continue 'tokens;
+            }
+            let Some(token) = self.some_token_at(i, pos) else {
                 return None;
             };
-            i = at + 1;
+            i += 1;
             pos = token.offset + token.len as usize;
             match token.kind {
                 TokenKind::LParen => depth += 1,
-                TokenKind::RParen => {
-                    if depth == 0 {
-                        return Some((i, pos));
-                    }
-                    depth -= 1;
-                }
                 _ => {}
             }
         }
@@ -350,84 +405,157 @@ impl<'a> TextRef<'a> {
         }
     }
 
-    /// The place after the group that a parenthesis opens, with its byte, where it is the group of an
-    /// annotation that is passed over. The place is the one after the parenthesis.
+    /// The place after the annotation at a place, with its byte, where its name is no string, and no
+    /// name is registered.
     #[inline(always)]
-    fn past_annotation(&self, place: usize, byte: usize, names: &Names) -> Option<(usize, usize)>
-        requires { IsPlace self.now place byte }
-        ensures skip { IfSome result (λ v. step_next self.now.setting.text names.now
-            (slice_get self.now.tokens place) ≡ Skip) }
-        ensures ends { IfSome result (λ v. GroupEnds self.now place (Ok (Some v))) }
-        ensures on { IfSome result (λ v. place < v.0) }
+    fn past_bare_name(&self, place: usize, byte: usize, names: &Names) -> Option<(usize, usize)>
+        requires place { IsPlace self.now place byte }
+        requires marked { slice_get self.now.setting.text byte ≡ Some at_sign }
+        ensures { IfSome result (IsPassedName self.now place names.now) }
     {
+        self.lemma_read();
+        wat_lex::laws::names();
+        wat_lex::laws::tokens();
+        if !names.are_none() {
+            return None;
+        }
+        let end = self.lexer.past_bare_word(byte);
+        if end - byte < 2 {
+            return None;
+        }
+        Some((place + 1, end))
+    }
+
+    /// The place after the annotation at a place, with its byte, where its name is in quotes and has
+    /// no escape, and no name is registered.
+    #[inline(always)]
+    fn past_quoted_name(&self, place: usize, byte: usize, names: &Names) -> Option<(usize, usize)>
+        requires { IsPlace self.now place byte }
+        ensures { IfSome result (IsPassedName self.now place names.now) }
+    {
+        self.lemma_read();
+        if !names.are_none() {
+            return None;
+        }
+        let end = self.lexer.past_quoted_name(byte);
+        if end == byte {
+            return None;
+        }
+        Some((place + 1, end))
+    }
+
+    /// The place after the annotation at a place, with its byte, where its group is passed over.
+    // It stays a call, so that a move past most names is small.
+    #[inline(never)]
+    fn past_read_name(&self, place: usize, byte: usize, names: &Names) -> Option<(usize, usize)>
+        requires { IsPlace self.now place byte }
+        ensures { IfSome result (IsPassedName self.now place names.now) }
+    {
+        if let Some(after) = self.past_quoted_name(place, byte, names) {
+            return Some(after);
+        }
         self.lemma_read();
         let Some(name) = self.some_token_at(place, byte) else {
             return None;
         };
         match name.kind {
-            TokenKind::Annotation => {
-                if is_passed_over(self.text(), name, names) {
-                    self.past_close(place + 1, name.offset + name.len as usize)
-                } else {
-                    None
-                }
+            TokenKind::Annotation if is_passed_over(self.text(), name, names) => {
+                Some((place + 1, name.offset + name.len as usize))
             }
             _ => None,
         }
     }
 
-    /// The place after what is not shown at a place, with its byte: a blank, or the group of an
-    /// annotation that is passed over.
+    /// The same, by its first byte.
     #[inline(always)]
-    fn past_hidden(&self, place: usize, token: Token, names: &Names) -> Option<(usize, usize)>
-        requires there { slice_get self.now.tokens place ≡ Some token }
-        requires after { IsAfter self.now (token, place + 1) }
-        ensures place { IfSome result (λ v. IsPlace self.now v.0 v.1) }
+    fn past_name(&self, place: usize, byte: usize, names: &Names) -> Option<(usize, usize)>
+        requires place { IsPlace self.now place byte }
+        requires marked { slice_get self.now.setting.text byte ≡ Some at_sign }
+        ensures { IfSome result (IsPassedName self.now place names.now) }
+    {
+        match self.past_bare_name(place, byte, names) {
+            Some(after) => Some(after),
+            None => self.past_read_name(place, byte, names),
+        }
+    }
+
+    /// The place after the group that a parenthesis opens, with its byte, where it is the group of an
+    /// annotation that is passed over. The place is the one after the parenthesis.
+    #[inline(always)]
+    fn past_annotation(&self, place: usize, byte: usize, names: &Names) -> Option<(usize, usize)>
+        requires place { IsPlace self.now place byte }
+        requires marked { slice_get self.now.setting.text byte ≡ Some at_sign }
+        ensures skip { IfSome result (λ v. step_next self.now.setting.text names.now
+            (slice_get self.now.tokens place) ≡ Skip) }
+        ensures ends { IfSome result (λ v. GroupEnds self.now place (Ok (Some v))) }
         ensures on { IfSome result (λ v. place < v.0) }
+    {
+        match self.past_name(place, byte, names) {
+            Some((after, end)) => self.past_close(after, end),
+            None => None,
+        }
+    }
+
+    /// The place after the group of an annotation that is passed over, with its byte, where one is at a
+    /// place; the place itself, where none is.
+    #[inline(always)]
+    fn past_mark(
+        &self,
+        place: usize,
+        byte: usize,
+        is_marked: bool,
+        names: &Names,
+    ) -> Option<(usize, usize)>
+        requires place { IsPlace self.now place byte }
+        requires marked { IsTrue is_marked → IsMarkedAt self.now place byte }
+        ensures place { IfSome result (λ v. IsPlace self.now v.0 v.1) }
+        ensures on { IfSome result (λ v. place < v.0 + not_passed is_marked) }
         ensures same { IfSome result (λ v. shown self.now place names.now
             ≡ shown self.now v.0 names.now) }
     {
-        self.lemma_read();
-        let text = self.text();
-        let end = token.offset + token.len as usize;
-        match token.kind {
-            TokenKind::Whitespace | TokenKind::LineComment | TokenKind::BlockComment => {
-                Some((place + 1, end))
-            }
-            TokenKind::LParen => {
-                if token.is_marked(text) {
-                    self.past_annotation(place + 1, end, names)
-                } else {
-                    None
-                }
-            }
-            _ => None,
+        if !is_marked {
+            return Some((place, byte));
         }
+        self.lemma_read();
+        self.past_annotation(place + 1, byte + 1, names)
     }
 
-    /// The token that is shown after blanks and groups that are passed over, the first of which is
-    /// this one, with the place after it. None: it is left to a look.
-    pub fn next_past(&self, place: usize, first: Token, names: &Names) -> Option<(Token, usize)>
-        requires there { slice_get self.now.tokens place ≡ Some first }
-        requires after { IsAfter self.now (first, place + 1) }
+    /// The token that is shown at a place, with the place after it, where blanks and groups that are
+    /// passed over are before it, or none. None: it is left to a look.
+    pub fn next_past(
+        &self,
+        place: usize,
+        byte: usize,
+        is_marked: bool,
+        names: &Names,
+    ) -> Option<(Token, usize)>
+        requires place { IsPlace self.now place byte }
+        requires marked { IsTrue is_marked → IsMarkedAt self.now place byte }
         ensures { IfSome result (IsNext self.now place names.now) }
     {
         let mut i = place;
-        let mut token = first;
+        let mut pos = byte;
+        let mut marked = is_marked;
         self.lemma_read();
         'tokens: loop {
-            let Some((next, byte)) = self.past_hidden(i, token, names) else {
+            let Some((next, from)) = self.past_mark(i, pos, marked, names) else {
                 return None;
             };
-            let (found, at, is_plain) = self.first_at(next, byte);
-            if is_plain {
-                return Some((found, at + 1));
+            let (token, at, sight) = self.first_at(next, from);
+            match sight {
+                Sight::Plain => return Some((token, at + 1)),
+                Sight::Blank => {
+                    i = at + 1;
+                    pos = token.offset + token.len as usize;
+                    marked = false;
+                }
+                Sight::Marked => {
+                    i = at;
+                    pos = token.offset;
+                    marked = true;
+                }
+                Sight::Nothing => return None,
             }
-            if found.len == 0 {
-                return None;
-            }
-            i = at;
-            token = found;
         }
     }
 

@@ -22,7 +22,8 @@ pub(crate) use scan::blocks::block_at;
 use scan::classes::blank_len;
 pub(crate) use scan::classes::is_confusing;
 pub(crate) use scan::comments::first_confusing;
-use scan::{fault_at_start, first_found};
+use scan::plain::quoted_name_len;
+use scan::{bare_len, byte_at, fault_at_start, first_found};
 pub use settings::Settings;
 
 /// A lexer over a text: it cuts the text into tokens, whitespace and comments, and accounts for
@@ -240,6 +241,60 @@ impl<'a> Lexer<'a> {
     pub fn past_whitespace(&self, pos: usize) -> usize {
         let text = self.input();
         pos + blank_len(&text.as_bytes()[pos..])
+    }
+
+    /// Whether `)` is at a byte of the text.
+    ///
+    /// # Proved
+    ///
+    /// ```text
+    /// requires { IsCharBoundary self.now.text pos }
+    /// ensures value { Decides result (slice_index self.now.text pos ≡ close_paren) }
+    /// ensures token { IsTrue result → TokenAt self.now pos (record {
+    ///   offset = pos;
+    ///   len = 1;
+    ///   kind = RParen;
+    /// }) }
+    /// ensures boundary { IsTrue result → IsCharBoundary self.now.text (pos + 1) }
+    /// ```
+    #[inline(always)]
+    pub fn is_close(&self, pos: usize) -> bool {
+        let text = self.input();
+        byte_at(text.as_bytes(), pos) == b')'
+    }
+
+    /// Where the word of idchars ends that is at a byte of the text: at that byte, where none is, or a
+    /// string is joined to it.
+    ///
+    /// # Proved
+    ///
+    /// ```text
+    /// requires { IsCharBoundary self.now.text pos }
+    /// ensures value { result ≡ pos + bare_len (drop pos self.now.text) }
+    /// ensures token { pos < result → BareWordAt self.now pos result }
+    /// ensures boundary { IsCharBoundary self.now.text result }
+    /// ```
+    #[inline(always)]
+    pub fn past_bare_word(&self, pos: usize) -> usize {
+        let text = self.input();
+        pos + bare_len(&text.as_bytes()[pos..])
+    }
+
+    /// Where the annotation ends that is at a byte of the text, whose name is in quotes and has no
+    /// escape: at that byte, where no such annotation is.
+    ///
+    /// # Proved
+    ///
+    /// ```text
+    /// requires { IsCharBoundary self.now.text pos }
+    /// ensures value { result ≡ pos + quoted_name_len (drop pos self.now.text) }
+    /// ensures token { pos < result → NamedAt self.now pos result }
+    /// ensures boundary { IsCharBoundary self.now.text result }
+    /// ```
+    #[inline(always)]
+    pub fn past_quoted_name(&self, pos: usize) -> usize {
+        let text = self.input();
+        pos + quoted_name_len(&text.as_bytes()[pos..])
     }
 
     /// The first fault from a byte of the text on, or None where there is none.

@@ -1,5 +1,5 @@
 //! Names that are compared and tested a part at a time, so that they take no memory.
-ghost use Rattle.std.specs.Prelude.{◌≡◌, ◌≢◌, ◌++◌, ℕ, List, MatchOption};
+ghost use Rattle.std.specs.Prelude.{◌≡◌, ◌≢◌, ◌++◌, [], ℕ, List, MatchOption, IsTrue};
 ghost use Rattle.std.specs.Bool.{Decides};
 ghost use Rattle.std.specs.Str.{chars, IsUtf8};
 ghost use Rattle.wat_lex.specs.values.Names.{IsQuoted, IsNamed};
@@ -9,7 +9,7 @@ ghost use Rattle.wat_lex.specs.inside.StringParts.{value_of, part_bytes, IsWhole
 ghost use Rattle.wat_lex.specs.inside.StringParts.{PlainBytes, IsFirstPart, IsEscapedByte};
 ghost use Rattle.wat_lex.specs.inside.StringParts.{IsPastCharacter};
 
-use crate::lexer::read::strings::{byte_escape, first_escape};
+use crate::lexer::read::strings::{byte_escape, first_escape, plain};
 use crate::lexer::scan::strings::EscapeValue;
 use memchr::memchr;
 use std::str::from_utf8;
@@ -174,5 +174,21 @@ pub fn is_utf8_name(text: &str) -> bool
     match text.strip_prefix('"') {
         Some(elements) => is_utf8_value(elements),
         None => true,
+    }
+}
+
+/// Whether a text that is a name has bytes, which are UTF-8 since no escape is in it. False says
+/// nothing.
+pub fn is_plain_name(text: &str) -> bool
+    requires { IsNamed (chars text.now) }
+    ensures some { IsTrue result → named_bytes (chars text.now) ≢ [] }
+    ensures utf8 { IsTrue result → IsUtf8 (named_bytes (chars text.now)) }
+{
+    let Some(elements) = text.strip_prefix('"') else {
+        return !text.is_empty();
+    };
+    match plain(elements) {
+        Some(value) => !value.is_empty(),
+        None => false,
     }
 }

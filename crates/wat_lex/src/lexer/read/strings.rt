@@ -27,6 +27,7 @@ const LENIENT: Settings = Settings {
 pub fn plain(elements: &str) -> Option<&str>
     requires { IsQuoted (chars elements.now) }
     ensures value { IfSome result (λ value. Quoted lenient (chars elements.now) value.now []) }
+    ensures utf8 { IfSome result (λ value. IsUtf8 value.now) }
     ensures some { IfSome result (λ _. HasNone backslash (chars elements.now)) }
     ensures none { IfNone result (HasNone backslash (chars elements.now) → ⊥) }
 {

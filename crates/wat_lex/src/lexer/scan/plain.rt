@@ -1,10 +1,13 @@
 //! Bytes of strings that stand for themselves.
-ghost use Rattle.std.specs.Prelude.{◌≡◌};
+ghost use Rattle.std.specs.Prelude.{◌≡◌, ◌≤◌, length};
 ghost use Rattle.std.specs.List.{prefix_len};
 ghost use Rattle.wat_lex.specs.inside.Blocks.{failures};
 ghost use Rattle.wat_lex.specs.inside.ScannedStrings.{is_plain};
+ghost use Rattle.wat_lex.specs.tokens.QuotedNames.{is_quoted_name, quoted_name_len};
 
 use crate::lexer::scan::blocks::block_at;
+use crate::lexer::scan::byte_at;
+use crate::lexer::scan::classes::is_run_char;
 use std::simd::prelude::*;
 
 /// Whether a byte ends no string, begins no escape, can begin no confusing character, whose first
@@ -50,4 +53,35 @@ pub fn plain_len(text: &[u8]) -> usize
         i += 16;
     }
     i + plain_len_by_byte(&text[i..])
+}
+
+/// Whether so many bytes, one at least, are between the quotes of an annotation at the start, to which
+/// nothing is joined.
+#[inline(always)]
+fn is_quoted_name(text: &[u8], len: usize) -> bool
+    requires { len ≤ length text.now }
+    ensures { result ≡ is_quoted_name text.now len }
+{
+    byte_at(text, 0) == b'@'
+        && byte_at(text, 1) == b'"'
+        && len > 0
+        && byte_at(text, len + 2) == b'"'
+        && !is_run_char(byte_at(text, len + 3))
+}
+
+/// How many bytes the annotation at the start has whose name is plain bytes between quotes: none
+/// where there is no such annotation.
+#[inline(always)]
+pub fn quoted_name_len(text: &[u8]) -> usize
+    ensures { result ≡ quoted_name_len text.now }
+{
+    if text.len() < 2 {
+        return 0;
+    }
+    let len = plain_len(&text[2..]);
+    if is_quoted_name(text, len) {
+        len + 3
+    } else {
+        0
+    }
 }

@@ -3,7 +3,7 @@
 
 use crate::shim::prelude::*;
 use crate::proved::error::Error;
-use crate::proved::lexer::read::names::{is_named, is_utf8_name};
+use crate::proved::lexer::read::names::{is_named, is_plain_name, is_utf8_name};
 use crate::proved::lexer::read::numbers::magnitude_of;
 use crate::proved::lexer::read::strings::{name, plain, unescaped};
 use crate::proved::lexer::{Float, FloatKind, Integer, IntegerKind, LexError, Token, TokenKind};
@@ -218,6 +218,9 @@ impl Token {
     /// ```
     pub fn name_fault(&self, s: &str) -> Option<LexError> {
         let name = &self.src(s)[1..];
+        if is_plain_name(name) {
+            return None;
+        }
         if is_named(name, &[]) {
             return Some(empty_name(self.kind));
         }

@@ -6,7 +6,7 @@ use crate::proved::lexer::faults::{LexError, LexFault};
 use crate::proved::lexer::kinds::{Found, Lexeme, Outline, Shape, Sign, Stride, TokenKind};
 use crate::proved::lexer::scan::blocks::{block_at, other_than_idchars};
 use crate::proved::lexer::scan::classes::{
-    idchar_len_by_block, idchar_len_of_word, is_run_char, whitespace_len,
+    idchar_len, idchar_len_by_block, idchar_len_of_word, is_run_char, whitespace_len,
 };
 use crate::proved::lexer::scan::comments::{
     block_comment, block_comment_len, line_comment, line_comment_len,
@@ -21,7 +21,7 @@ pub(super) mod blocks;
 pub(super) mod classes;
 pub(super) mod comments;
 pub(super) mod numbers;
-mod plain;
+pub(super) mod plain;
 mod runs;
 mod short;
 mod starts;
@@ -49,6 +49,20 @@ pub fn byte_at(text: &[u8], i: usize) -> u8 {
 #[inline(always)]
 fn string_follows(text: &[u8], len: usize) -> bool {
     byte_at(text, len) == b'"'
+}
+
+/// How many bytes the word of idchars has that is at the start: none where a string is joined to
+/// them.
+///
+/// # Proved
+///
+/// ```text
+/// ensures { result ≡ bare_len text.now }
+/// ```
+#[inline(always)]
+pub fn bare_len(text: &[u8]) -> usize {
+    let len = idchar_len(text);
+    if string_follows(text, len) { 0 } else { len }
 }
 
 /// A token of this kind and length.

@@ -68,8 +68,7 @@ pub fn step_refused(error: LexError, token: Token) -> Step {
     })
 }
 
-/// Whether the annotation is skipped since no name is registered and it has one. Its name is not
-/// read for that; false says nothing.
+/// Whether the annotation is skipped since no name is registered and it has one. False says nothing.
 ///
 /// # Proved
 ///
@@ -82,10 +81,14 @@ pub fn step_refused(error: LexError, token: Token) -> Step {
 pub fn is_unregistered(text: &str, token: Token, names: &Names) -> bool {
     wat_lex::proved::laws::names();
     wat_lex::proved::laws::tokens();
-    if token.len < 2 {
+    if !names.are_none() {
         return false;
     }
-    names.are_none() && !is_quoted(text, token)
+    // A name without quotes is not read for that.
+    if is_quoted(text, token) {
+        return token.name_fault(text).is_none();
+    }
+    token.len > 1
 }
 
 /// What an annotation means for the parenthesis before it, by its name. It takes no memory, as a

@@ -2,7 +2,7 @@
 //! Names that are compared and tested a part at a time, so that they take no memory.
 
 use crate::shim::prelude::*;
-use crate::proved::lexer::read::strings::{byte_escape, first_escape};
+use crate::proved::lexer::read::strings::{byte_escape, first_escape, plain};
 use crate::proved::lexer::scan::strings::EscapeValue;
 use memchr::memchr;
 use core::str::from_utf8;
@@ -207,5 +207,25 @@ pub fn is_utf8_name(text: &str) -> bool {
     match text.strip_prefix('"') {
         Some(elements) => is_utf8_value(elements),
         None => true,
+    }
+}
+
+/// Whether a text that is a name has bytes, which are UTF-8 since no escape is in it. False says
+/// nothing.
+///
+/// # Proved
+///
+/// ```text
+/// requires { IsNamed (chars text.now) }
+/// ensures some { IsTrue result → named_bytes (chars text.now) ≢ [] }
+/// ensures utf8 { IsTrue result → IsUtf8 (named_bytes (chars text.now)) }
+/// ```
+pub fn is_plain_name(text: &str) -> bool {
+    let Some(elements) = text.strip_prefix('"') else {
+        return !text.is_empty();
+    };
+    match plain(elements) {
+        Some(value) => !value.is_empty(),
+        None => false,
     }
 }

@@ -16,6 +16,18 @@ tail c = name_tail c.args.self.now.kind c.src.result.now c.src.utf8 c.requires.k
 pub range_from-name-requires : goal.range_from-name-requires
 range_from-name-requires c = let t = tail (goal.at.range_from-name-requires c).After-src in λ _. t.boundary
 
+pub is_plain_name-requires : goal.is_plain_name-requires
+is_plain_name-requires c = let t = tail (goal.at.is_plain_name-requires c).After-src in subst (λ x. IsNamed (chars x)) (sym c.range_from-name.ensures.value) t.named
+
+pub returns-then-is_plain_name : goal.returns-then-is_plain_name
+returns-then-is_plain_name c =
+    let empty = empty_name c.args.self.now.kind in
+    let t = tail (goal.at.returns-then-is_plain_name c).After-src in
+    let v = named_bytes (chars c.range_from-name.result.now) in
+    let w = word_of c.args.s.now c.args.self.now in
+    let read = ap (λ x. name_value empty (chars x)) (sym c.src.ensures.text) ∙ name_checked empty c.src.result.now c.range_from-name.result.now t c.range_from-name.ensures.value in
+    fault_none empty w v read (c.is_plain_name.ensures.utf8 c.if-is_plain_name.true) (c.is_plain_name.ensures.some c.if-is_plain_name.true)
+
 pub is_named-requires : goal.is_named-requires
 is_named-requires c = let t = tail (goal.at.is_named-requires c).After-src in subst (λ x. IsNamed (chars x)) (sym c.range_from-name.ensures.value) t.named
 
