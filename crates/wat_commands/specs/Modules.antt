@@ -3,7 +3,7 @@
 use Rattle.std.specs.Prelude.{◌≡◌, ◌<◌, ◌^◌, ℕ, List, [], length, Option, Some, Err, MatchOption}
 use Rattle.std.specs.Str.{IsUtf8}
 use Rattle.wat_fields.specs.Binary.{module_bytes}
-use Rattle.wat_fields.specs.Fields.{Function}
+use Rattle.wat_fields.specs.Fields.{Field}
 use Rattle.wat_lex.specs.errors.Errors.{Report}
 use Rattle.wat_lex.specs.declared.lexer.kinds.Token.{Token}
 use Rattle.wat_lexer_parser.specs.declared.parser.fault.Fault.{Fault}
@@ -14,14 +14,14 @@ use Rattle.wat_pieces.specs.Pieces.{plain}
 
 -- The text spells a module that fits, and these are its bytes.
 pub record CompiledModule (text written : List ℕ) : Type 0 where
-  pub functions : List Function
-  pub spelled : Spells text functions
-  pub fit : Fits functions
-  pub bytes : written ≡ module_bytes functions
+  pub fields : List Field
+  pub spelled : Spells text fields
+  pub fit : Fits fields
+  pub bytes : written ≡ module_bytes fields
 
 -- The text spells no module that fits, nothing is written, and this is the error of its refusal, which follows from all that it shows.
 pub record RefusedModule (text written : List ℕ) (error : Option Report) : Type 0 where
-  pub unspelled : (functions : List Function) → Spells text functions → ¬ Fits functions
+  pub unspelled : (fields : List Field) → Spells text fields → ¬ Fits fields
   pub nothing : written ≡ []
   pub tokens : List Token
   pub last : Option Fault

@@ -6,3 +6,4 @@ pub mod Opens
 pub mod Digits
 pub mod Exponents
 pub mod Tables
+pub mod Distinct

@@ -2,6 +2,8 @@ pub mod Terminals
 pub mod Memory
 pub mod Table
 pub mod Grammar
+pub mod Names
+pub mod Indices
 pub mod Machine
 pub mod Law
 pub mod Parts

@@ -6,6 +6,7 @@
 pub mod laws;
 pub mod machine;
 mod memory;
+pub mod names;
 pub mod pieces;
 pub mod reading;
 pub mod table;

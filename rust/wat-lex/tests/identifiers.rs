@@ -106,6 +106,18 @@ fn columns_are_in_utf16() {
 }
 
 #[test]
+fn columns_of_a_long_line_are_in_utf16() {
+    let text = "\n".to_owned() + &"a\u{1f600}é漢".repeat(30_000);
+    let lines = wat_lex::LineIndex::new(&text);
+    let near = |place: usize| place - 40..place + 40;
+    let far = (0..=text.len()).step_by(9_973);
+    for offset in far.chain(near(0x1_0000)).chain(near(0x2_0000)) {
+        let wanted = utf16_place(&text, offset);
+        assert_eq!(lines.utf16_linecol(at(offset)), wanted, "{offset}");
+    }
+}
+
+#[test]
 fn line_feeds_fill_a_buffer_that_has_room_for_them() {
     let text = b"\na\n\nb";
     for room in 0..5 {

@@ -837,7 +837,7 @@ impl<'a> Parser<'a> {
     pub(crate) fn keep(self, bytes: CowSlice<'a, u8>) -> Result<&'a [u8]> {
         match bytes {
             CowSlice::Borrowed(bytes) => Ok(bytes),
-            CowSlice::Owned(bytes) => unless_refused(self.buffer.strings.keep(bytes)),
+            CowSlice::Owned(bytes) => unless_refused(self.buffer.strings.keep(&bytes)),
         }
     }
 
@@ -846,7 +846,7 @@ impl<'a> Parser<'a> {
     pub(crate) fn keep_text(self, text: CowStr<'a>) -> Result<&'a str> {
         match text {
             CowStr::Borrowed(text) => Ok(text),
-            CowStr::Owned(text) => unless_refused(self.buffer.strings.keep_text(text)),
+            CowStr::Owned(text) => unless_refused(self.buffer.strings.keep_text(&text)),
         }
     }
 

@@ -9,17 +9,18 @@ use Rattle.std.specs.Str.{chars, IsUtf8}
 use Rattle.std.specs.Str.Lines.{lines}
 use Rattle.std.proofs.lemmas.Bool.{cases_lt}
 use Rattle.std.proofs.lemmas.Bool.Decides.{nat_tests}
-use Rattle.std.proofs.lemmas.List.{take_all, take-append-le}
+use Rattle.std.proofs.lemmas.List.{get_or_push, length-append, take-append-drop, take_all, take-append-le}
 use Rattle.std.proofs.lemmas.List.Sums.{sum_by-cons, sum_by-append, sum_by-le}
 use Rattle.std.proofs.lemmas.Simd.{chunk-drop}
 use Rattle.std.proofs.lemmas.Str.{IsUtf8-drop, encodes-chars, length-encode, len_utf8_bounds}
-use Rattle.std.proofs.Math.Seq.{take-append-add}
+use Rattle.std.proofs.Math.ListN.{get_or-append}
+use Rattle.std.proofs.Math.Seq.{take-add, take-append-add}
 use lib.Dec.{ltb}
 use lib.Utf8.{encode, encodes, next}
 use Rattle.wat_lex.specs.errors.Positions.{line_and_column, utf16_len, utf16_units, utf16_line_and_column}
 use Rattle.wat_lex.proofs.errors.Lines.{column_within, start_boundary}
 use Rattle.wat_lex.proofs.errors.Positions.{past_end}
-use Rattle.wat_lex.specs.inside.Utf16Bytes.{begins_pair, byte_units}
+use Rattle.wat_lex.specs.inside.Utf16Bytes.{AreUnits, begins_pair, byte_units}
 
 abbrev total : List ℕ → ℕ
 total bytes = sum_by byte_units bytes
@@ -150,3 +151,27 @@ module _ (text : List ℕ) (offset : ℕ) (place : ℕ × ℕ) (is : place ≡ l
       let same : units ≡ utf16_units place.1 (chars (drop start text)) =
       e ∙ ap (λ k. total (take k (drop start text))) long ∙ sym (by_bytes (drop start text) place.1 (IsUtf8-drop text start u (start_boundary text offset place.1 (inside n) column u))) in
       ap (λ k. (place.0, k)) same ∙ ap (λ p. (p.0, utf16_units p.1 (chars (drop (offset - p.1) text)))) is
+
+-- ---- code units before a byte
+
+pub total_more : (text : List ℕ) (i n : ℕ) → total (take (i + n) text) ≡ total (take i text) + total (take n (drop i text))
+total_more text i n = ap total (take-add i n text) ∙ sum_by-append byte_units (take i text) (take n (drop i text))
+
+pub total_between : (text : List ℕ) (i n : ℕ) → i ≤ n → total (take n text) ≡ total (take i text) + total (take (n - i) (drop i text))
+total_between text i n l = let whole : n ≡ i + (n - i) = omega (arith, l) in ap (λ k. total (take k text)) whole ∙ total_more text i (n - i)
+
+pub total_take_bound : (text : List ℕ) (n : ℕ) → total (take n text) ≤ length text * 2
+total_take_bound text n =
+    let parts : total text ≡ total (take n text) + total (drop n text) = ap total (sym (take-append-drop n text)) ∙ sum_by-append byte_units (take n text) (drop n text) in
+    omega (arith, total_bound text, parts)
+
+-- the units before one multiple more
+pub one_mark_more : (text marks more : List ℕ) (at before : ℕ) → at ≡ length marks * 0x10000 → AreUnits text marks → before ≡ total (take at text) → more ≡ marks ++ before ∷ [] → AreUnits text more
+one_mark_more text marks more at before e h b m k l =
+    elim (cases_lt k (length marks)) [
+      | inl lt ↦ ap (λ xs. get_or xs k 0) m ∙ get_or-append marks (before ∷ []) 0 k lt ∙ h k lt
+      | inr ge ↦
+          let long : length more ≡ length marks + 1 = ap length m ∙ length-append marks (before ∷ []) in
+          let last : length marks ≡ k = omega (arith, l, ge, long) in
+          ap (λ xs. get_or xs k 0) m ∙ get_or_push marks before 0 k last ∙ b ∙ ap (λ n. total (take n text)) (e ∙ ap (λ n. n * 0x10000) last)
+    ]

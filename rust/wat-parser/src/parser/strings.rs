@@ -2,53 +2,147 @@ use alloc::boxed::Box;
 use alloc::vec::Vec;
 use core::cell::{Cell, OnceCell};
 use core::{iter, str};
-use wat_lex::shim;
 use wat_lex::shim::alloc::AllocError;
 
 /// Bytes that live as long as this does, added one after the other through a shared reference.
 ///
-/// They are in blocks, each twice as long as the one before, so that none of them ever moves.
+/// Short ones are in cells of their size or a little more, and a longer one has an allocation of its own.
 #[derive(Default)]
 pub struct Strings {
-    count: Cell<usize>,
-    blocks: [OnceCell<Box<[Slot]>>; BLOCKS],
+    sizes: OnceCell<Box<[Sizes]>>,
 }
 
-type Slot = OnceCell<shim::vec::Vec<u8>>;
-
-/// As many blocks as there are bits in the count.
-const BLOCKS: usize = 32;
+/// The cells by their bytes; one byte more says whether a cell is set.
+#[derive(Default)]
+struct Sizes {
+    of_3: Cells<[u8; 3]>,
+    of_7: Cells<[u8; 7]>,
+    of_11: Cells<[u8; 11]>,
+    of_15: Cells<[u8; 15]>,
+    of_23: Cells<[u8; 23]>,
+    of_31: Cells<[u8; 31]>,
+    of_47: Cells<[u8; 47]>,
+    of_63: Cells<[u8; 63]>,
+    longer: Cells<Vec<u8>>,
+}
 
 impl Strings {
     /// Keeps the bytes.
-    ///
-    /// # Panics
-    ///
-    /// Where there are 4,294,967,295 already.
-    pub fn keep(&self, bytes: shim::vec::Vec<u8>) -> Result<&[u8], AllocError> {
-        let number = self.count.get() + 1;
-        let block = number.ilog2() as usize;
-        let slots = if let Some(slots) = self.blocks[block].get() {
-            slots
-        } else {
-            let slots = empty_slots(1 << block)?;
-            self.blocks[block].get_or_init(|| slots)
-        };
-        self.count.set(number);
-        Ok(slots[number - (1 << block)].get_or_init(|| bytes))
+    pub fn keep(&self, bytes: &[u8]) -> Result<&[u8], AllocError> {
+        let sizes = self.sizes()?;
+        match bytes.len() {
+            0..=3 => sizes.of_3.keep_padded(bytes),
+            4..=7 => sizes.of_7.keep_padded(bytes),
+            8..=11 => sizes.of_11.keep_padded(bytes),
+            12..=15 => sizes.of_15.keep_padded(bytes),
+            16..=23 => sizes.of_23.keep_padded(bytes),
+            24..=31 => sizes.of_31.keep_padded(bytes),
+            32..=47 => sizes.of_47.keep_padded(bytes),
+            48..=63 => sizes.of_63.keep_padded(bytes),
+            _ => {
+                let mut exact = Vec::new();
+                exact
+                    .try_reserve_exact(bytes.len())
+                    .map_err(|_| AllocError)?;
+                exact.extend_from_slice(bytes);
+                Ok(sizes.longer.keep(exact)?)
+            }
+        }
     }
 
     /// Keeps a text.
-    pub fn keep_text(&self, text: shim::string::String) -> Result<&str, AllocError> {
-        let bytes = alloc::string::String::from(text).into_bytes();
-        let bytes = self.keep(bytes.into())?;
-        Ok(str::from_utf8(bytes).expect("a text is UTF-8"))
+    pub fn keep_text(&self, text: &str) -> Result<&str, AllocError> {
+        Ok(str::from_utf8(self.keep(text.as_bytes())?).expect("a text is UTF-8"))
+    }
+
+    /// Most texts have no string to keep, and take no memory for it.
+    fn sizes(&self) -> Result<&Sizes, AllocError> {
+        if let Some(sizes) = self.sizes.get() {
+            return Ok(&sizes[0]);
+        }
+        let sizes = boxed(1, Sizes::default)?;
+        Ok(&self.sizes.get_or_init(|| sizes)[0])
     }
 }
 
-fn empty_slots(count: usize) -> Result<Box<[Slot]>, AllocError> {
-    let mut slots = Vec::new();
-    slots.try_reserve_exact(count).map_err(|_| AllocError)?;
-    slots.extend(iter::repeat_with(Slot::new).take(count));
-    Ok(slots.into_boxed_slice())
+/// Cells in blocks, each half as long again as the one before, so that none of them ever moves.
+struct Cells<T> {
+    blocks: [OnceCell<Box<[OnceCell<T>]>>; BLOCKS],
+    /// The block that has cells which are not set, and how many are.
+    last: Cell<usize>,
+    set: Cell<usize>,
+}
+
+/// Together they have more cells than the longest text has strings.
+const BLOCKS: usize = 48;
+
+/// How many cells the first block has.
+const FIRST: usize = 16;
+
+impl<T> Default for Cells<T> {
+    fn default() -> Cells<T> {
+        Cells {
+            blocks: [const { OnceCell::new() }; BLOCKS],
+            last: Cell::new(0),
+            set: Cell::new(0),
+        }
+    }
+}
+
+impl<T> Cells<T> {
+    fn keep(&self, item: T) -> Result<&T, AllocError> {
+        let set = self.set.get();
+        let block = self.blocks[self.last.get()].get().map(|cells| &**cells);
+        let cell = match block.and_then(|cells| cells.get(set)) {
+            Some(cell) => cell,
+            None => self.block_after(block)?,
+        };
+        self.set.set(self.set.get() + 1);
+        Ok(cell.get_or_init(|| item))
+    }
+
+    /// The first cell of a new block after the one that is full.
+    #[cold]
+    fn block_after(&self, full: Option<&[OnceCell<T>]>) -> Result<&OnceCell<T>, AllocError> {
+        let count = full.map_or(FIRST, |full| full.len() + full.len() / 2);
+        let last = self.last.get() + usize::from(full.is_some());
+        let cells = boxed(count, OnceCell::new)?;
+        self.last.set(last);
+        self.set.set(0);
+        Ok(&self.blocks[last].get_or_init(|| cells)[0])
+    }
+}
+
+impl<const N: usize> Cells<[u8; N]> {
+    fn keep_padded(&self, bytes: &[u8]) -> Result<&[u8], AllocError> {
+        let mut padded = [0; N];
+        padded[..bytes.len()].copy_from_slice(bytes);
+        Ok(&self.keep(padded)?[..bytes.len()])
+    }
+}
+
+fn boxed<T>(count: usize, item: fn() -> T) -> Result<Box<[T]>, AllocError> {
+    let mut items = Vec::new();
+    items.try_reserve_exact(count).map_err(|_| AllocError)?;
+    items.extend(iter::repeat_with(item).take(count));
+    Ok(items.into_boxed_slice())
+}
+
+#[cfg(test)]
+mod tests {
+    use super::{Strings, Vec};
+
+    #[test]
+    fn strings_stay() {
+        let strings = Strings::default();
+        let all: Vec<Vec<u8>> = (0..20_000_usize)
+            .map(|i| (0..i % 80).map(|k| (i * 7 + k * 13) as u8).collect())
+            .collect();
+        let kept: Vec<&[u8]> = all
+            .iter()
+            .map(|bytes| strings.keep(bytes).unwrap())
+            .collect();
+        assert!(all.iter().zip(kept).all(|(bytes, kept)| bytes == kept));
+        assert_eq!(strings.keep_text("naïve"), Ok("naïve"));
+    }
 }

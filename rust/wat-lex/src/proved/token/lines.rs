@@ -122,17 +122,85 @@ pub fn utf16_linecol_by(text: &str, feeds: &[usize], offset: usize) -> (usize, u
     (line, units(&text.as_bytes()[offset - column..offset]))
 }
 
+/// The bytes of a line up to which its code units are counted at each question.
+const SHORT: usize = 0x1_0000;
+
+/// Whether a line is longer than `SHORT`.
+fn has_long_line(text: &str, feeds: &[usize]) -> bool {
+    let mut start = 0;
+    for feed in feeds {
+        if feed.saturating_sub(start) > SHORT {
+            return true;
+        }
+        start = *feed;
+    }
+    text.len().saturating_sub(start) > SHORT
+}
+
+/// The code units before each multiple of `SHORT` bytes.
+///
+/// # Proved
+///
+/// ```text
+/// ensures { IfOk result (λ marks. AreUnits text.now marks.items) }
+/// ```
+fn units_at_marks(alloc: Global, text: &[u8]) -> Result<Vec<usize>, AllocError> {
+    let mut marks = Vec::new(alloc);
+    let mut before = 0;
+    let mut at = 0;
+    while text.len() - at >= SHORT {
+        marks.push(before)?;
+        before += units(&text[at..at + SHORT]);
+        at += SHORT;
+    }
+    marks.push(before)?;
+    Ok(marks)
+}
+
+/// The same where a line is long, and none where all are short.
+///
+/// # Proved
+///
+/// ```text
+/// ensures { IfOk result (λ marks. AreUnits text.now marks.items) }
+/// ```
+fn marks(alloc: Global, text: &str, feeds: &[usize]) -> Result<Vec<usize>, AllocError> {
+    if has_long_line(text, feeds) {
+        return units_at_marks(alloc, text.as_bytes());
+    }
+    Ok(Vec::new(alloc))
+}
+
+/// The offset of each line feed.
+///
+/// # Proved
+///
+/// ```text
+/// ensures { IfOk result (λ feeds. LineFeeds text.now feeds.items) }
+/// ```
+fn feeds(alloc: Global, text: &[u8]) -> Result<Vec<usize>, AllocError> {
+    let mut feeds = Vec::new(alloc);
+    let mut at = 0;
+    while let Some(ahead) = memchr(b'\n', &text[at..]) {
+        feeds.push(at + ahead)?;
+        at += ahead + 1;
+    }
+    Ok(feeds)
+}
+
 /// Where the lines of a text end, for those who ask for many places of it: each is found by a
 /// binary search, where [`Span::linecol_in`] reads the text up to the place.
 pub struct LineIndex<'a> {
     text: &'a str,
     /// The offset of each line feed.
     feeds: Vec<usize>,
+    /// The code units of UTF-16 before each multiple of `SHORT`; none where all lines are short.
+    marks: Vec<usize>,
 }
 
 impl<'a> LineIndex<'a> {
     /// Finds the lines of a text, or answers that there is no memory: it takes eight bytes for
-    /// each line.
+    /// each line, and for each 64 KiB where a line is longer than that.
     ///
     /// # Proved
     ///
@@ -140,14 +208,23 @@ impl<'a> LineIndex<'a> {
     /// ensures { IfOk result (λ index. index ≡ text.now) }
     /// ```
     pub fn new(alloc: Global, text: &'a str) -> Result<LineIndex<'a>, AllocError> {
-        let bytes = text.as_bytes();
-        let mut feeds = Vec::new(alloc);
-        let mut at = 0;
-        while let Some(ahead) = memchr(b'\n', &bytes[at..]) {
-            feeds.push(at + ahead)?;
-            at += ahead + 1;
-        }
-        Ok(LineIndex { text, feeds })
+        let feeds = feeds(alloc, text.as_bytes())?;
+        let marks = marks(alloc, text, &feeds)?;
+        Ok(LineIndex { text, feeds, marks })
+    }
+
+    /// The code units of UTF-16 before a byte, where they were counted.
+    ///
+    /// # Proved
+    ///
+    /// ```text
+    /// requires { offset ≤ length self.now }
+    /// ensures { IfSome result (λ units. units ≡ sum_by byte_units (take offset self.now)) }
+    /// ```
+    fn units_before(&self, offset: usize) -> Option<usize> {
+        let mark = offset / SHORT;
+        let before = *self.marks.get(mark)?;
+        Some(before + units(&self.text.as_bytes()[mark * SHORT..offset]))
     }
 
     /// Line and column of a place in the text, as [`Span::linecol_in`] answers them: both from 0, and
@@ -164,7 +241,7 @@ impl<'a> LineIndex<'a> {
 
     /// Line and column of a place in the text, as editors have them: both from 0, and a column is a
     /// number of code units of UTF-16, those of the characters of the line that begin before the
-    /// place. It reads the line up to the place.
+    /// place. It reads at most 64 KiB twice.
     ///
     /// # Proved
     ///
@@ -172,6 +249,16 @@ impl<'a> LineIndex<'a> {
     /// ensures { result ≡ utf16_line_and_column self.now span }
     /// ```
     pub fn utf16_linecol(&self, span: Span) -> (usize, usize) {
-        utf16_linecol_by(self.text, &self.feeds, span.offset())
+        let offset = span.offset();
+        let (line, column) = linecol_by(self.text, &self.feeds, offset);
+        if column > SHORT {
+            if let (Some(start), Some(end)) = (
+                self.units_before(offset - column),
+                self.units_before(offset),
+            ) {
+                return (line, end - start);
+            }
+        }
+        utf16_linecol_by(self.text, &self.feeds, offset)
     }
 }
