@@ -248,10 +248,10 @@ fn print_module<W: Sink>(
     ensures refused { IfErr result (λ e. IsFailedWrite e ⊎ (e ≡ RunFailure.Memory alloc_error)) }
 {
     match compile(alloc, text) {
-        Ok(module) => print_text(&module, None, output),
-        Err(error) => match error.alloc_error() {
+        Ok(bytes) => print_text(&bytes, None, output),
+        Err(refusal) => match refusal.alloc_error() {
             Some(refused) => Err(RunFailure::from(refused)),
-            None => print_text(b"", Some(error), output),
+            None => print_text(b"", Some(refusal), output),
         },
     }
 }

@@ -9,10 +9,10 @@ use Rattle.wat_commands.proofs.print.print_module.Goals as goal
 pub returns-in-None-clause-printed : goal.returns-in-None-clause-printed
 returns-in-None-clause-printed g c =
     let shown = c.compile.ensures.some in
-    writes_as g.W.Sink.held g.W.Sink.failure (CompilesModule c.args.text.now) _ _ [] (Some c.in-Err.error) c.print_text-in-None.result (record {
+    writes_as g.W.Sink.held g.W.Sink.failure (CompilesModule c.args.text.now) _ _ [] (Some c.in-Err.refusal) c.print_text-in-None.result (record {
       utf8 = c.utf8.text;
       short = c.requires.text;
-      compiled = refused_module {T = Vec ℕ Global} c.args.text.now (λ bytes. bytes.items) c.in-Err.error c.alloc_error.result shown.0 shown.1 shown.2
+      compiled = refused_module {T = Vec ℕ Global} c.args.text.now (λ bytes. bytes.items) c.in-Err.refusal c.alloc_error.result shown.0 shown.1 shown.2
           c.in-Err.ensures.spelled (c.in-Err.ensures.refused shown.0 shown.1 shown.2) c.in-None.is c.alloc_error.ensures.1;
     }) c.print_text-in-None.ensures.printed
 
