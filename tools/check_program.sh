@@ -267,7 +267,7 @@ expect_named() {
     expect "sig $*" 0 "0..1 LParen\n1..$((${#name} + 2)) Annotation\n$((${#name} + 2))..$((${#name} + 3)) RParen\n" '' \
         "$program" sig "$@" < <(printf '(@%s)' "$name")
 }
-for name in --x -h -- --json --help --version --file --allow-confusing --strict-underscores list sig play blank types fmt -- - a bad folder look parens=1; do
+for name in --x -h -- --json --help --version --file --allow-confusing --strict-underscores list sig play blank types module fmt -- - a bad folder look parens=1; do
     expect_named "$name" "$name"
     expect_named "$name" b "$name" c
     expect_named "$name" "$name" "$name"
@@ -339,6 +339,12 @@ expect 'types, a fault' 1 '' "$(fault 'unterminated block comment' 9 '(module)(;
 expect 'types, confusing' 1 '' "$confusing_fault" "$program" types < <(printf %s "$confusing")
 expect 'types, no UTF-8' 2 '' 'wat_tokens: input is not UTF-8\n' "$program" types < <(printf '(module) \377')
 output=/dev/full expect 'types, no room' 2 '' 'wat_tokens: write failed\n' "$program" types < <(printf '(module)')
+
+expect 'module' 0 '\0asm\01\0\0\0' '' "$program" module < <(printf '(module $m)')
+expect 'module, refused' 1 '' "$(fault 'unknown keyword' 9 '(module (frob))' '         ')" "$program" module < <(printf '(module (frob))')
+expect 'module, confusing' 1 '' "$confusing_fault" "$program" module < <(printf %s "$confusing")
+expect 'module, no UTF-8' 2 '' 'wat_tokens: input is not UTF-8\n' "$program" module < <(printf '(module) \377')
+output=/dev/full expect 'module, no room' 2 '' 'wat_tokens: write failed\n' "$program" module < <(printf '(module)')
 
 unread blank 2 'wat_tokens: write failed\n' "$program" blank < <(printf x)
 
@@ -472,7 +478,8 @@ wrong_words_beyond() {
     expect_wrong '--file has no name after it' --file
     expect_wrong 'unknown option: --x' list --x
     expect_wrong 'no such command or file: foo' --json foo
-    expect_wrong 'types takes no flags' --allow-confusing types
+    expect_wrong 'types and module take no flags' --allow-confusing types
+    expect_wrong 'types and module take no flags' --strict-underscores module
     expect_wrong '--json goes with list and sig alone' --json types
     expect_wrong '--json goes with list and sig alone' --json blank
     expect_wrong '--json goes with list and sig alone' --json play look

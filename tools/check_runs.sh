@@ -154,6 +154,8 @@ check 0 'x' --json sig
 check 0 'a (; b ;)' blank
 check 0 '(module (type (func (param i32) (result i64))))' types
 check 1 '(module (func))' types
+check 0 '(module (func (export "a") (i32.const 1) drop))' module
+check 1 '(module (func frob))' module
 check 0 '( a )' fmt
 requests 1 '( a )' fmt --check
 check 0 '(@a) x' play look reg=a take parens=1

@@ -109,7 +109,7 @@ package() {
 
 crates() {
     local name
-    for name in wat-lex wat-parser wat-tokens wat-modules; do
+    for name in wat-lex wat-parser wat-modules wat-tokens; do
         package "$name"
     done
 }

@@ -68,7 +68,7 @@ PLACES = {
     "wat_instructions": ("", "crate::instructions"),
     "wat_pieces": ("", "crate::pieces"),
     "wat_fields": ("", "crate::fields"),
-    "wat_modules": ("", "crate::proved"),
+    "wat_modules": ("wat_modules::proved", "crate::proved"),
     "wat_imports": ("", "crate::imports"),
 }
 # Crates that are compiled together see each other as they see themselves.

@@ -1,5 +1,6 @@
 mod CallLaws
 mod CompileLaws
+mod ModuleLaws
 mod FrontLaws
 mod OptionLaws
 mod OutcomeLaws

@@ -1,4 +1,5 @@
 pub mod Compiles
+pub mod Modules
 pub mod Complaints
 pub mod Help
 pub mod JsonWrites

@@ -101,6 +101,7 @@ verb_named word =
     else if spells (codes "play") word then Some verb.Play
     else if spells (codes "blank") word then Some verb.Blank
     else if spells (codes "types") word then Some verb.Types
+    else if spells (codes "module") word then Some verb.Module
     else if spells (codes "fmt") word then Some verb.Fmt
     else None
 
@@ -166,6 +167,7 @@ AsksTask v json words (task.JsonSig names) = (v ≡ verb.Sig) × (json ≡ true)
 AsksTask v json words (task.Play calls) = (v ≡ verb.Play) × (json ≡ false) × SpellsCalls words (calls_of calls)
 AsksTask v json words task.Blank = (v ≡ verb.Blank) × (json ≡ false)
 AsksTask v json words task.Types = (v ≡ verb.Types) × (json ≡ false)
+AsksTask v json words task.Module = (v ≡ verb.Module) × (json ≡ false)
 
 -- all words after the command's name are its own; else they name files
 abbrev pub owns_words : Verb → Bool
@@ -174,6 +176,7 @@ owns_words verb.Sig = true
 owns_words verb.Play = true
 owns_words verb.Blank = false
 owns_words verb.Types = false
+owns_words verb.Module = false
 owns_words verb.Fmt = false
 
 -- the lists and `fmt` take any number of files, the others one at most
@@ -183,7 +186,18 @@ takes_many verb.Sig = true
 takes_many verb.Play = false
 takes_many verb.Blank = false
 takes_many verb.Types = false
+takes_many verb.Module = false
 takes_many verb.Fmt = true
+
+-- settings of the lexer may come before it
+abbrev pub takes_flags : Verb → Bool
+takes_flags verb.List = true
+takes_flags verb.Sig = true
+takes_flags verb.Play = true
+takes_flags verb.Blank = true
+takes_flags verb.Types = false
+takes_flags verb.Module = false
+takes_flags verb.Fmt = true
 
 -- words that name files: those before `--`, or, where there are none, those after it
 pub record NamesFiles (words files : List Word) : Type 0 where
@@ -215,13 +229,13 @@ abbrev pub begins_with : List ℕ → List Word → Bool
 begins_with text [] = false
 begins_with text (word ∷ words) = spells text word
 
--- the words are options, and then those of a task with its files, of which `--` is not the first; `types` takes no flags
+-- the words are options, and then those of a task with its files, of which `--` is not the first; `types` and `module` take no flags
 pub record AsksRun (words : List Word) (settings : Settings) (task : Task) (files : List Word) : Type 0 where
   pub selects : Selects (front_of words) settings
   pub asked : AsksTask (verb_of (front_of words).rest) (wants_json (front_of words)) (after_verb (front_of words).rest) task
   pub named : HasFiles words (verb_of (front_of words).rest) (after_verb (front_of words).rest) files
   pub begun : begins_with (codes "--") (front_of words).rest ≡ false
-  pub bare : verb_of (front_of words).rest ≡ verb.Types → (settings.allow ≡ false) × (settings.strict ≡ false)
+  pub bare : takes_flags (verb_of (front_of words).rest) ≡ false → (settings.allow ≡ false) × (settings.strict ≡ false)
 
 -- the words are options, and then `fmt`, what is done with layouts, of which there is no JSON, and files
 pub record AsksFormat (words : List Word) (settings : Settings) (m : Mode) (files : List Word) : Type 0 where

@@ -11,6 +11,7 @@ use Rattle.wat_lists.specs.Lists.{Lists}
 use Rattle.wat_lists.specs.Replies.{Plays}
 use Rattle.wat_lists.specs.Shows.{Shows}
 use Rattle.wat_commands.specs.Compiles.{Compiles}
+use Rattle.wat_commands.specs.Modules.{CompilesModule}
 use Rattle.wat_commands.specs.Options.{calls_of}
 use Rattle.wat_commands.specs.declared.options.Task.{Task}
 use Rattle.wat_commands.specs.declared.options.Task.TheVariants as task
@@ -28,6 +29,7 @@ task_prints s file (task.JsonSig names) = JsonShows s file names.now
 task_prints s file (task.Play calls) = Plays s (calls_of calls)
 task_prints s file task.Blank = Blanks s
 task_prints s file task.Types = Compiles
+task_prints s file task.Module = CompilesModule
 
 -- Known bytes grow by a text that is printed with this error.
 pub record AppendsText (prints : List ℕ → Option (Option Report) → Type 0) (error : Option (Option Report)) (old new : Option (List ℕ)) : Type 0 where

@@ -64,7 +64,7 @@ impl fmt::Display for Complaint<'_> {
                 )
             }
             Complaint::NoJson => write!(f, "wat_tokens: --json goes with list and sig alone{MORE}"),
-            Complaint::NoFlags => write!(f, "wat_tokens: types takes no flags{MORE}"),
+            Complaint::NoFlags => write!(f, "wat_tokens: types and module take no flags{MORE}"),
             Complaint::NoCall => write!(f, "wat_tokens: play takes calls of a parser alone{MORE}"),
             Complaint::Mixed => write!(
                 f,
@@ -167,13 +167,16 @@ fn wrong_command(words: &[String]) -> Complaint<'_> {
         return Complaint::NoJson;
     }
     match verb {
-        Verb::Types if times(Flag::Allow, words) > 0 || times(Flag::Strict, words) > 0 => {
+        Verb::Types | Verb::Module
+            if times(Flag::Allow, words) > 0 || times(Flag::Strict, words) > 0 => {
             Complaint::NoFlags
         }
         Verb::Fmt => wrong_files(split_mode(after).1),
         Verb::Play if FileNames::of_options(words).are_several() => Complaint::TooMany,
         Verb::Play if !after.is_empty() => Complaint::NoCall,
-        Verb::List | Verb::Sig | Verb::Play | Verb::Blank | Verb::Types => wrong_files(after),
+        Verb::List | Verb::Sig | Verb::Play | Verb::Blank | Verb::Types | Verb::Module => {
+            wrong_files(after)
+        }
     }
 }
 

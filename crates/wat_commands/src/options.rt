@@ -13,7 +13,7 @@ ghost use Rattle.wat_commands.specs.declared.options.Verb.TheVariants as verbs;
 ghost use Rattle.wat_commands.specs.Options.{calls_of, front_of, flag_of, no_options, times, wants_json, Selects};
 ghost use Rattle.wat_commands.specs.Options.{spells, verb_named, verb_of, after_verb, mode_named, mode_of};
 ghost use Rattle.wat_commands.specs.Options.{after_mode, own_len, own_words, last_words, is_file};
-ghost use Rattle.wat_commands.specs.Options.{owns_words, takes_many, file_names, SpellsCalls, AsksTask};
+ghost use Rattle.wat_commands.specs.Options.{owns_words, takes_flags, takes_many, file_names, SpellsCalls, AsksTask};
 ghost use Rattle.wat_commands.specs.Options.{HasFiles, NamesFiles, AsksFiles, AsksRun, AsksFormat, begins_with};
 ghost use Rattle.wat_commands.specs.Options.{asks_help, begins_with_files, wants_help, Asks, AsksPlay, AsksNothing};
 ghost use Rattle.wat_commands.specs.Options.{looks_like_file, file_in_question};
@@ -58,8 +58,10 @@ pub enum Task<'a> {
     Play(Calls<'a>),
     /// The text with its comments blanked.
     Blank,
-    /// The bytes of the module that the text spells.
+    /// The bytes of the module of function types that the text spells.
     Types,
+    /// The bytes of the module that the text spells.
+    Module,
 }
 
 /// What is done with the layout of a text.
@@ -105,6 +107,7 @@ pub(crate) enum Verb {
     Play,
     Blank,
     Types,
+    Module,
     Fmt,
 }
 
@@ -280,6 +283,7 @@ pub(crate) fn verb_named(word: &String) -> Option<Verb>
         "play" => Some(Verb::Play),
         "blank" => Some(Verb::Blank),
         "types" => Some(Verb::Types),
+        "module" => Some(Verb::Module),
         "fmt" => Some(Verb::Fmt),
         _ => None,
     }
@@ -366,7 +370,7 @@ impl Verb {
         ensures { result ≡ owns_words self }
     {
         match self {
-            Verb::List | Verb::Blank | Verb::Types | Verb::Fmt => false,
+            Verb::List | Verb::Blank | Verb::Types | Verb::Module | Verb::Fmt => false,
             Verb::Sig | Verb::Play => true,
         }
     }
@@ -377,7 +381,17 @@ impl Verb {
     {
         match self {
             Verb::List | Verb::Sig | Verb::Fmt => true,
-            Verb::Play | Verb::Blank | Verb::Types => false,
+            Verb::Play | Verb::Blank | Verb::Types | Verb::Module => false,
+        }
+    }
+
+    /// Whether settings of the lexer may come before it.
+    pub(crate) fn takes_flags(self) -> bool
+        ensures { result ≡ takes_flags self }
+    {
+        match self {
+            Verb::List | Verb::Sig | Verb::Play | Verb::Blank | Verb::Fmt => true,
+            Verb::Types | Verb::Module => false,
         }
     }
 }
@@ -406,7 +420,7 @@ fn json_task_of(verb: Verb, words: &[String]) -> Option<Task<'_>>
     match verb {
         Verb::List => Some(Task::JsonList),
         Verb::Sig => Some(Task::JsonSig(words)),
-        Verb::Play | Verb::Blank | Verb::Types | Verb::Fmt => None,
+        Verb::Play | Verb::Blank | Verb::Types | Verb::Module | Verb::Fmt => None,
     }
 }
 
@@ -430,6 +444,7 @@ fn task_of<'a>(
         Verb::Play => read_calls(alloc, words)?.map(|calls| Task::Play(Calls::Owned(calls))),
         Verb::Blank => Some(Task::Blank),
         Verb::Types => Some(Task::Types),
+        Verb::Module => Some(Task::Module),
         Verb::Fmt => None,
     })
 }
@@ -507,7 +522,7 @@ fn all_files<'a>(words: &'a [String], verb: Verb, after: &'a [String]) -> Option
 }
 
 /// The run that the words ask for: options, each flag at most once, and then a command with its words
-/// and files; `types` without flags, and only a list as JSON.
+/// and files; `types` and `module` without flags, and only a list as JSON.
 fn run_of<'a>(alloc: Global, words: &'a [String]) -> Result<Option<Command<'a>>, AllocError>
     ensures asked { IfOk result (λ command. MatchOption command
         ((s : Settings) (t : Task) (files : List (String Global)) → ¬ AsksRun words.now s t files)
@@ -522,7 +537,7 @@ fn run_of<'a>(alloc: Global, words: &'a [String]) -> Result<Option<Command<'a>>,
         return Ok(None);
     }
     let (verb, after) = split_verb(rest);
-    if verb == Verb::Types && (settings.allow || settings.strict) {
+    if !verb.takes_flags() && (settings.allow || settings.strict) {
         return Ok(None);
     }
     let Some(files) = all_files(words, verb, after) else {

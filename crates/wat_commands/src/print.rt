@@ -11,6 +11,7 @@ ghost use Rattle.wat_lists.specs.Lists.{Lists};
 ghost use Rattle.wat_lists.specs.Refusals.{IsNotUtf8, IsFailedWrite, answered};
 ghost use Rattle.wat_lists.specs.Shows.{Shows};
 ghost use Rattle.wat_commands.specs.Compiles.{Compiles};
+ghost use Rattle.wat_commands.specs.Modules.{CompilesModule};
 ghost use Rattle.wat_commands.specs.Printed.{task_prints};
 ghost use Rattle.wat_commands.specs.JsonWrites.{AppendsRows, AppendsRowsCut};
 ghost use Rattle.wat_commands.specs.Writes.{Writes};
@@ -29,6 +30,7 @@ use wat_lists::json::{push_report, write_json, write_json_shown};
 use wat_lists::list::{buffer_of, error_of, write_lines};
 use wat_lists::play::play;
 use wat_lists::show::{Ending, ending_of, parser_of, write_shown};
+use wat_modules::compile;
 use wat_types::compile_types;
 
 /// The error of what was written, or that the write failed.
@@ -234,6 +236,26 @@ fn print_types<W: Sink>(
     }
 }
 
+/// Writes the bytes of the module that a text spells, or answers the error of its refusal.
+fn print_module<W: Sink>(
+    alloc: Global,
+    text: &str,
+    output: &mut W,
+) -> Result<Option<Error>, RunFailure>
+    requires text { length text.now < 2 ^ 32 }
+    requires output { W.failure output.old ≡ None }
+    ensures printed { Writes W.held W.failure (CompilesModule text.now) output.old output.new result }
+    ensures refused { IfErr result (λ e. IsFailedWrite e ⊎ (e ≡ RunFailure.Memory alloc_error)) }
+{
+    match compile(alloc, text) {
+        Ok(bytes) => print_text(&bytes, None, output),
+        Err(refusal) => match refusal.alloc_error() {
+            Some(refused) => Err(RunFailure::from(refused)),
+            None => print_text(b"", Some(refusal), output),
+        },
+    }
+}
+
 /// Writes what a task prints of the text of a file of this name, if it has one, and answers the error of its fault or refusal.
 fn print_of<W: Sink>(
     alloc: Global,
@@ -261,6 +283,7 @@ fn print_of<W: Sink>(
         }
         Task::Blank => print_blank(alloc, text, settings, output),
         Task::Types => print_types(alloc, text, output),
+        Task::Module => print_module(alloc, text, output),
     }
 }
 

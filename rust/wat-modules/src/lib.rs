@@ -26,14 +26,15 @@ extern crate alloc;
 // Proofs name loops, contracts speak of parameters and fields that the code leaves alone, and each file imports the shim's names, of which it
 // may need none. Clippy's advice on style is for text that is written in Rust.
 macro_rules! made {
-    ($($module:ident)*) => {$(
+    ($($visible:vis $module:ident)*) => {$(
+        #[doc(hidden)]
         #[allow(dead_code, missing_docs, unused_imports, unused_labels, unused_variables)]
         #[allow(clippy::style, clippy::complexity, clippy::pedantic)]
-        mod $module;
+        $visible mod $module;
     )*};
 }
 
-made! { fields instructions pieces proved }
+made! { fields instructions pieces pub proved }
 
 use alloc::format;
 use alloc::vec::Vec;

@@ -38,6 +38,7 @@ commands, `list` where none is named:
   play CALL..  the replies of a parser to calls, a line each
   blank        the text with spaces over its comments
   types        the bytes of the module, where it holds nothing but function types
+  module       the bytes of the module, where it holds what `compile` takes
   fmt          the text laid out; with `--check` after it the names of the files that are not,
                with `--diff` the lines that differ, with `--write` nothing: these files are
                rewritten; a folder is the `.wat` and `.wast` files below it
@@ -52,7 +53,7 @@ options, which come before the command:
   --json                write each token of `list` or `sig` as a line of JSON: offset and length
                         in bytes, kind, text, line and column; and a fault as the last line
   --file NAME           read this file; may be given more than once
-  -h, --help            this text, also after `list`, `blank`, `types` and `fmt`
+  -h, --help            this text, also after `list`, `blank`, `types`, `module` and `fmt`
   --version             the version
 
 calls of a parser:

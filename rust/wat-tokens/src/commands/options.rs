@@ -43,8 +43,10 @@ pub enum Task<'a> {
     Play(Calls<'a>),
     /// The text with its comments blanked.
     Blank,
-    /// The bytes of the module that the text spells.
+    /// The bytes of the module of function types that the text spells.
     Types,
+    /// The bytes of the module that the text spells.
+    Module,
 }
 
 /// What is done with the layout of a text.
@@ -89,6 +91,7 @@ pub(crate) enum Verb {
     Play,
     Blank,
     Types,
+    Module,
     Fmt,
 }
 
@@ -316,6 +319,7 @@ pub(crate) fn verb_named(word: &String) -> Option<Verb> {
         "play" => Some(Verb::Play),
         "blank" => Some(Verb::Blank),
         "types" => Some(Verb::Types),
+        "module" => Some(Verb::Module),
         "fmt" => Some(Verb::Fmt),
         _ => None,
     }
@@ -433,7 +437,7 @@ impl Verb {
     /// ```
     pub(crate) fn owns_words(self) -> bool {
         match self {
-            Verb::List | Verb::Blank | Verb::Types | Verb::Fmt => false,
+            Verb::List | Verb::Blank | Verb::Types | Verb::Module | Verb::Fmt => false,
             Verb::Sig | Verb::Play => true,
         }
     }
@@ -448,7 +452,21 @@ impl Verb {
     pub(crate) fn takes_many(self) -> bool {
         match self {
             Verb::List | Verb::Sig | Verb::Fmt => true,
-            Verb::Play | Verb::Blank | Verb::Types => false,
+            Verb::Play | Verb::Blank | Verb::Types | Verb::Module => false,
+        }
+    }
+
+    /// Whether settings of the lexer may come before it.
+    ///
+    /// # Proved
+    ///
+    /// ```text
+    /// ensures { result ≡ takes_flags self }
+    /// ```
+    pub(crate) fn takes_flags(self) -> bool {
+        match self {
+            Verb::List | Verb::Sig | Verb::Play | Verb::Blank | Verb::Fmt => true,
+            Verb::Types | Verb::Module => false,
         }
     }
 }
@@ -485,7 +503,7 @@ fn json_task_of(verb: Verb, words: &[String]) -> Option<Task<'_>> {
     match verb {
         Verb::List => Some(Task::JsonList),
         Verb::Sig => Some(Task::JsonSig(words)),
-        Verb::Play | Verb::Blank | Verb::Types | Verb::Fmt => None,
+        Verb::Play | Verb::Blank | Verb::Types | Verb::Module | Verb::Fmt => None,
     }
 }
 
@@ -513,6 +531,7 @@ fn task_of<'a>(
         Verb::Play => read_calls(alloc, words)?.map(|calls| Task::Play(Calls::Owned(calls))),
         Verb::Blank => Some(Task::Blank),
         Verb::Types => Some(Task::Types),
+        Verb::Module => Some(Task::Module),
         Verb::Fmt => None,
     })
 }
@@ -606,7 +625,7 @@ fn all_files<'a>(words: &'a [String], verb: Verb, after: &'a [String]) -> Option
 }
 
 /// The run that the words ask for: options, each flag at most once, and then a command with its words
-/// and files; `types` without flags, and only a list as JSON.
+/// and files; `types` and `module` without flags, and only a list as JSON.
 ///
 /// # Proved
 ///
@@ -625,7 +644,7 @@ fn run_of<'a>(alloc: Global, words: &'a [String]) -> Result<Option<Command<'a>>,
         return Ok(None);
     }
     let (verb, after) = split_verb(rest);
-    if verb == Verb::Types && (settings.allow || settings.strict) {
+    if !verb.takes_flags() && (settings.allow || settings.strict) {
         return Ok(None);
     }
     let Some(files) = all_files(words, verb, after) else {

@@ -16,6 +16,7 @@ use crate::lists::json::{push_report, write_json, write_json_shown};
 use crate::lists::list::{buffer_of, error_of, write_lines};
 use crate::lists::play::play;
 use crate::lists::show::{Ending, ending_of, parser_of, write_shown};
+use wat_modules::proved::compile;
 use crate::types::compile_types;
 
 /// The error of what was written, or that the write failed.
@@ -265,6 +266,30 @@ fn print_types<W: Sink>(
     }
 }
 
+/// Writes the bytes of the module that a text spells, or answers the error of its refusal.
+///
+/// # Proved
+///
+/// ```text
+/// requires text { length text.now < 2 ^ 32 }
+/// requires output { W.failure output.old ≡ None }
+/// ensures printed { Writes W.held W.failure (CompilesModule text.now) output.old output.new result }
+/// ensures refused { IfErr result (λ e. IsFailedWrite e ⊎ (e ≡ RunFailure.Memory alloc_error)) }
+/// ```
+fn print_module<W: Sink>(
+    alloc: Global,
+    text: &str,
+    output: &mut W,
+) -> Result<Option<Error>, RunFailure> {
+    match compile(alloc, text) {
+        Ok(module) => print_text(&module, None, output),
+        Err(error) => match error.alloc_error() {
+            Some(refused) => Err(RunFailure::from(refused)),
+            None => print_text(b"", Some(error), output),
+        },
+    }
+}
+
 /// Writes what a task prints of the text of a file of this name, if it has one, and answers the error of its fault or refusal.
 ///
 /// # Proved
@@ -296,6 +321,7 @@ fn print_of<W: Sink>(
         }
         Task::Blank => print_blank(alloc, text, settings, output),
         Task::Types => print_types(alloc, text, output),
+        Task::Module => print_module(alloc, text, output),
     }
 }
 

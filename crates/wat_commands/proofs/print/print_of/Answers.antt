@@ -28,3 +28,6 @@ returns-in-Blank-clause-printed g c = rw c.in-Blank.is c.print_blank.ensures.pri
 
 pub returns-in-Types-clause-printed : goal.returns-in-Types-clause-printed
 returns-in-Types-clause-printed g c = rw c.in-Types.is c.print_types.ensures.printed
+
+pub returns-in-Module-clause-printed : goal.returns-in-Module-clause-printed
+returns-in-Module-clause-printed g c = rw c.in-Module.is c.print_module.ensures.printed

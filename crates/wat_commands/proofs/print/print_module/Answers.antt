@@ -1,0 +1,24 @@
+use Rattle.std.proofs.Common.{rules, ℕ, [], None, Some}
+use Rattle.std.specs.Prelude.{Vec}
+use Rattle.std.specs.declared.alloc.Global.{Global}
+use Rattle.wat_commands.specs.Modules.{CompilesModule}
+use Rattle.wat_commands.proofs.ModuleLaws.{refused_module}
+use Rattle.wat_commands.proofs.PrintLaws.{writes_as}
+use Rattle.wat_commands.proofs.print.print_module.Goals as goal
+
+pub returns-in-None-clause-printed : goal.returns-in-None-clause-printed
+returns-in-None-clause-printed g c =
+    let shown = c.compile.ensures.some in
+    writes_as g.W.Sink.held g.W.Sink.failure (CompilesModule c.args.text.now) _ _ [] (Some c.in-Err.refusal) c.print_text-in-None.result (record {
+      utf8 = c.utf8.text;
+      short = c.requires.text;
+      compiled = refused_module {T = Vec ℕ Global} c.args.text.now (λ bytes. bytes.items) c.in-Err.refusal c.alloc_error.result shown.0 shown.1 shown.2
+          c.in-Err.ensures.spelled (c.in-Err.ensures.refused shown.0 shown.1 shown.2) c.in-None.is c.alloc_error.ensures.1;
+    }) c.print_text-in-None.ensures.printed
+
+pub returns-in-Ok-clause-printed : goal.returns-in-Ok-clause-printed
+returns-in-Ok-clause-printed g c = writes_as g.W.Sink.held g.W.Sink.failure (CompilesModule c.args.text.now) _ _ c.deref.result.now None c.print_text.result (record {
+  utf8 = c.utf8.text;
+  short = c.requires.text;
+  compiled = rw c.deref.ensures.value (search rules);
+}) c.print_text.ensures.printed
