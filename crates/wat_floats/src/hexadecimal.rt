@@ -140,12 +140,12 @@ fn scaled(precision: Precision, leading: Leading, places: usize, power: Power) -
             places,
         );
     }
-    let zeros = leading.count.leading_zeros();
+    let shift = leading.count.leading_zeros();
     rounded(
         precision,
-        leading.count << zeros,
+        leading.count << shift,
         false,
         power.raised,
-        u128::from(zeros) + places,
+        u128::from(shift) + places,
     )
 }

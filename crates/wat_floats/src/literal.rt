@@ -29,7 +29,7 @@ fn payload(precision: Precision, text: &[u8]) -> Option<u64>
     ensures { result ≡ literals.payload (format precision) (digits_value 16 (digits true text.now)) }
 {
     let (payload, _) = with_digits(Leading::none(), text);
-    if payload.dropped == 0 && 0 < payload.count && payload.count < precision.exponent_bit() {
+    if 0 < payload.count && payload.count < precision.exponent_bit() {
         Some(precision.infinity() + payload.count)
     } else {
         None
