@@ -248,7 +248,9 @@ fn decimals_as_rust_reads_them() {
         }
         if numbers.next(2) == 0 {
             let near = [20, 60, 400][numbers.next(3) as usize];
-            text += &format!("e{}", numbers.next(2 * near) as i64 - near as i64);
+            let size = numbers.next(near).to_string();
+            text += ["e", "e-"][numbers.next(2) as usize];
+            text += &size;
         }
         let (single, double): (f32, f64) = (text.parse().unwrap(), text.parse().unwrap());
         let single = single.is_finite().then_some(single.to_bits());
