@@ -71,6 +71,13 @@ REQUESTS = [
         "the types that were looked for, each once",
     ),
     (
+        "wat_floats/src/literal.rt",
+        "joined_magnitude",
+        "Vec::with_capacity(alloc, word.len())",
+        "if !word.contains(&b'_') { return Ok(magnitude(precision, word)); } let mut joined =",
+        "as many bytes as the word that is given",
+    ),
+    (
         "wat_lex/src/error/pieces.rt",
         "fmt::Display for Piece<'_>::fmt",
         'Piece::Marker(column) => write!(f, "{mark:>column$}")',

@@ -29,6 +29,7 @@ STREAMS = ("env", "fs", "io", "path", "process", "rt")
 WRITTEN = [
     *((f"std::{name}", f"SHIM::{name}") for name in ("alloc", "borrow", "collections", "simd")),
     *((f"std::{name}", f"STD::{name}") for name in SAME_IN_CORE + STREAMS),
+    ("fast_float::", "SHIM::fast_float::"),
     ("itoa::", "SHIM::itoa::"),
     ("BY_SHUFFLE: bool = true", "BY_SHUFFLE: bool = SHIM::simd::HAS_SHUFFLE"),
     ("smallvec::", "SHIM::smallvec::"),
@@ -55,6 +56,7 @@ WRITTEN = [
 PLACES = {
     "wat_lex": ("wat_lex::proved", "crate::proved"),
     "wat_words": ("wat_parser::words", "crate::words"),
+    "wat_floats": ("wat_parser::floats", "crate::floats"),
     "wat_lexer_parser": ("wat_parser::proved", "crate::proved"),
     "wat_rows": ("", "crate::rows"),
     "wat_parser_c": ("", "crate::proved"),
@@ -74,7 +76,7 @@ PLACES = {
 # Crates that are compiled together see each other as they see themselves.
 PROGRAM = {"wat_format", "wat_lines", "wat_lists", "wat_types", "wat_commands", "wat_tokens"}
 MODULES = {"wat_instructions", "wat_pieces", "wat_fields", "wat_modules"}
-TOGETHER = [{"wat_words", "wat_lexer_parser"}, {"wat_rows", "wat_parser_c"}, PROGRAM, MODULES]
+TOGETHER = [{"wat_words", "wat_floats", "wat_lexer_parser"}, {"wat_rows", "wat_parser_c"}, PROGRAM, MODULES]
 # Of a function that C calls, with a space between tokens: what C passes of a slice, and the statements that its body begins with.
 PASSED = re.compile(r"(\w+) : \* (const|mut) (\w+) , \1_len : usize")
 MADE = re.compile(

@@ -16,6 +16,7 @@ RUST = PROJECT / "rust"
 MODULES = {
     "wat_lex": "wat-lex/src/proved",
     "wat_words": "wat-parser/src/words",
+    "wat_floats": "wat-parser/src/floats",
     "wat_lexer_parser": "wat-parser/src/proved",
     "wat_rows": "wat-c/src/rows",
     "wat_parser_c": "wat-c/src/proved",
@@ -49,6 +50,7 @@ WRITTEN = {
     "std::borrow": "SHIM::borrow",
     "std::collections": "SHIM::collections",
     "std::simd": "SHIM::simd",
+    "fast_float::": "SHIM::fast_float::",
     "itoa::": "SHIM::itoa::",
     "BY_SHUFFLE: bool = true": "BY_SHUFFLE: bool = SHIM::simd::HAS_SHUFFLE",
     "smallvec::": "SHIM::smallvec::",

@@ -5,6 +5,7 @@ pub mod alloc;
 pub mod borrow;
 pub mod boxed;
 pub mod collections;
+pub mod fast_float;
 mod macros;
 // The calls of the target's instructions. What a block has is named as in the library of Rattle and of Rust.
 #[allow(missing_docs, unsafe_code)]

@@ -13,6 +13,7 @@ use wat_lex::shim::alloc::{AllocError, AllocFailed, Global};
 use wat_lex::shim::borrow::{CowSlice, CowStr};
 use wat_lex::shim::boxed::Box;
 use wat_lex::shim::collections::BTreeMap;
+use wat_lex::shim::fast_float::Numeral;
 use wat_lex::shim::smallvec::SmallVec;
 use wat_lex::shim::string::{JoinIn, String};
 use wat_lex::shim::unicode_width::{UnicodeWidthStr, char_iter_width};
@@ -345,6 +346,37 @@ fn characters_have_the_width_of_their_text() {
 }
 
 /// What is read of a text, from the lexer up to the printed error; `None` where memory was refused.
+#[test]
+fn a_numeral_is_the_longest_at_the_start() {
+    for (text, wanted) in [
+        ("", 0.0),
+        (".", 0.0),
+        ("e5", 0.0),
+        ("-1", 0.0),
+        ("12", 12.0),
+        ("12.", 12.0),
+        (".5", 0.5),
+        ("1.5.2", 1.5),
+        ("1e", 1.0),
+        ("1e+", 1.0),
+        ("1e+x", 1.0),
+        ("1e2e3", 100.0),
+        ("5.e-1", 0.5),
+        ("1E+00002x", 100.0),
+        (".e00005", 0.0),
+        ("0e99999", 0.0),
+        ("1e99999", f32::INFINITY),
+        ("1e-99999", 0.0),
+        ("1_0", 1.0),
+    ] {
+        let numeral = without_memory(|| Numeral::scan(text.as_bytes()));
+        let read: f64 = without_memory(|| numeral.to_float(false));
+        assert_eq!(read.to_bits(), f64::from(wanted).to_bits(), "{text}");
+        let read: f32 = without_memory(|| numeral.to_float(true));
+        assert_eq!(read.to_bits(), (-wanted).to_bits(), "-{text}");
+    }
+}
+
 fn read_all(text: &str) -> Option<std::vec::Vec<std::string::String>> {
     let lexer = Lexer::new(text);
     let (mut pos, mut found) = (0, [0usize; 4]);

@@ -168,6 +168,10 @@ pub mod parser;
 #[allow(clippy::style, clippy::complexity, clippy::pedantic)]
 #[allow(clippy::manual_unwrap_or_default)]
 pub mod proved;
+/// The bits of floating-point literals, proved as [`proved`] is.
+#[allow(unused_imports)]
+#[allow(clippy::style, clippy::complexity, clippy::pedantic)]
+pub mod floats;
 pub mod token;
 #[allow(unused_imports)]
 #[allow(clippy::style, clippy::complexity, clippy::pedantic)]

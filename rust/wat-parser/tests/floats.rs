@@ -4,7 +4,9 @@
 #![allow(clippy::cast_possible_truncation, clippy::cast_sign_loss)]
 
 use std::cmp::Ordering;
+use wat_parser::floats;
 use wat_parser::parser::{self, ParseBuffer};
+use wat_parser::shim::alloc::Global;
 use wat_parser::token::{F32, F64};
 
 fn f32_bits(text: &str) -> Option<u64> {
@@ -226,6 +228,78 @@ fn midpoints() {
             }
             let below = format!("{:x}.ffffffffffffffffffffffff", twice - 1);
             check(&below, 16, exponent);
+        }
+    }
+}
+
+/// A million decimals of all lengths and exponents, as Rust's library reads them, which rounds right.
+#[test]
+fn decimals_as_rust_reads_them() {
+    let mut numbers = Numbers(0x0f1e_2d3c_4b5a_6978);
+    for _ in 0..1_000_000 {
+        let mut text = String::new();
+        let len = 1 + numbers.next(24);
+        let point = 1 + numbers.next(2 * len);
+        for place in 0..len {
+            if place == point {
+                text.push('.');
+            }
+            text.push(char::from(b'0' + numbers.next(10) as u8));
+        }
+        if numbers.next(2) == 0 {
+            let near = [20, 60, 400][numbers.next(3) as usize];
+            let size = numbers.next(near).to_string();
+            text += ["e", "e-"][numbers.next(2) as usize];
+            text += &size;
+        }
+        let (single, double): (f32, f64) = (text.parse().unwrap(), text.parse().unwrap());
+        let single = single.is_finite().then_some(single.to_bits());
+        let double = double.is_finite().then_some(double.to_bits());
+        assert_eq!(floats::f32_bits(Global, &text), Ok(single), "{text}");
+        assert_eq!(floats::f64_bits(Global, &text), Ok(double), "{text}");
+    }
+}
+
+/// Zeros that make up for an exponent, in texts of a million bytes.
+#[test]
+fn zeros_against_exponents() {
+    for len in [9_990, 65_540, 1_000_000] {
+        let zeros = "0".repeat(len);
+        let nines = "9".repeat(len);
+        let after = len + 1;
+        for (text, wanted) in [
+            (format!("0.{zeros}1e{after}"), "1"),
+            (
+                format!("0.{zeros}123456789012345678901e+{len}"),
+                "0.123456789012345678901",
+            ),
+            (format!("0.{zeros}1e{}", len - 300), "1e-301"),
+            (format!("1{zeros}e-{len}"), "1"),
+            (format!("1{zeros}.5e-{}", len + 320), "1e-320"),
+            (format!("0{zeros}.{zeros}25e{after}"), "2.5"),
+            (
+                format!("9007199254740993.{zeros}e-00000"),
+                "9007199254740992",
+            ),
+            (
+                format!("9007199254740993.{zeros}1e-00000"),
+                "9007199254740994",
+            ),
+            (
+                format!("9007199254740993{zeros}1e-{after}"),
+                "9007199254740994",
+            ),
+            (format!("0.{nines}e-00000"), "1"),
+            (format!("{nines}e-{}", len - 309), "1e309"),
+        ] {
+            let wanted: f64 = wanted.parse().unwrap();
+            let wanted = wanted.is_finite().then_some(wanted.to_bits());
+            let start = text.trim_matches(['0', '9']);
+            assert_eq!(
+                floats::f64_bits(Global, &text),
+                Ok(wanted),
+                "{len}: {start}"
+            );
         }
     }
 }

@@ -108,7 +108,7 @@ fn a_value_and_an_error_are_refused() {
                 .map(drop)
         }),
         ("\"\\q\"", |parser| parser.peek::<LParen>().map(drop)),
-        ("1.5", |parser| parser.parse::<F64>().map(drop)),
+        ("1_0.5", |parser| parser.parse::<F64>().map(drop)),
         ("x", many_looks),
     ];
     for (number, (text, call)) in calls.into_iter().enumerate() {
@@ -127,7 +127,7 @@ fn many_looks(parser: Parser<'_>) -> Result<()> {
 
 #[test]
 fn what_is_plain_takes_no_memory() {
-    let text = "(func $a \"b\" 1_0 -0x2 1.5) (; c ;) => (@note) in-line";
+    let text = "(func $a \"b\" 1_0 -0x2 1.5 -2.5e1) (; c ;) => (@note) in-line";
     let plain: Call = |parser| {
         parser.parens(|group| {
             group.parse::<kw::func>()?;
@@ -138,7 +138,8 @@ fn what_is_plain_takes_no_memory() {
             group.parse::<u8>()?;
             group.parse::<i64>()?;
             assert!(!group.is_empty() && group.peek2::<LParen>().is_ok_and(|seen| !seen));
-            group.step(|cursor| Ok(((), cursor.float()?.expect("a float").1)))
+            group.step(|cursor| Ok(((), cursor.float()?.expect("a float").1)))?;
+            group.parse::<F64>()
         })?;
         parser.step(|cursor: Cursor<'_>| Ok(((), cursor.comment()?.expect("a comment").1)))?;
         parser.parse::<arrow>()?;

@@ -129,6 +129,14 @@ impl<'a> Cursor<'a> {
         }
     }
 
+    /// Takes a number, a float or an integer, as its word.
+    #[inline(always)]
+    pub(crate) fn number(self) -> Result<Option<(&'a str, Self)>> {
+        let number = |kind| matches!(kind, TokenKind::Float(_) | TokenKind::Integer(_));
+        let taken = self.take(number)?;
+        Ok(taken.map(|(token, rest)| (token.src(self.text()), rest)))
+    }
+
     /// Whether this keyword is shown.
     #[doc(hidden)]
     #[inline(always)]

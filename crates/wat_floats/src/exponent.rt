@@ -1,0 +1,87 @@
+//! Exponents, of any number of digits.
+ghost use Rattle.std.specs.Prelude.{◌≡◌, ◌^◌, ◌<◌, true, false};
+ghost use Rattle.std.specs.Str.Parse.{digits_value};
+ghost use Rattle.wat_lex.specs.grammar.Numbers.{is_digit, is_exponent_letter, unsigned, is_negative};
+ghost use Rattle.wat_floats.specs.Literals.{digits, exponent, size, raised, lowered};
+ghost use Rattle.wat_floats.specs.Rounding.{IsCapped};
+
+/// A power by which a number is multiplied, and one by which it is divided. Beyond `LARGE` they may
+/// be less than what is written.
+#[derive(Clone, Copy)]
+pub(crate) struct Power {
+    pub(crate) raised: u128,
+    pub(crate) lowered: u128,
+}
+
+/// More than what the digits of a text can make up for.
+const LARGE: u128 = 1 << 100;
+
+/// A word without its sign.
+pub(crate) fn unsigned(word: &[u8]) -> &[u8]
+    ensures { result.now ≡ unsigned word.now }
+{
+    match word {
+        [b'+' | b'-', rest @ ..] => rest,
+        _ => word,
+    }
+}
+
+/// Whether a word begins with `-`.
+pub(crate) fn is_negative(word: &[u8]) -> bool
+    ensures { result ≡ is_negative word.now }
+{
+    match word {
+        [b'-', ..] => true,
+        _ => false,
+    }
+}
+
+/// What comes after the letter of an exponent.
+fn after_letter(text: &[u8]) -> &[u8]
+    ensures { result.now ≡ exponent true text.now }
+{
+    match text {
+        [b'p' | b'P', rest @ ..] => rest,
+        _ => &[],
+    }
+}
+
+/// The number that decimal digits write, or a lesser one that is large.
+fn size_of(text: &[u8]) -> u128
+    ensures capped { IsCapped (digits_value 10 (digits false text.now)) result }
+    ensures most { result < 2 ^ 110 }
+{
+    let mut size = 0;
+    for byte in text {
+        if !byte.is_ascii_digit() {
+            return size;
+        }
+        if size < LARGE {
+            size = size * 10 + u128::from(*byte - b'0');
+        }
+    }
+    size
+}
+
+impl Power {
+    /// The power of two that an exponent writes.
+    pub(crate) fn read(text: &[u8]) -> Power
+        ensures raised { IsCapped (raised (exponent true text.now)) result.raised }
+        ensures lowered { IsCapped (lowered (exponent true text.now)) result.lowered }
+        ensures most { (result.raised < 2 ^ 110) × (result.lowered < 2 ^ 110) }
+    {
+        let written = after_letter(text);
+        let size = size_of(unsigned(written));
+        if is_negative(written) {
+            Power {
+                raised: 0,
+                lowered: size,
+            }
+        } else {
+            Power {
+                raised: size,
+                lowered: 0,
+            }
+        }
+    }
+}

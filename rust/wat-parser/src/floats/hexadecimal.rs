@@ -1,0 +1,172 @@
+// Made by tools/erase from crates/wat_floats/src/hexadecimal.rt; do not edit.
+//! Hexadecimal numbers.
+
+use wat_lex::shim::prelude::*;
+use crate::floats::exponent::Power;
+use crate::floats::precision::Precision;
+use crate::floats::rounding::rounded;
+
+/// The digits read so far: `count` times 16 to `dropped`, and something less than one of these more
+/// where `more` is set.
+#[derive(Clone, Copy)]
+pub(crate) struct Leading {
+    pub(crate) count: u64,
+    pub(crate) dropped: u128,
+    pub(crate) more: bool,
+}
+
+/// What a digit stands for.
+///
+/// # Proved
+///
+/// ```text
+/// ensures some { IfSome result (λ d. (is_digit true byte ≡ true) × (d ≡ digit_value byte) × (d < 16)) }
+/// ensures none { IfNone result (is_digit true byte ≡ false) }
+/// ```
+fn hex_digit(byte: u8) -> Option<u64> {
+    match byte {
+        b'0'..=b'9' => Some(u64::from(byte - b'0')),
+        b'A'..=b'F' => Some(u64::from(byte - b'A') + 10),
+        b'a'..=b'f' => Some(u64::from(byte - b'a') + 10),
+        _ => None,
+    }
+}
+
+impl Leading {
+    /// No digits.
+    ///
+    /// # Proved
+    ///
+    /// ```text
+    /// ensures value { IsLeading 0 result.count result.dropped result.more }
+    /// ensures dropped { result.dropped ≡ 0 }
+    /// ```
+    pub(crate) fn none() -> Leading {
+        Leading {
+            count: 0,
+            dropped: 0,
+            more: false,
+        }
+    }
+
+    /// The same with a digit after them.
+    ///
+    /// # Proved
+    ///
+    /// ```text
+    /// requires digit { digit < 16 }
+    /// requires room { self.dropped < 2 ^ 100 }
+    /// ensures value { (n : ℕ) → IsLeading n self.count self.dropped self.more
+    ///     → IsLeading (n * 16 + digit) result.count result.dropped result.more }
+    /// ensures dropped { result.dropped ≤ self.dropped + 1 }
+    /// ```
+    fn with_digit(self, digit: u64) -> Leading {
+        if self.count < 1 << 60 {
+            Leading {
+                count: self.count * 16 + digit,
+                dropped: self.dropped,
+                more: self.more,
+            }
+        } else {
+            Leading {
+                count: self.count,
+                dropped: self.dropped + 1,
+                more: self.more || digit != 0,
+            }
+        }
+    }
+}
+
+/// The digits that a text begins with, after those read so far, and the rest of the text.
+///
+/// # Proved
+///
+/// ```text
+/// requires room { leading.dropped ≤ 2 ^ 70 }
+/// ensures value { (n : ℕ) → IsLeading n leading.count leading.dropped leading.more
+///     → IsLeading (digits_value_after 16 n (digits true text.now)) result.0.count result.0.dropped result.0.more }
+/// ensures dropped { result.0.dropped ≤ leading.dropped + length text.now }
+/// ensures rest { result.1.now ≡ after_digits true text.now }
+/// ```
+pub(crate) fn with_digits<'t>(leading: Leading, text: &'t [u8]) -> (Leading, &'t [u8]) {
+    let mut leading = leading;
+    for i in 0..text.len() {
+        match hex_digit(text[i]) {
+            Some(digit) => {
+                leading = leading.with_digit(digit);
+            }
+            None => return (leading, &text[i..]),
+        }
+    }
+    (leading, &text[text.len()..])
+}
+
+/// The same with the digits after a dot, how many these are, and the rest.
+///
+/// # Proved
+///
+/// ```text
+/// requires room { leading.dropped ≤ 2 ^ 70 }
+/// ensures value { (n : ℕ) → IsLeading n leading.count leading.dropped leading.more
+///     → IsLeading (digits_value_after 16 n (fraction true text.now)) result.0.count result.0.dropped result.0.more }
+/// ensures dropped { result.0.dropped ≤ leading.dropped + length text.now }
+/// ensures places { result.1 ≡ length (fraction true text.now) }
+/// ensures rest { result.2.now ≡ after_fraction true text.now }
+/// ```
+fn with_fraction<'t>(leading: Leading, text: &'t [u8]) -> (Leading, usize, &'t [u8]) {
+    match text {
+        [b'.', after @ ..] => {
+            let (leading, rest) = with_digits(leading, after);
+            (leading, after.len() - rest.len(), rest)
+        }
+        _ => (leading, 0, text),
+    }
+}
+
+/// The bits of the number nearest to a hexadecimal one, from the text after its `0x`.
+///
+/// # Proved
+///
+/// ```text
+/// ensures { result ≡ nearest (format precision) true text.now }
+/// ```
+pub(crate) fn hexadecimal(precision: Precision, text: &[u8]) -> u64 {
+    let (whole, rest) = with_digits(Leading::none(), text);
+    let (leading, places, rest) = with_fraction(whole, rest);
+    if leading.count == 0 {
+        return 0;
+    }
+    scaled(precision, leading, places, Power::read(rest))
+}
+
+/// The bits of the number nearest to digits, so many of which are after the dot, times a power.
+///
+/// # Proved
+///
+/// ```text
+/// requires count { (0 < leading.count) × (0 < leading.dropped → 2 ^ 60 ≤ leading.count) }
+/// requires room { leading.dropped ≤ 2 ^ 80 }
+/// requires power { (power.raised < 2 ^ 110) × (power.lowered < 2 ^ 110) }
+/// ensures { (n r l : ℕ) → IsLeading n leading.count leading.dropped leading.more → IsCapped r power.raised → IsCapped l power.lowered
+///     → ((r ≡ 0) ⊎ (l ≡ 0)) → IsNearestBits (format precision) (n * 2 ^ r) (16 ^ places * 2 ^ l) result }
+/// ```
+fn scaled(precision: Precision, leading: Leading, places: usize, power: Power) -> u64 {
+    let places = places as u128 * 4 + power.lowered;
+    if leading.dropped > 0 {
+        return rounded(
+            precision,
+            leading.count,
+            leading.more,
+            leading.dropped * 4 + power.raised,
+            places,
+        );
+    }
+    let shift = leading.count.leading_zeros();
+    rounded(
+        precision,
+        leading.count << shift,
+        false,
+        power.raised,
+        u128::from(shift) + places,
+    )
+}
