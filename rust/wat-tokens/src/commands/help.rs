@@ -38,7 +38,7 @@ commands, `list` where none is named:
   play CALL..  the replies of a parser to calls, a line each
   blank        the text with spaces over its comments
   types        the bytes of the module, where it holds nothing but function types
-  module       the bytes of the module, where it holds what `compile` takes
+  module       the bytes of the module, of the fields that are compiled as yet
   fmt          the text laid out; with `--check` after it the names of the files that are not,
                with `--diff` the lines that differ, with `--write` nothing: these files are
                rewritten; a folder is the `.wat` and `.wast` files below it

@@ -282,10 +282,10 @@ fn print_module<W: Sink>(
     output: &mut W,
 ) -> Result<Option<Error>, RunFailure> {
     match compile(alloc, text) {
-        Ok(module) => print_text(&module, None, output),
-        Err(error) => match error.alloc_error() {
+        Ok(bytes) => print_text(&bytes, None, output),
+        Err(refusal) => match refusal.alloc_error() {
             Some(refused) => Err(RunFailure::from(refused)),
-            None => print_text(b"", Some(error), output),
+            None => print_text(b"", Some(refusal), output),
         },
     }
 }
