@@ -124,6 +124,8 @@ fn message(kind: FaultKind) -> &'static str
         FaultKind::NotUtf8 => "name is not UTF-8",
         FaultKind::Duplicate => "duplicate identifier",
         FaultKind::SecondStart => "more than one start function",
+        FaultKind::OtherType => "mismatching type",
+        FaultKind::LateImport => "import after a definition",
     }
 }
 
