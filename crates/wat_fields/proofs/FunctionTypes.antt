@@ -4,6 +4,7 @@ use Rattle.std.specs.Prelude.{◌==◌, ◌&&◌, if◌then◌else◌, slice_get
 use Rattle.std.proofs.lemmas.Bool.Decides.{Decides-eqb}
 use Rattle.wat_instructions.specs.declared.pieces.ValueType.{ValueType}
 use Rattle.wat_instructions.specs.declared.pieces.ValueType.TheVariants as value
+use Rattle.std.specs.List.{flat_map}
 use Rattle.wat_fields.specs.Binary.{has_type, same_type, same_values, type_byte, type_index, types_after, types_of, use_of, used_type, with_type}
 use Rattle.wat_fields.specs.Fields.{FunctionType, TypeUse, definition_type, definitions_of}
 use Rattle.wat_fields.specs.Law.{TypesAreThere}

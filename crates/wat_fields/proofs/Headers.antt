@@ -61,7 +61,7 @@ ends_body v k context _ _ _ us r e (grammar.by_folded_block {w = w} {o = o} {ts 
 ends_body v k context _ _ _ us r e (grammar.by_folded_if {w = w} {o = o} {ts = ts} s i n inner q g more) = not_found v w ts (bytes_eq w v) refl (structured_differs v k w o s (bytes_eq w v) refl)
 ends_body v k context _ _ _ us r e (grammar.by_folded_if_else {w = w} {o = o} {ts = ts} s i n inner q g f m more) = not_found v w ts (bytes_eq w v) refl (structured_differs v k w o s (bytes_eq w v) refl)
 
-other_word : (v word w : List ℕ) (ts : List Terminal) → bytes_eq word v ≡ false → w ≡ word → (if bytes_eq w v then Some ts else None) ≡ None
+pub other_word : (v word w : List ℕ) (ts : List Terminal) → bytes_eq word v ≡ false → w ≡ word → (if bytes_eq w v then Some ts else None) ≡ None
 other_word v word w ts d e = ap (λ x. if bytes_eq x v then Some ts else None) e ∙ ap (λ (b : Bool). if b then Some ts else None) d
 
 -- groups of another word
@@ -70,7 +70,7 @@ ends_groups v word may d _ _ us by_none h = h
 ends_groups v word may d _ _ us (by_more (by_named {ts = ts} {v = w} {x = x} {w = t} m e type) rest) h = other_word v word w (Id x ∷ Word t ∷ Close ∷ ts) d e
 ends_groups v word may d _ _ us (by_more (by_listed {ts = ts} {v = w} e m) rest) h = other_word v word w ts d e
 
-item_ends : {V : Type 0} (rest : List Terminal → Read (List V)) (v : List ℕ) (ts : List Terminal) → Ends v ts → begun rest (after v ts) ≡ None
+pub item_ends : {V : Type 0} (rest : List Terminal → Read (List V)) (v : List ℕ) (ts : List Terminal) → Ends v ts → begun rest (after v ts) ≡ None
 item_ends {V} rest v ts e = ap (λ o. begun rest o) e
 
 -- Type uses.
