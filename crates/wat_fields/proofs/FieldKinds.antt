@@ -8,18 +8,15 @@ use Rattle.wat_instructions.specs.Grammar.{Context, Body, index, label_of}
 use Rattle.wat_instructions.specs.Law.{InstructionsAreBalanced, InstructionsTakeTokens, MachineIsGrammar, past}
 use Rattle.wat_instructions.specs.Machine as machine
 use Rattle.wat_instructions.specs.Terminals.{Terminal, Open, Close, Word, Id, Integer, Text, Other, Label}
-use Rattle.wat_fields.specs.declared.fields.GlobalType.{GlobalType}
 use Rattle.wat_fields.specs.declared.fields.IndexSpace.{IndexSpace}
 use Rattle.wat_fields.specs.declared.fields.IndexSpace.TheVariants as space
-use Rattle.wat_fields.specs.declared.fields.Limits.{Limits}
-use Rattle.wat_fields.specs.declared.fields.ReferenceType.{ReferenceType}
 use Rattle.wat_fields.specs.declared.fields.TableType.{TableType}
 use Rattle.wat_fields.specs.Binary.{same_type}
-use Rattle.wat_fields.specs.Fields.{Many, Group, InlineExport, IndexIs, by_number, by_identifier, LimitsAre, GlobalTypeIs, TypeUseIs, by_lists, by_index, by_both, ExternIs, by_type_use, by_table_type, by_memory_type, by_global_type, Variable, Types, TypeUse, type_use, FunctionType, function_type, ExternType, FuncType, OfTable, OfMemory, OfGlobal, extern_space, Definition, definition, Field, TypeField, Import, Func, Table, Memory, Global, Export, Start, FieldIs, by_type, by_import, by_inline_import, by_func, by_table, by_memory, by_global, by_export, by_start, are_distinct, name_of, names_of, unnamed, with_locals, space_of, reference_type}
-use Rattle.wat_fields.specs.Reading.{Read, and_then, after, all, closed, closing, utf8_text, export, export_item, group_item, group, function, func_at, locals, params, results, instructions, agreed, agreed_lists, lists_after, listed_use, indexed_use, use_by, use_at, limits_at, table_type_at, table_at, memory_at, global_type_at, global_at, defined, import_names, func_type, extern_at, imported, inline_import, item_by, item_at, extern_after, import_by, import_word, import_open, import_at, type_lists, type_by, type_at, type_field, twice_closed, external_by, external_word, external_at, export_at, start_at, other_at, field_by, field, field_item}
+use Rattle.wat_fields.specs.Fields.{Many, Group, InlineExport, IndexIs, by_number, by_identifier, LimitsAre, TypeUseIs, by_lists, by_index, by_both, ExternIs, by_type_use, by_table_type, by_memory_type, by_global_type, Variable, Types, TypeUse, type_use, FunctionType, function_type, ExternType, FuncType, OfTable, OfMemory, OfGlobal, extern_space, Definition, definition, Field, TypeField, Import, Func, Table, Memory, Global, Export, Start, FieldIs, by_type, by_import, by_inline_import, by_func, by_table, by_memory, by_global, by_export, by_start, are_distinct, name_of, names_of, unnamed, with_locals, space_of}
+use Rattle.wat_fields.specs.Reading.{and_then, after, all, closed, closing, utf8_text, export, export_item, group_item, group, function, func_at, locals, instructions, agreed, lists_after, listed_use, indexed_use, use_by, use_at, limits_at, table_type_at, table_at, memory_at, global_type_at, global_at, defined, import_names, func_type, extern_at, imported, inline_import, item_by, item_at, import_by, import_word, import_open, import_at, type_by, type_at, type_field, twice_closed, external_by, external_word, external_at, export_at, start_at, field_by, field, field_item}
 use Rattle.wat_fields.proofs.FunctionTypes.{type_is, type_same}
 use Rattle.wat_fields.proofs.Headers.{Ends, IsNoInstruction, Listed, NoLists, lists_sound, lists_complete, ends_lists, ends_groups, ends_body, item_ends, other_word, export_is_none, import_is_none, type_is_none, param_is_none, result_is_none, local_is_none}
-use Rattle.wat_fields.proofs.Items.{exports_read, export_past, groups_read, group_past, group_takes, word_is, is_word, closing_inv, closed_is, utf8_inv, Finds, Begins, begins, after_is}
+use Rattle.wat_fields.proofs.Items.{exports_read, export_past, groups_read, group_past, group_takes, word_is, closing_inv, closed_is, utf8_inv, Finds, begins, after_is}
 use Rattle.wat_fields.proofs.Manies.{Gives, gives_of, of_gives, and_then_inv, Brings, Reads, all_sound, all_complete, many_takes, many_past}
 use Rattle.wat_fields.proofs.TypeRules.{Passes, IsTableType, limits_sound, limits_complete, limits_pass, limits_no_export, limits_no_import, table_type_sound, table_type_complete, table_type_pass, global_type_sound, global_type_complete, global_type_pass, global_type_no_export, global_type_no_import, index_sound, index_complete, index_pass, twice_closed_is}
 

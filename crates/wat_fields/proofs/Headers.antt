@@ -7,8 +7,8 @@ use Rattle.wat_instructions.specs.Grammar.{Context, Fault, Instructions, plain, 
 use Rattle.wat_instructions.specs.Grammar as grammar
 use Rattle.wat_instructions.specs.Table.{mnemonics, low, high}
 use Rattle.wat_instructions.specs.Terminals.{Terminal, Close, Word, Id, Label}
-use Rattle.wat_fields.specs.Fields.{Many, by_none, by_more, Group, by_named, by_listed, InlineExport, Variable}
-use Rattle.wat_fields.specs.Reading.{Read, and_then, all, after, begun, group, group_item, params, results}
+use Rattle.wat_fields.specs.Fields.{Many, by_none, by_more, Group, by_named, by_listed, Variable}
+use Rattle.wat_fields.specs.Reading.{Read, and_then, after, begun, group, group_item, params, results}
 use Rattle.wat_fields.proofs.Items.{groups_read, word_is}
 use Rattle.wat_fields.proofs.Manies.{Gives, and_then_inv, all_sound, all_complete}
 
@@ -84,12 +84,17 @@ pub lists_sound : {V : Type 0} (next : List Variable → List Variable → List 
     → (ps : List Variable) × (rs : List Variable) × (ds : List Terminal) × Listed ps rs ts ds × Gives (next ps rs ds) v r
 lists_sound {V} next ts v r g =
     let (ps, bs, e1, g1) = and_then_inv (params ts) (λ ps us. and_then (results us) (λ rs vs. next ps rs vs)) v r g in
-    let (rs, ds, e2, g2) = and_then_inv (results bs) (λ rs vs. next ps rs vs) v r g1 in
-    (ps, rs, ds, record {
-      bs = bs;
-      params = (all_sound (group_item (codes "param") true) (Group (codes "param") true) (groups_read (codes "param") true) ps ts bs e1).0;
-      results = (all_sound (group_item (codes "result") false) (Group (codes "result") false) (groups_read (codes "result") false) rs bs ds e2).0;
-    }, g2)
+    let (rs, ds, e2, g2) = and_then_inv (results bs) (λ rs vs. next ps rs vs) v r g1 in (
+      ps,
+      rs,
+      ds,
+      record {
+        bs = bs;
+        params = (all_sound (group_item (codes "param") true) (Group (codes "param") true) (groups_read (codes "param") true) ps ts bs e1).0;
+        results = (all_sound (group_item (codes "result") false) (Group (codes "result") false) (groups_read (codes "result") false) rs bs ds e2).0;
+      },
+      g2,
+    )
 
 -- what comes next is neither a parameter nor a result
 pub record NoLists (ds : List Terminal) : Type 0 where

@@ -1,5 +1,5 @@
 -- What is read of a module is what the grammar spells.
-use Rattle.std.proofs.Common.{◌≡◌, ◌≤◌, ℕ, zero, suc, Bool, true, false, List, [], ◌∷◌, ◌++◌, length, map, Option, Some, None, Result, Ok, Err, refl, sym, ap, subst, ◌∙◌, arith, append_assoc, append-nil}
+use Rattle.std.proofs.Common.{◌≡◌, ◌≤◌, ℕ, zero, suc, Bool, true, false, List, [], ◌∷◌, ◌++◌, length, Some, None, Result, Ok, Err, refl, sym, ap, subst, ◌∙◌, arith, append_assoc, append-nil}
 use Rattle.std.specs.Prelude.{if◌then◌else◌, bytes_eq, codes, nat_lt}
 use Rattle.std.specs.List.{flat_map}
 use Rattle.std.proofs.lemmas.Bool.Decides.{Decides-ltb}
@@ -7,14 +7,14 @@ use Rattle.std.proofs.lemmas.Grind.{flat_map-append}
 use Rattle.wat_instructions.specs.declared.pieces.FaultKind.TheVariants.{UnknownWord, Duplicate, SecondStart, LateImport}
 use Rattle.wat_instructions.specs.Grammar.{Context, Fault, label_of}
 use Rattle.wat_instructions.specs.Law.{past}
-use Rattle.wat_instructions.specs.Terminals.{Terminal, Open, Close, Word, Id, Integer, Text, Other, Label}
+use Rattle.wat_instructions.specs.Terminals.{Terminal, Open, Close, Word, Id, Integer, Text, Other}
 use Rattle.wat_fields.specs.declared.fields.IndexSpace.{IndexSpace}
 use Rattle.wat_fields.specs.declared.fields.IndexSpace.TheVariants as space
 use Rattle.wat_fields.specs.Fields.{Many, by_none, by_more, Types, Field, FieldIs, by_type, by_import, by_inline_import, by_func, by_table, by_memory, by_global, by_export, by_start, Binding, binding, Definition, Module, by_module, all_distinct, context_of, types_in, binding_of, bindings_of, definition_of, definitions_of, imports_first, space_of, starts_of}
 use Rattle.wat_fields.specs.Law.{ReadingIsGrammar}
-use Rattle.wat_fields.specs.Reading.{Read, all, field_item, fields_at, fields_from, fields_of, binding_by, import_binding, binding_at, definition_by, definition_at, type_at, whole, module_word, ended, ordered, starts, Before, Inside}
+use Rattle.wat_fields.specs.Reading.{Read, all, field_item, fields_at, fields_of, binding_by, import_binding, binding_at, definition_by, definition_at, type_at, whole, module_word, ended, ordered, starts, Before, Inside}
 use Rattle.wat_fields.proofs.Items.{word_is, is_word}
-use Rattle.wat_fields.proofs.FieldKinds.{Laws, Closes, After, field_after, fields_read, label_past, extern_space_is, type_complete}
+use Rattle.wat_fields.proofs.FieldKinds.{Laws, Closes, field_after, fields_read, label_past, extern_space_is, type_complete}
 use Rattle.wat_fields.proofs.Manies.{all_sound, all_complete}
 
 -- Where fields begin, by the parentheses alone.

@@ -191,11 +191,7 @@ fn types_of(alloc: Global, fields: &[Field<'_>]) -> Result<Vec<FunctionType>, Al
 }
 
 /// The index of the type that is used.
-fn use_index(
-    alloc: Global,
-    types: &[FunctionType],
-    uses: &TypeUse<'_>,
-) -> Result<usize, AllocError>
+fn use_index(alloc: Global, types: &[FunctionType], uses: &TypeUse<'_>) -> Result<usize, AllocError>
     ensures { IfOk result (λ n. n ≡ binary.index_or (use_of uses.now).index (binary.type_index (binary.used_type (use_of uses.now)) (map type_of types.now))) }
 {
     match uses.index {

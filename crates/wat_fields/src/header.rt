@@ -398,7 +398,10 @@ fn listed<'p, 'a>(
 }
 
 /// Variables without names.
-pub(crate) fn unnamed<'p>(alloc: Global, types: &[ValueType]) -> Result<Vec<Variable<'p>>, AllocError>
+pub(crate) fn unnamed<'p>(
+    alloc: Global,
+    types: &[ValueType],
+) -> Result<Vec<Variable<'p>>, AllocError>
     ensures { IfOk result (λ variables. map variable_of variables.items ≡ map unnamed types.now) }
 {
     let mut variables = Vec::new(alloc);

@@ -145,10 +145,7 @@ fn starts<'p, 'a>(alloc: Global, pieces: &'p [Piece<'a>]) -> Result<Vec<Left<'p,
 }
 
 /// The items that fields bring.
-fn bindings<'p, 'a>(
-    alloc: Global,
-    starts: &[Left<'p, 'a>],
-) -> Result<Vec<Binding<'p>>, AllocError>
+fn bindings<'p, 'a>(alloc: Global, starts: &[Left<'p, 'a>]) -> Result<Vec<Binding<'p>>, AllocError>
     ensures { IfOk result (λ bindings. map binding_of bindings.items ≡ flat_map reading.binding_at (map left_of starts.now)) }
 {
     let mut bindings = Vec::new(alloc);
