@@ -1,7 +1,7 @@
 #!/usr/bin/env python3
 """Compares the bytes of modules with those of `wat2wasm --no-check` (Debian's package wabt), on modules of the slice that `wat_modules` takes:
-functions with parameters, results, local variables, and plain, structured and folded instructions; memories, tables, globals; exports, inline and
-not; a start function; fields in any order; and on texts made from them by one change of a token.
+types; imports and exports, inline and not; functions with type uses, local variables, and plain, structured and folded instructions; memories,
+tables, globals; a start function; fields in any order that has imports first; and on texts made from them by one change of a token.
 
 PROGRAM reads a module from standard input and writes its bytes to standard output; where it refuses the text its status is 1. It is
 rust/wat-modules/examples/module.rs. An `else` with nothing after it is written by PROGRAM and left out by `wat2wasm`: such texts are not made.
@@ -146,7 +146,7 @@ EXPORTED = ['"e{at}"', '"\\41\\n\\t\\""', '"\u00e9\\c3\\a9"', '""', '"\\u{{1f600
 
 def some_names(rng):
     """The names of up to four items of each kind."""
-    return {kind: [rng.choice([None, f"${kind[0]}{at}", f"$a.b-{at}!"]) for at in range(rng.choice([0, 0, 1, 2, 3, 4]))] for kind in KINDS}
+    return {kind: [rng.choice([None, f"${kind[0]}{at}", f"$a.b-{at}!"]) for at in range(rng.choice([0, 0, 1, 2, 3, 4]))] for kind in KINDS + ("type",)}
 
 
 def exported(rng):
@@ -160,22 +160,71 @@ def sizes(rng):
     return [rng.choice([size, hex(int(size)), f"0_{size}"]) for size in some]
 
 
-def function(rng, rows, names):
+def a_type(rng):
+    """The types of parameters and of results."""
+    return tuple(tuple(rng.choice(TYPES[: rng.choice([1, 2, 4])]) for _ in range(rng.randrange(3))) for _ in range(2))
+
+
+def listed(rng, word, types, prefix):
+    """Groups that list these types, and their names."""
+    tokens, names, types = [], [], list(types)
+    while types or rng.random() < 0.2:
+        if types and word == "param" and rng.random() < 0.5:
+            names.append(f"${prefix}{len(names)}")
+            tokens += ["(", word, names[-1], types.pop(0), ")"]
+        else:
+            count = rng.randrange(len(types) + 1)
+            names += [None] * count
+            tokens += ["(", word] + types[:count] + [")"]
+            types = types[count:]
+    return tokens, names
+
+
+def type_use(rng, types, names):
+    """A type use, and the names of its parameters."""
+    if not types or rng.random() < 0.5:
+        params, results = a_type(rng)
+        index = []
+    else:
+        at = rng.randrange(len(types))
+        params, results = types[at]
+        index = ["(", "type", rng.choice([names["type"][at] or str(at), hex(at)]), ")"]
+        if rng.random() < 0.5:
+            return index, [None] * len(params)
+    tokens, given = listed(rng, "param", params, "p")
+    return index + tokens + listed(rng, "result", results, "r")[0], given
+
+
+def function(rng, rows, names, types):
     """What comes after the name and the exports of a function."""
-    params, first = variables(rng, "param", "p")
-    results, _ = variables(rng, "result", "r")
+    use, first = type_use(rng, types, names)
     local, last = variables(rng, "local", "v")
-    return params + results + local + Body(rng, rows, names, first + last).many(3)
+    return use + local + Body(rng, rows, names, first + last).many(3)
 
 
-def content(rng, rows, names, kind):
-    """The same of an item of a kind."""
-    if kind == "func":
-        return function(rng, rows, names)
+def kind_of(rng, kind):
+    """The type of a table, a memory or a global."""
     if kind == "global":
         of = rng.choice(TYPES)
-        return rng.choice([[of], ["(", "mut", of, ")"]]) + Body(rng, rows, names, []).many(1)
+        return rng.choice([[of], ["(", "mut", of, ")"]])
     return sizes(rng) + ([rng.choice(["funcref", "externref"])] if kind == "table" else [])
+
+
+def content(rng, rows, names, types, kind):
+    """The same of an item of a kind."""
+    if kind == "func":
+        return function(rng, rows, names, types)
+    return kind_of(rng, kind) + (Body(rng, rows, names, []).many(1) if kind == "global" else [])
+
+
+def an_import(rng, names, types, kind, name):
+    """An import, inline or not."""
+    both = [rng.choice(EXPORTED).format(at=at) for at in range(2)]
+    named = [name] if name else []
+    what = type_use(rng, types, names)[0] if kind == "func" else kind_of(rng, kind)
+    if rng.random() < 0.5:
+        return ["(", "import"] + both + ["(", kind] + named + what + [")", ")"]
+    return ["(", kind] + named + exported(rng) + ["(", "import"] + both + [")"] + what + [")"]
 
 
 def other_fields(rng, names):
@@ -202,8 +251,15 @@ def merged(rng, lists):
 
 def module(rng, rows, names):
     """The tokens of a module of items with these names."""
-    lists = [[["(", kind] + ([name] if name else []) + exported(rng) + content(rng, rows, names, kind) + [")"] for name in names[kind]] for kind in KINDS]
-    fields = merged(rng, lists + [[field] for field in other_fields(rng, names)])
+    types = [a_type(rng) for _ in names["type"]]
+    lists, imports = [], []
+    for kind in KINDS:
+        many = rng.choice([0, 0, 1, 2]) if types else 0
+        imports += [[an_import(rng, names, types, kind, name) for name in names[kind][:many]]]
+        lists += [[["(", kind] + ([name] if name else []) + exported(rng) + content(rng, rows, names, types, kind) + [")"] for name in names[kind][many:]]]
+    defined = [["(", "type"] + ([name] if name else []) + ["(", "func"] + listed(rng, "param", of[0], "p")[0] + listed(rng, "result", of[1], "r")[0] + [")", ")"] for name, of in zip(names["type"], types)]
+    first = merged(rng, imports)
+    fields = merged(rng, [first + merged(rng, lists), defined] + [[field] for field in other_fields(rng, names)])
     return ["(", "module"] + rng.choice([[], ["$m"]]) + [token for field in fields for token in field] + [")"]
 
 
@@ -330,6 +386,13 @@ def has_reference(tokens):
     return any({"funcref", "externref"} & set(tokens[at : after_group(tokens, at)]) for at in range(len(tokens)) if tokens[at] == "(" and tokens[at + 1 : at + 2] in GROUPS)
 
 
+def has_brought_type(tokens):
+    """Whether a type use says a number that no field `type` has."""
+    fields = sum(tokens[at : at + 2] == ["(", "type"] and tokens[at + 2 : at + 4] == ["(", "func"] or tokens[at + 3 : at + 5] == ["(", "func"] and tokens[at : at + 2] == ["(", "type"] for at in range(len(tokens)))
+    uses = [tokens[at + 2] for at in range(len(tokens) - 3) if tokens[at : at + 2] == ["(", "type"] and tokens[at + 3] == ")"]
+    return any(re.fullmatch(r"0x[0-9a-fA-F_]+|[0-9_]+", use) and int(use.replace("_", ""), 16 if use.startswith("0x") else 10) >= fields for use in uses)
+
+
 # What `wat2wasm` takes and PROGRAM refuses: its message, and what such a text has.
 DEPARTURES = {
     "of an `if` without `then` or `else`, which wat2wasm takes": ("unexpected token", has_bare_part),
@@ -337,6 +400,7 @@ DEPARTURES = {
     "of a block with parameters, not read as yet": ("unknown keyword", has_parameters),
     "of a `select` with a type, not read as yet": ("unknown keyword", has_typed_select),
     "of a variable of a reference type, not read as yet": ("unknown keyword", has_reference),
+    "of a type use by the number of a type that a use brings, left out": ("unknown identifier", has_brought_type),
     "of a table of numbers, which wat2wasm takes": ("unknown keyword", has_number_table),
     "of limits with a type, which wat2wasm takes": ("unexpected token", has_index_type),
 }
@@ -384,7 +448,7 @@ def main():
     with open(TABLE, encoding="utf-8") as it:
         rows = ROW.findall(it.read())
     if given.write:
-        names = {**{kind: [] for kind in KINDS}, "func": [f"$f{at}" if given.named else None for at in range(given.write)]}
+        names = {**{kind: [] for kind in KINDS + ("type",)}, "func": [f"$f{at}" if given.named else None for at in range(given.write)]}
         print(" ".join(module(rng, rows, names)).replace(" ( func", "\n( func"))
         return
     texts = []

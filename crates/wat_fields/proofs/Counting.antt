@@ -3,13 +3,14 @@ use Rattle.std.proofs.Common.{◌≡◌, ◌∙◌, ℕ, suc, List, [], ◌∷�
 use Rattle.std.specs.Prelude.{if◌then◌else◌}
 use Rattle.std.proofs.lemmas.Grind.{flat_map-append}
 use Rattle.std.proofs.lemmas.List.{drop_all}
+use Rattle.wat_instructions.specs.Terminals.{Label}
 use Rattle.wat_fields.specs.declared.fields.IndexSpace.{IndexSpace}
 use Rattle.wat_fields.specs.declared.fields.IndexSpace.TheVariants as space
-use Rattle.wat_fields.specs.Binary.{Export, exports_after, exports_of, field_exports, next_index}
+use Rattle.wat_fields.specs.Binary.{Export, export, exports_after, exports_of, field_exports, next_index}
 use Rattle.wat_fields.specs.Fields.{Field, Func, Table, Memory, Global, Start, Binding, binding_of, bindings_of, is_space, names_in}
 use Rattle.wat_fields.specs.Fields as field
 use Rattle.wat_fields.specs.declared.fields.Field as declared
-use Rattle.wat_fields.specs.Views.{Counts, counted, counts_after, exports_by, exports_from, field_of}
+use Rattle.wat_fields.specs.Views.{Counts, count, counted, more, counts_after, exports_by, exports_from, field_of}
 
 abbrev pub none : Counts
 none = record { funcs = 0; tables = 0; memories = 0; globals = 0 }
@@ -45,25 +46,38 @@ counts a b c d = record { funcs = a; tables = b; memories = c; globals = d }
 counts_by : (a b c d w x y z : ℕ) → a ≡ w → b ≡ x → c ≡ y → d ≡ z → counts a b c d ≡ counts w x y z
 counts_by a b c d w x y z e f g h = ap (λ k. counts k b c d) e ∙ ap (λ k. counts w k c d) f ∙ ap (λ k. counts w x k d) g ∙ ap (λ k. counts w x y k) h
 
-by_head : (fs : List Field) (f : Field) (h : Binding) → bindings_of (f ∷ []) ≡ h ∷ [] → counts_after (fs ++ f ∷ []) ≡ counts (if is_space space.Func h.space then suc (next_index space.Func fs) else next_index space.Func fs) (if is_space space.Table h.space then suc (next_index space.Table fs) else next_index space.Table fs) (if is_space space.Mem h.space then suc (next_index space.Mem fs) else next_index space.Mem fs) (if is_space space.Global h.space then suc (next_index space.Global fs) else next_index space.Global fs)
-by_head fs f h e = counts_by _ _ _ _ _ _ _ _ (one_more space.Func fs f h e) (one_more space.Table fs f h e) (one_more space.Mem fs f h e) (one_more space.Global fs f h e)
+by_binding : (fs : List Field) (f : Field) (s : IndexSpace) (l : Label) → bindings_of (f ∷ []) ≡ field.binding s l ∷ [] → counts_after (fs ++ f ∷ []) ≡ more s (counts_after fs)
+by_binding fs f space.Func l e = counts_by _ _ _ _ _ _ _ _ (one_more space.Func fs f (field.binding space.Func l) e) (one_more space.Table fs f (field.binding space.Func l) e) (one_more space.Mem fs f (field.binding space.Func l) e) (one_more space.Global fs f (field.binding space.Func l) e)
+by_binding fs f space.Table l e = counts_by _ _ _ _ _ _ _ _ (one_more space.Func fs f (field.binding space.Table l) e) (one_more space.Table fs f (field.binding space.Table l) e) (one_more space.Mem fs f (field.binding space.Table l) e) (one_more space.Global fs f (field.binding space.Table l) e)
+by_binding fs f space.Mem l e = counts_by _ _ _ _ _ _ _ _ (one_more space.Func fs f (field.binding space.Mem l) e) (one_more space.Table fs f (field.binding space.Mem l) e) (one_more space.Mem fs f (field.binding space.Mem l) e) (one_more space.Global fs f (field.binding space.Mem l) e)
+by_binding fs f space.Global l e = counts_by _ _ _ _ _ _ _ _ (one_more space.Func fs f (field.binding space.Global l) e) (one_more space.Table fs f (field.binding space.Global l) e) (one_more space.Mem fs f (field.binding space.Global l) e) (one_more space.Global fs f (field.binding space.Global l) e)
 
-by_none : (fs : List Field) (f : Field) → bindings_of (f ∷ []) ≡ [] → counts_after (fs ++ f ∷ []) ≡ counts_after fs
-by_none fs f e = counts_by _ _ _ _ _ _ _ _ (no_more space.Func fs f e) (no_more space.Table fs f e) (no_more space.Mem fs f e) (no_more space.Global fs f e)
+by_nothing : (fs : List Field) (f : Field) → bindings_of (f ∷ []) ≡ [] → counts_after (fs ++ f ∷ []) ≡ counts_after fs
+by_nothing fs f e = counts_by _ _ _ _ _ _ _ _ (no_more space.Func fs f e) (no_more space.Table fs f e) (no_more space.Mem fs f e) (no_more space.Global fs f e)
 
 counts_more : (fs : List Field) (f : Field) → counts_after (fs ++ f ∷ []) ≡ counted f (counts_after fs)
-counts_more fs (Func f) = by_head fs (Func f) (field.binding space.Func f.name) refl
-counts_more fs (Table l ns t) = by_head fs (Table l ns t) (field.binding space.Table l) refl
-counts_more fs (Memory l ns t) = by_head fs (Memory l ns t) (field.binding space.Mem l) refl
-counts_more fs (Global l ns t is) = by_head fs (Global l ns t is) (field.binding space.Global l) refl
-counts_more fs (field.Export n s i) = by_none fs (field.Export n s i) refl
-counts_more fs (Start i) = by_none fs (Start i) refl
+counts_more fs (Func f) = by_binding fs (Func f) space.Func f.name refl
+counts_more fs (Table l ns t) = by_binding fs (Table l ns t) space.Table l refl
+counts_more fs (Memory l ns t) = by_binding fs (Memory l ns t) space.Mem l refl
+counts_more fs (Global l ns t is) = by_binding fs (Global l ns t is) space.Global l refl
+counts_more fs (field.Import m n l ns t) = by_binding fs (field.Import m n l ns t) (field.extern_space t) l refl
+counts_more fs (field.TypeField l t) = by_nothing fs (field.TypeField l t) refl
+counts_more fs (field.Export n s i) = by_nothing fs (field.Export n s i) refl
+counts_more fs (Start i) = by_nothing fs (Start i) refl
+
+count_is : (s : IndexSpace) (fs : List Field) → next_index s fs ≡ count s (counts_after fs)
+count_is space.Func fs = refl
+count_is space.Table fs = refl
+count_is space.Mem fs = refl
+count_is space.Global fs = refl
 
 same_exports : (before : List Field) (f : Field) → field_exports before f ≡ exports_by (counts_after before) f
 same_exports before (Func f) = refl
 same_exports before (Table l ns t) = refl
 same_exports before (Memory l ns t) = refl
 same_exports before (Global l ns t is) = refl
+same_exports before (field.Import m n l ns t) = ap (λ k. map (export (field.extern_space t) k) ns) (count_is (field.extern_space t) before)
+same_exports before (field.TypeField l t) = refl
 same_exports before (field.Export n s i) = refl
 same_exports before (Start i) = refl
 

@@ -1,11 +1,12 @@
 -- Function types that are the same are equal, and each is among those of its module.
-use Rattle.std.proofs.Common.{◌≡◌, ◌<◌, ◌∙◌, ℕ, zero, suc, Bool, true, false, List, [], ◌∷◌, ◌++◌, length, Some, refl, sym, ap, subst, arith}
+use Rattle.std.proofs.Common.{◌≡◌, ◌<◌, ◌∙◌, ℕ, zero, suc, Bool, true, false, List, [], ◌∷◌, ◌++◌, length, map, Some, refl, sym, ap, subst, arith}
 use Rattle.std.specs.Prelude.{◌==◌, ◌&&◌, if◌then◌else◌, slice_get, slice_index_or}
 use Rattle.std.proofs.lemmas.Bool.Decides.{Decides-eqb}
 use Rattle.wat_instructions.specs.declared.pieces.ValueType.{ValueType}
 use Rattle.wat_instructions.specs.declared.pieces.ValueType.TheVariants as value
-use Rattle.wat_fields.specs.Binary.{FunctionType, function_type, has_type, same_type, same_values, type_byte, type_index, types_after, types_of, with_type}
-use Rattle.wat_fields.specs.Fields.{Function}
+use Rattle.std.specs.List.{flat_map}
+use Rattle.wat_fields.specs.Binary.{has_type, same_type, same_values, type_byte, type_index, types_after, types_of, use_of, used_type, with_type}
+use Rattle.wat_fields.specs.Fields.{FunctionType, TypeUse, definition_type, definitions_of}
 use Rattle.wat_fields.specs.Law.{TypesAreThere}
 
 both : (a b : Bool) → a && b ≡ true → (a ≡ true) × (b ≡ true)
@@ -60,11 +61,11 @@ values_same (t ∷ ts) = ap (λ b. b && same_values ts ts) ((Decides-eqb (type_b
 abbrev a_type : List ValueType → List ValueType → FunctionType
 a_type ps rs = record { params = ps; results = rs }
 
-type_is : (t u : FunctionType) → same_type t u ≡ true → t ≡ u
+pub type_is : (t u : FunctionType) → same_type t u ≡ true → t ≡ u
 type_is t u e =
     let (a, b) = both (same_values t.params u.params) (same_values t.results u.results) e in ap (λ x. a_type x t.results) (values_are t.params u.params a) ∙ ap (λ x. a_type u.params x) (values_are t.results u.results b)
 
-type_same : (t : FunctionType) → same_type t t ≡ true
+pub type_same : (t : FunctionType) → same_type t t ≡ true
 type_same t = ap (λ b. b && same_values t.results t.results) (values_same t.params) ∙ values_same t.results
 
 -- a type that is among these is where its index says
@@ -107,15 +108,15 @@ kept t u us h = by (has_type u us)
     by true = h
     by false = still t us (u ∷ []) h
 
-kept_after : (t : FunctionType) (us : List FunctionType) (fs : List Function) → has_type t us ≡ true → has_type t (types_after us fs) ≡ true
-kept_after t us [] h = h
-kept_after t us (f ∷ fs) h = kept_after t (with_type us (function_type f)) fs (kept t (function_type f) us h)
+kept_after : (t : FunctionType) (ts : List FunctionType) (us : List TypeUse) → has_type t ts ≡ true → has_type t (types_after ts us) ≡ true
+kept_after t ts [] h = h
+kept_after t ts (u ∷ us) h = kept_after t (with_type ts (used_type u)) us (kept t (used_type u) ts h)
 
-each : (us : List FunctionType) (fs : List Function) (f : Function) (k : ℕ) → k < length fs → slice_index_or fs k f ≡ f → has_type (function_type f) (types_after us fs) ≡ true
-each us [] f k l e = absurd (omega (arith, l))
-each us (g ∷ fs) f zero l e = kept_after (function_type f) (with_type us (function_type g)) fs (subst (λ x. has_type (function_type f) (with_type us (function_type x)) ≡ true) (sym e) (brought (function_type f) us))
-each us (g ∷ fs) f (suc k) l e = each (with_type us (function_type g)) fs f k (omega (arith, l)) e
+each : (ts : List FunctionType) (us : List TypeUse) (u : TypeUse) (k : ℕ) → k < length us → slice_index_or us k u ≡ u → has_type (used_type u) (types_after ts us) ≡ true
+each ts [] u k l e = absurd (omega (arith, l))
+each ts (v ∷ us) u zero l e = kept_after (used_type u) (with_type ts (used_type v)) us (subst (λ x. has_type (used_type u) (with_type ts (used_type x)) ≡ true) (sym e) (brought (used_type u) ts))
+each ts (v ∷ us) u (suc k) l e = each (with_type ts (used_type v)) us u k (omega (arith, l)) e
 
 pub types_are_there : TypesAreThere
 unfolding types_of
-types_are_there fs f (k, l, e) = there (function_type f) (types_after [] fs) (each [] fs f k l e)
+types_are_there fs u (k, l, e) = there (used_type u) (types_of fs) (each (map definition_type (definitions_of fs)) (flat_map use_of fs) u k l e)

@@ -7,10 +7,10 @@ use Rattle.wat_instructions.specs.Grammar.{Context, Fault, Instructions, plain, 
 use Rattle.wat_instructions.specs.Grammar as grammar
 use Rattle.wat_instructions.specs.Table.{mnemonics, low, high}
 use Rattle.wat_instructions.specs.Terminals.{Terminal, Close, Word, Id, Label}
-use Rattle.wat_fields.specs.Fields.{Many, by_none, by_more, Group, by_named, by_listed, InlineExport, Variable}
-use Rattle.wat_fields.specs.Reading.{Read, Header, and_then, all, after, begun, export, export_item, group, group_item, header, params, results, locals}
-use Rattle.wat_fields.proofs.Items.{exports_read, groups_read, word_is}
-use Rattle.wat_fields.proofs.Manies.{gives_of, and_then_inv, all_sound, all_complete}
+use Rattle.wat_fields.specs.Fields.{Many, by_none, by_more, Group, by_named, by_listed, Variable}
+use Rattle.wat_fields.specs.Reading.{Read, and_then, after, begun, group, group_item, params, results}
+use Rattle.wat_fields.proofs.Items.{groups_read, word_is}
+use Rattle.wat_fields.proofs.Manies.{Gives, and_then_inv, all_sound, all_complete}
 
 -- no group of this word begins here
 abbrev pub Ends : List ℕ → List Terminal → Type 0
@@ -61,7 +61,7 @@ ends_body v k context _ _ _ us r e (grammar.by_folded_block {w = w} {o = o} {ts 
 ends_body v k context _ _ _ us r e (grammar.by_folded_if {w = w} {o = o} {ts = ts} s i n inner q g more) = not_found v w ts (bytes_eq w v) refl (structured_differs v k w o s (bytes_eq w v) refl)
 ends_body v k context _ _ _ us r e (grammar.by_folded_if_else {w = w} {o = o} {ts = ts} s i n inner q g f m more) = not_found v w ts (bytes_eq w v) refl (structured_differs v k w o s (bytes_eq w v) refl)
 
-other_word : (v word w : List ℕ) (ts : List Terminal) → bytes_eq word v ≡ false → w ≡ word → (if bytes_eq w v then Some ts else None) ≡ None
+pub other_word : (v word w : List ℕ) (ts : List Terminal) → bytes_eq word v ≡ false → w ≡ word → (if bytes_eq w v then Some ts else None) ≡ None
 other_word v word w ts d e = ap (λ x. if bytes_eq x v then Some ts else None) e ∙ ap (λ (b : Bool). if b then Some ts else None) d
 
 -- groups of another word
@@ -70,54 +70,53 @@ ends_groups v word may d _ _ us by_none h = h
 ends_groups v word may d _ _ us (by_more (by_named {ts = ts} {v = w} {x = x} {w = t} m e type) rest) h = other_word v word w (Id x ∷ Word t ∷ Close ∷ ts) d e
 ends_groups v word may d _ _ us (by_more (by_listed {ts = ts} {v = w} e m) rest) h = other_word v word w ts d e
 
-item_ends : {V : Type 0} (rest : List Terminal → Read (List V)) (v : List ℕ) (ts : List Terminal) → Ends v ts → begun rest (after v ts) ≡ None
+pub item_ends : {V : Type 0} (rest : List Terminal → Read (List V)) (v : List ℕ) (ts : List Terminal) → Ends v ts → begun rest (after v ts) ≡ None
 item_ends {V} rest v ts e = ap (λ o. begun rest o) e
 
-pub record Headed (h : Header) (ts ds : List Terminal) : Type 0 where
-  pub hs : List Terminal
+-- Type uses.
+
+pub record Listed (ps rs : List Variable) (ts ds : List Terminal) : Type 0 where
   pub bs : List Terminal
-  pub cs : List Terminal
-  pub exports : Many InlineExport ts h.exports hs
-  pub params : Many (Group (codes "param") true) hs h.params bs
-  pub results : Many (Group (codes "result") false) bs h.results cs
-  pub locals : Many (Group (codes "local") true) cs h.locals ds
+  pub params : Many (Group (codes "param") true) ts ps bs
+  pub results : Many (Group (codes "result") false) bs rs ds
 
-pub header_sound : (h : Header) (ts ds : List Terminal) → header ts ≡ Ok (h, ds) → Headed h ts ds
-unfolding header
-header_sound h ts ds e =
-    let (ns, hs, e1, r1) = and_then_inv (all export_item ts) (λ ns hs. and_then (params hs) (λ ps bs. and_then (results bs) (λ rs cs. and_then (locals cs) (λ ls ds. Ok (record { exports = ns; params = ps; results = rs; locals = ls }, ds))))) h ds (gives_of _ h ds e) in
-    let (ps, bs, e2, r2) = and_then_inv (params hs) (λ ps bs. and_then (results bs) (λ rs cs. and_then (locals cs) (λ ls ds. Ok (record { exports = ns; params = ps; results = rs; locals = ls }, ds)))) h ds r1 in
-    let (rs, cs, e3, r3) = and_then_inv (results bs) (λ rs cs. and_then (locals cs) (λ ls ds. Ok (record { exports = ns; params = ps; results = rs; locals = ls }, ds))) h ds r2 in
-    let (ls, xs, e4, r4) = and_then_inv (locals cs) (λ ls ds. Ok (record { exports = ns; params = ps; results = rs; locals = ls }, ds)) h ds r3 in
-    subst (λ x. Headed h ts x) r4.1
-    (subst (λ y. Headed y ts xs) r4.0 (record {
-      hs = hs;
-      bs = bs;
-      cs = cs;
-      exports = (all_sound export_item InlineExport exports_read ns ts hs e1).0;
-      params = (all_sound (group_item (codes "param") true) (Group (codes "param") true) (groups_read (codes "param") true) ps hs bs e2).0;
-      results = (all_sound (group_item (codes "result") false) (Group (codes "result") false) (groups_read (codes "result") false) rs bs cs e3).0;
-      locals = (all_sound (group_item (codes "local") true) (Group (codes "local") true) (groups_read (codes "local") true) ls cs xs e4).0;
-    }))
+pub lists_sound : {V : Type 0} (next : List Variable → List Variable → List Terminal → Read V) (ts : List Terminal) (v : V) (r : List Terminal) → Gives (and_then (params ts) (λ ps us. and_then (results us) (λ rs vs. next ps rs vs))) v r
+    → (ps : List Variable) × (rs : List Variable) × (ds : List Terminal) × Listed ps rs ts ds × Gives (next ps rs ds) v r
+lists_sound {V} next ts v r g =
+    let (ps, bs, e1, g1) = and_then_inv (params ts) (λ ps us. and_then (results us) (λ rs vs. next ps rs vs)) v r g in
+    let (rs, ds, e2, g2) = and_then_inv (results bs) (λ rs vs. next ps rs vs) v r g1 in (
+      ps,
+      rs,
+      ds,
+      record {
+        bs = bs;
+        params = (all_sound (group_item (codes "param") true) (Group (codes "param") true) (groups_read (codes "param") true) ps ts bs e1).0;
+        results = (all_sound (group_item (codes "result") false) (Group (codes "result") false) (groups_read (codes "result") false) rs bs ds e2).0;
+      },
+      g2,
+    )
 
--- and then comes neither an export, nor a parameter, a result or a local variable
-pub record NoHeader (ds : List Terminal) : Type 0 where
-  pub no_export : Ends (codes "export") ds
+-- what comes next is neither a parameter nor a result
+pub record NoLists (ds : List Terminal) : Type 0 where
   pub no_param : Ends (codes "param") ds
   pub no_result : Ends (codes "result") ds
-  pub no_local : Ends (codes "local") ds
 
-pub header_complete : (h : Header) (ts ds : List Terminal) → Headed h ts ds → NoHeader ds → header ts ≡ Ok (h, ds)
-unfolding header export_item group_item
-header_complete h ts ds k n =
-    let local_groups = all_complete (group_item (codes "local") true) (Group (codes "local") true) (groups_read (codes "local") true) h.locals k.cs ds k.locals (item_ends (group true) (codes "local") ds n.no_local) in
-    let no_result = ends_groups (codes "result") (codes "local") true refl k.cs h.locals ds k.locals n.no_result in
-    let result_groups = all_complete (group_item (codes "result") false) (Group (codes "result") false) (groups_read (codes "result") false) h.results k.bs k.cs k.results (item_ends (group false) (codes "result") k.cs no_result) in
-    let no_param = ends_groups (codes "param") (codes "result") false refl k.bs h.results k.cs k.results (ends_groups (codes "param") (codes "local") true refl k.cs h.locals ds k.locals n.no_param) in
-    let param_groups = all_complete (group_item (codes "param") true) (Group (codes "param") true) (groups_read (codes "param") true) h.params k.hs k.bs k.params (item_ends (group true) (codes "param") k.bs no_param) in
-    let no_export = ends_groups (codes "export") (codes "param") true refl k.hs h.params k.bs k.params (ends_groups (codes "export") (codes "result") false refl k.bs h.results k.cs k.results (ends_groups (codes "export") (codes "local") true refl k.cs h.locals ds k.locals n.no_export)) in
-    let all_exports = all_complete export_item InlineExport exports_read h.exports ts k.hs k.exports (item_ends export (codes "export") k.hs no_export) in
-    ap (λ q. and_then q (λ ns hs. and_then (params hs) (λ ps bs. and_then (results bs) (λ rs cs. and_then (locals cs) (λ ls xs. Ok (record { exports = ns; params = ps; results = rs; locals = ls }, xs)))))) all_exports
-    ∙ ap (λ q. and_then q (λ ps bs. and_then (results bs) (λ rs cs. and_then (locals cs) (λ ls xs. Ok (record { exports = h.exports; params = ps; results = rs; locals = ls }, xs))))) param_groups
-    ∙ ap (λ q. and_then q (λ rs cs. and_then (locals cs) (λ ls xs. Ok (record { exports = h.exports; params = h.params; results = rs; locals = ls }, xs)))) result_groups
-    ∙ ap (λ q. and_then q (λ ls xs. Ok (record { exports = h.exports; params = h.params; results = h.results; locals = ls }, xs))) local_groups
+pub lists_complete : {V : Type 0} (next : List Variable → List Variable → List Terminal → Read V) (ts : List Terminal) (ps rs : List Variable) (ds : List Terminal) → Listed ps rs ts ds → NoLists ds → and_then (params ts) (λ ps us. and_then (results us) (λ rs vs. next ps rs vs)) ≡ next ps rs ds
+unfolding group_item
+lists_complete {V} next ts ps rs ds k n =
+    let result_groups = all_complete (group_item (codes "result") false) (Group (codes "result") false) (groups_read (codes "result") false) rs k.bs ds k.results (item_ends (group false) (codes "result") ds n.no_result) in
+    let no_param = ends_groups (codes "param") (codes "result") false refl k.bs rs ds k.results n.no_param in
+    let param_groups = all_complete (group_item (codes "param") true) (Group (codes "param") true) (groups_read (codes "param") true) ps ts k.bs k.params (item_ends (group true) (codes "param") k.bs no_param) in
+    ap (λ q. and_then q (λ ps us. and_then (results us) (λ rs vs. next ps rs vs))) param_groups ∙ ap (λ q. and_then q (λ rs vs. next ps rs vs)) result_groups
+
+-- lists of other words
+pub ends_lists : (v : List ℕ) → bytes_eq (codes "param") v ≡ false → bytes_eq (codes "result") v ≡ false → (ps rs : List Variable) (ts ds : List Terminal) → Listed ps rs ts ds → Ends v ds → Ends v ts
+ends_lists v a b ps rs ts ds k h = ends_groups v (codes "param") true a ts ps k.bs k.params (ends_groups v (codes "result") false b k.bs rs ds k.results h)
+
+pub type_is_none : IsNoInstruction (codes "type")
+unfolding plain mnemonics low high
+type_is_none = record { plain_not = λ env ls ts. refl; structured_not = refl }
+
+pub import_is_none : IsNoInstruction (codes "import")
+unfolding plain mnemonics low high
+import_is_none = record { plain_not = λ env ls ts. refl; structured_not = refl }

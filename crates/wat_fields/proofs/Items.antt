@@ -71,7 +71,7 @@ closed_is (Other ∷ ts) r h = absurd h
 
 -- `(` and a word
 
-abbrev Finds : Option (List Terminal) → List Terminal → Type 0
+abbrev pub Finds : Option (List Terminal) → List Terminal → Type 0
 Finds (Some ts) r = ts ≡ r
 Finds None r = ⊥
 
@@ -94,7 +94,7 @@ begins_word word (Integer s n ∷ ts) us h = absurd h
 begins_word word (Text v ∷ ts) us h = absurd h
 begins_word word (Other ∷ ts) us h = absurd h
 
-begins : (word : List ℕ) (ts us : List Terminal) → Finds (after word ts) us → Begins word ts us
+pub begins : (word : List ℕ) (ts us : List Terminal) → Finds (after word ts) us → Begins word ts us
 begins word (Open ∷ ts) us h = begins_word word ts us h
 begins word [] us h = absurd h
 begins word (Close ∷ ts) us h = absurd h
@@ -104,11 +104,11 @@ begins word (Integer s n ∷ ts) us h = absurd h
 begins word (Text v ∷ ts) us h = absurd h
 begins word (Other ∷ ts) us h = absurd h
 
-begun_inv : {V : Type 0} (rest : List Terminal → Read (List V)) (o : Option (List Terminal)) (vs : List V) (r : List Terminal) → Brings (begun rest o) vs r → (us : List Terminal) × Finds o us × Gives (rest us) vs r
+pub begun_inv : {V : Type 0} (rest : List Terminal → Read (List V)) (o : Option (List Terminal)) (vs : List V) (r : List Terminal) → Brings (begun rest o) vs r → (us : List Terminal) × Finds o us × Gives (rest us) vs r
 begun_inv rest (Some us) vs r h = (us, refl, h)
 begun_inv rest None vs r h = absurd h
 
-after_is : (word v : List ℕ) (us : List Terminal) → v ≡ word → after word (Open ∷ Word v ∷ us) ≡ Some us
+pub after_is : (word v : List ℕ) (us : List Terminal) → v ≡ word → after word (Open ∷ Word v ∷ us) ≡ Some us
 after_is word v us e = ap (λ b. if b then Some us else None) (is_word v word e)
 
 begun_is : {V : Type 0} (rest : List Terminal → Read (List V)) (word v : List ℕ) (us : List Terminal) (vs : List V) (r : List Terminal) → v ≡ word → Gives (rest us) vs r → Brings (begun rest (after word (Open ∷ Word v ∷ us))) vs r

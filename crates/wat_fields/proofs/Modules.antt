@@ -1,83 +1,146 @@
 -- What is read of a module is what the grammar spells.
-use Rattle.std.proofs.Common.{◌≡◌, ◌<◌, ◌≤◌, ℕ, zero, suc, Bool, true, false, List, [], ◌∷◌, ◌++◌, length, Option, Some, None, Result, Ok, Err, refl, sym, ap, subst, ◌∙◌, arith, append_assoc, append-nil}
+use Rattle.std.proofs.Common.{◌≡◌, ◌≤◌, ℕ, zero, suc, Bool, true, false, List, [], ◌∷◌, ◌++◌, length, Some, None, Result, Ok, Err, refl, sym, ap, subst, ◌∙◌, arith, append_assoc, append-nil}
 use Rattle.std.specs.Prelude.{if◌then◌else◌, bytes_eq, codes, nat_lt}
+use Rattle.std.specs.List.{flat_map}
 use Rattle.std.proofs.lemmas.Bool.Decides.{Decides-ltb}
 use Rattle.std.proofs.lemmas.Grind.{flat_map-append}
-use Rattle.wat_instructions.specs.declared.pieces.FaultKind.TheVariants.{UnknownWord, Duplicate, SecondStart}
+use Rattle.wat_instructions.specs.declared.pieces.FaultKind.TheVariants.{UnknownWord, Duplicate, SecondStart, LateImport}
 use Rattle.wat_instructions.specs.Grammar.{Context, Fault, label_of}
 use Rattle.wat_instructions.specs.Law.{past}
 use Rattle.wat_instructions.specs.Terminals.{Terminal, Open, Close, Word, Id, Integer, Text, Other}
 use Rattle.wat_fields.specs.declared.fields.IndexSpace.{IndexSpace}
 use Rattle.wat_fields.specs.declared.fields.IndexSpace.TheVariants as space
-use Rattle.wat_fields.specs.Fields.{Many, by_none, by_more, Field, FieldIs, by_func, by_table, by_memory, by_global, by_export, by_start, Binding, Module, by_module, all_distinct, context_of, binding_of, bindings_of, space_of, starts_of}
+use Rattle.wat_fields.specs.Fields.{Many, by_none, by_more, Types, Field, FieldIs, by_type, by_import, by_inline_import, by_func, by_table, by_memory, by_global, by_export, by_start, Binding, binding, Definition, Module, by_module, all_distinct, context_of, types_in, binding_of, bindings_of, definition_of, definitions_of, imports_first, space_of, starts_of}
 use Rattle.wat_fields.specs.Law.{ReadingIsGrammar}
-use Rattle.wat_fields.specs.Reading.{Read, all, field_item, fields_at, fields_of, binding_by, whole, module_word, ended, started, bindings, Before, Headed, Inside}
+use Rattle.wat_fields.specs.Reading.{Read, all, field_item, fields_at, fields_of, binding_by, import_binding, binding_at, definition_by, definition_at, type_at, whole, module_word, ended, ordered, starts, Before, Inside}
 use Rattle.wat_fields.proofs.Items.{word_is, is_word}
-use Rattle.wat_fields.proofs.FieldKinds.{Laws, Closes, field_after, fields_read}
+use Rattle.wat_fields.proofs.FieldKinds.{Laws, Closes, field_after, fields_read, label_past, extern_space_is, type_complete}
 use Rattle.wat_fields.proofs.Manies.{all_sound, all_complete}
 
--- The items that fields define, by the parentheses alone.
+-- Where fields begin, by the parentheses alone.
 
-inside_past : (d : ℕ) (hs : List Binding) (ts : List Terminal) → bindings (Inside d) hs ts ≡ bindings Before hs (past d ts)
-unfolding bindings
-inside_past d hs [] = refl
-inside_past d hs (Open ∷ ts) = inside_past (suc d) hs ts
-inside_past zero hs (Close ∷ ts) = refl
-inside_past (suc d) hs (Close ∷ ts) = inside_past d hs ts
-inside_past zero hs (Word w ∷ ts) = inside_past zero hs ts
-inside_past (suc d) hs (Word w ∷ ts) = inside_past (suc d) hs ts
-inside_past zero hs (Id x ∷ ts) = inside_past zero hs ts
-inside_past (suc d) hs (Id x ∷ ts) = inside_past (suc d) hs ts
-inside_past zero hs (Integer s n ∷ ts) = inside_past zero hs ts
-inside_past (suc d) hs (Integer s n ∷ ts) = inside_past (suc d) hs ts
-inside_past zero hs (Text v ∷ ts) = inside_past zero hs ts
-inside_past (suc d) hs (Text v ∷ ts) = inside_past (suc d) hs ts
-inside_past zero hs (Other ∷ ts) = inside_past zero hs ts
-inside_past (suc d) hs (Other ∷ ts) = inside_past (suc d) hs ts
+inside_past : (d : ℕ) (ss : List (List Terminal)) (ts : List Terminal) → starts (Inside d) ss ts ≡ starts Before ss (past d ts)
+unfolding starts
+inside_past d ss [] = refl
+inside_past d ss (Open ∷ ts) = inside_past (suc d) ss ts
+inside_past zero ss (Close ∷ ts) = refl
+inside_past (suc d) ss (Close ∷ ts) = inside_past d ss ts
+inside_past zero ss (Word w ∷ ts) = inside_past zero ss ts
+inside_past (suc d) ss (Word w ∷ ts) = inside_past (suc d) ss ts
+inside_past zero ss (Id x ∷ ts) = inside_past zero ss ts
+inside_past (suc d) ss (Id x ∷ ts) = inside_past (suc d) ss ts
+inside_past zero ss (Integer s n ∷ ts) = inside_past zero ss ts
+inside_past (suc d) ss (Integer s n ∷ ts) = inside_past (suc d) ss ts
+inside_past zero ss (Text v ∷ ts) = inside_past zero ss ts
+inside_past (suc d) ss (Text v ∷ ts) = inside_past (suc d) ss ts
+inside_past zero ss (Other ∷ ts) = inside_past zero ss ts
+inside_past (suc d) ss (Other ∷ ts) = inside_past (suc d) ss ts
 
-headed_inside : (s : Option IndexSpace) (hs : List Binding) (ts : List Terminal) → 0 < length (label_of ts).1 → bindings (Headed s) hs ts ≡ bindings (Inside 0) (hs ++ binding_by s (label_of ts).0) (label_of ts).1
-unfolding bindings
-headed_inside s hs [] h = absurd (omega arith)
-headed_inside s hs (Id x ∷ ts) h = refl
-headed_inside s hs (Open ∷ ts) h = refl
-headed_inside s hs (Close ∷ ts) h = refl
-headed_inside s hs (Word w ∷ ts) h = refl
-headed_inside s hs (Integer n m ∷ ts) h = refl
-headed_inside s hs (Text v ∷ ts) h = refl
-headed_inside s hs (Other ∷ ts) h = refl
+field_start : (w : List ℕ) (us r : List Terminal) → Closes (label_of us).1 r → (ss : List (List Terminal)) → starts Before ss (Open ∷ Word w ∷ us) ≡ starts Before (ss ++ (Word w ∷ us) ∷ []) r
+unfolding starts
+field_start w us r c ss = inside_past 0 (ss ++ (Word w ∷ us) ∷ []) us ∙ ap (λ x. starts Before (ss ++ (Word w ∷ us) ∷ []) x) (label_past 0 us ∙ c.same)
 
-after_word : (s : Option IndexSpace) (hs : List Binding) (w : List ℕ) (ts r : List Terminal) → space_of w ≡ s → Closes (label_of ts).1 r → bindings Before hs (Open ∷ Word w ∷ ts) ≡ bindings Before (hs ++ binding_by s (label_of ts).0) r
-unfolding bindings
-after_word s hs w ts r e c =
-    let l = c.short in
-    ap (λ x. bindings (Headed x) hs ts) e ∙ headed_inside s hs ts (omega arith) ∙ inside_past 0 (hs ++ binding_by s (label_of ts).0) (label_of ts).1 ∙ ap (λ x. bindings Before (hs ++ binding_by s (label_of ts).0) x) c.same
+-- What a field brings, by its beginning.
 
-open_is : (v w : List ℕ) (ts us r : List Terminal) → Open ∷ Word v ∷ ts ≡ Open ∷ Word w ∷ us → Closes (label_of us).1 r → Closes (label_of ts).1 r
-open_is v w ts us r e c = let k : ts ≡ us = cc in subst (λ x. Closes (label_of x).1 r) (sym k) c
+record Brings (us : List Terminal) (fs : List Field) : Type 0 where
+  bindings : binding_at us ≡ bindings_of fs
+  definitions : definition_at us ≡ definitions_of fs
 
-closes_of : Laws → (context : Context) (w : List ℕ) (ts : List Terminal) (fs : List Field) (r : List Terminal) → FieldIs context (Open ∷ Word w ∷ ts) fs r → Closes (label_of ts).1 r
-closes_of laws context w ts fs r h = let a = field_after laws context (Open ∷ Word w ∷ ts) fs r h in open_is w a.w ts a.us r a.is a.closes
+no_space : (w v : List ℕ) (s : IndexSpace) → space_of w ≡ Some s → space_of v ≡ None → (b : Bool) → bytes_eq w v ≡ b → b ≡ false
+no_space w v s e n true h = let k : space_of w ≡ None = ap space_of (word_is w v h) ∙ n in cc
+no_space w v s e n false h = refl
 
-field_heads : Laws → (context : Context) (hs : List Binding) (ts : List Terminal) (fs : List Field) (r : List Terminal) → FieldIs context ts fs r → bindings Before hs ts ≡ bindings Before (hs ++ bindings_of fs) r
-field_heads laws context hs _ fs r (by_func {w = w} {ts = ts} e a b c d f k) = after_word (Some space.Func) hs w ts r (ap space_of e) (closes_of laws context w ts fs r (by_func e a b c d f k))
-field_heads laws context hs _ fs r (by_table {w = w} {ts = ts} e a b c) = after_word (Some space.Table) hs w ts r (ap space_of e) (closes_of laws context w ts fs r (by_table e a b c))
-field_heads laws context hs _ fs r (by_memory {w = w} {ts = ts} e a b) = after_word (Some space.Mem) hs w ts r (ap space_of e) (closes_of laws context w ts fs r (by_memory e a b))
-field_heads laws context hs _ fs r (by_global {w = w} {ts = ts} e a b k) = after_word (Some space.Global) hs w ts r (ap space_of e) (closes_of laws context w ts fs r (by_global e a b k))
-field_heads laws context hs _ fs r (by_export {w = w} {n = n} {v = v} {ts = ts} e u k f) = after_word None hs w (Text n ∷ Open ∷ Word v ∷ ts) r (ap space_of e) (closes_of laws context w (Text n ∷ Open ∷ Word v ∷ ts) fs r (by_export e u k f))
-field_heads laws context hs _ fs r (by_start {w = w} {ts = ts} e f) = after_word None hs w ts r (ap space_of e) (closes_of laws context w ts fs r (by_start e f))
+-- a field that begins with this word
+by_word : (w v : List ℕ) (us : List Terminal) (fs : List Field) → w ≡ v → Brings (Word v ∷ us) fs → Brings (Word w ∷ us) fs
+by_word w v us fs e b = subst (λ x. Brings (Word x ∷ us) fs) (sym e) b
 
-fields_heads : Laws → (context : Context) (hs : List Binding) (ts : List Terminal) (fs : List Field) (r : List Terminal) → Many (FieldIs context) ts fs r → bindings Before hs ts ≡ bindings Before (hs ++ bindings_of fs) r
-fields_heads laws context hs _ _ r by_none = ap (λ x. bindings Before x r) (sym (append-nil hs))
-fields_heads laws context hs _ _ r (by_more {ts = ts} {us = us} {vs = fs} {ws = gs} one rest) =
-    field_heads laws context hs ts fs us one ∙ fields_heads laws context (hs ++ bindings_of fs) us gs r rest
-    ∙ ap (λ x. bindings Before x r) (append_assoc hs (bindings_of fs) (bindings_of gs) ∙ ap (λ x. hs ++ x) (sym (flat_map-append binding_of fs gs)))
+import_brings : (m n v : List ℕ) (ts : List Terminal) (s x : IndexSpace) (ns : List (List ℕ)) → space_of v ≡ Some s → x ≡ s → binding_at (Word (codes "import") ∷ Text m ∷ Text n ∷ Open ∷ Word v ∷ ts) ≡ binding x (label_of ts).0 ∷ []
+unfolding binding_at
+import_brings m n v ts s x ns e k = ap (λ o. binding_by o (label_of ts).0) e ∙ ap (λ y. binding y (label_of ts).0 ∷ []) (sym k)
 
-close_heads : (hs : List Binding) → bindings Before hs (Close ∷ []) ≡ hs
-unfolding bindings
-close_heads hs = refl
+inline_brings : (w : List ℕ) (ts : List Terminal) (s x : IndexSpace) → space_of w ≡ Some s → x ≡ s → binding_at (Word w ∷ ts) ≡ binding x (label_of ts).0 ∷ []
+unfolding binding_at
+inline_brings w ts s x e k =
+    ap (λ (b : Bool). if b then import_binding ts else binding_by (space_of w) (label_of ts).0) (no_space w (codes "import") s e refl (bytes_eq w (codes "import")) refl)
+    ∙ ap (λ o. binding_by o (label_of ts).0) e ∙ ap (λ y. binding y (label_of ts).0 ∷ []) (sym k)
 
-module_heads : Laws → (context : Context) (ts : List Terminal) (fs : List Field) → Many (FieldIs context) ts fs (Close ∷ []) → bindings Before [] ts ≡ bindings_of fs
-module_heads laws context ts fs m = fields_heads laws context [] ts fs (Close ∷ []) m ∙ close_heads (bindings_of fs)
+no_definition : (w : List ℕ) (ts : List Terminal) → bytes_eq w (codes "type") ≡ false → definition_at (Word w ∷ ts) ≡ []
+unfolding definition_at
+no_definition w ts e = ap (λ (b : Bool). if b then definition_by (type_at ts) else []) e
+
+a_definition : (ts : List Terminal) (d : Definition) (r : List Terminal) → type_at ts ≡ Ok (d, r) → definition_at (Word (codes "type") ∷ ts) ≡ d ∷ []
+unfolding definition_at
+a_definition ts d r e = ap definition_by e
+
+no_binding : (v : List ℕ) (ts : List Terminal) → bytes_eq v (codes "import") ≡ false → space_of v ≡ None → binding_at (Word v ∷ ts) ≡ []
+unfolding binding_at
+no_binding v ts e n = ap (λ (b : Bool). if b then import_binding ts else binding_by (space_of v) (label_of ts).0) e ∙ ap (λ o. binding_by o (label_of ts).0) n
+
+heads_are : (v w : List ℕ) (ts us : List Terminal) → Open ∷ Word v ∷ ts ≡ Open ∷ Word w ∷ us → (v ≡ w) × (ts ≡ us)
+heads_are v w ts us e = (cc, cc)
+
+moved : (v w : List ℕ) (ts us : List Terminal) (fs : List Field) → v ≡ w → ts ≡ us → Brings (Word v ∷ ts) fs → Brings (Word w ∷ us) fs
+moved v w ts us fs a b k = subst (λ x. Brings (Word w ∷ x) fs) b (subst (λ x. Brings (Word x ∷ ts) fs) a k)
+
+field_brings : (types : Types) (context : Context) (w : List ℕ) (us ts : List Terminal) (fs : List Field) (r : List Terminal) → ts ≡ Open ∷ Word w ∷ us → FieldIs types context ts fs r → Brings (Word w ∷ us) fs
+field_brings types context w us _ _ r q (by_type {w = v} {ts = ts} {params = ps} {results = rs} e o k a b) =
+    let (x, y) = heads_are v w ts us q in
+    moved v w ts us _ x y (by_word v (codes "type") ts _ e (record { bindings = no_binding (codes "type") ts refl refl; definitions = a_definition ts _ r (type_complete ts _ _ _ r ps rs o k a b) }))
+field_brings types context w us _ _ r q (by_import {w = v} {m = m} {n = n} {v = x} {ts = ts} {s = s} {t = t} e a b k i) =
+    let (y, z) = heads_are v w (Text m ∷ Text n ∷ Open ∷ Word x ∷ ts) us q in
+    moved v w (Text m ∷ Text n ∷ Open ∷ Word x ∷ ts) us _ y z (by_word v (codes "import") (Text m ∷ Text n ∷ Open ∷ Word x ∷ ts) _ e (record { bindings = import_brings m n x ts s _ [] k (extern_space_is types s (label_of ts).1 t _ i); definitions = no_definition (codes "import") _ refl }))
+field_brings types context w us _ _ r q (by_inline_import {w = v} {ts = ts} {us = xs} {s = s} {t = t} e k i a b x) =
+    let (y, z) = heads_are v w ts us q in
+    moved v w ts us _ y z (record { bindings = inline_brings v ts s _ e (extern_space_is types s xs t _ x); definitions = no_definition v ts (no_space v (codes "type") s e refl (bytes_eq v (codes "type")) refl) })
+field_brings types context w us _ _ r q (by_func {w = v} {ts = ts} e a b c d k) = let (y, z) = heads_are v w ts us q in moved v w ts us _ y z (by_word v (codes "func") ts _ e (record { bindings = inline_brings (codes "func") ts space.Func space.Func refl refl; definitions = no_definition (codes "func") ts refl }))
+field_brings types context w us _ _ r q (by_table {w = v} {ts = ts} e a b c) = let (y, z) = heads_are v w ts us q in moved v w ts us _ y z (by_word v (codes "table") ts _ e (record { bindings = inline_brings (codes "table") ts space.Table space.Table refl refl; definitions = no_definition (codes "table") ts refl }))
+field_brings types context w us _ _ r q (by_memory {w = v} {ts = ts} e a b) = let (y, z) = heads_are v w ts us q in moved v w ts us _ y z (by_word v (codes "memory") ts _ e (record { bindings = inline_brings (codes "memory") ts space.Mem space.Mem refl refl; definitions = no_definition (codes "memory") ts refl }))
+field_brings types context w us _ _ r q (by_global {w = v} {ts = ts} e a b k) = let (y, z) = heads_are v w ts us q in moved v w ts us _ y z (by_word v (codes "global") ts _ e (record { bindings = inline_brings (codes "global") ts space.Global space.Global refl refl; definitions = no_definition (codes "global") ts refl }))
+field_brings types context w us _ _ r q (by_export {w = v} {n = n} {v = x} {ts = ts} e u k f) =
+    let (y, z) = heads_are v w (Text n ∷ Open ∷ Word x ∷ ts) us q in
+    moved v w (Text n ∷ Open ∷ Word x ∷ ts) us _ y z (by_word v (codes "export") (Text n ∷ Open ∷ Word x ∷ ts) _ e (record { bindings = no_binding (codes "export") _ refl refl; definitions = no_definition (codes "export") _ refl }))
+field_brings types context w us _ _ r q (by_start {w = v} {ts = ts} e f) = let (y, z) = heads_are v w ts us q in moved v w ts us _ y z (by_word v (codes "start") ts _ e (record { bindings = no_binding (codes "start") ts refl refl; definitions = no_definition (codes "start") ts refl }))
+
+-- the beginnings of fields, and what they bring
+record Found (ts r : List Terminal) (fs : List Field) : Type 0 where
+  ss : List (List Terminal)
+  begin : (acc : List (List Terminal)) → starts Before acc ts ≡ starts Before (acc ++ ss) r
+  bindings : flat_map binding_at ss ≡ bindings_of fs
+  definitions : flat_map definition_at ss ≡ definitions_of fs
+
+field_found : Laws → (types : Types) (context : Context) (ts : List Terminal) (fs : List Field) (r : List Terminal) → FieldIs types context ts fs r → Found ts r fs
+field_found laws types context ts fs r h =
+    let a = field_after laws types context ts fs r h in
+    let b = field_brings types context a.w a.us ts fs r a.is h in record {
+      ss = (Word a.w ∷ a.us) ∷ [];
+      begin = λ acc. ap (λ x. starts Before acc x) a.is ∙ field_start a.w a.us r a.closes acc;
+      bindings = append-nil (binding_at (Word a.w ∷ a.us)) ∙ b.bindings;
+      definitions = append-nil (definition_at (Word a.w ∷ a.us)) ∙ b.definitions;
+    }
+
+fields_found : Laws → (types : Types) (context : Context) (ts : List Terminal) (fs : List Field) (r : List Terminal) → Many (FieldIs types context) ts fs r → Found ts r fs
+fields_found laws types context _ _ r by_none = record { ss = []; begin = λ acc. ap (λ x. starts Before x r) (sym (append-nil acc)); bindings = refl; definitions = refl }
+fields_found laws types context _ _ r (by_more {ts = ts} {us = us} {vs = fs} {ws = gs} one rest) =
+    let a = field_found laws types context ts fs us one in
+    let b = fields_found laws types context us gs r rest in record {
+      ss = a.ss ++ b.ss;
+      begin = λ acc. a.begin acc ∙ b.begin (acc ++ a.ss) ∙ ap (λ x. starts Before x r) (append_assoc acc a.ss b.ss);
+      bindings = flat_map-append binding_at a.ss b.ss ∙ ap (λ x. x ++ flat_map binding_at b.ss) a.bindings ∙ ap (λ x. bindings_of fs ++ x) b.bindings ∙ sym (flat_map-append binding_of fs gs);
+      definitions = flat_map-append definition_at a.ss b.ss ∙ ap (λ x. x ++ flat_map definition_at b.ss) a.definitions ∙ ap (λ x. definitions_of fs ++ x) b.definitions ∙ sym (flat_map-append definition_of fs gs);
+    }
+
+close_starts : (ss : List (List Terminal)) → starts Before ss (Close ∷ []) ≡ ss
+unfolding starts
+close_starts ss = refl
+
+record Context_of (ts : List Terminal) (fs : List Field) : Type 0 where
+  bindings : flat_map binding_at (starts Before [] ts) ≡ bindings_of fs
+  definitions : flat_map definition_at (starts Before [] ts) ≡ definitions_of fs
+
+module_context : Laws → (types : Types) (context : Context) (ts : List Terminal) (fs : List Field) → Many (FieldIs types context) ts fs (Close ∷ []) → Context_of ts fs
+module_context laws types context ts fs m =
+    let f = fields_found laws types context ts fs (Close ∷ []) m in
+    let e : starts Before [] ts ≡ f.ss = f.begin [] ∙ close_starts f.ss in record { bindings = ap (flat_map binding_at) e ∙ f.bindings; definitions = ap (flat_map definition_at) e ∙ f.definitions }
 
 -- The module.
 
@@ -93,27 +156,37 @@ ended_sound (Ok (gs, Text v ∷ ts)) fs e = cc
 ended_sound (Ok (gs, Other ∷ ts)) fs e = cc
 ended_sound (Err f) fs e = cc
 
-started_by : (ts : List Terminal) (gs fs : List Field) (b : Bool) → nat_lt (length (starts_of gs)) 2 ≡ b → ◌≡◌ {A = Result (List Field) Fault} (if b then Ok gs else Err (SecondStart, ts)) (Ok fs) → (gs ≡ fs) × (length (starts_of gs) ≤ 1)
-started_by ts gs fs true e h = let k : gs ≡ fs = cc in let l = (Decides-ltb (length (starts_of gs)) 2).0 e in (k, omega (arith, l))
-started_by ts gs fs false e h = cc
+started_by : (ts : List Terminal) (gs fs : List Field) (a b : Bool) → imports_first gs ≡ a → nat_lt (length (starts_of gs)) 2 ≡ b → ◌≡◌ {A = Result (List Field) Fault} (if a then (if b then Ok gs else Err (SecondStart, ts)) else Err (LateImport, ts)) (Ok fs)
+    → (gs ≡ fs) × (imports_first gs ≡ true) × (length (starts_of gs) ≤ 1)
+started_by ts gs fs true true i e h = let k : gs ≡ fs = cc in let l = (Decides-ltb (length (starts_of gs)) 2).0 e in (k, i, omega (arith, l))
+started_by ts gs fs true false i e h = cc
+started_by ts gs fs false b i e h = cc
 
-started_sound : (ts : List Terminal) (q : Result (List Field) Fault) (fs : List Field) → started ts q ≡ Ok fs → (q ≡ Ok fs) × (length (starts_of fs) ≤ 1)
-started_sound ts (Ok gs) fs e = let k = started_by ts gs fs (nat_lt (length (starts_of gs)) 2) refl e in (ap (λ x. Ok x) k.0, subst (λ x. length (starts_of x) ≤ 1) k.0 k.1)
-started_sound ts (Err f) fs e = cc
+ordered_sound : (ts : List Terminal) (q : Result (List Field) Fault) (fs : List Field) → ordered ts q ≡ Ok fs → (q ≡ Ok fs) × (imports_first fs ≡ true) × (length (starts_of fs) ≤ 1)
+ordered_sound ts (Ok gs) fs e =
+    let k = started_by ts gs fs (imports_first gs) (nat_lt (length (starts_of gs)) 2) refl refl e in (ap (λ x. Ok x) k.0, subst (λ x. imports_first x ≡ true) k.0 k.1, subst (λ x. length (starts_of x) ≤ 1) k.0 k.2)
+ordered_sound ts (Err f) fs e = cc
 
-started_complete : (ts : List Terminal) (fs : List Field) → length (starts_of fs) ≤ 1 → started ts (Ok fs) ≡ Ok fs
-started_complete ts fs l = ap (λ (b : Bool). if b then Ok fs else Err (SecondStart, ts)) ((Decides-ltb (length (starts_of fs)) 2).1 (omega (arith, l)))
+ordered_complete : (ts : List Terminal) (fs : List Field) → imports_first fs ≡ true → length (starts_of fs) ≤ 1 → ordered ts (Ok fs) ≡ Ok fs
+ordered_complete ts fs i l =
+    ap (λ (b : Bool). if b then (if nat_lt (length (starts_of fs)) 2 then Ok fs else Err (SecondStart, ts)) else Err (LateImport, ts)) i ∙ ap (λ (b : Bool). if b then Ok fs else Err (SecondStart, ts)) ((Decides-ltb (length (starts_of fs)) 2).1 (omega (arith, l)))
 
-of_heads : Laws → (hs : List Binding) (w : List ℕ) (ts : List Terminal) (fs : List Field) → w ≡ codes "module" → hs ≡ bindings Before [] (label_of ts).1 → (b : Bool) → all_distinct (context_of hs) ≡ b
-    → (if b then started (label_of ts).1 (ended (all (field_item (context_of hs)) (label_of ts).1)) else Err (Duplicate, (label_of ts).1)) ≡ Ok fs → Module (Open ∷ Word w ∷ ts) fs
-of_heads laws hs w ts fs e n true d h =
-    let s = started_sound (label_of ts).1 (ended (all (field_item (context_of hs)) (label_of ts).1)) fs h in
-    let m = (all_sound (field_item (context_of hs)) (FieldIs (context_of hs)) (fields_read laws (context_of hs)) fs (label_of ts).1 (Close ∷ []) (ended_sound _ fs s.0)).0 in
-    let k = n ∙ module_heads laws (context_of hs) (label_of ts).1 fs m in by_module e (subst (λ x. Many (FieldIs (context_of x)) (label_of ts).1 fs (Close ∷ [])) k m) (subst (λ x. all_distinct (context_of x) ≡ true) k d) s.1
-of_heads laws hs w ts fs e n false d h = cc
+of_context : Laws → (ds : List Definition) (bs : List Binding) (w : List ℕ) (ts : List Terminal) (fs : List Field) → w ≡ codes "module" → ds ≡ flat_map definition_at (starts Before [] (label_of ts).1) → bs ≡ flat_map binding_at (starts Before [] (label_of ts).1)
+    → (b : Bool) → all_distinct (types_in ds) (context_of bs) ≡ b → (if b then ordered (label_of ts).1 (ended (all (field_item (types_in ds) (context_of bs)) (label_of ts).1)) else Err (Duplicate, (label_of ts).1)) ≡ Ok fs → Module (Open ∷ Word w ∷ ts) fs
+of_context laws ds bs w ts fs e n o true d h =
+    let s = ordered_sound (label_of ts).1 (ended (all (field_item (types_in ds) (context_of bs)) (label_of ts).1)) fs h in
+    let m = (all_sound (field_item (types_in ds) (context_of bs)) (FieldIs (types_in ds) (context_of bs)) (fields_read laws (types_in ds) (context_of bs)) fs (label_of ts).1 (Close ∷ []) (ended_sound _ fs s.0)).0 in
+    let k = module_context laws (types_in ds) (context_of bs) (label_of ts).1 fs m in
+    let x = n ∙ k.definitions in
+    let y = o ∙ k.bindings in
+    by_module e (subst (λ z. Many (FieldIs (types_in z) (context_of (bindings_of fs))) (label_of ts).1 fs (Close ∷ [])) x (subst (λ z. Many (FieldIs (types_in ds) (context_of z)) (label_of ts).1 fs (Close ∷ [])) y m))
+    (subst (λ z. all_distinct (types_in z) (context_of (bindings_of fs)) ≡ true) x (subst (λ z. all_distinct (types_in ds) (context_of z) ≡ true) y d)) s.1 s.2
+of_context laws ds bs w ts fs e n o false d h = cc
 
 word_module : Laws → (w : List ℕ) (ts : List Terminal) (fs : List Field) (b : Bool) → bytes_eq w (codes "module") ≡ b → (if b then fields_at (label_of ts).1 else Err (UnknownWord, Word w ∷ ts)) ≡ Ok fs → Module (Open ∷ Word w ∷ ts) fs
-word_module laws w ts fs true e h = let hs = bindings Before [] (label_of ts).1 in of_heads laws hs w ts fs (word_is w (codes "module") e) refl (all_distinct (context_of hs)) refl h
+word_module laws w ts fs true e h =
+    let ss = starts Before [] (label_of ts).1 in
+    of_context laws (flat_map definition_at ss) (flat_map binding_at ss) w ts fs (word_is w (codes "module") e) refl refl (all_distinct (types_in (flat_map definition_at ss)) (context_of (flat_map binding_at ss))) refl h
 word_module laws w ts fs false e h = cc
 
 open_module : Laws → (ts : List Terminal) (fs : List Field) → module_word ts ≡ Ok fs → Module (Open ∷ ts) fs
@@ -137,17 +210,20 @@ module_sound laws (Integer s n ∷ ts) fs h = cc
 module_sound laws (Text v ∷ ts) fs h = cc
 module_sound laws (Other ∷ ts) fs h = cc
 
-no_field : (context : Context) → field_item context (Close ∷ []) ≡ None
+no_field : (types : Types) (context : Context) → field_item types context (Close ∷ []) ≡ None
 unfolding field_item
-no_field context = refl
+no_field types context = refl
 
 module_complete : Laws → (ts : List Terminal) (fs : List Field) → Module ts fs → whole ts ≡ Ok fs
 unfolding whole
-module_complete laws _ fs (by_module {w = w} {ts = ts} e m d l) =
+module_complete laws _ fs (by_module {w = w} {ts = ts} e m d i l) =
+    let types = types_in (definitions_of fs) in
     let context = context_of (bindings_of fs) in
-    ap (λ (x : Bool). if x then fields_at (label_of ts).1 else Err (UnknownWord, Word w ∷ ts)) (is_word w (codes "module") e) ∙ ap (λ x. fields_of (context_of x) (label_of ts).1) (module_heads laws context (label_of ts).1 fs m)
-    ∙ ap (λ (x : Bool). if x then started (label_of ts).1 (ended (all (field_item context) (label_of ts).1)) else Err (Duplicate, (label_of ts).1)) d
-    ∙ ap (λ q. started (label_of ts).1 (ended q)) (all_complete (field_item context) (FieldIs context) (fields_read laws context) fs (label_of ts).1 (Close ∷ []) m (no_field context)) ∙ started_complete (label_of ts).1 fs l
+    let k = module_context laws types context (label_of ts).1 fs m in
+    ap (λ (x : Bool). if x then fields_at (label_of ts).1 else Err (UnknownWord, Word w ∷ ts)) (is_word w (codes "module") e)
+    ∙ ap (λ x. fields_of (types_in x) (context_of (flat_map binding_at (starts Before [] (label_of ts).1))) (label_of ts).1) k.definitions ∙ ap (λ x. fields_of types (context_of x) (label_of ts).1) k.bindings
+    ∙ ap (λ (x : Bool). if x then ordered (label_of ts).1 (ended (all (field_item types context) (label_of ts).1)) else Err (Duplicate, (label_of ts).1)) d
+    ∙ ap (λ q. ordered (label_of ts).1 (ended q)) (all_complete (field_item types context) (FieldIs types context) (fields_read laws types context) fs (label_of ts).1 (Close ∷ []) m (no_field types context)) ∙ ordered_complete (label_of ts).1 fs i l
 
 pub law : Laws → ReadingIsGrammar
 law laws ts fs = (module_sound laws ts fs, module_complete laws ts fs)

@@ -11,8 +11,9 @@ use Rattle.wat_instructions.specs.Terminals.{Terminal, Open, Close, Word, Id, In
 use Rattle.wat_fields.specs.declared.fields.GlobalType.{GlobalType}
 use Rattle.wat_fields.specs.declared.fields.Limits.{Limits}
 use Rattle.wat_fields.specs.declared.fields.ReferenceType.{ReferenceType}
+use Rattle.wat_fields.specs.declared.fields.TableType.{TableType}
 use Rattle.wat_fields.specs.Fields.{IndexIs, by_number, by_identifier, LimitsAre, by_min, by_min_max, GlobalTypeIs, by_constant, by_mutable, is_u32, reference_type}
-use Rattle.wat_fields.specs.Reading.{and_then, closed, limits, max_at, limits_at, reference_by, reference_at, global_type, constant_by, mutable_by, mutable_type, mutable_at, global_type_at, twice_closed, export_item}
+use Rattle.wat_fields.specs.Reading.{and_then, closed, limits, max_at, limits_at, reference_by, reference_at, table_type, table_type_at, global_type, constant_by, mutable_by, mutable_type, mutable_at, global_type_at, twice_closed, after, export_item}
 use Rattle.wat_fields.proofs.Items.{GivesAll, closing_inv, closed_is, word_is, is_word}
 use Rattle.wat_fields.proofs.Manies.{Gives, gives_of, and_then_inv}
 
@@ -82,6 +83,10 @@ pub limits_pass : (ts : List Terminal) (l : Limits) (us : List Terminal) → Lim
 limits_pass _ _ us (by_min e) = record { short = omega arith; same = λ d. refl }
 limits_pass _ _ us (by_min_max e f) = record { short = omega arith; same = λ d. refl }
 
+pub limits_no_import : (ts : List Terminal) (l : Limits) (us : List Terminal) → LimitsAre ts l us → after (codes "import") ts ≡ None
+limits_no_import _ _ us (by_min e) = refl
+limits_no_import _ _ us (by_min_max e f) = refl
+
 pub limits_no_export : (ts : List Terminal) (l : Limits) (us : List Terminal) → LimitsAre ts l us → export_item ts ≡ None
 unfolding export_item
 limits_no_export _ _ us (by_min e) = refl
@@ -89,12 +94,12 @@ limits_no_export _ _ us (by_min_max e f) = refl
 
 -- Reference types.
 
-pub reference_sound : (ts : List Terminal) (t : ReferenceType) (us : List Terminal) → Gives (reference_at ts) t us → (v : List ℕ) × (ts ≡ Word v ∷ Close ∷ us) × (reference_type v ≡ Some t)
+pub reference_sound : (ts : List Terminal) (t : ReferenceType) (us : List Terminal) → Gives (reference_at ts) t us → (v : List ℕ) × (ts ≡ Word v ∷ us) × (reference_type v ≡ Some t)
 unfolding reference_at
 reference_sound (Word w ∷ ts) t us h = by (reference_type w) refl h
   where
-    by : (o : Option ReferenceType) → reference_type w ≡ o → Gives (reference_by o (Word w ∷ ts) ts) t us → (v : List ℕ) × (Word w ∷ ts ≡ Word v ∷ Close ∷ us) × (reference_type v ≡ Some t)
-    by (Some u) e g = let (same, shut) = closing_inv u t (closed ts) us g in (w, ap (λ x. Word w ∷ x) (closed_is ts us shut), e ∙ ap (λ x. Some x) same)
+    by : (o : Option ReferenceType) → reference_type w ≡ o → Gives (reference_by o (Word w ∷ ts) ts) t us → (v : List ℕ) × (Word w ∷ ts ≡ Word v ∷ us) × (reference_type v ≡ Some t)
+    by (Some u) e g = (w, ap (λ x. Word w ∷ x) g.1, e ∙ ap (λ x. Some x) g.0)
     by None e g = absurd g
 reference_sound [] t us h = absurd h
 reference_sound (Open ∷ ts) t us h = absurd h
@@ -104,9 +109,33 @@ reference_sound (Integer s n ∷ ts) t us h = absurd h
 reference_sound (Text v ∷ ts) t us h = absurd h
 reference_sound (Other ∷ ts) t us h = absurd h
 
-pub reference_complete : (v : List ℕ) (t : ReferenceType) (us : List Terminal) → reference_type v ≡ Some t → reference_at (Word v ∷ Close ∷ us) ≡ Ok (t, us)
+reference_complete : (v : List ℕ) (t : ReferenceType) (us : List Terminal) → reference_type v ≡ Some t → reference_at (Word v ∷ us) ≡ Ok (t, us)
 unfolding reference_at
-reference_complete v t us e = ap (λ o. reference_by o (Word v ∷ Close ∷ us) (Close ∷ us)) e
+reference_complete v t us e = ap (λ o. reference_by o (Word v ∷ us) us) e
+
+-- Types of tables.
+
+pub record IsTableType (ts : List Terminal) (t : TableType) (us : List Terminal) : Type 0 where
+  pub v : List ℕ
+  pub limits : LimitsAre ts t.limits (Word v ∷ us)
+  pub element : reference_type v ≡ Some t.element
+
+pub table_type_sound : (ts : List Terminal) (t : TableType) (us : List Terminal) → Gives (table_type_at ts) t us → IsTableType ts t us
+unfolding table_type_at
+table_type_sound ts t us g =
+    let (l, hs, e1, g1) = and_then_inv (limits_at ts) (λ limits us. and_then (reference_at us) (λ t vs. Ok (table_type limits t, vs))) t us g in
+    let (r, xs, e2, g2) = and_then_inv (reference_at hs) (λ t vs. Ok (table_type l t, vs)) t us g1 in
+    let (v, is, type) = reference_sound hs r xs (gives_of _ r xs e2) in
+    subst (λ x. IsTableType ts x us) g2.0 (subst (λ x. IsTableType ts (table_type l r) x) g2.1 (record { v = v; limits = subst (λ x. LimitsAre ts l x) is (limits_sound ts l hs e1); element = type }))
+
+pub table_type_complete : (ts : List Terminal) (t : TableType) (us : List Terminal) → IsTableType ts t us → table_type_at ts ≡ Ok (t, us)
+unfolding table_type_at
+table_type_complete ts t us k =
+    ap (λ q. and_then q (λ limits us. and_then (reference_at us) (λ t vs. Ok (table_type limits t, vs)))) (limits_complete ts t.limits (Word k.v ∷ us) k.limits (λ n. refl))
+    ∙ ap (λ q. and_then q (λ e vs. Ok (table_type t.limits e, vs))) (reference_complete k.v t.element us k.element)
+
+pub table_type_pass : (ts : List Terminal) (t : TableType) (us : List Terminal) → IsTableType ts t us → Passes ts us
+table_type_pass ts t us k = let p = limits_pass ts t.limits (Word k.v ∷ us) k.limits in let s = p.short in record { short = omega arith; same = λ d. p.same d }
 
 -- Types of globals.
 
@@ -164,6 +193,10 @@ global_type_complete _ _ us (by_mutable {v = v} {w = w} m e) =
 pub global_type_pass : (ts : List Terminal) (g : GlobalType) (us : List Terminal) → GlobalTypeIs ts g us → Passes ts us
 global_type_pass _ _ us (by_constant e) = record { short = omega arith; same = λ d. refl }
 global_type_pass _ _ us (by_mutable m e) = record { short = omega arith; same = λ d. refl }
+
+pub global_type_no_import : (ts : List Terminal) (g : GlobalType) (us : List Terminal) → GlobalTypeIs ts g us → after (codes "import") ts ≡ None
+global_type_no_import _ _ us (by_constant e) = refl
+global_type_no_import _ _ us (by_mutable {v = v} {w = w} m e) = subst (λ x. after (codes "import") (Open ∷ Word x ∷ Word w ∷ Close ∷ us) ≡ None) (sym m) refl
 
 pub global_type_no_export : (ts : List Terminal) (g : GlobalType) (us : List Terminal) → GlobalTypeIs ts g us → export_item ts ≡ None
 unfolding export_item

@@ -1,5 +1,5 @@
 -- WebAssembly 2.0 specification, 5 (binary format): 5.1.3 vectors, 5.2 values, 5.3 types, 5.4 instructions, 5.5 modules (5.5.2 sections, 5.5.4 type
--- section, 5.5.6 function section, 5.5.7 table section, 5.5.8 memory section, 5.5.9 global section, 5.5.10 export section, 5.5.11 start section, 5.5.13 code
+-- section, 5.5.5 import section, 5.5.6 function section, 5.5.7 table section, 5.5.8 memory section, 5.5.9 global section, 5.5.10 export section, 5.5.11 start section, 5.5.13 code
 -- section, 5.5.16 modules). And 6.6.3: the types that type uses without an index bring. What the standard leaves open is fixed: integers in their
 -- shortest form, runs of local variables of one type counted together, no section without content, no custom section, an `else` where the text has one.
 -- The order of exports is that of the text: an inline one is where its field is (6.6.5 to 6.6.8).
@@ -19,7 +19,7 @@ use Rattle.wat_fields.specs.declared.fields.Limits.{Limits}
 use Rattle.wat_fields.specs.declared.fields.ReferenceType.{ReferenceType}
 use Rattle.wat_fields.specs.declared.fields.ReferenceType.TheVariants as reference
 use Rattle.wat_fields.specs.declared.fields.TableType.{TableType}
-use Rattle.wat_fields.specs.Fields.{Field, Func, Table, Memory, Global, Start, Function, Variable, bindings_of, names_in, starts_of, type_of}
+use Rattle.wat_fields.specs.Fields.{ExternType, FuncType, OfTable, OfMemory, OfGlobal, Field, Func, Table, Memory, Global, Start, Function, FunctionType, TypeUse, Variable, bindings_of, definition_type, definitions_of, extern_space, function_type, names_in, starts_of}
 use Rattle.wat_fields.specs.Fields as field
 
 -- 5.3.1 number types
@@ -50,14 +50,6 @@ instruction_bytes i = i.opcode ∷ argument_bytes i.argument
 abbrev pub variable_byte : Variable → ℕ
 variable_byte v = type_byte v.type
 
--- 5.3.6 function types: the types of the parameters and of the results
-pub record FunctionType : Type 0 where
-  pub params : List ValueType
-  pub results : List ValueType
-
-abbrev pub function_type : Function → FunctionType
-function_type f = record { params = map type_of f.params; results = map type_of f.results }
-
 -- 5.3.6: 0x60, and both; 5.3.5: each a vector of value types, a byte each
 unfoldable pub type_bytes : FunctionType → List ℕ
 type_bytes t = 0x60 ∷ (text_encoding (map type_byte t.params) ++ text_encoding (map type_byte t.results))
@@ -83,17 +75,35 @@ has_type t (u ∷ us) = if same_type u t then true else has_type t us
 abbrev pub with_type : List FunctionType → FunctionType → List FunctionType
 with_type ts t = if has_type t ts then ts else ts ++ t ∷ []
 
--- the types after these functions, from those before
-abbrev pub types_after : List FunctionType → List Function → List FunctionType
+abbrev pub used_type : TypeUse → FunctionType
+used_type u = function_type u.params u.results
+
+-- the types after these type uses, from those before
+abbrev pub types_after : List FunctionType → List TypeUse → List FunctionType
 types_after ts [] = ts
-types_after ts (f ∷ fs) = types_after (with_type ts (function_type f)) fs
+types_after ts (u ∷ us) = types_after (with_type ts (used_type u)) us
 
-unfoldable pub types_of : List Function → List FunctionType
-types_of fs = types_after [] fs
+-- the type uses of a field
+abbrev pub use_of : Field → List TypeUse
+use_of (Func f) = f.uses ∷ []
+use_of (field.Import m n l ns (FuncType u)) = u ∷ []
+use_of f = []
 
--- 5.5.6: the index of the function's type, which is among them (Law)
+-- those that fields define, and after them those that type uses bring
+unfoldable pub types_of : List Field → List FunctionType
+types_of fs = types_after (map definition_type (definitions_of fs)) (flat_map use_of fs)
+
+abbrev pub index_or : Option ℕ → ℕ → ℕ
+index_or (Some i) n = i
+index_or None n = n
+
+-- 6.6.3: the index of the type that is used, which is among them (Law): the one that is said, or the least
+abbrev pub use_bytes : List FunctionType → TypeUse → List ℕ
+use_bytes types u = unsigned_leb128 (index_or u.index (type_index (used_type u) types))
+
+-- 5.5.6: the index of the function's type
 abbrev pub function_bytes : List FunctionType → Function → List ℕ
-function_bytes types f = unsigned_leb128 (type_index (function_type f) types)
+function_bytes types f = use_bytes types f.uses
 
 abbrev pub min_max_bytes : ℕ → Option ℕ → List ℕ
 min_max_bytes n None = 0x00 ∷ unsigned_leb128 n
@@ -116,13 +126,33 @@ abbrev pub mutability_byte : Bool → ℕ
 mutability_byte false = 0x00
 mutability_byte true = 0x01
 
+-- 5.3.10 global types
+abbrev pub global_type_bytes : GlobalType → List ℕ
+global_type_bytes t = type_byte t.value ∷ mutability_byte t.is_mutable ∷ []
+
+-- 5.5.5: what is imported
+abbrev pub extern_bytes : List FunctionType → ExternType → List ℕ
+extern_bytes types (FuncType u) = 0x00 ∷ use_bytes types u
+extern_bytes types (OfTable t) = 0x01 ∷ table_bytes t
+extern_bytes types (OfMemory l) = 0x02 ∷ limits_bytes l
+extern_bytes types (OfGlobal t) = 0x03 ∷ global_type_bytes t
+
+-- 5.5.5: an import: its names, and what it is
+pub record ImportEntry : Type 0 where
+  pub from : List ℕ
+  pub name : List ℕ
+  pub what : ExternType
+
+abbrev pub import_bytes : List FunctionType → ImportEntry → List ℕ
+import_bytes types i = (text_encoding i.from ++ text_encoding i.name) ++ extern_bytes types i.what
+
 -- 5.4.9 expressions: the instructions, and 0x0B
 abbrev pub expression_bytes : List Instruction → List ℕ
 expression_bytes is = flat_map instruction_bytes is ++ 0x0B ∷ []
 
--- 5.3.10 global types, 5.5.9: the type of a global, and its first value
+-- 5.5.9: the type of a global, and its first value
 abbrev pub global_bytes : GlobalType × List Instruction → List ℕ
-global_bytes g = type_byte g.0.value ∷ mutability_byte g.0.is_mutable ∷ expression_bytes g.1
+global_bytes g = global_type_bytes g.0 ++ expression_bytes g.1
 
 -- 5.5.10: an export of the item of an index
 pub record Export : Type 0 where
@@ -148,6 +178,8 @@ next_index s fs = length (names_in s (bindings_of fs))
 
 -- the exports of a field after others
 abbrev pub field_exports : List Field → Field → List Export
+field_exports before (field.TypeField l t) = []
+field_exports before (field.Import m n l ns t) = map (export (extern_space t) (next_index (extern_space t) before)) ns
 field_exports before (Func f) = map (export space.Func (next_index space.Func before)) f.exports
 field_exports before (Table l ns t) = map (export space.Table (next_index space.Table before)) ns
 field_exports before (Memory l ns t) = map (export space.Mem (next_index space.Mem before)) ns
@@ -224,13 +256,20 @@ abbrev pub global_of : Field → List (GlobalType × List Instruction)
 global_of (Global l ns t is) = (t, is) ∷ []
 global_of f = []
 
+abbrev pub import_of : Field → List ImportEntry
+import_of (field.Import m n l ns t) = record { from = m; name = n; what = t } ∷ []
+import_of f = []
+
 -- the sections
 
 abbrev pub type_section : List Field → List ℕ
-type_section fs = list_section 1 type_bytes (types_of (functions_of fs))
+type_section fs = list_section 1 type_bytes (types_of fs)
+
+abbrev pub import_section : List Field → List ℕ
+import_section fs = list_section 2 (import_bytes (types_of fs)) (flat_map import_of fs)
 
 abbrev pub function_section : List Field → List ℕ
-function_section fs = list_section 3 (function_bytes (types_of (functions_of fs))) (functions_of fs)
+function_section fs = list_section 3 (function_bytes (types_of fs)) (functions_of fs)
 
 abbrev pub table_section : List Field → List ℕ
 table_section fs = list_section 4 table_bytes (flat_map table_of fs)
@@ -257,4 +296,4 @@ code_section fs = list_section 10 code_bytes (functions_of fs)
 
 -- 5.5.16: a module of these fields
 unfoldable pub module_bytes : List Field → List ℕ
-module_bytes fs = (((((((header ++ type_section fs) ++ function_section fs) ++ table_section fs) ++ memory_section fs) ++ global_section fs) ++ export_section fs) ++ start_section fs) ++ code_section fs
+module_bytes fs = ((((((((header ++ type_section fs) ++ import_section fs) ++ function_section fs) ++ table_section fs) ++ memory_section fs) ++ global_section fs) ++ export_section fs) ++ start_section fs) ++ code_section fs

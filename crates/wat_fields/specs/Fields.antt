@@ -1,15 +1,16 @@
--- WebAssembly 2.0 specification, 6.6 (text format, modules): 6.6.1 indices, 6.6.3 type uses, 6.6.5 functions, 6.6.6 tables, 6.6.7 memories, 6.6.8 globals,
--- 6.6.9 exports, 6.6.10 start function, 6.6.13 modules; 6.4 (types). Over the tokens that count. A rule takes tokens from a place on, and leaves the rest. Left
--- out of the standard: the fields `type`, `import`, `elem` and `data`, type uses by `(type ..)`, inline imports, elements and data, value types but four, a module
--- without its parentheses; and what Table and Grammar of `wat_instructions` leave out: types of blocks that bring parameters or more than one result,
--- br_table, call_indirect, select with types, floating-point constants, references, tables, bulk memory, saturating conversions, vectors.
-use Rattle.std.specs.Prelude.{◌≡◌, ◌&&◌, ◌^◌, ◌≤◌, ℕ, Bool, true, false, List, [], ◌∷◌, ◌++◌, length, map, codes, bytes_eq, nat_lt, Option, Some, None, if◌then◌else◌}
+-- WebAssembly 2.0 specification, 6.6 (text format, modules): 6.6.1 indices, 6.6.2 types, 6.6.3 type uses, 6.6.4 imports, 6.6.5 functions, 6.6.6 tables,
+-- 6.6.7 memories, 6.6.8 globals, 6.6.9 exports, 6.6.10 start function, 6.6.13 modules; 6.4 (types). Over the tokens that count. A rule takes tokens from a
+-- place on, and leaves the rest. Left out of the standard: the fields `elem` and `data`, inline elements and data, v128, funcref and externref as value
+-- types, a module without its parentheses, and a type use by the index of a type that no field `type` defines (one that a type use brings, 6.6.3); and what
+-- Table and Grammar of `wat_instructions` leave out: types of blocks by their index, and those that bring parameters or more than one result, br_table,
+-- call_indirect, select with types, floating-point constants, references, tables, bulk memory, saturating conversions, vectors.
+use Rattle.std.specs.Prelude.{◌≡◌, ◌&&◌, ◌^◌, ◌≤◌, ℕ, Bool, true, false, List, [], ◌∷◌, ◌++◌, length, map, codes, bytes_eq, nat_lt, slice_get, Option, Some, None, if◌then◌else◌}
 use Rattle.std.specs.List.{flat_map}
 use Rattle.std.specs.Str.{is_utf8}
 use Rattle.wat_instructions.specs.declared.pieces.Instruction.{Instruction}
 use Rattle.wat_instructions.specs.declared.pieces.Sign.TheVariants.{Absent}
 use Rattle.wat_instructions.specs.declared.pieces.ValueType.{ValueType}
-use Rattle.wat_instructions.specs.Grammar.{Body, Context, label_of, position, value_type}
+use Rattle.wat_instructions.specs.Grammar.{Body, Context, is_name, label_of, position, value_type}
 use Rattle.wat_instructions.specs.Names.{are_distinct}
 use Rattle.wat_instructions.specs.Terminals.{Terminal, Open, Close, Word, Id, Integer, Text, Label}
 use Rattle.wat_fields.specs.declared.fields.GlobalType.{GlobalType}
@@ -37,18 +38,43 @@ name_of v = v.name
 abbrev pub type_of : Variable → ValueType
 type_of v = v.type
 
--- a function: its name, the names under which it is exported, its variables and its instructions
+-- 6.4.5: a function type, the types of the parameters and of the results
+pub record FunctionType : Type 0 where
+  pub params : List ValueType
+  pub results : List ValueType
+
+abbrev pub function_type : List Variable → List Variable → FunctionType
+function_type params results = record { params = map type_of params; results = map type_of results }
+
+-- 6.6.3: a type use, which may say the index of its type, and its parameters and results
+pub record TypeUse : Type 0 where
+  pub index : Option ℕ
+  pub params : List Variable
+  pub results : List Variable
+
+abbrev pub type_use : Option ℕ → List Variable → List Variable → TypeUse
+type_use i ps rs = record { index = i; params = ps; results = rs }
+
+-- a function: its name, the names under which it is exported, its type, its local variables and its instructions
 pub record Function : Type 0 where
   pub name : Label
   pub exports : List (List ℕ)
-  pub params : List Variable
-  pub results : List Variable
+  pub uses : TypeUse
   pub locals : List Variable
   pub body : List Instruction
 
--- A field, as 6.6.5 to 6.6.10 have them. Functions, tables, memories and globals have a name and the names under which they are exported; an export is
--- of the item of an index; a start function is said by its index.
+-- 6.6.4: what is imported
+pub data ExternType : Type 0 where
+  FuncType : TypeUse → ExternType
+  OfTable : TableType → ExternType
+  OfMemory : Limits → ExternType
+  OfGlobal : GlobalType → ExternType
+
+-- A field, as 6.6.2 to 6.6.10 have them. Functions, tables, memories, globals and imports have a name and the names under which they are exported; an
+-- import has two names, and what is imported; an export is of the item of an index; a start function is said by its index.
 pub data Field : Type 0 where
+  TypeField : Label → FunctionType → Field
+  Import : List ℕ → List ℕ → Label → List (List ℕ) → ExternType → Field
   Func : Function → Field
   Table : Label → List (List ℕ) → TableType → Field
   Memory : Label → List (List ℕ) → Limits → Field
@@ -64,8 +90,16 @@ pub record Binding : Type 0 where
 abbrev pub binding : IndexSpace → Label → Binding
 binding s l = record { space = s; name = l }
 
--- the item that a field defines
+abbrev pub extern_space : ExternType → IndexSpace
+extern_space (FuncType u) = space.Func
+extern_space (OfTable t) = space.Table
+extern_space (OfMemory l) = space.Mem
+extern_space (OfGlobal t) = space.Global
+
+-- the item that a field brings
 abbrev pub binding_of : Field → List Binding
+binding_of (TypeField l t) = []
+binding_of (Import m n l ns t) = binding (extern_space t) l ∷ []
 binding_of (Func f) = binding space.Func f.name ∷ []
 binding_of (Table l ns t) = binding space.Table l ∷ []
 binding_of (Memory l ns t) = binding space.Mem l ∷ []
@@ -114,6 +148,55 @@ with_locals context variables = record {
   memories = context.memories;
   globals = context.globals;
 }
+
+-- a type that a field defines
+pub record Definition : Type 0 where
+  pub name : Label
+  pub type : FunctionType
+
+abbrev pub definition : Label → FunctionType → Definition
+definition l t = record { name = l; type = t }
+
+abbrev pub definition_of : Field → List Definition
+definition_of (TypeField l t) = definition l t ∷ []
+definition_of f = []
+
+abbrev pub definitions_of : List Field → List Definition
+definitions_of fs = flat_map definition_of fs
+
+-- 6.1.3: the types of the context, by name and by index
+pub record Types : Type 0 where
+  pub names : List Label
+  pub types : List FunctionType
+
+abbrev pub definition_name : Definition → Label
+definition_name d = d.name
+
+abbrev pub definition_type : Definition → FunctionType
+definition_type d = d.type
+
+abbrev pub types_in : List Definition → Types
+types_in ds = record { names = map definition_name ds; types = map definition_type ds }
+
+-- 6.6.13: imports come before all definitions of functions, tables, memories and globals
+abbrev pub is_import : Field → Bool
+is_import (Import m n l ns t) = true
+is_import f = false
+
+abbrev pub has_import : List Field → Bool
+has_import [] = false
+has_import (f ∷ fs) = if is_import f then true else has_import fs
+
+abbrev pub is_definition : Field → Bool
+is_definition (Func f) = true
+is_definition (Table l ns t) = true
+is_definition (Memory l ns t) = true
+is_definition (Global l ns t is) = true
+is_definition f = false
+
+abbrev pub imports_first : List Field → Bool
+imports_first [] = true
+imports_first (f ∷ fs) = if is_definition f then (if has_import fs then false else true) else imports_first fs
 
 -- the indices of start functions
 abbrev pub start_of : Field → List ℕ
@@ -164,40 +247,72 @@ pub data GlobalTypeIs : List Terminal → GlobalType → List Terminal → Type 
   by_constant : {ts : List Terminal} {w : List ℕ} {t : ValueType} → value_type w ≡ Some t → GlobalTypeIs (Word w ∷ ts) (record { is_mutable = false; value = t }) ts
   by_mutable : {ts : List Terminal} {v w : List ℕ} {t : ValueType} → v ≡ codes "mut" → value_type w ≡ Some t → GlobalTypeIs (Open ∷ Word v ∷ Word w ∷ Close ∷ ts) (record { is_mutable = true; value = t }) ts
 
+-- 6.6.3: typeuse = param* result*; or `(` type index `)` param* result*, where the lists are those of the type, or list nothing: then the parameters have no
+-- names
+pub data TypeUseIs (types : Types) : List Terminal → TypeUse → List Terminal → Type 0 where
+  by_lists : {ts us vs : List Terminal} {params results : List Variable}
+      → Many (Group (codes "param") true) ts params us → Many (Group (codes "result") false) us results vs → TypeUseIs types ts (type_use None params results) vs
+  by_index : {w : List ℕ} {ts us vs ws : List Terminal} {i : ℕ} {t : FunctionType}
+      → w ≡ codes "type" → IndexIs types.names ts i (Close ∷ us) → slice_get types.types i ≡ Some t → Many (Group (codes "param") true) us [] vs → Many (Group (codes "result") false) vs [] ws
+      → TypeUseIs types (Open ∷ Word w ∷ ts) (type_use (Some i) (map unnamed t.params) (map unnamed t.results)) ws
+  by_both : {w : List ℕ} {ts us vs ws : List Terminal} {i : ℕ} {params results : List Variable}
+      → w ≡ codes "type" → IndexIs types.names ts i (Close ∷ us) → slice_get types.types i ≡ Some (function_type params results) → Many (Group (codes "param") true) us params vs → Many (Group (codes "result") false) vs results ws
+      → TypeUseIs types (Open ∷ Word w ∷ ts) (type_use (Some i) params results) ws
+
 -- 6.6.9: the index space that a word of an export names; the word of a field is the same
 abbrev pub space_of : List ℕ → Option IndexSpace
 space_of w =
     if bytes_eq w (codes "func") then Some space.Func else if bytes_eq w (codes "table") then Some space.Table else if bytes_eq w (codes "memory") then Some space.Mem else if bytes_eq w (codes "global") then Some space.Global else None
 
 -- 6.6.13: the identifiers are distinct in each index space
-abbrev pub all_distinct : Context → Bool
-all_distinct context = are_distinct context.funcs && are_distinct context.tables && are_distinct context.memories && are_distinct context.globals
+abbrev pub all_distinct : Types → Context → Bool
+all_distinct types context = are_distinct types.names && are_distinct context.funcs && are_distinct context.tables && are_distinct context.memories && are_distinct context.globals
+
+-- 6.4.7 to 6.4.9, 6.6.3: what is imported, after its name
+pub data ExternIs (types : Types) : IndexSpace → List Terminal → ExternType → List Terminal → Type 0 where
+  by_type_use : {ts us : List Terminal} {u : TypeUse} → TypeUseIs types ts u us → are_distinct (map name_of u.params) ≡ true → ExternIs types space.Func ts (FuncType u) us
+  by_table_type : {ts us : List Terminal} {v : List ℕ} {limits : Limits} {t : ReferenceType} → LimitsAre ts limits (Word v ∷ us) → reference_type v ≡ Some t → ExternIs types space.Table ts (OfTable (record { limits = limits; element = t })) us
+  by_memory_type : {ts us : List Terminal} {limits : Limits} → LimitsAre ts limits us → ExternIs types space.Mem ts (OfMemory limits) us
+  by_global_type : {ts us : List Terminal} {t : GlobalType} → GlobalTypeIs ts t us → ExternIs types space.Global ts (OfGlobal t) us
 
 -- a field in a context; `(` comes first
-pub data FieldIs (context : Context) : List Terminal → List Field → List Terminal → Type 0 where
-  -- 6.6.5: func = `(` func id? export* param* result* local* instr* `)`
-  by_func : {w : List ℕ} {ts hs bs cs ds r : List Terminal} {names : List (List ℕ)} {params results locals : List Variable} {is : List Instruction}
-      → w ≡ codes "func" → Many InlineExport (label_of ts).1 names hs → Many (Group (codes "param") true) hs params bs → Many (Group (codes "result") false) bs results cs → Many (Group (codes "local") true) cs locals ds
-      → are_distinct (map name_of (params ++ locals)) ≡ true → Body (with_locals context (params ++ locals)) ds is r
-      → FieldIs context (Open ∷ Word w ∷ ts) (Func (record { name = (label_of ts).0; exports = names; params = params; results = results; locals = locals; body = is }) ∷ []) r
+pub data FieldIs (types : Types) (context : Context) : List Terminal → List Field → List Terminal → Type 0 where
+  -- 6.6.2: type = `(` type id? `(` func param* result* `)` `)`
+  by_type : {w v : List ℕ} {ts hs bs r : List Terminal} {params results : List Variable}
+      → w ≡ codes "type" → (label_of ts).1 ≡ Open ∷ Word v ∷ hs → v ≡ codes "func" → Many (Group (codes "param") true) hs params bs → Many (Group (codes "result") false) bs results (Close ∷ Close ∷ r)
+      → FieldIs types context (Open ∷ Word w ∷ ts) (TypeField (label_of ts).0 (function_type params results) ∷ []) r
+  -- 6.6.4: import = `(` import name name `(` func id? typeuse `)` `)`, and so of a table, a memory or a global
+  by_import : {w m n v : List ℕ} {ts r : List Terminal} {s : IndexSpace} {t : ExternType}
+      → w ≡ codes "import" → is_utf8 m ≡ true → is_utf8 n ≡ true → space_of v ≡ Some s → ExternIs types s (label_of ts).1 t (Close ∷ Close ∷ r)
+      → FieldIs types context (Open ∷ Word w ∷ Text m ∷ Text n ∷ Open ∷ Word v ∷ ts) (Import m n (label_of ts).0 [] t ∷ []) r
+  -- 6.6.5 to 6.6.8: `(` func id? export* `(` import name name `)` typeuse `)` is an import, and so of a table, a memory or a global
+  by_inline_import : {w v m n : List ℕ} {ts us r : List Terminal} {names : List (List ℕ)} {s : IndexSpace} {t : ExternType}
+      → space_of w ≡ Some s → Many InlineExport (label_of ts).1 names (Open ∷ Word v ∷ Text m ∷ Text n ∷ Close ∷ us) → v ≡ codes "import" → is_utf8 m ≡ true → is_utf8 n ≡ true → ExternIs types s us t (Close ∷ r)
+      → FieldIs types context (Open ∷ Word w ∷ ts) (Import m n (label_of ts).0 names t ∷ []) r
+  -- 6.6.5: func = `(` func id? export* typeuse local* instr* `)`
+  by_func : {w : List ℕ} {ts hs bs ds r : List Terminal} {names : List (List ℕ)} {u : TypeUse} {locals : List Variable} {is : List Instruction}
+      → w ≡ codes "func" → Many InlineExport (label_of ts).1 names hs → TypeUseIs types hs u bs → Many (Group (codes "local") true) bs locals ds
+      → are_distinct (map name_of (u.params ++ locals)) ≡ true → Body (with_locals context (u.params ++ locals)) ds is r
+      → FieldIs types context (Open ∷ Word w ∷ ts) (Func (record { name = (label_of ts).0; exports = names; uses = u; locals = locals; body = is }) ∷ []) r
   -- 6.6.6, 6.4.8: table = `(` table id? export* limits reftype `)`
   by_table : {w v : List ℕ} {ts hs r : List Terminal} {names : List (List ℕ)} {limits : Limits} {t : ReferenceType}
       → w ≡ codes "table" → Many InlineExport (label_of ts).1 names hs → LimitsAre hs limits (Word v ∷ Close ∷ r) → reference_type v ≡ Some t
-      → FieldIs context (Open ∷ Word w ∷ ts) (Table (label_of ts).0 names (record { limits = limits; element = t }) ∷ []) r
+      → FieldIs types context (Open ∷ Word w ∷ ts) (Table (label_of ts).0 names (record { limits = limits; element = t }) ∷ []) r
   -- 6.6.7, 6.4.7: mem = `(` memory id? export* limits `)`
   by_memory : {w : List ℕ} {ts hs r : List Terminal} {names : List (List ℕ)} {limits : Limits}
-      → w ≡ codes "memory" → Many InlineExport (label_of ts).1 names hs → LimitsAre hs limits (Close ∷ r) → FieldIs context (Open ∷ Word w ∷ ts) (Memory (label_of ts).0 names limits ∷ []) r
+      → w ≡ codes "memory" → Many InlineExport (label_of ts).1 names hs → LimitsAre hs limits (Close ∷ r) → FieldIs types context (Open ∷ Word w ∷ ts) (Memory (label_of ts).0 names limits ∷ []) r
   -- 6.6.8: global = `(` global id? export* globaltype instr* `)`
   by_global : {w : List ℕ} {ts hs bs r : List Terminal} {names : List (List ℕ)} {t : GlobalType} {is : List Instruction}
-      → w ≡ codes "global" → Many InlineExport (label_of ts).1 names hs → GlobalTypeIs hs t bs → Body context bs is r → FieldIs context (Open ∷ Word w ∷ ts) (Global (label_of ts).0 names t is ∷ []) r
+      → w ≡ codes "global" → Many InlineExport (label_of ts).1 names hs → GlobalTypeIs hs t bs → Body context bs is r → FieldIs types context (Open ∷ Word w ∷ ts) (Global (label_of ts).0 names t is ∷ []) r
   -- 6.6.9: export = `(` export name `(` func index `)` `)`, and so of a table, a memory or a global
   by_export : {w n v : List ℕ} {ts r : List Terminal} {s : IndexSpace} {i : ℕ}
-      → w ≡ codes "export" → is_utf8 n ≡ true → space_of v ≡ Some s → IndexIs (names_of context s) ts i (Close ∷ Close ∷ r) → FieldIs context (Open ∷ Word w ∷ Text n ∷ Open ∷ Word v ∷ ts) (Export n s i ∷ []) r
+      → w ≡ codes "export" → is_utf8 n ≡ true → space_of v ≡ Some s → IndexIs (names_of context s) ts i (Close ∷ Close ∷ r) → FieldIs types context (Open ∷ Word w ∷ Text n ∷ Open ∷ Word v ∷ ts) (Export n s i ∷ []) r
   -- 6.6.10: start = `(` start index `)`
-  by_start : {w : List ℕ} {ts r : List Terminal} {i : ℕ} → w ≡ codes "start" → IndexIs context.funcs ts i (Close ∷ r) → FieldIs context (Open ∷ Word w ∷ ts) (Start i ∷ []) r
+  by_start : {w : List ℕ} {ts r : List Terminal} {i : ℕ} → w ≡ codes "start" → IndexIs context.funcs ts i (Close ∷ r) → FieldIs types context (Open ∷ Word w ∷ ts) (Start i ∷ []) r
 
--- 6.6.13: module = `(` module id? field* `)`, and nothing after it. The context is the one that the fields themselves bring; there is one start function
--- at most.
+-- 6.6.13: module = `(` module id? field* `)`, and nothing after it. The context is the one that the fields themselves bring; imports come first, and there
+-- is one start function at most.
 pub data Module : List Terminal → List Field → Type 0 where
   by_module : {w : List ℕ} {ts : List Terminal} {fs : List Field}
-      → w ≡ codes "module" → Many (FieldIs (context_of (bindings_of fs))) (label_of ts).1 fs (Close ∷ []) → all_distinct (context_of (bindings_of fs)) ≡ true → length (starts_of fs) ≤ 1 → Module (Open ∷ Word w ∷ ts) fs
+      → w ≡ codes "module" → Many (FieldIs (types_in (definitions_of fs)) (context_of (bindings_of fs))) (label_of ts).1 fs (Close ∷ []) → all_distinct (types_in (definitions_of fs)) (context_of (bindings_of fs)) ≡ true
+      → imports_first fs ≡ true → length (starts_of fs) ≤ 1 → Module (Open ∷ Word w ∷ ts) fs

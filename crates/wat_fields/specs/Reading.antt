@@ -1,8 +1,9 @@
 -- What the code reads, token by token. Nobody has to believe it: Law.antt says that it is the grammar.
-use Rattle.std.specs.Prelude.{ℕ, zero, suc, Bool, true, false, List, [], ◌∷◌, ◌++◌, length, map, codes, bytes_eq, nat_lt, Option, Some, None, Result, Ok, Err, if◌then◌else◌}
+use Rattle.std.specs.Prelude.{ℕ, zero, suc, Bool, true, false, List, [], ◌∷◌, ◌++◌, length, map, codes, bytes_eq, nat_lt, slice_get, Option, Some, None, Result, Ok, Err, if◌then◌else◌}
+use Rattle.std.specs.List.{flat_map}
 use Rattle.std.specs.Str.{is_utf8}
 use Rattle.wat_instructions.specs.declared.pieces.Instruction.{Instruction}
-use Rattle.wat_instructions.specs.declared.pieces.FaultKind.TheVariants.{Unexpected, UnknownWord, Duplicate, NotUtf8, SecondStart}
+use Rattle.wat_instructions.specs.declared.pieces.FaultKind.TheVariants.{Unexpected, UnknownWord, UnknownName, Duplicate, NotUtf8, SecondStart, OtherType, LateImport}
 use Rattle.wat_instructions.specs.declared.pieces.ValueType.{ValueType}
 use Rattle.wat_instructions.specs.Grammar.{Context, Fault, index, label_of, small, value_type}
 use Rattle.wat_instructions.specs.Machine.{body}
@@ -12,7 +13,9 @@ use Rattle.wat_fields.specs.declared.fields.IndexSpace.{IndexSpace}
 use Rattle.wat_fields.specs.declared.fields.IndexSpace.TheVariants as space
 use Rattle.wat_fields.specs.declared.fields.Limits.{Limits}
 use Rattle.wat_fields.specs.declared.fields.ReferenceType.{ReferenceType}
-use Rattle.wat_fields.specs.Fields.{Field, Func, Table, Memory, Global, Export, Start, Function, Binding, Variable, binding, variable, unnamed, name_of, names_of, context_of, with_locals, all_distinct, reference_type, space_of, starts_of}
+use Rattle.wat_fields.specs.declared.fields.TableType.{TableType}
+use Rattle.wat_fields.specs.Binary.{same_type}
+use Rattle.wat_fields.specs.Fields.{Field, Func, Table, Memory, Global, Export, Import, TypeField, Start, Function, FunctionType, TypeUse, ExternType, FuncType, OfTable, OfMemory, OfGlobal, Types, Definition, Binding, Variable, binding, definition, function_type, type_use, variable, unnamed, name_of, names_of, context_of, types_in, with_locals, all_distinct, imports_first, reference_type, space_of, starts_of}
 use Rattle.wat_instructions.specs.Names.{are_distinct}
 
 -- a value and the tokens after it, or the fault
@@ -112,28 +115,43 @@ results ts = all (group_item (codes "result") false) ts
 abbrev pub locals : List Terminal → Read (List Variable)
 locals ts = all (group_item (codes "local") true) ts
 
--- what comes before the instructions of a function
-pub record Header : Type 0 where
-  pub exports : List (List ℕ)
-  pub params : List Variable
-  pub results : List Variable
-  pub locals : List Variable
+abbrev pub listed_use : List Terminal → Read TypeUse
+listed_use ts = and_then (params ts) (λ ps us. and_then (results us) (λ rs vs. Ok (type_use None ps rs, vs)))
 
-unfoldable pub header : List Terminal → Read Header
-header ts = and_then (all export_item ts) (λ ns hs. and_then (params hs) (λ ps bs. and_then (results bs) (λ rs cs. and_then (locals cs) (λ ls ds. Ok (record { exports = ns; params = ps; results = rs; locals = ls }, ds)))))
+-- the type of an index with what is listed, after all these tokens
+abbrev pub agreed_lists : ℕ → FunctionType → List Variable → List Variable → List Terminal → List Terminal → Read TypeUse
+agreed_lists i t ps rs all ts = if same_type (function_type ps rs) t then Ok (type_use (Some i) ps rs, ts) else Err (OtherType, all)
 
-abbrev pub function : Label → Header → List Instruction → Function
-function l h is = record { name = l; exports = h.exports; params = h.params; results = h.results; locals = h.locals; body = is }
+abbrev pub list_nothing : List Variable → List Variable → Bool
+list_nothing [] [] = true
+list_nothing ps rs = false
 
--- the instructions after a header
-unfoldable pub instructions : Context → Header → List Terminal → Read (List Instruction)
-instructions context h ts = if are_distinct (map name_of (h.params ++ h.locals)) then body (with_locals context (h.params ++ h.locals)) ts else Err (Duplicate, ts)
+abbrev pub agreed : ℕ → FunctionType → List Variable → List Variable → List Terminal → List Terminal → Read TypeUse
+agreed i t ps rs all ts = if list_nothing ps rs then Ok (type_use (Some i) (map unnamed t.params) (map unnamed t.results), ts) else agreed_lists i t ps rs all ts
 
-abbrev pub after_header : Context → Label → Header → List Terminal → Read (List Field)
-after_header context l h ts = and_then (instructions context h ts) (λ is us. Ok (Func (function l h is) ∷ [], us))
+abbrev pub lists_after : ℕ → Option FunctionType → List Terminal → List Terminal → Read TypeUse
+lists_after i None all ts = Err (UnknownName, all)
+lists_after i (Some t) all ts = and_then (params ts) (λ ps us. and_then (results us) (λ rs vs. agreed i t ps rs all vs))
 
-abbrev pub func_at : Context → Label × List Terminal → Read (List Field)
-func_at context p = and_then (header p.1) (λ h us. after_header context p.0 h us)
+abbrev pub indexed_use : Types → List Terminal → Read TypeUse
+indexed_use types ts = and_then (index types.names ts) (λ i us. and_then (closing i (closed us)) (λ i vs. lists_after i (slice_get types.types i) ts vs))
+
+abbrev pub use_by : Types → Option (List Terminal) → List Terminal → Read TypeUse
+use_by types None all = listed_use all
+use_by types (Some ts) all = indexed_use types ts
+
+unfoldable pub use_at : Types → List Terminal → Read TypeUse
+use_at types ts = use_by types (after (codes "type") ts) ts
+
+abbrev pub function : Label → List (List ℕ) → TypeUse → List Variable → List Instruction → Function
+function l ns u ls is = record { name = l; exports = ns; uses = u; locals = ls; body = is }
+
+-- the instructions after parameters and local variables
+unfoldable pub instructions : Context → List Variable → List Variable → List Terminal → Read (List Instruction)
+instructions context ps ls ts = if are_distinct (map name_of (ps ++ ls)) then body (with_locals context (ps ++ ls)) ts else Err (Duplicate, ts)
+
+abbrev pub func_at : Types → Context → Label → List (List ℕ) → List Terminal → Read (List Field)
+func_at types context l ns ts = and_then (use_at types ts) (λ u us. and_then (locals us) (λ ls vs. and_then (instructions context u.params ls vs) (λ is xs. Ok (Func (function l ns u ls is) ∷ [], xs))))
 
 abbrev pub limits : ℕ → Option ℕ → Limits
 limits n m = record { min = n; max = m }
@@ -149,21 +167,23 @@ limits_at ts = Err (Unexpected, ts)
 
 abbrev pub reference_by : Option ReferenceType → List Terminal → List Terminal → Read ReferenceType
 reference_by None all ts = Err (UnknownWord, all)
-reference_by (Some t) all ts = closing t (closed ts)
+reference_by (Some t) all ts = Ok (t, ts)
 
--- a reference type and `)`
 unfoldable pub reference_at : List Terminal → Read ReferenceType
 reference_at (Word w ∷ ts) = reference_by (reference_type w) (Word w ∷ ts) ts
 reference_at ts = Err (Unexpected, ts)
 
-abbrev pub table : Label → List (List ℕ) → Limits → ReferenceType → Field
-table l ns limits t = Table l ns (record { limits = limits; element = t })
+abbrev pub table_type : Limits → ReferenceType → TableType
+table_type limits t = record { limits = limits; element = t }
 
-abbrev pub table_at : Label × List Terminal → Read (List Field)
-table_at p = and_then (all export_item p.1) (λ ns us. and_then (limits_at us) (λ limits vs. and_then (reference_at vs) (λ t xs. Ok (table p.0 ns limits t ∷ [], xs))))
+unfoldable pub table_type_at : List Terminal → Read TableType
+table_type_at ts = and_then (limits_at ts) (λ limits us. and_then (reference_at us) (λ t vs. Ok (table_type limits t, vs)))
 
-abbrev pub memory_at : Label × List Terminal → Read (List Field)
-memory_at p = and_then (all export_item p.1) (λ ns us. and_then (limits_at us) (λ limits vs. closing (Memory p.0 ns limits ∷ []) (closed vs)))
+abbrev pub table_at : Label → List (List ℕ) → List Terminal → Read (List Field)
+table_at l ns ts = and_then (table_type_at ts) (λ t us. closing (Table l ns t ∷ []) (closed us))
+
+abbrev pub memory_at : Label → List (List ℕ) → List Terminal → Read (List Field)
+memory_at l ns ts = and_then (limits_at ts) (λ limits us. closing (Memory l ns limits ∷ []) (closed us))
 
 abbrev pub global_type : Bool → ValueType → GlobalType
 global_type b t = record { is_mutable = b; value = t }
@@ -191,8 +211,46 @@ global_type_at (Word w ∷ ts) = constant_by (value_type w) (Word w ∷ ts) ts
 global_type_at (Open ∷ ts) = mutable_at ts
 global_type_at ts = Err (Unexpected, ts)
 
-abbrev pub global_at : Context → Label × List Terminal → Read (List Field)
-global_at context p = and_then (all export_item p.1) (λ ns us. and_then (global_type_at us) (λ t vs. and_then (body context vs) (λ is xs. Ok (Global p.0 ns t is ∷ [], xs))))
+abbrev pub global_at : Context → Label → List (List ℕ) → List Terminal → Read (List Field)
+global_at context l ns ts = and_then (global_type_at ts) (λ t us. and_then (body context us) (λ is vs. Ok (Global l ns t is ∷ [], vs)))
+
+-- a definition after its name and its exports
+abbrev pub defined : Types → Context → IndexSpace → Label → List (List ℕ) → List Terminal → Read (List Field)
+defined types context space.Func l ns ts = func_at types context l ns ts
+defined types context space.Table l ns ts = table_at l ns ts
+defined types context space.Mem l ns ts = memory_at l ns ts
+defined types context space.Global l ns ts = global_at context l ns ts
+
+-- Imports.
+
+-- the two names of an import
+unfoldable pub import_names : List Terminal → Read (List ℕ × List ℕ)
+import_names ts = and_then (utf8_text ts) (λ m us. and_then (utf8_text us) (λ n vs. Ok ((m, n), vs)))
+
+abbrev pub func_type : TypeUse → List Terminal → List Terminal → Read ExternType
+func_type u all ts = if are_distinct (map name_of u.params) then Ok (FuncType u, ts) else Err (Duplicate, all)
+
+-- what is imported, after its name
+unfoldable pub extern_at : Types → IndexSpace → List Terminal → Read ExternType
+extern_at types space.Func ts = and_then (use_at types ts) (λ u us. func_type u ts us)
+extern_at types space.Table ts = and_then (table_type_at ts) (λ t us. Ok (OfTable t, us))
+extern_at types space.Mem ts = and_then (limits_at ts) (λ limits us. Ok (OfMemory limits, us))
+extern_at types space.Global ts = and_then (global_type_at ts) (λ t us. Ok (OfGlobal t, us))
+
+abbrev pub imported : Label → List (List ℕ) → List ℕ × List ℕ → ExternType → Field
+imported l ns names t = Import names.0 names.1 l ns t
+
+-- an inline import after its name, its exports and `(import`
+abbrev pub inline_import : Types → IndexSpace → Label → List (List ℕ) → List Terminal → Read (List Field)
+inline_import types s l ns ts = and_then (import_names ts) (λ names us. and_then (closing names (closed us)) (λ names vs. and_then (extern_at types s vs) (λ t xs. closing (imported l ns names t ∷ []) (closed xs))))
+
+abbrev pub item_by : Types → Context → IndexSpace → Label → List (List ℕ) → Option (List Terminal) → List Terminal → Read (List Field)
+item_by types context s l ns None all = defined types context s l ns all
+item_by types context s l ns (Some ts) all = inline_import types s l ns ts
+
+-- a function, a table, a memory or a global after its word
+abbrev pub item_at : Types → Context → IndexSpace → Label × List Terminal → Read (List Field)
+item_at types context s p = and_then (all export_item p.1) (λ ns us. item_by types context s p.0 ns (after (codes "import") us) us)
 
 -- `)` and `)`
 abbrev pub twice_closed : List Terminal → Result (List Terminal) Fault
@@ -219,66 +277,115 @@ export_at context ts = and_then (utf8_text ts) (λ n us. external_at context n u
 abbrev pub start_at : Context → List Terminal → Read (List Field)
 start_at context ts = and_then (index context.funcs ts) (λ i us. closing (Start i ∷ []) (closed us))
 
--- an export or a start function, after its word, with which all these tokens begin
-abbrev pub other_at : Context → List ℕ → List Terminal → List Terminal → Read (List Field)
-other_at context w all ts = if bytes_eq w (codes "export") then export_at context ts else if bytes_eq w (codes "start") then start_at context ts else Err (UnknownWord, all)
+-- an import after its names
+abbrev pub extern_after : Types → List ℕ × List ℕ → IndexSpace → Label × List Terminal → Read (List Field)
+extern_after types names s p = and_then (extern_at types s p.1) (λ t us. closing (imported p.0 [] names t ∷ []) (twice_closed us))
+
+abbrev pub import_by : Types → List ℕ × List ℕ → Option IndexSpace → List Terminal → List Terminal → Read (List Field)
+import_by types names None all ts = Err (UnknownWord, all)
+import_by types names (Some s) all ts = extern_after types names s (label_of ts)
+
+abbrev pub import_word : Types → List ℕ × List ℕ → List Terminal → Read (List Field)
+import_word types names (Word v ∷ ts) = import_by types names (space_of v) (Word v ∷ ts) ts
+import_word types names ts = Err (Unexpected, ts)
+
+unfoldable pub import_open : Types → List ℕ × List ℕ → List Terminal → Read (List Field)
+import_open types names (Open ∷ ts) = import_word types names ts
+import_open types names ts = Err (Unexpected, ts)
+
+abbrev pub import_at : Types → List Terminal → Read (List Field)
+import_at types ts = and_then (import_names ts) (λ names us. import_open types names us)
+
+-- Types.
+
+abbrev pub type_lists : Label → List Terminal → Read Definition
+type_lists l ts = and_then (params ts) (λ ps us. and_then (results us) (λ rs vs. closing (definition l (function_type ps rs)) (twice_closed vs)))
+
+abbrev pub type_by : Label → Option (List Terminal) → List Terminal → Read Definition
+type_by l None all = Err (Unexpected, all)
+type_by l (Some ts) all = type_lists l ts
+
+-- a type after its word
+unfoldable pub type_at : List Terminal → Read Definition
+type_at ts = type_by (label_of ts).0 (after (codes "func") (label_of ts).1) (label_of ts).1
+
+abbrev pub type_field : List Terminal → Read (List Field)
+type_field ts = and_then (type_at ts) (λ d us. Ok (TypeField d.name d.type ∷ [], us))
+
+-- a type, an import, an export or a start function, after its word, with which all these tokens begin
+abbrev pub other_at : Types → Context → List ℕ → List Terminal → List Terminal → Read (List Field)
+other_at types context w all ts =
+    if bytes_eq w (codes "type") then type_field ts else if bytes_eq w (codes "import") then import_at types ts else if bytes_eq w (codes "export") then export_at context ts else if bytes_eq w (codes "start") then start_at context ts else Err (UnknownWord, all)
 
 -- a field after its word, with which all these tokens begin
-abbrev pub field_by : Context → Option IndexSpace → List ℕ → List Terminal → List Terminal → Read (List Field)
-field_by context (Some space.Func) w all ts = func_at context (label_of ts)
-field_by context (Some space.Table) w all ts = table_at (label_of ts)
-field_by context (Some space.Mem) w all ts = memory_at (label_of ts)
-field_by context (Some space.Global) w all ts = global_at context (label_of ts)
-field_by context None w all ts = other_at context w all ts
+abbrev pub field_by : Types → Context → Option IndexSpace → List ℕ → List Terminal → List Terminal → Read (List Field)
+field_by types context (Some s) w all ts = item_at types context s (label_of ts)
+field_by types context None w all ts = other_at types context w all ts
 
 -- a field after its `(`
-abbrev pub field : Context → List Terminal → Read (List Field)
-field context (Word w ∷ ts) = field_by context (space_of w) w (Word w ∷ ts) ts
-field context ts = Err (Unexpected, ts)
+abbrev pub field : Types → Context → List Terminal → Read (List Field)
+field types context (Word w ∷ ts) = field_by types context (space_of w) w (Word w ∷ ts) ts
+field types context ts = Err (Unexpected, ts)
 
-unfoldable pub field_item : Context → List Terminal → Item Field
-field_item context (Open ∷ ts) = Some (field context ts)
-field_item context ts = None
+unfoldable pub field_item : Types → Context → List Terminal → Item Field
+field_item types context (Open ∷ ts) = Some (field types context ts)
+field_item types context ts = None
 
--- where in the fields a token is: before `(`, after it, after its word, and in a field, in so many groups more
+-- Where fields begin, and what they bring, by the parentheses alone.
+
+-- where a token is: before a `(` of a field, and in a field, in so many groups more
 pub data Depth : Type 0 where
   Before : Depth
-  Opened : Depth
-  Headed : Option IndexSpace → Depth
   Inside : ℕ → Depth
-
--- the name that a field has which begins so after its word
-abbrev pub head_name : Terminal → Label
-head_name (Id x) = Some x
-head_name t = None
-
--- the item that it defines
-abbrev pub binding_by : Option IndexSpace → Label → List Binding
-binding_by None l = []
-binding_by (Some s) l = binding s l ∷ []
-
--- after a first token after its word
-abbrev pub head_depth : Terminal → Depth
-head_depth Open = Inside 1
-head_depth Close = Before
-head_depth t = Inside 0
 
 -- after `)`
 abbrev pub after_close : ℕ → Depth
 after_close zero = Before
 after_close (suc d) = Inside d
 
--- the items after others, by the parentheses alone
-unfoldable pub bindings : Depth → List Binding → List Terminal → List Binding
-bindings d hs [] = hs
-bindings Before hs (Open ∷ ts) = bindings Opened hs ts
-bindings Before hs (t ∷ ts) = hs
-bindings Opened hs (Word w ∷ ts) = bindings (Headed (space_of w)) hs ts
-bindings Opened hs (t ∷ ts) = hs
-bindings (Headed s) hs (t ∷ ts) = bindings (head_depth t) (hs ++ binding_by s (head_name t)) ts
-bindings (Inside d) hs (Open ∷ ts) = bindings (Inside (suc d)) hs ts
-bindings (Inside d) hs (Close ∷ ts) = bindings (after_close d) hs ts
-bindings (Inside d) hs (t ∷ ts) = bindings (Inside d) hs ts
+-- the tokens after the `(` of each field, after others
+unfoldable pub starts : Depth → List (List Terminal) → List Terminal → List (List Terminal)
+starts d ss [] = ss
+starts Before ss (Open ∷ ts) = starts (Inside 0) (ss ++ ts ∷ []) ts
+starts Before ss (t ∷ ts) = ss
+starts (Inside d) ss (Open ∷ ts) = starts (Inside (suc d)) ss ts
+starts (Inside d) ss (Close ∷ ts) = starts (after_close d) ss ts
+starts (Inside d) ss (t ∷ ts) = starts (Inside d) ss ts
+
+abbrev pub binding_by : Option IndexSpace → Label → List Binding
+binding_by None l = []
+binding_by (Some s) l = binding s l ∷ []
+
+abbrev pub word_binding : List Terminal → List Binding
+word_binding (Word v ∷ ts) = binding_by (space_of v) (label_of ts).0
+word_binding ts = []
+
+abbrev pub open_binding : List Terminal → List Binding
+open_binding (Open ∷ ts) = word_binding ts
+open_binding ts = []
+
+abbrev pub text_binding : List Terminal → List Binding
+text_binding (Text n ∷ ts) = open_binding ts
+text_binding ts = []
+
+-- the item that an import brings, after its word
+abbrev pub import_binding : List Terminal → List Binding
+import_binding (Text m ∷ ts) = text_binding ts
+import_binding ts = []
+
+-- the item that a field brings
+unfoldable pub binding_at : List Terminal → List Binding
+binding_at (Word w ∷ ts) = if bytes_eq w (codes "import") then import_binding ts else binding_by (space_of w) (label_of ts).0
+binding_at ts = []
+
+abbrev pub definition_by : Read Definition → List Definition
+definition_by (Ok (d, ts)) = d ∷ []
+definition_by (Err f) = []
+
+-- the type that a field defines
+unfoldable pub definition_at : List Terminal → List Definition
+definition_at (Word w ∷ ts) = if bytes_eq w (codes "type") then definition_by (type_at ts) else []
+definition_at ts = []
 
 -- `)`, and the end
 abbrev pub ended : Read (List Field) → Result (List Field) Fault
@@ -287,17 +394,20 @@ ended (Ok (fs, Close ∷ t ∷ ts)) = Err (Unexpected, t ∷ ts)
 ended (Ok (fs, ts)) = Err (Unexpected, ts)
 ended (Err f) = Err f
 
--- one start function at most; the fields begin there
-abbrev pub started : List Terminal → Result (List Field) Fault → Result (List Field) Fault
-started ts (Ok fs) = if nat_lt (length (starts_of fs)) 2 then Ok fs else Err (SecondStart, ts)
-started ts (Err f) = Err f
+-- imports come first, and there is one start function at most; the fields begin there
+abbrev pub ordered : List Terminal → Result (List Field) Fault → Result (List Field) Fault
+ordered ts (Ok fs) = if imports_first fs then (if nat_lt (length (starts_of fs)) 2 then Ok fs else Err (SecondStart, ts)) else Err (LateImport, ts)
+ordered ts (Err f) = Err f
 
 -- the fields of a module, in a context
-abbrev pub fields_of : Context → List Terminal → Result (List Field) Fault
-fields_of context ts = if all_distinct context then started ts (ended (all (field_item context) ts)) else Err (Duplicate, ts)
+abbrev pub fields_of : Types → Context → List Terminal → Result (List Field) Fault
+fields_of types context ts = if all_distinct types context then ordered ts (ended (all (field_item types context) ts)) else Err (Duplicate, ts)
+
+abbrev pub fields_from : List (List Terminal) → List Terminal → Result (List Field) Fault
+fields_from ss ts = fields_of (types_in (flat_map definition_at ss)) (context_of (flat_map binding_at ss)) ts
 
 abbrev pub fields_at : List Terminal → Result (List Field) Fault
-fields_at ts = fields_of (context_of (bindings Before [] ts)) ts
+fields_at ts = fields_from (starts Before [] ts) ts
 
 -- a module after its `(`
 abbrev pub module_word : List Terminal → Result (List Field) Fault

@@ -5,26 +5,32 @@ use Rattle.wat_instructions.specs.declared.pieces.Refusal.{Refusal}
 use Rattle.wat_instructions.specs.declared.pieces.Refusal.TheVariants as refusal
 use Rattle.wat_instructions.specs.Parts.{fault_of}
 use Rattle.wat_instructions.specs.Grammar.{Context}
-use Rattle.wat_instructions.specs.Terminals.{Terminal, Label, label}
+use Rattle.wat_instructions.specs.Terminals.{Terminal, Label, label, terminal}
 use Rattle.wat_fields.specs.declared.fields.Variable as declared_variable
-use Rattle.wat_fields.specs.declared.fields.Header as declared_header
+use Rattle.wat_fields.specs.declared.fields.Definition as declared_definition
+use Rattle.wat_fields.specs.declared.fields.Import as declared_import
+use Rattle.wat_fields.specs.declared.fields.ExternType as declared_extern
+use Rattle.wat_fields.specs.declared.fields.ExternType.TheVariants as externs
+use Rattle.wat_fields.specs.declared.fields.FunctionType as declared_type
+use Rattle.wat_fields.specs.declared.fields.TypeUse as declared_use
 use Rattle.wat_fields.specs.declared.fields.Function as declared_function
 use Rattle.wat_fields.specs.declared.fields.Export as declared_export
 use Rattle.wat_fields.specs.declared.fields.Field as declared_field
 use Rattle.wat_fields.specs.declared.fields.Field.TheVariants as fields
+use Rattle.wat_fields.specs.declared.fields.IndexSpace.{IndexSpace}
 use Rattle.wat_fields.specs.declared.fields.IndexSpace.TheVariants as space
+use Rattle.wat_fields.specs.declared.fields.Left as declared_left
 use Rattle.wat_fields.specs.declared.binary.Counts as declared_counts
-use Rattle.wat_fields.specs.declared.binary.FunctionType as declared_type
 use Rattle.wat_fields.specs.declared.binary.Run as declared_run
 use Rattle.wat_fields.specs.declared.names.Binding as declared_binding
 use Rattle.wat_fields.specs.declared.names.Names as declared_names
 use Rattle.wat_fields.specs.declared.names.Depth as declared_depth
 use Rattle.wat_fields.specs.declared.names.Depth.TheVariants as depths
 use Rattle.wat_lex.specs.binary.Leb128.{unsigned_leb128}
-use Rattle.wat_fields.specs.Binary.{Export, FunctionType, Run, export, next_index, run, section}
-use Rattle.wat_fields.specs.Fields.{Field, Func, Table, Memory, Global, Start, Function, Binding, Variable, binding, variable}
+use Rattle.wat_fields.specs.Binary.{Export, ImportEntry, Run, export, next_index, run, section}
+use Rattle.wat_fields.specs.Fields.{ExternType, FuncType, OfTable, OfMemory, OfGlobal, Field, TypeField, Import, Func, Table, Memory, Global, Start, Definition, Function, FunctionType, TypeUse, Types, Binding, Variable, binding, definition, extern_space, type_use, variable}
 use Rattle.wat_fields.specs.Fields as field
-use Rattle.wat_fields.specs.Reading.{Header, Item, Depth, Before, Opened, Headed, Inside}
+use Rattle.wat_fields.specs.Reading.{Item, Depth, Before, Inside}
 
 abbrev pub variable_of : declared_variable.Variable → Variable
 variable_of v = variable (label v.name) v.of
@@ -33,25 +39,40 @@ variable_of v = variable (label v.name) v.of
 abbrev pub text_of : Bor (List ℕ) → List ℕ
 text_of n = n.now
 
-abbrev pub header_of : declared_header.Header → Header
-header_of h = record {
-  exports = map text_of h.exports.items;
-  params = map variable_of h.params.items;
-  results = map variable_of h.results.items;
-  locals = map variable_of h.locals.items;
-}
+abbrev pub type_of : declared_type.FunctionType → FunctionType
+type_of t = record { params = t.params.items; results = t.results.items }
+
+abbrev pub use_of : declared_use.TypeUse → TypeUse
+use_of u = type_use u.index (map variable_of u.params.items) (map variable_of u.results.items)
 
 abbrev pub function_of : declared_function.Function → Function
 function_of f = record {
   name = label f.name;
-  exports = map text_of f.header.exports.items;
-  params = map variable_of f.header.params.items;
-  results = map variable_of f.header.results.items;
-  locals = map variable_of f.header.locals.items;
+  exports = map text_of f.exports.items;
+  uses = use_of f.uses;
+  locals = map variable_of f.locals.items;
   body = f.body.items;
 }
 
+abbrev pub definition_of : declared_definition.Definition → Definition
+definition_of d = definition (label d.name) (type_of d.of)
+
+abbrev pub extern_of : declared_extern.ExternType → ExternType
+extern_of (externs.Func u) = FuncType (use_of u)
+extern_of (externs.Table t) = OfTable t
+extern_of (externs.Memory l) = OfMemory l
+extern_of (externs.Global t) = OfGlobal t
+
+abbrev pub import_of : declared_import.Import → ImportEntry
+import_of i = record { from = i.from.now; name = i.item.now; what = extern_of i.what }
+
+-- the tokens at a place
+abbrev pub left_of : declared_left.Left → List Terminal
+left_of l = map terminal l.pieces.now
+
 abbrev pub field_of : declared_field.Field → Field
+field_of (fields.Type d) = TypeField (label d.name) (type_of d.of)
+field_of (fields.Import i) = Import i.from.now i.item.now (label i.name) (map text_of i.exports.items) (extern_of i.what)
 field_of (fields.Func f) = Func (function_of f)
 field_of (fields.Table t) = Table (label t.name) (map text_of t.exports.items) t.of
 field_of (fields.Memory m) = Memory (label m.name) (map text_of m.exports.items) m.limits
@@ -73,6 +94,9 @@ context_of n = record {
   memories = n.memories;
   globals = n.globals;
 }
+
+abbrev pub types_of : declared_names.Names → Types
+types_of n = record { names = n.type_names; types = map type_of n.types.items }
 
 -- the same with names of local variables
 abbrev pub with_names : List Label → Context → Context
@@ -102,9 +126,6 @@ list_of v = v.items
 abbrev pub export_of : declared_export.Export → Export
 export_of e = export e.space e.index e.name.now
 
-abbrev pub type_of : declared_type.FunctionType → FunctionType
-type_of t = record { params = t.params.items; results = t.results.items }
-
 -- the indices that the next items have
 pub record Counts : Type 0 where
   pub funcs : ℕ
@@ -127,17 +148,34 @@ counts_after fs = record {
   globals = next_index space.Global fs;
 }
 
+abbrev pub count : IndexSpace → Counts → ℕ
+count space.Func c = c.funcs
+count space.Table c = c.tables
+count space.Mem c = c.memories
+count space.Global c = c.globals
+
+-- after an item more
+abbrev pub more : IndexSpace → Counts → Counts
+more space.Func c = record { funcs = suc c.funcs; tables = c.tables; memories = c.memories; globals = c.globals }
+more space.Table c = record { funcs = c.funcs; tables = suc c.tables; memories = c.memories; globals = c.globals }
+more space.Mem c = record { funcs = c.funcs; tables = c.tables; memories = suc c.memories; globals = c.globals }
+more space.Global c = record { funcs = c.funcs; tables = c.tables; memories = c.memories; globals = suc c.globals }
+
 -- after a field more
 abbrev pub counted : Field → Counts → Counts
-counted (Func f) c = record { funcs = suc c.funcs; tables = c.tables; memories = c.memories; globals = c.globals }
-counted (Table l ns t) c = record { funcs = c.funcs; tables = suc c.tables; memories = c.memories; globals = c.globals }
-counted (Memory l ns t) c = record { funcs = c.funcs; tables = c.tables; memories = suc c.memories; globals = c.globals }
-counted (Global l ns t is) c = record { funcs = c.funcs; tables = c.tables; memories = c.memories; globals = suc c.globals }
+counted (TypeField l t) c = c
+counted (Import m n l ns t) c = more (extern_space t) c
+counted (Func f) c = more space.Func c
+counted (Table l ns t) c = more space.Table c
+counted (Memory l ns t) c = more space.Mem c
+counted (Global l ns t is) c = more space.Global c
 counted (field.Export n s i) c = c
 counted (Start i) c = c
 
 -- the exports of a field, and of fields, by these indices
 abbrev pub exports_by : Counts → Field → List Export
+exports_by c (TypeField l t) = []
+exports_by c (Import m n l ns t) = map (export (extern_space t) (count (extern_space t) c)) ns
 exports_by c (Func f) = map (export space.Func c.funcs) f.exports
 exports_by c (Table l ns t) = map (export space.Table c.tables) ns
 exports_by c (Memory l ns t) = map (export space.Mem c.memories) ns
@@ -163,13 +201,9 @@ counted_section number count items = if count == 0 then [] else section number (
 
 abbrev pub depth_of : declared_depth.Depth → Depth
 depth_of depths.Before = Before
-depth_of depths.Opened = Opened
-depth_of (depths.Headed s) = Headed s
 depth_of (depths.Inside n) = Inside n
 
 -- as many groups are open as there are tokens at most
 abbrev pub IsBelow : Depth → ℕ → Type 0
 IsBelow Before n = Unit {0}
-IsBelow Opened n = Unit {0}
-IsBelow (Headed s) n = 1 ≤ n
 IsBelow (Inside d) n = d ≤ n

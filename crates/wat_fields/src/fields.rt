@@ -3,15 +3,16 @@ ghost use Rattle.std.specs.Prelude.{◌≡◌, [], ◌∷◌, List, Ok, Err, Som
 ghost use Rattle.wat_fields.specs.Binary.{module_bytes};
 ghost use Rattle.wat_fields.specs.Fields as grammar;
 ghost use Rattle.wat_fields.specs.Reading as reading;
-ghost use Rattle.wat_fields.specs.Views.{IsItem, IsMemory, ItemFaults, NoItem, context_of, field_of, fields_of, header_of, with_names};
+ghost use Rattle.wat_fields.specs.Views.{IsItem, IsMemory, ItemFaults, NoItem, context_of, extern_of, field_of, fields_of, text_of, types_of, use_of, variable_of, with_names};
 ghost use Rattle.wat_instructions.specs.Grammar.{label_of};
 ghost use Rattle.wat_instructions.specs.Parts.{Faults, fault_of, scope_of};
 ghost use Rattle.wat_instructions.specs.Terminals.{Close, label, terminal};
 
 use crate::binary::module_bytes;
-use crate::header::{closed, exports, read_header, utf8_text};
+use crate::header::{after, closed, exports, utf8_text, variables};
 use crate::names::{Names, names_in, names_of, variable_names};
-use crate::types::{global_type, limits, reference_type, space_of, twice_closed};
+use crate::types::{global_type, limits, space_of, table_type, twice_closed};
+use crate::uses::{type_at, type_use};
 use std::alloc::Global;
 use wat_instructions::machine;
 use wat_instructions::names::IndexedNames;
@@ -25,20 +26,35 @@ pub struct Variable<'p> {
     pub of: ValueType,
 }
 
-/// What comes before the instructions of a function.
+/// A function type.
 #[derive(Drop)]
-pub struct Header<'p> {
-    pub exports: Vec<&'p [u8]>,
+pub struct FunctionType {
+    pub params: Vec<ValueType>,
+    pub results: Vec<ValueType>,
+}
+
+/// A type that a field defines.
+#[derive(Drop)]
+pub struct Definition<'p> {
+    pub name: Name<'p>,
+    pub of: FunctionType,
+}
+
+/// A type use: the index of its type, where it says one; and its parameters and results.
+#[derive(Drop)]
+pub struct TypeUse<'p> {
+    pub index: Option<usize>,
     pub params: Vec<Variable<'p>>,
     pub results: Vec<Variable<'p>>,
-    pub locals: Vec<Variable<'p>>,
 }
 
 /// A function.
 #[derive(Drop)]
 pub struct Function<'p> {
     pub name: Name<'p>,
-    pub header: Header<'p>,
+    pub exports: Vec<&'p [u8]>,
+    pub uses: TypeUse<'p>,
+    pub locals: Vec<Variable<'p>>,
     pub body: Vec<Instruction>,
 }
 
@@ -104,6 +120,25 @@ pub struct GlobalVariable<'p> {
     pub first: Vec<Instruction>,
 }
 
+/// What is imported.
+#[derive(Drop)]
+pub enum ExternType<'p> {
+    Func(TypeUse<'p>),
+    Table(TableType),
+    Memory(Limits),
+    Global(GlobalType),
+}
+
+/// An import of an item from a module.
+#[derive(Drop)]
+pub struct Import<'p> {
+    pub from: &'p [u8],
+    pub item: &'p [u8],
+    pub name: Name<'p>,
+    pub exports: Vec<&'p [u8]>,
+    pub what: ExternType<'p>,
+}
+
 /// An export of the item of an index.
 #[derive(Clone, Copy)]
 pub struct Export<'p> {
@@ -115,6 +150,8 @@ pub struct Export<'p> {
 /// A field of a module.
 #[derive(Drop)]
 pub enum Field<'p> {
+    Type(Definition<'p>),
+    Import(Import<'p>),
     Func(Function<'p>),
     Table(Table<'p>),
     Memory(Memory<'p>),
@@ -231,6 +268,12 @@ fn module_fields<'p, 'a>(
     };
     let (fields, rest) = fields(alloc, &names, pieces)?;
     ended(rest)?;
+    if !imports_first(&fields) {
+        return Err(Refusal::Text(Fault {
+            kind: FaultKind::LateImport,
+            left: pieces,
+        }));
+    }
     if starts(&fields) > 1 {
         return Err(Refusal::Text(Fault {
             kind: FaultKind::SecondStart,
@@ -271,6 +314,40 @@ fn ended<'p, 'a>(pieces: &'p [Piece<'a>]) -> Result<(), Fault<'p, 'a>>
     }
 }
 
+/// Whether imports come before all definitions.
+fn imports_first(fields: &[Field<'_>]) -> bool
+    ensures { result ≡ grammar.imports_first (fields_of fields.now) }
+{
+    for (i, field) in fields.iter().enumerate() {
+        if is_definition(field) {
+            return !has_import(&fields[i + 1..]);
+        }
+    }
+    true
+}
+
+/// Whether a field defines a function, a table, a memory or a global.
+fn is_definition(field: &Field<'_>) -> bool
+    ensures { result ≡ grammar.is_definition (field_of field.now) }
+{
+    match field {
+        Field::Func(_) | Field::Table(_) | Field::Memory(_) | Field::Global(_) => true,
+        Field::Type(_) | Field::Import(_) | Field::Export(_) | Field::Start(_) => false,
+    }
+}
+
+/// Whether one of the fields is an import.
+fn has_import(fields: &[Field<'_>]) -> bool
+    ensures { result ≡ grammar.has_import (fields_of fields.now) }
+{
+    for field in fields {
+        if let Field::Import(_) = field {
+            return true;
+        }
+    }
+    false
+}
+
 /// How many start functions there are.
 fn starts(fields: &[Field<'_>]) -> usize
     ensures { result ≡ length (grammar.starts_of (fields_of fields.now)) }
@@ -291,8 +368,8 @@ fn fields<'p, 'a>(
     pieces: &'p [Piece<'a>],
 ) -> Result<(Vec<Field<'p>>, &'p [Piece<'a>]), Refusal<'p, 'a>>
     ensures { MatchResult result
-        (λ r. reading.all (reading.field_item (context_of names.now)) (map terminal pieces.now) ≡ Ok (fields_of r.0.items, map terminal r.1.now))
-        (λ e. Faults (reading.all (reading.field_item (context_of names.now)) (map terminal pieces.now)) e) }
+        (λ r. reading.all (reading.field_item (types_of names.now) (context_of names.now)) (map terminal pieces.now) ≡ Ok (fields_of r.0.items, map terminal r.1.now))
+        (λ e. Faults (reading.all (reading.field_item (types_of names.now) (context_of names.now)) (map terminal pieces.now)) e) }
 {
     wat_instructions::laws::machine_is_grammar();
     wat_instructions::laws::instructions_are_balanced();
@@ -319,9 +396,9 @@ fn next_field<'p, 'a>(
 ) -> Result<Option<Left<'p, 'a>>, Refusal<'p, 'a>>
     ensures { MatchResult result
         (λ o. MatchOption o
-        (NoItem (reading.field_item (context_of names.now) (map terminal left.entry.pieces.now)) (map field_of found.old.items) (map field_of found.new.items))
-        (λ l. IsItem (reading.field_item (context_of names.now) (map terminal left.entry.pieces.now)) (map field_of found.old.items) (map field_of found.new.items) (map terminal l.pieces.now)))
-        (λ e. ItemFaults (reading.field_item (context_of names.now) (map terminal left.entry.pieces.now)) e) }
+        (NoItem (reading.field_item (types_of names.now) (context_of names.now) (map terminal left.entry.pieces.now)) (map field_of found.old.items) (map field_of found.new.items))
+        (λ l. IsItem (reading.field_item (types_of names.now) (context_of names.now) (map terminal left.entry.pieces.now)) (map field_of found.old.items) (map field_of found.new.items) (map terminal l.pieces.now)))
+        (λ e. ItemFaults (reading.field_item (types_of names.now) (context_of names.now) (map terminal left.entry.pieces.now)) e) }
 {
     match left.pieces {
         [Piece::Open, rest @ ..] => match field_at(alloc, names, rest) {
@@ -351,8 +428,8 @@ fn field_at<'p, 'a>(
     pieces: &'p [Piece<'a>],
 ) -> Result<(Field<'p>, &'p [Piece<'a>]), Refusal<'p, 'a>>
     ensures { MatchResult result
-        (λ r. reading.field (context_of names.now) (map terminal pieces.now) ≡ Ok (field_of r.0 ∷ [], map terminal r.1.now))
-        (λ e. Faults (reading.field (context_of names.now) (map terminal pieces.now)) e) }
+        (λ r. reading.field (types_of names.now) (context_of names.now) (map terminal pieces.now) ≡ Ok (field_of r.0 ∷ [], map terminal r.1.now))
+        (λ e. Faults (reading.field (types_of names.now) (context_of names.now) (map terminal pieces.now)) e) }
 {
     match pieces {
         [Piece::Word(word), rest @ ..] => { field_after(alloc, names, *word, pieces, rest) }
@@ -384,63 +461,108 @@ fn field_after<'p, 'a>(
     pieces: &'p [Piece<'a>],
 ) -> Result<(Field<'p>, &'p [Piece<'a>]), Refusal<'p, 'a>>
     ensures { MatchResult result
-        (λ r. reading.field_by (context_of names.now) (grammar.space_of word.now) word.now (map terminal all.now) (map terminal pieces.now) ≡ Ok (field_of r.0 ∷ [], map terminal r.1.now))
-        (λ e. Faults (reading.field_by (context_of names.now) (grammar.space_of word.now) word.now (map terminal all.now) (map terminal pieces.now)) e) }
+        (λ r. reading.field_by (types_of names.now) (context_of names.now) (grammar.space_of word.now) word.now (map terminal all.now) (map terminal pieces.now) ≡ Ok (field_of r.0 ∷ [], map terminal r.1.now))
+        (λ e. Faults (reading.field_by (types_of names.now) (context_of names.now) (grammar.space_of word.now) word.now (map terminal all.now) (map terminal pieces.now)) e) }
 {
     match space_of(word) {
-        Some(IndexSpace::Func) => func_at(alloc, names, pieces),
-        Some(IndexSpace::Table) => table_at(alloc, pieces),
-        Some(IndexSpace::Mem) => memory_at(alloc, pieces),
-        Some(IndexSpace::Global) => global_at(alloc, names, pieces),
-        None => other_at(names, word, all, pieces),
+        Some(space) => item(alloc, names, space, pieces),
+        None => other(alloc, names, word, all, pieces),
     }
 }
 
-/// A function, after its word.
-fn func_at<'p, 'a>(
+/// A function, a table, a memory or a global, after its word.
+fn item<'p, 'a>(
     alloc: Global,
     names: &Names<'p>,
+    space: IndexSpace,
     pieces: &'p [Piece<'a>],
 ) -> Result<(Field<'p>, &'p [Piece<'a>]), Refusal<'p, 'a>>
     ensures { MatchResult result
-        (λ r. reading.func_at (context_of names.now) (label_of (map terminal pieces.now)) ≡ Ok (field_of r.0 ∷ [], map terminal r.1.now))
-        (λ e. Faults (reading.func_at (context_of names.now) (label_of (map terminal pieces.now))) e) }
-{
-    let (name, rest) = reading::label(pieces);
-    let (header, rest) = read_header(alloc, rest)?;
-    let (body, rest) = instructions(alloc, names, &header, rest)?;
-    Ok((Field::Func(Function { name, header, body }), rest))
-}
-
-/// A table, after its word.
-fn table_at<'p, 'a>(
-    alloc: Global,
-    pieces: &'p [Piece<'a>],
-) -> Result<(Field<'p>, &'p [Piece<'a>]), Refusal<'p, 'a>>
-    ensures { MatchResult result
-        (λ r. reading.table_at (label_of (map terminal pieces.now)) ≡ Ok (field_of r.0 ∷ [], map terminal r.1.now))
-        (λ e. Faults (reading.table_at (label_of (map terminal pieces.now))) e) }
+        (λ r. reading.item_at (types_of names.now) (context_of names.now) space (label_of (map terminal pieces.now)) ≡ Ok (field_of r.0 ∷ [], map terminal r.1.now))
+        (λ e. Faults (reading.item_at (types_of names.now) (context_of names.now) space (label_of (map terminal pieces.now))) e) }
 {
     let (name, rest) = reading::label(pieces);
     let (exports, rest) = exports(alloc, rest)?;
-    let (limits, rest) = limits(rest)?;
-    let (element, rest) = reference_type(rest)?;
-    let of = TableType { limits, element };
+    match after("import", rest) {
+        Some(rest) => inline_import(alloc, names, space, name, exports, rest),
+        None => defined(alloc, names, space, name, exports, rest),
+    }
+}
+
+/// A definition, after its name and its exports.
+fn defined<'p, 'a>(
+    alloc: Global,
+    names: &Names<'p>,
+    space: IndexSpace,
+    name: Name<'p>,
+    exports: Vec<&'p [u8]>,
+    pieces: &'p [Piece<'a>],
+) -> Result<(Field<'p>, &'p [Piece<'a>]), Refusal<'p, 'a>>
+    ensures { MatchResult result
+        (λ r. reading.defined (types_of names.now) (context_of names.now) space (label name.entry) (map text_of exports.entry.items) (map terminal pieces.now) ≡ Ok (field_of r.0 ∷ [], map terminal r.1.now))
+        (λ e. Faults (reading.defined (types_of names.now) (context_of names.now) space (label name.entry) (map text_of exports.entry.items) (map terminal pieces.now)) e) }
+{
+    match space {
+        IndexSpace::Func => func(alloc, names, name, exports, pieces),
+        IndexSpace::Table => Ok(table_at(name, exports, pieces)?),
+        IndexSpace::Mem => Ok(memory_at(name, exports, pieces)?),
+        IndexSpace::Global => global(alloc, names, name, exports, pieces),
+    }
+}
+
+/// A function, after its name and its exports.
+fn func<'p, 'a>(
+    alloc: Global,
+    names: &Names<'p>,
+    name: Name<'p>,
+    exports: Vec<&'p [u8]>,
+    pieces: &'p [Piece<'a>],
+) -> Result<(Field<'p>, &'p [Piece<'a>]), Refusal<'p, 'a>>
+    ensures { MatchResult result
+        (λ r. reading.func_at (types_of names.now) (context_of names.now) (label name.entry) (map text_of exports.entry.items) (map terminal pieces.now) ≡ Ok (field_of r.0 ∷ [], map terminal r.1.now))
+        (λ e. Faults (reading.func_at (types_of names.now) (context_of names.now) (label name.entry) (map text_of exports.entry.items) (map terminal pieces.now)) e) }
+{
+    let (uses, rest) = type_use(alloc, names, pieces)?;
+    let (locals, rest) = variables(alloc, "local", true, rest)?;
+    let (body, rest) = instructions(alloc, names, &uses.params, &locals, rest)?;
+    Ok((
+        Field::Func(Function {
+            name,
+            exports,
+            uses,
+            locals,
+            body,
+        }),
+        rest,
+    ))
+}
+
+/// A table, after its name and its exports.
+fn table_at<'p, 'a>(
+    name: Name<'p>,
+    exports: Vec<&'p [u8]>,
+    pieces: &'p [Piece<'a>],
+) -> Result<(Field<'p>, &'p [Piece<'a>]), Fault<'p, 'a>>
+    ensures { MatchResult result
+        (λ r. reading.table_at (label name.entry) (map text_of exports.entry.items) (map terminal pieces.now) ≡ Ok (field_of r.0 ∷ [], map terminal r.1.now))
+        (λ f. reading.table_at (label name.entry) (map text_of exports.entry.items) (map terminal pieces.now) ≡ Err (fault_of f)) }
+{
+    let (of, rest) = table_type(pieces)?;
+    let rest = closed(rest)?;
     Ok((Field::Table(Table { name, exports, of }), rest))
 }
 
-/// A memory, after its word.
+/// A memory, after its name and its exports.
 fn memory_at<'p, 'a>(
-    alloc: Global,
+    name: Name<'p>,
+    exports: Vec<&'p [u8]>,
     pieces: &'p [Piece<'a>],
-) -> Result<(Field<'p>, &'p [Piece<'a>]), Refusal<'p, 'a>>
+) -> Result<(Field<'p>, &'p [Piece<'a>]), Fault<'p, 'a>>
     ensures { MatchResult result
-        (λ r. reading.memory_at (label_of (map terminal pieces.now)) ≡ Ok (field_of r.0 ∷ [], map terminal r.1.now))
-        (λ e. Faults (reading.memory_at (label_of (map terminal pieces.now))) e) }
+        (λ r. reading.memory_at (label name.entry) (map text_of exports.entry.items) (map terminal pieces.now) ≡ Ok (field_of r.0 ∷ [], map terminal r.1.now))
+        (λ f. reading.memory_at (label name.entry) (map text_of exports.entry.items) (map terminal pieces.now) ≡ Err (fault_of f)) }
 {
-    let (name, rest) = reading::label(pieces);
-    let (exports, rest) = exports(alloc, rest)?;
-    let (limits, rest) = limits(rest)?;
+    let (limits, rest) = limits(pieces)?;
     let rest = closed(rest)?;
     Ok((
         Field::Memory(Memory {
@@ -452,19 +574,19 @@ fn memory_at<'p, 'a>(
     ))
 }
 
-/// A global variable, after its word.
-fn global_at<'p, 'a>(
+/// A global variable, after its name and its exports.
+fn global<'p, 'a>(
     alloc: Global,
     names: &Names<'p>,
+    name: Name<'p>,
+    exports: Vec<&'p [u8]>,
     pieces: &'p [Piece<'a>],
 ) -> Result<(Field<'p>, &'p [Piece<'a>]), Refusal<'p, 'a>>
     ensures { MatchResult result
-        (λ r. reading.global_at (context_of names.now) (label_of (map terminal pieces.now)) ≡ Ok (field_of r.0 ∷ [], map terminal r.1.now))
-        (λ e. Faults (reading.global_at (context_of names.now) (label_of (map terminal pieces.now))) e) }
+        (λ r. reading.global_at (context_of names.now) (label name.entry) (map text_of exports.entry.items) (map terminal pieces.now) ≡ Ok (field_of r.0 ∷ [], map terminal r.1.now))
+        (λ e. Faults (reading.global_at (context_of names.now) (label name.entry) (map text_of exports.entry.items) (map terminal pieces.now)) e) }
 {
-    let (name, rest) = reading::label(pieces);
-    let (exports, rest) = exports(alloc, rest)?;
-    let (of, rest) = global_type(rest)?;
+    let (of, rest) = global_type(pieces)?;
     let locals = IndexedNames::none(alloc);
     let scope = scope(names, &locals);
     let (first, rest) = machine::instructions(alloc, &scope, rest)?;
@@ -479,17 +601,120 @@ fn global_at<'p, 'a>(
     ))
 }
 
-/// An export or a start function, after its word, with which all these tokens begin.
-fn other_at<'p, 'a>(
+/// The two names of an import.
+#[tactic(auto, unfolding(crate::specs::Reading::import_names))]
+fn import_names<'p, 'a>(
+    pieces: &'p [Piece<'a>],
+) -> Result<((&'p [u8], &'p [u8]), &'p [Piece<'a>]), Fault<'p, 'a>>
+    ensures { MatchResult result
+        (λ r. reading.import_names (map terminal pieces.now) ≡ Ok ((r.0.0.now, r.0.1.now), map terminal r.1.now))
+        (λ f. reading.import_names (map terminal pieces.now) ≡ Err (fault_of f)) }
+{
+    let (from, rest) = utf8_text(pieces)?;
+    let (item, rest) = utf8_text(rest)?;
+    Ok(((from, item), rest))
+}
+
+/// What is imported, after its name.
+#[tactic(auto, unfolding(crate::specs::Reading::extern_at))]
+fn extern_type<'p, 'a>(
+    alloc: Global,
+    names: &Names<'p>,
+    space: IndexSpace,
+    pieces: &'p [Piece<'a>],
+) -> Result<(ExternType<'p>, &'p [Piece<'a>]), Refusal<'p, 'a>>
+    ensures { MatchResult result
+        (λ r. reading.extern_at (types_of names.now) space (map terminal pieces.now) ≡ Ok (extern_of r.0, map terminal r.1.now))
+        (λ e. Faults (reading.extern_at (types_of names.now) space (map terminal pieces.now)) e) }
+{
+    match space {
+        IndexSpace::Func => {
+            let (uses, rest) = type_use(alloc, names, pieces)?;
+            func_type(alloc, uses, pieces, rest)
+        }
+        IndexSpace::Table => {
+            let (of, rest) = table_type(pieces)?;
+            Ok((ExternType::Table(of), rest))
+        }
+        IndexSpace::Mem => {
+            let (limits, rest) = limits(pieces)?;
+            Ok((ExternType::Memory(limits), rest))
+        }
+        IndexSpace::Global => {
+            let (of, rest) = global_type(pieces)?;
+            Ok((ExternType::Global(of), rest))
+        }
+    }
+}
+
+/// An imported function, of which no two parameters have the same name.
+fn func_type<'p, 'a>(
+    alloc: Global,
+    uses: TypeUse<'p>,
+    all: &'p [Piece<'a>],
+    rest: &'p [Piece<'a>],
+) -> Result<(ExternType<'p>, &'p [Piece<'a>]), Refusal<'p, 'a>>
+    ensures { MatchResult result
+        (λ r. reading.func_type (use_of uses.entry) (map terminal all.now) (map terminal rest.now) ≡ Ok (extern_of r.0, map terminal r.1.now))
+        (λ e. Faults (reading.func_type (use_of uses.entry) (map terminal all.now) (map terminal rest.now)) e) }
+{
+    if variable_names(alloc, &uses.params, &[])?.is_none() {
+        return Err(Refusal::Text(Fault {
+            kind: FaultKind::Duplicate,
+            left: all,
+        }));
+    }
+    Ok((ExternType::Func(uses), rest))
+}
+
+/// An inline import, after its name, its exports and `(import`.
+fn inline_import<'p, 'a>(
+    alloc: Global,
+    names: &Names<'p>,
+    space: IndexSpace,
+    name: Name<'p>,
+    exports: Vec<&'p [u8]>,
+    pieces: &'p [Piece<'a>],
+) -> Result<(Field<'p>, &'p [Piece<'a>]), Refusal<'p, 'a>>
+    ensures { MatchResult result
+        (λ r. reading.inline_import (types_of names.now) space (label name.entry) (map text_of exports.entry.items) (map terminal pieces.now) ≡ Ok (field_of r.0 ∷ [], map terminal r.1.now))
+        (λ e. Faults (reading.inline_import (types_of names.now) space (label name.entry) (map text_of exports.entry.items) (map terminal pieces.now)) e) }
+{
+    let ((from, item), rest) = import_names(pieces)?;
+    let rest = closed(rest)?;
+    let (what, rest) = extern_type(alloc, names, space, rest)?;
+    let rest = closed(rest)?;
+    Ok((
+        Field::Import(Import {
+            from,
+            item,
+            name,
+            exports,
+            what,
+        }),
+        rest,
+    ))
+}
+
+/// A type, an import, an export or a start function, after its word, with which all these tokens
+/// begin.
+fn other<'p, 'a>(
+    alloc: Global,
     names: &Names<'p>,
     word: &str,
     all: &'p [Piece<'a>],
     pieces: &'p [Piece<'a>],
 ) -> Result<(Field<'p>, &'p [Piece<'a>]), Refusal<'p, 'a>>
     ensures { MatchResult result
-        (λ r. reading.other_at (context_of names.now) word.now (map terminal all.now) (map terminal pieces.now) ≡ Ok (field_of r.0 ∷ [], map terminal r.1.now))
-        (λ e. Faults (reading.other_at (context_of names.now) word.now (map terminal all.now) (map terminal pieces.now)) e) }
+        (λ r. reading.other_at (types_of names.now) (context_of names.now) word.now (map terminal all.now) (map terminal pieces.now) ≡ Ok (field_of r.0 ∷ [], map terminal r.1.now))
+        (λ e. Faults (reading.other_at (types_of names.now) (context_of names.now) word.now (map terminal all.now) (map terminal pieces.now)) e) }
 {
+    if word == "type" {
+        return type_field(alloc, pieces);
+    }
+    if word == "import" {
+        return import_at(alloc, names, pieces);
+    }
     if word == "export" {
         return Ok(export_at(names, pieces)?);
     }
@@ -500,6 +725,135 @@ fn other_at<'p, 'a>(
         kind: FaultKind::UnknownWord,
         left: all,
     }))
+}
+
+/// A type, after its word.
+fn type_field<'p, 'a>(
+    alloc: Global,
+    pieces: &'p [Piece<'a>],
+) -> Result<(Field<'p>, &'p [Piece<'a>]), Refusal<'p, 'a>>
+    ensures { MatchResult result
+        (λ r. reading.type_field (map terminal pieces.now) ≡ Ok (field_of r.0 ∷ [], map terminal r.1.now))
+        (λ e. Faults (reading.type_field (map terminal pieces.now)) e) }
+{
+    let (definition, rest) = type_at(alloc, pieces)?;
+    Ok((Field::Type(definition), rest))
+}
+
+/// An import, after its word.
+fn import_at<'p, 'a>(
+    alloc: Global,
+    names: &Names<'p>,
+    pieces: &'p [Piece<'a>],
+) -> Result<(Field<'p>, &'p [Piece<'a>]), Refusal<'p, 'a>>
+    ensures { MatchResult result
+        (λ r. reading.import_at (types_of names.now) (map terminal pieces.now) ≡ Ok (field_of r.0 ∷ [], map terminal r.1.now))
+        (λ e. Faults (reading.import_at (types_of names.now) (map terminal pieces.now)) e) }
+{
+    let ((from, item), rest) = import_names(pieces)?;
+    import_open(alloc, names, from, item, rest)
+}
+
+/// What is imported under names.
+#[tactic(auto, unfolding(crate::specs::Reading::import_open))]
+fn import_open<'p, 'a>(
+    alloc: Global,
+    names: &Names<'p>,
+    from: &'p [u8],
+    item: &'p [u8],
+    pieces: &'p [Piece<'a>],
+) -> Result<(Field<'p>, &'p [Piece<'a>]), Refusal<'p, 'a>>
+    ensures { MatchResult result
+        (λ r. reading.import_open (types_of names.now) (from.now, item.now) (map terminal pieces.now) ≡ Ok (field_of r.0 ∷ [], map terminal r.1.now))
+        (λ e. Faults (reading.import_open (types_of names.now) (from.now, item.now) (map terminal pieces.now)) e) }
+{
+    match pieces {
+        [Piece::Open, rest @ ..] => import_word(alloc, names, from, item, rest),
+        [
+            Piece::Close
+            | Piece::Word(_)
+            | Piece::Id(_)
+            | Piece::Integer(_, _)
+            | Piece::Text(_)
+            | Piece::Other,
+            ..
+        ] => Err(Refusal::Text(Fault {
+            kind: FaultKind::Unexpected,
+            left: pieces,
+        })),
+        [] => Err(Refusal::Text(Fault {
+            kind: FaultKind::Unexpected,
+            left: pieces,
+        })),
+    }
+}
+
+/// The same after `(`.
+fn import_word<'p, 'a>(
+    alloc: Global,
+    names: &Names<'p>,
+    from: &'p [u8],
+    item: &'p [u8],
+    pieces: &'p [Piece<'a>],
+) -> Result<(Field<'p>, &'p [Piece<'a>]), Refusal<'p, 'a>>
+    ensures { MatchResult result
+        (λ r. reading.import_word (types_of names.now) (from.now, item.now) (map terminal pieces.now) ≡ Ok (field_of r.0 ∷ [], map terminal r.1.now))
+        (λ e. Faults (reading.import_word (types_of names.now) (from.now, item.now) (map terminal pieces.now)) e) }
+{
+    match pieces {
+        [Piece::Word(word), rest @ ..] => match space_of(word) {
+            Some(space) => import_item(alloc, names, from, item, space, rest),
+            None => Err(Refusal::Text(Fault {
+                kind: FaultKind::UnknownWord,
+                left: pieces,
+            })),
+        },
+        [
+            Piece::Open
+            | Piece::Close
+            | Piece::Id(_)
+            | Piece::Integer(_, _)
+            | Piece::Text(_)
+            | Piece::Other,
+            ..
+        ] => Err(Refusal::Text(Fault {
+            kind: FaultKind::Unexpected,
+            left: pieces,
+        })),
+        [] => Err(Refusal::Text(Fault {
+            kind: FaultKind::Unexpected,
+            left: pieces,
+        })),
+    }
+}
+
+/// The same after the word of an index space.
+fn import_item<'p, 'a>(
+    alloc: Global,
+    names: &Names<'p>,
+    from: &'p [u8],
+    item: &'p [u8],
+    space: IndexSpace,
+    pieces: &'p [Piece<'a>],
+) -> Result<(Field<'p>, &'p [Piece<'a>]), Refusal<'p, 'a>>
+    ensures { MatchResult result
+        (λ r. reading.extern_after (types_of names.now) (from.now, item.now) space (label_of (map terminal pieces.now)) ≡ Ok (field_of r.0 ∷ [], map terminal r.1.now))
+        (λ e. Faults (reading.extern_after (types_of names.now) (from.now, item.now) space (label_of (map terminal pieces.now))) e) }
+{
+    let (name, rest) = reading::label(pieces);
+    let (what, rest) = extern_type(alloc, names, space, rest)?;
+    let rest = twice_closed(rest)?;
+    let exports = Vec::new(alloc);
+    Ok((
+        Field::Import(Import {
+            from,
+            item,
+            name,
+            exports,
+            what,
+        }),
+        rest,
+    ))
 }
 
 /// An export, after its word.
@@ -627,19 +981,20 @@ fn scope<'s, 'n>(names: &'s Names<'n>, locals: &'s IndexedNames<'n>) -> Scope<'s
     }
 }
 
-/// The instructions of a function, after its header.
+/// The instructions of a function, after its local variables.
 #[tactic(auto, unfolding(crate::specs::Reading::instructions))]
 fn instructions<'p, 'a>(
     alloc: Global,
     names: &Names<'p>,
-    header: &Header<'p>,
+    params: &[Variable<'p>],
+    locals: &[Variable<'p>],
     pieces: &'p [Piece<'a>],
 ) -> Result<(Vec<Instruction>, &'p [Piece<'a>]), Refusal<'p, 'a>>
     ensures { MatchResult result
-        (λ r. reading.instructions (context_of names.now) (header_of header.now) (map terminal pieces.now) ≡ Ok (r.0.items, map terminal r.1.now))
-        (λ e. Faults (reading.instructions (context_of names.now) (header_of header.now) (map terminal pieces.now)) e) }
+        (λ r. reading.instructions (context_of names.now) (map variable_of params.now) (map variable_of locals.now) (map terminal pieces.now) ≡ Ok (r.0.items, map terminal r.1.now))
+        (λ e. Faults (reading.instructions (context_of names.now) (map variable_of params.now) (map variable_of locals.now) (map terminal pieces.now)) e) }
 {
-    let Some(locals) = variable_names(alloc, &header.params, &header.locals)? else {
+    let Some(locals) = variable_names(alloc, params, locals)? else {
         return Err(Refusal::Text(Fault {
             kind: FaultKind::Duplicate,
             left: pieces,

@@ -1,42 +1,19 @@
-//! What comes before the instructions of a function: exports, parameters, results, local variables.
+//! Inline exports, and groups of parameters, results and local variables.
 ghost use Rattle.std.specs.Prelude.{◌≡◌, [], ◌∷◌, Ok, Err, map, true, false, codes, IfOk, None, Some, MatchOption, MatchResult};
 ghost use Rattle.std.specs.Str.{is_utf8};
 ghost use Rattle.wat_fields.specs.Fields.{unnamed};
 ghost use Rattle.wat_fields.specs.Reading as reading;
-ghost use Rattle.wat_fields.specs.Views.{IsItem, ItemFaults, NoItem, header_of, text_of, variable_of};
+ghost use Rattle.wat_fields.specs.Views.{IsItem, ItemFaults, NoItem, text_of, variable_of};
 ghost use Rattle.wat_instructions.specs.Parts.{Faults, fault_of};
 ghost use Rattle.wat_instructions.specs.Terminals.{terminal};
 
-use crate::fields::{Header, Left, Variable};
+use crate::fields::{Left, Variable};
 use std::alloc::{AllocError, Global};
 use std::str;
 use wat_instructions::pieces::{Fault, FaultKind, Name, Piece, Refusal, ValueType};
 use wat_instructions::reading::value_type;
 
-/// All that comes before the instructions of a function.
-#[tactic(auto, unfolding(crate::specs::Reading::header))]
-pub(crate) fn read_header<'p, 'a>(
-    alloc: Global,
-    pieces: &'p [Piece<'a>],
-) -> Result<(Header<'p>, &'p [Piece<'a>]), Refusal<'p, 'a>>
-    ensures { MatchResult result
-        (λ r. reading.header (map terminal pieces.now) ≡ Ok (header_of r.0, map terminal r.1.now))
-        (λ e. Faults (reading.header (map terminal pieces.now)) e) }
-{
-    let (exports, rest) = exports(alloc, pieces)?;
-    let (params, rest) = variables(alloc, "param", true, rest)?;
-    let (results, rest) = variables(alloc, "result", false, rest)?;
-    let (locals, rest) = variables(alloc, "local", true, rest)?;
-    let header = Header {
-        exports,
-        params,
-        results,
-        locals,
-    };
-    Ok((header, rest))
-}
-
-/// The names under which a function is exported.
+/// The names under which an item is exported.
 pub(crate) fn exports<'p, 'a>(
     alloc: Global,
     pieces: &'p [Piece<'a>],
@@ -59,7 +36,7 @@ pub(crate) fn exports<'p, 'a>(
 }
 
 /// All variables in groups that begin with a word.
-fn variables<'p, 'a>(
+pub(crate) fn variables<'p, 'a>(
     alloc: Global,
     word: &str,
     may_have_name: bool,
@@ -105,7 +82,7 @@ fn values<'p, 'a>(
 }
 
 /// What comes after `(` and a word, where the tokens begin so.
-fn after<'p, 'a>(word: &str, pieces: &'p [Piece<'a>]) -> Option<&'p [Piece<'a>]>
+pub(crate) fn after<'p, 'a>(word: &str, pieces: &'p [Piece<'a>]) -> Option<&'p [Piece<'a>]>
     ensures { MatchOption result (reading.after word.now (map terminal pieces.now) ≡ None) (λ r. reading.after word.now (map terminal pieces.now) ≡ Some (map terminal r.now)) }
 {
     match pieces {
@@ -421,7 +398,10 @@ fn listed<'p, 'a>(
 }
 
 /// Variables without names.
-fn unnamed<'p>(alloc: Global, types: &[ValueType]) -> Result<Vec<Variable<'p>>, AllocError>
+pub(crate) fn unnamed<'p>(
+    alloc: Global,
+    types: &[ValueType],
+) -> Result<Vec<Variable<'p>>, AllocError>
     ensures { IfOk result (λ variables. map variable_of variables.items ≡ map unnamed types.now) }
 {
     let mut variables = Vec::new(alloc);

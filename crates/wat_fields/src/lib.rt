@@ -1,5 +1,5 @@
-//! Modules of functions, tables, memories, globals, exports and a start function, from the tokens
-//! that count to bytes.
+//! Modules of types, imports, functions, tables, memories, globals, exports and a start function,
+//! from the tokens that count to bytes.
 #![tactic(auto)]
 
 mod binary;
@@ -8,3 +8,4 @@ mod header;
 pub mod laws;
 mod names;
 mod types;
+mod uses;

@@ -6,7 +6,7 @@ ghost use Rattle.wat_instructions.specs.Grammar.{small};
 ghost use Rattle.wat_instructions.specs.Parts.{fault_of};
 ghost use Rattle.wat_instructions.specs.Terminals.{terminal};
 
-use crate::fields::{GlobalType, IndexSpace, Limits, ReferenceType};
+use crate::fields::{GlobalType, IndexSpace, Limits, ReferenceType, TableType};
 use crate::header::closed;
 use wat_instructions::pieces::{Fault, FaultKind, Piece, Sign, ValueType};
 use wat_instructions::reading::value_type;
@@ -131,9 +131,23 @@ fn maximum<'p, 'a>(
     }
 }
 
-/// A reference type and `)`.
+/// The type of a table.
+#[tactic(auto, unfolding(crate::specs::Reading::table_type_at))]
+pub(crate) fn table_type<'p, 'a>(
+    pieces: &'p [Piece<'a>],
+) -> Result<(TableType, &'p [Piece<'a>]), Fault<'p, 'a>>
+    ensures { MatchResult result
+        (λ r. reading.table_type_at (map terminal pieces.now) ≡ Ok (r.0, map terminal r.1.now))
+        (λ f. reading.table_type_at (map terminal pieces.now) ≡ Err (fault_of f)) }
+{
+    let (limits, rest) = limits(pieces)?;
+    let (element, rest) = reference_type(rest)?;
+    Ok((TableType { limits, element }, rest))
+}
+
+/// A reference type.
 #[tactic(auto, unfolding(crate::specs::Reading::reference_at))]
-pub(crate) fn reference_type<'p, 'a>(
+fn reference_type<'p, 'a>(
     pieces: &'p [Piece<'a>],
 ) -> Result<(ReferenceType, &'p [Piece<'a>]), Fault<'p, 'a>>
     ensures { MatchResult result
@@ -142,7 +156,7 @@ pub(crate) fn reference_type<'p, 'a>(
 {
     match pieces {
         [Piece::Word(word), rest @ ..] => match reference_of(word) {
-            Some(of) => closing_reference(of, rest),
+            Some(of) => Ok((of, rest)),
             None => Err(Fault {
                 kind: FaultKind::UnknownWord,
                 left: pieces,
@@ -165,19 +179,6 @@ pub(crate) fn reference_type<'p, 'a>(
             left: pieces,
         }),
     }
-}
-
-/// `)` after a reference type.
-fn closing_reference<'p, 'a>(
-    of: ReferenceType,
-    pieces: &'p [Piece<'a>],
-) -> Result<(ReferenceType, &'p [Piece<'a>]), Fault<'p, 'a>>
-    ensures { MatchResult result
-        (λ r. reading.reference_by (Some of) (map terminal pieces.now) (map terminal pieces.now) ≡ Ok (r.0, map terminal r.1.now))
-        (λ f. reading.reference_by (Some of) (map terminal pieces.now) (map terminal pieces.now) ≡ Err (fault_of f)) }
-{
-    let rest = closed(pieces)?;
-    Ok((of, rest))
 }
 
 /// The type of a global variable.

@@ -5,7 +5,7 @@ use Rattle.wat_lex.specs.errors.Errors.{Report, Custom, report_in}
 use Rattle.wat_lexer_parser.specs.declared.parser.fault.Fault.{Fault}
 use Rattle.wat_lexer_parser.specs.parser.State.{report_of}
 use Rattle.wat_instructions.specs.declared.pieces.FaultKind.{FaultKind}
-use Rattle.wat_instructions.specs.declared.pieces.FaultKind.TheVariants.{Unexpected, UnknownWord, UnknownName, WrongLabel, OutOfRange, NotUtf8, Duplicate, SecondStart}
+use Rattle.wat_instructions.specs.declared.pieces.FaultKind.TheVariants.{Unexpected, UnknownWord, UnknownName, WrongLabel, OutOfRange, NotUtf8, Duplicate, SecondStart, OtherType, LateImport}
 use Rattle.wat_instructions.specs.Grammar as grammar
 use Rattle.wat_instructions.specs.Terminals.{Terminal}
 use Rattle.wat_pieces.specs.Pieces.{Shows, terminal_of}
@@ -39,6 +39,8 @@ message OutOfRange = codes "number out of range"
 message NotUtf8 = codes "name is not UTF-8"
 message Duplicate = codes "duplicate identifier"
 message SecondStart = codes "more than one start function"
+message OtherType = codes "mismatching type"
+message LateImport = codes "import after a definition"
 
 abbrev pub offset_or : ℕ → Option Token → ℕ
 offset_or end None = end

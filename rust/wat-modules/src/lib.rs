@@ -14,7 +14,7 @@
 //! # Ok::<(), wat_modules::Error>(())
 //! ```
 //!
-//! It takes the modules that [`parse_str`] names: as yet those that hold nothing but functions. Any other text is refused with its place.
+//! It takes the modules that [`parse_str`] names: as yet those without elements and data. Any other text is refused with its place.
 //!
 //! The crate is `no_std` with `alloc`. The feature `std`, which is on unless it is turned off, has `Error::set_path`.
 #![no_std]
@@ -43,17 +43,17 @@ pub use wat_lex::{Error, Span};
 
 /// The bytes of the module that a text spells, in WebAssembly's binary format.
 ///
-/// As yet a module is `(module $name? function..)`. A function has its name, inline exports, parameters, results and local variables of the types
-/// `i32`, `i64`, `f32` and `f64`, and instructions, plain, in blocks and folded: those of WebAssembly 1.0 and the sign extensions, but for
-/// `br_table`, `call_indirect`, and constants that are floats. Blocks have at most one result.
+/// As yet a module is `(module $name? field..)`, of types, imports, functions, tables, memories, globals, exports and a start function, with names,
+/// inline imports and exports, and no elements or data. Value types are `i32`, `i64`, `f32` and `f64`. Instructions, plain, in blocks and folded, are
+/// those of WebAssembly 1.0 and the sign extensions, but for `br_table`, `call_indirect`, and constants that are floats. Blocks have at most one result.
 ///
 /// Where the text is such a module the answer is its bytes; where it is none, an error: both are proved of the text that this function is made of. A
 /// text spells one module at most. That the module is valid is not promised: no type of an operand is checked. There is no section of names.
 ///
 /// # Errors
 ///
-/// The lexer's, or that of the first token that no rule takes: an unknown word or name, a number out of range, any other. Two functions of one name
-/// are refused after the module's own name, two variables of one name after the last of them. A text or a module of more than `u32::MAX` bytes is
+/// The lexer's, or that of the first token that no rule takes: an unknown word or name, a number out of range, any other. Two items of one name,
+/// an import after a definition and a second start function are refused after the module's own name, two variables of one name after the last of them. A text or a module of more than `u32::MAX` bytes is
 /// refused at the text's start. Or memory was refused. An error has its place, and prints the line of it.
 pub fn parse_str(text: impl AsRef<str>) -> Result<Vec<u8>, Error> {
     let text = text.as_ref();

@@ -1,7 +1,6 @@
 // Made by tools/erase from crates/wat_modules/src/lib.rt; do not edit.
 //! Modules of WebAssembly, from text to bytes: a compiler whose answer is that of the standard's
-//! grammar and binary format, by theorem. As yet modules hold functions, tables, memories,
-//! globals, exports and a start function.
+//! grammar and binary format, by theorem. As yet modules hold no elements and no data.
 
 use wat_lex::shim::prelude::*;
 pub mod laws;
@@ -127,6 +126,8 @@ fn message(kind: FaultKind) -> &'static str {
         FaultKind::NotUtf8 => "name is not UTF-8",
         FaultKind::Duplicate => "duplicate identifier",
         FaultKind::SecondStart => "more than one start function",
+        FaultKind::OtherType => "mismatching type",
+        FaultKind::LateImport => "import after a definition",
     }
 }
 

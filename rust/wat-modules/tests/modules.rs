@@ -60,7 +60,15 @@ fn modules_have_their_bytes() {
 
 #[test]
 fn fields_have_their_bytes() {
-    let rows: [(&str, &[u8]); 4] = [
+    let rows: [(&str, &[u8]); 6] = [
+        (
+            "(module (func (param i32)) (type (func)) (type (func (param i32))))",
+            b"\x01\x08\x02\x60\x00\x00\x60\x01\x7f\x00\x03\x02\x01\x01\x0a\x04\x01\x02\x00\x0b",
+        ),
+        (
+            "(module (import \"m\" \"n\" (func $f (param i32))) (func $g call $f) (export \"e\" (func $g)))",
+            b"\x01\x08\x02\x60\x01\x7f\x00\x60\x00\x00\x02\x07\x01\x01m\x01n\x00\x00\x03\x02\x01\x01\x07\x05\x01\x01e\x00\x01\x0a\x06\x01\x04\x00\x10\x00\x0b",
+        ),
         (
             "(module (memory $m (export \"m\") 0x1 1_0))",
             b"\x05\x04\x01\x01\x01\x0a\x07\x05\x01\x01m\x02\x00",
@@ -91,6 +99,12 @@ fn refusals_have_their_place() {
         ("(module) x", "unexpected token", 9),
         ("(module (func nop)", "unexpected token", 18),
         ("(module (data 0))", "unknown keyword", 9),
+        ("(module (func (type 5)))", "unknown identifier", 20),
+        (
+            "(module (func) (import \"m\" \"n\" (func)))",
+            "import after a definition",
+            8,
+        ),
         ("(module (memory +1))", "unexpected token", 16),
         ("(module (table 1 func))", "unknown keyword", 17),
         (

@@ -3,8 +3,10 @@
 
 use wat_lex::shim::prelude::*;
 use crate::fields::fields::{
-    Export, Field, Function, GlobalType, IndexSpace, Limits, ReferenceType, TableType, Variable,
+    Export, ExternType, Field, Function, FunctionType, GlobalType, Import, IndexSpace, Limits,
+    ReferenceType, TableType, TypeUse, Variable,
 };
+use crate::fields::uses::{function_type, same_type, type_byte};
 use wat_lex::shim::alloc::{AllocError, Global};
 use crate::instructions::pieces::{Argument, Instruction, ValueType};
 use wat_lex::proved::encode::{Encode, EncodeError};
@@ -42,22 +44,6 @@ fn put_sized(out: &mut Vec<u8>, bytes: &[u8]) -> Result<(), AllocError> {
     put(out, bytes.len())?;
     out.extend_from_slice(bytes)?;
     Ok(())
-}
-
-/// The byte of a number type.
-///
-/// # Proved
-///
-/// ```text
-/// ensures { result ≡ binary.type_byte of }
-/// ```
-fn type_byte(of: ValueType) -> u8 {
-    match of {
-        ValueType::I32 => 0x7F,
-        ValueType::I64 => 0x7E,
-        ValueType::F32 => 0x7D,
-        ValueType::F64 => 0x7C,
-    }
 }
 
 /// The byte of a block's type.
@@ -139,70 +125,6 @@ fn variable_bytes(alloc: Global, variables: &[Variable<'_>]) -> Result<Vec<u8>, 
     Ok(bytes)
 }
 
-/// A function type.
-struct FunctionType {
-    params: Vec<ValueType>,
-    results: Vec<ValueType>,
-}
-
-/// The types of variables.
-///
-/// # Proved
-///
-/// ```text
-/// ensures { IfOk result (λ types. types.items ≡ map grammar.type_of (map variable_of variables.now)) }
-/// ```
-fn value_types(alloc: Global, variables: &[Variable<'_>]) -> Result<Vec<ValueType>, AllocError> {
-    let mut types = Vec::new(alloc);
-    for variable in variables {
-        types.push(variable.of)?;
-    }
-    Ok(types)
-}
-
-/// The type of a function.
-///
-/// # Proved
-///
-/// ```text
-/// ensures { IfOk result (λ of. type_of of ≡ binary.function_type (function_of function.now)) }
-/// ```
-fn function_type(alloc: Global, function: &Function<'_>) -> Result<FunctionType, AllocError> {
-    let params = value_types(alloc, &function.header.params)?;
-    let results = value_types(alloc, &function.header.results)?;
-    Ok(FunctionType { params, results })
-}
-
-/// Whether these are the same value types.
-///
-/// # Proved
-///
-/// ```text
-/// ensures { result ≡ binary.same_values some.now others.now }
-/// ```
-fn same_values(some: &[ValueType], others: &[ValueType]) -> bool {
-    if some.len() != others.len() {
-        return false;
-    }
-    for (i, of) in some.iter().enumerate() {
-        if type_byte(*of) != type_byte(others[i]) {
-            return false;
-        }
-    }
-    true
-}
-
-/// Whether these are the same function types.
-///
-/// # Proved
-///
-/// ```text
-/// ensures { result ≡ binary.same_type (type_of of.now) (type_of other.now) }
-/// ```
-fn same_type(of: &FunctionType, other: &FunctionType) -> bool {
-    same_values(&of.params, &other.params) && same_values(&of.results, &other.results)
-}
-
 /// The index of a type among these, which is their number where it is not among them.
 ///
 /// # Proved
@@ -235,24 +157,100 @@ fn has_type(types: &[FunctionType], of: &FunctionType) -> bool {
     false
 }
 
-/// The types that functions bring, each once.
+/// A function type once more.
 ///
 /// # Proved
 ///
 /// ```text
-/// ensures { IfOk result (λ types. map type_of types.items ≡ binary.types_of (binary.functions_of (fields_of fields.now))) }
+/// ensures { IfOk result (λ t. type_of t ≡ type_of of.now) }
 /// ```
-fn types_of(alloc: Global, fields: &[Field<'_>]) -> Result<Vec<FunctionType>, AllocError> {
+fn copied(alloc: Global, of: &FunctionType) -> Result<FunctionType, AllocError> {
+    let mut params = Vec::new(alloc);
+    params.extend_from_slice(&of.params)?;
+    let mut results = Vec::new(alloc);
+    results.extend_from_slice(&of.results)?;
+    Ok(FunctionType { params, results })
+}
+
+/// The types that fields define.
+///
+/// # Proved
+///
+/// ```text
+/// ensures { IfOk result (λ types. map type_of types.items ≡ map grammar.definition_type (grammar.definitions_of (fields_of fields.now))) }
+/// ```
+fn defined_types(alloc: Global, fields: &[Field<'_>]) -> Result<Vec<FunctionType>, AllocError> {
     let mut types = Vec::new(alloc);
     for field in fields {
-        if let Field::Func(function) = field {
-            let of = function_type(alloc, function)?;
+        if let Field::Type(definition) = field {
+            types.push(copied(alloc, &definition.of)?)?;
+        }
+    }
+    Ok(types)
+}
+
+/// The type use of a field, where it has one.
+///
+/// # Proved
+///
+/// ```text
+/// ensures { MatchOption result (binary.use_of (field_of field.now) ≡ []) (λ u. binary.use_of (field_of field.now) ≡ use_of u.now ∷ []) }
+/// ```
+fn use_of<'f, 'p>(field: &'f Field<'p>) -> Option<&'f TypeUse<'p>> {
+    match field {
+        Field::Func(function) => Some(&function.uses),
+        Field::Import(import) => match &import.what {
+            ExternType::Func(uses) => Some(uses),
+            ExternType::Table(_) | ExternType::Memory(_) | ExternType::Global(_) => None,
+        },
+        Field::Type(_)
+        | Field::Table(_)
+        | Field::Memory(_)
+        | Field::Global(_)
+        | Field::Export(_)
+        | Field::Start(_) => None,
+    }
+}
+
+/// The types that fields define, and after them those that type uses bring, each once.
+///
+/// # Proved
+///
+/// ```text
+/// ensures { IfOk result (λ types. map type_of types.items ≡ binary.types_of (fields_of fields.now)) }
+/// ```
+fn types_of(alloc: Global, fields: &[Field<'_>]) -> Result<Vec<FunctionType>, AllocError> {
+    let mut types = defined_types(alloc, fields)?;
+    for field in fields {
+        if let Some(uses) = use_of(field) {
+            let of = function_type(alloc, &uses.params, &uses.results)?;
             if !has_type(&types, &of) {
                 types.push(of)?;
             }
         }
     }
     Ok(types)
+}
+
+/// The index of the type that is used.
+///
+/// # Proved
+///
+/// ```text
+/// ensures { IfOk result (λ n. n ≡ binary.index_or (use_of uses.now).index (binary.type_index (binary.used_type (use_of uses.now)) (map type_of types.now))) }
+/// ```
+fn use_index(
+    alloc: Global,
+    types: &[FunctionType],
+    uses: &TypeUse<'_>,
+) -> Result<usize, AllocError> {
+    match uses.index {
+        Some(index) => Ok(index),
+        None => {
+            let of = function_type(alloc, &uses.params, &uses.results)?;
+            Ok(type_index(types, &of))
+        }
+    }
 }
 
 /// The indices that the next items have.
@@ -264,6 +262,57 @@ struct Counts {
     globals: usize,
 }
 
+/// The same after an item more.
+///
+/// # Proved
+///
+/// ```text
+/// requires { AreBelow (counts_of counts) (2 ^ 63) }
+/// ensures { counts_of result ≡ more space (counts_of counts) }
+/// ```
+fn more(counts: Counts, space: IndexSpace) -> Counts {
+    let mut counts = counts;
+    match space {
+        IndexSpace::Func => counts.funcs += 1,
+        IndexSpace::Table => counts.tables += 1,
+        IndexSpace::Mem => counts.memories += 1,
+        IndexSpace::Global => counts.globals += 1,
+    }
+    counts
+}
+
+/// How many items of an index space there are.
+///
+/// # Proved
+///
+/// ```text
+/// ensures { result ≡ count space (counts_of counts) }
+/// ```
+fn count(counts: Counts, space: IndexSpace) -> usize {
+    match space {
+        IndexSpace::Func => counts.funcs,
+        IndexSpace::Table => counts.tables,
+        IndexSpace::Mem => counts.memories,
+        IndexSpace::Global => counts.globals,
+    }
+}
+
+/// The index space of what is imported.
+///
+/// # Proved
+///
+/// ```text
+/// ensures { result ≡ grammar.extern_space (extern_of what.now) }
+/// ```
+fn extern_space(what: &ExternType<'_>) -> IndexSpace {
+    match what {
+        ExternType::Func(_) => IndexSpace::Func,
+        ExternType::Table(_) => IndexSpace::Table,
+        ExternType::Memory(_) => IndexSpace::Mem,
+        ExternType::Global(_) => IndexSpace::Global,
+    }
+}
+
 /// The same after a field more.
 ///
 /// # Proved
@@ -273,15 +322,14 @@ struct Counts {
 /// ensures { counts_of result ≡ counted (field_of field.now) (counts_of counts) }
 /// ```
 fn counted(counts: Counts, field: &Field<'_>) -> Counts {
-    let mut counts = counts;
     match field {
-        Field::Func(_) => counts.funcs += 1,
-        Field::Table(_) => counts.tables += 1,
-        Field::Memory(_) => counts.memories += 1,
-        Field::Global(_) => counts.globals += 1,
-        Field::Export(_) | Field::Start(_) => {}
+        Field::Func(_) => more(counts, IndexSpace::Func),
+        Field::Table(_) => more(counts, IndexSpace::Table),
+        Field::Memory(_) => more(counts, IndexSpace::Mem),
+        Field::Global(_) => more(counts, IndexSpace::Global),
+        Field::Import(import) => more(counts, extern_space(&import.what)),
+        Field::Type(_) | Field::Export(_) | Field::Start(_) => counts,
     }
-    counts
 }
 
 /// Appends the exports of an item under names.
@@ -316,7 +364,11 @@ fn push_exports<'p>(
     field: &Field<'p>,
 ) -> Result<(), AllocError> {
     match field {
-        Field::Func(f) => push_names(exports, &f.header.exports, IndexSpace::Func, counts.funcs),
+        Field::Func(f) => push_names(exports, &f.exports, IndexSpace::Func, counts.funcs),
+        Field::Import(i) => {
+            let space = extern_space(&i.what);
+            push_names(exports, &i.exports, space, count(counts, space))
+        }
         Field::Table(t) => push_names(exports, &t.exports, IndexSpace::Table, counts.tables),
         Field::Memory(m) => push_names(exports, &m.exports, IndexSpace::Mem, counts.memories),
         Field::Global(g) => push_names(exports, &g.exports, IndexSpace::Global, counts.globals),
@@ -324,7 +376,7 @@ fn push_exports<'p>(
             exports.push(*export)?;
             Ok(())
         }
-        Field::Start(_) => Ok(()),
+        Field::Type(_) | Field::Start(_) => Ok(()),
     }
 }
 
@@ -419,7 +471,7 @@ fn put_runs(out: &mut Vec<u8>, runs: &[Run]) -> Result<(), AllocError> {
 /// ensures { IfOk result (λ bytes. bytes.items ≡ binary.code (function_of function.now)) }
 /// ```
 fn code(alloc: Global, function: &Function<'_>) -> Result<Vec<u8>, AllocError> {
-    let locals = variable_bytes(alloc, &function.header.locals)?;
+    let locals = variable_bytes(alloc, &function.locals)?;
     let runs = runs_of(alloc, &locals)?;
     let mut bytes = Vec::new(alloc);
     put_runs(&mut bytes, &runs)?;
@@ -498,6 +550,81 @@ fn put_type(alloc: Global, out: &mut Vec<u8>, of: &FunctionType) -> Result<(), A
     Ok(())
 }
 
+/// Appends what is imported.
+///
+/// # Proved
+///
+/// ```text
+/// ensures { OnOk result (out.new.items ≡ out.old.items ++ binary.extern_bytes (map type_of types.now) (extern_of what.now)) }
+/// ```
+fn put_extern(
+    alloc: Global,
+    out: &mut Vec<u8>,
+    types: &[FunctionType],
+    what: &ExternType<'_>,
+) -> Result<(), AllocError> {
+    match what {
+        ExternType::Func(uses) => {
+            out.push(0x00)?;
+            put(out, use_index(alloc, types, uses)?)
+        }
+        ExternType::Table(of) => {
+            out.push(0x01)?;
+            put_table(out, *of)
+        }
+        ExternType::Memory(limits) => {
+            out.push(0x02)?;
+            put_limits(out, *limits)
+        }
+        ExternType::Global(of) => {
+            out.push(0x03)?;
+            put_global_type(out, *of)
+        }
+    }
+}
+
+/// Appends an import.
+///
+/// # Proved
+///
+/// ```text
+/// ensures { OnOk result (out.new.items ≡ out.old.items ++ binary.import_bytes (map type_of types.now) (import_of import.now)) }
+/// ```
+fn put_import(
+    alloc: Global,
+    out: &mut Vec<u8>,
+    types: &[FunctionType],
+    import: &Import<'_>,
+) -> Result<(), AllocError> {
+    put_sized(out, import.from)?;
+    put_sized(out, import.item)?;
+    put_extern(alloc, out, types, &import.what)
+}
+
+/// Appends the import section.
+///
+/// # Proved
+///
+/// ```text
+/// ensures { OnOk result (out.new.items ≡ out.old.items ++ binary.list_section 2 (binary.import_bytes (map type_of types.now)) (flat_map binary.import_of (fields_of fields.now))) }
+/// ```
+fn put_imports(
+    alloc: Global,
+    out: &mut Vec<u8>,
+    types: &[FunctionType],
+    fields: &[Field<'_>],
+) -> Result<(), AllocError> {
+    let mut items = Vec::new(alloc);
+    let mut count = 0;
+    for field in fields {
+        if let Field::Import(import) = field {
+            put_import(alloc, &mut items, types, import)?;
+            count += 1;
+        }
+    }
+    put_section(alloc, out, 2, count, &items)
+}
+
 /// Appends the function section.
 ///
 /// # Proved
@@ -515,8 +642,7 @@ fn put_functions(
     let mut count = 0;
     for field in fields {
         if let Field::Func(function) = field {
-            let of = function_type(alloc, function)?;
-            put(&mut items, type_index(types, &of))?;
+            put(&mut items, use_index(alloc, types, &function.uses)?)?;
             count += 1;
         }
     }
@@ -619,6 +745,19 @@ fn mutability_byte(is_mutable: bool) -> u8 {
     if is_mutable { 0x01 } else { 0x00 }
 }
 
+/// Appends the type of a global variable.
+///
+/// # Proved
+///
+/// ```text
+/// ensures { OnOk result (out.new.items ≡ out.old.items ++ binary.global_type_bytes of) }
+/// ```
+fn put_global_type(out: &mut Vec<u8>, of: GlobalType) -> Result<(), AllocError> {
+    out.push(type_byte(of.value))?;
+    out.push(mutability_byte(of.is_mutable))?;
+    Ok(())
+}
+
 /// Appends a global variable.
 ///
 /// # Proved
@@ -627,8 +766,7 @@ fn mutability_byte(is_mutable: bool) -> u8 {
 /// ensures { OnOk result (out.new.items ≡ out.old.items ++ binary.global_bytes (of, first.now)) }
 /// ```
 fn put_global(out: &mut Vec<u8>, of: GlobalType, first: &[Instruction]) -> Result<(), AllocError> {
-    out.push(type_byte(of.value))?;
-    out.push(mutability_byte(of.is_mutable))?;
+    put_global_type(out, of)?;
     put_instructions(out, first)?;
     out.push(0x0B)?;
     Ok(())
@@ -753,6 +891,7 @@ pub(crate) fn module_bytes(alloc: Global, fields: &[Field<'_>]) -> Result<Vec<u8
     bytes.extend_from_slice(&HEADER)?;
     let types = types_of(alloc, fields)?;
     put_types(alloc, &mut bytes, &types)?;
+    put_imports(alloc, &mut bytes, &types, fields)?;
     put_functions(alloc, &mut bytes, &types, fields)?;
     put_tables(alloc, &mut bytes, fields)?;
     put_memories(alloc, &mut bytes, fields)?;

@@ -3,9 +3,10 @@
 
 use wat_lex::shim::prelude::*;
 use crate::fields::binary::module_bytes;
-use crate::fields::header::{closed, exports, read_header, utf8_text};
+use crate::fields::header::{after, closed, exports, utf8_text, variables};
 use crate::fields::names::{Names, names_in, names_of, variable_names};
-use crate::fields::types::{global_type, limits, reference_type, space_of, twice_closed};
+use crate::fields::types::{global_type, limits, space_of, table_type, twice_closed};
+use crate::fields::uses::{type_at, type_use};
 use wat_lex::shim::alloc::Global;
 use crate::instructions::machine;
 use crate::instructions::names::IndexedNames;
@@ -19,18 +20,31 @@ pub struct Variable<'p> {
     pub of: ValueType,
 }
 
-/// What comes before the instructions of a function.
-pub struct Header<'p> {
-    pub exports: Vec<&'p [u8]>,
+/// A function type.
+pub struct FunctionType {
+    pub params: Vec<ValueType>,
+    pub results: Vec<ValueType>,
+}
+
+/// A type that a field defines.
+pub struct Definition<'p> {
+    pub name: Name<'p>,
+    pub of: FunctionType,
+}
+
+/// A type use: the index of its type, where it says one; and its parameters and results.
+pub struct TypeUse<'p> {
+    pub index: Option<usize>,
     pub params: Vec<Variable<'p>>,
     pub results: Vec<Variable<'p>>,
-    pub locals: Vec<Variable<'p>>,
 }
 
 /// A function.
 pub struct Function<'p> {
     pub name: Name<'p>,
-    pub header: Header<'p>,
+    pub exports: Vec<&'p [u8]>,
+    pub uses: TypeUse<'p>,
+    pub locals: Vec<Variable<'p>>,
     pub body: Vec<Instruction>,
 }
 
@@ -93,6 +107,23 @@ pub struct GlobalVariable<'p> {
     pub first: Vec<Instruction>,
 }
 
+/// What is imported.
+pub enum ExternType<'p> {
+    Func(TypeUse<'p>),
+    Table(TableType),
+    Memory(Limits),
+    Global(GlobalType),
+}
+
+/// An import of an item from a module.
+pub struct Import<'p> {
+    pub from: &'p [u8],
+    pub item: &'p [u8],
+    pub name: Name<'p>,
+    pub exports: Vec<&'p [u8]>,
+    pub what: ExternType<'p>,
+}
+
 /// An export of the item of an index.
 #[derive(Clone, Copy)]
 pub struct Export<'p> {
@@ -103,6 +134,8 @@ pub struct Export<'p> {
 
 /// A field of a module.
 pub enum Field<'p> {
+    Type(Definition<'p>),
+    Import(Import<'p>),
     Func(Function<'p>),
     Table(Table<'p>),
     Memory(Memory<'p>),
@@ -237,6 +270,12 @@ fn module_fields<'p, 'a>(
     };
     let (fields, rest) = fields(alloc, &names, pieces)?;
     ended(rest)?;
+    if !imports_first(&fields) {
+        return Err(Refusal::Text(Fault {
+            kind: FaultKind::LateImport,
+            left: pieces,
+        }));
+    }
     if starts(&fields) > 1 {
         return Err(Refusal::Text(Fault {
             kind: FaultKind::SecondStart,
@@ -281,6 +320,52 @@ fn ended<'p, 'a>(pieces: &'p [Piece<'a>]) -> Result<(), Fault<'p, 'a>> {
     }
 }
 
+/// Whether imports come before all definitions.
+///
+/// # Proved
+///
+/// ```text
+/// ensures { result ≡ grammar.imports_first (fields_of fields.now) }
+/// ```
+fn imports_first(fields: &[Field<'_>]) -> bool {
+    for (i, field) in fields.iter().enumerate() {
+        if is_definition(field) {
+            return !has_import(&fields[i + 1..]);
+        }
+    }
+    true
+}
+
+/// Whether a field defines a function, a table, a memory or a global.
+///
+/// # Proved
+///
+/// ```text
+/// ensures { result ≡ grammar.is_definition (field_of field.now) }
+/// ```
+fn is_definition(field: &Field<'_>) -> bool {
+    match field {
+        Field::Func(_) | Field::Table(_) | Field::Memory(_) | Field::Global(_) => true,
+        Field::Type(_) | Field::Import(_) | Field::Export(_) | Field::Start(_) => false,
+    }
+}
+
+/// Whether one of the fields is an import.
+///
+/// # Proved
+///
+/// ```text
+/// ensures { result ≡ grammar.has_import (fields_of fields.now) }
+/// ```
+fn has_import(fields: &[Field<'_>]) -> bool {
+    for field in fields {
+        if let Field::Import(_) = field {
+            return true;
+        }
+    }
+    false
+}
+
 /// How many start functions there are.
 ///
 /// # Proved
@@ -304,8 +389,8 @@ fn starts(fields: &[Field<'_>]) -> usize {
 ///
 /// ```text
 /// ensures { MatchResult result
-/// (λ r. reading.all (reading.field_item (context_of names.now)) (map terminal pieces.now) ≡ Ok (fields_of r.0.items, map terminal r.1.now))
-/// (λ e. Faults (reading.all (reading.field_item (context_of names.now)) (map terminal pieces.now)) e) }
+/// (λ r. reading.all (reading.field_item (types_of names.now) (context_of names.now)) (map terminal pieces.now) ≡ Ok (fields_of r.0.items, map terminal r.1.now))
+/// (λ e. Faults (reading.all (reading.field_item (types_of names.now) (context_of names.now)) (map terminal pieces.now)) e) }
 /// ```
 fn fields<'p, 'a>(
     alloc: Global,
@@ -334,9 +419,9 @@ fn fields<'p, 'a>(
 /// ```text
 /// ensures { MatchResult result
 /// (λ o. MatchOption o
-/// (NoItem (reading.field_item (context_of names.now) (map terminal left.entry.pieces.now)) (map field_of found.old.items) (map field_of found.new.items))
-/// (λ l. IsItem (reading.field_item (context_of names.now) (map terminal left.entry.pieces.now)) (map field_of found.old.items) (map field_of found.new.items) (map terminal l.pieces.now)))
-/// (λ e. ItemFaults (reading.field_item (context_of names.now) (map terminal left.entry.pieces.now)) e) }
+/// (NoItem (reading.field_item (types_of names.now) (context_of names.now) (map terminal left.entry.pieces.now)) (map field_of found.old.items) (map field_of found.new.items))
+/// (λ l. IsItem (reading.field_item (types_of names.now) (context_of names.now) (map terminal left.entry.pieces.now)) (map field_of found.old.items) (map field_of found.new.items) (map terminal l.pieces.now)))
+/// (λ e. ItemFaults (reading.field_item (types_of names.now) (context_of names.now) (map terminal left.entry.pieces.now)) e) }
 /// ```
 fn next_field<'p, 'a>(
     alloc: Global,
@@ -371,8 +456,8 @@ fn next_field<'p, 'a>(
 ///
 /// ```text
 /// ensures { MatchResult result
-/// (λ r. reading.field (context_of names.now) (map terminal pieces.now) ≡ Ok (field_of r.0 ∷ [], map terminal r.1.now))
-/// (λ e. Faults (reading.field (context_of names.now) (map terminal pieces.now)) e) }
+/// (λ r. reading.field (types_of names.now) (context_of names.now) (map terminal pieces.now) ≡ Ok (field_of r.0 ∷ [], map terminal r.1.now))
+/// (λ e. Faults (reading.field (types_of names.now) (context_of names.now) (map terminal pieces.now)) e) }
 /// ```
 fn field_at<'p, 'a>(
     alloc: Global,
@@ -406,8 +491,8 @@ fn field_at<'p, 'a>(
 ///
 /// ```text
 /// ensures { MatchResult result
-/// (λ r. reading.field_by (context_of names.now) (grammar.space_of word.now) word.now (map terminal all.now) (map terminal pieces.now) ≡ Ok (field_of r.0 ∷ [], map terminal r.1.now))
-/// (λ e. Faults (reading.field_by (context_of names.now) (grammar.space_of word.now) word.now (map terminal all.now) (map terminal pieces.now)) e) }
+/// (λ r. reading.field_by (types_of names.now) (context_of names.now) (grammar.space_of word.now) word.now (map terminal all.now) (map terminal pieces.now) ≡ Ok (field_of r.0 ∷ [], map terminal r.1.now))
+/// (λ e. Faults (reading.field_by (types_of names.now) (context_of names.now) (grammar.space_of word.now) word.now (map terminal all.now) (map terminal pieces.now)) e) }
 /// ```
 fn field_after<'p, 'a>(
     alloc: Global,
@@ -417,71 +502,124 @@ fn field_after<'p, 'a>(
     pieces: &'p [Piece<'a>],
 ) -> Result<(Field<'p>, &'p [Piece<'a>]), Refusal<'p, 'a>> {
     match space_of(word) {
-        Some(IndexSpace::Func) => func_at(alloc, names, pieces),
-        Some(IndexSpace::Table) => table_at(alloc, pieces),
-        Some(IndexSpace::Mem) => memory_at(alloc, pieces),
-        Some(IndexSpace::Global) => global_at(alloc, names, pieces),
-        None => other_at(names, word, all, pieces),
+        Some(space) => item(alloc, names, space, pieces),
+        None => other(alloc, names, word, all, pieces),
     }
 }
 
-/// A function, after its word.
+/// A function, a table, a memory or a global, after its word.
 ///
 /// # Proved
 ///
 /// ```text
 /// ensures { MatchResult result
-/// (λ r. reading.func_at (context_of names.now) (label_of (map terminal pieces.now)) ≡ Ok (field_of r.0 ∷ [], map terminal r.1.now))
-/// (λ e. Faults (reading.func_at (context_of names.now) (label_of (map terminal pieces.now))) e) }
+/// (λ r. reading.item_at (types_of names.now) (context_of names.now) space (label_of (map terminal pieces.now)) ≡ Ok (field_of r.0 ∷ [], map terminal r.1.now))
+/// (λ e. Faults (reading.item_at (types_of names.now) (context_of names.now) space (label_of (map terminal pieces.now))) e) }
 /// ```
-fn func_at<'p, 'a>(
+fn item<'p, 'a>(
     alloc: Global,
     names: &Names<'p>,
-    pieces: &'p [Piece<'a>],
-) -> Result<(Field<'p>, &'p [Piece<'a>]), Refusal<'p, 'a>> {
-    let (name, rest) = reading::label(pieces);
-    let (header, rest) = read_header(alloc, rest)?;
-    let (body, rest) = instructions(alloc, names, &header, rest)?;
-    Ok((Field::Func(Function { name, header, body }), rest))
-}
-
-/// A table, after its word.
-///
-/// # Proved
-///
-/// ```text
-/// ensures { MatchResult result
-/// (λ r. reading.table_at (label_of (map terminal pieces.now)) ≡ Ok (field_of r.0 ∷ [], map terminal r.1.now))
-/// (λ e. Faults (reading.table_at (label_of (map terminal pieces.now))) e) }
-/// ```
-fn table_at<'p, 'a>(
-    alloc: Global,
+    space: IndexSpace,
     pieces: &'p [Piece<'a>],
 ) -> Result<(Field<'p>, &'p [Piece<'a>]), Refusal<'p, 'a>> {
     let (name, rest) = reading::label(pieces);
     let (exports, rest) = exports(alloc, rest)?;
-    let (limits, rest) = limits(rest)?;
-    let (element, rest) = reference_type(rest)?;
-    let of = TableType { limits, element };
+    match after("import", rest) {
+        Some(rest) => inline_import(alloc, names, space, name, exports, rest),
+        None => defined(alloc, names, space, name, exports, rest),
+    }
+}
+
+/// A definition, after its name and its exports.
+///
+/// # Proved
+///
+/// ```text
+/// ensures { MatchResult result
+/// (λ r. reading.defined (types_of names.now) (context_of names.now) space (label name.entry) (map text_of exports.entry.items) (map terminal pieces.now) ≡ Ok (field_of r.0 ∷ [], map terminal r.1.now))
+/// (λ e. Faults (reading.defined (types_of names.now) (context_of names.now) space (label name.entry) (map text_of exports.entry.items) (map terminal pieces.now)) e) }
+/// ```
+fn defined<'p, 'a>(
+    alloc: Global,
+    names: &Names<'p>,
+    space: IndexSpace,
+    name: Name<'p>,
+    exports: Vec<&'p [u8]>,
+    pieces: &'p [Piece<'a>],
+) -> Result<(Field<'p>, &'p [Piece<'a>]), Refusal<'p, 'a>> {
+    match space {
+        IndexSpace::Func => func(alloc, names, name, exports, pieces),
+        IndexSpace::Table => Ok(table_at(name, exports, pieces)?),
+        IndexSpace::Mem => Ok(memory_at(name, exports, pieces)?),
+        IndexSpace::Global => global(alloc, names, name, exports, pieces),
+    }
+}
+
+/// A function, after its name and its exports.
+///
+/// # Proved
+///
+/// ```text
+/// ensures { MatchResult result
+/// (λ r. reading.func_at (types_of names.now) (context_of names.now) (label name.entry) (map text_of exports.entry.items) (map terminal pieces.now) ≡ Ok (field_of r.0 ∷ [], map terminal r.1.now))
+/// (λ e. Faults (reading.func_at (types_of names.now) (context_of names.now) (label name.entry) (map text_of exports.entry.items) (map terminal pieces.now)) e) }
+/// ```
+fn func<'p, 'a>(
+    alloc: Global,
+    names: &Names<'p>,
+    name: Name<'p>,
+    exports: Vec<&'p [u8]>,
+    pieces: &'p [Piece<'a>],
+) -> Result<(Field<'p>, &'p [Piece<'a>]), Refusal<'p, 'a>> {
+    let (uses, rest) = type_use(alloc, names, pieces)?;
+    let (locals, rest) = variables(alloc, "local", true, rest)?;
+    let (body, rest) = instructions(alloc, names, &uses.params, &locals, rest)?;
+    Ok((
+        Field::Func(Function {
+            name,
+            exports,
+            uses,
+            locals,
+            body,
+        }),
+        rest,
+    ))
+}
+
+/// A table, after its name and its exports.
+///
+/// # Proved
+///
+/// ```text
+/// ensures { MatchResult result
+/// (λ r. reading.table_at (label name.entry) (map text_of exports.entry.items) (map terminal pieces.now) ≡ Ok (field_of r.0 ∷ [], map terminal r.1.now))
+/// (λ f. reading.table_at (label name.entry) (map text_of exports.entry.items) (map terminal pieces.now) ≡ Err (fault_of f)) }
+/// ```
+fn table_at<'p, 'a>(
+    name: Name<'p>,
+    exports: Vec<&'p [u8]>,
+    pieces: &'p [Piece<'a>],
+) -> Result<(Field<'p>, &'p [Piece<'a>]), Fault<'p, 'a>> {
+    let (of, rest) = table_type(pieces)?;
+    let rest = closed(rest)?;
     Ok((Field::Table(Table { name, exports, of }), rest))
 }
 
-/// A memory, after its word.
+/// A memory, after its name and its exports.
 ///
 /// # Proved
 ///
 /// ```text
 /// ensures { MatchResult result
-/// (λ r. reading.memory_at (label_of (map terminal pieces.now)) ≡ Ok (field_of r.0 ∷ [], map terminal r.1.now))
-/// (λ e. Faults (reading.memory_at (label_of (map terminal pieces.now))) e) }
+/// (λ r. reading.memory_at (label name.entry) (map text_of exports.entry.items) (map terminal pieces.now) ≡ Ok (field_of r.0 ∷ [], map terminal r.1.now))
+/// (λ f. reading.memory_at (label name.entry) (map text_of exports.entry.items) (map terminal pieces.now) ≡ Err (fault_of f)) }
 /// ```
 fn memory_at<'p, 'a>(
-    alloc: Global,
+    name: Name<'p>,
+    exports: Vec<&'p [u8]>,
     pieces: &'p [Piece<'a>],
-) -> Result<(Field<'p>, &'p [Piece<'a>]), Refusal<'p, 'a>> {
-    let (name, rest) = reading::label(pieces);
-    let (exports, rest) = exports(alloc, rest)?;
-    let (limits, rest) = limits(rest)?;
+) -> Result<(Field<'p>, &'p [Piece<'a>]), Fault<'p, 'a>> {
+    let (limits, rest) = limits(pieces)?;
     let rest = closed(rest)?;
     Ok((
         Field::Memory(Memory {
@@ -493,23 +631,23 @@ fn memory_at<'p, 'a>(
     ))
 }
 
-/// A global variable, after its word.
+/// A global variable, after its name and its exports.
 ///
 /// # Proved
 ///
 /// ```text
 /// ensures { MatchResult result
-/// (λ r. reading.global_at (context_of names.now) (label_of (map terminal pieces.now)) ≡ Ok (field_of r.0 ∷ [], map terminal r.1.now))
-/// (λ e. Faults (reading.global_at (context_of names.now) (label_of (map terminal pieces.now))) e) }
+/// (λ r. reading.global_at (context_of names.now) (label name.entry) (map text_of exports.entry.items) (map terminal pieces.now) ≡ Ok (field_of r.0 ∷ [], map terminal r.1.now))
+/// (λ e. Faults (reading.global_at (context_of names.now) (label name.entry) (map text_of exports.entry.items) (map terminal pieces.now)) e) }
 /// ```
-fn global_at<'p, 'a>(
+fn global<'p, 'a>(
     alloc: Global,
     names: &Names<'p>,
+    name: Name<'p>,
+    exports: Vec<&'p [u8]>,
     pieces: &'p [Piece<'a>],
 ) -> Result<(Field<'p>, &'p [Piece<'a>]), Refusal<'p, 'a>> {
-    let (name, rest) = reading::label(pieces);
-    let (exports, rest) = exports(alloc, rest)?;
-    let (of, rest) = global_type(rest)?;
+    let (of, rest) = global_type(pieces)?;
     let locals = IndexedNames::none(alloc);
     let scope = scope(names, &locals);
     let (first, rest) = machine::instructions(alloc, &scope, rest)?;
@@ -524,21 +662,138 @@ fn global_at<'p, 'a>(
     ))
 }
 
-/// An export or a start function, after its word, with which all these tokens begin.
+/// The two names of an import.
 ///
 /// # Proved
 ///
 /// ```text
 /// ensures { MatchResult result
-/// (λ r. reading.other_at (context_of names.now) word.now (map terminal all.now) (map terminal pieces.now) ≡ Ok (field_of r.0 ∷ [], map terminal r.1.now))
-/// (λ e. Faults (reading.other_at (context_of names.now) word.now (map terminal all.now) (map terminal pieces.now)) e) }
+/// (λ r. reading.import_names (map terminal pieces.now) ≡ Ok ((r.0.0.now, r.0.1.now), map terminal r.1.now))
+/// (λ f. reading.import_names (map terminal pieces.now) ≡ Err (fault_of f)) }
 /// ```
-fn other_at<'p, 'a>(
+fn import_names<'p, 'a>(
+    pieces: &'p [Piece<'a>],
+) -> Result<((&'p [u8], &'p [u8]), &'p [Piece<'a>]), Fault<'p, 'a>> {
+    let (from, rest) = utf8_text(pieces)?;
+    let (item, rest) = utf8_text(rest)?;
+    Ok(((from, item), rest))
+}
+
+/// What is imported, after its name.
+///
+/// # Proved
+///
+/// ```text
+/// ensures { MatchResult result
+/// (λ r. reading.extern_at (types_of names.now) space (map terminal pieces.now) ≡ Ok (extern_of r.0, map terminal r.1.now))
+/// (λ e. Faults (reading.extern_at (types_of names.now) space (map terminal pieces.now)) e) }
+/// ```
+fn extern_type<'p, 'a>(
+    alloc: Global,
+    names: &Names<'p>,
+    space: IndexSpace,
+    pieces: &'p [Piece<'a>],
+) -> Result<(ExternType<'p>, &'p [Piece<'a>]), Refusal<'p, 'a>> {
+    match space {
+        IndexSpace::Func => {
+            let (uses, rest) = type_use(alloc, names, pieces)?;
+            func_type(alloc, uses, pieces, rest)
+        }
+        IndexSpace::Table => {
+            let (of, rest) = table_type(pieces)?;
+            Ok((ExternType::Table(of), rest))
+        }
+        IndexSpace::Mem => {
+            let (limits, rest) = limits(pieces)?;
+            Ok((ExternType::Memory(limits), rest))
+        }
+        IndexSpace::Global => {
+            let (of, rest) = global_type(pieces)?;
+            Ok((ExternType::Global(of), rest))
+        }
+    }
+}
+
+/// An imported function, of which no two parameters have the same name.
+///
+/// # Proved
+///
+/// ```text
+/// ensures { MatchResult result
+/// (λ r. reading.func_type (use_of uses.entry) (map terminal all.now) (map terminal rest.now) ≡ Ok (extern_of r.0, map terminal r.1.now))
+/// (λ e. Faults (reading.func_type (use_of uses.entry) (map terminal all.now) (map terminal rest.now)) e) }
+/// ```
+fn func_type<'p, 'a>(
+    alloc: Global,
+    uses: TypeUse<'p>,
+    all: &'p [Piece<'a>],
+    rest: &'p [Piece<'a>],
+) -> Result<(ExternType<'p>, &'p [Piece<'a>]), Refusal<'p, 'a>> {
+    if variable_names(alloc, &uses.params, &[])?.is_none() {
+        return Err(Refusal::Text(Fault {
+            kind: FaultKind::Duplicate,
+            left: all,
+        }));
+    }
+    Ok((ExternType::Func(uses), rest))
+}
+
+/// An inline import, after its name, its exports and `(import`.
+///
+/// # Proved
+///
+/// ```text
+/// ensures { MatchResult result
+/// (λ r. reading.inline_import (types_of names.now) space (label name.entry) (map text_of exports.entry.items) (map terminal pieces.now) ≡ Ok (field_of r.0 ∷ [], map terminal r.1.now))
+/// (λ e. Faults (reading.inline_import (types_of names.now) space (label name.entry) (map text_of exports.entry.items) (map terminal pieces.now)) e) }
+/// ```
+fn inline_import<'p, 'a>(
+    alloc: Global,
+    names: &Names<'p>,
+    space: IndexSpace,
+    name: Name<'p>,
+    exports: Vec<&'p [u8]>,
+    pieces: &'p [Piece<'a>],
+) -> Result<(Field<'p>, &'p [Piece<'a>]), Refusal<'p, 'a>> {
+    let ((from, item), rest) = import_names(pieces)?;
+    let rest = closed(rest)?;
+    let (what, rest) = extern_type(alloc, names, space, rest)?;
+    let rest = closed(rest)?;
+    Ok((
+        Field::Import(Import {
+            from,
+            item,
+            name,
+            exports,
+            what,
+        }),
+        rest,
+    ))
+}
+
+/// A type, an import, an export or a start function, after its word, with which all these tokens
+/// begin.
+///
+/// # Proved
+///
+/// ```text
+/// ensures { MatchResult result
+/// (λ r. reading.other_at (types_of names.now) (context_of names.now) word.now (map terminal all.now) (map terminal pieces.now) ≡ Ok (field_of r.0 ∷ [], map terminal r.1.now))
+/// (λ e. Faults (reading.other_at (types_of names.now) (context_of names.now) word.now (map terminal all.now) (map terminal pieces.now)) e) }
+/// ```
+fn other<'p, 'a>(
+    alloc: Global,
     names: &Names<'p>,
     word: &str,
     all: &'p [Piece<'a>],
     pieces: &'p [Piece<'a>],
 ) -> Result<(Field<'p>, &'p [Piece<'a>]), Refusal<'p, 'a>> {
+    if word == "type" {
+        return type_field(alloc, pieces);
+    }
+    if word == "import" {
+        return import_at(alloc, names, pieces);
+    }
     if word == "export" {
         return Ok(export_at(names, pieces)?);
     }
@@ -549,6 +804,154 @@ fn other_at<'p, 'a>(
         kind: FaultKind::UnknownWord,
         left: all,
     }))
+}
+
+/// A type, after its word.
+///
+/// # Proved
+///
+/// ```text
+/// ensures { MatchResult result
+/// (λ r. reading.type_field (map terminal pieces.now) ≡ Ok (field_of r.0 ∷ [], map terminal r.1.now))
+/// (λ e. Faults (reading.type_field (map terminal pieces.now)) e) }
+/// ```
+fn type_field<'p, 'a>(
+    alloc: Global,
+    pieces: &'p [Piece<'a>],
+) -> Result<(Field<'p>, &'p [Piece<'a>]), Refusal<'p, 'a>> {
+    let (definition, rest) = type_at(alloc, pieces)?;
+    Ok((Field::Type(definition), rest))
+}
+
+/// An import, after its word.
+///
+/// # Proved
+///
+/// ```text
+/// ensures { MatchResult result
+/// (λ r. reading.import_at (types_of names.now) (map terminal pieces.now) ≡ Ok (field_of r.0 ∷ [], map terminal r.1.now))
+/// (λ e. Faults (reading.import_at (types_of names.now) (map terminal pieces.now)) e) }
+/// ```
+fn import_at<'p, 'a>(
+    alloc: Global,
+    names: &Names<'p>,
+    pieces: &'p [Piece<'a>],
+) -> Result<(Field<'p>, &'p [Piece<'a>]), Refusal<'p, 'a>> {
+    let ((from, item), rest) = import_names(pieces)?;
+    import_open(alloc, names, from, item, rest)
+}
+
+/// What is imported under names.
+///
+/// # Proved
+///
+/// ```text
+/// ensures { MatchResult result
+/// (λ r. reading.import_open (types_of names.now) (from.now, item.now) (map terminal pieces.now) ≡ Ok (field_of r.0 ∷ [], map terminal r.1.now))
+/// (λ e. Faults (reading.import_open (types_of names.now) (from.now, item.now) (map terminal pieces.now)) e) }
+/// ```
+fn import_open<'p, 'a>(
+    alloc: Global,
+    names: &Names<'p>,
+    from: &'p [u8],
+    item: &'p [u8],
+    pieces: &'p [Piece<'a>],
+) -> Result<(Field<'p>, &'p [Piece<'a>]), Refusal<'p, 'a>> {
+    match pieces {
+        [Piece::Open, rest @ ..] => import_word(alloc, names, from, item, rest),
+        [
+            Piece::Close
+            | Piece::Word(_)
+            | Piece::Id(_)
+            | Piece::Integer(_, _)
+            | Piece::Text(_)
+            | Piece::Other,
+            ..,
+        ] => Err(Refusal::Text(Fault {
+            kind: FaultKind::Unexpected,
+            left: pieces,
+        })),
+        [] => Err(Refusal::Text(Fault {
+            kind: FaultKind::Unexpected,
+            left: pieces,
+        })),
+    }
+}
+
+/// The same after `(`.
+///
+/// # Proved
+///
+/// ```text
+/// ensures { MatchResult result
+/// (λ r. reading.import_word (types_of names.now) (from.now, item.now) (map terminal pieces.now) ≡ Ok (field_of r.0 ∷ [], map terminal r.1.now))
+/// (λ e. Faults (reading.import_word (types_of names.now) (from.now, item.now) (map terminal pieces.now)) e) }
+/// ```
+fn import_word<'p, 'a>(
+    alloc: Global,
+    names: &Names<'p>,
+    from: &'p [u8],
+    item: &'p [u8],
+    pieces: &'p [Piece<'a>],
+) -> Result<(Field<'p>, &'p [Piece<'a>]), Refusal<'p, 'a>> {
+    match pieces {
+        [Piece::Word(word), rest @ ..] => match space_of(word) {
+            Some(space) => import_item(alloc, names, from, item, space, rest),
+            None => Err(Refusal::Text(Fault {
+                kind: FaultKind::UnknownWord,
+                left: pieces,
+            })),
+        },
+        [
+            Piece::Open
+            | Piece::Close
+            | Piece::Id(_)
+            | Piece::Integer(_, _)
+            | Piece::Text(_)
+            | Piece::Other,
+            ..,
+        ] => Err(Refusal::Text(Fault {
+            kind: FaultKind::Unexpected,
+            left: pieces,
+        })),
+        [] => Err(Refusal::Text(Fault {
+            kind: FaultKind::Unexpected,
+            left: pieces,
+        })),
+    }
+}
+
+/// The same after the word of an index space.
+///
+/// # Proved
+///
+/// ```text
+/// ensures { MatchResult result
+/// (λ r. reading.extern_after (types_of names.now) (from.now, item.now) space (label_of (map terminal pieces.now)) ≡ Ok (field_of r.0 ∷ [], map terminal r.1.now))
+/// (λ e. Faults (reading.extern_after (types_of names.now) (from.now, item.now) space (label_of (map terminal pieces.now))) e) }
+/// ```
+fn import_item<'p, 'a>(
+    alloc: Global,
+    names: &Names<'p>,
+    from: &'p [u8],
+    item: &'p [u8],
+    space: IndexSpace,
+    pieces: &'p [Piece<'a>],
+) -> Result<(Field<'p>, &'p [Piece<'a>]), Refusal<'p, 'a>> {
+    let (name, rest) = reading::label(pieces);
+    let (what, rest) = extern_type(alloc, names, space, rest)?;
+    let rest = twice_closed(rest)?;
+    let exports = Vec::new(alloc);
+    Ok((
+        Field::Import(Import {
+            from,
+            item,
+            name,
+            exports,
+            what,
+        }),
+        rest,
+    ))
 }
 
 /// An export, after its word.
@@ -699,22 +1102,23 @@ fn scope<'s, 'n>(names: &'s Names<'n>, locals: &'s IndexedNames<'n>) -> Scope<'s
     }
 }
 
-/// The instructions of a function, after its header.
+/// The instructions of a function, after its local variables.
 ///
 /// # Proved
 ///
 /// ```text
 /// ensures { MatchResult result
-/// (λ r. reading.instructions (context_of names.now) (header_of header.now) (map terminal pieces.now) ≡ Ok (r.0.items, map terminal r.1.now))
-/// (λ e. Faults (reading.instructions (context_of names.now) (header_of header.now) (map terminal pieces.now)) e) }
+/// (λ r. reading.instructions (context_of names.now) (map variable_of params.now) (map variable_of locals.now) (map terminal pieces.now) ≡ Ok (r.0.items, map terminal r.1.now))
+/// (λ e. Faults (reading.instructions (context_of names.now) (map variable_of params.now) (map variable_of locals.now) (map terminal pieces.now)) e) }
 /// ```
 fn instructions<'p, 'a>(
     alloc: Global,
     names: &Names<'p>,
-    header: &Header<'p>,
+    params: &[Variable<'p>],
+    locals: &[Variable<'p>],
     pieces: &'p [Piece<'a>],
 ) -> Result<(Vec<Instruction>, &'p [Piece<'a>]), Refusal<'p, 'a>> {
-    let Some(locals) = variable_names(alloc, &header.params, &header.locals)? else {
+    let Some(locals) = variable_names(alloc, params, locals)? else {
         return Err(Refusal::Text(Fault {
             kind: FaultKind::Duplicate,
             left: pieces,

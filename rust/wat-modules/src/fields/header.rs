@@ -1,40 +1,14 @@
 // Made by tools/erase from crates/wat_fields/src/header.rt; do not edit.
-//! What comes before the instructions of a function: exports, parameters, results, local variables.
+//! Inline exports, and groups of parameters, results and local variables.
 
 use wat_lex::shim::prelude::*;
-use crate::fields::fields::{Header, Left, Variable};
+use crate::fields::fields::{Left, Variable};
 use wat_lex::shim::alloc::{AllocError, Global};
 use core::str;
 use crate::instructions::pieces::{Fault, FaultKind, Name, Piece, Refusal, ValueType};
 use crate::instructions::reading::value_type;
 
-/// All that comes before the instructions of a function.
-///
-/// # Proved
-///
-/// ```text
-/// ensures { MatchResult result
-/// (λ r. reading.header (map terminal pieces.now) ≡ Ok (header_of r.0, map terminal r.1.now))
-/// (λ e. Faults (reading.header (map terminal pieces.now)) e) }
-/// ```
-pub(crate) fn read_header<'p, 'a>(
-    alloc: Global,
-    pieces: &'p [Piece<'a>],
-) -> Result<(Header<'p>, &'p [Piece<'a>]), Refusal<'p, 'a>> {
-    let (exports, rest) = exports(alloc, pieces)?;
-    let (params, rest) = variables(alloc, "param", true, rest)?;
-    let (results, rest) = variables(alloc, "result", false, rest)?;
-    let (locals, rest) = variables(alloc, "local", true, rest)?;
-    let header = Header {
-        exports,
-        params,
-        results,
-        locals,
-    };
-    Ok((header, rest))
-}
-
-/// The names under which a function is exported.
+/// The names under which an item is exported.
 ///
 /// # Proved
 ///
@@ -69,7 +43,7 @@ pub(crate) fn exports<'p, 'a>(
 /// (λ r. reading.all (reading.group_item word.now may_have_name) (map terminal pieces.now) ≡ Ok (map variable_of r.0.items, map terminal r.1.now))
 /// (λ e. Faults (reading.all (reading.group_item word.now may_have_name) (map terminal pieces.now)) e) }
 /// ```
-fn variables<'p, 'a>(
+pub(crate) fn variables<'p, 'a>(
     alloc: Global,
     word: &str,
     may_have_name: bool,
@@ -121,7 +95,7 @@ fn values<'p, 'a>(
 /// ```text
 /// ensures { MatchOption result (reading.after word.now (map terminal pieces.now) ≡ None) (λ r. reading.after word.now (map terminal pieces.now) ≡ Some (map terminal r.now)) }
 /// ```
-fn after<'p, 'a>(word: &str, pieces: &'p [Piece<'a>]) -> Option<&'p [Piece<'a>]> {
+pub(crate) fn after<'p, 'a>(word: &str, pieces: &'p [Piece<'a>]) -> Option<&'p [Piece<'a>]> {
     match pieces {
         [Piece::Open, rest @ ..] => after_word(word, rest),
         [
@@ -489,7 +463,10 @@ fn listed<'p, 'a>(
 /// ```text
 /// ensures { IfOk result (λ variables. map variable_of variables.items ≡ map unnamed types.now) }
 /// ```
-fn unnamed<'p>(alloc: Global, types: &[ValueType]) -> Result<Vec<Variable<'p>>, AllocError> {
+pub(crate) fn unnamed<'p>(
+    alloc: Global,
+    types: &[ValueType],
+) -> Result<Vec<Variable<'p>>, AllocError> {
     let mut variables = Vec::new(alloc);
     let name = Name::Absent;
     for of in types {

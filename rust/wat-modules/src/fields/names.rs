@@ -2,19 +2,18 @@
 //! The items that fields define, before the fields are read; and whether names are distinct.
 
 use wat_lex::shim::prelude::*;
-use crate::fields::fields::{IndexSpace, Variable};
+use crate::fields::fields::{Definition, FunctionType, IndexSpace, Left, Variable};
 use crate::fields::types::space_of;
+use crate::fields::uses::type_at;
 use wat_lex::shim::alloc::{AllocError, Global};
 use crate::instructions::names::IndexedNames;
-use crate::instructions::pieces::{Name, Piece};
+use crate::instructions::pieces::{Name, Piece, Refusal};
+use crate::instructions::reading::label;
 
-/// Where in the fields a token is: before `(`, after it, after its word, and in a field, in so many
-/// groups more.
+/// Where a token is: before a `(` of a field, and in a field, in so many groups more.
 #[derive(Clone, Copy)]
 enum Depth {
     Before,
-    Opened,
-    Headed(Option<IndexSpace>),
     Inside(usize),
 }
 
@@ -25,39 +24,54 @@ struct Binding<'p> {
     name: Name<'p>,
 }
 
-/// The names of each index space, in the order of their indices.
+/// The names of each index space, in the order of their indices; and the types.
 pub(crate) struct Names<'p> {
     pub(crate) funcs: IndexedNames<'p>,
     pub(crate) tables: IndexedNames<'p>,
     pub(crate) memories: IndexedNames<'p>,
     pub(crate) globals: IndexedNames<'p>,
+    pub(crate) type_names: IndexedNames<'p>,
+    pub(crate) types: Vec<FunctionType>,
 }
 
-/// The names of the items that fields define, by the parentheses alone; None where two in an index
-/// space are the same.
+/// What the fields bring into the context, by the parentheses alone; None where two names in an
+/// index space are the same.
 ///
 /// # Proved
 ///
 /// ```text
-/// ensures these { IfOk result (λ found. IfSome found (λ names. context_of names ≡ grammar.context_of (reading.bindings reading.Before [] (map terminal pieces.now)))) }
-/// ensures distinct { IfOk result (λ found. is_some found ≡ all_distinct (grammar.context_of (reading.bindings reading.Before [] (map terminal pieces.now)))) }
+/// ensures context { IfOk result (λ found. IfSome found (λ names. context_of names ≡ grammar.context_of (flat_map reading.binding_at (reading.starts reading.Before [] (map terminal pieces.now))))) }
+/// ensures types { IfOk result (λ found. IfSome found (λ names. types_of names ≡ grammar.types_in (flat_map reading.definition_at (reading.starts reading.Before [] (map terminal pieces.now))))) }
+/// ensures distinct { IfOk result (λ found. is_some found ≡ all_distinct (grammar.types_in (flat_map reading.definition_at (reading.starts reading.Before [] (map terminal pieces.now)))) (grammar.context_of (flat_map reading.binding_at (reading.starts reading.Before [] (map terminal pieces.now))))) }
 /// ```
-pub(crate) fn names_of<'p>(
+pub(crate) fn names_of<'p, 'a>(
     alloc: Global,
-    pieces: &'p [Piece<'_>],
+    pieces: &'p [Piece<'a>],
 ) -> Result<Option<Names<'p>>, AllocError> {
-    let bindings = bindings(alloc, pieces)?;
+    let starts = starts(alloc, pieces)?;
+    let bindings = bindings(alloc, &starts)?;
+    let (type_names, types) = definitions(alloc, &starts)?;
     let funcs = names_among(alloc, &bindings, IndexSpace::Func)?;
     let tables = names_among(alloc, &bindings, IndexSpace::Table)?;
     let memories = names_among(alloc, &bindings, IndexSpace::Mem)?;
     let globals = names_among(alloc, &bindings, IndexSpace::Global)?;
-    match (funcs, tables, memories, globals) {
-        (Some(funcs), Some(tables), Some(memories), Some(globals)) => Ok(Some(Names {
-            funcs,
-            tables,
-            memories,
-            globals,
-        })),
+    match (
+        funcs,
+        tables,
+        memories,
+        globals,
+        IndexedNames::new(alloc, type_names)?,
+    ) {
+        (Some(funcs), Some(tables), Some(memories), Some(globals), Some(type_names)) => {
+            Ok(Some(Names {
+                funcs,
+                tables,
+                memories,
+                globals,
+                type_names,
+                types,
+            }))
+        }
         _ => Ok(None),
     }
 }
@@ -117,40 +131,32 @@ pub(crate) fn names_in<'s, 'p>(names: &'s Names<'p>, space: IndexSpace) -> &'s I
     }
 }
 
-/// The items that fields define, in their order, by the parentheses alone.
+/// Where fields begin, each after its `(`.
 ///
 /// # Proved
 ///
 /// ```text
-/// ensures { IfOk result (λ bindings. map binding_of bindings.items ≡ reading.bindings reading.Before [] (map terminal pieces.now)) }
+/// ensures { IfOk result (λ starts. map left_of starts.items ≡ reading.starts reading.Before [] (map terminal pieces.now)) }
 /// ```
-fn bindings<'p>(alloc: Global, pieces: &'p [Piece<'_>]) -> Result<Vec<Binding<'p>>, AllocError> {
-    let mut bindings = Vec::new(alloc);
+fn starts<'p, 'a>(alloc: Global, pieces: &'p [Piece<'a>]) -> Result<Vec<Left<'p, 'a>>, AllocError> {
+    let mut starts = Vec::new(alloc);
     let mut depth = Depth::Before;
-    for piece in pieces {
+    for (i, piece) in pieces.iter().enumerate() {
         match depth {
             Depth::Before => match *piece {
-                Piece::Open => depth = Depth::Opened,
+                Piece::Open => {
+                    starts.push(Left {
+                        pieces: &pieces[i + 1..],
+                    })?;
+                    depth = Depth::Inside(0);
+                }
                 Piece::Close
                 | Piece::Word(_)
                 | Piece::Id(_)
                 | Piece::Integer(_, _)
                 | Piece::Text(_)
-                | Piece::Other => return Ok(bindings),
+                | Piece::Other => return Ok(starts),
             },
-            Depth::Opened => match *piece {
-                Piece::Word(word) => depth = Depth::Headed(space_of(word)),
-                Piece::Open
-                | Piece::Close
-                | Piece::Id(_)
-                | Piece::Integer(_, _)
-                | Piece::Text(_)
-                | Piece::Other => return Ok(bindings),
-            },
-            Depth::Headed(space) => {
-                push_binding(&mut bindings, space, name_of(*piece))?;
-                depth = after_head(*piece);
-            }
             Depth::Inside(open) => match *piece {
                 Piece::Open => depth = Depth::Inside(open + 1),
                 Piece::Close => depth = closed(open),
@@ -162,63 +168,237 @@ fn bindings<'p>(alloc: Global, pieces: &'p [Piece<'_>]) -> Result<Vec<Binding<'p
             },
         }
     }
+    Ok(starts)
+}
+
+/// The items that fields bring.
+///
+/// # Proved
+///
+/// ```text
+/// ensures { IfOk result (λ bindings. map binding_of bindings.items ≡ flat_map reading.binding_at (map left_of starts.now)) }
+/// ```
+fn bindings<'p, 'a>(
+    alloc: Global,
+    starts: &[Left<'p, 'a>],
+) -> Result<Vec<Binding<'p>>, AllocError> {
+    let mut bindings = Vec::new(alloc);
+    for start in starts {
+        if let Some(binding) = binding_at(start.pieces) {
+            bindings.push(binding)?;
+        }
+    }
     Ok(bindings)
 }
 
-/// Appends the item of a field, where it defines one.
+/// The item that a field brings.
 ///
 /// # Proved
 ///
 /// ```text
-/// ensures { OnOk result (map binding_of bindings.new.items ≡ map binding_of bindings.old.items ++ reading.binding_by space (label name.entry)) }
+/// ensures { MatchOption result (reading.binding_at (map terminal pieces.now) ≡ []) (λ b. reading.binding_at (map terminal pieces.now) ≡ binding_of b ∷ []) }
 /// ```
-fn push_binding<'p>(
-    bindings: &mut Vec<Binding<'p>>,
-    space: Option<IndexSpace>,
-    name: Name<'p>,
-) -> Result<(), AllocError> {
+fn binding_at<'p>(pieces: &'p [Piece<'_>]) -> Option<Binding<'p>> {
+    match pieces {
+        [Piece::Word(word), rest @ ..] => {
+            if *word == "import" {
+                import_binding(rest)
+            } else {
+                binding_named(space_of(word), rest)
+            }
+        }
+        [
+            Piece::Open
+            | Piece::Close
+            | Piece::Id(_)
+            | Piece::Integer(_, _)
+            | Piece::Text(_)
+            | Piece::Other,
+            ..,
+        ] => None,
+        [] => None,
+    }
+}
+
+/// The item of an index space that has this name, or none.
+///
+/// # Proved
+///
+/// ```text
+/// ensures { MatchOption result (reading.binding_by space (label_of (map terminal pieces.now)).0 ≡ []) (λ b. reading.binding_by space (label_of (map terminal pieces.now)).0 ≡ binding_of b ∷ []) }
+/// ```
+fn binding_named<'p>(space: Option<IndexSpace>, pieces: &'p [Piece<'_>]) -> Option<Binding<'p>> {
     match space {
         Some(space) => {
-            bindings.push(Binding { space, name })?;
-            Ok(())
+            let (name, _) = label(pieces);
+            Some(Binding { space, name })
         }
-        None => Ok(()),
+        None => None,
     }
 }
 
-/// The name that a field has which begins so after its word.
+/// The item that an import brings, after its word.
 ///
 /// # Proved
 ///
 /// ```text
-/// ensures { label result ≡ reading.head_name (terminal piece.entry) }
+/// ensures { MatchOption result (reading.import_binding (map terminal pieces.now) ≡ []) (λ b. reading.import_binding (map terminal pieces.now) ≡ binding_of b ∷ []) }
 /// ```
-fn name_of<'p>(piece: Piece<'p>) -> Name<'p> {
-    match piece {
-        Piece::Id(name) => Name::Given(name),
-        Piece::Open
-        | Piece::Close
-        | Piece::Word(_)
-        | Piece::Integer(_, _)
-        | Piece::Text(_)
-        | Piece::Other => Name::Absent,
+fn import_binding<'p>(pieces: &'p [Piece<'_>]) -> Option<Binding<'p>> {
+    match pieces {
+        [Piece::Text(_), rest @ ..] => text_binding(rest),
+        [
+            Piece::Open
+            | Piece::Close
+            | Piece::Word(_)
+            | Piece::Id(_)
+            | Piece::Integer(_, _)
+            | Piece::Other,
+            ..,
+        ] => None,
+        [] => None,
     }
 }
 
-/// Where a field is after a first token after its word.
+/// The same after its first name.
 ///
 /// # Proved
 ///
 /// ```text
-/// ensures { depth_of result ≡ reading.head_depth (terminal piece.entry) }
+/// ensures { MatchOption result (reading.text_binding (map terminal pieces.now) ≡ []) (λ b. reading.text_binding (map terminal pieces.now) ≡ binding_of b ∷ []) }
 /// ```
-fn after_head(piece: Piece<'_>) -> Depth {
-    match piece {
-        Piece::Open => Depth::Inside(1),
-        Piece::Close => Depth::Before,
-        Piece::Word(_) | Piece::Id(_) | Piece::Integer(_, _) | Piece::Text(_) | Piece::Other => {
-            Depth::Inside(0)
+fn text_binding<'p>(pieces: &'p [Piece<'_>]) -> Option<Binding<'p>> {
+    match pieces {
+        [Piece::Text(_), rest @ ..] => open_binding(rest),
+        [
+            Piece::Open
+            | Piece::Close
+            | Piece::Word(_)
+            | Piece::Id(_)
+            | Piece::Integer(_, _)
+            | Piece::Other,
+            ..,
+        ] => None,
+        [] => None,
+    }
+}
+
+/// The same after both names.
+///
+/// # Proved
+///
+/// ```text
+/// ensures { MatchOption result (reading.open_binding (map terminal pieces.now) ≡ []) (λ b. reading.open_binding (map terminal pieces.now) ≡ binding_of b ∷ []) }
+/// ```
+fn open_binding<'p>(pieces: &'p [Piece<'_>]) -> Option<Binding<'p>> {
+    match pieces {
+        [Piece::Open, rest @ ..] => word_binding(rest),
+        [
+            Piece::Close
+            | Piece::Word(_)
+            | Piece::Id(_)
+            | Piece::Integer(_, _)
+            | Piece::Text(_)
+            | Piece::Other,
+            ..,
+        ] => None,
+        [] => None,
+    }
+}
+
+/// The same after its second `(`.
+///
+/// # Proved
+///
+/// ```text
+/// ensures { MatchOption result (reading.word_binding (map terminal pieces.now) ≡ []) (λ b. reading.word_binding (map terminal pieces.now) ≡ binding_of b ∷ []) }
+/// ```
+fn word_binding<'p>(pieces: &'p [Piece<'_>]) -> Option<Binding<'p>> {
+    match pieces {
+        [Piece::Word(word), rest @ ..] => binding_named(space_of(word), rest),
+        [
+            Piece::Open
+            | Piece::Close
+            | Piece::Id(_)
+            | Piece::Integer(_, _)
+            | Piece::Text(_)
+            | Piece::Other,
+            ..,
+        ] => None,
+        [] => None,
+    }
+}
+
+/// The types that fields define, and their names.
+///
+/// # Proved
+///
+/// ```text
+/// ensures names { IfOk result (λ r. map label r.0.items ≡ map definition_name (flat_map reading.definition_at (map left_of starts.now))) }
+/// ensures types { IfOk result (λ r. map type_of r.1.items ≡ map definition_type (flat_map reading.definition_at (map left_of starts.now))) }
+/// ```
+fn definitions<'p, 'a>(
+    alloc: Global,
+    starts: &[Left<'p, 'a>],
+) -> Result<(Vec<Name<'p>>, Vec<FunctionType>), AllocError> {
+    let mut names = Vec::new(alloc);
+    let mut types = Vec::new(alloc);
+    for start in starts {
+        if let Some(Definition { name, of }) = definition_at(alloc, start.pieces)? {
+            names.push(name)?;
+            types.push(of)?;
         }
+    }
+    Ok((names, types))
+}
+
+/// The type that a field defines.
+///
+/// # Proved
+///
+/// ```text
+/// ensures { IfOk result (λ o. MatchOption o (reading.definition_at (map terminal pieces.now) ≡ []) (λ d. reading.definition_at (map terminal pieces.now) ≡ definition_of d ∷ [])) }
+/// ```
+fn definition_at<'p, 'a>(
+    alloc: Global,
+    pieces: &'p [Piece<'a>],
+) -> Result<Option<Definition<'p>>, AllocError> {
+    match pieces {
+        [Piece::Word(word), rest @ ..] => {
+            if *word == "type" {
+                definition_after(alloc, rest)
+            } else {
+                Ok(None)
+            }
+        }
+        [
+            Piece::Open
+            | Piece::Close
+            | Piece::Id(_)
+            | Piece::Integer(_, _)
+            | Piece::Text(_)
+            | Piece::Other,
+            ..,
+        ] => Ok(None),
+        [] => Ok(None),
+    }
+}
+
+/// The same after its word.
+///
+/// # Proved
+///
+/// ```text
+/// ensures { IfOk result (λ o. MatchOption o (reading.definition_by (reading.type_at (map terminal pieces.now)) ≡ []) (λ d. reading.definition_by (reading.type_at (map terminal pieces.now)) ≡ definition_of d ∷ [])) }
+/// ```
+fn definition_after<'p, 'a>(
+    alloc: Global,
+    pieces: &'p [Piece<'a>],
+) -> Result<Option<Definition<'p>>, AllocError> {
+    match type_at(alloc, pieces) {
+        Ok((definition, _)) => Ok(Some(definition)),
+        Err(Refusal::Text(_)) => Ok(None),
+        Err(Refusal::Memory(refused)) => Err(refused),
     }
 }
 

@@ -2,7 +2,7 @@
 //! Limits, reference types, types of globals, and index spaces.
 
 use wat_lex::shim::prelude::*;
-use crate::fields::fields::{GlobalType, IndexSpace, Limits, ReferenceType};
+use crate::fields::fields::{GlobalType, IndexSpace, Limits, ReferenceType, TableType};
 use crate::fields::header::closed;
 use crate::instructions::pieces::{Fault, FaultKind, Piece, Sign, ValueType};
 use crate::instructions::reading::value_type;
@@ -146,7 +146,24 @@ fn maximum<'p, 'a>(
     }
 }
 
-/// A reference type and `)`.
+/// The type of a table.
+///
+/// # Proved
+///
+/// ```text
+/// ensures { MatchResult result
+/// (λ r. reading.table_type_at (map terminal pieces.now) ≡ Ok (r.0, map terminal r.1.now))
+/// (λ f. reading.table_type_at (map terminal pieces.now) ≡ Err (fault_of f)) }
+/// ```
+pub(crate) fn table_type<'p, 'a>(
+    pieces: &'p [Piece<'a>],
+) -> Result<(TableType, &'p [Piece<'a>]), Fault<'p, 'a>> {
+    let (limits, rest) = limits(pieces)?;
+    let (element, rest) = reference_type(rest)?;
+    Ok((TableType { limits, element }, rest))
+}
+
+/// A reference type.
 ///
 /// # Proved
 ///
@@ -155,12 +172,12 @@ fn maximum<'p, 'a>(
 /// (λ r. reading.reference_at (map terminal pieces.now) ≡ Ok (r.0, map terminal r.1.now))
 /// (λ f. reading.reference_at (map terminal pieces.now) ≡ Err (fault_of f)) }
 /// ```
-pub(crate) fn reference_type<'p, 'a>(
+fn reference_type<'p, 'a>(
     pieces: &'p [Piece<'a>],
 ) -> Result<(ReferenceType, &'p [Piece<'a>]), Fault<'p, 'a>> {
     match pieces {
         [Piece::Word(word), rest @ ..] => match reference_of(word) {
-            Some(of) => closing_reference(of, rest),
+            Some(of) => Ok((of, rest)),
             None => Err(Fault {
                 kind: FaultKind::UnknownWord,
                 left: pieces,
@@ -183,23 +200,6 @@ pub(crate) fn reference_type<'p, 'a>(
             left: pieces,
         }),
     }
-}
-
-/// `)` after a reference type.
-///
-/// # Proved
-///
-/// ```text
-/// ensures { MatchResult result
-/// (λ r. reading.reference_by (Some of) (map terminal pieces.now) (map terminal pieces.now) ≡ Ok (r.0, map terminal r.1.now))
-/// (λ f. reading.reference_by (Some of) (map terminal pieces.now) (map terminal pieces.now) ≡ Err (fault_of f)) }
-/// ```
-fn closing_reference<'p, 'a>(
-    of: ReferenceType,
-    pieces: &'p [Piece<'a>],
-) -> Result<(ReferenceType, &'p [Piece<'a>]), Fault<'p, 'a>> {
-    let rest = closed(pieces)?;
-    Ok((of, rest))
 }
 
 /// The type of a global variable.

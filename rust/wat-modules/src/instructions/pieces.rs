@@ -116,6 +116,10 @@ pub enum FaultKind {
     Duplicate,
     /// More than one start function.
     SecondStart,
+    /// A type use that lists another type than its index says.
+    OtherType,
+    /// An import after a definition.
+    LateImport,
 }
 
 /// Why a text is refused, and the tokens from the one where that is.

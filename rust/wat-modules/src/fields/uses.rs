@@ -1,0 +1,294 @@
+// Made by tools/erase from crates/wat_fields/src/uses.rt; do not edit.
+//! Function types, and their uses.
+
+use wat_lex::shim::prelude::*;
+use crate::fields::fields::{Definition, FunctionType, TypeUse, Variable};
+use crate::fields::header::{after, closed, unnamed, variables};
+use crate::fields::names::Names;
+use crate::fields::types::twice_closed;
+use wat_lex::shim::alloc::{AllocError, Global};
+use crate::instructions::pieces::{Fault, FaultKind, Name, Piece, Refusal, ValueType};
+use crate::instructions::reading;
+
+/// The byte of a number type.
+///
+/// # Proved
+///
+/// ```text
+/// ensures { result ≡ binary.type_byte of }
+/// ```
+pub(crate) fn type_byte(of: ValueType) -> u8 {
+    match of {
+        ValueType::I32 => 0x7F,
+        ValueType::I64 => 0x7E,
+        ValueType::F32 => 0x7D,
+        ValueType::F64 => 0x7C,
+    }
+}
+
+/// The types of variables.
+///
+/// # Proved
+///
+/// ```text
+/// ensures { IfOk result (λ types. types.items ≡ map grammar.type_of (map variable_of variables.now)) }
+/// ```
+fn value_types(alloc: Global, variables: &[Variable<'_>]) -> Result<Vec<ValueType>, AllocError> {
+    let mut types = Vec::new(alloc);
+    for variable in variables {
+        types.push(variable.of)?;
+    }
+    Ok(types)
+}
+
+/// The type of parameters and results.
+///
+/// # Proved
+///
+/// ```text
+/// ensures { IfOk result (λ of. type_of of ≡ grammar.function_type (map variable_of params.now) (map variable_of results.now)) }
+/// ```
+pub(crate) fn function_type(
+    alloc: Global,
+    params: &[Variable<'_>],
+    results: &[Variable<'_>],
+) -> Result<FunctionType, AllocError> {
+    let params = value_types(alloc, params)?;
+    let results = value_types(alloc, results)?;
+    Ok(FunctionType { params, results })
+}
+
+/// Whether these are the same value types.
+///
+/// # Proved
+///
+/// ```text
+/// ensures { result ≡ binary.same_values some.now others.now }
+/// ```
+fn same_values(some: &[ValueType], others: &[ValueType]) -> bool {
+    if some.len() != others.len() {
+        return false;
+    }
+    for (i, of) in some.iter().enumerate() {
+        if type_byte(*of) != type_byte(others[i]) {
+            return false;
+        }
+    }
+    true
+}
+
+/// Whether these are the same function types.
+///
+/// # Proved
+///
+/// ```text
+/// ensures { result ≡ binary.same_type (type_of of.now) (type_of other.now) }
+/// ```
+pub(crate) fn same_type(of: &FunctionType, other: &FunctionType) -> bool {
+    same_values(&of.params, &other.params) && same_values(&of.results, &other.results)
+}
+
+/// A type use.
+///
+/// # Proved
+///
+/// ```text
+/// ensures { MatchResult result
+/// (λ r. reading.use_at (types_of names.now) (map terminal pieces.now) ≡ Ok (use_of r.0, map terminal r.1.now))
+/// (λ e. Faults (reading.use_at (types_of names.now) (map terminal pieces.now)) e) }
+/// ```
+pub(crate) fn type_use<'p, 'a>(
+    alloc: Global,
+    names: &Names<'p>,
+    pieces: &'p [Piece<'a>],
+) -> Result<(TypeUse<'p>, &'p [Piece<'a>]), Refusal<'p, 'a>> {
+    match after("type", pieces) {
+        Some(rest) => indexed_use(alloc, names, rest),
+        None => listed_use(alloc, pieces),
+    }
+}
+
+/// A type use that lists its type.
+///
+/// # Proved
+///
+/// ```text
+/// ensures { MatchResult result
+/// (λ r. reading.listed_use (map terminal pieces.now) ≡ Ok (use_of r.0, map terminal r.1.now))
+/// (λ e. Faults (reading.listed_use (map terminal pieces.now)) e) }
+/// ```
+fn listed_use<'p, 'a>(
+    alloc: Global,
+    pieces: &'p [Piece<'a>],
+) -> Result<(TypeUse<'p>, &'p [Piece<'a>]), Refusal<'p, 'a>> {
+    let (params, rest) = variables(alloc, "param", true, pieces)?;
+    let (results, rest) = variables(alloc, "result", false, rest)?;
+    let index = None;
+    Ok((
+        TypeUse {
+            index,
+            params,
+            results,
+        },
+        rest,
+    ))
+}
+
+/// A type use after `(type`.
+///
+/// # Proved
+///
+/// ```text
+/// ensures { MatchResult result
+/// (λ r. reading.indexed_use (types_of names.now) (map terminal pieces.now) ≡ Ok (use_of r.0, map terminal r.1.now))
+/// (λ e. Faults (reading.indexed_use (types_of names.now) (map terminal pieces.now)) e) }
+/// ```
+fn indexed_use<'p, 'a>(
+    alloc: Global,
+    names: &Names<'p>,
+    pieces: &'p [Piece<'a>],
+) -> Result<(TypeUse<'p>, &'p [Piece<'a>]), Refusal<'p, 'a>> {
+    let (index, rest) = reading::index(&names.type_names, pieces)?;
+    let rest = closed(rest)?;
+    match type_at_index(&names.types, index) {
+        Some(of) => lists(alloc, index, of, pieces, rest),
+        None => Err(Refusal::Text(Fault {
+            kind: FaultKind::UnknownName,
+            left: pieces,
+        })),
+    }
+}
+
+/// The type of an index.
+///
+/// # Proved
+///
+/// ```text
+/// ensures { MatchOption result (slice_get (map type_of types.now) index ≡ None) (λ t. slice_get (map type_of types.now) index ≡ Some (type_of t.now)) }
+/// ```
+fn type_at_index(types: &[FunctionType], index: usize) -> Option<&FunctionType> {
+    types.get(index)
+}
+
+/// A type use after the index of a type.
+///
+/// # Proved
+///
+/// ```text
+/// ensures { MatchResult result
+/// (λ r. reading.lists_after index (Some (type_of of.now)) (map terminal all.now) (map terminal pieces.now) ≡ Ok (use_of r.0, map terminal r.1.now))
+/// (λ e. Faults (reading.lists_after index (Some (type_of of.now)) (map terminal all.now) (map terminal pieces.now)) e) }
+/// ```
+fn lists<'p, 'a>(
+    alloc: Global,
+    index: usize,
+    of: &FunctionType,
+    all: &'p [Piece<'a>],
+    pieces: &'p [Piece<'a>],
+) -> Result<(TypeUse<'p>, &'p [Piece<'a>]), Refusal<'p, 'a>> {
+    let (params, rest) = variables(alloc, "param", true, pieces)?;
+    let (results, rest) = variables(alloc, "result", false, rest)?;
+    if list_nothing(&params, &results) {
+        let uses = unnamed_use(alloc, index, of)?;
+        return Ok((uses, rest));
+    }
+    let listed = function_type(alloc, &params, &results)?;
+    if !same_type(&listed, of) {
+        return Err(Refusal::Text(Fault {
+            kind: FaultKind::OtherType,
+            left: all,
+        }));
+    }
+    let index = Some(index);
+    Ok((
+        TypeUse {
+            index,
+            params,
+            results,
+        },
+        rest,
+    ))
+}
+
+/// Whether nothing is listed.
+///
+/// # Proved
+///
+/// ```text
+/// ensures { result ≡ reading.list_nothing (map variable_of params.now) (map variable_of results.now) }
+/// ```
+fn list_nothing(params: &[Variable<'_>], results: &[Variable<'_>]) -> bool {
+    match params {
+        [] => match results {
+            [] => true,
+            [_, ..] => false,
+        },
+        [_, ..] => false,
+    }
+}
+
+/// The use of a type by its index alone.
+///
+/// # Proved
+///
+/// ```text
+/// ensures { IfOk result (λ u. use_of u ≡ grammar.type_use (Some index) (map grammar.unnamed of.now.params.items) (map grammar.unnamed of.now.results.items)) }
+/// ```
+fn unnamed_use<'p>(
+    alloc: Global,
+    index: usize,
+    of: &FunctionType,
+) -> Result<TypeUse<'p>, AllocError> {
+    let params = unnamed(alloc, &of.params)?;
+    let results = unnamed(alloc, &of.results)?;
+    let index = Some(index);
+    Ok(TypeUse {
+        index,
+        params,
+        results,
+    })
+}
+
+/// A type, after the word of its field.
+///
+/// # Proved
+///
+/// ```text
+/// ensures { MatchResult result
+/// (λ r. reading.type_at (map terminal pieces.now) ≡ Ok (definition_of r.0, map terminal r.1.now))
+/// (λ e. Faults (reading.type_at (map terminal pieces.now)) e) }
+/// ```
+pub(crate) fn type_at<'p, 'a>(
+    alloc: Global,
+    pieces: &'p [Piece<'a>],
+) -> Result<(Definition<'p>, &'p [Piece<'a>]), Refusal<'p, 'a>> {
+    let (name, pieces) = reading::label(pieces);
+    match after("func", pieces) {
+        Some(rest) => type_lists(alloc, name, rest),
+        None => Err(Refusal::Text(Fault {
+            kind: FaultKind::Unexpected,
+            left: pieces,
+        })),
+    }
+}
+
+/// A type after `(func`.
+///
+/// # Proved
+///
+/// ```text
+/// ensures { MatchResult result
+/// (λ r. reading.type_lists (label name.entry) (map terminal pieces.now) ≡ Ok (definition_of r.0, map terminal r.1.now))
+/// (λ e. Faults (reading.type_lists (label name.entry) (map terminal pieces.now)) e) }
+/// ```
+fn type_lists<'p, 'a>(
+    alloc: Global,
+    name: Name<'p>,
+    pieces: &'p [Piece<'a>],
+) -> Result<(Definition<'p>, &'p [Piece<'a>]), Refusal<'p, 'a>> {
+    let (params, rest) = variables(alloc, "param", true, pieces)?;
+    let (results, rest) = variables(alloc, "result", false, rest)?;
+    let rest = twice_closed(rest)?;
+    let of = function_type(alloc, &params, &results)?;
+    Ok((Definition { name, of }, rest))
+}
