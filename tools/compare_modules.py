@@ -1,7 +1,7 @@
 #!/usr/bin/env python3
 """Compares the bytes of modules with those of `wat2wasm --no-check` (Debian's package wabt), on modules of the slice that `wat_modules` takes:
-functions with inline exports, parameters, results, local variables, and plain, structured and folded instructions; and on texts made from
-them by one change of a token.
+functions with parameters, results, local variables, and plain, structured and folded instructions; memories, tables, globals; exports, inline and
+not; a start function; fields in any order; and on texts made from them by one change of a token.
 
 PROGRAM reads a module from standard input and writes its bytes to standard output; where it refuses the text its status is 1. It is
 rust/wat-modules/examples/module.rs. An `else` with nothing after it is written by PROGRAM and left out by `wat2wasm`: such texts are not made.
@@ -26,8 +26,8 @@ TABLE = pathlib.Path(__file__).resolve().parents[1] / "crates/wat_instructions/s
 class Body:
     """Instructions under labels, as lists of tokens."""
 
-    def __init__(self, rng, rows, functions, variables):
-        self.rng, self.rows, self.functions, self.variables = rng, rows, functions, variables
+    def __init__(self, rng, rows, names, variables):
+        self.rng, self.rows, self.functions, self.globals, self.variables = rng, rows, names["func"], names["global"], variables
         self.labels = [None]
 
     def index(self, names):
@@ -67,13 +67,13 @@ class Body:
     def plain(self):
         """A plain instruction with its immediate."""
         word, kind = self.rng.choice(self.rows)
-        if kind == "Local" and not self.variables:
+        if kind == "Local" and not self.variables or kind == "Func" and not self.functions:
             return ["nop"]
         if kind == "Memory":
             return [word] + self.memory()
-        if kind == "Global":
+        if kind == "Global" and not self.globals:
             return [word, str(self.rng.randrange(200))]
-        given = {"Local": lambda: self.index(self.variables), "Func": lambda: self.index(self.functions), "Label": lambda: self.index(self.labels[::-1]), "I32": lambda: self.number(32), "I64": lambda: self.number(64)}
+        given = {"Global": lambda: self.index(self.globals), "Local": lambda: self.index(self.variables), "Func": lambda: self.index(self.functions), "Label": lambda: self.index(self.labels[::-1]), "I32": lambda: self.number(32), "I64": lambda: self.number(64)}
         return [word, given[kind]()] if kind in given else [word]
 
     def label(self):
@@ -140,23 +140,71 @@ def variables(rng, word, prefix):
     return tokens, names
 
 
+KINDS = ("func", "table", "memory", "global")
+EXPORTED = ['"e{at}"', '"\\41\\n\\t\\""', '"\u00e9\\c3\\a9"', '""', '"\\u{{1f600}}"']
+
+
 def some_names(rng):
-    """The names of up to four functions."""
-    return [rng.choice([None, f"$f{at}", f"$a.b-{at}!"]) for at in range(rng.randrange(5))]
+    """The names of up to four items of each kind."""
+    return {kind: [rng.choice([None, f"${kind[0]}{at}", f"$a.b-{at}!"]) for at in range(rng.choice([0, 0, 1, 2, 3, 4]))] for kind in KINDS}
 
 
-def module(rng, rows, functions):
-    """The tokens of a module of functions with these names."""
-    tokens = ["(", "module"] + rng.choice([[], ["$m"]])
-    for name in functions:
-        tokens += ["(", "func"] + ([name] if name else [])
-        for at in range(rng.choice([0, 0, 0, 1, 2])):
-            tokens += ["(", "export", rng.choice([f'"e{at}"', '"\\41\\n\\t\\""', '"\u00e9\\c3\\a9"', '""', '"\\u{1f600}"']), ")"]
-        params, first = variables(rng, "param", "p")
-        results, _ = variables(rng, "result", "r")
-        local, last = variables(rng, "local", "v")
-        tokens += params + results + local + Body(rng, rows, functions, first + last).many(3) + [")"]
-    return tokens + [")"]
+def exported(rng):
+    """Inline exports."""
+    return [t for at in range(rng.choice([0, 0, 0, 1, 2])) for t in ["(", "export", rng.choice(EXPORTED).format(at=at), ")"]]
+
+
+def sizes(rng):
+    """The limits of a memory or a table."""
+    some = [str(rng.choice([0, 1, 2, 127, 128, 65536, 65537, 2 ** 32 - 1])) for _ in range(rng.choice([1, 2]))]
+    return [rng.choice([size, hex(int(size)), f"0_{size}"]) for size in some]
+
+
+def function(rng, rows, names):
+    """What comes after the name and the exports of a function."""
+    params, first = variables(rng, "param", "p")
+    results, _ = variables(rng, "result", "r")
+    local, last = variables(rng, "local", "v")
+    return params + results + local + Body(rng, rows, names, first + last).many(3)
+
+
+def content(rng, rows, names, kind):
+    """The same of an item of a kind."""
+    if kind == "func":
+        return function(rng, rows, names)
+    if kind == "global":
+        of = rng.choice(TYPES)
+        return rng.choice([[of], ["(", "mut", of, ")"]]) + Body(rng, rows, names, []).many(1)
+    return sizes(rng) + ([rng.choice(["funcref", "externref"])] if kind == "table" else [])
+
+
+def other_fields(rng, names):
+    """Exports, and a start function or none."""
+    made = []
+    for at in range(rng.choice([0, 0, 1, 2, 3])):
+        kind = rng.choice(KINDS)
+        index = Body(rng, [], names, []).index(names[kind]) if names[kind] else str(rng.randrange(200))
+        made.append(["(", "export", rng.choice(EXPORTED).format(at=at + 5), "(", kind, index, ")", ")"])
+    if names["func"] and rng.random() < 0.3:
+        made.append(["(", "start", Body(rng, [], names, []).index(names["func"]), ")"])
+    return made
+
+
+def merged(rng, lists):
+    """The items of lists, each list in its order."""
+    lists, made = [list(items) for items in lists if items], []
+    while lists:
+        items = rng.choice(lists)
+        made.append(items.pop(0))
+        lists = [items for items in lists if items]
+    return made
+
+
+def module(rng, rows, names):
+    """The tokens of a module of items with these names."""
+    lists = [[["(", kind] + ([name] if name else []) + exported(rng) + content(rng, rows, names, kind) + [")"] for name in names[kind]] for kind in KINDS]
+    fields = merged(rng, lists + [[field] for field in other_fields(rng, names)])
+    return ["(", "module"] + rng.choice([[], ["$m"]]) + [token for field in fields for token in field] + [")"]
 
 
 def laid(rng, tokens):
@@ -259,12 +307,38 @@ def has_typed_select(tokens):
     return any(tokens[at : at + 3] == ["select", "(", "result"] for at in range(len(tokens)))
 
 
+def has_type_in(tokens, kind):
+    """Whether a memory or a table has a number type."""
+    return any(tokens[at : at + 2] == ["(", kind] and set(TYPES) & set(tokens[at : after_group(tokens, at)]) for at in range(len(tokens)))
+
+
+def has_number_table(tokens):
+    """Whether a table is of a number type."""
+    return has_type_in(tokens, "table")
+
+
+def has_index_type(tokens):
+    """Whether the limits of a memory or a table have a type."""
+    return has_type_in(tokens, "memory") or has_type_in(tokens, "table")
+
+
+GROUPS = [["param"], ["result"], ["local"], ["global"]]
+
+
+def has_reference(tokens):
+    """Whether a variable, a result or a global is of a reference type."""
+    return any({"funcref", "externref"} & set(tokens[at : after_group(tokens, at)]) for at in range(len(tokens)) if tokens[at] == "(" and tokens[at + 1 : at + 2] in GROUPS)
+
+
 # What `wat2wasm` takes and PROGRAM refuses: its message, and what such a text has.
 DEPARTURES = {
     "of an `if` without `then` or `else`, which wat2wasm takes": ("unexpected token", has_bare_part),
     "of a block with more results than one, not read as yet": ("unexpected token", has_other_type),
     "of a block with parameters, not read as yet": ("unknown keyword", has_parameters),
     "of a `select` with a type, not read as yet": ("unknown keyword", has_typed_select),
+    "of a variable of a reference type, not read as yet": ("unknown keyword", has_reference),
+    "of a table of numbers, which wat2wasm takes": ("unknown keyword", has_number_table),
+    "of limits with a type, which wat2wasm takes": ("unexpected token", has_index_type),
 }
 
 
@@ -310,8 +384,8 @@ def main():
     with open(TABLE, encoding="utf-8") as it:
         rows = ROW.findall(it.read())
     if given.write:
-        functions = [f"$f{at}" if given.named else None for at in range(given.write)]
-        print(" ".join(module(rng, rows, functions)).replace(" ( func", "\n( func"))
+        names = {**{kind: [] for kind in KINDS}, "func": [f"$f{at}" if given.named else None for at in range(given.write)]}
+        print(" ".join(module(rng, rows, names)).replace(" ( func", "\n( func"))
         return
     texts = []
     while len(texts) < given.modules:

@@ -8,7 +8,7 @@ use Rattle.wat_instructions.specs.declared.pieces.ValueType.{ValueType}
 use Rattle.wat_instructions.specs.Grammar.{Fault, value_type}
 use Rattle.wat_instructions.specs.Law.{past}
 use Rattle.wat_instructions.specs.Terminals.{Terminal, Open, Close, Word, Id, Integer, Text, Other}
-use Rattle.wat_fields.specs.Fields.{Many, by_none, by_more, Value, by_word, Group, by_named, by_listed, Export, by_export, Variable, variable, unnamed}
+use Rattle.wat_fields.specs.Fields.{Many, by_none, by_more, ValueTypeIs, by_word, Group, by_named, by_listed, InlineExport, by_inline_export, Variable, variable, unnamed}
 use Rattle.wat_fields.specs.Reading.{Read, and_then, all, closed, closing, after, after_word, begun, utf8_text, export, export_item, typed, value_item, listed, named_type, named_one, group, group_item}
 use Rattle.wat_fields.proofs.Manies.{Gives, gives_of, and_then_inv, Brings, Reads, all_sound, all_complete, many_takes, many_past}
 
@@ -19,14 +19,14 @@ word_is v word e = (bytes_eq-Decides v word).0 e
 pub is_word : (v word : List ℕ) → v ≡ word → bytes_eq v word ≡ true
 is_word v word e = (bytes_eq-Decides v word).1 e
 
--- Value types.
+-- ValueTypeIs types.
 
-value_sound : (ts : List Terminal) (vs : List ValueType) (us : List Terminal) → Brings (value_item ts) vs us → Value ts vs us
+value_sound : (ts : List Terminal) (vs : List ValueType) (us : List Terminal) → Brings (value_item ts) vs us → ValueTypeIs ts vs us
 unfolding value_item
 value_sound (Word w ∷ ts) vs us h = by (value_type w) refl h
   where
-    by : (o : Option ValueType) → value_type w ≡ o → Gives (typed o (Word w ∷ ts) ts) vs us → Value (Word w ∷ ts) vs us
-    by (Some t) e (a, b) = subst (λ x. Value (Word w ∷ ts) x us) a (subst (λ x. Value (Word w ∷ ts) (t ∷ []) x) b (by_word e))
+    by : (o : Option ValueType) → value_type w ≡ o → Gives (typed o (Word w ∷ ts) ts) vs us → ValueTypeIs (Word w ∷ ts) vs us
+    by (Some t) e (a, b) = subst (λ x. ValueTypeIs (Word w ∷ ts) x us) a (subst (λ x. ValueTypeIs (Word w ∷ ts) (t ∷ []) x) b (by_word e))
     by None e g = absurd g
 value_sound [] vs us h = absurd h
 value_sound (Open ∷ ts) vs us h = absurd h
@@ -36,30 +36,30 @@ value_sound (Integer s n ∷ ts) vs us h = absurd h
 value_sound (Text v ∷ ts) vs us h = absurd h
 value_sound (Other ∷ ts) vs us h = absurd h
 
-value_complete : (ts : List Terminal) (vs : List ValueType) (us : List Terminal) → Value ts vs us → Brings (value_item ts) vs us
+value_complete : (ts : List Terminal) (vs : List ValueType) (us : List Terminal) → ValueTypeIs ts vs us → Brings (value_item ts) vs us
 unfolding value_item
 value_complete _ _ us (by_word {w = w} {t = t} e) = gives_of _ (t ∷ []) us (ap (λ o. typed o (Word w ∷ us) us) e)
 
-value_takes : (ts : List Terminal) (vs : List ValueType) (us : List Terminal) → Value ts vs us → length us < length ts
+value_takes : (ts : List Terminal) (vs : List ValueType) (us : List Terminal) → ValueTypeIs ts vs us → length us < length ts
 value_takes _ _ us (by_word e) = omega arith
 
-pub values_read : Reads value_item Value
+pub values_read : Reads value_item ValueTypeIs
 values_read = record { sound = value_sound; complete = value_complete; takes = value_takes }
 
-value_past : (d : ℕ) (ts : List Terminal) (vs : List ValueType) (us : List Terminal) → Value ts vs us → past d ts ≡ past d us
+value_past : (d : ℕ) (ts : List Terminal) (vs : List ValueType) (us : List Terminal) → ValueTypeIs ts vs us → past d ts ≡ past d us
 value_past d _ _ us (by_word e) = refl
 
 -- `)`
 
-abbrev GivesAll : Result (List Terminal) Fault → List Terminal → Type 0
+abbrev pub GivesAll : Result (List Terminal) Fault → List Terminal → Type 0
 GivesAll (Ok ts) r = ts ≡ r
 GivesAll (Err f) r = ⊥
 
-closing_inv : {V : Type 0} (v w : V) (q : Result (List Terminal) Fault) (r : List Terminal) → Gives (closing v q) w r → (v ≡ w) × GivesAll q r
+pub closing_inv : {V : Type 0} (v w : V) (q : Result (List Terminal) Fault) (r : List Terminal) → Gives (closing v q) w r → (v ≡ w) × GivesAll q r
 closing_inv v w (Ok ts) r h = h
 closing_inv v w (Err f) r h = absurd h
 
-closed_is : (ts r : List Terminal) → GivesAll (closed ts) r → ts ≡ Close ∷ r
+pub closed_is : (ts r : List Terminal) → GivesAll (closed ts) r → ts ≡ Close ∷ r
 closed_is (Close ∷ ts) r h = ap (λ x. Close ∷ x) h
 closed_is [] r h = absurd h
 closed_is (Open ∷ ts) r h = absurd h
@@ -116,7 +116,7 @@ begun_is {V} rest word v us vs r e h = subst (λ o. Brings (begun rest o) vs r) 
 
 -- Exports.
 
-utf8_inv : (ts : List Terminal) (n : List ℕ) (us : List Terminal) → Gives (utf8_text ts) n us → (ts ≡ Text n ∷ us) × (is_utf8 n ≡ true)
+pub utf8_inv : (ts : List Terminal) (n : List ℕ) (us : List Terminal) → Gives (utf8_text ts) n us → (ts ≡ Text n ∷ us) × (is_utf8 n ≡ true)
 utf8_inv (Text m ∷ ts) n us h = by (is_utf8 m) refl h
   where
     by : (b : Bool) → is_utf8 m ≡ b → Gives (if b then Ok (m, ts) else Err (NotUtf8, Text m ∷ ts)) n us → (Text m ∷ ts ≡ Text n ∷ us) × (is_utf8 n ≡ true)
@@ -130,7 +130,7 @@ utf8_inv (Id x ∷ ts) n us h = absurd h
 utf8_inv (Integer s m ∷ ts) n us h = absurd h
 utf8_inv (Other ∷ ts) n us h = absurd h
 
-export_sound : (ts : List Terminal) (vs : List (List ℕ)) (us : List Terminal) → Brings (export_item ts) vs us → Export ts vs us
+export_sound : (ts : List Terminal) (vs : List (List ℕ)) (us : List Terminal) → Brings (export_item ts) vs us → InlineExport ts vs us
 unfolding export_item export
 export_sound ts vs us h =
     let (hs, found, given) = begun_inv export (after (codes "export") ts) vs us h in
@@ -138,35 +138,35 @@ export_sound ts vs us h =
     let (n, bs, read, end) = and_then_inv (utf8_text hs) (λ n us. closing (n ∷ []) (closed us)) vs us given in
     let (same, shut) = closing_inv (n ∷ []) vs (closed bs) us end in
     let (text, good) = utf8_inv hs n bs (gives_of (utf8_text hs) n bs read) in
-    subst (λ x. Export x vs us) (sym (b.is ∙ ap (λ x. Open ∷ Word b.spelled ∷ x) (text ∙ ap (λ x. Text n ∷ x) (closed_is bs us shut)))) (subst (λ x. Export (Open ∷ Word b.spelled ∷ Text n ∷ Close ∷ us) x us) same (by_export b.same good))
+    subst (λ x. InlineExport x vs us) (sym (b.is ∙ ap (λ x. Open ∷ Word b.spelled ∷ x) (text ∙ ap (λ x. Text n ∷ x) (closed_is bs us shut)))) (subst (λ x. InlineExport (Open ∷ Word b.spelled ∷ Text n ∷ Close ∷ us) x us) same (by_inline_export b.same good))
 
-export_complete : (ts : List Terminal) (vs : List (List ℕ)) (us : List Terminal) → Export ts vs us → Brings (export_item ts) vs us
+export_complete : (ts : List Terminal) (vs : List (List ℕ)) (us : List Terminal) → InlineExport ts vs us → Brings (export_item ts) vs us
 unfolding export_item export
-export_complete _ _ us (by_export {v = v} {n = n} e g) =
+export_complete _ _ us (by_inline_export {v = v} {n = n} e g) =
     begun_is export (codes "export") v (Text n ∷ Close ∷ us) (n ∷ []) us e
     (gives_of (export (Text n ∷ Close ∷ us)) (n ∷ []) us (ap (λ (b : Bool). and_then (if b then Ok (n, Close ∷ us) else Err (NotUtf8, Text n ∷ Close ∷ us)) (λ n us. closing (n ∷ []) (closed us))) g))
 
-export_takes : (ts : List Terminal) (vs : List (List ℕ)) (us : List Terminal) → Export ts vs us → length us < length ts
-export_takes _ _ us (by_export e g) = omega arith
+export_takes : (ts : List Terminal) (vs : List (List ℕ)) (us : List Terminal) → InlineExport ts vs us → length us < length ts
+export_takes _ _ us (by_inline_export e g) = omega arith
 
-pub exports_read : Reads export_item Export
+pub exports_read : Reads export_item InlineExport
 exports_read = record { sound = export_sound; complete = export_complete; takes = export_takes }
 
-pub export_past : (d : ℕ) (ts : List Terminal) (vs : List (List ℕ)) (us : List Terminal) → Export ts vs us → past d ts ≡ past d us
-export_past d _ _ us (by_export e g) = refl
+pub export_past : (d : ℕ) (ts : List Terminal) (vs : List (List ℕ)) (us : List Terminal) → InlineExport ts vs us → past d ts ≡ past d us
+export_past d _ _ us (by_inline_export e g) = refl
 
 -- Groups of variables.
 
-listed_sound : (ts : List Terminal) (vs : List Variable) (us : List Terminal) → Gives (listed ts) vs us → (types : List ValueType) × (map unnamed types ≡ vs) × Many Value ts types (Close ∷ us)
+listed_sound : (ts : List Terminal) (vs : List Variable) (us : List Terminal) → Gives (listed ts) vs us → (types : List ValueType) × (map unnamed types ≡ vs) × Many ValueTypeIs ts types (Close ∷ us)
 unfolding listed
 listed_sound ts vs us h =
     let (types, bs, read, end) = and_then_inv (all value_item ts) (λ types us. closing (map unnamed types) (closed us)) vs us h in
     let (same, shut) = closing_inv (map unnamed types) vs (closed bs) us end in
-    (types, same, subst (λ x. Many Value ts types x) (closed_is bs us shut) (all_sound value_item Value values_read types ts bs read).0)
+    (types, same, subst (λ x. Many ValueTypeIs ts types x) (closed_is bs us shut) (all_sound value_item ValueTypeIs values_read types ts bs read).0)
 
-listed_complete : (ts : List Terminal) (types : List ValueType) (us : List Terminal) → Many Value ts types (Close ∷ us) → listed ts ≡ Ok (map unnamed types, us)
+listed_complete : (ts : List Terminal) (types : List ValueType) (us : List Terminal) → Many ValueTypeIs ts types (Close ∷ us) → listed ts ≡ Ok (map unnamed types, us)
 unfolding listed value_item
-listed_complete ts types us m = ap (λ q. and_then q (λ types us. closing (map unnamed types) (closed us))) (all_complete value_item Value values_read types ts (Close ∷ us) m refl)
+listed_complete ts types us m = ap (λ q. and_then q (λ types us. closing (map unnamed types) (closed us))) (all_complete value_item ValueTypeIs values_read types ts (Close ∷ us) m refl)
 
 named_type_sound : (x w : List ℕ) (o : Option ValueType) (all ts : List Terminal) (vs : List Variable) (us : List Terminal) → value_type w ≡ o → Gives (named_type x o all ts) vs us → (t : ValueType) × (value_type w ≡ Some t) × (variable (Some x) t ∷ [] ≡ vs) × (ts ≡ Close ∷ us)
 named_type_sound x w (Some t) all ts vs us e h = let (same, shut) = closing_inv (variable (Some x) t ∷ []) vs (closed ts) us h in (t, e, same, closed_is ts us shut)
@@ -213,7 +213,7 @@ group_item_sound word may ts vs us h =
     subst (λ x. Group word may x vs us) (sym b.is) (group_sound word may hs vs us given b.spelled b.same)
 
 -- value types do not begin with an identifier
-no_name : (may : Bool) (ts : List Terminal) (types : List ValueType) (us : List Terminal) → Many Value ts types (Close ∷ us) → group may ts ≡ listed ts
+no_name : (may : Bool) (ts : List Terminal) (types : List ValueType) (us : List Terminal) → Many ValueTypeIs ts types (Close ∷ us) → group may ts ≡ listed ts
 unfolding group
 no_name may _ _ us by_none = refl
 no_name may _ _ us (by_more (by_word e) rest) = refl
@@ -227,11 +227,11 @@ group_complete word may _ _ us (by_listed {ts = ts} {v = v} {types = types} e m)
 
 pub group_takes : (word : List ℕ) (may : Bool) (ts : List Terminal) (vs : List Variable) (us : List Terminal) → Group word may ts vs us → length us < length ts
 group_takes word may _ _ us (by_named m e type) = omega arith
-group_takes word may _ _ us (by_listed {ts = ts} {types = types} e m) = let l = many_takes Value value_takes ts types (Close ∷ us) m in omega arith
+group_takes word may _ _ us (by_listed {ts = ts} {types = types} e m) = let l = many_takes ValueTypeIs value_takes ts types (Close ∷ us) m in omega arith
 
 pub groups_read : (word : List ℕ) (may : Bool) → Reads (group_item word may) (Group word may)
 groups_read word may = record { sound = group_item_sound word may; complete = group_complete word may; takes = group_takes word may }
 
 pub group_past : (word : List ℕ) (may : Bool) (d : ℕ) (ts : List Terminal) (vs : List Variable) (us : List Terminal) → Group word may ts vs us → past d ts ≡ past d us
 group_past word may d _ _ us (by_named m e type) = refl
-group_past word may d _ _ us (by_listed {ts = ts} {types = types} e m) = many_past Value (suc d) (value_past (suc d)) ts types (Close ∷ us) m
+group_past word may d _ _ us (by_listed {ts = ts} {types = types} e m) = many_past ValueTypeIs (suc d) (value_past (suc d)) ts types (Close ∷ us) m

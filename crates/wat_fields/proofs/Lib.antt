@@ -1,5 +1,9 @@
 pub mod Manies
 pub mod Items
+pub mod TypeRules
+pub mod FieldKinds
+pub mod Counting
+pub mod FunctionTypes
 pub mod Headers
 pub mod Modules
 pub mod Bytes

@@ -1,180 +1,87 @@
 -- What is read of a module is what the grammar spells.
-use Rattle.std.proofs.Common.{◌≡◌, ◌<◌, ◌≤◌, ℕ, zero, suc, Bool, true, false, List, [], ◌∷◌, ◌++◌, length, map, None, Ok, Err, refl, sym, ap, subst, ◌∙◌, arith, append_assoc, append-nil}
-use Rattle.std.specs.Prelude.{if◌then◌else◌, bytes_eq, codes}
-use Rattle.wat_instructions.specs.declared.pieces.FaultKind.TheVariants.{UnknownWord, Duplicate}
-use Rattle.wat_instructions.specs.declared.pieces.Instruction.{Instruction}
-use Rattle.wat_instructions.specs.Grammar.{Env, Body, label_of}
-use Rattle.wat_instructions.specs.Law.{InstructionsAreBalanced, InstructionsTakeTokens, MachineIsGrammar, past}
-use Rattle.wat_instructions.specs.Machine as machine
-use Rattle.wat_instructions.specs.Terminals.{Terminal, Open, Close, Word, Id, Integer, Text, Other, Label}
-use Rattle.wat_fields.specs.Fields.{Many, by_none, by_more, Group, Export, Variable, Field, by_function, Function, Module, by_module, are_distinct, context, name_of, function_name}
+use Rattle.std.proofs.Common.{◌≡◌, ◌<◌, ◌≤◌, ℕ, zero, suc, Bool, true, false, List, [], ◌∷◌, ◌++◌, length, Option, Some, None, Result, Ok, Err, refl, sym, ap, subst, ◌∙◌, arith, append_assoc, append-nil}
+use Rattle.std.specs.Prelude.{if◌then◌else◌, bytes_eq, codes, nat_lt}
+use Rattle.std.proofs.lemmas.Bool.Decides.{Decides-ltb}
+use Rattle.std.proofs.lemmas.Grind.{flat_map-append}
+use Rattle.wat_instructions.specs.declared.pieces.FaultKind.TheVariants.{UnknownWord, Duplicate, SecondStart}
+use Rattle.wat_instructions.specs.Grammar.{Context, Fault, label_of}
+use Rattle.wat_instructions.specs.Law.{past}
+use Rattle.wat_instructions.specs.Terminals.{Terminal, Open, Close, Word, Id, Integer, Text, Other}
+use Rattle.wat_fields.specs.declared.fields.IndexSpace.{IndexSpace}
+use Rattle.wat_fields.specs.declared.fields.IndexSpace.TheVariants as space
+use Rattle.wat_fields.specs.Fields.{Many, by_none, by_more, Field, FieldIs, by_func, by_table, by_memory, by_global, by_export, by_start, Binding, Module, by_module, all_distinct, context_of, binding_of, bindings_of, space_of, starts_of}
 use Rattle.wat_fields.specs.Law.{ReadingIsGrammar}
-use Rattle.wat_fields.specs.Reading.{Read, Header, and_then, all, after_header, after_label, field, field_item, fields_at, fields_of, function, header, instructions, whole, module_word, ended, names, Before, Headed, Inside}
-use Rattle.wat_fields.proofs.Headers.{NoHeader, header_sound, header_complete, ends_body, export_is_none, param_is_none, result_is_none, local_is_none}
-use Rattle.wat_fields.proofs.Headers as headers
-use Rattle.wat_fields.proofs.Items.{exports_read, export_past, group_past, group_takes, word_is, is_word}
-use Rattle.wat_fields.proofs.Manies.{Gives, gives_of, of_gives, and_then_inv, Brings, Reads, all_sound, all_complete, many_takes, many_past}
+use Rattle.wat_fields.specs.Reading.{Read, all, field_item, fields_at, fields_of, binding_by, whole, module_word, ended, started, bindings, Before, Headed, Inside}
+use Rattle.wat_fields.proofs.Items.{word_is, is_word}
+use Rattle.wat_fields.proofs.FieldKinds.{Laws, Closes, field_after, fields_read}
+use Rattle.wat_fields.proofs.Manies.{all_sound, all_complete}
 
--- what holds of instructions
-pub record Laws : Type 0 where
-  pub same : MachineIsGrammar
-  pub balanced : InstructionsAreBalanced
-  pub taken : InstructionsTakeTokens
+-- The items that fields define, by the parentheses alone.
 
--- One field.
+inside_past : (d : ℕ) (hs : List Binding) (ts : List Terminal) → bindings (Inside d) hs ts ≡ bindings Before hs (past d ts)
+unfolding bindings
+inside_past d hs [] = refl
+inside_past d hs (Open ∷ ts) = inside_past (suc d) hs ts
+inside_past zero hs (Close ∷ ts) = refl
+inside_past (suc d) hs (Close ∷ ts) = inside_past d hs ts
+inside_past zero hs (Word w ∷ ts) = inside_past zero hs ts
+inside_past (suc d) hs (Word w ∷ ts) = inside_past (suc d) hs ts
+inside_past zero hs (Id x ∷ ts) = inside_past zero hs ts
+inside_past (suc d) hs (Id x ∷ ts) = inside_past (suc d) hs ts
+inside_past zero hs (Integer s n ∷ ts) = inside_past zero hs ts
+inside_past (suc d) hs (Integer s n ∷ ts) = inside_past (suc d) hs ts
+inside_past zero hs (Text v ∷ ts) = inside_past zero hs ts
+inside_past (suc d) hs (Text v ∷ ts) = inside_past (suc d) hs ts
+inside_past zero hs (Other ∷ ts) = inside_past zero hs ts
+inside_past (suc d) hs (Other ∷ ts) = inside_past (suc d) hs ts
 
-no_header : (env : Env) (ds : List Terminal) (is : List Instruction) (r : List Terminal) → Body env ds is r → NoHeader ds
-no_header env ds is r h = record {
-  no_export = ends_body (codes "export") export_is_none env (None ∷ []) ds is (Close ∷ r) r refl h;
-  no_param = ends_body (codes "param") param_is_none env (None ∷ []) ds is (Close ∷ r) r refl h;
-  no_result = ends_body (codes "result") result_is_none env (None ∷ []) ds is (Close ∷ r) r refl h;
-  no_local = ends_body (codes "local") local_is_none env (None ∷ []) ds is (Close ∷ r) r refl h;
-}
+headed_inside : (s : Option IndexSpace) (hs : List Binding) (ts : List Terminal) → 0 < length (label_of ts).1 → bindings (Headed s) hs ts ≡ bindings (Inside 0) (hs ++ binding_by s (label_of ts).0) (label_of ts).1
+unfolding bindings
+headed_inside s hs [] h = absurd (omega arith)
+headed_inside s hs (Id x ∷ ts) h = refl
+headed_inside s hs (Open ∷ ts) h = refl
+headed_inside s hs (Close ∷ ts) h = refl
+headed_inside s hs (Word w ∷ ts) h = refl
+headed_inside s hs (Integer n m ∷ ts) h = refl
+headed_inside s hs (Text v ∷ ts) h = refl
+headed_inside s hs (Other ∷ ts) h = refl
 
-body_sound : Laws → (functions : List Label) (h : Header) (ds : List Terminal) (is : List Instruction) (r : List Terminal) → instructions functions h ds ≡ Ok (is, r) → (are_distinct (map name_of (h.params ++ h.locals)) ≡ true) × Body (context functions (h.params ++ h.locals)) ds is r
-unfolding instructions
-body_sound laws functions h ds is r e = by (are_distinct (map name_of (h.params ++ h.locals))) refl (gives_of _ is r e)
-  where
-    by : (b : Bool) → are_distinct (map name_of (h.params ++ h.locals)) ≡ b → Gives (if b then machine.body (context functions (h.params ++ h.locals)) ds else Err (Duplicate, ds)) is r → (are_distinct (map name_of (h.params ++ h.locals)) ≡ true) × Body (context functions (h.params ++ h.locals)) ds is r
-    by true d g = (d, (laws.same (context functions (h.params ++ h.locals)) ds is r).0 (of_gives _ is r g))
-    by false d g = absurd g
+after_word : (s : Option IndexSpace) (hs : List Binding) (w : List ℕ) (ts r : List Terminal) → space_of w ≡ s → Closes (label_of ts).1 r → bindings Before hs (Open ∷ Word w ∷ ts) ≡ bindings Before (hs ++ binding_by s (label_of ts).0) r
+unfolding bindings
+after_word s hs w ts r e c =
+    let l = c.short in
+    ap (λ x. bindings (Headed x) hs ts) e ∙ headed_inside s hs ts (omega arith) ∙ inside_past 0 (hs ++ binding_by s (label_of ts).0) (label_of ts).1 ∙ ap (λ x. bindings Before (hs ++ binding_by s (label_of ts).0) x) c.same
 
-body_complete : Laws → (functions : List Label) (h : Header) (ds : List Terminal) (is : List Instruction) (r : List Terminal) → are_distinct (map name_of (h.params ++ h.locals)) ≡ true → Body (context functions (h.params ++ h.locals)) ds is r → instructions functions h ds ≡ Ok (is, r)
-unfolding instructions
-body_complete laws functions h ds is r d b =
-    ap (λ (x : Bool). if x then machine.body (context functions (h.params ++ h.locals)) ds else Err (Duplicate, ds)) d ∙ (laws.same (context functions (h.params ++ h.locals)) ds is r).1 b
+open_is : (v w : List ℕ) (ts us r : List Terminal) → Open ∷ Word v ∷ ts ≡ Open ∷ Word w ∷ us → Closes (label_of us).1 r → Closes (label_of ts).1 r
+open_is v w ts us r e c = let k : ts ≡ us = cc in subst (λ x. Closes (label_of x).1 r) (sym k) c
 
-label_sound : Laws → (functions : List Label) (w : List ℕ) (ts : List Terminal) (fs : List Function) (r : List Terminal) → w ≡ codes "func" → Gives (after_label functions (label_of ts)) fs r → Field functions (Open ∷ Word w ∷ ts) fs r
-label_sound laws functions w ts fs r e g =
-    let (h, ds, e1, g1) = and_then_inv (header (label_of ts).1) (λ h us. after_header functions (label_of ts).0 h us) fs r g in
-    let (is, us, e2, g2) = and_then_inv (instructions functions h ds) (λ is us. Ok (function (label_of ts).0 h is ∷ [], us)) fs r g1 in
-    let k = header_sound h (label_of ts).1 ds e1 in
-    let b = body_sound laws functions h ds is us e2 in
-    subst (λ x. Field functions (Open ∷ Word w ∷ ts) fs x) g2.1 (subst (λ x. Field functions (Open ∷ Word w ∷ ts) x us) g2.0 (by_function e k.exports k.params k.results k.locals b.0 b.1))
+closes_of : Laws → (context : Context) (w : List ℕ) (ts : List Terminal) (fs : List Field) (r : List Terminal) → FieldIs context (Open ∷ Word w ∷ ts) fs r → Closes (label_of ts).1 r
+closes_of laws context w ts fs r h = let a = field_after laws context (Open ∷ Word w ∷ ts) fs r h in open_is w a.w ts a.us r a.is a.closes
 
-word_sound : Laws → (functions : List Label) (w : List ℕ) (ts : List Terminal) (fs : List Function) (r : List Terminal) (b : Bool) → bytes_eq w (codes "func") ≡ b → Gives (if b then after_label functions (label_of ts) else Err (UnknownWord, Word w ∷ ts)) fs r → Field functions (Open ∷ Word w ∷ ts) fs r
-word_sound laws functions w ts fs r true e g = label_sound laws functions w ts fs r (word_is w (codes "func") e) g
-word_sound laws functions w ts fs r false e g = absurd g
+field_heads : Laws → (context : Context) (hs : List Binding) (ts : List Terminal) (fs : List Field) (r : List Terminal) → FieldIs context ts fs r → bindings Before hs ts ≡ bindings Before (hs ++ bindings_of fs) r
+field_heads laws context hs _ fs r (by_func {w = w} {ts = ts} e a b c d f k) = after_word (Some space.Func) hs w ts r (ap space_of e) (closes_of laws context w ts fs r (by_func e a b c d f k))
+field_heads laws context hs _ fs r (by_table {w = w} {ts = ts} e a b c) = after_word (Some space.Table) hs w ts r (ap space_of e) (closes_of laws context w ts fs r (by_table e a b c))
+field_heads laws context hs _ fs r (by_memory {w = w} {ts = ts} e a b) = after_word (Some space.Mem) hs w ts r (ap space_of e) (closes_of laws context w ts fs r (by_memory e a b))
+field_heads laws context hs _ fs r (by_global {w = w} {ts = ts} e a b k) = after_word (Some space.Global) hs w ts r (ap space_of e) (closes_of laws context w ts fs r (by_global e a b k))
+field_heads laws context hs _ fs r (by_export {w = w} {n = n} {v = v} {ts = ts} e u k f) = after_word None hs w (Text n ∷ Open ∷ Word v ∷ ts) r (ap space_of e) (closes_of laws context w (Text n ∷ Open ∷ Word v ∷ ts) fs r (by_export e u k f))
+field_heads laws context hs _ fs r (by_start {w = w} {ts = ts} e f) = after_word None hs w ts r (ap space_of e) (closes_of laws context w ts fs r (by_start e f))
 
-open_sound : Laws → (functions : List Label) (ts : List Terminal) (fs : List Function) (r : List Terminal) → Gives (field functions ts) fs r → Field functions (Open ∷ ts) fs r
-open_sound laws functions (Word w ∷ ts) fs r h = word_sound laws functions w ts fs r (bytes_eq w (codes "func")) refl h
-open_sound laws functions [] fs r h = absurd h
-open_sound laws functions (Open ∷ ts) fs r h = absurd h
-open_sound laws functions (Close ∷ ts) fs r h = absurd h
-open_sound laws functions (Id x ∷ ts) fs r h = absurd h
-open_sound laws functions (Integer s n ∷ ts) fs r h = absurd h
-open_sound laws functions (Text v ∷ ts) fs r h = absurd h
-open_sound laws functions (Other ∷ ts) fs r h = absurd h
+fields_heads : Laws → (context : Context) (hs : List Binding) (ts : List Terminal) (fs : List Field) (r : List Terminal) → Many (FieldIs context) ts fs r → bindings Before hs ts ≡ bindings Before (hs ++ bindings_of fs) r
+fields_heads laws context hs _ _ r by_none = ap (λ x. bindings Before x r) (sym (append-nil hs))
+fields_heads laws context hs _ _ r (by_more {ts = ts} {us = us} {vs = fs} {ws = gs} one rest) =
+    field_heads laws context hs ts fs us one ∙ fields_heads laws context (hs ++ bindings_of fs) us gs r rest
+    ∙ ap (λ x. bindings Before x r) (append_assoc hs (bindings_of fs) (bindings_of gs) ∙ ap (λ x. hs ++ x) (sym (flat_map-append binding_of fs gs)))
 
-field_sound : Laws → (functions : List Label) (ts : List Terminal) (fs : List Function) (r : List Terminal) → Brings (field_item functions ts) fs r → Field functions ts fs r
-unfolding field_item
-field_sound laws functions (Open ∷ ts) fs r h = open_sound laws functions ts fs r h
-field_sound laws functions [] fs r h = absurd h
-field_sound laws functions (Close ∷ ts) fs r h = absurd h
-field_sound laws functions (Word w ∷ ts) fs r h = absurd h
-field_sound laws functions (Id x ∷ ts) fs r h = absurd h
-field_sound laws functions (Integer s n ∷ ts) fs r h = absurd h
-field_sound laws functions (Text v ∷ ts) fs r h = absurd h
-field_sound laws functions (Other ∷ ts) fs r h = absurd h
+close_heads : (hs : List Binding) → bindings Before hs (Close ∷ []) ≡ hs
+unfolding bindings
+close_heads hs = refl
 
-field_complete : Laws → (functions : List Label) (ts : List Terminal) (fs : List Function) (r : List Terminal) → Field functions ts fs r → Brings (field_item functions ts) fs r
-unfolding field_item
-field_complete laws functions _ _ r (by_function {w = w} {ts = ts} {hs = hs} {bs = bs} {cs = cs} {ds = ds} {names = ns} {params = ps} {results = rs} {locals = ls} {is = is} e a b c d f k) =
-    let h : Header = record { exports = ns; params = ps; results = rs; locals = ls } in
-    let headed : headers.Headed h (label_of ts).1 ds = record { hs = hs; bs = bs; cs = cs; exports = a; params = b; results = c; locals = d } in
-    gives_of _ (function (label_of ts).0 h is ∷ []) r
-    (
-    ap (λ (x : Bool). if x then after_label functions (label_of ts) else Err (UnknownWord, Word w ∷ ts)) (is_word w (codes "func") e)
-    ∙ ap (λ q. and_then q (λ h us. after_header functions (label_of ts).0 h us)) (header_complete h (label_of ts).1 ds headed (no_header (context functions (ps ++ ls)) ds is r k))
-    ∙ ap (λ q. and_then q (λ is us. Ok (function (label_of ts).0 h is ∷ [], us))) (body_complete laws functions h ds is r f k)
-    )
-
-label_short : (ts : List Terminal) → length (label_of ts).1 ≤ length ts
-label_short [] = omega arith
-label_short (Id x ∷ ts) = omega arith
-label_short (Open ∷ ts) = omega arith
-label_short (Close ∷ ts) = omega arith
-label_short (Word w ∷ ts) = omega arith
-label_short (Integer s n ∷ ts) = omega arith
-label_short (Text v ∷ ts) = omega arith
-label_short (Other ∷ ts) = omega arith
-
--- how much a header and a body take
-after_name : Laws → (functions : List Label) (ts hs bs cs ds r : List Terminal) (ns : List (List ℕ)) (ps rs ls : List Variable) (is : List Instruction) (env : Env) → Many Export ts ns hs → Many (Group (codes "param") true) hs ps bs → Many (Group (codes "result") false) bs rs cs → Many (Group (codes "local") true) cs ls ds → Body env ds is r → length r < length ts
-after_name laws functions ts hs bs cs ds r ns ps rs ls is env a b c d k =
-    let x = many_takes Export exports_read.takes ts ns hs a in
-    let y = many_takes (Group (codes "param") true) (group_takes (codes "param") true) hs ps bs b in
-    let z = many_takes (Group (codes "result") false) (group_takes (codes "result") false) bs rs cs c in
-    let v = many_takes (Group (codes "local") true) (group_takes (codes "local") true) cs ls ds d in
-    let t = laws.taken env (None ∷ []) false ds is (Close ∷ r) k in omega arith
-
-field_takes : Laws → (functions : List Label) (ts : List Terminal) (fs : List Function) (r : List Terminal) → Field functions ts fs r → length r < length ts
-field_takes laws functions _ _ r (by_function {ts = ts} {hs = hs} {bs = bs} {cs = cs} {ds = ds} {names = ns} {params = ps} {results = rs} {locals = ls} {is = is} e a b c d f k) =
-    let x = after_name laws functions (label_of ts).1 hs bs cs ds r ns ps rs ls is (context functions (ps ++ ls)) a b c d k in let y = label_short ts in omega arith
-
-pub fields_read : Laws → (functions : List Label) → Reads (field_item functions) (Field functions)
-fields_read laws functions = record { sound = field_sound laws functions; complete = field_complete laws functions; takes = field_takes laws functions }
-
--- The names of functions, by the parentheses alone.
-
-inside_past : (d : ℕ) (ls : List Label) (ts : List Terminal) → names (Inside d) ls ts ≡ names Before ls (past d ts)
-unfolding names
-inside_past d ls [] = refl
-inside_past d ls (Open ∷ ts) = inside_past (suc d) ls ts
-inside_past zero ls (Close ∷ ts) = refl
-inside_past (suc d) ls (Close ∷ ts) = inside_past d ls ts
-inside_past zero ls (Word w ∷ ts) = inside_past zero ls ts
-inside_past (suc d) ls (Word w ∷ ts) = inside_past (suc d) ls ts
-inside_past zero ls (Id x ∷ ts) = inside_past zero ls ts
-inside_past (suc d) ls (Id x ∷ ts) = inside_past (suc d) ls ts
-inside_past zero ls (Integer s n ∷ ts) = inside_past zero ls ts
-inside_past (suc d) ls (Integer s n ∷ ts) = inside_past (suc d) ls ts
-inside_past zero ls (Text v ∷ ts) = inside_past zero ls ts
-inside_past (suc d) ls (Text v ∷ ts) = inside_past (suc d) ls ts
-inside_past zero ls (Other ∷ ts) = inside_past zero ls ts
-inside_past (suc d) ls (Other ∷ ts) = inside_past (suc d) ls ts
-
-headed_inside : (ls : List Label) (ts : List Terminal) → 0 < length ts → names Headed ls ts ≡ names (Inside 0) (ls ++ (label_of ts).0 ∷ []) (label_of ts).1
-unfolding names
-headed_inside ls [] h = absurd (omega arith)
-headed_inside ls (Id x ∷ ts) h = refl
-headed_inside ls (Open ∷ ts) h = refl
-headed_inside ls (Close ∷ ts) h = refl
-headed_inside ls (Word w ∷ ts) h = refl
-headed_inside ls (Integer s n ∷ ts) h = refl
-headed_inside ls (Text v ∷ ts) h = refl
-headed_inside ls (Other ∷ ts) h = refl
-
-field_names : Laws → (functions : List Label) (ls : List Label) (ts : List Terminal) (fs : List Function) (r : List Terminal) → Field functions ts fs r → names Before ls ts ≡ names Before (ls ++ map function_name fs) r
-unfolding names
-field_names laws functions l _ _ r (by_function {w = w} {ts = ts} {hs = hs} {bs = bs} {cs = cs} {ds = ds} {names = ns} {params = ps} {results = rs} {locals = ls} {is = is} e a b c d f k) =
-    let x = after_name laws functions (label_of ts).1 hs bs cs ds r ns ps rs ls is (context functions (ps ++ ls)) a b c d k in
-    let y = label_short ts in
-    let p : past 0 (label_of ts).1 ≡ r =
-    many_past Export 0 (export_past 0) (label_of ts).1 ns hs a ∙ many_past (Group (codes "param") true) 0 (group_past (codes "param") true 0) hs ps bs b ∙ many_past (Group (codes "result") false) 0 (group_past (codes "result") false 0) bs rs cs c
-    ∙ many_past (Group (codes "local") true) 0 (group_past (codes "local") true 0) cs ls ds d ∙ laws.balanced (context functions (ps ++ ls)) (None ∷ []) false ds is (Close ∷ r) k 0 in
-    headed_inside l ts (omega arith) ∙ inside_past 0 (l ++ (label_of ts).0 ∷ []) (label_of ts).1 ∙ ap (λ z. names Before (l ++ (label_of ts).0 ∷ []) z) p
-
-map_more : (fs gs : List Function) → map function_name (fs ++ gs) ≡ map function_name fs ++ map function_name gs
-map_more [] gs = refl
-map_more (f ∷ fs) gs = ap (λ x. function_name f ∷ x) (map_more fs gs)
-
-fields_names : Laws → (functions : List Label) (ls : List Label) (ts : List Terminal) (fs : List Function) (r : List Terminal) → Many (Field functions) ts fs r → names Before ls ts ≡ names Before (ls ++ map function_name fs) r
-fields_names laws functions ls _ _ r by_none = ap (λ x. names Before x r) (sym (append-nil ls))
-fields_names laws functions ls _ _ r (by_more {ts = ts} {us = us} {vs = fs} {ws = gs} one rest) =
-    field_names laws functions ls ts fs us one ∙ fields_names laws functions (ls ++ map function_name fs) us gs r rest
-    ∙ ap (λ x. names Before x r) (append_assoc ls (map function_name fs) (map function_name gs) ∙ ap (λ x. ls ++ x) (sym (map_more fs gs)))
-
-close_names : (ls : List Label) → names Before ls (Close ∷ []) ≡ ls
-unfolding names
-close_names ls = refl
-
-module_names : Laws → (functions : List Label) (ts : List Terminal) (fs : List Function) → Many (Field functions) ts fs (Close ∷ []) → names Before [] ts ≡ map function_name fs
-module_names laws functions ts fs m = fields_names laws functions [] ts fs (Close ∷ []) m ∙ close_names (map function_name fs)
+module_heads : Laws → (context : Context) (ts : List Terminal) (fs : List Field) → Many (FieldIs context) ts fs (Close ∷ []) → bindings Before [] ts ≡ bindings_of fs
+module_heads laws context ts fs m = fields_heads laws context [] ts fs (Close ∷ []) m ∙ close_heads (bindings_of fs)
 
 -- The module.
 
-ended_sound : (q : Read (List Function)) (fs : List Function) → ended q ≡ Ok fs → q ≡ Ok (fs, Close ∷ [])
+ended_sound : (q : Read (List Field)) (fs : List Field) → ended q ≡ Ok fs → q ≡ Ok (fs, Close ∷ [])
 ended_sound (Ok (gs, Close ∷ [])) fs e = let k : gs ≡ fs = cc in ap (λ x. Ok (x, Close ∷ [])) k
 ended_sound (Ok (gs, Close ∷ t ∷ ts)) fs e = cc
 ended_sound (Ok (gs, [])) fs e = cc
@@ -186,17 +93,30 @@ ended_sound (Ok (gs, Text v ∷ ts)) fs e = cc
 ended_sound (Ok (gs, Other ∷ ts)) fs e = cc
 ended_sound (Err f) fs e = cc
 
-of_names : Laws → (ns : List Label) (w : List ℕ) (ts : List Terminal) (fs : List Function) → w ≡ codes "module" → ns ≡ names Before [] (label_of ts).1 → (b : Bool) → are_distinct ns ≡ b → (if b then ended (all (field_item ns) (label_of ts).1) else Err (Duplicate, (label_of ts).1)) ≡ Ok fs → Module (Open ∷ Word w ∷ ts) fs
-of_names laws ns w ts fs e n true d h =
-    let m = (all_sound (field_item ns) (Field ns) (fields_read laws ns) fs (label_of ts).1 (Close ∷ []) (ended_sound _ fs h)).0 in
-    let k = n ∙ module_names laws ns (label_of ts).1 fs m in by_module e (subst (λ x. Many (Field x) (label_of ts).1 fs (Close ∷ [])) k m) (subst (λ x. are_distinct x ≡ true) k d)
-of_names laws ns w ts fs e n false d h = cc
+started_by : (ts : List Terminal) (gs fs : List Field) (b : Bool) → nat_lt (length (starts_of gs)) 2 ≡ b → ◌≡◌ {A = Result (List Field) Fault} (if b then Ok gs else Err (SecondStart, ts)) (Ok fs) → (gs ≡ fs) × (length (starts_of gs) ≤ 1)
+started_by ts gs fs true e h = let k : gs ≡ fs = cc in let l = (Decides-ltb (length (starts_of gs)) 2).0 e in (k, omega (arith, l))
+started_by ts gs fs false e h = cc
 
-word_module : Laws → (w : List ℕ) (ts : List Terminal) (fs : List Function) (b : Bool) → bytes_eq w (codes "module") ≡ b → (if b then fields_at (label_of ts).1 else Err (UnknownWord, Word w ∷ ts)) ≡ Ok fs → Module (Open ∷ Word w ∷ ts) fs
-word_module laws w ts fs true e h = of_names laws (names Before [] (label_of ts).1) w ts fs (word_is w (codes "module") e) refl (are_distinct (names Before [] (label_of ts).1)) refl h
+started_sound : (ts : List Terminal) (q : Result (List Field) Fault) (fs : List Field) → started ts q ≡ Ok fs → (q ≡ Ok fs) × (length (starts_of fs) ≤ 1)
+started_sound ts (Ok gs) fs e = let k = started_by ts gs fs (nat_lt (length (starts_of gs)) 2) refl e in (ap (λ x. Ok x) k.0, subst (λ x. length (starts_of x) ≤ 1) k.0 k.1)
+started_sound ts (Err f) fs e = cc
+
+started_complete : (ts : List Terminal) (fs : List Field) → length (starts_of fs) ≤ 1 → started ts (Ok fs) ≡ Ok fs
+started_complete ts fs l = ap (λ (b : Bool). if b then Ok fs else Err (SecondStart, ts)) ((Decides-ltb (length (starts_of fs)) 2).1 (omega (arith, l)))
+
+of_heads : Laws → (hs : List Binding) (w : List ℕ) (ts : List Terminal) (fs : List Field) → w ≡ codes "module" → hs ≡ bindings Before [] (label_of ts).1 → (b : Bool) → all_distinct (context_of hs) ≡ b
+    → (if b then started (label_of ts).1 (ended (all (field_item (context_of hs)) (label_of ts).1)) else Err (Duplicate, (label_of ts).1)) ≡ Ok fs → Module (Open ∷ Word w ∷ ts) fs
+of_heads laws hs w ts fs e n true d h =
+    let s = started_sound (label_of ts).1 (ended (all (field_item (context_of hs)) (label_of ts).1)) fs h in
+    let m = (all_sound (field_item (context_of hs)) (FieldIs (context_of hs)) (fields_read laws (context_of hs)) fs (label_of ts).1 (Close ∷ []) (ended_sound _ fs s.0)).0 in
+    let k = n ∙ module_heads laws (context_of hs) (label_of ts).1 fs m in by_module e (subst (λ x. Many (FieldIs (context_of x)) (label_of ts).1 fs (Close ∷ [])) k m) (subst (λ x. all_distinct (context_of x) ≡ true) k d) s.1
+of_heads laws hs w ts fs e n false d h = cc
+
+word_module : Laws → (w : List ℕ) (ts : List Terminal) (fs : List Field) (b : Bool) → bytes_eq w (codes "module") ≡ b → (if b then fields_at (label_of ts).1 else Err (UnknownWord, Word w ∷ ts)) ≡ Ok fs → Module (Open ∷ Word w ∷ ts) fs
+word_module laws w ts fs true e h = let hs = bindings Before [] (label_of ts).1 in of_heads laws hs w ts fs (word_is w (codes "module") e) refl (all_distinct (context_of hs)) refl h
 word_module laws w ts fs false e h = cc
 
-open_module : Laws → (ts : List Terminal) (fs : List Function) → module_word ts ≡ Ok fs → Module (Open ∷ ts) fs
+open_module : Laws → (ts : List Terminal) (fs : List Field) → module_word ts ≡ Ok fs → Module (Open ∷ ts) fs
 open_module laws (Word w ∷ ts) fs h = word_module laws w ts fs (bytes_eq w (codes "module")) refl h
 open_module laws [] fs h = cc
 open_module laws (Open ∷ ts) fs h = cc
@@ -206,7 +126,7 @@ open_module laws (Integer s n ∷ ts) fs h = cc
 open_module laws (Text v ∷ ts) fs h = cc
 open_module laws (Other ∷ ts) fs h = cc
 
-module_sound : Laws → (ts : List Terminal) (fs : List Function) → whole ts ≡ Ok fs → Module ts fs
+module_sound : Laws → (ts : List Terminal) (fs : List Field) → whole ts ≡ Ok fs → Module ts fs
 unfolding whole
 module_sound laws (Open ∷ ts) fs h = open_module laws ts fs h
 module_sound laws [] fs h = cc
@@ -217,16 +137,17 @@ module_sound laws (Integer s n ∷ ts) fs h = cc
 module_sound laws (Text v ∷ ts) fs h = cc
 module_sound laws (Other ∷ ts) fs h = cc
 
-no_field : (functions : List Label) → field_item functions (Close ∷ []) ≡ None
+no_field : (context : Context) → field_item context (Close ∷ []) ≡ None
 unfolding field_item
-no_field functions = refl
+no_field context = refl
 
-module_complete : Laws → (ts : List Terminal) (fs : List Function) → Module ts fs → whole ts ≡ Ok fs
+module_complete : Laws → (ts : List Terminal) (fs : List Field) → Module ts fs → whole ts ≡ Ok fs
 unfolding whole
-module_complete laws _ fs (by_module {w = w} {ts = ts} e m d) =
-    let ns = map function_name fs in
-    ap (λ (x : Bool). if x then fields_at (label_of ts).1 else Err (UnknownWord, Word w ∷ ts)) (is_word w (codes "module") e) ∙ ap (λ x. fields_of x (label_of ts).1) (module_names laws ns (label_of ts).1 fs m)
-    ∙ ap (λ (x : Bool). if x then ended (all (field_item ns) (label_of ts).1) else Err (Duplicate, (label_of ts).1)) d ∙ ap ended (all_complete (field_item ns) (Field ns) (fields_read laws ns) fs (label_of ts).1 (Close ∷ []) m (no_field ns))
+module_complete laws _ fs (by_module {w = w} {ts = ts} e m d l) =
+    let context = context_of (bindings_of fs) in
+    ap (λ (x : Bool). if x then fields_at (label_of ts).1 else Err (UnknownWord, Word w ∷ ts)) (is_word w (codes "module") e) ∙ ap (λ x. fields_of (context_of x) (label_of ts).1) (module_heads laws context (label_of ts).1 fs m)
+    ∙ ap (λ (x : Bool). if x then started (label_of ts).1 (ended (all (field_item context) (label_of ts).1)) else Err (Duplicate, (label_of ts).1)) d
+    ∙ ap (λ q. started (label_of ts).1 (ended q)) (all_complete (field_item context) (FieldIs context) (fields_read laws context) fs (label_of ts).1 (Close ∷ []) m (no_field context)) ∙ started_complete (label_of ts).1 fs l
 
 pub law : Laws → ReadingIsGrammar
 law laws ts fs = (module_sound laws ts fs, module_complete laws ts fs)

@@ -1,8 +1,9 @@
 -- WebAssembly 2.0 specification, 5 (binary format): 5.1.3 vectors, 5.2 values, 5.3 types, 5.4 instructions, 5.5 modules (5.5.2 sections, 5.5.4 type
--- section, 5.5.6 function section, 5.5.10 export section, 5.5.13 code section, 5.5.16 modules). And 6.6.3: the types that type uses without an index bring. What the
--- standard leaves open is fixed: integers in their shortest form, runs of local variables of one type counted together, no section without content, no
--- custom section, an `else` where the text has one.
-use Rattle.std.specs.Prelude.{ℕ, suc, List, [], ◌∷◌, ◌++◌, map, Option, Some, None, bytes_eq, ◌==◌, if◌then◌else◌}
+-- section, 5.5.6 function section, 5.5.7 table section, 5.5.8 memory section, 5.5.9 global section, 5.5.10 export section, 5.5.11 start section, 5.5.13 code
+-- section, 5.5.16 modules). And 6.6.3: the types that type uses without an index bring. What the standard leaves open is fixed: integers in their
+-- shortest form, runs of local variables of one type counted together, no section without content, no custom section, an `else` where the text has one.
+-- The order of exports is that of the text: an inline one is where its field is (6.6.5 to 6.6.8).
+use Rattle.std.specs.Prelude.{ℕ, suc, Bool, true, false, ◌&&◌, List, [], ◌∷◌, ◌++◌, length, map, Option, Some, None, ◌==◌, if◌then◌else◌}
 use Rattle.std.specs.List.{flat_map}
 use Rattle.wat_lex.specs.binary.Encoding.{list_encoding, text_encoding}
 use Rattle.wat_lex.specs.binary.Leb128.{signed_leb128, unsigned_leb128}
@@ -11,7 +12,15 @@ use Rattle.wat_instructions.specs.declared.pieces.Argument.TheVariants as argume
 use Rattle.wat_instructions.specs.declared.pieces.Instruction.{Instruction}
 use Rattle.wat_instructions.specs.declared.pieces.ValueType.{ValueType}
 use Rattle.wat_instructions.specs.declared.pieces.ValueType.TheVariants as value
-use Rattle.wat_fields.specs.Fields.{Function, Variable}
+use Rattle.wat_fields.specs.declared.fields.GlobalType.{GlobalType}
+use Rattle.wat_fields.specs.declared.fields.IndexSpace.{IndexSpace}
+use Rattle.wat_fields.specs.declared.fields.IndexSpace.TheVariants as space
+use Rattle.wat_fields.specs.declared.fields.Limits.{Limits}
+use Rattle.wat_fields.specs.declared.fields.ReferenceType.{ReferenceType}
+use Rattle.wat_fields.specs.declared.fields.ReferenceType.TheVariants as reference
+use Rattle.wat_fields.specs.declared.fields.TableType.{TableType}
+use Rattle.wat_fields.specs.Fields.{Field, Func, Table, Memory, Global, Start, Function, Variable, bindings_of, names_in, starts_of, type_of}
+use Rattle.wat_fields.specs.Fields as field
 
 -- 5.3.1 number types
 abbrev pub type_byte : ValueType → ℕ
@@ -41,54 +50,117 @@ instruction_bytes i = i.opcode ∷ argument_bytes i.argument
 abbrev pub variable_byte : Variable → ℕ
 variable_byte v = type_byte v.type
 
--- 5.3.6 function types: 0x60, and the types of the parameters and of the results
-unfoldable pub type_bytes : Function → List ℕ
-type_bytes f = 0x60 ∷ (text_encoding (map variable_byte f.params) ++ text_encoding (map variable_byte f.results))
+-- 5.3.6 function types: the types of the parameters and of the results
+pub record FunctionType : Type 0 where
+  pub params : List ValueType
+  pub results : List ValueType
 
--- 6.6.3: the index of a type among these, counted from k. A type is its bytes, which differ where types do.
-abbrev pub type_index : ℕ → List ℕ → List (List ℕ) → Option ℕ
-type_index k t [] = None
-type_index k t (u ∷ us) = if bytes_eq u t then Some k else type_index (suc k) t us
+abbrev pub function_type : Function → FunctionType
+function_type f = record { params = map type_of f.params; results = map type_of f.results }
+
+-- 5.3.6: 0x60, and both; 5.3.5: each a vector of value types, a byte each
+unfoldable pub type_bytes : FunctionType → List ℕ
+type_bytes t = 0x60 ∷ (text_encoding (map type_byte t.params) ++ text_encoding (map type_byte t.results))
+
+abbrev pub same_values : List ValueType → List ValueType → Bool
+same_values [] [] = true
+same_values (t ∷ ts) (u ∷ us) = (type_byte t == type_byte u) && same_values ts us
+same_values ts us = false
+
+abbrev pub same_type : FunctionType → FunctionType → Bool
+same_type t u = same_values t.params u.params && same_values t.results u.results
+
+-- 6.6.3: the index of a type among these, which is the least
+abbrev pub type_index : FunctionType → List FunctionType → ℕ
+type_index t [] = 0
+type_index t (u ∷ us) = if same_type u t then 0 else suc (type_index t us)
+
+abbrev pub has_type : FunctionType → List FunctionType → Bool
+has_type t [] = false
+has_type t (u ∷ us) = if same_type u t then true else has_type t us
 
 -- a type use brings its type, after the others, where that is not among them
-abbrev pub with_type_by : Option ℕ → List (List ℕ) → List ℕ → List (List ℕ)
-with_type_by None ts t = ts ++ t ∷ []
-with_type_by (Some n) ts t = ts
-
-abbrev pub with_type : List (List ℕ) → List ℕ → List (List ℕ)
-with_type ts t = with_type_by (type_index 0 t ts) ts t
+abbrev pub with_type : List FunctionType → FunctionType → List FunctionType
+with_type ts t = if has_type t ts then ts else ts ++ t ∷ []
 
 -- the types after these functions, from those before
-abbrev pub types_after : List (List ℕ) → List Function → List (List ℕ)
+abbrev pub types_after : List FunctionType → List Function → List FunctionType
 types_after ts [] = ts
-types_after ts (f ∷ fs) = types_after (with_type ts (type_bytes f)) fs
+types_after ts (f ∷ fs) = types_after (with_type ts (function_type f)) fs
 
-unfoldable pub types_of : List Function → List (List ℕ)
+unfoldable pub types_of : List Function → List FunctionType
 types_of fs = types_after [] fs
 
-abbrev pub index_or_0 : Option ℕ → ℕ
-index_or_0 None = 0
-index_or_0 (Some n) = n
+-- 5.5.6: the index of the function's type, which is among them (Law)
+abbrev pub function_bytes : List FunctionType → Function → List ℕ
+function_bytes types f = unsigned_leb128 (type_index (function_type f) types)
 
--- 5.5.6: the index of the function's type, which is always there
-abbrev pub function_bytes : List (List ℕ) → Function → List ℕ
-function_bytes types f = unsigned_leb128 (index_or_0 (type_index 0 (type_bytes f) types))
+abbrev pub min_max_bytes : ℕ → Option ℕ → List ℕ
+min_max_bytes n None = 0x00 ∷ unsigned_leb128 n
+min_max_bytes n (Some m) = 0x01 ∷ (unsigned_leb128 n ++ unsigned_leb128 m)
 
--- 5.5.10: an export of the function of an index
+-- 5.3.7 limits, 5.3.8 memory types
+abbrev pub limits_bytes : Limits → List ℕ
+limits_bytes l = min_max_bytes l.min l.max
+
+-- 5.3.3 reference types
+abbrev pub reference_byte : ReferenceType → ℕ
+reference_byte reference.Func = 0x70
+reference_byte reference.Extern = 0x6F
+
+-- 5.3.9 table types
+abbrev pub table_bytes : TableType → List ℕ
+table_bytes t = reference_byte t.element ∷ limits_bytes t.limits
+
+abbrev pub mutability_byte : Bool → ℕ
+mutability_byte false = 0x00
+mutability_byte true = 0x01
+
+-- 5.4.9 expressions: the instructions, and 0x0B
+abbrev pub expression_bytes : List Instruction → List ℕ
+expression_bytes is = flat_map instruction_bytes is ++ 0x0B ∷ []
+
+-- 5.3.10 global types, 5.5.9: the type of a global, and its first value
+abbrev pub global_bytes : GlobalType × List Instruction → List ℕ
+global_bytes g = type_byte g.0.value ∷ mutability_byte g.0.is_mutable ∷ expression_bytes g.1
+
+-- 5.5.10: an export of the item of an index
 pub record Export : Type 0 where
   pub name : List ℕ
+  pub space : IndexSpace
   pub index : ℕ
 
-abbrev pub export : ℕ → List ℕ → Export
-export n name = record { name = name; index = n }
+abbrev pub export : IndexSpace → ℕ → List ℕ → Export
+export s n name = record { name = name; space = s; index = n }
+
+abbrev pub space_byte : IndexSpace → ℕ
+space_byte space.Func = 0x00
+space_byte space.Table = 0x01
+space_byte space.Mem = 0x02
+space_byte space.Global = 0x03
 
 abbrev pub export_bytes : Export → List ℕ
-export_bytes e = text_encoding e.name ++ (0x00 ∷ unsigned_leb128 e.index)
+export_bytes e = text_encoding e.name ++ (space_byte e.space ∷ unsigned_leb128 e.index)
 
--- the exports of functions, of which the first has this index
-abbrev pub exports_from : ℕ → List Function → List Export
-exports_from n [] = []
-exports_from n (f ∷ fs) = map (export n) f.exports ++ exports_from (suc n) fs
+-- 6.6.1: the index that the next item of an index space has, after these fields
+abbrev pub next_index : IndexSpace → List Field → ℕ
+next_index s fs = length (names_in s (bindings_of fs))
+
+-- the exports of a field after others
+abbrev pub field_exports : List Field → Field → List Export
+field_exports before (Func f) = map (export space.Func (next_index space.Func before)) f.exports
+field_exports before (Table l ns t) = map (export space.Table (next_index space.Table before)) ns
+field_exports before (Memory l ns t) = map (export space.Mem (next_index space.Mem before)) ns
+field_exports before (Global l ns t is) = map (export space.Global (next_index space.Global before)) ns
+field_exports before (field.Export n s i) = export s i n ∷ []
+field_exports before (Start i) = []
+
+abbrev pub exports_after : List Field → List Field → List Export
+exports_after before [] = []
+exports_after before (f ∷ fs) = field_exports before f ++ exports_after (before ++ f ∷ []) fs
+
+unfoldable pub exports_of : List Field → List Export
+exports_of fs = exports_after [] fs
 
 -- 5.5.13: how many local variables of a type follow one another
 pub record Run : Type 0 where
@@ -110,15 +182,15 @@ runs_of (b ∷ bs) = before_run b (runs_of bs)
 abbrev pub run_bytes : Run → List ℕ
 run_bytes r = unsigned_leb128 r.count ++ r.byte ∷ []
 
--- 5.5.13: the local variables in runs; 5.4.9: the instructions, and 0x0B
+-- 5.5.13: the local variables in runs, and the instructions
 unfoldable pub code : Function → List ℕ
-code f = list_encoding run_bytes (runs_of (map variable_byte f.locals)) ++ (flat_map instruction_bytes f.body ++ 0x0B ∷ [])
+code f = list_encoding run_bytes (runs_of (map variable_byte f.locals)) ++ expression_bytes f.body
 
 -- an entry of the code section: after its size
 abbrev pub code_bytes : Function → List ℕ
 code_bytes f = text_encoding (code f)
 
--- 5.5.2: a section: its number, its size and its content
+-- 5.5.2: a section: its number, its size and its content, which are written as a vector of bytes is
 abbrev pub section : ℕ → List ℕ → List ℕ
 section number content = number ∷ text_encoding content
 
@@ -131,18 +203,58 @@ list_section number bytes (i ∷ is) = section number (list_encoding bytes (i �
 abbrev pub header : List ℕ
 header = 0x00 ∷ 0x61 ∷ 0x73 ∷ 0x6D ∷ 0x01 ∷ 0x00 ∷ 0x00 ∷ 0x00 ∷ []
 
-abbrev pub type_section : List Function → List ℕ
-type_section fs = list_section 1 (λ bytes. bytes) (types_of fs)
+-- the items of fields
 
-abbrev pub function_section : List Function → List ℕ
-function_section fs = list_section 3 (function_bytes (types_of fs)) fs
+abbrev pub function_of : Field → List Function
+function_of (Func f) = f ∷ []
+function_of f = []
 
-abbrev pub export_section : List Function → List ℕ
-export_section fs = list_section 7 export_bytes (exports_from 0 fs)
+abbrev pub functions_of : List Field → List Function
+functions_of fs = flat_map function_of fs
 
-abbrev pub code_section : List Function → List ℕ
-code_section fs = list_section 10 code_bytes fs
+abbrev pub table_of : Field → List TableType
+table_of (Table l ns t) = t ∷ []
+table_of f = []
 
--- 5.5.16: a module of these functions
-unfoldable pub module_bytes : List Function → List ℕ
-module_bytes fs = (((header ++ type_section fs) ++ function_section fs) ++ export_section fs) ++ code_section fs
+abbrev pub memory_of : Field → List Limits
+memory_of (Memory l ns t) = t ∷ []
+memory_of f = []
+
+abbrev pub global_of : Field → List (GlobalType × List Instruction)
+global_of (Global l ns t is) = (t, is) ∷ []
+global_of f = []
+
+-- the sections
+
+abbrev pub type_section : List Field → List ℕ
+type_section fs = list_section 1 type_bytes (types_of (functions_of fs))
+
+abbrev pub function_section : List Field → List ℕ
+function_section fs = list_section 3 (function_bytes (types_of (functions_of fs))) (functions_of fs)
+
+abbrev pub table_section : List Field → List ℕ
+table_section fs = list_section 4 table_bytes (flat_map table_of fs)
+
+abbrev pub memory_section : List Field → List ℕ
+memory_section fs = list_section 5 limits_bytes (flat_map memory_of fs)
+
+abbrev pub global_section : List Field → List ℕ
+global_section fs = list_section 6 global_bytes (flat_map global_of fs)
+
+abbrev pub export_section : List Field → List ℕ
+export_section fs = list_section 7 export_bytes (exports_of fs)
+
+-- 5.5.11: the index of the start function, where there is one
+abbrev pub start_by : List ℕ → List ℕ
+start_by [] = []
+start_by (i ∷ is) = section 8 (unsigned_leb128 i)
+
+abbrev pub start_section : List Field → List ℕ
+start_section fs = start_by (starts_of fs)
+
+abbrev pub code_section : List Field → List ℕ
+code_section fs = list_section 10 code_bytes (functions_of fs)
+
+-- 5.5.16: a module of these fields
+unfoldable pub module_bytes : List Field → List ℕ
+module_bytes fs = (((((((header ++ type_section fs) ++ function_section fs) ++ table_section fs) ++ memory_section fs) ++ global_section fs) ++ export_section fs) ++ start_section fs) ++ code_section fs

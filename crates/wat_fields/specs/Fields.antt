@@ -1,14 +1,23 @@
--- WebAssembly 2.0 specification, 6.6 (text format, modules): 6.6.3 type uses, 6.6.5 functions, 6.6.13 modules; 6.4 (types). Modules that hold nothing but
--- functions, over the tokens that count. A rule takes tokens from a place on, and leaves the rest. Left out of the standard: all other fields, type uses
--- by `(type ..)`, inline imports, value types but four, a module without its parentheses; and what Table and Grammar of `wat_instructions` leave out:
--- types of blocks that bring parameters or more than one result, br_table, call_indirect, select with types, floating-point constants, references,
--- tables, bulk memory, saturating conversions, vectors.
-use Rattle.std.specs.Prelude.{◌≡◌, ℕ, Bool, true, false, List, [], ◌∷◌, ◌++◌, map, codes, Some, None, if◌then◌else◌}
+-- WebAssembly 2.0 specification, 6.6 (text format, modules): 6.6.1 indices, 6.6.3 type uses, 6.6.5 functions, 6.6.6 tables, 6.6.7 memories, 6.6.8 globals,
+-- 6.6.9 exports, 6.6.10 start function, 6.6.13 modules; 6.4 (types). Over the tokens that count. A rule takes tokens from a place on, and leaves the rest. Left
+-- out of the standard: the fields `type`, `import`, `elem` and `data`, type uses by `(type ..)`, inline imports, elements and data, value types but four, a module
+-- without its parentheses; and what Table and Grammar of `wat_instructions` leave out: types of blocks that bring parameters or more than one result,
+-- br_table, call_indirect, select with types, floating-point constants, references, tables, bulk memory, saturating conversions, vectors.
+use Rattle.std.specs.Prelude.{◌≡◌, ◌&&◌, ◌^◌, ◌≤◌, ℕ, Bool, true, false, List, [], ◌∷◌, ◌++◌, length, map, codes, bytes_eq, nat_lt, Option, Some, None, if◌then◌else◌}
+use Rattle.std.specs.List.{flat_map}
 use Rattle.std.specs.Str.{is_utf8}
 use Rattle.wat_instructions.specs.declared.pieces.Instruction.{Instruction}
+use Rattle.wat_instructions.specs.declared.pieces.Sign.TheVariants.{Absent}
 use Rattle.wat_instructions.specs.declared.pieces.ValueType.{ValueType}
-use Rattle.wat_instructions.specs.Grammar.{Body, Env, is_name, label_of, value_type}
-use Rattle.wat_instructions.specs.Terminals.{Terminal, Open, Close, Word, Id, Text, Label}
+use Rattle.wat_instructions.specs.Grammar.{Body, Context, is_name, label_of, position, value_type}
+use Rattle.wat_instructions.specs.Terminals.{Terminal, Open, Close, Word, Id, Integer, Text, Label}
+use Rattle.wat_fields.specs.declared.fields.GlobalType.{GlobalType}
+use Rattle.wat_fields.specs.declared.fields.IndexSpace.{IndexSpace}
+use Rattle.wat_fields.specs.declared.fields.IndexSpace.TheVariants as space
+use Rattle.wat_fields.specs.declared.fields.Limits.{Limits}
+use Rattle.wat_fields.specs.declared.fields.ReferenceType.{ReferenceType}
+use Rattle.wat_fields.specs.declared.fields.ReferenceType.TheVariants as reference
+use Rattle.wat_fields.specs.declared.fields.TableType.{TableType}
 
 -- a parameter, a result (which has no name) or a local variable
 pub record Variable : Type 0 where
@@ -36,8 +45,82 @@ pub record Function : Type 0 where
   pub locals : List Variable
   pub body : List Instruction
 
-abbrev pub function_name : Function → Label
-function_name f = f.name
+-- A field, as 6.6.5 to 6.6.10 have them. Functions, tables, memories and globals have a name and the names under which they are exported; an export is
+-- of the item of an index; a start function is said by its index.
+pub data Field : Type 0 where
+  Func : Function → Field
+  Table : Label → List (List ℕ) → TableType → Field
+  Memory : Label → List (List ℕ) → Limits → Field
+  Global : Label → List (List ℕ) → GlobalType → List Instruction → Field
+  Export : List ℕ → IndexSpace → ℕ → Field
+  Start : ℕ → Field
+
+-- an item of an index space, by its name or by none
+pub record Binding : Type 0 where
+  pub space : IndexSpace
+  pub name : Label
+
+abbrev pub binding : IndexSpace → Label → Binding
+binding s l = record { space = s; name = l }
+
+-- the item that a field defines
+abbrev pub binding_of : Field → List Binding
+binding_of (Func f) = binding space.Func f.name ∷ []
+binding_of (Table l ns t) = binding space.Table l ∷ []
+binding_of (Memory l ns t) = binding space.Mem l ∷ []
+binding_of (Global l ns t is) = binding space.Global l ∷ []
+binding_of (Export n s i) = []
+binding_of (Start i) = []
+
+abbrev pub bindings_of : List Field → List Binding
+bindings_of fs = flat_map binding_of fs
+
+abbrev pub is_space : IndexSpace → IndexSpace → Bool
+is_space space.Func space.Func = true
+is_space space.Table space.Table = true
+is_space space.Mem space.Mem = true
+is_space space.Global space.Global = true
+is_space s t = false
+
+-- the names of an index space, in the order of their indices
+abbrev pub names_in : IndexSpace → List Binding → List Label
+names_in s [] = []
+names_in s (h ∷ hs) = if is_space s h.space then h.name ∷ names_in s hs else names_in s hs
+
+-- 6.1.3: the context of these items
+abbrev pub context_of : List Binding → Context
+context_of hs = record {
+  locals = [];
+  funcs = names_in space.Func hs;
+  tables = names_in space.Table hs;
+  memories = names_in space.Mem hs;
+  globals = names_in space.Global hs;
+}
+
+-- and of its index spaces
+abbrev pub names_of : Context → IndexSpace → List Label
+names_of context space.Func = context.funcs
+names_of context space.Table = context.tables
+names_of context space.Mem = context.memories
+names_of context space.Global = context.globals
+
+-- 6.1.3, 6.6.5: the parameters come before the local variables
+abbrev pub with_locals : Context → List Variable → Context
+with_locals context variables = record {
+  locals = map name_of variables;
+  funcs = context.funcs;
+  tables = context.tables;
+  memories = context.memories;
+  globals = context.globals;
+}
+
+-- the indices of start functions
+abbrev pub start_of : Field → List ℕ
+start_of (Start i) = i ∷ []
+start_of f = []
+
+abbrev pub starts_of : List Field → List ℕ
+starts_of fs = flat_map start_of fs
 
 -- any number of items, one after another: what they bring together
 pub data Many {V : Type 0} (One : List Terminal → List V → List Terminal → Type 0) : List Terminal → List V → List Terminal → Type 0 where
@@ -45,17 +128,45 @@ pub data Many {V : Type 0} (One : List Terminal → List V → List Terminal →
   by_more : {ts us r : List Terminal} {vs ws : List V} → One ts vs us → Many One us ws r → Many One ts (vs ++ ws) r
 
 -- 6.4.4: valtype
-pub data Value : List Terminal → List ValueType → List Terminal → Type 0 where
-  by_word : {ts : List Terminal} {w : List ℕ} {t : ValueType} → value_type w ≡ Some t → Value (Word w ∷ ts) (t ∷ []) ts
+pub data ValueTypeIs : List Terminal → List ValueType → List Terminal → Type 0 where
+  by_word : {ts : List Terminal} {w : List ℕ} {t : ValueType} → value_type w ≡ Some t → ValueTypeIs (Word w ∷ ts) (t ∷ []) ts
 
 -- 6.4.5, 6.6.5: `(` word valtype* `)`, where word is `param`, `result` or `local`; and, of parameters and local variables, `(` word id valtype `)`
 pub data Group (word : List ℕ) (may_have_name : Bool) : List Terminal → List Variable → List Terminal → Type 0 where
   by_named : {ts : List Terminal} {v x w : List ℕ} {t : ValueType} → may_have_name ≡ true → v ≡ word → value_type w ≡ Some t → Group word may_have_name (Open ∷ Word v ∷ Id x ∷ Word w ∷ Close ∷ ts) (variable (Some x) t ∷ []) ts
-  by_listed : {ts us : List Terminal} {v : List ℕ} {types : List ValueType} → v ≡ word → Many Value ts types (Close ∷ us) → Group word may_have_name (Open ∷ Word v ∷ ts) (map unnamed types) us
+  by_listed : {ts us : List Terminal} {v : List ℕ} {types : List ValueType} → v ≡ word → Many ValueTypeIs ts types (Close ∷ us) → Group word may_have_name (Open ∷ Word v ∷ ts) (map unnamed types) us
 
--- 6.6.5 abbreviations, 6.3.4 names: `(` export name `)` is an export of the function; a name is UTF-8
-pub data Export : List Terminal → List (List ℕ) → List Terminal → Type 0 where
-  by_export : {ts : List Terminal} {v n : List ℕ} → v ≡ codes "export" → is_utf8 n ≡ true → Export (Open ∷ Word v ∷ Text n ∷ Close ∷ ts) (n ∷ []) ts
+-- 6.6.5 to 6.6.8 abbreviations, 6.3.4 names: `(` export name `)` in a field is an export of its item; a name is UTF-8
+pub data InlineExport : List Terminal → List (List ℕ) → List Terminal → Type 0 where
+  by_inline_export : {ts : List Terminal} {v n : List ℕ} → v ≡ codes "export" → is_utf8 n ≡ true → InlineExport (Open ∷ Word v ∷ Text n ∷ Close ∷ ts) (n ∷ []) ts
+
+-- 6.4.3: reftype
+abbrev pub reference_type : List ℕ → Option ReferenceType
+reference_type w = if bytes_eq w (codes "funcref") then Some reference.Func else if bytes_eq w (codes "externref") then Some reference.Extern else None
+
+-- 6.3.1: u32
+abbrev pub is_u32 : ℕ → Bool
+is_u32 n = nat_lt n (2 ^ 32)
+
+-- 6.6.1: an index in an index space of these names = u32; or an identifier, the first of this name
+pub data IndexIs (names : List Label) : List Terminal → ℕ → List Terminal → Type 0 where
+  by_number : {ts : List Terminal} {n : ℕ} → is_u32 n ≡ true → IndexIs names (Integer Absent n ∷ ts) n ts
+  by_identifier : {ts : List Terminal} {x : List ℕ} {n : ℕ} → position 0 x names ≡ Some n → IndexIs names (Id x ∷ ts) n ts
+
+-- 6.4.6: limits = u32, the minimum; or u32 u32, the minimum and the maximum
+pub data LimitsAre : List Terminal → Limits → List Terminal → Type 0 where
+  by_min : {ts : List Terminal} {n : ℕ} → is_u32 n ≡ true → LimitsAre (Integer Absent n ∷ ts) (record { min = n; max = None }) ts
+  by_min_max : {ts : List Terminal} {n m : ℕ} → is_u32 n ≡ true → is_u32 m ≡ true → LimitsAre (Integer Absent n ∷ Integer Absent m ∷ ts) (record { min = n; max = Some m }) ts
+
+-- 6.4.9: globaltype = valtype; or `(` mut valtype `)`
+pub data GlobalTypeIs : List Terminal → GlobalType → List Terminal → Type 0 where
+  by_constant : {ts : List Terminal} {w : List ℕ} {t : ValueType} → value_type w ≡ Some t → GlobalTypeIs (Word w ∷ ts) (record { is_mutable = false; value = t }) ts
+  by_mutable : {ts : List Terminal} {v w : List ℕ} {t : ValueType} → v ≡ codes "mut" → value_type w ≡ Some t → GlobalTypeIs (Open ∷ Word v ∷ Word w ∷ Close ∷ ts) (record { is_mutable = true; value = t }) ts
+
+-- 6.6.9: the index space that a word of an export names; the word of a field is the same
+abbrev pub space_of : List ℕ → Option IndexSpace
+space_of w =
+    if bytes_eq w (codes "func") then Some space.Func else if bytes_eq w (codes "table") then Some space.Table else if bytes_eq w (codes "memory") then Some space.Mem else if bytes_eq w (codes "global") then Some space.Global else None
 
 -- 6.1.3, 6.6.5, 6.6.13: no two of these have the same identifier
 abbrev pub has_name : List ℕ → List Label → Bool
@@ -67,18 +178,35 @@ are_distinct [] = true
 are_distinct (None ∷ ls) = are_distinct ls
 are_distinct (Some x ∷ ls) = if has_name x ls then false else are_distinct ls
 
--- 6.1.3, 6.6.5: the parameters come before the local variables
-abbrev pub context : List Label → List Variable → Env
-context functions variables = record { locals = map name_of variables; funcs = functions; globals = [] }
+-- 6.6.13: in each index space
+abbrev pub all_distinct : Context → Bool
+all_distinct context = are_distinct context.funcs && are_distinct context.tables && are_distinct context.memories && are_distinct context.globals
 
--- 6.6.5: func = `(` func id? export* param* result* local* instr* `)`, where functions have these names
-pub data Field (functions : List Label) : List Terminal → List Function → List Terminal → Type 0 where
-  by_function : {w : List ℕ} {ts hs bs cs ds r : List Terminal} {names : List (List ℕ)} {params results locals : List Variable} {is : List Instruction}
-      → w ≡ codes "func" → Many Export (label_of ts).1 names hs → Many (Group (codes "param") true) hs params bs → Many (Group (codes "result") false) bs results cs → Many (Group (codes "local") true) cs locals ds
-      → are_distinct (map name_of (params ++ locals)) ≡ true → Body (context functions (params ++ locals)) ds is r
-      → Field functions (Open ∷ Word w ∷ ts) (record { name = (label_of ts).0; exports = names; params = params; results = results; locals = locals; body = is } ∷ []) r
+-- a field in a context; `(` comes first
+pub data FieldIs (context : Context) : List Terminal → List Field → List Terminal → Type 0 where
+  -- 6.6.5: func = `(` func id? export* param* result* local* instr* `)`
+  by_func : {w : List ℕ} {ts hs bs cs ds r : List Terminal} {names : List (List ℕ)} {params results locals : List Variable} {is : List Instruction}
+      → w ≡ codes "func" → Many InlineExport (label_of ts).1 names hs → Many (Group (codes "param") true) hs params bs → Many (Group (codes "result") false) bs results cs → Many (Group (codes "local") true) cs locals ds
+      → are_distinct (map name_of (params ++ locals)) ≡ true → Body (with_locals context (params ++ locals)) ds is r
+      → FieldIs context (Open ∷ Word w ∷ ts) (Func (record { name = (label_of ts).0; exports = names; params = params; results = results; locals = locals; body = is }) ∷ []) r
+  -- 6.6.6, 6.4.8: table = `(` table id? export* limits reftype `)`
+  by_table : {w v : List ℕ} {ts hs r : List Terminal} {names : List (List ℕ)} {limits : Limits} {t : ReferenceType}
+      → w ≡ codes "table" → Many InlineExport (label_of ts).1 names hs → LimitsAre hs limits (Word v ∷ Close ∷ r) → reference_type v ≡ Some t
+      → FieldIs context (Open ∷ Word w ∷ ts) (Table (label_of ts).0 names (record { limits = limits; element = t }) ∷ []) r
+  -- 6.6.7, 6.4.7: mem = `(` memory id? export* limits `)`
+  by_memory : {w : List ℕ} {ts hs r : List Terminal} {names : List (List ℕ)} {limits : Limits}
+      → w ≡ codes "memory" → Many InlineExport (label_of ts).1 names hs → LimitsAre hs limits (Close ∷ r) → FieldIs context (Open ∷ Word w ∷ ts) (Memory (label_of ts).0 names limits ∷ []) r
+  -- 6.6.8: global = `(` global id? export* globaltype instr* `)`
+  by_global : {w : List ℕ} {ts hs bs r : List Terminal} {names : List (List ℕ)} {t : GlobalType} {is : List Instruction}
+      → w ≡ codes "global" → Many InlineExport (label_of ts).1 names hs → GlobalTypeIs hs t bs → Body context bs is r → FieldIs context (Open ∷ Word w ∷ ts) (Global (label_of ts).0 names t is ∷ []) r
+  -- 6.6.9: export = `(` export name `(` func index `)` `)`, and so of a table, a memory or a global
+  by_export : {w n v : List ℕ} {ts r : List Terminal} {s : IndexSpace} {i : ℕ}
+      → w ≡ codes "export" → is_utf8 n ≡ true → space_of v ≡ Some s → IndexIs (names_of context s) ts i (Close ∷ Close ∷ r) → FieldIs context (Open ∷ Word w ∷ Text n ∷ Open ∷ Word v ∷ ts) (Export n s i ∷ []) r
+  -- 6.6.10: start = `(` start index `)`
+  by_start : {w : List ℕ} {ts r : List Terminal} {i : ℕ} → w ≡ codes "start" → IndexIs context.funcs ts i (Close ∷ r) → FieldIs context (Open ∷ Word w ∷ ts) (Start i ∷ []) r
 
--- 6.6.13: module = `(` module id? field* `)`, and nothing after it. The context is the one that the fields themselves bring.
-pub data Module : List Terminal → List Function → Type 0 where
-  by_module : {w : List ℕ} {ts : List Terminal} {fs : List Function}
-      → w ≡ codes "module" → Many (Field (map function_name fs)) (label_of ts).1 fs (Close ∷ []) → are_distinct (map function_name fs) ≡ true → Module (Open ∷ Word w ∷ ts) fs
+-- 6.6.13: module = `(` module id? field* `)`, and nothing after it. The context is the one that the fields themselves bring; there is one start function
+-- at most.
+pub data Module : List Terminal → List Field → Type 0 where
+  by_module : {w : List ℕ} {ts : List Terminal} {fs : List Field}
+      → w ≡ codes "module" → Many (FieldIs (context_of (bindings_of fs))) (label_of ts).1 fs (Close ∷ []) → all_distinct (context_of (bindings_of fs)) ≡ true → length (starts_of fs) ≤ 1 → Module (Open ∷ Word w ∷ ts) fs

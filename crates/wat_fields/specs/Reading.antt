@@ -1,13 +1,18 @@
 -- What the code reads, token by token. Nobody has to believe it: Law.antt says that it is the grammar.
-use Rattle.std.specs.Prelude.{ℕ, zero, suc, Bool, true, false, List, [], ◌∷◌, ◌++◌, length, map, codes, bytes_eq, Option, Some, None, Result, Ok, Err, if◌then◌else◌}
+use Rattle.std.specs.Prelude.{ℕ, zero, suc, Bool, true, false, List, [], ◌∷◌, ◌++◌, length, map, codes, bytes_eq, nat_lt, Option, Some, None, Result, Ok, Err, if◌then◌else◌}
 use Rattle.std.specs.Str.{is_utf8}
 use Rattle.wat_instructions.specs.declared.pieces.Instruction.{Instruction}
-use Rattle.wat_instructions.specs.declared.pieces.FaultKind.TheVariants.{Unexpected, UnknownWord, Duplicate, NotUtf8}
+use Rattle.wat_instructions.specs.declared.pieces.FaultKind.TheVariants.{Unexpected, UnknownWord, Duplicate, NotUtf8, SecondStart}
 use Rattle.wat_instructions.specs.declared.pieces.ValueType.{ValueType}
-use Rattle.wat_instructions.specs.Grammar.{Fault, label_of, value_type}
+use Rattle.wat_instructions.specs.Grammar.{Context, Fault, index, label_of, small, value_type}
 use Rattle.wat_instructions.specs.Machine.{body}
-use Rattle.wat_instructions.specs.Terminals.{Terminal, Open, Close, Word, Id, Text, Label}
-use Rattle.wat_fields.specs.Fields.{Function, Variable, variable, unnamed, name_of, context, are_distinct}
+use Rattle.wat_instructions.specs.Terminals.{Terminal, Open, Close, Word, Id, Integer, Text, Label}
+use Rattle.wat_fields.specs.declared.fields.GlobalType.{GlobalType}
+use Rattle.wat_fields.specs.declared.fields.IndexSpace.{IndexSpace}
+use Rattle.wat_fields.specs.declared.fields.IndexSpace.TheVariants as space
+use Rattle.wat_fields.specs.declared.fields.Limits.{Limits}
+use Rattle.wat_fields.specs.declared.fields.ReferenceType.{ReferenceType}
+use Rattle.wat_fields.specs.Fields.{Field, Func, Table, Memory, Global, Export, Start, Function, Binding, Variable, binding, variable, unnamed, name_of, names_of, context_of, with_locals, are_distinct, all_distinct, reference_type, space_of, starts_of}
 
 -- a value and the tokens after it, or the fault
 abbrev pub Read : Type 0 → Type 0
@@ -120,35 +125,136 @@ abbrev pub function : Label → Header → List Instruction → Function
 function l h is = record { name = l; exports = h.exports; params = h.params; results = h.results; locals = h.locals; body = is }
 
 -- the instructions after a header
-unfoldable pub instructions : List Label → Header → List Terminal → Read (List Instruction)
-instructions functions h ts = if are_distinct (map name_of (h.params ++ h.locals)) then body (context functions (h.params ++ h.locals)) ts else Err (Duplicate, ts)
+unfoldable pub instructions : Context → Header → List Terminal → Read (List Instruction)
+instructions context h ts = if are_distinct (map name_of (h.params ++ h.locals)) then body (with_locals context (h.params ++ h.locals)) ts else Err (Duplicate, ts)
 
-abbrev pub after_header : List Label → Label → Header → List Terminal → Read (List Function)
-after_header functions l h ts = and_then (instructions functions h ts) (λ is us. Ok (function l h is ∷ [], us))
+abbrev pub after_header : Context → Label → Header → List Terminal → Read (List Field)
+after_header context l h ts = and_then (instructions context h ts) (λ is us. Ok (Func (function l h is) ∷ [], us))
 
-abbrev pub after_label : List Label → Label × List Terminal → Read (List Function)
-after_label functions p = and_then (header p.1) (λ h us. after_header functions p.0 h us)
+abbrev pub func_at : Context → Label × List Terminal → Read (List Field)
+func_at context p = and_then (header p.1) (λ h us. after_header context p.0 h us)
+
+abbrev pub limits : ℕ → Option ℕ → Limits
+limits n m = record { min = n; max = m }
+
+-- the maximum, where there is one
+abbrev pub max_at : ℕ → List Terminal → Read Limits
+max_at n (Integer s m ∷ ts) = and_then (small s m (Integer s m ∷ ts) ts) (λ m us. Ok (limits n (Some m), us))
+max_at n ts = Ok (limits n None, ts)
+
+unfoldable pub limits_at : List Terminal → Read Limits
+limits_at (Integer s n ∷ ts) = and_then (small s n (Integer s n ∷ ts) ts) (λ n us. max_at n us)
+limits_at ts = Err (Unexpected, ts)
+
+abbrev pub reference_by : Option ReferenceType → List Terminal → List Terminal → Read ReferenceType
+reference_by None all ts = Err (UnknownWord, all)
+reference_by (Some t) all ts = closing t (closed ts)
+
+-- a reference type and `)`
+unfoldable pub reference_at : List Terminal → Read ReferenceType
+reference_at (Word w ∷ ts) = reference_by (reference_type w) (Word w ∷ ts) ts
+reference_at ts = Err (Unexpected, ts)
+
+abbrev pub table : Label → List (List ℕ) → Limits → ReferenceType → Field
+table l ns limits t = Table l ns (record { limits = limits; element = t })
+
+abbrev pub table_at : Label × List Terminal → Read (List Field)
+table_at p = and_then (all export_item p.1) (λ ns us. and_then (limits_at us) (λ limits vs. and_then (reference_at vs) (λ t xs. Ok (table p.0 ns limits t ∷ [], xs))))
+
+abbrev pub memory_at : Label × List Terminal → Read (List Field)
+memory_at p = and_then (all export_item p.1) (λ ns us. and_then (limits_at us) (λ limits vs. closing (Memory p.0 ns limits ∷ []) (closed vs)))
+
+abbrev pub global_type : Bool → ValueType → GlobalType
+global_type b t = record { is_mutable = b; value = t }
+
+abbrev pub constant_by : Option ValueType → List Terminal → List Terminal → Read GlobalType
+constant_by None all ts = Err (UnknownWord, all)
+constant_by (Some t) all ts = Ok (global_type false t, ts)
+
+abbrev pub mutable_by : Option ValueType → List Terminal → List Terminal → Read GlobalType
+mutable_by None all ts = Err (UnknownWord, all)
+mutable_by (Some t) all ts = closing (global_type true t) (closed ts)
+
+-- a value type and `)`, after `(mut`
+abbrev pub mutable_type : List Terminal → Read GlobalType
+mutable_type (Word w ∷ ts) = mutable_by (value_type w) (Word w ∷ ts) ts
+mutable_type ts = Err (Unexpected, ts)
+
+-- after `(`
+abbrev pub mutable_at : List Terminal → Read GlobalType
+mutable_at (Word v ∷ ts) = if bytes_eq v (codes "mut") then mutable_type ts else Err (UnknownWord, Word v ∷ ts)
+mutable_at ts = Err (Unexpected, ts)
+
+unfoldable pub global_type_at : List Terminal → Read GlobalType
+global_type_at (Word w ∷ ts) = constant_by (value_type w) (Word w ∷ ts) ts
+global_type_at (Open ∷ ts) = mutable_at ts
+global_type_at ts = Err (Unexpected, ts)
+
+abbrev pub global_at : Context → Label × List Terminal → Read (List Field)
+global_at context p = and_then (all export_item p.1) (λ ns us. and_then (global_type_at us) (λ t vs. and_then (body context vs) (λ is xs. Ok (Global p.0 ns t is ∷ [], xs))))
+
+-- `)` and `)`
+abbrev pub twice_closed : List Terminal → Result (List Terminal) Fault
+twice_closed (Close ∷ ts) = closed ts
+twice_closed ts = Err (Unexpected, ts)
+
+abbrev pub external_by : Context → List ℕ → Option IndexSpace → List Terminal → List Terminal → Read (List Field)
+external_by context n None all ts = Err (UnknownWord, all)
+external_by context n (Some s) all ts = and_then (index (names_of context s) ts) (λ i us. closing (Export n s i ∷ []) (twice_closed us))
+
+-- what is exported, after `(`
+abbrev pub external_word : Context → List ℕ → List Terminal → Read (List Field)
+external_word context n (Word v ∷ ts) = external_by context n (space_of v) (Word v ∷ ts) ts
+external_word context n ts = Err (Unexpected, ts)
+
+-- what is exported under a name
+unfoldable pub external_at : Context → List ℕ → List Terminal → Read (List Field)
+external_at context n (Open ∷ ts) = external_word context n ts
+external_at context n ts = Err (Unexpected, ts)
+
+abbrev pub export_at : Context → List Terminal → Read (List Field)
+export_at context ts = and_then (utf8_text ts) (λ n us. external_at context n us)
+
+abbrev pub start_at : Context → List Terminal → Read (List Field)
+start_at context ts = and_then (index context.funcs ts) (λ i us. closing (Start i ∷ []) (closed us))
+
+-- an export or a start function, after its word, with which all these tokens begin
+abbrev pub other_at : Context → List ℕ → List Terminal → List Terminal → Read (List Field)
+other_at context w all ts = if bytes_eq w (codes "export") then export_at context ts else if bytes_eq w (codes "start") then start_at context ts else Err (UnknownWord, all)
+
+-- a field after its word, with which all these tokens begin
+abbrev pub field_by : Context → Option IndexSpace → List ℕ → List Terminal → List Terminal → Read (List Field)
+field_by context (Some space.Func) w all ts = func_at context (label_of ts)
+field_by context (Some space.Table) w all ts = table_at (label_of ts)
+field_by context (Some space.Mem) w all ts = memory_at (label_of ts)
+field_by context (Some space.Global) w all ts = global_at context (label_of ts)
+field_by context None w all ts = other_at context w all ts
 
 -- a field after its `(`
-abbrev pub field : List Label → List Terminal → Read (List Function)
-field functions (Word w ∷ ts) = if bytes_eq w (codes "func") then after_label functions (label_of ts) else Err (UnknownWord, Word w ∷ ts)
-field functions ts = Err (Unexpected, ts)
+abbrev pub field : Context → List Terminal → Read (List Field)
+field context (Word w ∷ ts) = field_by context (space_of w) w (Word w ∷ ts) ts
+field context ts = Err (Unexpected, ts)
 
-unfoldable pub field_item : List Label → List Terminal → Item Function
-field_item functions (Open ∷ ts) = Some (field functions ts)
-field_item functions ts = None
+unfoldable pub field_item : Context → List Terminal → Item Field
+field_item context (Open ∷ ts) = Some (field context ts)
+field_item context ts = None
 
 -- where in the fields a token is: before `(`, after it, after its word, and in a field, in so many groups more
 pub data Depth : Type 0 where
   Before : Depth
   Opened : Depth
-  Headed : Depth
+  Headed : Option IndexSpace → Depth
   Inside : ℕ → Depth
 
 -- the name that a field has which begins so after its word
 abbrev pub head_name : Terminal → Label
 head_name (Id x) = Some x
 head_name t = None
+
+-- the item that it defines
+abbrev pub binding_by : Option IndexSpace → Label → List Binding
+binding_by None l = []
+binding_by (Some s) l = binding s l ∷ []
 
 -- after a first token after its word
 abbrev pub head_depth : Terminal → Depth
@@ -161,37 +267,42 @@ abbrev pub after_close : ℕ → Depth
 after_close zero = Before
 after_close (suc d) = Inside d
 
--- the names of functions after others, by the parentheses alone
-unfoldable pub names : Depth → List Label → List Terminal → List Label
-names d ls [] = ls
-names Before ls (Open ∷ ts) = names Opened ls ts
-names Before ls (t ∷ ts) = ls
-names Opened ls (Word w ∷ ts) = names Headed ls ts
-names Opened ls (t ∷ ts) = ls
-names Headed ls (t ∷ ts) = names (head_depth t) (ls ++ head_name t ∷ []) ts
-names (Inside d) ls (Open ∷ ts) = names (Inside (suc d)) ls ts
-names (Inside d) ls (Close ∷ ts) = names (after_close d) ls ts
-names (Inside d) ls (t ∷ ts) = names (Inside d) ls ts
+-- the items after others, by the parentheses alone
+unfoldable pub bindings : Depth → List Binding → List Terminal → List Binding
+bindings d hs [] = hs
+bindings Before hs (Open ∷ ts) = bindings Opened hs ts
+bindings Before hs (t ∷ ts) = hs
+bindings Opened hs (Word w ∷ ts) = bindings (Headed (space_of w)) hs ts
+bindings Opened hs (t ∷ ts) = hs
+bindings (Headed s) hs (t ∷ ts) = bindings (head_depth t) (hs ++ binding_by s (head_name t)) ts
+bindings (Inside d) hs (Open ∷ ts) = bindings (Inside (suc d)) hs ts
+bindings (Inside d) hs (Close ∷ ts) = bindings (after_close d) hs ts
+bindings (Inside d) hs (t ∷ ts) = bindings (Inside d) hs ts
 
 -- `)`, and the end
-abbrev pub ended : Read (List Function) → Result (List Function) Fault
+abbrev pub ended : Read (List Field) → Result (List Field) Fault
 ended (Ok (fs, Close ∷ [])) = Ok fs
 ended (Ok (fs, Close ∷ t ∷ ts)) = Err (Unexpected, t ∷ ts)
 ended (Ok (fs, ts)) = Err (Unexpected, ts)
 ended (Err f) = Err f
 
--- the fields of a module, where functions have these names
-abbrev pub fields_of : List Label → List Terminal → Result (List Function) Fault
-fields_of functions ts = if are_distinct functions then ended (all (field_item functions) ts) else Err (Duplicate, ts)
+-- one start function at most; the fields begin there
+abbrev pub started : List Terminal → Result (List Field) Fault → Result (List Field) Fault
+started ts (Ok fs) = if nat_lt (length (starts_of fs)) 2 then Ok fs else Err (SecondStart, ts)
+started ts (Err f) = Err f
 
-abbrev pub fields_at : List Terminal → Result (List Function) Fault
-fields_at ts = fields_of (names Before [] ts) ts
+-- the fields of a module, in a context
+abbrev pub fields_of : Context → List Terminal → Result (List Field) Fault
+fields_of context ts = if all_distinct context then started ts (ended (all (field_item context) ts)) else Err (Duplicate, ts)
+
+abbrev pub fields_at : List Terminal → Result (List Field) Fault
+fields_at ts = fields_of (context_of (bindings Before [] ts)) ts
 
 -- a module after its `(`
-abbrev pub module_word : List Terminal → Result (List Function) Fault
+abbrev pub module_word : List Terminal → Result (List Field) Fault
 module_word (Word w ∷ ts) = if bytes_eq w (codes "module") then fields_at (label_of ts).1 else Err (UnknownWord, Word w ∷ ts)
 module_word ts = Err (Unexpected, ts)
 
-unfoldable pub whole : List Terminal → Result (List Function) Fault
+unfoldable pub whole : List Terminal → Result (List Field) Fault
 whole (Open ∷ ts) = module_word ts
 whole ts = Err (Unexpected, ts)

@@ -1,20 +1,29 @@
 -- What the code's variables and functions are in the definitions.
 use denote.Ref.{Bor}
-use Rattle.std.specs.Prelude.{suc, ◌∷◌, ◌≡◌, ◌≤◌, ◌==◌, ◌++◌, ℕ, List, [], map, Some, None, Ok, Err, Vec, if◌then◌else◌}
+use Rattle.std.specs.Prelude.{suc, ◌∷◌, ◌≡◌, ◌<◌, ◌≤◌, ◌==◌, ◌++◌, ℕ, List, [], map, Some, None, Ok, Err, Vec, if◌then◌else◌}
 use Rattle.wat_instructions.specs.declared.pieces.Refusal.{Refusal}
 use Rattle.wat_instructions.specs.declared.pieces.Refusal.TheVariants as refusal
 use Rattle.wat_instructions.specs.Parts.{fault_of}
-use Rattle.wat_instructions.specs.Terminals.{Terminal, label}
+use Rattle.wat_instructions.specs.Grammar.{Context}
+use Rattle.wat_instructions.specs.Terminals.{Terminal, Label, label}
 use Rattle.wat_fields.specs.declared.fields.Variable as declared_variable
 use Rattle.wat_fields.specs.declared.fields.Header as declared_header
 use Rattle.wat_fields.specs.declared.fields.Function as declared_function
-use Rattle.wat_fields.specs.declared.binary.Export as declared_export
+use Rattle.wat_fields.specs.declared.fields.Export as declared_export
+use Rattle.wat_fields.specs.declared.fields.Field as declared_field
+use Rattle.wat_fields.specs.declared.fields.Field.TheVariants as fields
+use Rattle.wat_fields.specs.declared.fields.IndexSpace.TheVariants as space
+use Rattle.wat_fields.specs.declared.binary.Counts as declared_counts
+use Rattle.wat_fields.specs.declared.binary.FunctionType as declared_type
 use Rattle.wat_fields.specs.declared.binary.Run as declared_run
+use Rattle.wat_fields.specs.declared.names.Binding as declared_binding
+use Rattle.wat_fields.specs.declared.names.Names as declared_names
 use Rattle.wat_fields.specs.declared.names.Depth as declared_depth
 use Rattle.wat_fields.specs.declared.names.Depth.TheVariants as depths
 use Rattle.wat_lex.specs.binary.Leb128.{unsigned_leb128}
-use Rattle.wat_fields.specs.Binary.{Export, Run, export, run, section}
-use Rattle.wat_fields.specs.Fields.{Function, Variable, variable}
+use Rattle.wat_fields.specs.Binary.{Export, FunctionType, Run, export, next_index, run, section}
+use Rattle.wat_fields.specs.Fields.{Field, Func, Table, Memory, Global, Start, Function, Binding, Variable, binding, variable}
+use Rattle.wat_fields.specs.Fields as field
 use Rattle.wat_fields.specs.Reading.{Header, Item, Depth, Before, Opened, Headed, Inside}
 
 abbrev pub variable_of : declared_variable.Variable → Variable
@@ -42,8 +51,32 @@ function_of f = record {
   body = f.body.items;
 }
 
-abbrev pub functions_of : List declared_function.Function → List Function
-functions_of fs = map function_of fs
+abbrev pub field_of : declared_field.Field → Field
+field_of (fields.Func f) = Func (function_of f)
+field_of (fields.Table t) = Table (label t.name) (map text_of t.exports.items) t.of
+field_of (fields.Memory m) = Memory (label m.name) (map text_of m.exports.items) m.limits
+field_of (fields.Global g) = Global (label g.name) (map text_of g.exports.items) g.of g.first.items
+field_of (fields.Export e) = field.Export e.name.now e.space e.index
+field_of (fields.Start i) = Start i
+
+abbrev pub fields_of : List declared_field.Field → List Field
+fields_of fs = map field_of fs
+
+abbrev pub binding_of : declared_binding.Binding → Binding
+binding_of h = binding h.space (label h.name)
+
+abbrev pub context_of : declared_names.Names → Context
+context_of n = record {
+  locals = [];
+  funcs = map label n.funcs.items;
+  tables = map label n.tables.items;
+  memories = map label n.memories.items;
+  globals = map label n.globals.items;
+}
+
+-- the same with names of local variables
+abbrev pub with_names : List Label → Context → Context
+with_names ls c = record { locals = ls; funcs = c.funcs; tables = c.tables; memories = c.memories; globals = c.globals }
 
 -- no fault of the text
 abbrev pub IsMemory : Refusal → Type 0
@@ -67,7 +100,54 @@ abbrev pub list_of : {G : Type 0} → Vec ℕ G → List ℕ
 list_of v = v.items
 
 abbrev pub export_of : declared_export.Export → Export
-export_of e = export e.index e.name.now
+export_of e = export e.space e.index e.name.now
+
+abbrev pub type_of : declared_type.FunctionType → FunctionType
+type_of t = record { params = t.params.items; results = t.results.items }
+
+-- the indices that the next items have
+pub record Counts : Type 0 where
+  pub funcs : ℕ
+  pub tables : ℕ
+  pub memories : ℕ
+  pub globals : ℕ
+
+abbrev pub counts_of : declared_counts.Counts → Counts
+counts_of c = record { funcs = c.funcs; tables = c.tables; memories = c.memories; globals = c.globals }
+
+abbrev pub AreBelow : Counts → ℕ → Type 0
+AreBelow c n = (c.funcs < n) × (c.tables < n) × (c.memories < n) × (c.globals < n)
+
+-- after these fields
+abbrev pub counts_after : List Field → Counts
+counts_after fs = record {
+  funcs = next_index space.Func fs;
+  tables = next_index space.Table fs;
+  memories = next_index space.Mem fs;
+  globals = next_index space.Global fs;
+}
+
+-- after a field more
+abbrev pub counted : Field → Counts → Counts
+counted (Func f) c = record { funcs = suc c.funcs; tables = c.tables; memories = c.memories; globals = c.globals }
+counted (Table l ns t) c = record { funcs = c.funcs; tables = suc c.tables; memories = c.memories; globals = c.globals }
+counted (Memory l ns t) c = record { funcs = c.funcs; tables = c.tables; memories = suc c.memories; globals = c.globals }
+counted (Global l ns t is) c = record { funcs = c.funcs; tables = c.tables; memories = c.memories; globals = suc c.globals }
+counted (field.Export n s i) c = c
+counted (Start i) c = c
+
+-- the exports of a field, and of fields, by these indices
+abbrev pub exports_by : Counts → Field → List Export
+exports_by c (Func f) = map (export space.Func c.funcs) f.exports
+exports_by c (Table l ns t) = map (export space.Table c.tables) ns
+exports_by c (Memory l ns t) = map (export space.Mem c.memories) ns
+exports_by c (Global l ns t is) = map (export space.Global c.globals) ns
+exports_by c (field.Export n s i) = export s i n ∷ []
+exports_by c (Start i) = []
+
+abbrev pub exports_from : Counts → List Field → List Export
+exports_from c [] = []
+exports_from c (f ∷ fs) = exports_by c f ++ exports_from (counted f c) fs
 
 -- the runs of types, after so many of one
 abbrev pub runs_after : ℕ → ℕ → List ℕ → List Run
@@ -84,12 +164,12 @@ counted_section number count items = if count == 0 then [] else section number (
 abbrev pub depth_of : declared_depth.Depth → Depth
 depth_of depths.Before = Before
 depth_of depths.Opened = Opened
-depth_of depths.Headed = Headed
+depth_of (depths.Headed s) = Headed s
 depth_of (depths.Inside n) = Inside n
 
 -- as many groups are open as there are tokens at most
 abbrev pub IsBelow : Depth → ℕ → Type 0
 IsBelow Before n = Unit {0}
 IsBelow Opened n = Unit {0}
-IsBelow Headed n = 1 ≤ n
+IsBelow (Headed s) n = 1 ≤ n
 IsBelow (Inside d) n = d ≤ n

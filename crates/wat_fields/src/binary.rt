@@ -1,12 +1,15 @@
 //! The bytes of a module.
-ghost use Rattle.std.specs.Prelude.{◌≡◌, ◌++◌, ◌∷◌, [], ℕ, List, OnOk, IfOk, length, map};
+ghost use Rattle.std.specs.Prelude.{◌≡◌, ◌++◌, ◌^◌, ◌∷◌, [], ℕ, List, OnOk, IfOk, MatchOption, length, map};
 ghost use Rattle.std.specs.List.{flat_map};
 ghost use Rattle.wat_fields.specs.Binary as binary;
-ghost use Rattle.wat_fields.specs.Views.{counted_section, export_of, function_of, functions_of, list_of, run_of, text_of, variable_of};
+ghost use Rattle.wat_fields.specs.Fields as grammar;
+ghost use Rattle.wat_fields.specs.Views.{AreBelow, counted, counted_section, counts_of, export_of, exports_by, field_of, fields_of, function_of, run_of, text_of, type_of, variable_of};
 ghost use Rattle.wat_lex.specs.binary.Encoding.{list_encoding, text_encoding};
 ghost use Rattle.wat_lex.specs.binary.Leb128.{unsigned_leb128};
 
-use crate::fields::{Function, Variable};
+use crate::fields::{
+    Export, Field, Function, GlobalType, IndexSpace, Limits, ReferenceType, TableType, Variable,
+};
 use std::alloc::{AllocError, Global};
 use wat_instructions::pieces::{Argument, Instruction, ValueType};
 use wat_lex::encode::{Encode, EncodeError};
@@ -113,75 +116,172 @@ fn variable_bytes(alloc: Global, variables: &[Variable<'_>]) -> Result<Vec<u8>, 
     Ok(bytes)
 }
 
-/// The bytes of a function's type.
-#[tactic(auto, unfolding(crate::specs::Binary::type_bytes))]
-fn type_bytes(alloc: Global, function: &Function<'_>) -> Result<Vec<u8>, AllocError>
-    ensures { IfOk result (λ bytes. bytes.items ≡ binary.type_bytes (function_of function.now)) }
-{
-    let params = variable_bytes(alloc, &function.header.params)?;
-    let results = variable_bytes(alloc, &function.header.results)?;
-    let mut bytes = Vec::new(alloc);
-    bytes.push(0x60)?;
-    put_sized(&mut bytes, &params)?;
-    put_sized(&mut bytes, &results)?;
-    Ok(bytes)
+/// A function type.
+#[derive(Drop)]
+struct FunctionType {
+    params: Vec<ValueType>,
+    results: Vec<ValueType>,
 }
 
-/// The index of a type among these.
-fn type_index(types: &[Vec<u8>], of: &[u8]) -> Option<usize>
-    ensures { result ≡ binary.type_index 0 of.now (map list_of types.now) }
+/// The types of variables.
+fn value_types(alloc: Global, variables: &[Variable<'_>]) -> Result<Vec<ValueType>, AllocError>
+    ensures { IfOk result (λ types. types.items ≡ map grammar.type_of (map variable_of variables.now)) }
 {
-    for (i, known) in types.iter().enumerate() {
-        if known.as_slice() == of {
-            return Some(i);
+    let mut types = Vec::new(alloc);
+    for variable in variables {
+        types.push(variable.of)?;
+    }
+    Ok(types)
+}
+
+/// The type of a function.
+fn function_type(alloc: Global, function: &Function<'_>) -> Result<FunctionType, AllocError>
+    ensures { IfOk result (λ of. type_of of ≡ binary.function_type (function_of function.now)) }
+{
+    let params = value_types(alloc, &function.header.params)?;
+    let results = value_types(alloc, &function.header.results)?;
+    Ok(FunctionType { params, results })
+}
+
+/// Whether these are the same value types.
+fn same_values(some: &[ValueType], others: &[ValueType]) -> bool
+    ensures { result ≡ binary.same_values some.now others.now }
+{
+    if some.len() != others.len() {
+        return false;
+    }
+    for (i, of) in some.iter().enumerate() {
+        if type_byte(*of) != type_byte(others[i]) {
+            return false;
         }
     }
-    None
+    true
+}
+
+/// Whether these are the same function types.
+fn same_type(of: &FunctionType, other: &FunctionType) -> bool
+    ensures { result ≡ binary.same_type (type_of of.now) (type_of other.now) }
+{
+    same_values(&of.params, &other.params) && same_values(&of.results, &other.results)
+}
+
+/// The index of a type among these, which is their number where it is not among them.
+fn type_index(types: &[FunctionType], of: &FunctionType) -> usize
+    ensures { result ≡ binary.type_index (type_of of.now) (map type_of types.now) }
+{
+    for (i, known) in types.iter().enumerate() {
+        if same_type(known, of) {
+            return i;
+        }
+    }
+    types.len()
+}
+
+/// Whether a type is among these.
+fn has_type(types: &[FunctionType], of: &FunctionType) -> bool
+    ensures { result ≡ binary.has_type (type_of of.now) (map type_of types.now) }
+{
+    for known in types {
+        if same_type(known, of) {
+            return true;
+        }
+    }
+    false
 }
 
 /// The types that functions bring, each once.
 #[tactic(auto, unfolding(crate::specs::Binary::types_of))]
-fn types_of(alloc: Global, functions: &[Function<'_>]) -> Result<Vec<Vec<u8>>, AllocError>
-    ensures { IfOk result (λ types. map list_of types.items ≡ binary.types_of (functions_of functions.now)) }
+fn types_of(alloc: Global, fields: &[Field<'_>]) -> Result<Vec<FunctionType>, AllocError>
+    ensures { IfOk result (λ types. map type_of types.items ≡ binary.types_of (binary.functions_of (fields_of fields.now))) }
 {
     let mut types = Vec::new(alloc);
-    for function in functions {
-        let of = type_bytes(alloc, function)?;
-        if type_index(&types, &of).is_none() {
-            types.push(of)?;
+    for field in fields {
+        if let Field::Func(function) = field {
+            let of = function_type(alloc, function)?;
+            if !has_type(&types, &of) {
+                types.push(of)?;
+            }
         }
     }
     Ok(types)
 }
 
-/// An export of the function of an index.
+/// The indices that the next items have.
 #[derive(Clone, Copy)]
-struct Export<'p> {
-    name: &'p [u8],
-    index: usize,
+struct Counts {
+    funcs: usize,
+    tables: usize,
+    memories: usize,
+    globals: usize,
 }
 
-/// Appends the exports of a function.
-fn push_exports<'p>(
+/// The same after a field more.
+fn counted(counts: Counts, field: &Field<'_>) -> Counts
+    requires { AreBelow (counts_of counts) (2 ^ 63) }
+    ensures { counts_of result ≡ counted (field_of field.now) (counts_of counts) }
+{
+    let mut counts = counts;
+    match field {
+        Field::Func(_) => counts.funcs += 1,
+        Field::Table(_) => counts.tables += 1,
+        Field::Memory(_) => counts.memories += 1,
+        Field::Global(_) => counts.globals += 1,
+        Field::Export(_) | Field::Start(_) => {}
+    }
+    counts
+}
+
+/// Appends the exports of an item under names.
+fn push_names<'p>(
     exports: &mut Vec<Export<'p>>,
     names: &[&'p [u8]],
+    space: IndexSpace,
     index: usize,
 ) -> Result<(), AllocError>
-    ensures { OnOk result (map export_of exports.new.items ≡ map export_of exports.old.items ++ map (binary.export index) (map text_of names.now)) }
+    ensures { OnOk result (map export_of exports.new.items ≡ map export_of exports.old.items ++ map (binary.export space index) (map text_of names.now)) }
 {
     for name in names {
-        exports.push(Export { name, index })?;
+        exports.push(Export { name, space, index })?;
     }
     Ok(())
 }
 
-/// The exports of functions.
-fn exports_of<'p>(alloc: Global, functions: &[Function<'p>]) -> Result<Vec<Export<'p>>, AllocError>
-    ensures { IfOk result (λ exports. map export_of exports.items ≡ binary.exports_from 0 (functions_of functions.now)) }
+/// Appends the exports of a field.
+fn push_exports<'p>(
+    exports: &mut Vec<Export<'p>>,
+    counts: Counts,
+    field: &Field<'p>,
+) -> Result<(), AllocError>
+    ensures { OnOk result (map export_of exports.new.items ≡ map export_of exports.old.items ++ exports_by (counts_of counts) (field_of field.now)) }
+{
+    match field {
+        Field::Func(f) => push_names(exports, &f.header.exports, IndexSpace::Func, counts.funcs),
+        Field::Table(t) => push_names(exports, &t.exports, IndexSpace::Table, counts.tables),
+        Field::Memory(m) => push_names(exports, &m.exports, IndexSpace::Mem, counts.memories),
+        Field::Global(g) => push_names(exports, &g.exports, IndexSpace::Global, counts.globals),
+        Field::Export(export) => {
+            exports.push(*export)?;
+            Ok(())
+        }
+        Field::Start(_) => Ok(()),
+    }
+}
+
+/// The exports of fields.
+#[tactic(auto, unfolding(crate::specs::Binary::exports_of))]
+fn exports_of<'p>(alloc: Global, fields: &[Field<'p>]) -> Result<Vec<Export<'p>>, AllocError>
+    ensures { IfOk result (λ exports. map export_of exports.items ≡ binary.exports_of (fields_of fields.now)) }
 {
     let mut exports = Vec::new(alloc);
-    for (i, function) in functions.iter().enumerate() {
-        push_exports(&mut exports, &function.header.exports, i)?;
+    let mut counts = Counts {
+        funcs: 0,
+        tables: 0,
+        memories: 0,
+        globals: 0,
+    };
+    for field in fields {
+        push_exports(&mut exports, counts, field)?;
+        counts = counted(counts, field);
     }
     Ok(exports)
 }
@@ -270,41 +370,169 @@ fn put_section(
 }
 
 /// Appends the type section.
-fn put_types(alloc: Global, out: &mut Vec<u8>, types: &[Vec<u8>]) -> Result<(), AllocError>
-    ensures { OnOk result (out.new.items ≡ out.old.items ++ binary.list_section 1 (λ bytes. bytes) (map list_of types.now)) }
+fn put_types(alloc: Global, out: &mut Vec<u8>, types: &[FunctionType]) -> Result<(), AllocError>
+    ensures { OnOk result (out.new.items ≡ out.old.items ++ binary.list_section 1 binary.type_bytes (map type_of types.now)) }
 {
     let mut items = Vec::new(alloc);
     for of in types {
-        items.extend_from_slice(of)?;
+        put_type(alloc, &mut items, of)?;
     }
     put_section(alloc, out, 1, types.len(), &items)
 }
 
-/// The index of a function's type among these, or 0.
-fn index_of(alloc: Global, types: &[Vec<u8>], function: &Function<'_>) -> Result<usize, AllocError>
-    ensures { IfOk result (λ n. n ≡ binary.index_or_0 (binary.type_index 0 (binary.type_bytes (function_of function.now)) (map list_of types.now))) }
+/// The bytes of value types.
+fn value_bytes(alloc: Global, types: &[ValueType]) -> Result<Vec<u8>, AllocError>
+    ensures { IfOk result (λ bytes. bytes.items ≡ map binary.type_byte types.now) }
 {
-    let of = type_bytes(alloc, function)?;
-    match type_index(types, &of) {
-        Some(i) => Ok(i),
-        None => Ok(0),
+    let mut bytes = Vec::new(alloc);
+    for of in types {
+        bytes.push(type_byte(*of))?;
     }
+    Ok(bytes)
+}
+
+/// Appends a function type.
+#[tactic(auto, unfolding(crate::specs::Binary::type_bytes))]
+fn put_type(alloc: Global, out: &mut Vec<u8>, of: &FunctionType) -> Result<(), AllocError>
+    ensures { OnOk result (out.new.items ≡ out.old.items ++ binary.type_bytes (type_of of.now)) }
+{
+    let params = value_bytes(alloc, &of.params)?;
+    let results = value_bytes(alloc, &of.results)?;
+    out.push(0x60)?;
+    put_sized(out, &params)?;
+    put_sized(out, &results)?;
+    Ok(())
 }
 
 /// Appends the function section.
 fn put_functions(
     alloc: Global,
     out: &mut Vec<u8>,
-    types: &[Vec<u8>],
-    functions: &[Function<'_>],
+    types: &[FunctionType],
+    fields: &[Field<'_>],
 ) -> Result<(), AllocError>
-    ensures { OnOk result (out.new.items ≡ out.old.items ++ binary.list_section 3 (binary.function_bytes (map list_of types.now)) (functions_of functions.now)) }
+    ensures { OnOk result (out.new.items ≡ out.old.items ++ binary.list_section 3 (binary.function_bytes (map type_of types.now)) (binary.functions_of (fields_of fields.now))) }
 {
     let mut items = Vec::new(alloc);
-    for function in functions {
-        put(&mut items, index_of(alloc, types, function)?)?;
+    let mut count = 0;
+    for field in fields {
+        if let Field::Func(function) = field {
+            let of = function_type(alloc, function)?;
+            put(&mut items, type_index(types, &of))?;
+            count += 1;
+        }
     }
-    put_section(alloc, out, 3, functions.len(), &items)
+    put_section(alloc, out, 3, count, &items)
+}
+
+/// Appends limits.
+fn put_limits(out: &mut Vec<u8>, limits: Limits) -> Result<(), AllocError>
+    ensures { OnOk result (out.new.items ≡ out.old.items ++ binary.limits_bytes limits) }
+{
+    match limits.max {
+        Some(max) => {
+            out.push(0x01)?;
+            put(out, limits.min as usize)?;
+            put(out, max as usize)
+        }
+        None => {
+            out.push(0x00)?;
+            put(out, limits.min as usize)
+        }
+    }
+}
+
+/// The byte of a reference type.
+fn reference_byte(of: ReferenceType) -> u8
+    ensures { result ≡ binary.reference_byte of }
+{
+    match of {
+        ReferenceType::Func => 0x70,
+        ReferenceType::Extern => 0x6F,
+    }
+}
+
+/// Appends the type of a table.
+fn put_table(out: &mut Vec<u8>, of: TableType) -> Result<(), AllocError>
+    ensures { OnOk result (out.new.items ≡ out.old.items ++ binary.table_bytes of) }
+{
+    out.push(reference_byte(of.element))?;
+    put_limits(out, of.limits)
+}
+
+/// Appends the table section.
+fn put_tables(alloc: Global, out: &mut Vec<u8>, fields: &[Field<'_>]) -> Result<(), AllocError>
+    ensures { OnOk result (out.new.items ≡ out.old.items ++ binary.table_section (fields_of fields.now)) }
+{
+    let mut items = Vec::new(alloc);
+    let mut count = 0;
+    for field in fields {
+        if let Field::Table(table) = field {
+            put_table(&mut items, table.of)?;
+            count += 1;
+        }
+    }
+    put_section(alloc, out, 4, count, &items)
+}
+
+/// Appends the memory section.
+fn put_memories(alloc: Global, out: &mut Vec<u8>, fields: &[Field<'_>]) -> Result<(), AllocError>
+    ensures { OnOk result (out.new.items ≡ out.old.items ++ binary.memory_section (fields_of fields.now)) }
+{
+    let mut items = Vec::new(alloc);
+    let mut count = 0;
+    for field in fields {
+        if let Field::Memory(memory) = field {
+            put_limits(&mut items, memory.limits)?;
+            count += 1;
+        }
+    }
+    put_section(alloc, out, 5, count, &items)
+}
+
+/// The byte that says whether a global variable is mutable.
+fn mutability_byte(is_mutable: bool) -> u8
+    ensures { result ≡ binary.mutability_byte is_mutable }
+{
+    if is_mutable { 0x01 } else { 0x00 }
+}
+
+/// Appends a global variable.
+fn put_global(out: &mut Vec<u8>, of: GlobalType, first: &[Instruction]) -> Result<(), AllocError>
+    ensures { OnOk result (out.new.items ≡ out.old.items ++ binary.global_bytes (of, first.now)) }
+{
+    out.push(type_byte(of.value))?;
+    out.push(mutability_byte(of.is_mutable))?;
+    put_instructions(out, first)?;
+    out.push(0x0B)?;
+    Ok(())
+}
+
+/// Appends the global section.
+fn put_globals(alloc: Global, out: &mut Vec<u8>, fields: &[Field<'_>]) -> Result<(), AllocError>
+    ensures { OnOk result (out.new.items ≡ out.old.items ++ binary.global_section (fields_of fields.now)) }
+{
+    let mut items = Vec::new(alloc);
+    let mut count = 0;
+    for field in fields {
+        if let Field::Global(global) = field {
+            put_global(&mut items, global.of, &global.first)?;
+            count += 1;
+        }
+    }
+    put_section(alloc, out, 6, count, &items)
+}
+
+/// The byte of an index space.
+fn space_byte(space: IndexSpace) -> u8
+    ensures { result ≡ binary.space_byte space }
+{
+    match space {
+        IndexSpace::Func => 0x00,
+        IndexSpace::Table => 0x01,
+        IndexSpace::Mem => 0x02,
+        IndexSpace::Global => 0x03,
+    }
 }
 
 /// Appends the export section.
@@ -314,36 +542,71 @@ fn put_exports(alloc: Global, out: &mut Vec<u8>, exports: &[Export<'_>]) -> Resu
     let mut items = Vec::new(alloc);
     for export in exports {
         put_sized(&mut items, export.name)?;
-        items.push(0x00)?;
+        items.push(space_byte(export.space))?;
         put(&mut items, export.index)?;
     }
     put_section(alloc, out, 7, exports.len(), &items)
 }
 
-/// Appends the code section.
-fn put_codes(alloc: Global, out: &mut Vec<u8>, functions: &[Function<'_>]) -> Result<(), AllocError>
-    ensures { OnOk result (out.new.items ≡ out.old.items ++ binary.list_section 10 binary.code_bytes (functions_of functions.now)) }
+/// The index of the first start function, where there is one.
+fn start_of(fields: &[Field<'_>]) -> Option<usize>
+    ensures { MatchOption result (grammar.starts_of (fields_of fields.now) ≡ []) (λ i. binary.start_section (fields_of fields.now) ≡ binary.section 8 (unsigned_leb128 i)) }
 {
-    let mut items = Vec::new(alloc);
-    for function in functions {
-        let code = code(alloc, function)?;
-        put_sized(&mut items, &code)?;
+    for field in fields {
+        if let Field::Start(index) = field {
+            return Some(*index);
+        }
     }
-    put_section(alloc, out, 10, functions.len(), &items)
+    None
 }
 
-/// The bytes of a module of these functions.
+/// Appends the start section.
+fn put_start(alloc: Global, out: &mut Vec<u8>, fields: &[Field<'_>]) -> Result<(), AllocError>
+    ensures { OnOk result (out.new.items ≡ out.old.items ++ binary.start_section (fields_of fields.now)) }
+{
+    match start_of(fields) {
+        Some(index) => {
+            let mut content = Vec::new(alloc);
+            put(&mut content, index)?;
+            out.push(8)?;
+            put_sized(out, &content)
+        }
+        None => Ok(()),
+    }
+}
+
+/// Appends the code section.
+fn put_codes(alloc: Global, out: &mut Vec<u8>, fields: &[Field<'_>]) -> Result<(), AllocError>
+    ensures { OnOk result (out.new.items ≡ out.old.items ++ binary.code_section (fields_of fields.now)) }
+{
+    let mut items = Vec::new(alloc);
+    let mut count = 0;
+    for field in fields {
+        if let Field::Func(function) = field {
+            let code = code(alloc, function)?;
+            put_sized(&mut items, &code)?;
+            count += 1;
+        }
+    }
+    put_section(alloc, out, 10, count, &items)
+}
+
+/// The bytes of a module of these fields.
 #[tactic(auto, unfolding(crate::specs::Binary::module_bytes))]
-pub(crate) fn module_bytes(alloc: Global, functions: &[Function<'_>]) -> Result<Vec<u8>, AllocError>
-    ensures { IfOk result (λ bytes. bytes.items ≡ binary.module_bytes (functions_of functions.now)) }
+pub(crate) fn module_bytes(alloc: Global, fields: &[Field<'_>]) -> Result<Vec<u8>, AllocError>
+    ensures { IfOk result (λ bytes. bytes.items ≡ binary.module_bytes (fields_of fields.now)) }
 {
     let mut bytes = Vec::new(alloc);
     bytes.extend_from_slice(&HEADER)?;
-    let types = types_of(alloc, functions)?;
+    let types = types_of(alloc, fields)?;
     put_types(alloc, &mut bytes, &types)?;
-    put_functions(alloc, &mut bytes, &types, functions)?;
-    let exports = exports_of(alloc, functions)?;
+    put_functions(alloc, &mut bytes, &types, fields)?;
+    put_tables(alloc, &mut bytes, fields)?;
+    put_memories(alloc, &mut bytes, fields)?;
+    put_globals(alloc, &mut bytes, fields)?;
+    let exports = exports_of(alloc, fields)?;
     put_exports(alloc, &mut bytes, &exports)?;
-    put_codes(alloc, &mut bytes, functions)?;
+    put_start(alloc, &mut bytes, fields)?;
+    put_codes(alloc, &mut bytes, fields)?;
     Ok(bytes)
 }

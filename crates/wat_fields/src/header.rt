@@ -37,7 +37,7 @@ pub(crate) fn read_header<'p, 'a>(
 }
 
 /// The names under which a function is exported.
-fn exports<'p, 'a>(
+pub(crate) fn exports<'p, 'a>(
     alloc: Global,
     pieces: &'p [Piece<'a>],
 ) -> Result<(Vec<&'p [u8]>, &'p [Piece<'a>]), Refusal<'p, 'a>>
@@ -143,7 +143,7 @@ fn after_word<'p, 'a>(word: &str, pieces: &'p [Piece<'a>]) -> Option<&'p [Piece<
 }
 
 /// What comes after `)`.
-fn closed<'p, 'a>(pieces: &'p [Piece<'a>]) -> Result<&'p [Piece<'a>], Fault<'p, 'a>>
+pub(crate) fn closed<'p, 'a>(pieces: &'p [Piece<'a>]) -> Result<&'p [Piece<'a>], Fault<'p, 'a>>
     ensures { MatchResult result
         (λ r. reading.closed (map terminal pieces.now) ≡ Ok (map terminal r.now))
         (λ f. reading.closed (map terminal pieces.now) ≡ Err (fault_of f)) }
@@ -180,7 +180,9 @@ fn is_utf8(bytes: &[u8]) -> bool
 }
 
 /// A string that is UTF-8.
-fn utf8_text<'p, 'a>(pieces: &'p [Piece<'a>]) -> Result<(&'p [u8], &'p [Piece<'a>]), Fault<'p, 'a>>
+pub(crate) fn utf8_text<'p, 'a>(
+    pieces: &'p [Piece<'a>],
+) -> Result<(&'p [u8], &'p [Piece<'a>]), Fault<'p, 'a>>
     ensures { MatchResult result
         (λ r. reading.utf8_text (map terminal pieces.now) ≡ Ok (r.0.now, map terminal r.1.now))
         (λ f. reading.utf8_text (map terminal pieces.now) ≡ Err (fault_of f)) }

@@ -1,4 +1,5 @@
-//! Modules that hold nothing but functions, from the tokens that count to bytes.
+//! Modules of functions, tables, memories, globals, exports and a start function, from the tokens
+//! that count to bytes.
 #![tactic(auto)]
 
 mod binary;
@@ -6,3 +7,4 @@ pub mod fields;
 mod header;
 pub mod laws;
 mod names;
+mod types;

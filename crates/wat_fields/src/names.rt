@@ -1,11 +1,13 @@
-//! The names of functions, before their fields are read; and whether names are distinct.
-ghost use Rattle.std.specs.Prelude.{◌≡◌, ◌++◌, [], IfOk, map};
-ghost use Rattle.wat_fields.specs.Fields.{are_distinct, has_name, name_of};
+//! The items that fields define, before the fields are read; and whether names are distinct.
+ghost use Rattle.std.specs.Prelude.{◌≡◌, ◌++◌, ◌∷◌, [], IfOk, OnOk, map};
+ghost use Rattle.wat_fields.specs.Fields.{all_distinct, are_distinct, has_name, is_space, name_of, names_in, names_of};
+ghost use Rattle.wat_fields.specs.Fields as grammar;
 ghost use Rattle.wat_fields.specs.Reading as reading;
-ghost use Rattle.wat_fields.specs.Views.{depth_of, variable_of};
+ghost use Rattle.wat_fields.specs.Views.{context_of, depth_of, binding_of, variable_of};
 ghost use Rattle.wat_instructions.specs.Terminals.{label, terminal};
 
-use crate::fields::Variable;
+use crate::fields::{IndexSpace, Variable};
+use crate::types::space_of;
 use std::alloc::{AllocError, Global};
 use wat_instructions::pieces::{Name, Piece};
 
@@ -15,16 +17,91 @@ use wat_instructions::pieces::{Name, Piece};
 enum Depth {
     Before,
     Opened,
-    Headed,
+    Headed(Option<IndexSpace>),
     Inside(usize),
 }
 
-/// The names of functions in their order, by the parentheses alone.
-#[tactic(auto, unfolding(crate::specs::Reading::names))]
-pub(crate) fn names<'p>(alloc: Global, pieces: &'p [Piece<'_>]) -> Result<Vec<Name<'p>>, AllocError>
-    ensures { IfOk result (λ names. map label names.items ≡ reading.names reading.Before [] (map terminal pieces.now)) }
+/// An item of an index space.
+#[derive(Clone, Copy)]
+struct Binding<'p> {
+    space: IndexSpace,
+    name: Name<'p>,
+}
+
+/// The names of each index space, in the order of their indices.
+#[derive(Drop)]
+pub(crate) struct Names<'p> {
+    pub(crate) funcs: Vec<Name<'p>>,
+    pub(crate) tables: Vec<Name<'p>>,
+    pub(crate) memories: Vec<Name<'p>>,
+    pub(crate) globals: Vec<Name<'p>>,
+}
+
+/// The names of the items that fields define, by the parentheses alone.
+pub(crate) fn names_of<'p>(alloc: Global, pieces: &'p [Piece<'_>]) -> Result<Names<'p>, AllocError>
+    ensures { IfOk result (λ names. context_of names ≡ grammar.context_of (reading.bindings reading.Before [] (map terminal pieces.now))) }
+{
+    let bindings = bindings(alloc, pieces)?;
+    let funcs = names_among(alloc, &bindings, IndexSpace::Func)?;
+    let tables = names_among(alloc, &bindings, IndexSpace::Table)?;
+    let memories = names_among(alloc, &bindings, IndexSpace::Mem)?;
+    let globals = names_among(alloc, &bindings, IndexSpace::Global)?;
+    Ok(Names {
+        funcs,
+        tables,
+        memories,
+        globals,
+    })
+}
+
+/// Whether two index spaces are the same.
+fn is_space(a: IndexSpace, b: IndexSpace) -> bool
+    ensures { result ≡ is_space a b }
+{
+    match (a, b) {
+        (IndexSpace::Func, IndexSpace::Func)
+        | (IndexSpace::Table, IndexSpace::Table)
+        | (IndexSpace::Mem, IndexSpace::Mem)
+        | (IndexSpace::Global, IndexSpace::Global) => true,
+        _ => false,
+    }
+}
+
+/// The names of an index space.
+fn names_among<'p>(
+    alloc: Global,
+    bindings: &[Binding<'p>],
+    space: IndexSpace,
+) -> Result<Vec<Name<'p>>, AllocError>
+    ensures { IfOk result (λ names. map label names.items ≡ names_in space (map binding_of bindings.now)) }
 {
     let mut names = Vec::new(alloc);
+    for binding in bindings {
+        if is_space(space, binding.space) {
+            names.push(binding.name)?;
+        }
+    }
+    Ok(names)
+}
+
+/// The same of these.
+pub(crate) fn names_in<'s, 'p>(names: &'s Names<'p>, space: IndexSpace) -> &'s [Name<'p>]
+    ensures { map label result.now ≡ names_of (context_of names.now) space }
+{
+    match space {
+        IndexSpace::Func => &names.funcs,
+        IndexSpace::Table => &names.tables,
+        IndexSpace::Mem => &names.memories,
+        IndexSpace::Global => &names.globals,
+    }
+}
+
+/// The items that fields define, in their order, by the parentheses alone.
+#[tactic(auto, unfolding(crate::specs::Reading::bindings))]
+fn bindings<'p>(alloc: Global, pieces: &'p [Piece<'_>]) -> Result<Vec<Binding<'p>>, AllocError>
+    ensures { IfOk result (λ bindings. map binding_of bindings.items ≡ reading.bindings reading.Before [] (map terminal pieces.now)) }
+{
+    let mut bindings = Vec::new(alloc);
     let mut depth = Depth::Before;
     for piece in pieces {
         match depth {
@@ -35,19 +112,19 @@ pub(crate) fn names<'p>(alloc: Global, pieces: &'p [Piece<'_>]) -> Result<Vec<Na
                 | Piece::Id(_)
                 | Piece::Integer(_, _)
                 | Piece::Text(_)
-                | Piece::Other => return Ok(names),
+                | Piece::Other => return Ok(bindings),
             },
             Depth::Opened => match *piece {
-                Piece::Word(_) => depth = Depth::Headed,
+                Piece::Word(word) => depth = Depth::Headed(space_of(word)),
                 Piece::Open
                 | Piece::Close
                 | Piece::Id(_)
                 | Piece::Integer(_, _)
                 | Piece::Text(_)
-                | Piece::Other => return Ok(names),
+                | Piece::Other => return Ok(bindings),
             },
-            Depth::Headed => {
-                names.push(name_of(*piece))?;
+            Depth::Headed(space) => {
+                push_binding(&mut bindings, space, name_of(*piece))?;
                 depth = after_head(*piece);
             }
             Depth::Inside(open) => match *piece {
@@ -61,7 +138,24 @@ pub(crate) fn names<'p>(alloc: Global, pieces: &'p [Piece<'_>]) -> Result<Vec<Na
             },
         }
     }
-    Ok(names)
+    Ok(bindings)
+}
+
+/// Appends the item of a field, where it defines one.
+fn push_binding<'p>(
+    bindings: &mut Vec<Binding<'p>>,
+    space: Option<IndexSpace>,
+    name: Name<'p>,
+) -> Result<(), AllocError>
+    ensures { OnOk result (map binding_of bindings.new.items ≡ map binding_of bindings.old.items ++ reading.binding_by space (label name.entry)) }
+{
+    match space {
+        Some(space) => {
+            bindings.push(Binding { space, name })?;
+            Ok(())
+        }
+        None => Ok(()),
+    }
 }
 
 /// The name that a field has which begins so after its word.
@@ -126,6 +220,16 @@ pub(crate) fn are_distinct(names: &[Name<'_>]) -> bool
         }
     }
     true
+}
+
+/// Whether they are distinct in each index space.
+pub(crate) fn all_distinct(names: &Names<'_>) -> bool
+    ensures { result ≡ all_distinct (context_of names.now) }
+{
+    are_distinct(&names.funcs)
+        && are_distinct(&names.tables)
+        && are_distinct(&names.memories)
+        && are_distinct(&names.globals)
 }
 
 /// The names of parameters and local variables.

@@ -5,16 +5,16 @@ use Rattle.std.proofs.lemmas.List.{length-take}
 use Rattle.wat_instructions.specs.declared.pieces.Frame.{Frame}
 use Rattle.wat_instructions.specs.declared.pieces.Argument.{Argument}
 use Rattle.wat_instructions.specs.declared.pieces.Instruction.{Instruction}
-use Rattle.wat_instructions.specs.Grammar.{Env, after_empty, block_type, closed, instruction, is_if, plain, label_of, structured, position, is_name}
+use Rattle.wat_instructions.specs.Grammar.{Context, after_empty, block_type, closed, instruction, is_if, plain, label_of, structured, position, is_name}
 use Rattle.wat_instructions.specs.Machine.{Part, Condition, at_condition, at_group, open_block, Operands, open_by, at_operands, bound, labels_in}
 use Rattle.wat_instructions.specs.Parts.{Stepped, part, stack}
 use Rattle.wat_instructions.specs.Terminals.{Terminal, Open, Close, Word, Id, Integer, Text, Other, Label}
 use Rattle.wat_instructions.proofs.Stacks.{stack_top}
 
-pub at_operands_output : (env : Env) (all us left : List Terminal) (w : List ℕ) (i : Instruction) (ps qs : List Part) (out : List Instruction) → structured w ≡ None → plain env (labels_in ps) all ≡ Ok (i, left) → qs ≡ Operands i ∷ ps → Stepped (open_by env (structured w) all us ps) out out qs left
-at_operands_output env all us left w i ps qs out s k q = record {
+pub at_operands_output : (context : Context) (all us left : List Terminal) (w : List ℕ) (i : Instruction) (ps qs : List Part) (out : List Instruction) → structured w ≡ None → plain context (labels_in ps) all ≡ Ok (i, left) → qs ≡ Operands i ∷ ps → Stepped (open_by context (structured w) all us ps) out out qs left
+at_operands_output context all us left w i ps qs out s k q = record {
   output = [];
-  is = ap (λ x. open_by env x all us ps) s ∙ ap (λ x. at_operands x ps) k ∙ ap (λ x. Ok (record { output = []; stack = x; left = left })) (sym q);
+  is = ap (λ x. open_by context x all us ps) s ∙ ap (λ x. at_operands x ps) k ∙ ap (λ x. Ok (record { output = []; stack = x; left = left })) (sym q);
   follows = sym (append-nil out);
 }
 

@@ -12,7 +12,7 @@ use Rattle.wat_instructions.specs.declared.table.Immediate.{Immediate}
 use Rattle.wat_instructions.specs.declared.table.Immediate.TheVariants as immediate
 use Rattle.wat_instructions.specs.Table.{Mnemonic, found, mnemonics}
 use Rattle.wat_instructions.specs.Terminals.{Terminal, Open, Close, Word, Id, Integer, Text, Other, Label}
-use Rattle.wat_instructions.specs.Grammar.{Env, Fault, Instructions, plain, label_of, end_label, after_empty, result_type, block_type}
+use Rattle.wat_instructions.specs.Grammar.{Context, Fault, Instructions, plain, label_of, end_label, after_empty, result_type, block_type}
 use Rattle.wat_instructions.specs.Grammar as grammar
 use Rattle.wat_instructions.specs.Memory as memory
 use Rattle.wat_instructions.specs.Law.{InstructionsAreBalanced, InstructionsTakeTokens, past}
@@ -47,7 +47,7 @@ named_keeps : (o : Option ℕ) (all ts : List Terminal) → Passes all ts → Ke
 named_keeps None all ts h = tt
 named_keeps (Some n) all ts h = h
 
-small_by : (b : Bool) (n : ℕ) (all ts : List Terminal) → Passes all ts → Keeps (if b then Ok (argument.Index n, ts) else Err (OutOfRange, all)) all
+small_by : (b : Bool) (n : ℕ) (all ts : List Terminal) → Passes all ts → Keeps (if b then Ok (n, ts) else Err (OutOfRange, all)) all
 small_by true n all ts h = h
 small_by false n all ts h = tt
 
@@ -56,7 +56,7 @@ small_keeps sign.Absent n all ts h = small_by (nat_lt n (2 ^ 32)) n all ts h
 small_keeps sign.Plus n all ts h = tt
 small_keeps sign.Minus n all ts h = tt
 
-index_keeps : (ls : List Label) (ts : List Terminal) → Keeps (grammar.index ls ts) ts
+pub index_keeps : (ls : List Label) (ts : List Terminal) → Keeps (grammar.index ls ts) ts
 index_keeps ls [] = tt
 index_keeps ls (Integer s n ∷ ts) = small_keeps s n (Integer s n ∷ ts) ts (after_integer s n ts)
 index_keeps ls (Id x ∷ ts) = named_keeps (grammar.position 0 x ls) (Id x ∷ ts) ts (after_id x ts)
@@ -65,6 +65,10 @@ index_keeps ls (Close ∷ ts) = tt
 index_keeps ls (Word w ∷ ts) = tt
 index_keeps ls (Text v ∷ ts) = tt
 index_keeps ls (Other ∷ ts) = tt
+
+with_index_keeps : (q : Result (ℕ × List Terminal) Fault) (ts : List Terminal) → Keeps q ts → Keeps (grammar.with_index q) ts
+with_index_keeps (Ok (n, us)) ts h = h
+with_index_keeps (Err f) ts h = tt
 
 i32_by_keeps : (o : Option ℤ) (all ts : List Terminal) → Passes all ts → Keeps (grammar.i32_by o all ts) all
 i32_by_keeps (Some n) all ts h = h
@@ -124,16 +128,16 @@ align_passes n (Other ∷ ts) = stay (Other ∷ ts)
 memory_keeps : (n : ℕ) (ts : List Terminal) → Passes ts (grammar.memory_of n ts).1
 memory_keeps n ts = on ts (grammar.offset_of ts).1 (grammar.align_of n (grammar.offset_of ts).1).1 (offset_passes ts) (align_passes n (grammar.offset_of ts).1)
 
-immediate_keeps : (env : Env) (ls : List Label) (k : Immediate) (ts : List Terminal) → Keeps (grammar.immediate_of env ls k ts) ts
-immediate_keeps env ls immediate.No ts = stay ts
-immediate_keeps env ls immediate.Local ts = index_keeps env.locals ts
-immediate_keeps env ls immediate.Label ts = index_keeps ls ts
-immediate_keeps env ls immediate.Func ts = index_keeps env.funcs ts
-immediate_keeps env ls immediate.Global ts = index_keeps env.globals ts
-immediate_keeps env ls immediate.I32 ts = i32_keeps ts
-immediate_keeps env ls immediate.I64 ts = i64_keeps ts
-immediate_keeps env ls (immediate.Memory natural) ts = memory_keeps natural ts
-immediate_keeps env ls immediate.Zero ts = stay ts
+immediate_keeps : (context : Context) (ls : List Label) (k : Immediate) (ts : List Terminal) → Keeps (grammar.immediate_of context ls k ts) ts
+immediate_keeps context ls immediate.No ts = stay ts
+immediate_keeps context ls immediate.Local ts = with_index_keeps (grammar.index context.locals ts) ts (index_keeps context.locals ts)
+immediate_keeps context ls immediate.Label ts = with_index_keeps (grammar.index ls ts) ts (index_keeps ls ts)
+immediate_keeps context ls immediate.Func ts = with_index_keeps (grammar.index context.funcs ts) ts (index_keeps context.funcs ts)
+immediate_keeps context ls immediate.Global ts = with_index_keeps (grammar.index context.globals ts) ts (index_keeps context.globals ts)
+immediate_keeps context ls immediate.I32 ts = i32_keeps ts
+immediate_keeps context ls immediate.I64 ts = i64_keeps ts
+immediate_keeps context ls (immediate.Memory natural) ts = memory_keeps natural ts
+immediate_keeps context ls immediate.Zero ts = stay ts
 
 after_word : (w : List ℕ) (ts us : List Terminal) → Passes ts us → Passes (Word w ∷ ts) us
 after_word w ts us h = record { short = omega (arith, h.short); same = h.same }
@@ -142,13 +146,13 @@ with_opcode_keeps : (o : ℕ) (q : Result (Argument × List Terminal) Fault) (w 
 with_opcode_keeps o (Ok (a, us)) w ts h = after_word w ts us h
 with_opcode_keeps o (Err f) w ts h = tt
 
-plain_by_keeps : (env : Env) (ls : List Label) (m : Option Mnemonic) (w : List ℕ) (ts : List Terminal) → Keeps (grammar.plain_by env ls m (Word w ∷ ts) ts) (Word w ∷ ts)
-plain_by_keeps env ls None w ts = tt
-plain_by_keeps env ls (Some m) w ts = with_opcode_keeps m.opcode (grammar.immediate_of env ls m.immediate ts) w ts (immediate_keeps env ls m.immediate ts)
+plain_by_keeps : (context : Context) (ls : List Label) (m : Option Mnemonic) (w : List ℕ) (ts : List Terminal) → Keeps (grammar.plain_by context ls m (Word w ∷ ts) ts) (Word w ∷ ts)
+plain_by_keeps context ls None w ts = tt
+plain_by_keeps context ls (Some m) w ts = with_opcode_keeps m.opcode (grammar.immediate_of context ls m.immediate ts) w ts (immediate_keeps context ls m.immediate ts)
 
-pub plain_keeps : (env : Env) (ls : List Label) (w : List ℕ) (ts : List Terminal) → Keeps (plain env ls (Word w ∷ ts)) (Word w ∷ ts)
+pub plain_keeps : (context : Context) (ls : List Label) (w : List ℕ) (ts : List Terminal) → Keeps (plain context ls (Word w ∷ ts)) (Word w ∷ ts)
 unfolding plain
-plain_keeps env ls w ts = plain_by_keeps env ls (found w mnemonics) w ts
+plain_keeps context ls w ts = plain_by_keeps context ls (found w mnemonics) w ts
 
 abbrev pub Takes : {A : Type 0} → Result (A × List Terminal) Fault → List Terminal → Type 0
 Takes (Ok (a, us)) ts = length us < length ts
@@ -158,19 +162,19 @@ with_opcode_takes : (o : ℕ) (q : Result (Argument × List Terminal) Fault) (w 
 with_opcode_takes o (Ok (a, us)) w ts h = omega (arith, h.short)
 with_opcode_takes o (Err f) w ts h = tt
 
-plain_by_takes : (env : Env) (ls : List Label) (m : Option Mnemonic) (w : List ℕ) (ts : List Terminal) → Takes (grammar.plain_by env ls m (Word w ∷ ts) ts) (Word w ∷ ts)
-plain_by_takes env ls None w ts = tt
-plain_by_takes env ls (Some m) w ts = with_opcode_takes m.opcode (grammar.immediate_of env ls m.immediate ts) w ts (immediate_keeps env ls m.immediate ts)
+plain_by_takes : (context : Context) (ls : List Label) (m : Option Mnemonic) (w : List ℕ) (ts : List Terminal) → Takes (grammar.plain_by context ls m (Word w ∷ ts) ts) (Word w ∷ ts)
+plain_by_takes context ls None w ts = tt
+plain_by_takes context ls (Some m) w ts = with_opcode_takes m.opcode (grammar.immediate_of context ls m.immediate ts) w ts (immediate_keeps context ls m.immediate ts)
 
-pub plain_takes : (env : Env) (ls : List Label) (w : List ℕ) (ts : List Terminal) → Takes (plain env ls (Word w ∷ ts)) (Word w ∷ ts)
+pub plain_takes : (context : Context) (ls : List Label) (w : List ℕ) (ts : List Terminal) → Takes (plain context ls (Word w ∷ ts)) (Word w ∷ ts)
 unfolding plain
-plain_takes env ls w ts = plain_by_takes env ls (found w mnemonics) w ts
+plain_takes context ls w ts = plain_by_takes context ls (found w mnemonics) w ts
 
-pub plain_short : (env : Env) (ls : List Label) (w : List ℕ) (ts : List Terminal) (i : Instruction) (us : List Terminal) → plain env ls (Word w ∷ ts) ≡ Ok (i, us) → length us < length (Word w ∷ ts)
-plain_short env ls w ts i us e = let K : Result (Instruction × List Terminal) Fault → Type 0 = λ q. Takes q (Word w ∷ ts) in subst K e (plain_takes env ls w ts)
+pub plain_short : (context : Context) (ls : List Label) (w : List ℕ) (ts : List Terminal) (i : Instruction) (us : List Terminal) → plain context ls (Word w ∷ ts) ≡ Ok (i, us) → length us < length (Word w ∷ ts)
+plain_short context ls w ts i us e = let K : Result (Instruction × List Terminal) Fault → Type 0 = λ q. Takes q (Word w ∷ ts) in subst K e (plain_takes context ls w ts)
 
-pub plain_passes : (env : Env) (ls : List Label) (w : List ℕ) (ts : List Terminal) (i : Instruction) (us : List Terminal) → plain env ls (Word w ∷ ts) ≡ Ok (i, us) → Passes (Word w ∷ ts) us
-plain_passes env ls w ts i us e = let K : Result (Instruction × List Terminal) Fault → Type 0 = λ q. Keeps q (Word w ∷ ts) in subst K e (plain_keeps env ls w ts)
+pub plain_passes : (context : Context) (ls : List Label) (w : List ℕ) (ts : List Terminal) (i : Instruction) (us : List Terminal) → plain context ls (Word w ∷ ts) ≡ Ok (i, us) → Passes (Word w ∷ ts) us
+plain_passes context ls w ts i us e = let K : Result (Instruction × List Terminal) Fault → Type 0 = λ q. Keeps q (Word w ∷ ts) in subst K e (plain_keeps context ls w ts)
 
 pub label_passes : (ts : List Terminal) → Passes ts (label_of ts).1
 label_passes [] = stay []
@@ -306,45 +310,45 @@ pub head_passes : (ts bs : List Terminal) (a : Argument) → block_type (label_o
 head_passes ts bs a e = let K : Result (Argument × List Terminal) Fault → Type 0 = λ q. Keeps q ts in subst K e (head_keeps ts)
 
 pub balanced : InstructionsAreBalanced
-balanced env _ _ _ _ r grammar.by_none d = refl
-balanced env _ _ _ _ r (grammar.by_plain {ls = ls} {w = w} {ts = ts} {us = us} {i = i} {is = is} s h more) d =
-    (plain_passes env ls w ts i us h).same d ∙ balanced env ls false us is r more d
-balanced env _ _ _ _ r (grammar.by_block {ls = ls} {w = w} {v = v} {a = a} {ts = ts} {bs = bs} {us = us} {vs = vs} {body = body} {is = is} s n h e l more) d =
-    (head_passes ts bs a n).same d ∙ balanced env ((label_of ts).0 ∷ ls) false bs body (Word v ∷ us) h d ∙ (end_passes (label_of ts).0 us vs l).same d ∙ balanced env ls false vs is r more d
-balanced env _ _ _ _ r (grammar.by_if_else {ls = ls} {w = w} {v = v} {x = x} {a = a} {ts = ts} {bs = bs} {us = us} {xs = xs} {ys = ys} {vs = vs} {body = body} {other = other} {is = is} s i n h e l k f m more) d =
-    (head_passes ts bs a n).same d ∙ balanced env ((label_of ts).0 ∷ ls) false bs body (Word v ∷ us) h d ∙ (end_passes (label_of ts).0 us xs l).same d
-    ∙ balanced env ((label_of ts).0 ∷ ls) false xs other (Word x ∷ ys) k d ∙ (end_passes (label_of ts).0 ys vs m).same d ∙ balanced env ls false vs is r more d
-balanced env _ _ _ _ r (grammar.by_folded {ls = ls} {folded = folded} {w = w} {ts = ts} {us = us} {vs = vs} {i = i} {operands = operands} {is = is} s h inner more) d =
-    (plain_passes env ls w ts i us h).same (suc d) ∙ balanced env ls true us operands (Close ∷ vs) inner (suc d) ∙ balanced env ls folded vs is r more d
-balanced env _ _ _ _ r (grammar.by_folded_block {ls = ls} {folded = folded} {w = w} {a = a} {ts = ts} {bs = bs} {vs = vs} {body = body} {is = is} s i n inner more) d =
-    (head_passes ts bs a n).same (suc d) ∙ balanced env ((label_of ts).0 ∷ ls) false bs body (Close ∷ vs) inner (suc d) ∙ balanced env ls folded vs is r more d
-balanced env _ _ _ _ r (grammar.by_folded_if {ls = ls} {folded = folded} {w = w} {t = t} {a = a} {ts = ts} {bs = bs} {cs = cs} {vs = vs} {condition = condition} {body = body} {is = is} s i n inner k g more) d =
-    (head_passes ts bs a n).same (suc d) ∙ balanced env ls true bs condition (Open ∷ Word t ∷ cs) inner (suc d) ∙ balanced env ((label_of ts).0 ∷ ls) false cs body (Close ∷ Close ∷ vs) g (suc (suc d)) ∙ balanced env ls folded vs is r more d
-balanced env _ _ _ _ r (grammar.by_folded_if_else {ls = ls} {folded = folded} {w = w} {t = t} {e = e} {a = a} {ts = ts} {bs = bs} {cs = cs} {es = es} {vs = vs} {condition = condition} {body = body} {other = other} {is = is} s i n inner k g f o more) d =
-    (head_passes ts bs a n).same (suc d) ∙ balanced env ls true bs condition (Open ∷ Word t ∷ cs) inner (suc d) ∙ balanced env ((label_of ts).0 ∷ ls) false cs body (Close ∷ Open ∷ Word e ∷ es) g (suc (suc d))
-    ∙ balanced env ((label_of ts).0 ∷ ls) false es other (Close ∷ Close ∷ vs) o (suc (suc d)) ∙ balanced env ls folded vs is r more d
+balanced context _ _ _ _ r grammar.by_none d = refl
+balanced context _ _ _ _ r (grammar.by_plain {ls = ls} {w = w} {ts = ts} {us = us} {i = i} {is = is} s h more) d =
+    (plain_passes context ls w ts i us h).same d ∙ balanced context ls false us is r more d
+balanced context _ _ _ _ r (grammar.by_block {ls = ls} {w = w} {v = v} {a = a} {ts = ts} {bs = bs} {us = us} {vs = vs} {body = body} {is = is} s n h e l more) d =
+    (head_passes ts bs a n).same d ∙ balanced context ((label_of ts).0 ∷ ls) false bs body (Word v ∷ us) h d ∙ (end_passes (label_of ts).0 us vs l).same d ∙ balanced context ls false vs is r more d
+balanced context _ _ _ _ r (grammar.by_if_else {ls = ls} {w = w} {v = v} {x = x} {a = a} {ts = ts} {bs = bs} {us = us} {xs = xs} {ys = ys} {vs = vs} {body = body} {other = other} {is = is} s i n h e l k f m more) d =
+    (head_passes ts bs a n).same d ∙ balanced context ((label_of ts).0 ∷ ls) false bs body (Word v ∷ us) h d ∙ (end_passes (label_of ts).0 us xs l).same d
+    ∙ balanced context ((label_of ts).0 ∷ ls) false xs other (Word x ∷ ys) k d ∙ (end_passes (label_of ts).0 ys vs m).same d ∙ balanced context ls false vs is r more d
+balanced context _ _ _ _ r (grammar.by_folded {ls = ls} {folded = folded} {w = w} {ts = ts} {us = us} {vs = vs} {i = i} {operands = operands} {is = is} s h inner more) d =
+    (plain_passes context ls w ts i us h).same (suc d) ∙ balanced context ls true us operands (Close ∷ vs) inner (suc d) ∙ balanced context ls folded vs is r more d
+balanced context _ _ _ _ r (grammar.by_folded_block {ls = ls} {folded = folded} {w = w} {a = a} {ts = ts} {bs = bs} {vs = vs} {body = body} {is = is} s i n inner more) d =
+    (head_passes ts bs a n).same (suc d) ∙ balanced context ((label_of ts).0 ∷ ls) false bs body (Close ∷ vs) inner (suc d) ∙ balanced context ls folded vs is r more d
+balanced context _ _ _ _ r (grammar.by_folded_if {ls = ls} {folded = folded} {w = w} {t = t} {a = a} {ts = ts} {bs = bs} {cs = cs} {vs = vs} {condition = condition} {body = body} {is = is} s i n inner k g more) d =
+    (head_passes ts bs a n).same (suc d) ∙ balanced context ls true bs condition (Open ∷ Word t ∷ cs) inner (suc d) ∙ balanced context ((label_of ts).0 ∷ ls) false cs body (Close ∷ Close ∷ vs) g (suc (suc d)) ∙ balanced context ls folded vs is r more d
+balanced context _ _ _ _ r (grammar.by_folded_if_else {ls = ls} {folded = folded} {w = w} {t = t} {e = e} {a = a} {ts = ts} {bs = bs} {cs = cs} {es = es} {vs = vs} {condition = condition} {body = body} {other = other} {is = is} s i n inner k g f o more) d =
+    (head_passes ts bs a n).same (suc d) ∙ balanced context ls true bs condition (Open ∷ Word t ∷ cs) inner (suc d) ∙ balanced context ((label_of ts).0 ∷ ls) false cs body (Close ∷ Open ∷ Word e ∷ es) g (suc (suc d))
+    ∙ balanced context ((label_of ts).0 ∷ ls) false es other (Close ∷ Close ∷ vs) o (suc (suc d)) ∙ balanced context ls folded vs is r more d
 
 pub taken : InstructionsTakeTokens
-taken env _ _ _ _ r grammar.by_none = omega arith
-taken env _ _ _ _ r (grammar.by_plain {ls = ls} {w = w} {ts = ts} {us = us} {i = i} {is = is} s h more) =
-    let a = plain_short env ls w ts i us h in let z = taken env ls false us is r more in omega arith
-taken env _ _ _ _ r (grammar.by_block {ls = ls} {w = w} {v = v} {a = a} {ts = ts} {bs = bs} {us = us} {vs = vs} {body = body} {is = is} s n h e l more) =
-    let a' = (head_passes ts bs a n).short in let b = taken env ((label_of ts).0 ∷ ls) false bs body (Word v ∷ us) h in let c = (end_passes (label_of ts).0 us vs l).short in let z = taken env ls false vs is r more in omega arith
-taken env _ _ _ _ r (grammar.by_if_else {ls = ls} {w = w} {v = v} {x = x} {a = a} {ts = ts} {bs = bs} {us = us} {xs = xs} {ys = ys} {vs = vs} {body = body} {other = other} {is = is} s i n h e l k f m more) =
+taken context _ _ _ _ r grammar.by_none = omega arith
+taken context _ _ _ _ r (grammar.by_plain {ls = ls} {w = w} {ts = ts} {us = us} {i = i} {is = is} s h more) =
+    let a = plain_short context ls w ts i us h in let z = taken context ls false us is r more in omega arith
+taken context _ _ _ _ r (grammar.by_block {ls = ls} {w = w} {v = v} {a = a} {ts = ts} {bs = bs} {us = us} {vs = vs} {body = body} {is = is} s n h e l more) =
+    let a' = (head_passes ts bs a n).short in let b = taken context ((label_of ts).0 ∷ ls) false bs body (Word v ∷ us) h in let c = (end_passes (label_of ts).0 us vs l).short in let z = taken context ls false vs is r more in omega arith
+taken context _ _ _ _ r (grammar.by_if_else {ls = ls} {w = w} {v = v} {x = x} {a = a} {ts = ts} {bs = bs} {us = us} {xs = xs} {ys = ys} {vs = vs} {body = body} {other = other} {is = is} s i n h e l k f m more) =
     let a' = (head_passes ts bs a n).short in
-    let b = taken env ((label_of ts).0 ∷ ls) false bs body (Word v ∷ us) h in
+    let b = taken context ((label_of ts).0 ∷ ls) false bs body (Word v ∷ us) h in
     let c = (end_passes (label_of ts).0 us xs l).short in
-    let d = taken env ((label_of ts).0 ∷ ls) false xs other (Word x ∷ ys) k in
-    let g = (end_passes (label_of ts).0 ys vs m).short in let z = taken env ls false vs is r more in omega arith
-taken env _ _ _ _ r (grammar.by_folded {ls = ls} {folded = folded} {w = w} {ts = ts} {us = us} {vs = vs} {i = i} {operands = operands} {is = is} s h inner more) =
-    let a = plain_short env ls w ts i us h in let b = taken env ls true us operands (Close ∷ vs) inner in let z = taken env ls folded vs is r more in omega arith
-taken env _ _ _ _ r (grammar.by_folded_block {ls = ls} {folded = folded} {w = w} {a = a} {ts = ts} {bs = bs} {vs = vs} {body = body} {is = is} s i n inner more) =
-    let a' = (head_passes ts bs a n).short in let b = taken env ((label_of ts).0 ∷ ls) false bs body (Close ∷ vs) inner in let z = taken env ls folded vs is r more in omega arith
-taken env _ _ _ _ r (grammar.by_folded_if {ls = ls} {folded = folded} {w = w} {t = t} {a = a} {ts = ts} {bs = bs} {cs = cs} {vs = vs} {condition = condition} {body = body} {is = is} s i n inner k g more) =
+    let d = taken context ((label_of ts).0 ∷ ls) false xs other (Word x ∷ ys) k in
+    let g = (end_passes (label_of ts).0 ys vs m).short in let z = taken context ls false vs is r more in omega arith
+taken context _ _ _ _ r (grammar.by_folded {ls = ls} {folded = folded} {w = w} {ts = ts} {us = us} {vs = vs} {i = i} {operands = operands} {is = is} s h inner more) =
+    let a = plain_short context ls w ts i us h in let b = taken context ls true us operands (Close ∷ vs) inner in let z = taken context ls folded vs is r more in omega arith
+taken context _ _ _ _ r (grammar.by_folded_block {ls = ls} {folded = folded} {w = w} {a = a} {ts = ts} {bs = bs} {vs = vs} {body = body} {is = is} s i n inner more) =
+    let a' = (head_passes ts bs a n).short in let b = taken context ((label_of ts).0 ∷ ls) false bs body (Close ∷ vs) inner in let z = taken context ls folded vs is r more in omega arith
+taken context _ _ _ _ r (grammar.by_folded_if {ls = ls} {folded = folded} {w = w} {t = t} {a = a} {ts = ts} {bs = bs} {cs = cs} {vs = vs} {condition = condition} {body = body} {is = is} s i n inner k g more) =
     let a' = (head_passes ts bs a n).short in
-    let b = taken env ls true bs condition (Open ∷ Word t ∷ cs) inner in let c = taken env ((label_of ts).0 ∷ ls) false cs body (Close ∷ Close ∷ vs) g in let z = taken env ls folded vs is r more in omega arith
-taken env _ _ _ _ r (grammar.by_folded_if_else {ls = ls} {folded = folded} {w = w} {t = t} {e = e} {a = a} {ts = ts} {bs = bs} {cs = cs} {es = es} {vs = vs} {condition = condition} {body = body} {other = other} {is = is} s i n inner k g f o more) =
+    let b = taken context ls true bs condition (Open ∷ Word t ∷ cs) inner in let c = taken context ((label_of ts).0 ∷ ls) false cs body (Close ∷ Close ∷ vs) g in let z = taken context ls folded vs is r more in omega arith
+taken context _ _ _ _ r (grammar.by_folded_if_else {ls = ls} {folded = folded} {w = w} {t = t} {e = e} {a = a} {ts = ts} {bs = bs} {cs = cs} {es = es} {vs = vs} {condition = condition} {body = body} {other = other} {is = is} s i n inner k g f o more) =
     let a' = (head_passes ts bs a n).short in
-    let b = taken env ls true bs condition (Open ∷ Word t ∷ cs) inner in
-    let c = taken env ((label_of ts).0 ∷ ls) false cs body (Close ∷ Open ∷ Word e ∷ es) g in
-    let d = taken env ((label_of ts).0 ∷ ls) false es other (Close ∷ Close ∷ vs) o in let z = taken env ls folded vs is r more in omega arith
+    let b = taken context ls true bs condition (Open ∷ Word t ∷ cs) inner in
+    let c = taken context ((label_of ts).0 ∷ ls) false cs body (Close ∷ Open ∷ Word e ∷ es) g in
+    let d = taken context ((label_of ts).0 ∷ ls) false es other (Close ∷ Close ∷ vs) o in let z = taken context ls folded vs is r more in omega arith

@@ -7,7 +7,7 @@ use Rattle.wat_instructions.specs.Table.{mnemonics, low, high}
 use Rattle.wat_instructions.specs.declared.pieces.Instruction.{Instruction}
 use Rattle.wat_instructions.specs.declared.pieces.FaultKind.TheVariants.{Unexpected, UnknownWord}
 use Rattle.wat_instructions.specs.Terminals.{Terminal, Open, Close, Word, Id, Integer, Text, Other, Label}
-use Rattle.wat_instructions.specs.Grammar.{Env, Fault, Instructions, plain, label_of, end_label, structured, is_end, is_else, is_then, is_if, block_type, instruction, end, otherwise}
+use Rattle.wat_instructions.specs.Grammar.{Context, Fault, Instructions, plain, label_of, end_label, structured, is_end, is_else, is_then, is_if, block_type, instruction, end, otherwise}
 use Rattle.wat_instructions.specs.Grammar as grammar
 use Rattle.wat_instructions.specs.Machine.{Part, Body, Block, Group, Operands, Condition, Then, Else, Step, only_folded, bound, labels_in, step, run, run_by, output_before, word_by, open_by, open_block, folded_by, word_step, open_step, at_plain, at_operands, at_block, at_group, at_condition, turned, ended}
 use Rattle.wat_instructions.specs.Machine as machine
@@ -15,29 +15,29 @@ use Rattle.wat_instructions.specs.Law.{MachineIsGrammar}
 use Rattle.wat_instructions.proofs.Passing.{Keeps, KeepsAll, end_keeps, end_passes, head_keeps, head_passes, plain_takes, plain_short, Takes}
 
 -- what closes a part, the instructions that stand there, and what is left
-pub data Closed (env : Env) (ls : List Label) : Part → List Terminal → List Instruction → List Terminal → Type 0 where
-  by_body : {vs : List Terminal} → Closed env ls Body (Close ∷ vs) [] vs
-  by_group : {l : Label} {vs : List Terminal} → Closed env ls (Group l) (Close ∷ vs) (end ∷ []) vs
-  by_operands : {i : Instruction} {vs : List Terminal} → Closed env ls (Operands i) (Close ∷ vs) (i ∷ []) vs
-  by_block : {b : Bool} {l : Label} {v : List ℕ} {us vs : List Terminal} → is_end v ≡ true → end_label l us ≡ Ok vs → Closed env ls (Block b l) (Word v ∷ us) (end ∷ []) vs
-  by_else : {l : Label} {v x : List ℕ} {us xs ys vs : List Terminal} {other : List Instruction} → is_else v ≡ true → end_label l us ≡ Ok xs → Instructions env ls false xs other (Word x ∷ ys) → is_end x ≡ true → end_label l ys ≡ Ok vs
-      → Closed env ls (Block true l) (Word v ∷ us) (otherwise ∷ (other ++ (end ∷ []))) vs
-  by_then : {l : Label} {vs : List Terminal} → Closed env ls (Then l) (Close ∷ Close ∷ vs) (end ∷ []) vs
-  by_other : {l : Label} {e : List ℕ} {es vs : List Terminal} {other : List Instruction} → is_else e ≡ true → Instructions env ls false es other (Close ∷ Close ∷ vs) → Closed env ls (Then l) (Close ∷ Open ∷ Word e ∷ es) (otherwise ∷ (other ++ (end ∷ []))) vs
-  by_otherwise : {l : Label} {vs : List Terminal} → Closed env ls (Else l) (Close ∷ Close ∷ vs) (end ∷ []) vs
-  by_condition : {i : Instruction} {l : Label} {t : List ℕ} {cs vs : List Terminal} {body : List Instruction} → is_then t ≡ true → Instructions env (l ∷ ls) false cs body (Close ∷ Close ∷ vs) → Closed env ls (Condition i l) (Open ∷ Word t ∷ cs) (i ∷ (body ++ (end ∷ []))) vs
-  by_condition_else : {i : Instruction} {l : Label} {t e : List ℕ} {cs es vs : List Terminal} {body other : List Instruction} → is_then t ≡ true → Instructions env (l ∷ ls) false cs body (Close ∷ Open ∷ Word e ∷ es) → is_else e ≡ true → Instructions env (l ∷ ls) false es other (Close ∷ Close ∷ vs)
-      → Closed env ls (Condition i l) (Open ∷ Word t ∷ cs) (i ∷ (body ++ (otherwise ∷ (other ++ (end ∷ []))))) vs
+pub data Closed (context : Context) (ls : List Label) : Part → List Terminal → List Instruction → List Terminal → Type 0 where
+  by_body : {vs : List Terminal} → Closed context ls Body (Close ∷ vs) [] vs
+  by_group : {l : Label} {vs : List Terminal} → Closed context ls (Group l) (Close ∷ vs) (end ∷ []) vs
+  by_operands : {i : Instruction} {vs : List Terminal} → Closed context ls (Operands i) (Close ∷ vs) (i ∷ []) vs
+  by_block : {b : Bool} {l : Label} {v : List ℕ} {us vs : List Terminal} → is_end v ≡ true → end_label l us ≡ Ok vs → Closed context ls (Block b l) (Word v ∷ us) (end ∷ []) vs
+  by_else : {l : Label} {v x : List ℕ} {us xs ys vs : List Terminal} {other : List Instruction} → is_else v ≡ true → end_label l us ≡ Ok xs → Instructions context ls false xs other (Word x ∷ ys) → is_end x ≡ true → end_label l ys ≡ Ok vs
+      → Closed context ls (Block true l) (Word v ∷ us) (otherwise ∷ (other ++ (end ∷ []))) vs
+  by_then : {l : Label} {vs : List Terminal} → Closed context ls (Then l) (Close ∷ Close ∷ vs) (end ∷ []) vs
+  by_other : {l : Label} {e : List ℕ} {es vs : List Terminal} {other : List Instruction} → is_else e ≡ true → Instructions context ls false es other (Close ∷ Close ∷ vs) → Closed context ls (Then l) (Close ∷ Open ∷ Word e ∷ es) (otherwise ∷ (other ++ (end ∷ []))) vs
+  by_otherwise : {l : Label} {vs : List Terminal} → Closed context ls (Else l) (Close ∷ Close ∷ vs) (end ∷ []) vs
+  by_condition : {i : Instruction} {l : Label} {t : List ℕ} {cs vs : List Terminal} {body : List Instruction} → is_then t ≡ true → Instructions context (l ∷ ls) false cs body (Close ∷ Close ∷ vs) → Closed context ls (Condition i l) (Open ∷ Word t ∷ cs) (i ∷ (body ++ (end ∷ []))) vs
+  by_condition_else : {i : Instruction} {l : Label} {t e : List ℕ} {cs es vs : List Terminal} {body other : List Instruction} → is_then t ≡ true → Instructions context (l ∷ ls) false cs body (Close ∷ Open ∷ Word e ∷ es) → is_else e ≡ true → Instructions context (l ∷ ls) false es other (Close ∷ Close ∷ vs)
+      → Closed context ls (Condition i l) (Open ∷ Word t ∷ cs) (i ∷ (body ++ (otherwise ∷ (other ++ (end ∷ []))))) vs
 
 -- the tokens end all that is open: each part has its instructions, then what closes it, and then the next
-abbrev pub Completes : Env → List Part → List Terminal → List Instruction → List Terminal → Type 0
-Completes env [] ts is r = (ts ≡ r) × (is ≡ [])
-Completes env (p ∷ ps) ts is r =
-    (body : List Instruction) × (us : List Terminal) × (es : List Instruction) × (vs : List Terminal) × (js : List Instruction) × Instructions env (labels_in (p ∷ ps)) (only_folded p) ts body us × Closed env (labels_in (p ∷ ps)) p us es vs × Completes env ps vs js r × (is ≡ body ++ (es ++ js))
+abbrev pub Completes : Context → List Part → List Terminal → List Instruction → List Terminal → Type 0
+Completes context [] ts is r = (ts ≡ r) × (is ≡ [])
+Completes context (p ∷ ps) ts is r =
+    (body : List Instruction) × (us : List Terminal) × (es : List Instruction) × (vs : List Terminal) × (js : List Instruction) × Instructions context (labels_in (p ∷ ps)) (only_folded p) ts body us × Closed context (labels_in (p ∷ ps)) p us es vs × Completes context ps vs js r × (is ≡ body ++ (es ++ js))
 
-abbrev Lands : Env → Result Step Fault → List Instruction → List Terminal → Type 0
-Lands env (Ok s) is r = Completes env s.stack s.left is r
-Lands env (Err f) is r = ⊥
+abbrev Lands : Context → Result Step Fault → List Instruction → List Terminal → Type 0
+Lands context (Ok s) is r = Completes context s.stack s.left is r
+Lands context (Err f) is r = ⊥
 
 abbrev output_of : Result Step Fault → List Instruction
 output_of (Ok s) = s.output
@@ -49,102 +49,102 @@ left_of (Err f) = []
 
 -- From a step back.
 
-abbrev Back : Env → Part → List Part → List Terminal → Result Step Fault → Type 0
-Back env p ps ts q = (is : List Instruction) (r : List Terminal) → Lands env q is r → Completes env (p ∷ ps) ts (output_of q ++ is) r
+abbrev Back : Context → Part → List Part → List Terminal → Result Step Fault → Type 0
+Back context p ps ts q = (is : List Instruction) (r : List Terminal) → Lands context q is r → Completes context (p ∷ ps) ts (output_of q ++ is) r
 
-closed_back : (env : Env) (p : Part) (ps : List Part) (us : List Terminal) (es : List Instruction) (vs : List Terminal) → Closed env (labels_in (p ∷ ps)) p us es vs → Back env p ps us (machine.on_to es ps vs)
-closed_back env p ps us es vs c is r h = ([], us, es, vs, is, grammar.by_none, c, h, refl)
+closed_back : (context : Context) (p : Part) (ps : List Part) (us : List Terminal) (es : List Instruction) (vs : List Terminal) → Closed context (labels_in (p ∷ ps)) p us es vs → Back context p ps us (machine.on_to es ps vs)
+closed_back context p ps us es vs c is r h = ([], us, es, vs, is, grammar.by_none, c, h, refl)
 
-ended_back : (env : Env) (b : Bool) (l : Label) (ps : List Part) (v : List ℕ) (us : List Terminal) → is_end v ≡ true → (q : Result (List Terminal) Fault) → end_label l us ≡ q → Back env (Block b l) ps (Word v ∷ us) (ended q ps)
-ended_back env b l ps v us e (Ok vs) k = closed_back env (Block b l) ps (Word v ∷ us) (end ∷ []) vs (by_block e k)
-ended_back env b l ps v us e (Err f) k = λ is r h. absurd h
+ended_back : (context : Context) (b : Bool) (l : Label) (ps : List Part) (v : List ℕ) (us : List Terminal) → is_end v ≡ true → (q : Result (List Terminal) Fault) → end_label l us ≡ q → Back context (Block b l) ps (Word v ∷ us) (ended q ps)
+ended_back context b l ps v us e (Ok vs) k = closed_back context (Block b l) ps (Word v ∷ us) (end ∷ []) vs (by_block e k)
+ended_back context b l ps v us e (Err f) k = λ is r h. absurd h
 
-else_back : (env : Env) (l : Label) (ps : List Part) (v : List ℕ) (us xs : List Terminal) → is_else v ≡ true → end_label l us ≡ Ok xs → (is : List Instruction) (r : List Terminal) (b : List Instruction) (zs : List Terminal) (es : List Instruction) (vs : List Terminal) (js : List Instruction)
-    → Instructions env (l ∷ labels_in ps) false xs b zs → Closed env (l ∷ labels_in ps) (Block false l) zs es vs → Completes env ps vs js r → is ≡ b ++ (es ++ js)
-    → Completes env (Block true l ∷ ps) (Word v ∷ us) (otherwise ∷ is) r
-else_back env l ps v us xs e k is r b _ _ vs js h (by_block {v = x} {us = ys} f g) rest t =
+else_back : (context : Context) (l : Label) (ps : List Part) (v : List ℕ) (us xs : List Terminal) → is_else v ≡ true → end_label l us ≡ Ok xs → (is : List Instruction) (r : List Terminal) (b : List Instruction) (zs : List Terminal) (es : List Instruction) (vs : List Terminal) (js : List Instruction)
+    → Instructions context (l ∷ labels_in ps) false xs b zs → Closed context (l ∷ labels_in ps) (Block false l) zs es vs → Completes context ps vs js r → is ≡ b ++ (es ++ js)
+    → Completes context (Block true l ∷ ps) (Word v ∷ us) (otherwise ∷ is) r
+else_back context l ps v us xs e k is r b _ _ vs js h (by_block {v = x} {us = ys} f g) rest t =
     ([], Word v ∷ us, otherwise ∷ (b ++ (end ∷ [])), vs, js, grammar.by_none, by_else e k h f g, rest, ap (λ x. otherwise ∷ x) (t ∙ sym (append_assoc b (end ∷ []) js)))
 
-turned_back : (env : Env) (l : Label) (ps : List Part) (v : List ℕ) (us : List Terminal) → is_else v ≡ true → (q : Result (List Terminal) Fault) → end_label l us ≡ q → Back env (Block true l) ps (Word v ∷ us) (turned l q ps)
-turned_back env l ps v us e (Ok xs) k is r (b, zs, es, vs, js, h, c, rest, t) = else_back env l ps v us xs e k is r b zs es vs js h c rest t
-turned_back env l ps v us e (Err f) k is r h = absurd h
+turned_back : (context : Context) (l : Label) (ps : List Part) (v : List ℕ) (us : List Terminal) → is_else v ≡ true → (q : Result (List Terminal) Fault) → end_label l us ≡ q → Back context (Block true l) ps (Word v ∷ us) (turned l q ps)
+turned_back context l ps v us e (Ok xs) k is r (b, zs, es, vs, js, h, c, rest, t) = else_back context l ps v us xs e k is r b zs es vs js h c rest t
+turned_back context l ps v us e (Err f) k is r h = absurd h
 
-plain_back : (env : Env) (p : Part) (ps : List Part) (w : List ℕ) (ts : List Terminal) → only_folded p ≡ false → structured w ≡ None → (q : Result (Instruction × List Terminal) Fault) → plain env (labels_in (p ∷ ps)) (Word w ∷ ts) ≡ q → Back env p ps (Word w ∷ ts) (at_plain q (p ∷ ps))
-plain_back env p ps w ts k s (Err f) e is r h = absurd h
-plain_back env p ps w ts k s (Ok (i, us)) e is r (b, zs, es, vs, js, h, c, rest, t) =
-    (i ∷ b, zs, es, vs, js, subst (λ f. Instructions env (labels_in (p ∷ ps)) f (Word w ∷ ts) (i ∷ b) zs) (sym k) (grammar.by_plain s e (subst (λ f. Instructions env (labels_in (p ∷ ps)) f us b zs) k h)), c, rest, ap (λ x. i ∷ x) t)
+plain_back : (context : Context) (p : Part) (ps : List Part) (w : List ℕ) (ts : List Terminal) → only_folded p ≡ false → structured w ≡ None → (q : Result (Instruction × List Terminal) Fault) → plain context (labels_in (p ∷ ps)) (Word w ∷ ts) ≡ q → Back context p ps (Word w ∷ ts) (at_plain q (p ∷ ps))
+plain_back context p ps w ts k s (Err f) e is r h = absurd h
+plain_back context p ps w ts k s (Ok (i, us)) e is r (b, zs, es, vs, js, h, c, rest, t) =
+    (i ∷ b, zs, es, vs, js, subst (λ f. Instructions context (labels_in (p ∷ ps)) f (Word w ∷ ts) (i ∷ b) zs) (sym k) (grammar.by_plain s e (subst (λ f. Instructions context (labels_in (p ∷ ps)) f us b zs) k h)), c, rest, ap (λ x. i ∷ x) t)
 
 joined : (b c d : List Instruction) (i : Instruction) (is js : List Instruction) → is ≡ b ++ (i ∷ js) → js ≡ c ++ d → is ≡ (b ++ (i ∷ c)) ++ d
 joined b c d i is js e f = e ∙ ap (λ x. b ++ (i ∷ x)) f ∙ sym (append_assoc b (i ∷ c) d)
 
-block_back : (env : Env) (p : Part) (ps : List Part) (w : List ℕ) (ts bs : List Terminal) → only_folded p ≡ false → (o : ℕ) (a : Argument) (f : Bool) → structured w ≡ Some o → is_if o ≡ f → block_type (label_of ts).1 ≡ Ok (a, bs) → (is : List Instruction) (r : List Terminal) (b : List Instruction) (us : List Terminal) (es : List Instruction) (vs : List Terminal) (js : List Instruction)
-    → Instructions env ((label_of ts).0 ∷ labels_in (p ∷ ps)) false bs b us → Closed env ((label_of ts).0 ∷ labels_in (p ∷ ps)) (Block f (label_of ts).0) us es vs → Completes env (p ∷ ps) vs js r → is ≡ b ++ (es ++ js)
-    → Completes env (p ∷ ps) (Word w ∷ ts) (instruction o a ∷ is) r
-block_back env p ps w ts bs k o a f s i n is r b _ _ vs js h (by_block {us = us} e l) (b', us', es', vs', js', h', c', rest, t') t = (
+block_back : (context : Context) (p : Part) (ps : List Part) (w : List ℕ) (ts bs : List Terminal) → only_folded p ≡ false → (o : ℕ) (a : Argument) (f : Bool) → structured w ≡ Some o → is_if o ≡ f → block_type (label_of ts).1 ≡ Ok (a, bs) → (is : List Instruction) (r : List Terminal) (b : List Instruction) (us : List Terminal) (es : List Instruction) (vs : List Terminal) (js : List Instruction)
+    → Instructions context ((label_of ts).0 ∷ labels_in (p ∷ ps)) false bs b us → Closed context ((label_of ts).0 ∷ labels_in (p ∷ ps)) (Block f (label_of ts).0) us es vs → Completes context (p ∷ ps) vs js r → is ≡ b ++ (es ++ js)
+    → Completes context (p ∷ ps) (Word w ∷ ts) (instruction o a ∷ is) r
+block_back context p ps w ts bs k o a f s i n is r b _ _ vs js h (by_block {us = us} e l) (b', us', es', vs', js', h', c', rest, t') t = (
   instruction o a ∷ (b ++ (end ∷ b')),
   us',
   es',
   vs',
   js',
-  subst (λ f. Instructions env (labels_in (p ∷ ps)) f (Word w ∷ ts) (instruction o a ∷ (b ++ (end ∷ b'))) us') (sym k) (grammar.by_block s n h e l (subst (λ f. Instructions env (labels_in (p ∷ ps)) f vs b' us') k h')),
+  subst (λ f. Instructions context (labels_in (p ∷ ps)) f (Word w ∷ ts) (instruction o a ∷ (b ++ (end ∷ b'))) us') (sym k) (grammar.by_block s n h e l (subst (λ f. Instructions context (labels_in (p ∷ ps)) f vs b' us') k h')),
   c',
   rest,
   ap (λ x. instruction o a ∷ x) (joined b b' (es' ++ js') end is js t t'),
 )
-block_back env p ps w ts bs k o a f s i n is r b _ _ vs js h (by_else {us = us} {other = other} e l g m q) (b', us', es', vs', js', h', c', rest, t') t = (
+block_back context p ps w ts bs k o a f s i n is r b _ _ vs js h (by_else {us = us} {other = other} e l g m q) (b', us', es', vs', js', h', c', rest, t') t = (
   instruction o a ∷ (b ++ (otherwise ∷ (other ++ (end ∷ b')))),
   us',
   es',
   vs',
   js',
-  subst (λ f. Instructions env (labels_in (p ∷ ps)) f (Word w ∷ ts) (instruction o a ∷ (b ++ (otherwise ∷ (other ++ (end ∷ b'))))) us') (sym k) (grammar.by_if_else s i n h e l g m q (subst (λ f. Instructions env (labels_in (p ∷ ps)) f vs b' us') k h')),
+  subst (λ f. Instructions context (labels_in (p ∷ ps)) f (Word w ∷ ts) (instruction o a ∷ (b ++ (otherwise ∷ (other ++ (end ∷ b'))))) us') (sym k) (grammar.by_if_else s i n h e l g m q (subst (λ f. Instructions context (labels_in (p ∷ ps)) f vs b' us') k h')),
   c',
   rest,
   ap (λ x. instruction o a ∷ x) (t ∙ ap (λ x. b ++ (otherwise ∷ x)) (append_assoc other (end ∷ []) js ∙ ap (λ x. other ++ (end ∷ x)) t' ∙ sym (append_assoc other (end ∷ b') (es' ++ js'))) ∙ sym (append_assoc b (otherwise ∷ (other ++ (end ∷ b'))) (es' ++ js'))),
 )
 
-at_block_back : (env : Env) (p : Part) (ps : List Part) (w : List ℕ) (ts : List Terminal) → only_folded p ≡ false → (o : ℕ) → structured w ≡ Some o → (q : Result (Argument × List Terminal) Fault) → block_type (label_of ts).1 ≡ q → Back env p ps (Word w ∷ ts) (at_block o (label_of ts).0 q (p ∷ ps))
-at_block_back env p ps w ts k o e (Err f) n is r h = absurd h
-at_block_back env p ps w ts k o e (Ok (a, bs)) n is r (b, us, es, vs, js, h, c, rest, t) = block_back env p ps w ts bs k o a (is_if o) e refl n is r b us es vs js h c rest t
+at_block_back : (context : Context) (p : Part) (ps : List Part) (w : List ℕ) (ts : List Terminal) → only_folded p ≡ false → (o : ℕ) → structured w ≡ Some o → (q : Result (Argument × List Terminal) Fault) → block_type (label_of ts).1 ≡ q → Back context p ps (Word w ∷ ts) (at_block o (label_of ts).0 q (p ∷ ps))
+at_block_back context p ps w ts k o e (Err f) n is r h = absurd h
+at_block_back context p ps w ts k o e (Ok (a, bs)) n is r (b, us, es, vs, js, h, c, rest, t) = block_back context p ps w ts bs k o a (is_if o) e refl n is r b us es vs js h c rest t
 
-word_back : (env : Env) (p : Part) (ps : List Part) (w : List ℕ) (ts : List Terminal) → only_folded p ≡ false → (o : Option ℕ) → structured w ≡ o → Back env p ps (Word w ∷ ts) (word_by env o (Word w ∷ ts) ts (p ∷ ps))
-word_back env p ps w ts k (Some o) e is r h = at_block_back env p ps w ts k o e (block_type (label_of ts).1) refl is r h
-word_back env p ps w ts k None e is r h = plain_back env p ps w ts k e (plain env (labels_in (p ∷ ps)) (Word w ∷ ts)) refl is r h
+word_back : (context : Context) (p : Part) (ps : List Part) (w : List ℕ) (ts : List Terminal) → only_folded p ≡ false → (o : Option ℕ) → structured w ≡ o → Back context p ps (Word w ∷ ts) (word_by context o (Word w ∷ ts) ts (p ∷ ps))
+word_back context p ps w ts k (Some o) e is r h = at_block_back context p ps w ts k o e (block_type (label_of ts).1) refl is r h
+word_back context p ps w ts k None e is r h = plain_back context p ps w ts k e (plain context (labels_in (p ∷ ps)) (Word w ∷ ts)) refl is r h
 
-else_word_back : (env : Env) (b : Bool) (l : Label) (ps : List Part) (w : List ℕ) (ts : List Terminal) (e : Bool) → is_else w ≡ e → Back env (Block b l) ps (Word w ∷ ts) (if b && e then turned l (end_label l ts) ps else word_by env (structured w) (Word w ∷ ts) ts (Block b l ∷ ps))
-else_word_back env true l ps w ts true e = turned_back env l ps w ts e (end_label l ts) refl
-else_word_back env true l ps w ts false e = word_back env (Block true l) ps w ts refl (structured w) refl
-else_word_back env false l ps w ts true e = word_back env (Block false l) ps w ts refl (structured w) refl
-else_word_back env false l ps w ts false e = word_back env (Block false l) ps w ts refl (structured w) refl
+else_word_back : (context : Context) (b : Bool) (l : Label) (ps : List Part) (w : List ℕ) (ts : List Terminal) (e : Bool) → is_else w ≡ e → Back context (Block b l) ps (Word w ∷ ts) (if b && e then turned l (end_label l ts) ps else word_by context (structured w) (Word w ∷ ts) ts (Block b l ∷ ps))
+else_word_back context true l ps w ts true e = turned_back context l ps w ts e (end_label l ts) refl
+else_word_back context true l ps w ts false e = word_back context (Block true l) ps w ts refl (structured w) refl
+else_word_back context false l ps w ts true e = word_back context (Block false l) ps w ts refl (structured w) refl
+else_word_back context false l ps w ts false e = word_back context (Block false l) ps w ts refl (structured w) refl
 
-block_word_back : (env : Env) (b : Bool) (l : Label) (ps : List Part) (w : List ℕ) (ts : List Terminal) (d : Bool) → is_end w ≡ d → Back env (Block b l) ps (Word w ∷ ts) (if d then ended (end_label l ts) ps else if b && is_else w then turned l (end_label l ts) ps else word_by env (structured w) (Word w ∷ ts) ts (Block b l ∷ ps))
-block_word_back env b l ps w ts true e = ended_back env b l ps w ts e (end_label l ts) refl
-block_word_back env b l ps w ts false e = else_word_back env b l ps w ts (is_else w) refl
+block_word_back : (context : Context) (b : Bool) (l : Label) (ps : List Part) (w : List ℕ) (ts : List Terminal) (d : Bool) → is_end w ≡ d → Back context (Block b l) ps (Word w ∷ ts) (if d then ended (end_label l ts) ps else if b && is_else w then turned l (end_label l ts) ps else word_by context (structured w) (Word w ∷ ts) ts (Block b l ∷ ps))
+block_word_back context b l ps w ts true e = ended_back context b l ps w ts e (end_label l ts) refl
+block_word_back context b l ps w ts false e = else_word_back context b l ps w ts (is_else w) refl
 
-operands_back : (env : Env) (p : Part) (ps : List Part) (w : List ℕ) (ts us : List Terminal) (i : Instruction) → structured w ≡ None → plain env (labels_in (p ∷ ps)) (Word w ∷ ts) ≡ Ok (i, us) → (is : List Instruction) (r : List Terminal) (b : List Instruction) (zs : List Terminal) (es : List Instruction) (vs : List Terminal) (js : List Instruction)
-    → Instructions env (labels_in (p ∷ ps)) true us b zs → Closed env (labels_in (p ∷ ps)) (Operands i) zs es vs → Completes env (p ∷ ps) vs js r → is ≡ b ++ (es ++ js)
-    → Completes env (p ∷ ps) (Open ∷ Word w ∷ ts) is r
-operands_back env p ps w ts us i s e is r b _ _ vs js h by_operands (b', us', es', vs', js', h', c', rest, t') t =
+operands_back : (context : Context) (p : Part) (ps : List Part) (w : List ℕ) (ts us : List Terminal) (i : Instruction) → structured w ≡ None → plain context (labels_in (p ∷ ps)) (Word w ∷ ts) ≡ Ok (i, us) → (is : List Instruction) (r : List Terminal) (b : List Instruction) (zs : List Terminal) (es : List Instruction) (vs : List Terminal) (js : List Instruction)
+    → Instructions context (labels_in (p ∷ ps)) true us b zs → Closed context (labels_in (p ∷ ps)) (Operands i) zs es vs → Completes context (p ∷ ps) vs js r → is ≡ b ++ (es ++ js)
+    → Completes context (p ∷ ps) (Open ∷ Word w ∷ ts) is r
+operands_back context p ps w ts us i s e is r b _ _ vs js h by_operands (b', us', es', vs', js', h', c', rest, t') t =
     (b ++ (i ∷ b'), us', es', vs', js', grammar.by_folded s e h h', c', rest, joined b b' (es' ++ js') i is js t t')
 
-folded_plain_back : (env : Env) (p : Part) (ps : List Part) (w : List ℕ) (ts : List Terminal) → structured w ≡ None → (q : Result (Instruction × List Terminal) Fault) → plain env (labels_in (p ∷ ps)) (Word w ∷ ts) ≡ q → Back env p ps (Open ∷ Word w ∷ ts) (at_operands q (p ∷ ps))
-folded_plain_back env p ps w ts s (Err f) e is r h = absurd h
-folded_plain_back env p ps w ts s (Ok (i, us)) e is r (b, zs, es, vs, js, h, c, rest, t) = operands_back env p ps w ts us i s e is r b zs es vs js h c rest t
+folded_plain_back : (context : Context) (p : Part) (ps : List Part) (w : List ℕ) (ts : List Terminal) → structured w ≡ None → (q : Result (Instruction × List Terminal) Fault) → plain context (labels_in (p ∷ ps)) (Word w ∷ ts) ≡ q → Back context p ps (Open ∷ Word w ∷ ts) (at_operands q (p ∷ ps))
+folded_plain_back context p ps w ts s (Err f) e is r h = absurd h
+folded_plain_back context p ps w ts s (Ok (i, us)) e is r (b, zs, es, vs, js, h, c, rest, t) = operands_back context p ps w ts us i s e is r b zs es vs js h c rest t
 
-group_back : (env : Env) (p : Part) (ps : List Part) (w : List ℕ) (ts bs : List Terminal) (o : ℕ) (a : Argument) → structured w ≡ Some o → is_if o ≡ false → block_type (label_of ts).1 ≡ Ok (a, bs) → (is : List Instruction) (r : List Terminal) (b : List Instruction) (us : List Terminal) (es : List Instruction) (vs : List Terminal) (js : List Instruction)
-    → Instructions env ((label_of ts).0 ∷ labels_in (p ∷ ps)) false bs b us → Closed env ((label_of ts).0 ∷ labels_in (p ∷ ps)) (Group (label_of ts).0) us es vs → Completes env (p ∷ ps) vs js r → is ≡ b ++ (es ++ js)
-    → Completes env (p ∷ ps) (Open ∷ Word w ∷ ts) (instruction o a ∷ is) r
-group_back env p ps w ts bs o a s i n is r b _ _ vs js h by_group (b', us', es', vs', js', h', c', rest, t') t =
+group_back : (context : Context) (p : Part) (ps : List Part) (w : List ℕ) (ts bs : List Terminal) (o : ℕ) (a : Argument) → structured w ≡ Some o → is_if o ≡ false → block_type (label_of ts).1 ≡ Ok (a, bs) → (is : List Instruction) (r : List Terminal) (b : List Instruction) (us : List Terminal) (es : List Instruction) (vs : List Terminal) (js : List Instruction)
+    → Instructions context ((label_of ts).0 ∷ labels_in (p ∷ ps)) false bs b us → Closed context ((label_of ts).0 ∷ labels_in (p ∷ ps)) (Group (label_of ts).0) us es vs → Completes context (p ∷ ps) vs js r → is ≡ b ++ (es ++ js)
+    → Completes context (p ∷ ps) (Open ∷ Word w ∷ ts) (instruction o a ∷ is) r
+group_back context p ps w ts bs o a s i n is r b _ _ vs js h by_group (b', us', es', vs', js', h', c', rest, t') t =
     (instruction o a ∷ (b ++ (end ∷ b')), us', es', vs', js', grammar.by_folded_block s i n h h', c', rest, ap (λ x. instruction o a ∷ x) (joined b b' (es' ++ js') end is js t t'))
 
-at_group_back : (env : Env) (p : Part) (ps : List Part) (w : List ℕ) (ts : List Terminal) (o : ℕ) → structured w ≡ Some o → is_if o ≡ false → (q : Result (Argument × List Terminal) Fault) → block_type (label_of ts).1 ≡ q → Back env p ps (Open ∷ Word w ∷ ts) (at_group o (label_of ts).0 q (p ∷ ps))
-at_group_back env p ps w ts o e i (Err f) n is r h = absurd h
-at_group_back env p ps w ts o e i (Ok (a, bs)) n is r (b, us, es, vs, js, h, c, rest, t) = group_back env p ps w ts bs o a e i n is r b us es vs js h c rest t
+at_group_back : (context : Context) (p : Part) (ps : List Part) (w : List ℕ) (ts : List Terminal) (o : ℕ) → structured w ≡ Some o → is_if o ≡ false → (q : Result (Argument × List Terminal) Fault) → block_type (label_of ts).1 ≡ q → Back context p ps (Open ∷ Word w ∷ ts) (at_group o (label_of ts).0 q (p ∷ ps))
+at_group_back context p ps w ts o e i (Err f) n is r h = absurd h
+at_group_back context p ps w ts o e i (Ok (a, bs)) n is r (b, us, es, vs, js, h, c, rest, t) = group_back context p ps w ts bs o a e i n is r b us es vs js h c rest t
 
-condition_back : (env : Env) (p : Part) (ps : List Part) (w : List ℕ) (ts bs : List Terminal) (o : ℕ) (a : Argument) → structured w ≡ Some o → is_if o ≡ true → block_type (label_of ts).1 ≡ Ok (a, bs) → (is : List Instruction) (r : List Terminal) (b : List Instruction) (us : List Terminal) (es : List Instruction) (vs : List Terminal) (js : List Instruction)
-    → Instructions env (labels_in (p ∷ ps)) true bs b us → Closed env (labels_in (p ∷ ps)) (Condition (instruction o a) (label_of ts).0) us es vs → Completes env (p ∷ ps) vs js r → is ≡ b ++ (es ++ js)
-    → Completes env (p ∷ ps) (Open ∷ Word w ∷ ts) is r
-condition_back env p ps w ts bs o a s d n is r b _ _ vs js h (by_condition {body = body} k g) (b', us', es', vs', js', h', c', rest, t') t = (
+condition_back : (context : Context) (p : Part) (ps : List Part) (w : List ℕ) (ts bs : List Terminal) (o : ℕ) (a : Argument) → structured w ≡ Some o → is_if o ≡ true → block_type (label_of ts).1 ≡ Ok (a, bs) → (is : List Instruction) (r : List Terminal) (b : List Instruction) (us : List Terminal) (es : List Instruction) (vs : List Terminal) (js : List Instruction)
+    → Instructions context (labels_in (p ∷ ps)) true bs b us → Closed context (labels_in (p ∷ ps)) (Condition (instruction o a) (label_of ts).0) us es vs → Completes context (p ∷ ps) vs js r → is ≡ b ++ (es ++ js)
+    → Completes context (p ∷ ps) (Open ∷ Word w ∷ ts) is r
+condition_back context p ps w ts bs o a s d n is r b _ _ vs js h (by_condition {body = body} k g) (b', us', es', vs', js', h', c', rest, t') t = (
   b ++ (instruction o a ∷ (body ++ (end ∷ b'))),
   us',
   es',
@@ -155,7 +155,7 @@ condition_back env p ps w ts bs o a s d n is r b _ _ vs js h (by_condition {body
   rest,
   t ∙ ap (λ x. b ++ (instruction o a ∷ x)) (append_assoc body (end ∷ []) js ∙ ap (λ x. body ++ (end ∷ x)) t' ∙ sym (append_assoc body (end ∷ b') (es' ++ js'))) ∙ sym (append_assoc b (instruction o a ∷ (body ++ (end ∷ b'))) (es' ++ js')),
 )
-condition_back env p ps w ts bs o a s d n is r b _ _ vs js h (by_condition_else {body = body} {other = other} k g f q) (b', us', es', vs', js', h', c', rest, t') t = (
+condition_back context p ps w ts bs o a s d n is r b _ _ vs js h (by_condition_else {body = body} {other = other} k g f q) (b', us', es', vs', js', h', c', rest, t') t = (
   b ++ (instruction o a ∷ (body ++ (otherwise ∷ (other ++ (end ∷ b'))))),
   us',
   es',
@@ -173,122 +173,122 @@ condition_back env p ps w ts bs o a s d n is r b _ _ vs js h (by_condition_else 
       ∙ sym (append_assoc b (instruction o a ∷ (body ++ (otherwise ∷ (other ++ (end ∷ b'))))) (es' ++ js')),
 )
 
-at_condition_back : (env : Env) (p : Part) (ps : List Part) (w : List ℕ) (ts : List Terminal) (o : ℕ) → structured w ≡ Some o → is_if o ≡ true → (q : Result (Argument × List Terminal) Fault) → block_type (label_of ts).1 ≡ q → Back env p ps (Open ∷ Word w ∷ ts) (at_condition o (label_of ts).0 q (p ∷ ps))
-at_condition_back env p ps w ts o e i (Err f) n is r h = absurd h
-at_condition_back env p ps w ts o e i (Ok (a, bs)) n is r (b, us, es, vs, js, h, c, rest, t) = condition_back env p ps w ts bs o a e i n is r b us es vs js h c rest t
+at_condition_back : (context : Context) (p : Part) (ps : List Part) (w : List ℕ) (ts : List Terminal) (o : ℕ) → structured w ≡ Some o → is_if o ≡ true → (q : Result (Argument × List Terminal) Fault) → block_type (label_of ts).1 ≡ q → Back context p ps (Open ∷ Word w ∷ ts) (at_condition o (label_of ts).0 q (p ∷ ps))
+at_condition_back context p ps w ts o e i (Err f) n is r h = absurd h
+at_condition_back context p ps w ts o e i (Ok (a, bs)) n is r (b, us, es, vs, js, h, c, rest, t) = condition_back context p ps w ts bs o a e i n is r b us es vs js h c rest t
 
-open_block_back : (env : Env) (p : Part) (ps : List Part) (w : List ℕ) (ts : List Terminal) (o : ℕ) → structured w ≡ Some o → (f : Bool) → is_if o ≡ f
-    → Back env p ps (Open ∷ Word w ∷ ts) (if f then at_condition o (label_of ts).0 (block_type (label_of ts).1) (p ∷ ps) else at_group o (label_of ts).0 (block_type (label_of ts).1) (p ∷ ps))
-open_block_back env p ps w ts o e true i is r h = at_condition_back env p ps w ts o e i (block_type (label_of ts).1) refl is r h
-open_block_back env p ps w ts o e false i is r h = at_group_back env p ps w ts o e i (block_type (label_of ts).1) refl is r h
+open_block_back : (context : Context) (p : Part) (ps : List Part) (w : List ℕ) (ts : List Terminal) (o : ℕ) → structured w ≡ Some o → (f : Bool) → is_if o ≡ f
+    → Back context p ps (Open ∷ Word w ∷ ts) (if f then at_condition o (label_of ts).0 (block_type (label_of ts).1) (p ∷ ps) else at_group o (label_of ts).0 (block_type (label_of ts).1) (p ∷ ps))
+open_block_back context p ps w ts o e true i is r h = at_condition_back context p ps w ts o e i (block_type (label_of ts).1) refl is r h
+open_block_back context p ps w ts o e false i is r h = at_group_back context p ps w ts o e i (block_type (label_of ts).1) refl is r h
 
-open_word_back : (env : Env) (p : Part) (ps : List Part) (w : List ℕ) (ts : List Terminal) (o : Option ℕ) → structured w ≡ o → Back env p ps (Open ∷ Word w ∷ ts) (open_by env o (Word w ∷ ts) ts (p ∷ ps))
-open_word_back env p ps w ts (Some o) e is r h = open_block_back env p ps w ts o e (is_if o) refl is r h
-open_word_back env p ps w ts None e is r h = folded_plain_back env p ps w ts e (plain env (labels_in (p ∷ ps)) (Word w ∷ ts)) refl is r h
+open_word_back : (context : Context) (p : Part) (ps : List Part) (w : List ℕ) (ts : List Terminal) (o : Option ℕ) → structured w ≡ o → Back context p ps (Open ∷ Word w ∷ ts) (open_by context o (Word w ∷ ts) ts (p ∷ ps))
+open_word_back context p ps w ts (Some o) e is r h = open_block_back context p ps w ts o e (is_if o) refl is r h
+open_word_back context p ps w ts None e is r h = folded_plain_back context p ps w ts e (plain context (labels_in (p ∷ ps)) (Word w ∷ ts)) refl is r h
 
 -- `then` after a condition
-then_back : (env : Env) (i : Instruction) (l : Label) (ps : List Part) (t : List ℕ) (cs : List Terminal) → is_then t ≡ true → (is : List Instruction) (r : List Terminal) (b : List Instruction) (zs : List Terminal) (es : List Instruction) (vs : List Terminal) (js : List Instruction)
-    → Instructions env (l ∷ labels_in ps) false cs b zs → Closed env (l ∷ labels_in ps) (Then l) zs es vs → Completes env ps vs js r → is ≡ b ++ (es ++ js)
-    → Completes env (Condition i l ∷ ps) (Open ∷ Word t ∷ cs) (i ∷ is) r
-then_back env i l ps t cs e is r b _ _ vs js h by_then rest q =
+then_back : (context : Context) (i : Instruction) (l : Label) (ps : List Part) (t : List ℕ) (cs : List Terminal) → is_then t ≡ true → (is : List Instruction) (r : List Terminal) (b : List Instruction) (zs : List Terminal) (es : List Instruction) (vs : List Terminal) (js : List Instruction)
+    → Instructions context (l ∷ labels_in ps) false cs b zs → Closed context (l ∷ labels_in ps) (Then l) zs es vs → Completes context ps vs js r → is ≡ b ++ (es ++ js)
+    → Completes context (Condition i l ∷ ps) (Open ∷ Word t ∷ cs) (i ∷ is) r
+then_back context i l ps t cs e is r b _ _ vs js h by_then rest q =
     ([], Open ∷ Word t ∷ cs, i ∷ (b ++ (end ∷ [])), vs, js, grammar.by_none, by_condition e h, rest, ap (λ x. i ∷ x) (q ∙ sym (append_assoc b (end ∷ []) js)))
-then_back env i l ps t cs e is r b _ _ vs js h (by_other {other = other} f g) rest q =
+then_back context i l ps t cs e is r b _ _ vs js h (by_other {other = other} f g) rest q =
     ([], Open ∷ Word t ∷ cs, i ∷ (b ++ (otherwise ∷ (other ++ (end ∷ [])))), vs, js, grammar.by_none, by_condition_else e h f g, rest, ap (λ x. i ∷ x) (q ∙ sym (append_assoc b (otherwise ∷ (other ++ (end ∷ []))) js)))
 
-then_word_back : (env : Env) (i : Instruction) (l : Label) (ps : List Part) (w : List ℕ) (ts : List Terminal) (d : Bool) → is_then w ≡ d
-    → Back env (Condition i l) ps (Open ∷ Word w ∷ ts) (if d then machine.on_to (i ∷ []) (Then l ∷ ps) ts else open_by env (structured w) (Word w ∷ ts) ts (Condition i l ∷ ps))
-then_word_back env i l ps w ts true e is r (b, zs, es, vs, js, h, c, rest, t) = then_back env i l ps w ts e is r b zs es vs js h c rest t
-then_word_back env i l ps w ts false e is r h = open_word_back env (Condition i l) ps w ts (structured w) refl is r h
+then_word_back : (context : Context) (i : Instruction) (l : Label) (ps : List Part) (w : List ℕ) (ts : List Terminal) (d : Bool) → is_then w ≡ d
+    → Back context (Condition i l) ps (Open ∷ Word w ∷ ts) (if d then machine.on_to (i ∷ []) (Then l ∷ ps) ts else open_by context (structured w) (Word w ∷ ts) ts (Condition i l ∷ ps))
+then_word_back context i l ps w ts true e is r (b, zs, es, vs, js, h, c, rest, t) = then_back context i l ps w ts e is r b zs es vs js h c rest t
+then_word_back context i l ps w ts false e is r h = open_word_back context (Condition i l) ps w ts (structured w) refl is r h
 
-folded_back : (env : Env) (p : Part) (ps : List Part) (w : List ℕ) (ts : List Terminal) → Back env p ps (Open ∷ Word w ∷ ts) (folded_by env p w (Word w ∷ ts) ts ps)
-folded_back env (Condition i l) ps w ts is r h = then_word_back env i l ps w ts (is_then w) refl is r h
-folded_back env Body ps w ts is r h = open_word_back env Body ps w ts (structured w) refl is r h
-folded_back env (Block b l) ps w ts is r h = open_word_back env (Block b l) ps w ts (structured w) refl is r h
-folded_back env (Group l) ps w ts is r h = open_word_back env (Group l) ps w ts (structured w) refl is r h
-folded_back env (Operands i) ps w ts is r h = open_word_back env (Operands i) ps w ts (structured w) refl is r h
-folded_back env (Then l) ps w ts is r h = open_word_back env (Then l) ps w ts (structured w) refl is r h
-folded_back env (Else l) ps w ts is r h = open_word_back env (Else l) ps w ts (structured w) refl is r h
+folded_back : (context : Context) (p : Part) (ps : List Part) (w : List ℕ) (ts : List Terminal) → Back context p ps (Open ∷ Word w ∷ ts) (folded_by context p w (Word w ∷ ts) ts ps)
+folded_back context (Condition i l) ps w ts is r h = then_word_back context i l ps w ts (is_then w) refl is r h
+folded_back context Body ps w ts is r h = open_word_back context Body ps w ts (structured w) refl is r h
+folded_back context (Block b l) ps w ts is r h = open_word_back context (Block b l) ps w ts (structured w) refl is r h
+folded_back context (Group l) ps w ts is r h = open_word_back context (Group l) ps w ts (structured w) refl is r h
+folded_back context (Operands i) ps w ts is r h = open_word_back context (Operands i) ps w ts (structured w) refl is r h
+folded_back context (Then l) ps w ts is r h = open_word_back context (Then l) ps w ts (structured w) refl is r h
+folded_back context (Else l) ps w ts is r h = open_word_back context (Else l) ps w ts (structured w) refl is r h
 
-open_back : (env : Env) (p : Part) (ps : List Part) (ts : List Terminal) → Back env p ps (Open ∷ ts) (open_step env p ts ps)
-open_back env p ps (Word w ∷ ts) is r h = folded_back env p ps w ts is r h
-open_back env p ps [] is r h = absurd h
-open_back env p ps (Open ∷ ts) is r h = absurd h
-open_back env p ps (Close ∷ ts) is r h = absurd h
-open_back env p ps (Id x ∷ ts) is r h = absurd h
-open_back env p ps (Integer s n ∷ ts) is r h = absurd h
-open_back env p ps (Text v ∷ ts) is r h = absurd h
-open_back env p ps (Other ∷ ts) is r h = absurd h
+open_back : (context : Context) (p : Part) (ps : List Part) (ts : List Terminal) → Back context p ps (Open ∷ ts) (open_step context p ts ps)
+open_back context p ps (Word w ∷ ts) is r h = folded_back context p ps w ts is r h
+open_back context p ps [] is r h = absurd h
+open_back context p ps (Open ∷ ts) is r h = absurd h
+open_back context p ps (Close ∷ ts) is r h = absurd h
+open_back context p ps (Id x ∷ ts) is r h = absurd h
+open_back context p ps (Integer s n ∷ ts) is r h = absurd h
+open_back context p ps (Text v ∷ ts) is r h = absurd h
+open_back context p ps (Other ∷ ts) is r h = absurd h
 
 -- `else` after `then`
-other_back : (env : Env) (l : Label) (ps : List Part) (e : List ℕ) (xs : List Terminal) → is_else e ≡ true → (is : List Instruction) (r : List Terminal) (b : List Instruction) (zs : List Terminal) (es : List Instruction) (vs : List Terminal) (js : List Instruction)
-    → Instructions env (l ∷ labels_in ps) false xs b zs → Closed env (l ∷ labels_in ps) (Else l) zs es vs → Completes env ps vs js r → is ≡ b ++ (es ++ js)
-    → Completes env (Then l ∷ ps) (Close ∷ Open ∷ Word e ∷ xs) (otherwise ∷ is) r
-other_back env l ps e xs k is r b _ _ vs js h by_otherwise rest q =
+other_back : (context : Context) (l : Label) (ps : List Part) (e : List ℕ) (xs : List Terminal) → is_else e ≡ true → (is : List Instruction) (r : List Terminal) (b : List Instruction) (zs : List Terminal) (es : List Instruction) (vs : List Terminal) (js : List Instruction)
+    → Instructions context (l ∷ labels_in ps) false xs b zs → Closed context (l ∷ labels_in ps) (Else l) zs es vs → Completes context ps vs js r → is ≡ b ++ (es ++ js)
+    → Completes context (Then l ∷ ps) (Close ∷ Open ∷ Word e ∷ xs) (otherwise ∷ is) r
+other_back context l ps e xs k is r b _ _ vs js h by_otherwise rest q =
     ([], Close ∷ Open ∷ Word e ∷ xs, otherwise ∷ (b ++ (end ∷ [])), vs, js, grammar.by_none, by_other k h, rest, ap (λ x. otherwise ∷ x) (q ∙ sym (append_assoc b (end ∷ []) js)))
 
-other_word_back : (env : Env) (l : Label) (ps : List Part) (w : List ℕ) (ts : List Terminal) (d : Bool) → is_else w ≡ d
-    → Back env (Then l) ps (Close ∷ Open ∷ Word w ∷ ts) (if d then machine.other_part l ts ps else Err (Unexpected, Word w ∷ ts))
-other_word_back env l ps w ts true e is r (b, zs, es, vs, js, h, c, rest, t) = other_back env l ps w ts e is r b zs es vs js h c rest t
-other_word_back env l ps w ts false e is r h = absurd h
+other_word_back : (context : Context) (l : Label) (ps : List Part) (w : List ℕ) (ts : List Terminal) (d : Bool) → is_else w ≡ d
+    → Back context (Then l) ps (Close ∷ Open ∷ Word w ∷ ts) (if d then machine.other_part l ts ps else Err (Unexpected, Word w ∷ ts))
+other_word_back context l ps w ts true e is r (b, zs, es, vs, js, h, c, rest, t) = other_back context l ps w ts e is r b zs es vs js h c rest t
+other_word_back context l ps w ts false e is r h = absurd h
 
-other_step_back : (env : Env) (l : Label) (ps : List Part) (ts : List Terminal) → Back env (Then l) ps (Close ∷ Open ∷ ts) (machine.other_step l ts ps)
-other_step_back env l ps (Word w ∷ ts) is r h = other_word_back env l ps w ts (is_else w) refl is r h
-other_step_back env l ps [] is r h = absurd h
-other_step_back env l ps (Open ∷ ts) is r h = absurd h
-other_step_back env l ps (Close ∷ ts) is r h = absurd h
-other_step_back env l ps (Id x ∷ ts) is r h = absurd h
-other_step_back env l ps (Integer s n ∷ ts) is r h = absurd h
-other_step_back env l ps (Text v ∷ ts) is r h = absurd h
-other_step_back env l ps (Other ∷ ts) is r h = absurd h
+other_step_back : (context : Context) (l : Label) (ps : List Part) (ts : List Terminal) → Back context (Then l) ps (Close ∷ Open ∷ ts) (machine.other_step l ts ps)
+other_step_back context l ps (Word w ∷ ts) is r h = other_word_back context l ps w ts (is_else w) refl is r h
+other_step_back context l ps [] is r h = absurd h
+other_step_back context l ps (Open ∷ ts) is r h = absurd h
+other_step_back context l ps (Close ∷ ts) is r h = absurd h
+other_step_back context l ps (Id x ∷ ts) is r h = absurd h
+other_step_back context l ps (Integer s n ∷ ts) is r h = absurd h
+other_step_back context l ps (Text v ∷ ts) is r h = absurd h
+other_step_back context l ps (Other ∷ ts) is r h = absurd h
 
-then_step_back : (env : Env) (l : Label) (ps : List Part) (ts : List Terminal) → Back env (Then l) ps (Close ∷ ts) (machine.then_step l ts ps)
-then_step_back env l ps (Close ∷ ts) is r h = closed_back env (Then l) ps (Close ∷ Close ∷ ts) (end ∷ []) ts by_then is r h
-then_step_back env l ps (Open ∷ ts) is r h = other_step_back env l ps ts is r h
-then_step_back env l ps [] is r h = absurd h
-then_step_back env l ps (Word w ∷ ts) is r h = absurd h
-then_step_back env l ps (Id x ∷ ts) is r h = absurd h
-then_step_back env l ps (Integer s n ∷ ts) is r h = absurd h
-then_step_back env l ps (Text v ∷ ts) is r h = absurd h
-then_step_back env l ps (Other ∷ ts) is r h = absurd h
+then_step_back : (context : Context) (l : Label) (ps : List Part) (ts : List Terminal) → Back context (Then l) ps (Close ∷ ts) (machine.then_step l ts ps)
+then_step_back context l ps (Close ∷ ts) is r h = closed_back context (Then l) ps (Close ∷ Close ∷ ts) (end ∷ []) ts by_then is r h
+then_step_back context l ps (Open ∷ ts) is r h = other_step_back context l ps ts is r h
+then_step_back context l ps [] is r h = absurd h
+then_step_back context l ps (Word w ∷ ts) is r h = absurd h
+then_step_back context l ps (Id x ∷ ts) is r h = absurd h
+then_step_back context l ps (Integer s n ∷ ts) is r h = absurd h
+then_step_back context l ps (Text v ∷ ts) is r h = absurd h
+then_step_back context l ps (Other ∷ ts) is r h = absurd h
 
-else_step_back : (env : Env) (l : Label) (ps : List Part) (ts : List Terminal) → Back env (Else l) ps (Close ∷ ts) (machine.else_step ts ps)
-else_step_back env l ps (Close ∷ ts) is r h = closed_back env (Else l) ps (Close ∷ Close ∷ ts) (end ∷ []) ts by_otherwise is r h
-else_step_back env l ps [] is r h = absurd h
-else_step_back env l ps (Open ∷ ts) is r h = absurd h
-else_step_back env l ps (Word w ∷ ts) is r h = absurd h
-else_step_back env l ps (Id x ∷ ts) is r h = absurd h
-else_step_back env l ps (Integer s n ∷ ts) is r h = absurd h
-else_step_back env l ps (Text v ∷ ts) is r h = absurd h
-else_step_back env l ps (Other ∷ ts) is r h = absurd h
+else_step_back : (context : Context) (l : Label) (ps : List Part) (ts : List Terminal) → Back context (Else l) ps (Close ∷ ts) (machine.else_step ts ps)
+else_step_back context l ps (Close ∷ ts) is r h = closed_back context (Else l) ps (Close ∷ Close ∷ ts) (end ∷ []) ts by_otherwise is r h
+else_step_back context l ps [] is r h = absurd h
+else_step_back context l ps (Open ∷ ts) is r h = absurd h
+else_step_back context l ps (Word w ∷ ts) is r h = absurd h
+else_step_back context l ps (Id x ∷ ts) is r h = absurd h
+else_step_back context l ps (Integer s n ∷ ts) is r h = absurd h
+else_step_back context l ps (Text v ∷ ts) is r h = absurd h
+else_step_back context l ps (Other ∷ ts) is r h = absurd h
 
-close_back : (env : Env) (p : Part) (ps : List Part) (ts : List Terminal) → Back env p ps (Close ∷ ts) (machine.close_step p (Close ∷ ts) ts ps)
-close_back env Body ps ts is r h = closed_back env Body ps (Close ∷ ts) [] ts by_body is r h
-close_back env (Group l) ps ts is r h = closed_back env (Group l) ps (Close ∷ ts) (end ∷ []) ts by_group is r h
-close_back env (Operands i) ps ts is r h = closed_back env (Operands i) ps (Close ∷ ts) (i ∷ []) ts by_operands is r h
-close_back env (Then l) ps ts is r h = then_step_back env l ps ts is r h
-close_back env (Else l) ps ts is r h = else_step_back env l ps ts is r h
-close_back env (Block b l) ps ts is r h = absurd h
-close_back env (Condition i l) ps ts is r h = absurd h
+close_back : (context : Context) (p : Part) (ps : List Part) (ts : List Terminal) → Back context p ps (Close ∷ ts) (machine.close_step p (Close ∷ ts) ts ps)
+close_back context Body ps ts is r h = closed_back context Body ps (Close ∷ ts) [] ts by_body is r h
+close_back context (Group l) ps ts is r h = closed_back context (Group l) ps (Close ∷ ts) (end ∷ []) ts by_group is r h
+close_back context (Operands i) ps ts is r h = closed_back context (Operands i) ps (Close ∷ ts) (i ∷ []) ts by_operands is r h
+close_back context (Then l) ps ts is r h = then_step_back context l ps ts is r h
+close_back context (Else l) ps ts is r h = else_step_back context l ps ts is r h
+close_back context (Block b l) ps ts is r h = absurd h
+close_back context (Condition i l) ps ts is r h = absurd h
 
-any_word_back : (env : Env) (p : Part) (ps : List Part) (w : List ℕ) (ts : List Terminal) → Back env p ps (Word w ∷ ts) (word_step env p w (Word w ∷ ts) ts ps)
-any_word_back env Body ps w ts is r h = word_back env Body ps w ts refl (structured w) refl is r h
-any_word_back env (Group l) ps w ts is r h = word_back env (Group l) ps w ts refl (structured w) refl is r h
-any_word_back env (Block b l) ps w ts is r h = block_word_back env b l ps w ts (is_end w) refl is r h
-any_word_back env (Then l) ps w ts is r h = word_back env (Then l) ps w ts refl (structured w) refl is r h
-any_word_back env (Else l) ps w ts is r h = word_back env (Else l) ps w ts refl (structured w) refl is r h
-any_word_back env (Operands i) ps w ts is r h = absurd h
-any_word_back env (Condition i l) ps w ts is r h = absurd h
+any_word_back : (context : Context) (p : Part) (ps : List Part) (w : List ℕ) (ts : List Terminal) → Back context p ps (Word w ∷ ts) (word_step context p w (Word w ∷ ts) ts ps)
+any_word_back context Body ps w ts is r h = word_back context Body ps w ts refl (structured w) refl is r h
+any_word_back context (Group l) ps w ts is r h = word_back context (Group l) ps w ts refl (structured w) refl is r h
+any_word_back context (Block b l) ps w ts is r h = block_word_back context b l ps w ts (is_end w) refl is r h
+any_word_back context (Then l) ps w ts is r h = word_back context (Then l) ps w ts refl (structured w) refl is r h
+any_word_back context (Else l) ps w ts is r h = word_back context (Else l) ps w ts refl (structured w) refl is r h
+any_word_back context (Operands i) ps w ts is r h = absurd h
+any_word_back context (Condition i l) ps w ts is r h = absurd h
 
-back : (env : Env) (p : Part) (ps : List Part) (ts : List Terminal) → Back env p ps ts (step env p ps ts)
+back : (context : Context) (p : Part) (ps : List Part) (ts : List Terminal) → Back context p ps ts (step context p ps ts)
 unfolding step
-back env p ps [] is r h = absurd h
-back env p ps (Open ∷ ts) is r h = open_back env p ps ts is r h
-back env p ps (Close ∷ ts) is r h = close_back env p ps ts is r h
-back env p ps (Word w ∷ ts) is r h = any_word_back env p ps w ts is r h
-back env p ps (Id x ∷ ts) is r h = absurd h
-back env p ps (Integer s n ∷ ts) is r h = absurd h
-back env p ps (Text v ∷ ts) is r h = absurd h
-back env p ps (Other ∷ ts) is r h = absurd h
+back context p ps [] is r h = absurd h
+back context p ps (Open ∷ ts) is r h = open_back context p ps ts is r h
+back context p ps (Close ∷ ts) is r h = close_back context p ps ts is r h
+back context p ps (Word w ∷ ts) is r h = any_word_back context p ps w ts is r h
+back context p ps (Id x ∷ ts) is r h = absurd h
+back context p ps (Integer s n ∷ ts) is r h = absurd h
+back context p ps (Text v ∷ ts) is r h = absurd h
+back context p ps (Other ∷ ts) is r h = absurd h
 
 -- The other way.
 
@@ -326,59 +326,59 @@ turned_takes : (l : Label) (q : Result (List Terminal) Fault) (ps : List Part) (
 turned_takes l (Ok us) ps ts h = omega (arith, h.short)
 turned_takes l (Err f) ps ts h = tt
 
-word_takes : (env : Env) (o : Option ℕ) (w : List ℕ) (ts : List Terminal) (ps : List Part) → Left (word_by env o (Word w ∷ ts) ts ps) (suc (length ts))
-word_takes env (Some o) w ts ps = at_block_takes o (label_of ts).0 (block_type (label_of ts).1) ps ts (head_keeps ts)
-word_takes env None w ts ps = at_plain_takes (plain env (labels_in ps) (Word w ∷ ts)) ps (Word w ∷ ts) (plain_takes env (labels_in ps) w ts)
+word_takes : (context : Context) (o : Option ℕ) (w : List ℕ) (ts : List Terminal) (ps : List Part) → Left (word_by context o (Word w ∷ ts) ts ps) (suc (length ts))
+word_takes context (Some o) w ts ps = at_block_takes o (label_of ts).0 (block_type (label_of ts).1) ps ts (head_keeps ts)
+word_takes context None w ts ps = at_plain_takes (plain context (labels_in ps) (Word w ∷ ts)) ps (Word w ∷ ts) (plain_takes context (labels_in ps) w ts)
 
-else_word_takes : (env : Env) (b : Bool) (l : Label) (w : List ℕ) (ts : List Terminal) (ps : List Part) (e : Bool) → Left (if e then turned l (end_label l ts) ps else word_by env (structured w) (Word w ∷ ts) ts (Block b l ∷ ps)) (suc (length ts))
-else_word_takes env b l w ts ps true = turned_takes l (end_label l ts) ps ts (end_keeps l ts)
-else_word_takes env b l w ts ps false = word_takes env (structured w) w ts (Block b l ∷ ps)
+else_word_takes : (context : Context) (b : Bool) (l : Label) (w : List ℕ) (ts : List Terminal) (ps : List Part) (e : Bool) → Left (if e then turned l (end_label l ts) ps else word_by context (structured w) (Word w ∷ ts) ts (Block b l ∷ ps)) (suc (length ts))
+else_word_takes context b l w ts ps true = turned_takes l (end_label l ts) ps ts (end_keeps l ts)
+else_word_takes context b l w ts ps false = word_takes context (structured w) w ts (Block b l ∷ ps)
 
-block_word_takes : (env : Env) (b : Bool) (l : Label) (w : List ℕ) (ts : List Terminal) (ps : List Part) (d : Bool)
-    → Left (if d then ended (end_label l ts) ps else if b && is_else w then turned l (end_label l ts) ps else word_by env (structured w) (Word w ∷ ts) ts (Block b l ∷ ps)) (suc (length ts))
-block_word_takes env b l w ts ps true = ended_takes (end_label l ts) ps ts (end_keeps l ts)
-block_word_takes env b l w ts ps false = else_word_takes env b l w ts ps (b && is_else w)
+block_word_takes : (context : Context) (b : Bool) (l : Label) (w : List ℕ) (ts : List Terminal) (ps : List Part) (d : Bool)
+    → Left (if d then ended (end_label l ts) ps else if b && is_else w then turned l (end_label l ts) ps else word_by context (structured w) (Word w ∷ ts) ts (Block b l ∷ ps)) (suc (length ts))
+block_word_takes context b l w ts ps true = ended_takes (end_label l ts) ps ts (end_keeps l ts)
+block_word_takes context b l w ts ps false = else_word_takes context b l w ts ps (b && is_else w)
 
-any_word_takes : (env : Env) (p : Part) (w : List ℕ) (ts : List Terminal) (ps : List Part) → Left (word_step env p w (Word w ∷ ts) ts ps) (suc (length ts))
-any_word_takes env Body w ts ps = word_takes env (structured w) w ts (Body ∷ ps)
-any_word_takes env (Group l) w ts ps = word_takes env (structured w) w ts (Group l ∷ ps)
-any_word_takes env (Then l) w ts ps = word_takes env (structured w) w ts (Then l ∷ ps)
-any_word_takes env (Else l) w ts ps = word_takes env (structured w) w ts (Else l ∷ ps)
-any_word_takes env (Block b l) w ts ps = block_word_takes env b l w ts ps (is_end w)
-any_word_takes env (Operands i) w ts ps = tt
-any_word_takes env (Condition i l) w ts ps = tt
+any_word_takes : (context : Context) (p : Part) (w : List ℕ) (ts : List Terminal) (ps : List Part) → Left (word_step context p w (Word w ∷ ts) ts ps) (suc (length ts))
+any_word_takes context Body w ts ps = word_takes context (structured w) w ts (Body ∷ ps)
+any_word_takes context (Group l) w ts ps = word_takes context (structured w) w ts (Group l ∷ ps)
+any_word_takes context (Then l) w ts ps = word_takes context (structured w) w ts (Then l ∷ ps)
+any_word_takes context (Else l) w ts ps = word_takes context (structured w) w ts (Else l ∷ ps)
+any_word_takes context (Block b l) w ts ps = block_word_takes context b l w ts ps (is_end w)
+any_word_takes context (Operands i) w ts ps = tt
+any_word_takes context (Condition i l) w ts ps = tt
 
 open_block_takes : (f : Bool) (o : ℕ) (ts : List Terminal) (ps : List Part) → Left (if f then at_condition o (label_of ts).0 (block_type (label_of ts).1) ps else at_group o (label_of ts).0 (block_type (label_of ts).1) ps) (suc (suc (length ts)))
 open_block_takes true o ts ps = at_condition_takes o (label_of ts).0 (block_type (label_of ts).1) ps ts (head_keeps ts)
 open_block_takes false o ts ps = at_group_takes o (label_of ts).0 (block_type (label_of ts).1) ps ts (head_keeps ts)
 
-open_by_takes : (env : Env) (o : Option ℕ) (w : List ℕ) (ts : List Terminal) (ps : List Part) → Left (open_by env o (Word w ∷ ts) ts ps) (suc (suc (length ts)))
-open_by_takes env (Some o) w ts ps = open_block_takes (is_if o) o ts ps
-open_by_takes env None w ts ps = at_operands_takes (plain env (labels_in ps) (Word w ∷ ts)) ps (Word w ∷ ts) (plain_takes env (labels_in ps) w ts)
+open_by_takes : (context : Context) (o : Option ℕ) (w : List ℕ) (ts : List Terminal) (ps : List Part) → Left (open_by context o (Word w ∷ ts) ts ps) (suc (suc (length ts)))
+open_by_takes context (Some o) w ts ps = open_block_takes (is_if o) o ts ps
+open_by_takes context None w ts ps = at_operands_takes (plain context (labels_in ps) (Word w ∷ ts)) ps (Word w ∷ ts) (plain_takes context (labels_in ps) w ts)
 
-then_takes : (env : Env) (d : Bool) (i : Instruction) (l : Label) (w : List ℕ) (ts : List Terminal) (ps : List Part)
-    → Left (if d then machine.on_to (i ∷ []) (Then l ∷ ps) ts else open_by env (structured w) (Word w ∷ ts) ts (Condition i l ∷ ps)) (suc (suc (length ts)))
-then_takes env true i l w ts ps = omega arith
-then_takes env false i l w ts ps = open_by_takes env (structured w) w ts (Condition i l ∷ ps)
+then_takes : (context : Context) (d : Bool) (i : Instruction) (l : Label) (w : List ℕ) (ts : List Terminal) (ps : List Part)
+    → Left (if d then machine.on_to (i ∷ []) (Then l ∷ ps) ts else open_by context (structured w) (Word w ∷ ts) ts (Condition i l ∷ ps)) (suc (suc (length ts)))
+then_takes context true i l w ts ps = omega arith
+then_takes context false i l w ts ps = open_by_takes context (structured w) w ts (Condition i l ∷ ps)
 
-folded_takes : (env : Env) (p : Part) (w : List ℕ) (ts : List Terminal) (ps : List Part) → Left (folded_by env p w (Word w ∷ ts) ts ps) (suc (suc (length ts)))
-folded_takes env (Condition i l) w ts ps = then_takes env (is_then w) i l w ts ps
-folded_takes env Body w ts ps = open_by_takes env (structured w) w ts (Body ∷ ps)
-folded_takes env (Block b l) w ts ps = open_by_takes env (structured w) w ts (Block b l ∷ ps)
-folded_takes env (Group l) w ts ps = open_by_takes env (structured w) w ts (Group l ∷ ps)
-folded_takes env (Operands i) w ts ps = open_by_takes env (structured w) w ts (Operands i ∷ ps)
-folded_takes env (Then l) w ts ps = open_by_takes env (structured w) w ts (Then l ∷ ps)
-folded_takes env (Else l) w ts ps = open_by_takes env (structured w) w ts (Else l ∷ ps)
+folded_takes : (context : Context) (p : Part) (w : List ℕ) (ts : List Terminal) (ps : List Part) → Left (folded_by context p w (Word w ∷ ts) ts ps) (suc (suc (length ts)))
+folded_takes context (Condition i l) w ts ps = then_takes context (is_then w) i l w ts ps
+folded_takes context Body w ts ps = open_by_takes context (structured w) w ts (Body ∷ ps)
+folded_takes context (Block b l) w ts ps = open_by_takes context (structured w) w ts (Block b l ∷ ps)
+folded_takes context (Group l) w ts ps = open_by_takes context (structured w) w ts (Group l ∷ ps)
+folded_takes context (Operands i) w ts ps = open_by_takes context (structured w) w ts (Operands i ∷ ps)
+folded_takes context (Then l) w ts ps = open_by_takes context (structured w) w ts (Then l ∷ ps)
+folded_takes context (Else l) w ts ps = open_by_takes context (structured w) w ts (Else l ∷ ps)
 
-open_takes : (env : Env) (p : Part) (ts : List Terminal) (ps : List Part) → Left (open_step env p ts ps) (suc (length ts))
-open_takes env p (Word w ∷ ts) ps = folded_takes env p w ts ps
-open_takes env p [] ps = tt
-open_takes env p (Open ∷ ts) ps = tt
-open_takes env p (Close ∷ ts) ps = tt
-open_takes env p (Id x ∷ ts) ps = tt
-open_takes env p (Integer s n ∷ ts) ps = tt
-open_takes env p (Text v ∷ ts) ps = tt
-open_takes env p (Other ∷ ts) ps = tt
+open_takes : (context : Context) (p : Part) (ts : List Terminal) (ps : List Part) → Left (open_step context p ts ps) (suc (length ts))
+open_takes context p (Word w ∷ ts) ps = folded_takes context p w ts ps
+open_takes context p [] ps = tt
+open_takes context p (Open ∷ ts) ps = tt
+open_takes context p (Close ∷ ts) ps = tt
+open_takes context p (Id x ∷ ts) ps = tt
+open_takes context p (Integer s n ∷ ts) ps = tt
+open_takes context p (Text v ∷ ts) ps = tt
+open_takes context p (Other ∷ ts) ps = tt
 
 other_by_takes : (d : Bool) (l : Label) (w : List ℕ) (ts : List Terminal) (ps : List Part) → Left (if d then machine.other_part l ts ps else Err (Unexpected, Word w ∷ ts)) (suc (suc (suc (length ts))))
 other_by_takes true l w ts ps = omega arith
@@ -423,22 +423,22 @@ close_takes (Else l) ts ps = else_step_takes ts ps
 close_takes (Block b l) ts ps = tt
 close_takes (Condition i l) ts ps = tt
 
-takes : (env : Env) (p : Part) (ps : List Part) (ts : List Terminal) → Left (step env p ps ts) (length ts)
+takes : (context : Context) (p : Part) (ps : List Part) (ts : List Terminal) → Left (step context p ps ts) (length ts)
 unfolding step
-takes env p ps [] = tt
-takes env p ps (Open ∷ ts) = open_takes env p ts ps
-takes env p ps (Close ∷ ts) = close_takes p ts ps
-takes env p ps (Word w ∷ ts) = any_word_takes env p w ts ps
-takes env p ps (Id x ∷ ts) = tt
-takes env p ps (Integer s n ∷ ts) = tt
-takes env p ps (Text v ∷ ts) = tt
-takes env p ps (Other ∷ ts) = tt
+takes context p ps [] = tt
+takes context p ps (Open ∷ ts) = open_takes context p ts ps
+takes context p ps (Close ∷ ts) = close_takes p ts ps
+takes context p ps (Word w ∷ ts) = any_word_takes context p w ts ps
+takes context p ps (Id x ∷ ts) = tt
+takes context p ps (Integer s n ∷ ts) = tt
+takes context p ps (Text v ∷ ts) = tt
+takes context p ps (Other ∷ ts) = tt
 
-pub step_takes : (env : Env) (p : Part) (ps : List Part) (ts : List Terminal) (s : Step) → step env p ps ts ≡ Ok s → length s.left < length ts
-step_takes env p ps ts s e = let K : Result Step Fault → Type 0 = λ q. Left q (length ts) in subst K e (takes env p ps ts)
+pub step_takes : (context : Context) (p : Part) (ps : List Part) (ts : List Terminal) (s : Step) → step context p ps ts ≡ Ok s → length s.left < length ts
+step_takes context p ps ts s e = let K : Result Step Fault → Type 0 = λ q. Left q (length ts) in subst K e (takes context p ps ts)
 
-abbrev Goes : Env → Result Step Fault → List Instruction → List Terminal → ℕ → Type 0
-Goes env q is r n = (js : List Instruction) × (is ≡ output_of q ++ js) × Lands env q js r × (length (left_of q) < n)
+abbrev Goes : Context → Result Step Fault → List Instruction → List Terminal → ℕ → Type 0
+Goes context q is r n = (js : List Instruction) × (is ≡ output_of q ++ js) × Lands context q js r × (length (left_of q) < n)
 
 end_is : (w : List ℕ) → is_end w ≡ true → w ≡ codes "end"
 end_is w e = (bytes_eq-Decides w (codes "end")).0 e
@@ -451,74 +451,74 @@ else_is : (w : List ℕ) → is_else w ≡ true → w ≡ codes "else"
 else_is w e = (bytes_eq-Decides w (codes "else")).0 e
 
 -- what closes a part closes it in one step
-closes : (env : Env) (p : Part) (ps : List Part) (us : List Terminal) (es : List Instruction) (vs : List Terminal) (js : List Instruction) (r : List Terminal) → Closed env (labels_in (p ∷ ps)) p us es vs → Completes env ps vs js r → Goes env (step env p ps us) (es ++ js) r (length us)
+closes : (context : Context) (p : Part) (ps : List Part) (us : List Terminal) (es : List Instruction) (vs : List Terminal) (js : List Instruction) (r : List Terminal) → Closed context (labels_in (p ∷ ps)) p us es vs → Completes context ps vs js r → Goes context (step context p ps us) (es ++ js) r (length us)
 unfolding step
-closes env _ ps _ _ vs js r by_body h = (js, refl, h, omega arith)
-closes env _ ps _ _ vs js r by_group h = (js, refl, h, omega arith)
-closes env _ ps _ _ vs js r by_operands h = (js, refl, h, omega arith)
-closes env _ ps _ _ vs js r (by_block {b = b} {l = l} {v = v} {us = us} e k) h =
-    subst (λ d. Goes env (if d then ended (end_label l us) ps else if b && is_else v then turned l (end_label l us) ps else word_by env (structured v) (Word v ∷ us) us (Block b l ∷ ps)) (end ∷ js) r (suc (length us))) (sym e)
-    (subst (λ q. Goes env (ended q ps) (end ∷ js) r (suc (length us))) (sym k)
+closes context _ ps _ _ vs js r by_body h = (js, refl, h, omega arith)
+closes context _ ps _ _ vs js r by_group h = (js, refl, h, omega arith)
+closes context _ ps _ _ vs js r by_operands h = (js, refl, h, omega arith)
+closes context _ ps _ _ vs js r (by_block {b = b} {l = l} {v = v} {us = us} e k) h =
+    subst (λ d. Goes context (if d then ended (end_label l us) ps else if b && is_else v then turned l (end_label l us) ps else word_by context (structured v) (Word v ∷ us) us (Block b l ∷ ps)) (end ∷ js) r (suc (length us))) (sym e)
+    (subst (λ q. Goes context (ended q ps) (end ∷ js) r (suc (length us))) (sym k)
     (js, refl, h, omega (arith, (end_passes l us vs k).short)))
-closes env _ ps _ _ vs js r (by_else {l = l} {v = v} {x = x} {us = us} {xs = xs} {ys = ys} {other = other} e k g m q) h =
-    subst (λ d. Goes env (if d then ended (end_label l us) ps else if is_else v then turned l (end_label l us) ps else word_by env (structured v) (Word v ∷ us) us (Block true l ∷ ps)) (otherwise ∷ ((other ++ (end ∷ [])) ++ js)) r (suc (length us))) (sym (no_end_else v e (is_end v) refl))
-    (subst (λ d. Goes env (if d then turned l (end_label l us) ps else word_by env (structured v) (Word v ∷ us) us (Block true l ∷ ps)) (otherwise ∷ ((other ++ (end ∷ [])) ++ js)) r (suc (length us))) (sym e)
-    (subst (λ z. Goes env (turned l z ps) (otherwise ∷ ((other ++ (end ∷ [])) ++ js)) r (suc (length us))) (sym k) (
+closes context _ ps _ _ vs js r (by_else {l = l} {v = v} {x = x} {us = us} {xs = xs} {ys = ys} {other = other} e k g m q) h =
+    subst (λ d. Goes context (if d then ended (end_label l us) ps else if is_else v then turned l (end_label l us) ps else word_by context (structured v) (Word v ∷ us) us (Block true l ∷ ps)) (otherwise ∷ ((other ++ (end ∷ [])) ++ js)) r (suc (length us))) (sym (no_end_else v e (is_end v) refl))
+    (subst (λ d. Goes context (if d then turned l (end_label l us) ps else word_by context (structured v) (Word v ∷ us) us (Block true l ∷ ps)) (otherwise ∷ ((other ++ (end ∷ [])) ++ js)) r (suc (length us))) (sym e)
+    (subst (λ z. Goes context (turned l z ps) (otherwise ∷ ((other ++ (end ∷ [])) ++ js)) r (suc (length us))) (sym k) (
       other ++ (end ∷ js),
       ap (λ z. otherwise ∷ z) (append_assoc other (end ∷ []) js),
       (other, Word x ∷ ys, end ∷ [], vs, js, g, by_block m q, h, refl),
       omega (arith, (end_passes l us xs k).short),
     )))
-closes env _ ps _ _ vs js r by_then h = (js, refl, h, omega arith)
-closes env _ ps _ _ vs js r by_otherwise h = (js, refl, h, omega arith)
-closes env _ ps _ _ vs js r (by_other {l = l} {e = e} {es = es} {other = other} k g) h =
-    subst (λ d. Goes env (if d then machine.other_part l es ps else Err (Unexpected, Word e ∷ es)) (otherwise ∷ ((other ++ (end ∷ [])) ++ js)) r (suc (suc (suc (length es))))) (sym k)
+closes context _ ps _ _ vs js r by_then h = (js, refl, h, omega arith)
+closes context _ ps _ _ vs js r by_otherwise h = (js, refl, h, omega arith)
+closes context _ ps _ _ vs js r (by_other {l = l} {e = e} {es = es} {other = other} k g) h =
+    subst (λ d. Goes context (if d then machine.other_part l es ps else Err (Unexpected, Word e ∷ es)) (otherwise ∷ ((other ++ (end ∷ [])) ++ js)) r (suc (suc (suc (length es))))) (sym k)
     (other ++ (end ∷ js), ap (λ z. otherwise ∷ z) (append_assoc other (end ∷ []) js), (other, Close ∷ Close ∷ vs, end ∷ [], vs, js, g, by_otherwise, h, refl), omega arith)
-closes env _ ps _ _ vs js r (by_condition {i = i} {l = l} {t = t} {cs = cs} {body = body} k g) h =
-    subst (λ d. Goes env (if d then machine.on_to (i ∷ []) (Then l ∷ ps) cs else open_by env (structured t) (Word t ∷ cs) cs (Condition i l ∷ ps)) (i ∷ ((body ++ (end ∷ [])) ++ js)) r (suc (suc (length cs)))) (sym k)
+closes context _ ps _ _ vs js r (by_condition {i = i} {l = l} {t = t} {cs = cs} {body = body} k g) h =
+    subst (λ d. Goes context (if d then machine.on_to (i ∷ []) (Then l ∷ ps) cs else open_by context (structured t) (Word t ∷ cs) cs (Condition i l ∷ ps)) (i ∷ ((body ++ (end ∷ [])) ++ js)) r (suc (suc (length cs)))) (sym k)
     (body ++ (end ∷ js), ap (λ z. i ∷ z) (append_assoc body (end ∷ []) js), (body, Close ∷ Close ∷ vs, end ∷ [], vs, js, g, by_then, h, refl), omega arith)
-closes env _ ps _ _ vs js r (by_condition_else {i = i} {l = l} {t = t} {e = e} {cs = cs} {es = es} {body = body} {other = other} k g f q) h =
+closes context _ ps _ _ vs js r (by_condition_else {i = i} {l = l} {t = t} {e = e} {cs = cs} {es = es} {body = body} {other = other} k g f q) h =
     let els = otherwise ∷ (other ++ (end ∷ [])) in
-    subst (λ d. Goes env (if d then machine.on_to (i ∷ []) (Then l ∷ ps) cs else open_by env (structured t) (Word t ∷ cs) cs (Condition i l ∷ ps)) (i ∷ ((body ++ els) ++ js)) r (suc (suc (length cs)))) (sym k)
+    subst (λ d. Goes context (if d then machine.on_to (i ∷ []) (Then l ∷ ps) cs else open_by context (structured t) (Word t ∷ cs) cs (Condition i l ∷ ps)) (i ∷ ((body ++ els) ++ js)) r (suc (suc (length cs)))) (sym k)
     (body ++ (els ++ js), ap (λ z. i ∷ z) (append_assoc body els js), (body, Close ∷ Open ∷ Word e ∷ es, els, vs, js, g, by_other f q, h, refl), omega arith)
 
 then_is : (w : List ℕ) → is_then w ≡ true → w ≡ codes "then"
 then_is w e = (bytes_eq-Decides w (codes "then")).0 e
 
-end_is_no_plain : (env : Env) (ls : List Label) (ts : List Terminal) → plain env ls (Word (codes "end") ∷ ts) ≡ Err (UnknownWord, Word (codes "end") ∷ ts)
+end_is_no_plain : (context : Context) (ls : List Label) (ts : List Terminal) → plain context ls (Word (codes "end") ∷ ts) ≡ Err (UnknownWord, Word (codes "end") ∷ ts)
 unfolding plain mnemonics low high
-end_is_no_plain env ls ts = refl
+end_is_no_plain context ls ts = refl
 
-no_end_plain : (env : Env) (ls : List Label) (w : List ℕ) (ts : List Terminal) (x : Instruction × List Terminal) → plain env ls (Word w ∷ ts) ≡ Ok x → (b : Bool) → is_end w ≡ b → b ≡ false
-no_end_plain env ls w ts x e true k =
-    let f : plain env ls (Word w ∷ ts) ≡ Err (UnknownWord, Word w ∷ ts) = subst (λ v. plain env ls (Word v ∷ ts) ≡ Err (UnknownWord, Word v ∷ ts)) (sym (end_is w k)) (end_is_no_plain env ls ts) in cc
-no_end_plain env ls w ts x e false k = refl
+no_end_plain : (context : Context) (ls : List Label) (w : List ℕ) (ts : List Terminal) (x : Instruction × List Terminal) → plain context ls (Word w ∷ ts) ≡ Ok x → (b : Bool) → is_end w ≡ b → b ≡ false
+no_end_plain context ls w ts x e true k =
+    let f : plain context ls (Word w ∷ ts) ≡ Err (UnknownWord, Word w ∷ ts) = subst (λ v. plain context ls (Word v ∷ ts) ≡ Err (UnknownWord, Word v ∷ ts)) (sym (end_is w k)) (end_is_no_plain context ls ts) in cc
+no_end_plain context ls w ts x e false k = refl
 
 no_end_structured : (w : List ℕ) (o : ℕ) → structured w ≡ Some o → (b : Bool) → is_end w ≡ b → b ≡ false
 no_end_structured w o e true k = let f : structured w ≡ None = subst (λ v. structured v ≡ None) (sym (end_is w k)) refl in cc
 no_end_structured w o e false k = refl
 
-else_is_no_plain : (env : Env) (ls : List Label) (ts : List Terminal) → plain env ls (Word (codes "else") ∷ ts) ≡ Err (UnknownWord, Word (codes "else") ∷ ts)
+else_is_no_plain : (context : Context) (ls : List Label) (ts : List Terminal) → plain context ls (Word (codes "else") ∷ ts) ≡ Err (UnknownWord, Word (codes "else") ∷ ts)
 unfolding plain mnemonics low high
-else_is_no_plain env ls ts = refl
+else_is_no_plain context ls ts = refl
 
-no_else_plain : (env : Env) (ls : List Label) (w : List ℕ) (ts : List Terminal) (x : Instruction × List Terminal) → plain env ls (Word w ∷ ts) ≡ Ok x → (b : Bool) → is_else w ≡ b → b ≡ false
-no_else_plain env ls w ts x e true k =
-    let f : plain env ls (Word w ∷ ts) ≡ Err (UnknownWord, Word w ∷ ts) = subst (λ v. plain env ls (Word v ∷ ts) ≡ Err (UnknownWord, Word v ∷ ts)) (sym (else_is w k)) (else_is_no_plain env ls ts) in cc
-no_else_plain env ls w ts x e false k = refl
+no_else_plain : (context : Context) (ls : List Label) (w : List ℕ) (ts : List Terminal) (x : Instruction × List Terminal) → plain context ls (Word w ∷ ts) ≡ Ok x → (b : Bool) → is_else w ≡ b → b ≡ false
+no_else_plain context ls w ts x e true k =
+    let f : plain context ls (Word w ∷ ts) ≡ Err (UnknownWord, Word w ∷ ts) = subst (λ v. plain context ls (Word v ∷ ts) ≡ Err (UnknownWord, Word v ∷ ts)) (sym (else_is w k)) (else_is_no_plain context ls ts) in cc
+no_else_plain context ls w ts x e false k = refl
 
 no_else_structured : (w : List ℕ) (o : ℕ) → structured w ≡ Some o → (b : Bool) → is_else w ≡ b → b ≡ false
 no_else_structured w o e true k = let f : structured w ≡ None = subst (λ v. structured v ≡ None) (sym (else_is w k)) refl in cc
 no_else_structured w o e false k = refl
 
-then_is_no_plain : (env : Env) (ls : List Label) (ts : List Terminal) → plain env ls (Word (codes "then") ∷ ts) ≡ Err (UnknownWord, Word (codes "then") ∷ ts)
+then_is_no_plain : (context : Context) (ls : List Label) (ts : List Terminal) → plain context ls (Word (codes "then") ∷ ts) ≡ Err (UnknownWord, Word (codes "then") ∷ ts)
 unfolding plain mnemonics low high
-then_is_no_plain env ls ts = refl
+then_is_no_plain context ls ts = refl
 
-no_then_plain : (env : Env) (ls : List Label) (w : List ℕ) (ts : List Terminal) (x : Instruction × List Terminal) → plain env ls (Word w ∷ ts) ≡ Ok x → (b : Bool) → is_then w ≡ b → b ≡ false
-no_then_plain env ls w ts x e true k =
-    let f : plain env ls (Word w ∷ ts) ≡ Err (UnknownWord, Word w ∷ ts) = subst (λ v. plain env ls (Word v ∷ ts) ≡ Err (UnknownWord, Word v ∷ ts)) (sym (then_is w k)) (then_is_no_plain env ls ts) in cc
-no_then_plain env ls w ts x e false k = refl
+no_then_plain : (context : Context) (ls : List Label) (w : List ℕ) (ts : List Terminal) (x : Instruction × List Terminal) → plain context ls (Word w ∷ ts) ≡ Ok x → (b : Bool) → is_then w ≡ b → b ≡ false
+no_then_plain context ls w ts x e true k =
+    let f : plain context ls (Word w ∷ ts) ≡ Err (UnknownWord, Word w ∷ ts) = subst (λ v. plain context ls (Word v ∷ ts) ≡ Err (UnknownWord, Word v ∷ ts)) (sym (then_is w k)) (then_is_no_plain context ls ts) in cc
+no_then_plain context ls w ts x e false k = refl
 
 no_then_structured : (w : List ℕ) (o : ℕ) → structured w ≡ Some o → (b : Bool) → is_then w ≡ b → b ≡ false
 no_then_structured w o e true k = let f : structured w ≡ None = subst (λ v. structured v ≡ None) (sym (then_is w k)) refl in cc
@@ -531,141 +531,141 @@ goes_on b w x y z e f = ap (λ d. if d then x else if b && is_else w then y else
     neither true = refl
     neither false = refl
 
-word_step_is : (env : Env) (p : Part) (ps : List Part) (w : List ℕ) (ts : List Terminal) → only_folded p ≡ false → is_end w ≡ false → is_else w ≡ false → word_step env p w (Word w ∷ ts) ts ps ≡ word_by env (structured w) (Word w ∷ ts) ts (p ∷ ps)
-word_step_is env Body ps w ts k e f = refl
-word_step_is env (Group l) ps w ts k e f = refl
-word_step_is env (Block b l) ps w ts k e f = goes_on b w (ended (end_label l ts) ps) (turned l (end_label l ts) ps) (word_by env (structured w) (Word w ∷ ts) ts (Block b l ∷ ps)) e f
-word_step_is env (Then l) ps w ts k e f = refl
-word_step_is env (Else l) ps w ts k e f = refl
-word_step_is env (Operands i) ps w ts k e f = cc
-word_step_is env (Condition i l) ps w ts k e f = cc
+word_step_is : (context : Context) (p : Part) (ps : List Part) (w : List ℕ) (ts : List Terminal) → only_folded p ≡ false → is_end w ≡ false → is_else w ≡ false → word_step context p w (Word w ∷ ts) ts ps ≡ word_by context (structured w) (Word w ∷ ts) ts (p ∷ ps)
+word_step_is context Body ps w ts k e f = refl
+word_step_is context (Group l) ps w ts k e f = refl
+word_step_is context (Block b l) ps w ts k e f = goes_on b w (ended (end_label l ts) ps) (turned l (end_label l ts) ps) (word_by context (structured w) (Word w ∷ ts) ts (Block b l ∷ ps)) e f
+word_step_is context (Then l) ps w ts k e f = refl
+word_step_is context (Else l) ps w ts k e f = refl
+word_step_is context (Operands i) ps w ts k e f = cc
+word_step_is context (Condition i l) ps w ts k e f = cc
 
-folded_by_is : (env : Env) (p : Part) (ps : List Part) (w : List ℕ) (ts : List Terminal) → is_then w ≡ false → folded_by env p w (Word w ∷ ts) ts ps ≡ open_by env (structured w) (Word w ∷ ts) ts (p ∷ ps)
-folded_by_is env (Condition i l) ps w ts e = ap (λ d. if d then machine.on_to (i ∷ []) (Then l ∷ ps) ts else open_by env (structured w) (Word w ∷ ts) ts (Condition i l ∷ ps)) e
-folded_by_is env Body ps w ts e = refl
-folded_by_is env (Block b l) ps w ts e = refl
-folded_by_is env (Group l) ps w ts e = refl
-folded_by_is env (Operands i) ps w ts e = refl
-folded_by_is env (Then l) ps w ts e = refl
-folded_by_is env (Else l) ps w ts e = refl
+folded_by_is : (context : Context) (p : Part) (ps : List Part) (w : List ℕ) (ts : List Terminal) → is_then w ≡ false → folded_by context p w (Word w ∷ ts) ts ps ≡ open_by context (structured w) (Word w ∷ ts) ts (p ∷ ps)
+folded_by_is context (Condition i l) ps w ts e = ap (λ d. if d then machine.on_to (i ∷ []) (Then l ∷ ps) ts else open_by context (structured w) (Word w ∷ ts) ts (Condition i l ∷ ps)) e
+folded_by_is context Body ps w ts e = refl
+folded_by_is context (Block b l) ps w ts e = refl
+folded_by_is context (Group l) ps w ts e = refl
+folded_by_is context (Operands i) ps w ts e = refl
+folded_by_is context (Then l) ps w ts e = refl
+folded_by_is context (Else l) ps w ts e = refl
 
-abbrev Goal : Env → Part → List Part → List Terminal → List Instruction → List Terminal → Type 0
-Goal env p ps ts is r = Goes env (step env p ps ts) is r (length ts)
+abbrev Goal : Context → Part → List Part → List Terminal → List Instruction → List Terminal → Type 0
+Goal context p ps ts is r = Goes context (step context p ps ts) is r (length ts)
 
 -- a step at a word that is not `end` goes by what the word is
-at_word : (env : Env) (p : Part) (ps : List Part) (w : List ℕ) (ts : List Terminal) (is : List Instruction) (r : List Terminal) → only_folded p ≡ false → is_end w ≡ false → is_else w ≡ false → Goes env (word_by env (structured w) (Word w ∷ ts) ts (p ∷ ps)) is r (suc (length ts)) → Goal env p ps (Word w ∷ ts) is r
+at_word : (context : Context) (p : Part) (ps : List Part) (w : List ℕ) (ts : List Terminal) (is : List Instruction) (r : List Terminal) → only_folded p ≡ false → is_end w ≡ false → is_else w ≡ false → Goes context (word_by context (structured w) (Word w ∷ ts) ts (p ∷ ps)) is r (suc (length ts)) → Goal context p ps (Word w ∷ ts) is r
 unfolding step
-at_word env p ps w ts is r k e f h = subst (λ q. Goes env q is r (suc (length ts))) (sym (word_step_is env p ps w ts k e f)) h
+at_word context p ps w ts is r k e f h = subst (λ q. Goes context q is r (suc (length ts))) (sym (word_step_is context p ps w ts k e f)) h
 
 -- a step at a folded word that is not `then` goes by what the word is
-at_folded : (env : Env) (p : Part) (ps : List Part) (w : List ℕ) (ts : List Terminal) (is : List Instruction) (r : List Terminal) → is_then w ≡ false → Goes env (open_by env (structured w) (Word w ∷ ts) ts (p ∷ ps)) is r (suc (suc (length ts))) → Goal env p ps (Open ∷ Word w ∷ ts) is r
+at_folded : (context : Context) (p : Part) (ps : List Part) (w : List ℕ) (ts : List Terminal) (is : List Instruction) (r : List Terminal) → is_then w ≡ false → Goes context (open_by context (structured w) (Word w ∷ ts) ts (p ∷ ps)) is r (suc (suc (length ts))) → Goal context p ps (Open ∷ Word w ∷ ts) is r
 unfolding step
-at_folded env p ps w ts is r e h = subst (λ q. Goes env q is r (suc (suc (length ts)))) (sym (folded_by_is env p ps w ts e)) h
+at_folded context p ps w ts is r e h = subst (λ q. Goes context q is r (suc (suc (length ts)))) (sym (folded_by_is context p ps w ts e)) h
 
-plain_forth : (env : Env) (p : Part) (ps : List Part) (w : List ℕ) (ts us : List Terminal) (i : Instruction) (js : List Instruction) (r : List Terminal) → only_folded p ≡ false → structured w ≡ None → plain env (labels_in (p ∷ ps)) (Word w ∷ ts) ≡ Ok (i, us) → Completes env (p ∷ ps) us js r → Goal env p ps (Word w ∷ ts) (i ∷ js) r
-plain_forth env p ps w ts us i js r k s e h =
-    at_word env p ps w ts (i ∷ js) r k (no_end_plain env (labels_in (p ∷ ps)) w ts (i, us) e (is_end w) refl) (no_else_plain env (labels_in (p ∷ ps)) w ts (i, us) e (is_else w) refl)
-    (subst (λ o. Goes env (word_by env o (Word w ∷ ts) ts (p ∷ ps)) (i ∷ js) r (suc (length ts))) (sym s)
-    (subst (λ q. Goes env (at_plain q (p ∷ ps)) (i ∷ js) r (suc (length ts))) (sym e)
-    (js, refl, h, omega (arith, plain_short env (labels_in (p ∷ ps)) w ts i us e))))
+plain_forth : (context : Context) (p : Part) (ps : List Part) (w : List ℕ) (ts us : List Terminal) (i : Instruction) (js : List Instruction) (r : List Terminal) → only_folded p ≡ false → structured w ≡ None → plain context (labels_in (p ∷ ps)) (Word w ∷ ts) ≡ Ok (i, us) → Completes context (p ∷ ps) us js r → Goal context p ps (Word w ∷ ts) (i ∷ js) r
+plain_forth context p ps w ts us i js r k s e h =
+    at_word context p ps w ts (i ∷ js) r k (no_end_plain context (labels_in (p ∷ ps)) w ts (i, us) e (is_end w) refl) (no_else_plain context (labels_in (p ∷ ps)) w ts (i, us) e (is_else w) refl)
+    (subst (λ o. Goes context (word_by context o (Word w ∷ ts) ts (p ∷ ps)) (i ∷ js) r (suc (length ts))) (sym s)
+    (subst (λ q. Goes context (at_plain q (p ∷ ps)) (i ∷ js) r (suc (length ts))) (sym e)
+    (js, refl, h, omega (arith, plain_short context (labels_in (p ∷ ps)) w ts i us e))))
 
-block_forth : (env : Env) (p : Part) (ps : List Part) (w : List ℕ) (ts bs : List Terminal) (o : ℕ) (a : Argument) (js : List Instruction) (r : List Terminal) → only_folded p ≡ false → structured w ≡ Some o → block_type (label_of ts).1 ≡ Ok (a, bs) → Completes env (Block (is_if o) (label_of ts).0 ∷ p ∷ ps) bs js r → Goal env p ps (Word w ∷ ts) (instruction o a ∷ js) r
-block_forth env p ps w ts bs o a js r k s n h =
-    at_word env p ps w ts (instruction o a ∷ js) r k (no_end_structured w o s (is_end w) refl) (no_else_structured w o s (is_else w) refl)
-    (subst (λ q. Goes env (word_by env q (Word w ∷ ts) ts (p ∷ ps)) (instruction o a ∷ js) r (suc (length ts))) (sym s)
-    (subst (λ q. Goes env (at_block o (label_of ts).0 q (p ∷ ps)) (instruction o a ∷ js) r (suc (length ts))) (sym n)
+block_forth : (context : Context) (p : Part) (ps : List Part) (w : List ℕ) (ts bs : List Terminal) (o : ℕ) (a : Argument) (js : List Instruction) (r : List Terminal) → only_folded p ≡ false → structured w ≡ Some o → block_type (label_of ts).1 ≡ Ok (a, bs) → Completes context (Block (is_if o) (label_of ts).0 ∷ p ∷ ps) bs js r → Goal context p ps (Word w ∷ ts) (instruction o a ∷ js) r
+block_forth context p ps w ts bs o a js r k s n h =
+    at_word context p ps w ts (instruction o a ∷ js) r k (no_end_structured w o s (is_end w) refl) (no_else_structured w o s (is_else w) refl)
+    (subst (λ q. Goes context (word_by context q (Word w ∷ ts) ts (p ∷ ps)) (instruction o a ∷ js) r (suc (length ts))) (sym s)
+    (subst (λ q. Goes context (at_block o (label_of ts).0 q (p ∷ ps)) (instruction o a ∷ js) r (suc (length ts))) (sym n)
     (js, refl, h, omega (arith, (head_passes ts bs a n).short))))
 
-operands_forth : (env : Env) (p : Part) (ps : List Part) (w : List ℕ) (ts us : List Terminal) (i : Instruction) (js : List Instruction) (r : List Terminal) → structured w ≡ None → plain env (labels_in (p ∷ ps)) (Word w ∷ ts) ≡ Ok (i, us) → Completes env (Operands i ∷ p ∷ ps) us js r → Goal env p ps (Open ∷ Word w ∷ ts) js r
-operands_forth env p ps w ts us i js r s e h =
-    at_folded env p ps w ts js r (no_then_plain env (labels_in (p ∷ ps)) w ts (i, us) e (is_then w) refl)
-    (subst (λ o. Goes env (open_by env o (Word w ∷ ts) ts (p ∷ ps)) js r (suc (suc (length ts)))) (sym s)
-    (subst (λ q. Goes env (at_operands q (p ∷ ps)) js r (suc (suc (length ts)))) (sym e)
-    (js, refl, h, omega (arith, plain_short env (labels_in (p ∷ ps)) w ts i us e))))
+operands_forth : (context : Context) (p : Part) (ps : List Part) (w : List ℕ) (ts us : List Terminal) (i : Instruction) (js : List Instruction) (r : List Terminal) → structured w ≡ None → plain context (labels_in (p ∷ ps)) (Word w ∷ ts) ≡ Ok (i, us) → Completes context (Operands i ∷ p ∷ ps) us js r → Goal context p ps (Open ∷ Word w ∷ ts) js r
+operands_forth context p ps w ts us i js r s e h =
+    at_folded context p ps w ts js r (no_then_plain context (labels_in (p ∷ ps)) w ts (i, us) e (is_then w) refl)
+    (subst (λ o. Goes context (open_by context o (Word w ∷ ts) ts (p ∷ ps)) js r (suc (suc (length ts)))) (sym s)
+    (subst (λ q. Goes context (at_operands q (p ∷ ps)) js r (suc (suc (length ts)))) (sym e)
+    (js, refl, h, omega (arith, plain_short context (labels_in (p ∷ ps)) w ts i us e))))
 
-group_forth : (env : Env) (p : Part) (ps : List Part) (w : List ℕ) (ts bs : List Terminal) (o : ℕ) (a : Argument) (js : List Instruction) (r : List Terminal) → structured w ≡ Some o → is_if o ≡ false → block_type (label_of ts).1 ≡ Ok (a, bs) → Completes env (Group (label_of ts).0 ∷ p ∷ ps) bs js r → Goal env p ps (Open ∷ Word w ∷ ts) (instruction o a ∷ js) r
-group_forth env p ps w ts bs o a js r s i n h =
-    at_folded env p ps w ts (instruction o a ∷ js) r (no_then_structured w o s (is_then w) refl)
-    (subst (λ q. Goes env (open_by env q (Word w ∷ ts) ts (p ∷ ps)) (instruction o a ∷ js) r (suc (suc (length ts)))) (sym s)
-    (subst (λ f. Goes env (if f then at_condition o (label_of ts).0 (block_type (label_of ts).1) (p ∷ ps) else at_group o (label_of ts).0 (block_type (label_of ts).1) (p ∷ ps)) (instruction o a ∷ js) r (suc (suc (length ts)))) (sym i)
-    (subst (λ q. Goes env (at_group o (label_of ts).0 q (p ∷ ps)) (instruction o a ∷ js) r (suc (suc (length ts)))) (sym n)
+group_forth : (context : Context) (p : Part) (ps : List Part) (w : List ℕ) (ts bs : List Terminal) (o : ℕ) (a : Argument) (js : List Instruction) (r : List Terminal) → structured w ≡ Some o → is_if o ≡ false → block_type (label_of ts).1 ≡ Ok (a, bs) → Completes context (Group (label_of ts).0 ∷ p ∷ ps) bs js r → Goal context p ps (Open ∷ Word w ∷ ts) (instruction o a ∷ js) r
+group_forth context p ps w ts bs o a js r s i n h =
+    at_folded context p ps w ts (instruction o a ∷ js) r (no_then_structured w o s (is_then w) refl)
+    (subst (λ q. Goes context (open_by context q (Word w ∷ ts) ts (p ∷ ps)) (instruction o a ∷ js) r (suc (suc (length ts)))) (sym s)
+    (subst (λ f. Goes context (if f then at_condition o (label_of ts).0 (block_type (label_of ts).1) (p ∷ ps) else at_group o (label_of ts).0 (block_type (label_of ts).1) (p ∷ ps)) (instruction o a ∷ js) r (suc (suc (length ts)))) (sym i)
+    (subst (λ q. Goes context (at_group o (label_of ts).0 q (p ∷ ps)) (instruction o a ∷ js) r (suc (suc (length ts)))) (sym n)
     (js, refl, h, omega (arith, (head_passes ts bs a n).short)))))
 
-condition_forth : (env : Env) (p : Part) (ps : List Part) (w : List ℕ) (ts bs : List Terminal) (o : ℕ) (a : Argument) (js : List Instruction) (r : List Terminal) → structured w ≡ Some o → is_if o ≡ true → block_type (label_of ts).1 ≡ Ok (a, bs) → Completes env (Condition (instruction o a) (label_of ts).0 ∷ p ∷ ps) bs js r → Goal env p ps (Open ∷ Word w ∷ ts) js r
-condition_forth env p ps w ts bs o a js r s i n h =
-    at_folded env p ps w ts js r (no_then_structured w o s (is_then w) refl)
-    (subst (λ q. Goes env (open_by env q (Word w ∷ ts) ts (p ∷ ps)) js r (suc (suc (length ts)))) (sym s)
-    (subst (λ f. Goes env (if f then at_condition o (label_of ts).0 (block_type (label_of ts).1) (p ∷ ps) else at_group o (label_of ts).0 (block_type (label_of ts).1) (p ∷ ps)) js r (suc (suc (length ts)))) (sym i)
-    (subst (λ q. Goes env (at_condition o (label_of ts).0 q (p ∷ ps)) js r (suc (suc (length ts)))) (sym n)
+condition_forth : (context : Context) (p : Part) (ps : List Part) (w : List ℕ) (ts bs : List Terminal) (o : ℕ) (a : Argument) (js : List Instruction) (r : List Terminal) → structured w ≡ Some o → is_if o ≡ true → block_type (label_of ts).1 ≡ Ok (a, bs) → Completes context (Condition (instruction o a) (label_of ts).0 ∷ p ∷ ps) bs js r → Goal context p ps (Open ∷ Word w ∷ ts) js r
+condition_forth context p ps w ts bs o a js r s i n h =
+    at_folded context p ps w ts js r (no_then_structured w o s (is_then w) refl)
+    (subst (λ q. Goes context (open_by context q (Word w ∷ ts) ts (p ∷ ps)) js r (suc (suc (length ts)))) (sym s)
+    (subst (λ f. Goes context (if f then at_condition o (label_of ts).0 (block_type (label_of ts).1) (p ∷ ps) else at_group o (label_of ts).0 (block_type (label_of ts).1) (p ∷ ps)) js r (suc (suc (length ts)))) (sym i)
+    (subst (λ q. Goes context (at_condition o (label_of ts).0 q (p ∷ ps)) js r (suc (suc (length ts)))) (sym n)
     (js, refl, h, omega (arith, (head_passes ts bs a n).short)))))
 
 parted : (b c d : List Instruction) (i : Instruction) (is : List Instruction) → is ≡ (b ++ (i ∷ c)) ++ d → is ≡ b ++ (i ∷ (c ++ d))
 parted b c d i is e = e ∙ append_assoc b (i ∷ c) d
 
-at_stack : (env : Env) (p : Part) (ps : List Part) (ls : List Label) (w : List ℕ) (ts : List Terminal) (x : Instruction × List Terminal) → ls ≡ labels_in (p ∷ ps) → plain env ls (Word w ∷ ts) ≡ Ok x → plain env (labels_in (p ∷ ps)) (Word w ∷ ts) ≡ Ok x
-at_stack env p ps ls w ts x e h = subst (λ l. plain env l (Word w ∷ ts) ≡ Ok x) e h
+at_stack : (context : Context) (p : Part) (ps : List Part) (ls : List Label) (w : List ℕ) (ts : List Terminal) (x : Instruction × List Terminal) → ls ≡ labels_in (p ∷ ps) → plain context ls (Word w ∷ ts) ≡ Ok x → plain context (labels_in (p ∷ ps)) (Word w ∷ ts) ≡ Ok x
+at_stack context p ps ls w ts x e h = subst (λ l. plain context l (Word w ∷ ts) ≡ Ok x) e h
 
-resumed : (env : Env) (p : Part) (ps : List Part) (ls : List Label) (k : Bool) (ts : List Terminal) (b : List Instruction) (us : List Terminal) (es : List Instruction) (vs : List Terminal) (js : List Instruction) (r : List Terminal) → ls ≡ labels_in (p ∷ ps) → only_folded p ≡ k → Instructions env ls k ts b us → Closed env (labels_in (p ∷ ps)) p us es vs → Completes env ps vs js r → Completes env (p ∷ ps) ts (b ++ (es ++ js)) r
-resumed env p ps ls k ts b us es vs js r e f h c rest =
-    (b, us, es, vs, js, subst (λ l. Instructions env l (only_folded p) ts b us) e (subst (λ f. Instructions env ls f ts b us) (sym f) h), c, rest, refl)
+resumed : (context : Context) (p : Part) (ps : List Part) (ls : List Label) (k : Bool) (ts : List Terminal) (b : List Instruction) (us : List Terminal) (es : List Instruction) (vs : List Terminal) (js : List Instruction) (r : List Terminal) → ls ≡ labels_in (p ∷ ps) → only_folded p ≡ k → Instructions context ls k ts b us → Closed context (labels_in (p ∷ ps)) p us es vs → Completes context ps vs js r → Completes context (p ∷ ps) ts (b ++ (es ++ js)) r
+resumed context p ps ls k ts b us es vs js r e f h c rest =
+    (b, us, es, vs, js, subst (λ l. Instructions context l (only_folded p) ts b us) e (subst (λ f. Instructions context ls f ts b us) (sym f) h), c, rest, refl)
 
-output_eq : (env : Env) (p : Part) (ps : List Part) (ts : List Terminal) (is js : List Instruction) (r : List Terminal) → is ≡ js → Goal env p ps ts js r → Goal env p ps ts is r
-output_eq env p ps ts is js r e h = subst (λ x. Goal env p ps ts x r) (sym e) h
+output_eq : (context : Context) (p : Part) (ps : List Part) (ts : List Terminal) (is js : List Instruction) (r : List Terminal) → is ≡ js → Goal context p ps ts js r → Goal context p ps ts is r
+output_eq context p ps ts is js r e h = subst (λ x. Goal context p ps ts x r) (sym e) h
 
-forth_by : (env : Env) (p : Part) (ps : List Part) (ls : List Label) (k : Bool) (ts : List Terminal) (b : List Instruction) (us : List Terminal) (es : List Instruction) (vs : List Terminal) (js is : List Instruction) (r : List Terminal) → Instructions env ls k ts b us → ls ≡ labels_in (p ∷ ps) → only_folded p ≡ k → Closed env (labels_in (p ∷ ps)) p us es vs → Completes env ps vs js r → is ≡ b ++ (es ++ js) → Goal env p ps ts is r
-forth_by env p ps _ _ _ _ us es vs js is r grammar.by_none e f c rest t = output_eq env p ps us is (es ++ js) r t (closes env p ps us es vs js r c rest)
-forth_by env p ps _ _ _ _ us es vs js is r (grammar.by_plain {ls = ls} {w = w} {ts = ts} {us = xs} {i = i} {is = b} s h more) e f c rest t =
-    output_eq env p ps (Word w ∷ ts) is (i ∷ (b ++ (es ++ js))) r t
-    (plain_forth env p ps w ts xs i (b ++ (es ++ js)) r f s (at_stack env p ps ls w ts (i, xs) e h) (resumed env p ps ls false xs b us es vs js r e f more c rest))
-forth_by env p ps _ _ _ _ us es vs js is r (grammar.by_block {ls = ls} {w = w} {v = v} {o = o} {a = a} {ts = ts} {bs = bs} {us = xs} {vs = zs} {body = body} {is = b} s n h g l more) e f c rest t =
+forth_by : (context : Context) (p : Part) (ps : List Part) (ls : List Label) (k : Bool) (ts : List Terminal) (b : List Instruction) (us : List Terminal) (es : List Instruction) (vs : List Terminal) (js is : List Instruction) (r : List Terminal) → Instructions context ls k ts b us → ls ≡ labels_in (p ∷ ps) → only_folded p ≡ k → Closed context (labels_in (p ∷ ps)) p us es vs → Completes context ps vs js r → is ≡ b ++ (es ++ js) → Goal context p ps ts is r
+forth_by context p ps _ _ _ _ us es vs js is r grammar.by_none e f c rest t = output_eq context p ps us is (es ++ js) r t (closes context p ps us es vs js r c rest)
+forth_by context p ps _ _ _ _ us es vs js is r (grammar.by_plain {ls = ls} {w = w} {ts = ts} {us = xs} {i = i} {is = b} s h more) e f c rest t =
+    output_eq context p ps (Word w ∷ ts) is (i ∷ (b ++ (es ++ js))) r t
+    (plain_forth context p ps w ts xs i (b ++ (es ++ js)) r f s (at_stack context p ps ls w ts (i, xs) e h) (resumed context p ps ls false xs b us es vs js r e f more c rest))
+forth_by context p ps _ _ _ _ us es vs js is r (grammar.by_block {ls = ls} {w = w} {v = v} {o = o} {a = a} {ts = ts} {bs = bs} {us = xs} {vs = zs} {body = body} {is = b} s n h g l more) e f c rest t =
     let i = instruction o a in
-    output_eq env p ps (Word w ∷ ts) is (i ∷ (body ++ (end ∷ (b ++ (es ++ js))))) r (t ∙ ap (λ x. i ∷ x) (append_assoc body (end ∷ b) (es ++ js)))
-    (block_forth env p ps w ts bs o a (body ++ (end ∷ (b ++ (es ++ js)))) r f s n
-    (body, Word v ∷ xs, end ∷ [], zs, b ++ (es ++ js), subst (λ x. Instructions env ((label_of ts).0 ∷ x) false bs body (Word v ∷ xs)) e h, by_block g l, resumed env p ps ls false zs b us es vs js r e f more c rest, refl))
-forth_by env p ps _ _ _ _ us es vs js is r (grammar.by_if_else {ls = ls} {w = w} {v = v} {x = x} {o = o} {a = a} {ts = ts} {bs = bs} {us = xs} {xs = qs} {ys = ys} {vs = zs} {body = body} {other = other} {is = b} s d n h g l m k q more) e f c rest t =
+    output_eq context p ps (Word w ∷ ts) is (i ∷ (body ++ (end ∷ (b ++ (es ++ js))))) r (t ∙ ap (λ x. i ∷ x) (append_assoc body (end ∷ b) (es ++ js)))
+    (block_forth context p ps w ts bs o a (body ++ (end ∷ (b ++ (es ++ js)))) r f s n
+    (body, Word v ∷ xs, end ∷ [], zs, b ++ (es ++ js), subst (λ x. Instructions context ((label_of ts).0 ∷ x) false bs body (Word v ∷ xs)) e h, by_block g l, resumed context p ps ls false zs b us es vs js r e f more c rest, refl))
+forth_by context p ps _ _ _ _ us es vs js is r (grammar.by_if_else {ls = ls} {w = w} {v = v} {x = x} {o = o} {a = a} {ts = ts} {bs = bs} {us = xs} {xs = qs} {ys = ys} {vs = zs} {body = body} {other = other} {is = b} s d n h g l m k q more) e f c rest t =
     let i = instruction o a in
-    output_eq env p ps (Word w ∷ ts) is (i ∷ (body ++ (otherwise ∷ ((other ++ (end ∷ [])) ++ (b ++ (es ++ js)))))) r
+    output_eq context p ps (Word w ∷ ts) is (i ∷ (body ++ (otherwise ∷ ((other ++ (end ∷ [])) ++ (b ++ (es ++ js)))))) r
     (t ∙ ap (λ y. i ∷ y) (append_assoc body (otherwise ∷ (other ++ (end ∷ b))) (es ++ js) ∙ ap (λ y. body ++ (otherwise ∷ y)) (append_assoc other (end ∷ b) (es ++ js) ∙ sym (append_assoc other (end ∷ []) (b ++ (es ++ js))))))
-    (block_forth env p ps w ts bs o a (body ++ (otherwise ∷ ((other ++ (end ∷ [])) ++ (b ++ (es ++ js))))) r f s n
-    (subst (λ y. Completes env (Block y (label_of ts).0 ∷ p ∷ ps) bs (body ++ (otherwise ∷ ((other ++ (end ∷ [])) ++ (b ++ (es ++ js))))) r) (sym d) (
+    (block_forth context p ps w ts bs o a (body ++ (otherwise ∷ ((other ++ (end ∷ [])) ++ (b ++ (es ++ js))))) r f s n
+    (subst (λ y. Completes context (Block y (label_of ts).0 ∷ p ∷ ps) bs (body ++ (otherwise ∷ ((other ++ (end ∷ [])) ++ (b ++ (es ++ js))))) r) (sym d) (
       body,
       Word v ∷ xs,
       otherwise ∷ (other ++ (end ∷ [])),
       zs,
       b ++ (es ++ js),
-      subst (λ y. Instructions env ((label_of ts).0 ∷ y) false bs body (Word v ∷ xs)) e h,
-      by_else g l (subst (λ y. Instructions env ((label_of ts).0 ∷ y) false qs other (Word x ∷ ys)) e m) k q,
-      resumed env p ps ls false zs b us es vs js r e f more c rest,
+      subst (λ y. Instructions context ((label_of ts).0 ∷ y) false bs body (Word v ∷ xs)) e h,
+      by_else g l (subst (λ y. Instructions context ((label_of ts).0 ∷ y) false qs other (Word x ∷ ys)) e m) k q,
+      resumed context p ps ls false zs b us es vs js r e f more c rest,
       refl,
     )))
-forth_by env p ps _ _ _ _ us es vs js is r (grammar.by_folded {ls = ls} {folded = k} {w = w} {ts = ts} {us = xs} {vs = zs} {i = i} {operands = ops} {is = b} s h inner more) e f c rest t =
-    output_eq env p ps (Open ∷ Word w ∷ ts) is (ops ++ (i ∷ (b ++ (es ++ js)))) r (parted ops b (es ++ js) i is t)
-    (operands_forth env p ps w ts xs i (ops ++ (i ∷ (b ++ (es ++ js)))) r s (at_stack env p ps ls w ts (i, xs) e h)
-    (ops, Close ∷ zs, i ∷ [], zs, b ++ (es ++ js), subst (λ x. Instructions env x true xs ops (Close ∷ zs)) e inner, by_operands, resumed env p ps ls k zs b us es vs js r e f more c rest, refl))
-forth_by env p ps _ _ _ _ us es vs js is r (grammar.by_folded_block {ls = ls} {folded = k} {w = w} {o = o} {a = a} {ts = ts} {bs = bs} {vs = zs} {body = body} {is = b} s d n inner more) e f c rest t =
+forth_by context p ps _ _ _ _ us es vs js is r (grammar.by_folded {ls = ls} {folded = k} {w = w} {ts = ts} {us = xs} {vs = zs} {i = i} {operands = ops} {is = b} s h inner more) e f c rest t =
+    output_eq context p ps (Open ∷ Word w ∷ ts) is (ops ++ (i ∷ (b ++ (es ++ js)))) r (parted ops b (es ++ js) i is t)
+    (operands_forth context p ps w ts xs i (ops ++ (i ∷ (b ++ (es ++ js)))) r s (at_stack context p ps ls w ts (i, xs) e h)
+    (ops, Close ∷ zs, i ∷ [], zs, b ++ (es ++ js), subst (λ x. Instructions context x true xs ops (Close ∷ zs)) e inner, by_operands, resumed context p ps ls k zs b us es vs js r e f more c rest, refl))
+forth_by context p ps _ _ _ _ us es vs js is r (grammar.by_folded_block {ls = ls} {folded = k} {w = w} {o = o} {a = a} {ts = ts} {bs = bs} {vs = zs} {body = body} {is = b} s d n inner more) e f c rest t =
     let i = instruction o a in
-    output_eq env p ps (Open ∷ Word w ∷ ts) is (i ∷ (body ++ (end ∷ (b ++ (es ++ js))))) r (t ∙ ap (λ x. i ∷ x) (append_assoc body (end ∷ b) (es ++ js)))
-    (group_forth env p ps w ts bs o a (body ++ (end ∷ (b ++ (es ++ js)))) r s d n
-    (body, Close ∷ zs, end ∷ [], zs, b ++ (es ++ js), subst (λ x. Instructions env ((label_of ts).0 ∷ x) false bs body (Close ∷ zs)) e inner, by_group, resumed env p ps ls k zs b us es vs js r e f more c rest, refl))
-forth_by env p ps _ _ _ _ us es vs js is r (grammar.by_folded_if {ls = ls} {folded = k} {w = w} {t = tw} {o = o} {a = a} {ts = ts} {bs = bs} {cs = cs} {vs = zs} {condition = condition} {body = body} {is = b} s d n inner g q more) e f c rest t =
+    output_eq context p ps (Open ∷ Word w ∷ ts) is (i ∷ (body ++ (end ∷ (b ++ (es ++ js))))) r (t ∙ ap (λ x. i ∷ x) (append_assoc body (end ∷ b) (es ++ js)))
+    (group_forth context p ps w ts bs o a (body ++ (end ∷ (b ++ (es ++ js)))) r s d n
+    (body, Close ∷ zs, end ∷ [], zs, b ++ (es ++ js), subst (λ x. Instructions context ((label_of ts).0 ∷ x) false bs body (Close ∷ zs)) e inner, by_group, resumed context p ps ls k zs b us es vs js r e f more c rest, refl))
+forth_by context p ps _ _ _ _ us es vs js is r (grammar.by_folded_if {ls = ls} {folded = k} {w = w} {t = tw} {o = o} {a = a} {ts = ts} {bs = bs} {cs = cs} {vs = zs} {condition = condition} {body = body} {is = b} s d n inner g q more) e f c rest t =
     let i = instruction o a in
-    output_eq env p ps (Open ∷ Word w ∷ ts) is (condition ++ ((i ∷ (body ++ (end ∷ []))) ++ (b ++ (es ++ js)))) r
+    output_eq context p ps (Open ∷ Word w ∷ ts) is (condition ++ ((i ∷ (body ++ (end ∷ []))) ++ (b ++ (es ++ js)))) r
     (t ∙ append_assoc condition (i ∷ (body ++ (end ∷ b))) (es ++ js) ∙ ap (λ x. condition ++ (i ∷ x)) (append_assoc body (end ∷ b) (es ++ js) ∙ sym (append_assoc body (end ∷ []) (b ++ (es ++ js)))))
-    (condition_forth env p ps w ts bs o a (condition ++ ((i ∷ (body ++ (end ∷ []))) ++ (b ++ (es ++ js)))) r s d n (
+    (condition_forth context p ps w ts bs o a (condition ++ ((i ∷ (body ++ (end ∷ []))) ++ (b ++ (es ++ js)))) r s d n (
       condition,
       Open ∷ Word tw ∷ cs,
       i ∷ (body ++ (end ∷ [])),
       zs,
       b ++ (es ++ js),
-      subst (λ x. Instructions env x true bs condition (Open ∷ Word tw ∷ cs)) e inner,
-      by_condition g (subst (λ x. Instructions env ((label_of ts).0 ∷ x) false cs body (Close ∷ Close ∷ zs)) e q),
-      resumed env p ps ls k zs b us es vs js r e f more c rest,
+      subst (λ x. Instructions context x true bs condition (Open ∷ Word tw ∷ cs)) e inner,
+      by_condition g (subst (λ x. Instructions context ((label_of ts).0 ∷ x) false cs body (Close ∷ Close ∷ zs)) e q),
+      resumed context p ps ls k zs b us es vs js r e f more c rest,
       refl,
     ))
-forth_by env p ps _ _ _ _ us es vs js is r (grammar.by_folded_if_else {ls = ls} {folded = k} {w = w} {t = tw} {e = ew} {o = o} {a = a} {ts = ts} {bs = bs} {cs = cs} {es = xs} {vs = zs} {condition = condition} {body = body} {other = other} {is = b} s d n inner g q m z more) e f c rest t =
+forth_by context p ps _ _ _ _ us es vs js is r (grammar.by_folded_if_else {ls = ls} {folded = k} {w = w} {t = tw} {e = ew} {o = o} {a = a} {ts = ts} {bs = bs} {cs = cs} {es = xs} {vs = zs} {condition = condition} {body = body} {other = other} {is = b} s d n inner g q m z more) e f c rest t =
     let i = instruction o a in
     let els = otherwise ∷ (other ++ (end ∷ [])) in
-    output_eq env p ps (Open ∷ Word w ∷ ts) is (condition ++ ((i ∷ (body ++ els)) ++ (b ++ (es ++ js)))) r
+    output_eq context p ps (Open ∷ Word w ∷ ts) is (condition ++ ((i ∷ (body ++ els)) ++ (b ++ (es ++ js)))) r
     (
     t
     ∙ append_assoc condition (i ∷ (body ++ (otherwise ∷ (other ++ (end ∷ b))))) (es ++ js)
@@ -675,20 +675,20 @@ forth_by env p ps _ _ _ _ us es vs js is r (grammar.by_folded_if_else {ls = ls} 
     ∙ sym (append_assoc body els (b ++ (es ++ js)))
     )
     )
-    (condition_forth env p ps w ts bs o a (condition ++ ((i ∷ (body ++ els)) ++ (b ++ (es ++ js)))) r s d n (
+    (condition_forth context p ps w ts bs o a (condition ++ ((i ∷ (body ++ els)) ++ (b ++ (es ++ js)))) r s d n (
       condition,
       Open ∷ Word tw ∷ cs,
       i ∷ (body ++ els),
       zs,
       b ++ (es ++ js),
-      subst (λ x. Instructions env x true bs condition (Open ∷ Word tw ∷ cs)) e inner,
-      by_condition_else g (subst (λ x. Instructions env ((label_of ts).0 ∷ x) false cs body (Close ∷ Open ∷ Word ew ∷ xs)) e q) m (subst (λ x. Instructions env ((label_of ts).0 ∷ x) false xs other (Close ∷ Close ∷ zs)) e z),
-      resumed env p ps ls k zs b us es vs js r e f more c rest,
+      subst (λ x. Instructions context x true bs condition (Open ∷ Word tw ∷ cs)) e inner,
+      by_condition_else g (subst (λ x. Instructions context ((label_of ts).0 ∷ x) false cs body (Close ∷ Open ∷ Word ew ∷ xs)) e q) m (subst (λ x. Instructions context ((label_of ts).0 ∷ x) false xs other (Close ∷ Close ∷ zs)) e z),
+      resumed context p ps ls k zs b us es vs js r e f more c rest,
       refl,
     ))
 
-forth : (env : Env) (p : Part) (ps : List Part) (ts : List Terminal) (is : List Instruction) (r : List Terminal) → Completes env (p ∷ ps) ts is r → Goal env p ps ts is r
-forth env p ps ts is r (b, us, es, vs, js, h, c, rest, t) = forth_by env p ps (labels_in (p ∷ ps)) (only_folded p) ts b us es vs js is r h refl refl c rest t
+forth : (context : Context) (p : Part) (ps : List Part) (ts : List Terminal) (is : List Instruction) (r : List Terminal) → Completes context (p ∷ ps) ts is r → Goal context p ps ts is r
+forth context p ps ts is r (b, us, es, vs, js, h, c, rest, t) = forth_by context p ps (labels_in (p ∷ ps)) (only_folded p) ts b us es vs js is r h refl refl c rest t
 
 -- Whole runs.
 
@@ -704,35 +704,35 @@ after : (output : List Instruction) (q : Result (List Instruction × List Termin
 after output (Ok (ks, ts)) is js r e h = (e ∙ ap (λ x. output ++ x) h.0, h.1)
 after output (Err f) is js r e h = absurd h
 
-abbrev Sound : Env → ℕ → Type 0
-Sound env n = (ps : List Part) (ts : List Terminal) (is : List Instruction) (r : List Terminal) → Gives (run env n ps ts) is r → Completes env ps ts is r
+abbrev Sound : Context → ℕ → Type 0
+Sound context n = (ps : List Part) (ts : List Terminal) (is : List Instruction) (r : List Terminal) → Gives (run context n ps ts) is r → Completes context ps ts is r
 
-abbrev Complete : Env → ℕ → Type 0
-Complete env n = (ps : List Part) (ts : List Terminal) (is : List Instruction) (r : List Terminal) → Completes env ps ts is r → length ts < n → Gives (run env n ps ts) is r
+abbrev Complete : Context → ℕ → Type 0
+Complete context n = (ps : List Part) (ts : List Terminal) (is : List Instruction) (r : List Terminal) → Completes context ps ts is r → length ts < n → Gives (run context n ps ts) is r
 
-sound_by : (env : Env) (n : ℕ) → Sound env n → (q : Result Step Fault) (is : List Instruction) (r : List Terminal) → Gives (run_by (run env n) q) is r → (js : List Instruction) × (is ≡ output_of q ++ js) × Lands env q js r
-sound_by env n k (Ok s) is r h = let x = before s.output (run env n s.stack s.left) is r h in (x.0, x.1, k s.stack s.left x.0 r x.2)
-sound_by env n k (Err f) is r h = absurd h
+sound_by : (context : Context) (n : ℕ) → Sound context n → (q : Result Step Fault) (is : List Instruction) (r : List Terminal) → Gives (run_by (run context n) q) is r → (js : List Instruction) × (is ≡ output_of q ++ js) × Lands context q js r
+sound_by context n k (Ok s) is r h = let x = before s.output (run context n s.stack s.left) is r h in (x.0, x.1, k s.stack s.left x.0 r x.2)
+sound_by context n k (Err f) is r h = absurd h
 
-sound : (env : Env) (n : ℕ) → Sound env n
+sound : (context : Context) (n : ℕ) → Sound context n
 unfolding run
-sound env zero [] ts is r h = (h.1, h.0)
-sound env zero (p ∷ ps) ts is r h = absurd h
-sound env (suc n) [] ts is r h = (h.1, h.0)
-sound env (suc n) (p ∷ ps) ts is r h =
-    let x = sound_by env n (sound env n) (step env p ps ts) is r h in
-    subst (λ y. Completes env (p ∷ ps) ts y r) (sym x.1) (back env p ps ts x.0 r x.2)
+sound context zero [] ts is r h = (h.1, h.0)
+sound context zero (p ∷ ps) ts is r h = absurd h
+sound context (suc n) [] ts is r h = (h.1, h.0)
+sound context (suc n) (p ∷ ps) ts is r h =
+    let x = sound_by context n (sound context n) (step context p ps ts) is r h in
+    subst (λ y. Completes context (p ∷ ps) ts y r) (sym x.1) (back context p ps ts x.0 r x.2)
 
-complete_by : (env : Env) (n m : ℕ) → Complete env n → (q : Result Step Fault) (is : List Instruction) (r : List Terminal) → Goes env q is r m → m ≤ n → Gives (run_by (run env n) q) is r
-complete_by env n m k (Ok s) is r (js, e, h, l) g = after s.output (run env n s.stack s.left) is js r e (k s.stack s.left js r h (omega arith))
-complete_by env n m k (Err f) is r (js, e, h, l) g = absurd h
+complete_by : (context : Context) (n m : ℕ) → Complete context n → (q : Result Step Fault) (is : List Instruction) (r : List Terminal) → Goes context q is r m → m ≤ n → Gives (run_by (run context n) q) is r
+complete_by context n m k (Ok s) is r (js, e, h, l) g = after s.output (run context n s.stack s.left) is js r e (k s.stack s.left js r h (omega arith))
+complete_by context n m k (Err f) is r (js, e, h, l) g = absurd h
 
-complete : (env : Env) (n : ℕ) → Complete env n
+complete : (context : Context) (n : ℕ) → Complete context n
 unfolding run
-complete env zero [] ts is r h l = (h.1, h.0)
-complete env zero (p ∷ ps) ts is r h l = absurd (omega arith)
-complete env (suc n) [] ts is r h l = (h.1, h.0)
-complete env (suc n) (p ∷ ps) ts is r h l = complete_by env n (length ts) (complete env n) (step env p ps ts) is r (forth env p ps ts is r h) (omega arith)
+complete context zero [] ts is r h l = (h.1, h.0)
+complete context zero (p ∷ ps) ts is r h l = absurd (omega arith)
+complete context (suc n) [] ts is r h l = (h.1, h.0)
+complete context (suc n) (p ∷ ps) ts is r h l = complete_by context n (length ts) (complete context n) (step context p ps ts) is r (forth context p ps ts is r h) (omega arith)
 
 gives_of : (q : Result (List Instruction × List Terminal) Fault) (is : List Instruction) (r : List Terminal) → q ≡ Ok (is, r) → Gives q is r
 gives_of q is r e = let G : Result (List Instruction × List Terminal) Fault → Type 0 = λ q. Gives q is r in subst G (sym e) (refl, refl)
@@ -742,12 +742,12 @@ of_gives (Ok (js, ts)) is r h = ap (λ x. Ok (x, ts)) (sym h.0) ∙ ap (λ x. Ok
 of_gives (Err f) is r h = absurd h
 
 -- the body alone: its instructions, and then its `)`
-whole_of : (env : Env) (ts : List Terminal) (is : List Instruction) (r : List Terminal) (b : List Instruction) (us : List Terminal) (es : List Instruction) (vs : List Terminal) (js : List Instruction) → Instructions env (None ∷ []) false ts b us → Closed env (None ∷ []) Body us es vs → vs ≡ r → js ≡ [] → is ≡ b ++ (es ++ js) → grammar.Body env ts is r
-whole_of env ts is r b _ _ vs js h by_body e f t =
-    subst (λ x. grammar.Body env ts x r) (sym (t ∙ ap (λ x. b ++ x) f ∙ append-nil b)) (subst (λ x. Instructions env (None ∷ []) false ts b (Close ∷ x)) e h)
+whole_of : (context : Context) (ts : List Terminal) (is : List Instruction) (r : List Terminal) (b : List Instruction) (us : List Terminal) (es : List Instruction) (vs : List Terminal) (js : List Instruction) → Instructions context (None ∷ []) false ts b us → Closed context (None ∷ []) Body us es vs → vs ≡ r → js ≡ [] → is ≡ b ++ (es ++ js) → grammar.Body context ts is r
+whole_of context ts is r b _ _ vs js h by_body e f t =
+    subst (λ x. grammar.Body context ts x r) (sym (t ∙ ap (λ x. b ++ x) f ∙ append-nil b)) (subst (λ x. Instructions context (None ∷ []) false ts b (Close ∷ x)) e h)
 
 pub law : MachineIsGrammar
-law env ts is r = (
-  λ e. let (b, us, es, vs, js, h, c, rest, t) = sound env (suc (length ts)) (Body ∷ []) ts is r (gives_of _ is r e) in whole_of env ts is r b us es vs js h c rest.0 rest.1 t,
-  λ h. of_gives _ is r (complete env (suc (length ts)) (Body ∷ []) ts is r (is, Close ∷ r, [], r, [], h, by_body, (refl, refl), sym (append-nil is)) (omega arith)),
+law context ts is r = (
+  λ e. let (b, us, es, vs, js, h, c, rest, t) = sound context (suc (length ts)) (Body ∷ []) ts is r (gives_of _ is r e) in whole_of context ts is r b us es vs js h c rest.0 rest.1 t,
+  λ h. of_gives _ is r (complete context (suc (length ts)) (Body ∷ []) ts is r (is, Close ∷ r, [], r, [], h, by_body, (refl, refl), sym (append-nil is)) (omega arith)),
 )

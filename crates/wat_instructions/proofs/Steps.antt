@@ -6,58 +6,58 @@ use Rattle.wat_instructions.specs.declared.pieces.Instruction.{Instruction}
 use Rattle.wat_instructions.specs.declared.pieces.Refusal.{Refusal}
 use Rattle.wat_instructions.specs.declared.pieces.Refusal.TheVariants.{Text, Memory}
 use Rattle.wat_instructions.specs.Terminals.{Terminal, terminal}
-use Rattle.wat_instructions.specs.Grammar.{Env}
+use Rattle.wat_instructions.specs.Grammar.{Context}
 use Rattle.wat_instructions.specs.Machine.{Part, Body, step, run, run_by, output_before}
 use Rattle.wat_instructions.specs.Parts.{Faults, RunsInto, RunsTo, Stepped}
 use Rattle.wat_instructions.proofs.Runs.{step_takes}
 
-pub none_open : (env : Env) (ts : List Terminal) (out : List Instruction) → RunsTo env [] ts out out ts
+pub none_open : (context : Context) (ts : List Terminal) (out : List Instruction) → RunsTo context [] ts out out ts
 unfolding run
-none_open env ts out zero h = absurd (omega arith)
-none_open env ts out (suc n) h = ([], refl, sym (append-nil out))
+none_open context ts out zero h = absurd (omega arith)
+none_open context ts out (suc n) h = ([], refl, sym (append-nil out))
 
-pub step_on : (env : Env) (p : Part) (ps qs : List Part) (ts us left : List Terminal) (before mid after : List Instruction) → Stepped (step env p ps ts) before mid qs us → RunsTo env qs us mid after left → RunsTo env (p ∷ ps) ts before after left
+pub step_on : (context : Context) (p : Part) (ps qs : List Part) (ts us left : List Terminal) (before mid after : List Instruction) → Stepped (step context p ps ts) before mid qs us → RunsTo context qs us mid after left → RunsTo context (p ∷ ps) ts before after left
 unfolding run
-step_on env p ps qs ts us left before mid after s k zero h = absurd (omega arith)
-step_on env p ps qs ts us left before mid after s k (suc n) h =
-    let x = k n (omega (arith, step_takes env p ps ts _ s.is)) in
-    (s.output ++ x.0, ap (run_by (run env n)) s.is ∙ ap (output_before s.output) x.1, x.2 ∙ ap (λ a. a ++ x.0) s.follows ∙ append_assoc before s.output x.0)
+step_on context p ps qs ts us left before mid after s k zero h = absurd (omega arith)
+step_on context p ps qs ts us left before mid after s k (suc n) h =
+    let x = k n (omega (arith, step_takes context p ps ts _ s.is)) in
+    (s.output ++ x.0, ap (run_by (run context n)) s.is ∙ ap (output_before s.output) x.1, x.2 ∙ ap (λ a. a ++ x.0) s.follows ∙ append_assoc before s.output x.0)
 
-pub step_into : (env : Env) (p : Part) (ps : List Part) (ts : List Terminal) (e : Refusal) → Faults (step env p ps ts) e → RunsInto env (p ∷ ps) ts e
+pub step_into : (context : Context) (p : Part) (ps : List Part) (ts : List Terminal) (e : Refusal) → Faults (step context p ps ts) e → RunsInto context (p ∷ ps) ts e
 unfolding run
-step_into env p ps ts e s zero h = absurd (omega arith)
-step_into env p ps ts (Text f) s (suc n) h = ap (run_by (run env n)) s
-step_into env p ps ts (Memory a) s (suc n) h = tt
+step_into context p ps ts e s zero h = absurd (omega arith)
+step_into context p ps ts (Text f) s (suc n) h = ap (run_by (run context n)) s
+step_into context p ps ts (Memory a) s (suc n) h = tt
 
-pub step_on_into : (env : Env) (p : Part) (ps qs : List Part) (ts us : List Terminal) (before mid : List Instruction) (e : Refusal) → Stepped (step env p ps ts) before mid qs us → RunsInto env qs us e → RunsInto env (p ∷ ps) ts e
+pub step_on_into : (context : Context) (p : Part) (ps qs : List Part) (ts us : List Terminal) (before mid : List Instruction) (e : Refusal) → Stepped (step context p ps ts) before mid qs us → RunsInto context qs us e → RunsInto context (p ∷ ps) ts e
 unfolding run
-step_on_into env p ps qs ts us before mid e s k zero h = absurd (omega arith)
-step_on_into env p ps qs ts us before mid (Text f) s k (suc n) h =
-    ap (run_by (run env n)) s.is ∙ ap (output_before s.output) (k n (omega (arith, step_takes env p ps ts _ s.is)))
-step_on_into env p ps qs ts us before mid (Memory a) s k (suc n) h = tt
+step_on_into context p ps qs ts us before mid e s k zero h = absurd (omega arith)
+step_on_into context p ps qs ts us before mid (Text f) s k (suc n) h =
+    ap (run_by (run context n)) s.is ∙ ap (output_before s.output) (k n (omega (arith, step_takes context p ps ts _ s.is)))
+step_on_into context p ps qs ts us before mid (Memory a) s k (suc n) h = tt
 
-pub takes_piece : (env : Env) (p : Part) (ps qs : List Part) (before after : List Instruction) (xs ys : List Piece) → Stepped (step env p ps (map terminal xs)) before after qs (map terminal ys) → length ys < length xs
-takes_piece env p ps qs before after xs ys s = let h = step_takes env p ps (map terminal xs) _ s.is in omega (arith, h, length-map xs terminal, length-map ys terminal)
+pub takes_piece : (context : Context) (p : Part) (ps qs : List Part) (before after : List Instruction) (xs ys : List Piece) → Stepped (step context p ps (map terminal xs)) before after qs (map terminal ys) → length ys < length xs
+takes_piece context p ps qs before after xs ys s = let h = step_takes context p ps (map terminal xs) _ s.is in omega (arith, h, length-map xs terminal, length-map ys terminal)
 
-pub onto : (env : Env) (p : Part) (os ps qs : List Part) (ts us left : List Terminal) (before mid after : List Instruction) → os ≡ p ∷ ps → Stepped (step env p ps ts) before mid qs us → RunsTo env qs us mid after left → RunsTo env os ts before after left
-onto env p os ps qs ts us left before mid after e s k = subst (λ o. RunsTo env o ts before after left) (sym e) (step_on env p ps qs ts us left before mid after s k)
+pub onto : (context : Context) (p : Part) (os ps qs : List Part) (ts us left : List Terminal) (before mid after : List Instruction) → os ≡ p ∷ ps → Stepped (step context p ps ts) before mid qs us → RunsTo context qs us mid after left → RunsTo context os ts before after left
+onto context p os ps qs ts us left before mid after e s k = subst (λ o. RunsTo context o ts before after left) (sym e) (step_on context p ps qs ts us left before mid after s k)
 
-pub into : (env : Env) (p : Part) (os ps : List Part) (ts : List Terminal) (r : Refusal) → os ≡ p ∷ ps → Faults (step env p ps ts) r → RunsInto env os ts r
-into env p os ps ts r e s = subst (λ o. RunsInto env o ts r) (sym e) (step_into env p ps ts r s)
+pub into : (context : Context) (p : Part) (os ps : List Part) (ts : List Terminal) (r : Refusal) → os ≡ p ∷ ps → Faults (step context p ps ts) r → RunsInto context os ts r
+into context p os ps ts r e s = subst (λ o. RunsInto context o ts r) (sym e) (step_into context p ps ts r s)
 
-pub onto_into : (env : Env) (p : Part) (os ps qs : List Part) (ts us : List Terminal) (before mid : List Instruction) (r : Refusal) → os ≡ p ∷ ps → Stepped (step env p ps ts) before mid qs us → RunsInto env qs us r → RunsInto env os ts r
-onto_into env p os ps qs ts us before mid r e s k = subst (λ o. RunsInto env o ts r) (sym e) (step_on_into env p ps qs ts us before mid r s k)
+pub onto_into : (context : Context) (p : Part) (os ps qs : List Part) (ts us : List Terminal) (before mid : List Instruction) (r : Refusal) → os ≡ p ∷ ps → Stepped (step context p ps ts) before mid qs us → RunsInto context qs us r → RunsInto context os ts r
+onto_into context p os ps qs ts us before mid r e s k = subst (λ o. RunsInto context o ts r) (sym e) (step_on_into context p ps qs ts us before mid r s k)
 
-pub over : (env : Env) (os : List Part) (ts : List Terminal) (out : List Instruction) → os ≡ [] → RunsTo env os ts out out ts
-over env os ts out e = subst (λ o. RunsTo env o ts out out ts) (sym e) (none_open env ts out)
+pub over : (context : Context) (os : List Part) (ts : List Terminal) (out : List Instruction) → os ≡ [] → RunsTo context os ts out out ts
+over context os ts out e = subst (λ o. RunsTo context o ts out out ts) (sym e) (none_open context ts out)
 
 -- a whole run of a body, from nothing output
-pub begun : (env : Env) (os : List Part) (m : ℕ) (ts left : List Terminal) (before after : List Instruction) → os ≡ Body ∷ [] → before ≡ [] → length ts < m → RunsTo env os ts before after left → run env m (Body ∷ []) ts ≡ Ok (after, left)
-begun env os m ts left before after e b h k =
-    let x = k m h in ap (λ o. run env m o ts) (sym e) ∙ x.1 ∙ ap (λ y. Ok (y, left)) (sym (x.2 ∙ ap (λ y. y ++ x.0) b))
+pub begun : (context : Context) (os : List Part) (m : ℕ) (ts left : List Terminal) (before after : List Instruction) → os ≡ Body ∷ [] → before ≡ [] → length ts < m → RunsTo context os ts before after left → run context m (Body ∷ []) ts ≡ Ok (after, left)
+begun context os m ts left before after e b h k =
+    let x = k m h in ap (λ o. run context m o ts) (sym e) ∙ x.1 ∙ ap (λ y. Ok (y, left)) (sym (x.2 ∙ ap (λ y. y ++ x.0) b))
 
-pub begun_into : (env : Env) (os : List Part) (m : ℕ) (ts : List Terminal) (r : Refusal) → os ≡ Body ∷ [] → length ts < m → RunsInto env os ts r → Faults (run env m (Body ∷ []) ts) r
-begun_into env os m ts r e h k = subst (λ o. Faults (run env m o ts) r) e (k m h)
+pub begun_into : (context : Context) (os : List Part) (m : ℕ) (ts : List Terminal) (r : Refusal) → os ≡ Body ∷ [] → length ts < m → RunsInto context os ts r → Faults (run context m (Body ∷ []) ts) r
+begun_into context os m ts r e h k = subst (λ o. Faults (run context m o ts) r) e (k m h)
 
 pub enough : (ts : List Terminal) → length ts < suc (length ts)
 enough ts = omega arith

@@ -22,10 +22,12 @@ use Rattle.wat_instructions.specs.Terminals.{Terminal, Open, Close, Word, Id, In
 abbrev pub Fault : Type 0
 Fault = FaultKind × List Terminal
 
--- 6.1.3 contexts: the names of local variables, functions and global variables, in the order of their indices
-pub record Env : Type 0 where
+-- 6.1.3 contexts: the names of the items of five index spaces, each in the order of their indices
+pub record Context : Type 0 where
   pub locals : List Label
   pub funcs : List Label
+  pub tables : List Label
+  pub memories : List Label
   pub globals : List Label
 
 abbrev pub is_name : List ℕ → Label → Bool
@@ -38,20 +40,24 @@ position k x [] = None
 position k x (l ∷ ls) = if is_name x l then Some k else position (suc k) x ls
 
 -- the index of a name at the head of tokens, and the others
-abbrev pub named : Option ℕ → List Terminal → List Terminal → Result (Argument × List Terminal) Fault
+abbrev pub named : Option ℕ → List Terminal → List Terminal → Result (ℕ × List Terminal) Fault
 named None all ts = Err (UnknownName, all)
-named (Some n) all ts = Ok (argument.Index n, ts)
+named (Some n) all ts = Ok (n, ts)
 
 -- 6.3.1: an unsigned integer of 32 bits has no sign
-abbrev pub small : Sign → ℕ → List Terminal → List Terminal → Result (Argument × List Terminal) Fault
-small sign.Absent n all ts = if nat_lt n (2 ^ 32) then Ok (argument.Index n, ts) else Err (OutOfRange, all)
+abbrev pub small : Sign → ℕ → List Terminal → List Terminal → Result (ℕ × List Terminal) Fault
+small sign.Absent n all ts = if nat_lt n (2 ^ 32) then Ok (n, ts) else Err (OutOfRange, all)
 small s n all ts = Err (Unexpected, all)
 
 -- 6.6.1 indices: a number of 32 bits, or one of these names
-abbrev pub index : List Label → List Terminal → Result (Argument × List Terminal) Fault
+abbrev pub index : List Label → List Terminal → Result (ℕ × List Terminal) Fault
 index ls (Integer s n ∷ ts) = small s n (Integer s n ∷ ts) ts
 index ls (Id x ∷ ts) = named (position 0 x ls) (Id x ∷ ts) ts
 index ls ts = Err (Unexpected, ts)
+
+abbrev pub with_index : Result (ℕ × List Terminal) Fault → Result (Argument × List Terminal) Fault
+with_index (Ok (n, ts)) = Ok (argument.Index n, ts)
+with_index (Err f) = Err f
 
 -- 6.3.1 integers: i32 is a number of 32 bits without a sign, or one with a sign, from -2 ^ 31 to 2 ^ 31 - 1. Both denote the 32 bits; as a number with a
 -- sign these are below 2 ^ 31.
@@ -95,16 +101,16 @@ abbrev pub memory_of : ℕ → List Terminal → Argument × List Terminal
 memory_of natural ts = (argument.Memory (align_of natural (offset_of ts).1).0 (offset_of ts).0, (align_of natural (offset_of ts).1).1)
 
 -- the immediate of a kind, where these labels are bound, the innermost first
-abbrev pub immediate_of : Env → List Label → Immediate → List Terminal → Result (Argument × List Terminal) Fault
-immediate_of env ls immediate.No ts = Ok (argument.Nothing, ts)
-immediate_of env ls immediate.Local ts = index env.locals ts
-immediate_of env ls immediate.Label ts = index ls ts
-immediate_of env ls immediate.Func ts = index env.funcs ts
-immediate_of env ls immediate.Global ts = index env.globals ts
-immediate_of env ls immediate.I32 ts = i32 ts
-immediate_of env ls immediate.I64 ts = i64 ts
-immediate_of env ls (immediate.Memory natural) ts = Ok (memory_of natural ts)
-immediate_of env ls immediate.Zero ts = Ok (argument.Zero, ts)
+abbrev pub immediate_of : Context → List Label → Immediate → List Terminal → Result (Argument × List Terminal) Fault
+immediate_of context ls immediate.No ts = Ok (argument.Nothing, ts)
+immediate_of context ls immediate.Local ts = with_index (index context.locals ts)
+immediate_of context ls immediate.Label ts = with_index (index ls ts)
+immediate_of context ls immediate.Func ts = with_index (index context.funcs ts)
+immediate_of context ls immediate.Global ts = with_index (index context.globals ts)
+immediate_of context ls immediate.I32 ts = i32 ts
+immediate_of context ls immediate.I64 ts = i64 ts
+immediate_of context ls (immediate.Memory natural) ts = Ok (memory_of natural ts)
+immediate_of context ls immediate.Zero ts = Ok (argument.Zero, ts)
 
 abbrev pub instruction : ℕ → Argument → Instruction
 instruction o a = record { opcode = o; argument = a }
@@ -113,14 +119,14 @@ abbrev pub with_opcode : ℕ → Result (Argument × List Terminal) Fault → Re
 with_opcode o (Ok (a, ts)) = Ok (instruction o a, ts)
 with_opcode o (Err f) = Err f
 
-abbrev pub plain_by : Env → List Label → Option Mnemonic → List Terminal → List Terminal → Result (Instruction × List Terminal) Fault
-plain_by env ls None all ts = Err (UnknownWord, all)
-plain_by env ls (Some m) all ts = with_opcode m.opcode (immediate_of env ls m.immediate ts)
+abbrev pub plain_by : Context → List Label → Option Mnemonic → List Terminal → List Terminal → Result (Instruction × List Terminal) Fault
+plain_by context ls None all ts = Err (UnknownWord, all)
+plain_by context ls (Some m) all ts = with_opcode m.opcode (immediate_of context ls m.immediate ts)
 
 -- plaininstr: the instruction of the word that comes first, and the tokens after its immediate
-unfoldable pub plain : Env → List Label → List Terminal → Result (Instruction × List Terminal) Fault
-plain env ls (Word w ∷ ts) = plain_by env ls (found w mnemonics) (Word w ∷ ts) ts
-plain env ls ts = Err (Unexpected, ts)
+unfoldable pub plain : Context → List Label → List Terminal → Result (Instruction × List Terminal) Fault
+plain context ls (Word w ∷ ts) = plain_by context ls (found w mnemonics) (Word w ∷ ts) ts
+plain context ls ts = Err (Unexpected, ts)
 
 -- 6.5.1: label = Id or nothing
 abbrev pub label_of : List Terminal → Label × List Terminal
@@ -200,42 +206,42 @@ abbrev pub otherwise : Instruction
 otherwise = instruction 0x05 argument.Nothing
 
 -- instr*; or, where only operands may be, foldedinstr*
-pub data Instructions (env : Env) : List Label → Bool → List Terminal → List Instruction → List Terminal → Type 0 where
+pub data Instructions (context : Context) : List Label → Bool → List Terminal → List Instruction → List Terminal → Type 0 where
   -- none
-  by_none : {ls : List Label} {folded : Bool} {ts : List Terminal} → Instructions env ls folded ts [] ts
+  by_none : {ls : List Label} {folded : Bool} {ts : List Terminal} → Instructions context ls folded ts [] ts
   -- 6.5.4 to 6.5.8: a plain instruction, and more
   by_plain : {ls : List Label} {w : List ℕ} {ts us r : List Terminal} {i : Instruction} {is : List Instruction}
-      → structured w ≡ None → plain env ls (Word w ∷ ts) ≡ Ok (i, us) → Instructions env ls false us is r → Instructions env ls false (Word w ∷ ts) (i ∷ is) r
+      → structured w ≡ None → plain context ls (Word w ∷ ts) ≡ Ok (i, us) → Instructions context ls false us is r → Instructions context ls false (Word w ∷ ts) (i ∷ is) r
   -- 6.5.2: block, loop or if, up to `end`. An `if` without `else` is one whose second part is empty. 5.4.1 has
   -- bytes for it with and without `else`: it is written as the text has it, which is a choice of our own.
   by_block : {ls : List Label} {w v : List ℕ} {o : ℕ} {a : Argument} {ts bs us vs r : List Terminal} {body is : List Instruction}
-      → structured w ≡ Some o → block_type (label_of ts).1 ≡ Ok (a, bs) → Instructions env ((label_of ts).0 ∷ ls) false bs body (Word v ∷ us) → is_end v ≡ true → end_label (label_of ts).0 us ≡ Ok vs → Instructions env ls false vs is r
-      → Instructions env ls false (Word w ∷ ts) (instruction o a ∷ (body ++ (end ∷ is))) r
+      → structured w ≡ Some o → block_type (label_of ts).1 ≡ Ok (a, bs) → Instructions context ((label_of ts).0 ∷ ls) false bs body (Word v ∷ us) → is_end v ≡ true → end_label (label_of ts).0 us ≡ Ok vs → Instructions context ls false vs is r
+      → Instructions context ls false (Word w ∷ ts) (instruction o a ∷ (body ++ (end ∷ is))) r
   -- 6.5.2: if, up to `else`, up to `end`
   by_if_else : {ls : List Label} {w v x : List ℕ} {o : ℕ} {a : Argument} {ts bs us xs ys vs r : List Terminal} {body other is : List Instruction}
-      → structured w ≡ Some o → is_if o ≡ true → block_type (label_of ts).1 ≡ Ok (a, bs) → Instructions env ((label_of ts).0 ∷ ls) false bs body (Word v ∷ us) → is_else v ≡ true → end_label (label_of ts).0 us ≡ Ok xs
-      → Instructions env ((label_of ts).0 ∷ ls) false xs other (Word x ∷ ys) → is_end x ≡ true → end_label (label_of ts).0 ys ≡ Ok vs → Instructions env ls false vs is r
-      → Instructions env ls false (Word w ∷ ts) (instruction o a ∷ (body ++ (otherwise ∷ (other ++ (end ∷ is))))) r
+      → structured w ≡ Some o → is_if o ≡ true → block_type (label_of ts).1 ≡ Ok (a, bs) → Instructions context ((label_of ts).0 ∷ ls) false bs body (Word v ∷ us) → is_else v ≡ true → end_label (label_of ts).0 us ≡ Ok xs
+      → Instructions context ((label_of ts).0 ∷ ls) false xs other (Word x ∷ ys) → is_end x ≡ true → end_label (label_of ts).0 ys ≡ Ok vs → Instructions context ls false vs is r
+      → Instructions context ls false (Word w ∷ ts) (instruction o a ∷ (body ++ (otherwise ∷ (other ++ (end ∷ is))))) r
   -- 6.5.10: `(` plaininstr foldedinstr* `)` is foldedinstr* plaininstr
   by_folded : {ls : List Label} {folded : Bool} {w : List ℕ} {ts us vs r : List Terminal} {i : Instruction} {operands is : List Instruction}
-      → structured w ≡ None → plain env ls (Word w ∷ ts) ≡ Ok (i, us) → Instructions env ls true us operands (Close ∷ vs) → Instructions env ls folded vs is r
-      → Instructions env ls folded (Open ∷ Word w ∷ ts) (operands ++ (i ∷ is)) r
+      → structured w ≡ None → plain context ls (Word w ∷ ts) ≡ Ok (i, us) → Instructions context ls true us operands (Close ∷ vs) → Instructions context ls folded vs is r
+      → Instructions context ls folded (Open ∷ Word w ∷ ts) (operands ++ (i ∷ is)) r
   -- 6.5.10: `(` block label blocktype instr* `)` is block label blocktype instr* end, and so is loop
   by_folded_block : {ls : List Label} {folded : Bool} {w : List ℕ} {o : ℕ} {a : Argument} {ts bs vs r : List Terminal} {body is : List Instruction}
-      → structured w ≡ Some o → is_if o ≡ false → block_type (label_of ts).1 ≡ Ok (a, bs) → Instructions env ((label_of ts).0 ∷ ls) false bs body (Close ∷ vs) → Instructions env ls folded vs is r
-      → Instructions env ls folded (Open ∷ Word w ∷ ts) (instruction o a ∷ (body ++ (end ∷ is))) r
+      → structured w ≡ Some o → is_if o ≡ false → block_type (label_of ts).1 ≡ Ok (a, bs) → Instructions context ((label_of ts).0 ∷ ls) false bs body (Close ∷ vs) → Instructions context ls folded vs is r
+      → Instructions context ls folded (Open ∷ Word w ∷ ts) (instruction o a ∷ (body ++ (end ∷ is))) r
   -- 6.5.10: `(` if label blocktype foldedinstr* `(` then instr* `)` `)` is foldedinstr* if label blocktype instr* end
   by_folded_if : {ls : List Label} {folded : Bool} {w t : List ℕ} {o : ℕ} {a : Argument} {ts bs cs vs r : List Terminal} {condition body is : List Instruction}
-      → structured w ≡ Some o → is_if o ≡ true → block_type (label_of ts).1 ≡ Ok (a, bs) → Instructions env ls true bs condition (Open ∷ Word t ∷ cs) → is_then t ≡ true
-      → Instructions env ((label_of ts).0 ∷ ls) false cs body (Close ∷ Close ∷ vs) → Instructions env ls folded vs is r
-      → Instructions env ls folded (Open ∷ Word w ∷ ts) (condition ++ (instruction o a ∷ (body ++ (end ∷ is)))) r
+      → structured w ≡ Some o → is_if o ≡ true → block_type (label_of ts).1 ≡ Ok (a, bs) → Instructions context ls true bs condition (Open ∷ Word t ∷ cs) → is_then t ≡ true
+      → Instructions context ((label_of ts).0 ∷ ls) false cs body (Close ∷ Close ∷ vs) → Instructions context ls folded vs is r
+      → Instructions context ls folded (Open ∷ Word w ∷ ts) (condition ++ (instruction o a ∷ (body ++ (end ∷ is)))) r
   -- 6.5.10: the same with `(` else instr* `)` after it is foldedinstr* if label blocktype instr* else instr* end
   by_folded_if_else : {ls : List Label} {folded : Bool} {w t e : List ℕ} {o : ℕ} {a : Argument} {ts bs cs es vs r : List Terminal} {condition body other is : List Instruction}
-      → structured w ≡ Some o → is_if o ≡ true → block_type (label_of ts).1 ≡ Ok (a, bs) → Instructions env ls true bs condition (Open ∷ Word t ∷ cs) → is_then t ≡ true
-      → Instructions env ((label_of ts).0 ∷ ls) false cs body (Close ∷ Open ∷ Word e ∷ es) → is_else e ≡ true
-      → Instructions env ((label_of ts).0 ∷ ls) false es other (Close ∷ Close ∷ vs) → Instructions env ls folded vs is r
-      → Instructions env ls folded (Open ∷ Word w ∷ ts) (condition ++ (instruction o a ∷ (body ++ (otherwise ∷ (other ++ (end ∷ is)))))) r
+      → structured w ≡ Some o → is_if o ≡ true → block_type (label_of ts).1 ≡ Ok (a, bs) → Instructions context ls true bs condition (Open ∷ Word t ∷ cs) → is_then t ≡ true
+      → Instructions context ((label_of ts).0 ∷ ls) false cs body (Close ∷ Open ∷ Word e ∷ es) → is_else e ≡ true
+      → Instructions context ((label_of ts).0 ∷ ls) false es other (Close ∷ Close ∷ vs) → Instructions context ls folded vs is r
+      → Instructions context ls folded (Open ∷ Word w ∷ ts) (condition ++ (instruction o a ∷ (body ++ (otherwise ∷ (other ++ (end ∷ is)))))) r
 
 -- the instructions of a body up to its `)`, which is passed; a body is in no block, and its label has no name (6.6.5)
-abbrev pub Body : Env → List Terminal → List Instruction → List Terminal → Type 0
-Body env ts is r = Instructions env (None ∷ []) false ts is (Close ∷ r)
+abbrev pub Body : Context → List Terminal → List Instruction → List Terminal → Type 0
+Body context ts is r = Instructions context (None ∷ []) false ts is (Close ∷ r)

@@ -2,13 +2,13 @@
 use Rattle.std.specs.Prelude.{◌≡◌, ◌≤◌, ◌↔◌, length, ℕ, zero, suc, List, [], ◌∷◌, Bool, Ok}
 use Rattle.wat_instructions.specs.declared.pieces.Instruction.{Instruction}
 use Rattle.wat_instructions.specs.Terminals.{Terminal, Open, Close, Word, Id, Integer, Text, Other, Label}
-use Rattle.wat_instructions.specs.Grammar.{Env, Instructions}
+use Rattle.wat_instructions.specs.Grammar.{Context, Instructions}
 use Rattle.wat_instructions.specs.Grammar as grammar
 use Rattle.wat_instructions.specs.Machine as machine
 
 -- The instructions of a body, and what comes after its `)`, are those that the grammar spells.
 abbrev pub MachineIsGrammar : Type 0
-MachineIsGrammar = (env : Env) (ts : List Terminal) (is : List Instruction) (r : List Terminal) → (machine.body env ts ≡ Ok (is, r)) ↔ grammar.Body env ts is r
+MachineIsGrammar = (context : Context) (ts : List Terminal) (is : List Instruction) (r : List Terminal) → (machine.body context ts ≡ Ok (is, r)) ↔ grammar.Body context ts is r
 
 -- the tokens after the `)` of the group in which so many are open
 abbrev pub past : ℕ → List Terminal → List Terminal
@@ -24,8 +24,8 @@ past d (Other ∷ ts) = past d ts
 
 -- Who passes over the tokens of instructions by their parentheses comes to the same place.
 abbrev pub InstructionsAreBalanced : Type 0
-InstructionsAreBalanced = (env : Env) (ls : List Label) (folded : Bool) (ts : List Terminal) (is : List Instruction) (r : List Terminal) → Instructions env ls folded ts is r → (d : ℕ) → past d ts ≡ past d r
+InstructionsAreBalanced = (context : Context) (ls : List Label) (folded : Bool) (ts : List Terminal) (is : List Instruction) (r : List Terminal) → Instructions context ls folded ts is r → (d : ℕ) → past d ts ≡ past d r
 
 -- And what is left is no longer.
 abbrev pub InstructionsTakeTokens : Type 0
-InstructionsTakeTokens = (env : Env) (ls : List Label) (folded : Bool) (ts : List Terminal) (is : List Instruction) (r : List Terminal) → Instructions env ls folded ts is r → length r ≤ length ts
+InstructionsTakeTokens = (context : Context) (ls : List Label) (folded : Bool) (ts : List Terminal) (is : List Instruction) (r : List Terminal) → Instructions context ls folded ts is r → length r ≤ length ts

@@ -4,7 +4,7 @@ use Rattle.wat_instructions.specs.declared.pieces.Argument.{Argument}
 use Rattle.wat_instructions.specs.declared.pieces.Instruction.{Instruction}
 use Rattle.wat_instructions.specs.declared.pieces.FaultKind.TheVariants.{Unexpected}
 use Rattle.wat_instructions.specs.Terminals.{Terminal, Open, Close, Word, Label}
-use Rattle.wat_instructions.specs.Grammar.{Env, Fault, plain, label_of, end_label, structured, is_end, is_else, is_then, is_if, block_type, instruction, end, otherwise}
+use Rattle.wat_instructions.specs.Grammar.{Context, Fault, plain, label_of, end_label, structured, is_end, is_else, is_then, is_if, block_type, instruction, end, otherwise}
 
 -- what is open: the body; `block .. end`, and whether `else` may come in it; `(block ..)`; an instruction that waits for its operands; an `if` that waits
 -- for its condition; and its two parts in parentheses
@@ -79,37 +79,37 @@ turned l (Ok ts) ps = on_to (otherwise ∷ []) (Block false l ∷ ps) ts
 turned l (Err f) ps = Err f
 
 -- a word where instructions may be; these tokens begin with it
-abbrev pub word_by : Env → Option ℕ → List Terminal → List Terminal → List Part → Result Step Fault
-word_by env (Some o) all ts ps = at_block o (label_of ts).0 (block_type (label_of ts).1) ps
-word_by env None all ts ps = at_plain (plain env (labels_in ps) all) ps
+abbrev pub word_by : Context → Option ℕ → List Terminal → List Terminal → List Part → Result Step Fault
+word_by context (Some o) all ts ps = at_block o (label_of ts).0 (block_type (label_of ts).1) ps
+word_by context None all ts ps = at_plain (plain context (labels_in ps) all) ps
 
-abbrev pub word_step : Env → Part → List ℕ → List Terminal → List Terminal → List Part → Result Step Fault
-word_step env Body w all ts ps = word_by env (structured w) all ts (Body ∷ ps)
-word_step env (Group l) w all ts ps = word_by env (structured w) all ts (Group l ∷ ps)
-word_step env (Then l) w all ts ps = word_by env (structured w) all ts (Then l ∷ ps)
-word_step env (Else l) w all ts ps = word_by env (structured w) all ts (Else l ∷ ps)
-word_step env (Block b l) w all ts ps =
-    if is_end w then ended (end_label l ts) ps else if b && is_else w then turned l (end_label l ts) ps else word_by env (structured w) all ts (Block b l ∷ ps)
-word_step env (Operands i) w all ts ps = Err (Unexpected, all)
-word_step env (Condition i l) w all ts ps = Err (Unexpected, all)
+abbrev pub word_step : Context → Part → List ℕ → List Terminal → List Terminal → List Part → Result Step Fault
+word_step context Body w all ts ps = word_by context (structured w) all ts (Body ∷ ps)
+word_step context (Group l) w all ts ps = word_by context (structured w) all ts (Group l ∷ ps)
+word_step context (Then l) w all ts ps = word_by context (structured w) all ts (Then l ∷ ps)
+word_step context (Else l) w all ts ps = word_by context (structured w) all ts (Else l ∷ ps)
+word_step context (Block b l) w all ts ps =
+    if is_end w then ended (end_label l ts) ps else if b && is_else w then turned l (end_label l ts) ps else word_by context (structured w) all ts (Block b l ∷ ps)
+word_step context (Operands i) w all ts ps = Err (Unexpected, all)
+word_step context (Condition i l) w all ts ps = Err (Unexpected, all)
 
 -- a structured instruction after `(` and its word
 abbrev pub open_block : ℕ → List Terminal → List Part → Result Step Fault
 open_block o ts ps = if is_if o then at_condition o (label_of ts).0 (block_type (label_of ts).1) ps else at_group o (label_of ts).0 (block_type (label_of ts).1) ps
 
 -- a word after `(`; these tokens begin with it
-abbrev pub open_by : Env → Option ℕ → List Terminal → List Terminal → List Part → Result Step Fault
-open_by env (Some o) all ts ps = open_block o ts ps
-open_by env None all ts ps = at_operands (plain env (labels_in ps) all) ps
+abbrev pub open_by : Context → Option ℕ → List Terminal → List Terminal → List Part → Result Step Fault
+open_by context (Some o) all ts ps = open_block o ts ps
+open_by context None all ts ps = at_operands (plain context (labels_in ps) all) ps
 
 -- the same in a part: `then` after a condition, or an instruction
-abbrev pub folded_by : Env → Part → List ℕ → List Terminal → List Terminal → List Part → Result Step Fault
-folded_by env (Condition i l) w all ts ps = if is_then w then on_to (i ∷ []) (Then l ∷ ps) ts else open_by env (structured w) all ts (Condition i l ∷ ps)
-folded_by env p w all ts ps = open_by env (structured w) all ts (p ∷ ps)
+abbrev pub folded_by : Context → Part → List ℕ → List Terminal → List Terminal → List Part → Result Step Fault
+folded_by context (Condition i l) w all ts ps = if is_then w then on_to (i ∷ []) (Then l ∷ ps) ts else open_by context (structured w) all ts (Condition i l ∷ ps)
+folded_by context p w all ts ps = open_by context (structured w) all ts (p ∷ ps)
 
-abbrev pub open_step : Env → Part → List Terminal → List Part → Result Step Fault
-open_step env p (Word w ∷ ts) ps = folded_by env p w (Word w ∷ ts) ts ps
-open_step env p ts ps = Err (Unexpected, ts)
+abbrev pub open_step : Context → Part → List Terminal → List Part → Result Step Fault
+open_step context p (Word w ∷ ts) ps = folded_by context p w (Word w ∷ ts) ts ps
+open_step context p ts ps = Err (Unexpected, ts)
 
 -- after the `)` of `(else`: the `)` of `(if`
 abbrev pub else_step : List Terminal → List Part → Result Step Fault
@@ -141,11 +141,11 @@ close_step (Else l) all ts ps = else_step ts ps
 close_step (Block b l) all ts ps = Err (Unexpected, all)
 close_step (Condition i l) all ts ps = Err (Unexpected, all)
 
-unfoldable pub step : Env → Part → List Part → List Terminal → Result Step Fault
-step env p ps (Open ∷ ts) = open_step env p ts ps
-step env p ps (Close ∷ ts) = close_step p (Close ∷ ts) ts ps
-step env p ps (Word w ∷ ts) = word_step env p w (Word w ∷ ts) ts ps
-step env p ps ts = Err (Unexpected, ts)
+unfoldable pub step : Context → Part → List Part → List Terminal → Result Step Fault
+step context p ps (Open ∷ ts) = open_step context p ts ps
+step context p ps (Close ∷ ts) = close_step p (Close ∷ ts) ts ps
+step context p ps (Word w ∷ ts) = word_step context p w (Word w ∷ ts) ts ps
+step context p ps ts = Err (Unexpected, ts)
 
 abbrev pub output_before : List Instruction → Result (List Instruction × List Terminal) Fault → Result (List Instruction × List Terminal) Fault
 output_before is (Ok (js, ts)) = Ok (is ++ js, ts)
@@ -156,11 +156,11 @@ run_by go (Ok s) = output_before s.output (go s.stack s.left)
 run_by go (Err f) = Err f
 
 -- at most so many steps, until nothing is open; each takes a token
-unfoldable pub run : Env → ℕ → List Part → List Terminal → Result (List Instruction × List Terminal) Fault
-run env n [] ts = Ok ([], ts)
-run env zero (p ∷ ps) ts = Err (Unexpected, ts)
-run env (suc n) (p ∷ ps) ts = run_by (run env n) (step env p ps ts)
+unfoldable pub run : Context → ℕ → List Part → List Terminal → Result (List Instruction × List Terminal) Fault
+run context n [] ts = Ok ([], ts)
+run context zero (p ∷ ps) ts = Err (Unexpected, ts)
+run context (suc n) (p ∷ ps) ts = run_by (run context n) (step context p ps ts)
 
 -- the instructions of a body up to its `)`, which is passed, and the tokens after it; or the fault
-abbrev pub body : Env → List Terminal → Result (List Instruction × List Terminal) Fault
-body env ts = run env (suc (length ts)) (Body ∷ []) ts
+abbrev pub body : Context → List Terminal → Result (List Instruction × List Terminal) Fault
+body context ts = run context (suc (length ts)) (Body ∷ []) ts

@@ -7,7 +7,7 @@ use Rattle.wat_instructions.specs.declared.pieces.Refusal.TheVariants.{Text, Mem
 use Rattle.wat_instructions.specs.declared.pieces.Frame.{Frame}
 use Rattle.wat_instructions.specs.declared.pieces.Frame.TheVariants as frame
 use Rattle.wat_instructions.specs.declared.reading.Scope.{Scope}
-use Rattle.wat_instructions.specs.Grammar.{Env, Fault}
+use Rattle.wat_instructions.specs.Grammar.{Context, Fault}
 use Rattle.wat_instructions.specs.Machine.{Part, Body, Block, Group, Operands, Condition, Then, Else, Step, run}
 use Rattle.wat_instructions.specs.Terminals.{Terminal, terminal, label}
 
@@ -28,8 +28,14 @@ stack_on (f ∷ fs) ps = stack_on fs (part f ∷ ps)
 unfoldable pub stack : List Frame → List Part
 stack fs = stack_on fs []
 
-abbrev pub scope_of : Scope → Env
-scope_of s = record { locals = map label s.locals.now; funcs = map label s.funcs.now; globals = map label s.globals.now }
+abbrev pub scope_of : Scope → Context
+scope_of s = record {
+  locals = map label s.locals.now;
+  funcs = map label s.funcs.now;
+  tables = map label s.tables.now;
+  memories = map label s.memories.now;
+  globals = map label s.globals.now;
+}
 
 abbrev pub fault_of : declared.Fault → Fault
 fault_of f = (f.kind, map terminal f.left.now)
@@ -46,9 +52,9 @@ pub record Stepped (q : Result Step Fault) (before after : List Instruction) (fr
   pub follows : after ≡ before ++ output
 
 -- with steps enough, these come after what was, and these tokens are left
-abbrev pub RunsTo : Env → List Part → List Terminal → List Instruction → List Instruction → List Terminal → Type 0
-RunsTo env ps ts before after left = (n : ℕ) → length ts < n → (is : List Instruction) × (run env n ps ts ≡ Ok (is, left)) × (after ≡ before ++ is)
+abbrev pub RunsTo : Context → List Part → List Terminal → List Instruction → List Instruction → List Terminal → Type 0
+RunsTo context ps ts before after left = (n : ℕ) → length ts < n → (is : List Instruction) × (run context n ps ts ≡ Ok (is, left)) × (after ≡ before ++ is)
 
 -- with steps enough, this is why not; or memory was wanting
-abbrev pub RunsInto : Env → List Part → List Terminal → Refusal → Type 0
-RunsInto env ps ts e = (n : ℕ) → length ts < n → Faults (run env n ps ts) e
+abbrev pub RunsInto : Context → List Part → List Terminal → Refusal → Type 0
+RunsInto context ps ts e = (n : ℕ) → length ts < n → Faults (run context n ps ts) e

@@ -111,6 +111,8 @@ pub enum FaultKind {
     NotUtf8,
     /// Two items of one kind with the same identifier.
     Duplicate,
+    /// More than one start function.
+    SecondStart,
 }
 
 /// Why a text is refused, and the tokens from the one where that is.

@@ -1,6 +1,6 @@
 //! Plain instructions and their immediates, names and labels.
 ghost use Rattle.std.specs.Prelude.{◌≡◌, ◌<◌, ◌^◌, [], ◌∷◌, IfSome, None, Ok, Err, Some, length, map, MatchOption, MatchResult};
-ghost use Rattle.wat_instructions.specs.Grammar.{after_empty, block_type, close_type, closed, end_label, i32, i64, immediate_of, index, is_else, is_end, is_then, label_of, one_type, plain, position, result_type, signed, structured, type_by, value_type};
+ghost use Rattle.wat_instructions.specs.Grammar.{after_empty, block_type, close_type, closed, end_label, i32, i64, immediate_of, index, is_else, is_end, is_then, label_of, one_type, plain, position, result_type, signed, structured, type_by, value_type, with_index};
 ghost use Rattle.wat_instructions.specs.Machine.{bound, labels_in};
 ghost use Rattle.wat_instructions.specs.Parts.{fault_of, part, scope_of, stack};
 ghost use Rattle.wat_instructions.specs.Terminals.{Open, Word, label, terminal};
@@ -9,11 +9,13 @@ use crate::memory;
 use crate::pieces::{Argument, Fault, FaultKind, Frame, Instruction, Name, Piece, Sign, ValueType};
 use crate::table::{self, Immediate};
 
-/// The names of local variables, functions and global variables, in the order of their indices.
+/// The names of the items of five index spaces, each in the order of their indices.
 #[derive(Clone, Copy)]
 pub struct Scope<'s, 'n> {
     pub locals: &'s [Name<'n>],
     pub funcs: &'s [Name<'n>],
+    pub tables: &'s [Name<'n>],
+    pub memories: &'s [Name<'n>],
     pub globals: &'s [Name<'n>],
 }
 
@@ -60,10 +62,10 @@ fn label_index(frames: &[Frame<'_>], name: &str) -> Option<usize>
 }
 
 /// An index, which a name or a number says.
-fn index<'p, 'a>(
+pub fn index<'p, 'a>(
     names: &[Name<'_>],
     pieces: &'p [Piece<'a>],
-) -> Result<(Argument, &'p [Piece<'a>]), Fault<'p, 'a>>
+) -> Result<(usize, &'p [Piece<'a>]), Fault<'p, 'a>>
     ensures { MatchResult result
         (λ r. index (map label names.now) (map terminal pieces.now) ≡ Ok (r.0, map terminal r.1.now))
         (λ f. index (map label names.now) (map terminal pieces.now) ≡ Err (fault_of f)) }
@@ -71,7 +73,7 @@ fn index<'p, 'a>(
     match pieces {
         [Piece::Integer(Sign::Absent, n), rest @ ..] => {
             if *n < 0x1_0000_0000 {
-                Ok((Argument::Index(*n as usize), rest))
+                Ok((*n as usize, rest))
             } else {
                 Err(Fault {
                     kind: FaultKind::OutOfRange,
@@ -84,7 +86,7 @@ fn index<'p, 'a>(
             left: pieces,
         }),
         [Piece::Id(name), rest @ ..] => match name_index(names, name) {
-            Some(n) => Ok((Argument::Index(n), rest)),
+            Some(n) => Ok((n, rest)),
             None => Err(Fault {
                 kind: FaultKind::UnknownName,
                 left: pieces,
@@ -105,10 +107,10 @@ fn index<'p, 'a>(
 }
 
 /// An index of a label, which a name or a number says.
-fn label_argument<'p, 'a>(
+fn label_number<'p, 'a>(
     frames: &[Frame<'_>],
     pieces: &'p [Piece<'a>],
-) -> Result<(Argument, &'p [Piece<'a>]), Fault<'p, 'a>>
+) -> Result<(usize, &'p [Piece<'a>]), Fault<'p, 'a>>
     ensures { MatchResult result
         (λ r. index (labels_in (stack frames.now)) (map terminal pieces.now) ≡ Ok (r.0, map terminal r.1.now))
         (λ f. index (labels_in (stack frames.now)) (map terminal pieces.now) ≡ Err (fault_of f)) }
@@ -116,7 +118,7 @@ fn label_argument<'p, 'a>(
     match pieces {
         [Piece::Integer(Sign::Absent, n), rest @ ..] => {
             if *n < 0x1_0000_0000 {
-                Ok((Argument::Index(*n as usize), rest))
+                Ok((*n as usize, rest))
             } else {
                 Err(Fault {
                     kind: FaultKind::OutOfRange,
@@ -129,7 +131,7 @@ fn label_argument<'p, 'a>(
             left: pieces,
         }),
         [Piece::Id(name), rest @ ..] => match label_index(frames, name) {
-            Some(n) => Ok((Argument::Index(n), rest)),
+            Some(n) => Ok((n, rest)),
             None => Err(Fault {
                 kind: FaultKind::UnknownName,
                 left: pieces,
@@ -147,6 +149,32 @@ fn label_argument<'p, 'a>(
             left: pieces,
         }),
     }
+}
+
+/// The immediate that is an index.
+fn name_argument<'p, 'a>(
+    names: &[Name<'_>],
+    pieces: &'p [Piece<'a>],
+) -> Result<(Argument, &'p [Piece<'a>]), Fault<'p, 'a>>
+    ensures { MatchResult result
+        (λ r. with_index (index (map label names.now) (map terminal pieces.now)) ≡ Ok (r.0, map terminal r.1.now))
+        (λ f. with_index (index (map label names.now) (map terminal pieces.now)) ≡ Err (fault_of f)) }
+{
+    let (n, rest) = index(names, pieces)?;
+    Ok((Argument::Index(n), rest))
+}
+
+/// The immediate that is an index of a label.
+fn label_argument<'p, 'a>(
+    frames: &[Frame<'_>],
+    pieces: &'p [Piece<'a>],
+) -> Result<(Argument, &'p [Piece<'a>]), Fault<'p, 'a>>
+    ensures { MatchResult result
+        (λ r. with_index (index (labels_in (stack frames.now)) (map terminal pieces.now)) ≡ Ok (r.0, map terminal r.1.now))
+        (λ f. with_index (index (labels_in (stack frames.now)) (map terminal pieces.now)) ≡ Err (fault_of f)) }
+{
+    let (n, rest) = label_number(frames, pieces)?;
+    Ok((Argument::Index(n), rest))
 }
 
 /// The number of 32 bits that an integer denotes, as one with a sign.
@@ -288,10 +316,10 @@ fn immediate<'p, 'a>(
 {
     match kind {
         Immediate::No => Ok((Argument::Nothing, pieces)),
-        Immediate::Local => index(scope.locals, pieces),
+        Immediate::Local => name_argument(scope.locals, pieces),
         Immediate::Label => label_argument(frames, pieces),
-        Immediate::Func => index(scope.funcs, pieces),
-        Immediate::Global => index(scope.globals, pieces),
+        Immediate::Func => name_argument(scope.funcs, pieces),
+        Immediate::Global => name_argument(scope.globals, pieces),
         Immediate::I32 => number_32(pieces),
         Immediate::I64 => number_64(pieces),
         Immediate::Memory(natural) => Ok(memory::argument(natural, pieces)),

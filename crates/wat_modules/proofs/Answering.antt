@@ -21,7 +21,7 @@ use Rattle.wat_lexer_parser.specs.names.RegisteredNames.{no_names}
 use Rattle.wat_lexer_parser.specs.parser.State.{Answers, report_of}
 use Rattle.wat_instructions.specs.Grammar as grammar
 use Rattle.wat_fields.specs.Binary.{module_bytes}
-use Rattle.wat_fields.specs.Fields.{Function}
+use Rattle.wat_fields.specs.Fields.{Field}
 use Rattle.wat_fields.specs.Law.{ReadingIsGrammar}
 use Rattle.wat_fields.specs.Reading as reading
 use Rattle.wat_pieces.specs.Pieces.{plain, terminal_of}
@@ -71,20 +71,20 @@ pub refused_by : TilingsAreOne → AllShownIsOne → (text : List ℕ) (us : Lis
 refused_by tilings one text us f r h a = λ vs g k.
     let e = shows_one tilings one text us vs f g h k in subst (λ x. Is (compiled text vs x) r) e.1 (subst (λ x. Is (compiled text x f) r) e.0 a)
 
-pub spelled_by : ReadingIsGrammar → (text : List ℕ) (r : Answer) → IsRefused text r → (fs : List Function) → Spells text fs → Is (fitted text (module_bytes fs)) r
+pub spelled_by : ReadingIsGrammar → (text : List ℕ) (r : Answer) → IsRefused text r → (fs : List Field) → Spells text fs → Is (fitted text (module_bytes fs)) r
 unfolding compiled_tokens
 spelled_by law text r h = λ fs s.
     subst (λ q. Is (compiled_by text s.shown.tokens q) r) (ap reading.whole (sym s.shown.are) ∙ (law s.terminals fs).1 s.spelled) (h s.shown.tokens None s.shown.shown)
 
 abbrev pub HasBytes : List ℕ → Answer → Type 0
-HasBytes text r = IfOk r (λ bytes. (fs : List Function) × Spells text fs × Fits fs × (bytes.items ≡ module_bytes fs))
+HasBytes text r = IfOk r (λ bytes. (fs : List Field) × Spells text fs × Fits fs × (bytes.items ≡ module_bytes fs))
 
 fitted_is : (text : List ℕ) (bytes out : List ℕ) (b : Bool) → nat_lt (length bytes) (2 ^ 32) ≡ b → (if b then Ok bytes else Err (too_long text)) ≡ Ok out → (length bytes < 2 ^ 32) × (out ≡ bytes)
 fitted_is text bytes out true e h = let k : bytes ≡ out = cc in ((Decides-ltb (length bytes) (2 ^ 32)).0 e, sym k)
 fitted_is text bytes out false e h = cc
 
-bytes_of : ReadingIsGrammar → (text : List ℕ) (us : List Token) (out : Vec ℕ Global) → TextShows (plain text) no_names us None → (q : Result (List Function) grammar.Fault) → reading.whole (map (terminal_of text) us) ≡ q → compiled_by text us q ≡ Ok out.items
-    → (fs : List Function) × Spells text fs × Fits fs × (out.items ≡ module_bytes fs)
+bytes_of : ReadingIsGrammar → (text : List ℕ) (us : List Token) (out : Vec ℕ Global) → TextShows (plain text) no_names us None → (q : Result (List Field) grammar.Fault) → reading.whole (map (terminal_of text) us) ≡ q → compiled_by text us q ≡ Ok out.items
+    → (fs : List Field) × Spells text fs × Fits fs × (out.items ≡ module_bytes fs)
 bytes_of law text us out h (Ok fs) e k =
     let f = fitted_is text (module_bytes fs) out.items (nat_lt (length (module_bytes fs)) (2 ^ 32)) refl k in
     (fs, record { terminals = map (terminal_of text) us; shown = record { tokens = us; shown = h; are = refl }; spelled = (law (map (terminal_of text) us) fs).0 e }, f.0, f.1)
@@ -107,11 +107,11 @@ no_fault text us None r h a = a
 no_fault text us (Some f) r h a = cc
 
 -- a text spells one module
-pub one_module : TilingsAreOne → AllShownIsOne → ReadingIsGrammar → (text : List ℕ) (fs gs : List Function) → Spells text fs → Spells text gs → fs ≡ gs
+pub one_module : TilingsAreOne → AllShownIsOne → ReadingIsGrammar → (text : List ℕ) (fs gs : List Field) → Spells text fs → Spells text gs → fs ≡ gs
 one_module tilings one law text fs gs h k =
     let e = shows_one tilings one text h.shown.tokens k.shown.tokens None None h.shown.shown k.shown.shown in
     let t : h.terminals ≡ k.terminals = h.shown.are ∙ ap (map (terminal_of text)) e.0 ∙ sym k.shown.are in
-    let is : ◌≡◌ {A = Result (List Function) grammar.Fault} (Ok fs) (Ok gs) = sym ((law h.terminals fs).1 h.spelled) ∙ ap reading.whole t ∙ (law k.terminals gs).1 k.spelled in cc
+    let is : ◌≡◌ {A = Result (List Field) grammar.Fault} (Ok fs) (Ok gs) = sym ((law h.terminals fs).1 h.spelled) ∙ ap reading.whole t ∙ (law k.terminals gs).1 k.spelled in cc
 
 -- something is shown
 pub shows_some : EachPlaceIsTiled → SomethingIsAllShown → (text : List ℕ) → IsUtf8 text → (tokens : List Token) × (last : Option Fault) × TextShows (plain text) no_names tokens last

@@ -5,26 +5,27 @@ use Rattle.wat_lex.specs.errors.Errors.{Report, Custom, report_in}
 use Rattle.wat_lexer_parser.specs.declared.parser.fault.Fault.{Fault}
 use Rattle.wat_lexer_parser.specs.parser.State.{report_of}
 use Rattle.wat_instructions.specs.declared.pieces.FaultKind.{FaultKind}
-use Rattle.wat_instructions.specs.declared.pieces.FaultKind.TheVariants.{Unexpected, UnknownWord, UnknownName, WrongLabel, OutOfRange, NotUtf8, Duplicate}
+use Rattle.wat_instructions.specs.declared.pieces.FaultKind.TheVariants.{Unexpected, UnknownWord, UnknownName, WrongLabel, OutOfRange, NotUtf8, Duplicate, SecondStart}
 use Rattle.wat_instructions.specs.Grammar as grammar
 use Rattle.wat_instructions.specs.Terminals.{Terminal}
 use Rattle.wat_pieces.specs.Pieces.{Shows, terminal_of}
 use Rattle.wat_fields.specs.Binary.{module_bytes}
-use Rattle.wat_fields.specs.Fields.{Function, Module}
+use Rattle.wat_fields.specs.Fields.{Field, Module}
 use Rattle.wat_fields.specs.Reading as reading
 
--- the tokens that count of the text are a module of these functions, and then it ends
-pub record Spells (text : List ℕ) (fs : List Function) : Type 0 where
+-- the tokens that count of the text are a module of these fields, and then it ends
+pub record Spells (text : List ℕ) (fs : List Field) : Type 0 where
   pub terminals : List Terminal
   pub shown : Shows text terminals
   pub spelled : Module terminals fs
 
 -- a text spells one module at most
 abbrev pub SpellingIsOne : Type 0
-SpellingIsOne = (text : List ℕ) (fs gs : List Function) → Spells text fs → Spells text gs → fs ≡ gs
+SpellingIsOne = (text : List ℕ) (fs gs : List Field) → Spells text fs → Spells text gs → fs ≡ gs
 
--- A rule of our own, so that all sizes are `u32`: 5.5.2 bounds each size, and not the whole.
-abbrev pub Fits : List Function → Type 0
+-- A rule of our own, so that all sizes are `u32`: 5.5.2 bounds each size, and not the whole. That counts of local variables are (5.5.13) follows from the
+-- length of the text, which is below 2 ^ 32.
+abbrev pub Fits : List Field → Type 0
 Fits fs = length (module_bytes fs) < 2 ^ 32
 
 -- What is refused, and where. A rule of our own.
@@ -37,6 +38,7 @@ message WrongLabel = codes "mismatching label"
 message OutOfRange = codes "number out of range"
 message NotUtf8 = codes "name is not UTF-8"
 message Duplicate = codes "duplicate identifier"
+message SecondStart = codes "more than one start function"
 
 abbrev pub offset_or : ℕ → Option Token → ℕ
 offset_or end None = end
@@ -53,7 +55,7 @@ too_long text = report_in text 0 (Custom (codes "module too long"))
 abbrev pub fitted : List ℕ → List ℕ → Result (List ℕ) Report
 fitted text bytes = if nat_lt (length bytes) (2 ^ 32) then Ok bytes else Err (too_long text)
 
-abbrev pub compiled_by : List ℕ → List Token → Result (List Function) grammar.Fault → Result (List ℕ) Report
+abbrev pub compiled_by : List ℕ → List Token → Result (List Field) grammar.Fault → Result (List ℕ) Report
 compiled_by text tokens (Ok fs) = fitted text (module_bytes fs)
 compiled_by text tokens (Err f) = Err (report_in text (place text tokens (length f.1)) (Custom (message f.0)))
 

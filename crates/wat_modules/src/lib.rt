@@ -1,11 +1,12 @@
 //! Modules of WebAssembly, from text to bytes: a compiler whose answer is that of the standard's
-//! grammar and binary format, by theorem. As yet modules hold nothing but functions.
+//! grammar and binary format, by theorem. As yet modules hold functions, tables, memories,
+//! globals, exports and a start function.
 #![tactic(auto)]
 
 ghost use Rattle.std.specs.List.{All};
 ghost use Rattle.std.specs.Prelude.{◌≡◌, ◌<◌, ◌^◌, true, length, IfOk, List, Option, string_bytes};
 ghost use Rattle.wat_fields.specs.Binary.{module_bytes};
-ghost use Rattle.wat_fields.specs.Fields.{Function};
+ghost use Rattle.wat_fields.specs.Fields.{Field};
 ghost use Rattle.wat_lex.specs.declared.lexer.kinds.Token.{Token};
 ghost use Rattle.wat_lex.specs.errors.Errors.{Custom, IsUnlessMemory, report_in};
 ghost use Rattle.wat_lex.specs.tokens.ReadableTokens.{IsTokenOf};
@@ -39,11 +40,11 @@ pub fn compile(alloc: Global, text: &str) -> Result<Vec<u8>, Error>
     requires { length text.now < 2 ^ 32 }
 
     // The bytes are those of a module that the text spells.
-    ensures bytes { IfOk result (λ bytes. (fs : List Function) × Spells text.now fs × Fits fs
+    ensures bytes { IfOk result (λ bytes. (fs : List Field) × Spells text.now fs × Fits fs
         × (bytes.items ≡ module_bytes fs)) }
 
     // Where it spells a module, the answer is its bytes, or that they are too many.
-    ensures spelled { (fs : List Function) → Spells text.now fs →
+    ensures spelled { (fs : List Field) → Spells text.now fs →
         Answers true (λ bytes. bytes.items) (fitted text.now (module_bytes fs)) result }
 
     // Any other refusal is that of all that the text shows, in its order.
@@ -122,6 +123,7 @@ fn message(kind: FaultKind) -> &'static str
         FaultKind::OutOfRange => "number out of range",
         FaultKind::NotUtf8 => "name is not UTF-8",
         FaultKind::Duplicate => "duplicate identifier",
+        FaultKind::SecondStart => "more than one start function",
     }
 }
 

@@ -1,6 +1,7 @@
 // Made by tools/erase from crates/wat_modules/src/lib.rt; do not edit.
 //! Modules of WebAssembly, from text to bytes: a compiler whose answer is that of the standard's
-//! grammar and binary format, by theorem. As yet modules hold nothing but functions.
+//! grammar and binary format, by theorem. As yet modules hold functions, tables, memories,
+//! globals, exports and a start function.
 
 use wat_lex::shim::prelude::*;
 pub mod laws;
@@ -26,11 +27,11 @@ use crate::pieces::{Shown, pieces, shown_tokens, values};
 /// requires { length text.now < 2 ^ 32 }
 ///
 /// // The bytes are those of a module that the text spells.
-/// ensures bytes { IfOk result (λ bytes. (fs : List Function) × Spells text.now fs × Fits fs
+/// ensures bytes { IfOk result (λ bytes. (fs : List Field) × Spells text.now fs × Fits fs
 ///     × (bytes.items ≡ module_bytes fs)) }
 ///
 /// // Where it spells a module, the answer is its bytes, or that they are too many.
-/// ensures spelled { (fs : List Function) → Spells text.now fs →
+/// ensures spelled { (fs : List Field) → Spells text.now fs →
 ///     Answers true (λ bytes. bytes.items) (fitted text.now (module_bytes fs)) result }
 ///
 /// // Any other refusal is that of all that the text shows, in its order.
@@ -125,6 +126,7 @@ fn message(kind: FaultKind) -> &'static str {
         FaultKind::OutOfRange => "number out of range",
         FaultKind::NotUtf8 => "name is not UTF-8",
         FaultKind::Duplicate => "duplicate identifier",
+        FaultKind::SecondStart => "more than one start function",
     }
 }
 

@@ -59,12 +59,50 @@ fn modules_have_their_bytes() {
 }
 
 #[test]
+fn fields_have_their_bytes() {
+    let rows: [(&str, &[u8]); 4] = [
+        (
+            "(module (memory $m (export \"m\") 0x1 1_0))",
+            b"\x05\x04\x01\x01\x01\x0a\x07\x05\x01\x01m\x02\x00",
+        ),
+        (
+            "(module (table 1 2 funcref) (table $t (export \"t\") 0 externref))",
+            b"\x04\x08\x02\x70\x01\x01\x02\x6f\x00\x00\x07\x05\x01\x01t\x01\x01",
+        ),
+        (
+            "(module (global i32 i32.const 7) (global $g (export \"g\") (mut i64) (i64.const -1)))",
+            b"\x06\x0b\x02\x7f\x00\x41\x07\x0b\x7e\x01\x42\x7f\x0b\x07\x05\x01\x01g\x03\x01",
+        ),
+        (
+            "(module (start $f) (func) (func $f))",
+            b"\x01\x04\x01\x60\x00\x00\x03\x03\x02\x00\x00\x08\x01\x01\x0a\x07\x02\x02\x00\x0b\x02\x00\x0b",
+        ),
+    ];
+    for (text, sections) in rows {
+        let bytes = parse_str(text).unwrap();
+        assert_eq!(bytes, [HEADER, sections].concat(), "{text}");
+    }
+}
+
+#[test]
 fn refusals_have_their_place() {
     let rows = [
         ("", "unexpected token", 0),
         ("(module) x", "unexpected token", 9),
         ("(module (func nop)", "unexpected token", 18),
-        ("(module (memory 1))", "unknown keyword", 9),
+        ("(module (data 0))", "unknown keyword", 9),
+        ("(module (memory +1))", "unexpected token", 16),
+        ("(module (table 1 func))", "unknown keyword", 17),
+        (
+            "(module (start 1) (start 2))",
+            "more than one start function",
+            8,
+        ),
+        (
+            "(module (export \"e\" (func $f)))",
+            "unknown identifier",
+            26,
+        ),
         ("(module (func frob))", "unknown keyword", 14),
         ("(module (func call $f))", "unknown identifier", 19),
         ("(module (func block $a end $b))", "mismatching label", 27),

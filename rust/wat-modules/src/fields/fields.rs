@@ -3,8 +3,9 @@
 
 use wat_lex::shim::prelude::*;
 use crate::fields::binary::module_bytes;
-use crate::fields::header::read_header;
-use crate::fields::names::{are_distinct, names, variable_names};
+use crate::fields::header::{closed, exports, read_header, utf8_text};
+use crate::fields::names::{Names, all_distinct, are_distinct, names_in, names_of, variable_names};
+use crate::fields::types::{global_type, limits, reference_type, space_of, twice_closed};
 use wat_lex::shim::alloc::Global;
 use crate::instructions::machine;
 use crate::instructions::pieces::{Fault, FaultKind, Instruction, Name, Piece, Refusal, ValueType};
@@ -32,6 +33,83 @@ pub struct Function<'p> {
     pub body: Vec<Instruction>,
 }
 
+/// An index space.
+#[derive(Clone, Copy)]
+pub enum IndexSpace {
+    Func,
+    Table,
+    Mem,
+    Global,
+}
+
+/// A reference type.
+#[derive(Clone, Copy)]
+pub enum ReferenceType {
+    Func,
+    Extern,
+}
+
+/// The least size of a memory or a table, and the largest where there is one.
+#[derive(Clone, Copy)]
+pub struct Limits {
+    pub min: u32,
+    pub max: Option<u32>,
+}
+
+/// The type of a table.
+#[derive(Clone, Copy)]
+pub struct TableType {
+    pub limits: Limits,
+    pub element: ReferenceType,
+}
+
+/// The type of a global variable.
+#[derive(Clone, Copy)]
+pub struct GlobalType {
+    pub is_mutable: bool,
+    pub value: ValueType,
+}
+
+/// A table.
+pub struct Table<'p> {
+    pub name: Name<'p>,
+    pub exports: Vec<&'p [u8]>,
+    pub of: TableType,
+}
+
+/// A memory.
+pub struct Memory<'p> {
+    pub name: Name<'p>,
+    pub exports: Vec<&'p [u8]>,
+    pub limits: Limits,
+}
+
+/// A global variable, and the instructions of its first value.
+pub struct GlobalVariable<'p> {
+    pub name: Name<'p>,
+    pub exports: Vec<&'p [u8]>,
+    pub of: GlobalType,
+    pub first: Vec<Instruction>,
+}
+
+/// An export of the item of an index.
+#[derive(Clone, Copy)]
+pub struct Export<'p> {
+    pub name: &'p [u8],
+    pub space: IndexSpace,
+    pub index: usize,
+}
+
+/// A field of a module.
+pub enum Field<'p> {
+    Func(Function<'p>),
+    Table(Table<'p>),
+    Memory(Memory<'p>),
+    Global(GlobalVariable<'p>),
+    Export(Export<'p>),
+    Start(usize),
+}
+
 /// What is left to read.
 #[derive(Clone, Copy)]
 pub(crate) struct Left<'p, 'a> {
@@ -46,32 +124,32 @@ pub(crate) struct Left<'p, 'a> {
 /// # Proved
 ///
 /// ```text
-/// ensures compiled { IfOk result (λ bytes. (fs : List grammar.Function) × grammar.Module (map terminal pieces.now) fs × (bytes.items ≡ module_bytes fs)) }
-/// ensures spelled { (fs : List grammar.Function) → grammar.Module (map terminal pieces.now) fs →
+/// ensures compiled { IfOk result (λ bytes. (fs : List grammar.Field) × grammar.Module (map terminal pieces.now) fs × (bytes.items ≡ module_bytes fs)) }
+/// ensures spelled { (fs : List grammar.Field) → grammar.Module (map terminal pieces.now) fs →
 ///     MatchResult result (λ bytes. bytes.items ≡ module_bytes fs) IsMemory }
 /// ensures refused { MatchResult result (λ _. Unit {0}) (λ e. Faults (reading.whole (map terminal pieces.now)) e) }
 /// ```
 pub fn compile<'p, 'a>(alloc: Global, pieces: &'p [Piece<'a>]) -> Result<Vec<u8>, Refusal<'p, 'a>> {
     crate::fields::laws::reading_is_grammar();
     match module(alloc, pieces) {
-        Ok(functions) => Ok(module_bytes(alloc, &functions)?),
+        Ok(fields) => Ok(module_bytes(alloc, &fields)?),
         Err(refusal) => Err(refusal),
     }
 }
 
-/// The functions of a module.
+/// The fields of a module.
 ///
 /// # Proved
 ///
 /// ```text
 /// ensures { MatchResult result
-/// (λ fs. reading.whole (map terminal pieces.now) ≡ Ok (functions_of fs.items))
+/// (λ fs. reading.whole (map terminal pieces.now) ≡ Ok (fields_of fs.items))
 /// (λ e. Faults (reading.whole (map terminal pieces.now)) e) }
 /// ```
 fn module<'p, 'a>(
     alloc: Global,
     pieces: &'p [Piece<'a>],
-) -> Result<Vec<Function<'p>>, Refusal<'p, 'a>> {
+) -> Result<Vec<Field<'p>>, Refusal<'p, 'a>> {
     match pieces {
         [Piece::Open, rest @ ..] => module_word(alloc, rest),
         [
@@ -93,19 +171,19 @@ fn module<'p, 'a>(
     }
 }
 
-/// The functions of a module, after its `(`.
+/// The fields of a module, after its `(`.
 ///
 /// # Proved
 ///
 /// ```text
 /// ensures { MatchResult result
-/// (λ fs. reading.module_word (map terminal pieces.now) ≡ Ok (functions_of fs.items))
+/// (λ fs. reading.module_word (map terminal pieces.now) ≡ Ok (fields_of fs.items))
 /// (λ e. Faults (reading.module_word (map terminal pieces.now)) e) }
 /// ```
 fn module_word<'p, 'a>(
     alloc: Global,
     pieces: &'p [Piece<'a>],
-) -> Result<Vec<Function<'p>>, Refusal<'p, 'a>> {
+) -> Result<Vec<Field<'p>>, Refusal<'p, 'a>> {
     match pieces {
         [Piece::Word(word), rest @ ..] => {
             if *word == "module" {
@@ -137,33 +215,53 @@ fn module_word<'p, 'a>(
     }
 }
 
-/// The functions of a module, after its word and its name.
+/// The fields of a module, after its word and its name.
 ///
 /// # Proved
 ///
 /// ```text
 /// ensures { MatchResult result
-/// (λ fs. reading.fields_at (map terminal pieces.now) ≡ Ok (functions_of fs.items))
+/// (λ fs. reading.fields_at (map terminal pieces.now) ≡ Ok (fields_of fs.items))
 /// (λ e. Faults (reading.fields_at (map terminal pieces.now)) e) }
 /// ```
 fn module_fields<'p, 'a>(
     alloc: Global,
     pieces: &'p [Piece<'a>],
-) -> Result<Vec<Function<'p>>, Refusal<'p, 'a>> {
-    let names = names(alloc, pieces)?;
-    if !are_distinct(&names) {
+) -> Result<Vec<Field<'p>>, Refusal<'p, 'a>> {
+    let names = names_of(alloc, pieces)?;
+    if !all_distinct(&names) {
         return Err(Refusal::Text(Fault {
             kind: FaultKind::Duplicate,
             left: pieces,
         }));
     }
-    let (functions, rest) = fields(alloc, &names, pieces)?;
-    match rest {
-        [Piece::Close] => Ok(functions),
-        [Piece::Close, left @ ..] => Err(Refusal::Text(Fault {
+    let (fields, rest) = fields(alloc, &names, pieces)?;
+    ended(rest)?;
+    if starts(&fields) > 1 {
+        return Err(Refusal::Text(Fault {
+            kind: FaultKind::SecondStart,
+            left: pieces,
+        }));
+    }
+    Ok(fields)
+}
+
+/// Whether `)` comes next, and then the end.
+///
+/// # Proved
+///
+/// ```text
+/// ensures { MatchResult result
+/// (λ _. map terminal pieces.now ≡ Close ∷ [])
+/// (λ f. (fs : List grammar.Field) → reading.ended (Ok (fs, map terminal pieces.now)) ≡ Err (fault_of f)) }
+/// ```
+fn ended<'p, 'a>(pieces: &'p [Piece<'a>]) -> Result<(), Fault<'p, 'a>> {
+    match pieces {
+        [Piece::Close] => Ok(()),
+        [Piece::Close, left @ ..] => Err(Fault {
             kind: FaultKind::Unexpected,
             left: left,
-        })),
+        }),
         [
             Piece::Open
             | Piece::Word(_)
@@ -172,15 +270,32 @@ fn module_fields<'p, 'a>(
             | Piece::Text(_)
             | Piece::Other,
             ..,
-        ] => Err(Refusal::Text(Fault {
+        ] => Err(Fault {
             kind: FaultKind::Unexpected,
-            left: rest,
-        })),
-        [] => Err(Refusal::Text(Fault {
+            left: pieces,
+        }),
+        [] => Err(Fault {
             kind: FaultKind::Unexpected,
-            left: rest,
-        })),
+            left: pieces,
+        }),
     }
+}
+
+/// How many start functions there are.
+///
+/// # Proved
+///
+/// ```text
+/// ensures { result ≡ length (grammar.starts_of (fields_of fields.now)) }
+/// ```
+fn starts(fields: &[Field<'_>]) -> usize {
+    let mut count = 0;
+    for field in fields {
+        if let Field::Start(_) = field {
+            count += 1;
+        }
+    }
+    count
 }
 
 /// All fields.
@@ -189,20 +304,20 @@ fn module_fields<'p, 'a>(
 ///
 /// ```text
 /// ensures { MatchResult result
-/// (λ r. reading.all (reading.field_item (map label functions.now)) (map terminal pieces.now) ≡ Ok (functions_of r.0.items, map terminal r.1.now))
-/// (λ e. Faults (reading.all (reading.field_item (map label functions.now)) (map terminal pieces.now)) e) }
+/// (λ r. reading.all (reading.field_item (context_of names.now)) (map terminal pieces.now) ≡ Ok (fields_of r.0.items, map terminal r.1.now))
+/// (λ e. Faults (reading.all (reading.field_item (context_of names.now)) (map terminal pieces.now)) e) }
 /// ```
 fn fields<'p, 'a>(
     alloc: Global,
-    functions: &[Name<'p>],
+    names: &Names<'p>,
     pieces: &'p [Piece<'a>],
-) -> Result<(Vec<Function<'p>>, &'p [Piece<'a>]), Refusal<'p, 'a>> {
+) -> Result<(Vec<Field<'p>>, &'p [Piece<'a>]), Refusal<'p, 'a>> {
     crate::instructions::laws::machine_is_grammar();
     crate::instructions::laws::instructions_are_balanced();
     let mut found = Vec::new(alloc);
     let mut left = Left { pieces };
     'fields: loop {
-        match next_field(alloc, functions, &mut found, left) {
+        match next_field(alloc, names, &mut found, left) {
             Ok(Some(next)) => {
                 left = next;
             }
@@ -219,20 +334,20 @@ fn fields<'p, 'a>(
 /// ```text
 /// ensures { MatchResult result
 /// (λ o. MatchOption o
-/// (NoItem (reading.field_item (map label functions.now) (map terminal left.entry.pieces.now)) (map function_of found.old.items) (map function_of found.new.items))
-/// (λ l. IsItem (reading.field_item (map label functions.now) (map terminal left.entry.pieces.now)) (map function_of found.old.items) (map function_of found.new.items) (map terminal l.pieces.now)))
-/// (λ e. ItemFaults (reading.field_item (map label functions.now) (map terminal left.entry.pieces.now)) e) }
+/// (NoItem (reading.field_item (context_of names.now) (map terminal left.entry.pieces.now)) (map field_of found.old.items) (map field_of found.new.items))
+/// (λ l. IsItem (reading.field_item (context_of names.now) (map terminal left.entry.pieces.now)) (map field_of found.old.items) (map field_of found.new.items) (map terminal l.pieces.now)))
+/// (λ e. ItemFaults (reading.field_item (context_of names.now) (map terminal left.entry.pieces.now)) e) }
 /// ```
 fn next_field<'p, 'a>(
     alloc: Global,
-    functions: &[Name<'p>],
-    found: &mut Vec<Function<'p>>,
+    names: &Names<'p>,
+    found: &mut Vec<Field<'p>>,
     left: Left<'p, 'a>,
 ) -> Result<Option<Left<'p, 'a>>, Refusal<'p, 'a>> {
     match left.pieces {
-        [Piece::Open, rest @ ..] => match field(alloc, functions, rest) {
-            Ok((function, pieces)) => {
-                found.push(function)?;
+        [Piece::Open, rest @ ..] => match field_at(alloc, names, rest) {
+            Ok((field, pieces)) => {
+                found.push(field)?;
                 Ok(Some(Left { pieces }))
             }
             Err(refusal) => Err(refusal),
@@ -256,25 +371,16 @@ fn next_field<'p, 'a>(
 ///
 /// ```text
 /// ensures { MatchResult result
-/// (λ r. reading.field (map label functions.now) (map terminal pieces.now) ≡ Ok (function_of r.0 ∷ [], map terminal r.1.now))
-/// (λ e. Faults (reading.field (map label functions.now) (map terminal pieces.now)) e) }
+/// (λ r. reading.field (context_of names.now) (map terminal pieces.now) ≡ Ok (field_of r.0 ∷ [], map terminal r.1.now))
+/// (λ e. Faults (reading.field (context_of names.now) (map terminal pieces.now)) e) }
 /// ```
-fn field<'p, 'a>(
+fn field_at<'p, 'a>(
     alloc: Global,
-    functions: &[Name<'p>],
+    names: &Names<'p>,
     pieces: &'p [Piece<'a>],
-) -> Result<(Function<'p>, &'p [Piece<'a>]), Refusal<'p, 'a>> {
+) -> Result<(Field<'p>, &'p [Piece<'a>]), Refusal<'p, 'a>> {
     match pieces {
-        [Piece::Word(word), rest @ ..] => {
-            if *word == "func" {
-                function_after(alloc, functions, rest)
-            } else {
-                Err(Refusal::Text(Fault {
-                    kind: FaultKind::UnknownWord,
-                    left: pieces,
-                }))
-            }
-        }
+        [Piece::Word(word), rest @ ..] => field_after(alloc, names, *word, pieces, rest),
         [
             Piece::Open
             | Piece::Close
@@ -294,24 +400,302 @@ fn field<'p, 'a>(
     }
 }
 
+/// A field after its word, with which all these tokens begin.
+///
+/// # Proved
+///
+/// ```text
+/// ensures { MatchResult result
+/// (λ r. reading.field_by (context_of names.now) (grammar.space_of word.now) word.now (map terminal all.now) (map terminal pieces.now) ≡ Ok (field_of r.0 ∷ [], map terminal r.1.now))
+/// (λ e. Faults (reading.field_by (context_of names.now) (grammar.space_of word.now) word.now (map terminal all.now) (map terminal pieces.now)) e) }
+/// ```
+fn field_after<'p, 'a>(
+    alloc: Global,
+    names: &Names<'p>,
+    word: &str,
+    all: &'p [Piece<'a>],
+    pieces: &'p [Piece<'a>],
+) -> Result<(Field<'p>, &'p [Piece<'a>]), Refusal<'p, 'a>> {
+    match space_of(word) {
+        Some(IndexSpace::Func) => func_at(alloc, names, pieces),
+        Some(IndexSpace::Table) => table_at(alloc, pieces),
+        Some(IndexSpace::Mem) => memory_at(alloc, pieces),
+        Some(IndexSpace::Global) => global_at(alloc, names, pieces),
+        None => other_at(names, word, all, pieces),
+    }
+}
+
 /// A function, after its word.
 ///
 /// # Proved
 ///
 /// ```text
 /// ensures { MatchResult result
-/// (λ r. reading.after_label (map label functions.now) (label_of (map terminal pieces.now)) ≡ Ok (function_of r.0 ∷ [], map terminal r.1.now))
-/// (λ e. Faults (reading.after_label (map label functions.now) (label_of (map terminal pieces.now))) e) }
+/// (λ r. reading.func_at (context_of names.now) (label_of (map terminal pieces.now)) ≡ Ok (field_of r.0 ∷ [], map terminal r.1.now))
+/// (λ e. Faults (reading.func_at (context_of names.now) (label_of (map terminal pieces.now))) e) }
 /// ```
-fn function_after<'p, 'a>(
+fn func_at<'p, 'a>(
     alloc: Global,
-    functions: &[Name<'p>],
+    names: &Names<'p>,
     pieces: &'p [Piece<'a>],
-) -> Result<(Function<'p>, &'p [Piece<'a>]), Refusal<'p, 'a>> {
+) -> Result<(Field<'p>, &'p [Piece<'a>]), Refusal<'p, 'a>> {
     let (name, rest) = reading::label(pieces);
     let (header, rest) = read_header(alloc, rest)?;
-    let (body, rest) = instructions(alloc, functions, &header, rest)?;
-    Ok((Function { name, header, body }, rest))
+    let (body, rest) = instructions(alloc, names, &header, rest)?;
+    Ok((Field::Func(Function { name, header, body }), rest))
+}
+
+/// A table, after its word.
+///
+/// # Proved
+///
+/// ```text
+/// ensures { MatchResult result
+/// (λ r. reading.table_at (label_of (map terminal pieces.now)) ≡ Ok (field_of r.0 ∷ [], map terminal r.1.now))
+/// (λ e. Faults (reading.table_at (label_of (map terminal pieces.now))) e) }
+/// ```
+fn table_at<'p, 'a>(
+    alloc: Global,
+    pieces: &'p [Piece<'a>],
+) -> Result<(Field<'p>, &'p [Piece<'a>]), Refusal<'p, 'a>> {
+    let (name, rest) = reading::label(pieces);
+    let (exports, rest) = exports(alloc, rest)?;
+    let (limits, rest) = limits(rest)?;
+    let (element, rest) = reference_type(rest)?;
+    let of = TableType { limits, element };
+    Ok((Field::Table(Table { name, exports, of }), rest))
+}
+
+/// A memory, after its word.
+///
+/// # Proved
+///
+/// ```text
+/// ensures { MatchResult result
+/// (λ r. reading.memory_at (label_of (map terminal pieces.now)) ≡ Ok (field_of r.0 ∷ [], map terminal r.1.now))
+/// (λ e. Faults (reading.memory_at (label_of (map terminal pieces.now))) e) }
+/// ```
+fn memory_at<'p, 'a>(
+    alloc: Global,
+    pieces: &'p [Piece<'a>],
+) -> Result<(Field<'p>, &'p [Piece<'a>]), Refusal<'p, 'a>> {
+    let (name, rest) = reading::label(pieces);
+    let (exports, rest) = exports(alloc, rest)?;
+    let (limits, rest) = limits(rest)?;
+    let rest = closed(rest)?;
+    Ok((
+        Field::Memory(Memory {
+            name,
+            exports,
+            limits,
+        }),
+        rest,
+    ))
+}
+
+/// A global variable, after its word.
+///
+/// # Proved
+///
+/// ```text
+/// ensures { MatchResult result
+/// (λ r. reading.global_at (context_of names.now) (label_of (map terminal pieces.now)) ≡ Ok (field_of r.0 ∷ [], map terminal r.1.now))
+/// (λ e. Faults (reading.global_at (context_of names.now) (label_of (map terminal pieces.now))) e) }
+/// ```
+fn global_at<'p, 'a>(
+    alloc: Global,
+    names: &Names<'p>,
+    pieces: &'p [Piece<'a>],
+) -> Result<(Field<'p>, &'p [Piece<'a>]), Refusal<'p, 'a>> {
+    let (name, rest) = reading::label(pieces);
+    let (exports, rest) = exports(alloc, rest)?;
+    let (of, rest) = global_type(rest)?;
+    let scope = scope(names, &[]);
+    let (first, rest) = machine::instructions(alloc, &scope, rest)?;
+    Ok((
+        Field::Global(GlobalVariable {
+            name,
+            exports,
+            of,
+            first,
+        }),
+        rest,
+    ))
+}
+
+/// An export or a start function, after its word, with which all these tokens begin.
+///
+/// # Proved
+///
+/// ```text
+/// ensures { MatchResult result
+/// (λ r. reading.other_at (context_of names.now) word.now (map terminal all.now) (map terminal pieces.now) ≡ Ok (field_of r.0 ∷ [], map terminal r.1.now))
+/// (λ e. Faults (reading.other_at (context_of names.now) word.now (map terminal all.now) (map terminal pieces.now)) e) }
+/// ```
+fn other_at<'p, 'a>(
+    names: &Names<'p>,
+    word: &str,
+    all: &'p [Piece<'a>],
+    pieces: &'p [Piece<'a>],
+) -> Result<(Field<'p>, &'p [Piece<'a>]), Refusal<'p, 'a>> {
+    if word == "export" {
+        return Ok(export_at(names, pieces)?);
+    }
+    if word == "start" {
+        return Ok(start_at(names, pieces)?);
+    }
+    Err(Refusal::Text(Fault {
+        kind: FaultKind::UnknownWord,
+        left: all,
+    }))
+}
+
+/// An export, after its word.
+///
+/// # Proved
+///
+/// ```text
+/// ensures { MatchResult result
+/// (λ r. reading.export_at (context_of names.now) (map terminal pieces.now) ≡ Ok (field_of r.0 ∷ [], map terminal r.1.now))
+/// (λ f. reading.export_at (context_of names.now) (map terminal pieces.now) ≡ Err (fault_of f)) }
+/// ```
+fn export_at<'p, 'a>(
+    names: &Names<'p>,
+    pieces: &'p [Piece<'a>],
+) -> Result<(Field<'p>, &'p [Piece<'a>]), Fault<'p, 'a>> {
+    let (name, rest) = utf8_text(pieces)?;
+    external(names, name, rest)
+}
+
+/// What is exported under a name.
+///
+/// # Proved
+///
+/// ```text
+/// ensures { MatchResult result
+/// (λ r. reading.external_at (context_of names.now) name.now (map terminal pieces.now) ≡ Ok (field_of r.0 ∷ [], map terminal r.1.now))
+/// (λ f. reading.external_at (context_of names.now) name.now (map terminal pieces.now) ≡ Err (fault_of f)) }
+/// ```
+fn external<'p, 'a>(
+    names: &Names<'p>,
+    name: &'p [u8],
+    pieces: &'p [Piece<'a>],
+) -> Result<(Field<'p>, &'p [Piece<'a>]), Fault<'p, 'a>> {
+    match pieces {
+        [Piece::Open, rest @ ..] => external_word(names, name, rest),
+        [
+            Piece::Close
+            | Piece::Word(_)
+            | Piece::Id(_)
+            | Piece::Integer(_, _)
+            | Piece::Text(_)
+            | Piece::Other,
+            ..,
+        ] => Err(Fault {
+            kind: FaultKind::Unexpected,
+            left: pieces,
+        }),
+        [] => Err(Fault {
+            kind: FaultKind::Unexpected,
+            left: pieces,
+        }),
+    }
+}
+
+/// The same after `(`.
+///
+/// # Proved
+///
+/// ```text
+/// ensures { MatchResult result
+/// (λ r. reading.external_word (context_of names.now) name.now (map terminal pieces.now) ≡ Ok (field_of r.0 ∷ [], map terminal r.1.now))
+/// (λ f. reading.external_word (context_of names.now) name.now (map terminal pieces.now) ≡ Err (fault_of f)) }
+/// ```
+fn external_word<'p, 'a>(
+    names: &Names<'p>,
+    name: &'p [u8],
+    pieces: &'p [Piece<'a>],
+) -> Result<(Field<'p>, &'p [Piece<'a>]), Fault<'p, 'a>> {
+    match pieces {
+        [Piece::Word(word), rest @ ..] => match space_of(word) {
+            Some(space) => external_index(names, name, space, rest),
+            None => Err(Fault {
+                kind: FaultKind::UnknownWord,
+                left: pieces,
+            }),
+        },
+        [
+            Piece::Open
+            | Piece::Close
+            | Piece::Id(_)
+            | Piece::Integer(_, _)
+            | Piece::Text(_)
+            | Piece::Other,
+            ..,
+        ] => Err(Fault {
+            kind: FaultKind::Unexpected,
+            left: pieces,
+        }),
+        [] => Err(Fault {
+            kind: FaultKind::Unexpected,
+            left: pieces,
+        }),
+    }
+}
+
+/// The same after the word of an index space.
+///
+/// # Proved
+///
+/// ```text
+/// ensures { MatchResult result
+/// (λ r. reading.external_by (context_of names.now) name.now (Some space) (map terminal pieces.now) (map terminal pieces.now) ≡ Ok (field_of r.0 ∷ [], map terminal r.1.now))
+/// (λ f. reading.external_by (context_of names.now) name.now (Some space) (map terminal pieces.now) (map terminal pieces.now) ≡ Err (fault_of f)) }
+/// ```
+fn external_index<'p, 'a>(
+    names: &Names<'p>,
+    name: &'p [u8],
+    space: IndexSpace,
+    pieces: &'p [Piece<'a>],
+) -> Result<(Field<'p>, &'p [Piece<'a>]), Fault<'p, 'a>> {
+    let (index, rest) = reading::index(names_in(names, space), pieces)?;
+    let rest = twice_closed(rest)?;
+    Ok((Field::Export(Export { name, space, index }), rest))
+}
+
+/// A start function, after its word.
+///
+/// # Proved
+///
+/// ```text
+/// ensures { MatchResult result
+/// (λ r. reading.start_at (context_of names.now) (map terminal pieces.now) ≡ Ok (field_of r.0 ∷ [], map terminal r.1.now))
+/// (λ f. reading.start_at (context_of names.now) (map terminal pieces.now) ≡ Err (fault_of f)) }
+/// ```
+fn start_at<'p, 'a>(
+    names: &Names<'p>,
+    pieces: &'p [Piece<'a>],
+) -> Result<(Field<'p>, &'p [Piece<'a>]), Fault<'p, 'a>> {
+    let (index, rest) = reading::index(&names.funcs, pieces)?;
+    let rest = closed(rest)?;
+    Ok((Field::Start(index), rest))
+}
+
+/// The context of instructions.
+///
+/// # Proved
+///
+/// ```text
+/// ensures { scope_of result ≡ with_names (map label locals.now) (context_of names.now) }
+/// ```
+fn scope<'s, 'n>(names: &'s Names<'n>, locals: &'s [Name<'n>]) -> Scope<'s, 'n> {
+    Scope {
+        locals,
+        funcs: &names.funcs,
+        tables: &names.tables,
+        memories: &names.memories,
+        globals: &names.globals,
+    }
 }
 
 /// The instructions of a function, after its header.
@@ -320,12 +704,12 @@ fn function_after<'p, 'a>(
 ///
 /// ```text
 /// ensures { MatchResult result
-/// (λ r. reading.instructions (map label functions.now) (header_of header.now) (map terminal pieces.now) ≡ Ok (r.0.items, map terminal r.1.now))
-/// (λ e. Faults (reading.instructions (map label functions.now) (header_of header.now) (map terminal pieces.now)) e) }
+/// (λ r. reading.instructions (context_of names.now) (header_of header.now) (map terminal pieces.now) ≡ Ok (r.0.items, map terminal r.1.now))
+/// (λ e. Faults (reading.instructions (context_of names.now) (header_of header.now) (map terminal pieces.now)) e) }
 /// ```
 fn instructions<'p, 'a>(
     alloc: Global,
-    functions: &[Name<'p>],
+    names: &Names<'p>,
     header: &Header<'p>,
     pieces: &'p [Piece<'a>],
 ) -> Result<(Vec<Instruction>, &'p [Piece<'a>]), Refusal<'p, 'a>> {
@@ -336,10 +720,6 @@ fn instructions<'p, 'a>(
             left: pieces,
         }));
     }
-    let scope = Scope {
-        locals: &locals,
-        funcs: functions,
-        globals: &[],
-    };
+    let scope = scope(names, &locals);
     machine::instructions(alloc, &scope, pieces)
 }

@@ -43,7 +43,7 @@ pub(crate) fn read_header<'p, 'a>(
 /// (λ r. reading.all reading.export_item (map terminal pieces.now) ≡ Ok (map text_of r.0.items, map terminal r.1.now))
 /// (λ e. Faults (reading.all reading.export_item (map terminal pieces.now)) e) }
 /// ```
-fn exports<'p, 'a>(
+pub(crate) fn exports<'p, 'a>(
     alloc: Global,
     pieces: &'p [Piece<'a>],
 ) -> Result<(Vec<&'p [u8]>, &'p [Piece<'a>]), Refusal<'p, 'a>> {
@@ -175,7 +175,7 @@ fn after_word<'p, 'a>(word: &str, pieces: &'p [Piece<'a>]) -> Option<&'p [Piece<
 /// (λ r. reading.closed (map terminal pieces.now) ≡ Ok (map terminal r.now))
 /// (λ f. reading.closed (map terminal pieces.now) ≡ Err (fault_of f)) }
 /// ```
-fn closed<'p, 'a>(pieces: &'p [Piece<'a>]) -> Result<&'p [Piece<'a>], Fault<'p, 'a>> {
+pub(crate) fn closed<'p, 'a>(pieces: &'p [Piece<'a>]) -> Result<&'p [Piece<'a>], Fault<'p, 'a>> {
     match pieces {
         [Piece::Close, rest @ ..] => Ok(rest),
         [
@@ -220,7 +220,7 @@ fn is_utf8(bytes: &[u8]) -> bool {
 /// (λ r. reading.utf8_text (map terminal pieces.now) ≡ Ok (r.0.now, map terminal r.1.now))
 /// (λ f. reading.utf8_text (map terminal pieces.now) ≡ Err (fault_of f)) }
 /// ```
-fn utf8_text<'p, 'a>(
+pub(crate) fn utf8_text<'p, 'a>(
     pieces: &'p [Piece<'a>],
 ) -> Result<(&'p [u8], &'p [Piece<'a>]), Fault<'p, 'a>> {
     match pieces {

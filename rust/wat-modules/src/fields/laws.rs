@@ -13,3 +13,13 @@ pub fn reading_is_grammar() {
     crate::instructions::laws::machine_is_grammar();
     crate::instructions::laws::instructions_are_balanced();
 }
+
+/// Each function's type is among the types of its module, at its index. The function does nothing:
+/// its contract is the law.
+///
+/// # Proved
+///
+/// ```text
+/// ensures { TypesAreThere }
+/// ```
+pub fn types_are_there() {}

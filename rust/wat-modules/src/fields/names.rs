@@ -1,8 +1,9 @@
 // Made by tools/erase from crates/wat_fields/src/names.rt; do not edit.
-//! The names of functions, before their fields are read; and whether names are distinct.
+//! The items that fields define, before the fields are read; and whether names are distinct.
 
 use wat_lex::shim::prelude::*;
-use crate::fields::fields::Variable;
+use crate::fields::fields::{IndexSpace, Variable};
+use crate::fields::types::space_of;
 use wat_lex::shim::alloc::{AllocError, Global};
 use crate::instructions::pieces::{Name, Piece};
 
@@ -12,22 +13,112 @@ use crate::instructions::pieces::{Name, Piece};
 enum Depth {
     Before,
     Opened,
-    Headed,
+    Headed(Option<IndexSpace>),
     Inside(usize),
 }
 
-/// The names of functions in their order, by the parentheses alone.
+/// An item of an index space.
+#[derive(Clone, Copy)]
+struct Binding<'p> {
+    space: IndexSpace,
+    name: Name<'p>,
+}
+
+/// The names of each index space, in the order of their indices.
+pub(crate) struct Names<'p> {
+    pub(crate) funcs: Vec<Name<'p>>,
+    pub(crate) tables: Vec<Name<'p>>,
+    pub(crate) memories: Vec<Name<'p>>,
+    pub(crate) globals: Vec<Name<'p>>,
+}
+
+/// The names of the items that fields define, by the parentheses alone.
 ///
 /// # Proved
 ///
 /// ```text
-/// ensures { IfOk result (λ names. map label names.items ≡ reading.names reading.Before [] (map terminal pieces.now)) }
+/// ensures { IfOk result (λ names. context_of names ≡ grammar.context_of (reading.bindings reading.Before [] (map terminal pieces.now))) }
 /// ```
-pub(crate) fn names<'p>(
+pub(crate) fn names_of<'p>(
     alloc: Global,
     pieces: &'p [Piece<'_>],
+) -> Result<Names<'p>, AllocError> {
+    let bindings = bindings(alloc, pieces)?;
+    let funcs = names_among(alloc, &bindings, IndexSpace::Func)?;
+    let tables = names_among(alloc, &bindings, IndexSpace::Table)?;
+    let memories = names_among(alloc, &bindings, IndexSpace::Mem)?;
+    let globals = names_among(alloc, &bindings, IndexSpace::Global)?;
+    Ok(Names {
+        funcs,
+        tables,
+        memories,
+        globals,
+    })
+}
+
+/// Whether two index spaces are the same.
+///
+/// # Proved
+///
+/// ```text
+/// ensures { result ≡ is_space a b }
+/// ```
+fn is_space(a: IndexSpace, b: IndexSpace) -> bool {
+    match (a, b) {
+        (IndexSpace::Func, IndexSpace::Func)
+        | (IndexSpace::Table, IndexSpace::Table)
+        | (IndexSpace::Mem, IndexSpace::Mem)
+        | (IndexSpace::Global, IndexSpace::Global) => true,
+        _ => false,
+    }
+}
+
+/// The names of an index space.
+///
+/// # Proved
+///
+/// ```text
+/// ensures { IfOk result (λ names. map label names.items ≡ names_in space (map binding_of bindings.now)) }
+/// ```
+fn names_among<'p>(
+    alloc: Global,
+    bindings: &[Binding<'p>],
+    space: IndexSpace,
 ) -> Result<Vec<Name<'p>>, AllocError> {
     let mut names = Vec::new(alloc);
+    for binding in bindings {
+        if is_space(space, binding.space) {
+            names.push(binding.name)?;
+        }
+    }
+    Ok(names)
+}
+
+/// The same of these.
+///
+/// # Proved
+///
+/// ```text
+/// ensures { map label result.now ≡ names_of (context_of names.now) space }
+/// ```
+pub(crate) fn names_in<'s, 'p>(names: &'s Names<'p>, space: IndexSpace) -> &'s [Name<'p>] {
+    match space {
+        IndexSpace::Func => &names.funcs,
+        IndexSpace::Table => &names.tables,
+        IndexSpace::Mem => &names.memories,
+        IndexSpace::Global => &names.globals,
+    }
+}
+
+/// The items that fields define, in their order, by the parentheses alone.
+///
+/// # Proved
+///
+/// ```text
+/// ensures { IfOk result (λ bindings. map binding_of bindings.items ≡ reading.bindings reading.Before [] (map terminal pieces.now)) }
+/// ```
+fn bindings<'p>(alloc: Global, pieces: &'p [Piece<'_>]) -> Result<Vec<Binding<'p>>, AllocError> {
+    let mut bindings = Vec::new(alloc);
     let mut depth = Depth::Before;
     for piece in pieces {
         match depth {
@@ -38,19 +129,19 @@ pub(crate) fn names<'p>(
                 | Piece::Id(_)
                 | Piece::Integer(_, _)
                 | Piece::Text(_)
-                | Piece::Other => return Ok(names),
+                | Piece::Other => return Ok(bindings),
             },
             Depth::Opened => match *piece {
-                Piece::Word(_) => depth = Depth::Headed,
+                Piece::Word(word) => depth = Depth::Headed(space_of(word)),
                 Piece::Open
                 | Piece::Close
                 | Piece::Id(_)
                 | Piece::Integer(_, _)
                 | Piece::Text(_)
-                | Piece::Other => return Ok(names),
+                | Piece::Other => return Ok(bindings),
             },
-            Depth::Headed => {
-                names.push(name_of(*piece))?;
+            Depth::Headed(space) => {
+                push_binding(&mut bindings, space, name_of(*piece))?;
                 depth = after_head(*piece);
             }
             Depth::Inside(open) => match *piece {
@@ -64,7 +155,28 @@ pub(crate) fn names<'p>(
             },
         }
     }
-    Ok(names)
+    Ok(bindings)
+}
+
+/// Appends the item of a field, where it defines one.
+///
+/// # Proved
+///
+/// ```text
+/// ensures { OnOk result (map binding_of bindings.new.items ≡ map binding_of bindings.old.items ++ reading.binding_by space (label name.entry)) }
+/// ```
+fn push_binding<'p>(
+    bindings: &mut Vec<Binding<'p>>,
+    space: Option<IndexSpace>,
+    name: Name<'p>,
+) -> Result<(), AllocError> {
+    match space {
+        Some(space) => {
+            bindings.push(Binding { space, name })?;
+            Ok(())
+        }
+        None => Ok(()),
+    }
 }
 
 /// The name that a field has which begins so after its word.
@@ -150,6 +262,20 @@ pub(crate) fn are_distinct(names: &[Name<'_>]) -> bool {
         }
     }
     true
+}
+
+/// Whether they are distinct in each index space.
+///
+/// # Proved
+///
+/// ```text
+/// ensures { result ≡ all_distinct (context_of names.now) }
+/// ```
+pub(crate) fn all_distinct(names: &Names<'_>) -> bool {
+    are_distinct(&names.funcs)
+        && are_distinct(&names.tables)
+        && are_distinct(&names.memories)
+        && are_distinct(&names.globals)
 }
 
 /// The names of parameters and local variables.

@@ -8,11 +8,13 @@ use crate::instructions::pieces::{
 };
 use crate::instructions::table::{self, Immediate};
 
-/// The names of local variables, functions and global variables, in the order of their indices.
+/// The names of the items of five index spaces, each in the order of their indices.
 #[derive(Clone, Copy)]
 pub struct Scope<'s, 'n> {
     pub locals: &'s [Name<'n>],
     pub funcs: &'s [Name<'n>],
+    pub tables: &'s [Name<'n>],
+    pub memories: &'s [Name<'n>],
     pub globals: &'s [Name<'n>],
 }
 
@@ -80,14 +82,14 @@ fn label_index(frames: &[Frame<'_>], name: &str) -> Option<usize> {
 /// (λ r. index (map label names.now) (map terminal pieces.now) ≡ Ok (r.0, map terminal r.1.now))
 /// (λ f. index (map label names.now) (map terminal pieces.now) ≡ Err (fault_of f)) }
 /// ```
-fn index<'p, 'a>(
+pub fn index<'p, 'a>(
     names: &[Name<'_>],
     pieces: &'p [Piece<'a>],
-) -> Result<(Argument, &'p [Piece<'a>]), Fault<'p, 'a>> {
+) -> Result<(usize, &'p [Piece<'a>]), Fault<'p, 'a>> {
     match pieces {
         [Piece::Integer(Sign::Absent, n), rest @ ..] => {
             if *n < 0x1_0000_0000 {
-                Ok((Argument::Index(*n as usize), rest))
+                Ok((*n as usize, rest))
             } else {
                 Err(Fault {
                     kind: FaultKind::OutOfRange,
@@ -100,7 +102,7 @@ fn index<'p, 'a>(
             left: pieces,
         }),
         [Piece::Id(name), rest @ ..] => match name_index(names, name) {
-            Some(n) => Ok((Argument::Index(n), rest)),
+            Some(n) => Ok((n, rest)),
             None => Err(Fault {
                 kind: FaultKind::UnknownName,
                 left: pieces,
@@ -129,14 +131,14 @@ fn index<'p, 'a>(
 /// (λ r. index (labels_in (stack frames.now)) (map terminal pieces.now) ≡ Ok (r.0, map terminal r.1.now))
 /// (λ f. index (labels_in (stack frames.now)) (map terminal pieces.now) ≡ Err (fault_of f)) }
 /// ```
-fn label_argument<'p, 'a>(
+fn label_number<'p, 'a>(
     frames: &[Frame<'_>],
     pieces: &'p [Piece<'a>],
-) -> Result<(Argument, &'p [Piece<'a>]), Fault<'p, 'a>> {
+) -> Result<(usize, &'p [Piece<'a>]), Fault<'p, 'a>> {
     match pieces {
         [Piece::Integer(Sign::Absent, n), rest @ ..] => {
             if *n < 0x1_0000_0000 {
-                Ok((Argument::Index(*n as usize), rest))
+                Ok((*n as usize, rest))
             } else {
                 Err(Fault {
                     kind: FaultKind::OutOfRange,
@@ -149,7 +151,7 @@ fn label_argument<'p, 'a>(
             left: pieces,
         }),
         [Piece::Id(name), rest @ ..] => match label_index(frames, name) {
-            Some(n) => Ok((Argument::Index(n), rest)),
+            Some(n) => Ok((n, rest)),
             None => Err(Fault {
                 kind: FaultKind::UnknownName,
                 left: pieces,
@@ -167,6 +169,40 @@ fn label_argument<'p, 'a>(
             left: pieces,
         }),
     }
+}
+
+/// The immediate that is an index.
+///
+/// # Proved
+///
+/// ```text
+/// ensures { MatchResult result
+/// (λ r. with_index (index (map label names.now) (map terminal pieces.now)) ≡ Ok (r.0, map terminal r.1.now))
+/// (λ f. with_index (index (map label names.now) (map terminal pieces.now)) ≡ Err (fault_of f)) }
+/// ```
+fn name_argument<'p, 'a>(
+    names: &[Name<'_>],
+    pieces: &'p [Piece<'a>],
+) -> Result<(Argument, &'p [Piece<'a>]), Fault<'p, 'a>> {
+    let (n, rest) = index(names, pieces)?;
+    Ok((Argument::Index(n), rest))
+}
+
+/// The immediate that is an index of a label.
+///
+/// # Proved
+///
+/// ```text
+/// ensures { MatchResult result
+/// (λ r. with_index (index (labels_in (stack frames.now)) (map terminal pieces.now)) ≡ Ok (r.0, map terminal r.1.now))
+/// (λ f. with_index (index (labels_in (stack frames.now)) (map terminal pieces.now)) ≡ Err (fault_of f)) }
+/// ```
+fn label_argument<'p, 'a>(
+    frames: &[Frame<'_>],
+    pieces: &'p [Piece<'a>],
+) -> Result<(Argument, &'p [Piece<'a>]), Fault<'p, 'a>> {
+    let (n, rest) = label_number(frames, pieces)?;
+    Ok((Argument::Index(n), rest))
 }
 
 /// The number of 32 bits that an integer denotes, as one with a sign.
@@ -332,10 +368,10 @@ fn immediate<'p, 'a>(
 ) -> Result<(Argument, &'p [Piece<'a>]), Fault<'p, 'a>> {
     match kind {
         Immediate::No => Ok((Argument::Nothing, pieces)),
-        Immediate::Local => index(scope.locals, pieces),
+        Immediate::Local => name_argument(scope.locals, pieces),
         Immediate::Label => label_argument(frames, pieces),
-        Immediate::Func => index(scope.funcs, pieces),
-        Immediate::Global => index(scope.globals, pieces),
+        Immediate::Func => name_argument(scope.funcs, pieces),
+        Immediate::Global => name_argument(scope.globals, pieces),
         Immediate::I32 => number_32(pieces),
         Immediate::I64 => number_64(pieces),
         Immediate::Memory(natural) => Ok(memory::argument(natural, pieces)),

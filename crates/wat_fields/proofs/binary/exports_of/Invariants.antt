@@ -1,7 +1,8 @@
-use Rattle.std.proofs.Common.{◌≡◌, ◌++◌, map, drop}
-use Rattle.wat_fields.specs.Binary.{exports_from}
-use Rattle.wat_fields.specs.Views.{export_of, function_of}
+use Rattle.std.proofs.Common.{◌≡◌, ◌++◌, suc, map, drop}
+use Rattle.wat_fields.specs.Views.{AreBelow, counts_of, exports_from, export_of, field_of}
+use Rattle.wat_fields.proofs.Counting.{none}
 use Rattle.wat_fields.proofs.binary.exports_of.Given as goal
 
-abbrev pub invariant-loop-i : goal.invariant-loop-i
-invariant-loop-i l = exports_from 0 (map function_of l.functions) ≡ map export_of l.exports.items ++ exports_from l.i (map function_of (drop l.i l.functions))
+abbrev pub invariant-loop-field : goal.invariant-loop-field
+invariant-loop-field l =
+    (exports_from none (map field_of l.fields) ≡ map export_of l.exports.items ++ exports_from (counts_of l.counts) (map field_of (drop l.field-index l.fields))) × AreBelow (counts_of l.counts) (suc l.field-index)

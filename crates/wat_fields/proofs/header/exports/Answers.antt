@@ -8,12 +8,12 @@ use Rattle.wat_fields.proofs.Manies.{leads_on, leads_out, leads_from, faulted, s
 use Rattle.wat_fields.proofs.header.exports.Goals as goal
 
 pub exports-smaller : goal.exports-smaller
-exports-smaller c = let item = rw (c.in-Ok-Some.field-0-is) at c.in-Ok-Some.ensures in smaller (reading.export_item) fields.Export exports_read c.exports.left.pieces.now c.in-Ok-Some.next.pieces.now item.values item.is
+exports-smaller c = let item = rw (c.in-Ok-Some.field-0-is) at c.in-Ok-Some.ensures in smaller (reading.export_item) fields.InlineExport exports_read c.exports.left.pieces.now c.in-Ok-Some.next.pieces.now item.values item.is
 
 pub exports-preserved : goal.exports-preserved
 exports-preserved c =
     let item = rw (c.in-Ok-Some.field-0-is) at c.in-Ok-Some.ensures in
-    λ q h. c.exports.invariant q (leads_on (reading.export_item) (map text_of c.exports.found.items) (map text_of c.next_export.new.found.items) item.values (map terminal c.exports.left.pieces.now) (map terminal c.in-Ok-Some.next.pieces.now) q item.is item.follow (smaller_terminals (reading.export_item) fields.Export exports_read (map terminal c.exports.left.pieces.now) (map terminal c.in-Ok-Some.next.pieces.now) item.values item.is) h)
+    λ q h. c.exports.invariant q (leads_on (reading.export_item) (map text_of c.exports.found.items) (map text_of c.next_export.new.found.items) item.values (map terminal c.exports.left.pieces.now) (map terminal c.in-Ok-Some.next.pieces.now) q item.is item.follow (smaller_terminals (reading.export_item) fields.InlineExport exports_read (map terminal c.exports.left.pieces.now) (map terminal c.in-Ok-Some.next.pieces.now) item.values item.is) h)
 
 pub returns-in-Ok-None : goal.returns-in-Ok-None
 returns-in-Ok-None c =

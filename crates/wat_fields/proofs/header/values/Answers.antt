@@ -7,12 +7,12 @@ use Rattle.wat_fields.proofs.Manies.{leads_on, leads_out, leads_from, faulted, s
 use Rattle.wat_fields.proofs.header.values.Goals as goal
 
 pub values-smaller : goal.values-smaller
-values-smaller c = let item = rw (c.in-Ok-Some.field-0-is) at c.in-Ok-Some.ensures in smaller (reading.value_item) fields.Value values_read c.values.left.pieces.now c.in-Ok-Some.next.pieces.now item.values item.is
+values-smaller c = let item = rw (c.in-Ok-Some.field-0-is) at c.in-Ok-Some.ensures in smaller (reading.value_item) fields.ValueTypeIs values_read c.values.left.pieces.now c.in-Ok-Some.next.pieces.now item.values item.is
 
 pub values-preserved : goal.values-preserved
 values-preserved c =
     let item = rw (c.in-Ok-Some.field-0-is) at c.in-Ok-Some.ensures in
-    λ q h. c.values.invariant q (leads_on (reading.value_item) (c.values.found.items) (c.next_value.new.found.items) item.values (map terminal c.values.left.pieces.now) (map terminal c.in-Ok-Some.next.pieces.now) q item.is item.follow (smaller_terminals (reading.value_item) fields.Value values_read (map terminal c.values.left.pieces.now) (map terminal c.in-Ok-Some.next.pieces.now) item.values item.is) h)
+    λ q h. c.values.invariant q (leads_on (reading.value_item) (c.values.found.items) (c.next_value.new.found.items) item.values (map terminal c.values.left.pieces.now) (map terminal c.in-Ok-Some.next.pieces.now) q item.is item.follow (smaller_terminals (reading.value_item) fields.ValueTypeIs values_read (map terminal c.values.left.pieces.now) (map terminal c.in-Ok-Some.next.pieces.now) item.values item.is) h)
 
 pub returns-in-Ok-None : goal.returns-in-Ok-None
 returns-in-Ok-None c =

@@ -7,11 +7,11 @@ use Rattle.wat_instructions.proofs.machine.steps.Goals as goal
 
 pub open-preserved : goal.open-preserved
 open-preserved c =
-    let env = scope_of c.args.scope.now in
+    let context = scope_of c.args.scope.now in
     let e = ap stack c.in-Some.ensures.items ∙ stack_push c.pop.new.self.items c.in-Some.frame in
     record {
-      runs = λ end after h. c.open.invariant.runs end after (onto env (part c.in-Some.frame) (stack c.open.frames.items) (stack c.pop.new.self.items) (stack c.step_on.new.frames.items) (map terminal c.open.left.pieces.now) (map terminal c.in-Ok.next.pieces.now) end c.open.out.items c.step_on.new.out.items after e c.in-Ok.ensures h);
-      fails = λ r h. c.open.invariant.fails r (onto_into env (part c.in-Some.frame) (stack c.open.frames.items) (stack c.pop.new.self.items) (stack c.step_on.new.frames.items) (map terminal c.open.left.pieces.now) (map terminal c.in-Ok.next.pieces.now) c.open.out.items c.step_on.new.out.items r e c.in-Ok.ensures h);
+      runs = λ end after h. c.open.invariant.runs end after (onto context (part c.in-Some.frame) (stack c.open.frames.items) (stack c.pop.new.self.items) (stack c.step_on.new.frames.items) (map terminal c.open.left.pieces.now) (map terminal c.in-Ok.next.pieces.now) end c.open.out.items c.step_on.new.out.items after e c.in-Ok.ensures h);
+      fails = λ r h. c.open.invariant.fails r (onto_into context (part c.in-Some.frame) (stack c.open.frames.items) (stack c.pop.new.self.items) (stack c.step_on.new.frames.items) (map terminal c.open.left.pieces.now) (map terminal c.in-Ok.next.pieces.now) c.open.out.items c.step_on.new.out.items r e c.in-Ok.ensures h);
     }
 
 pub open-smaller : goal.open-smaller

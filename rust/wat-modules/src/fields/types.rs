@@ -1,0 +1,379 @@
+// Made by tools/erase from crates/wat_fields/src/types.rt; do not edit.
+//! Limits, reference types, types of globals, and index spaces.
+
+use wat_lex::shim::prelude::*;
+use crate::fields::fields::{GlobalType, IndexSpace, Limits, ReferenceType};
+use crate::fields::header::closed;
+use crate::instructions::pieces::{Fault, FaultKind, Piece, Sign, ValueType};
+use crate::instructions::reading::value_type;
+
+/// The index space of a word.
+///
+/// # Proved
+///
+/// ```text
+/// ensures { result ≡ space_of word.now }
+/// ```
+pub(crate) fn space_of(word: &str) -> Option<IndexSpace> {
+    if word == "func" {
+        Some(IndexSpace::Func)
+    } else if word == "table" {
+        Some(IndexSpace::Table)
+    } else if word == "memory" {
+        Some(IndexSpace::Mem)
+    } else if word == "global" {
+        Some(IndexSpace::Global)
+    } else {
+        None
+    }
+}
+
+/// The reference type of a word.
+///
+/// # Proved
+///
+/// ```text
+/// ensures { result ≡ reference_type word.now }
+/// ```
+fn reference_of(word: &str) -> Option<ReferenceType> {
+    if word == "funcref" {
+        Some(ReferenceType::Func)
+    } else if word == "externref" {
+        Some(ReferenceType::Extern)
+    } else {
+        None
+    }
+}
+
+/// A number of 32 bits without a sign, with which these tokens begin, and the tokens after it.
+///
+/// # Proved
+///
+/// ```text
+/// ensures { MatchResult result
+/// (λ r. small sign n (map terminal all.now) (map terminal rest.now) ≡ Ok (r.0, map terminal r.1.now))
+/// (λ f. small sign n (map terminal all.now) (map terminal rest.now) ≡ Err (fault_of f)) }
+/// ```
+fn small<'p, 'a>(
+    sign: Sign,
+    n: u64,
+    all: &'p [Piece<'a>],
+    rest: &'p [Piece<'a>],
+) -> Result<(u32, &'p [Piece<'a>]), Fault<'p, 'a>> {
+    match sign {
+        Sign::Absent => {
+            if n < 0x1_0000_0000 {
+                Ok((n as u32, rest))
+            } else {
+                Err(Fault {
+                    kind: FaultKind::OutOfRange,
+                    left: all,
+                })
+            }
+        }
+        Sign::Plus | Sign::Minus => Err(Fault {
+            kind: FaultKind::Unexpected,
+            left: all,
+        }),
+    }
+}
+
+/// Limits.
+///
+/// # Proved
+///
+/// ```text
+/// ensures { MatchResult result
+/// (λ r. reading.limits_at (map terminal pieces.now) ≡ Ok (r.0, map terminal r.1.now))
+/// (λ f. reading.limits_at (map terminal pieces.now) ≡ Err (fault_of f)) }
+/// ```
+pub(crate) fn limits<'p, 'a>(
+    pieces: &'p [Piece<'a>],
+) -> Result<(Limits, &'p [Piece<'a>]), Fault<'p, 'a>> {
+    match pieces {
+        [Piece::Integer(sign, n), rest @ ..] => {
+            let (min, rest) = small(*sign, *n, pieces, rest)?;
+            maximum(min, rest)
+        }
+        [
+            Piece::Open
+            | Piece::Close
+            | Piece::Word(_)
+            | Piece::Id(_)
+            | Piece::Text(_)
+            | Piece::Other,
+            ..,
+        ] => Err(Fault {
+            kind: FaultKind::Unexpected,
+            left: pieces,
+        }),
+        [] => Err(Fault {
+            kind: FaultKind::Unexpected,
+            left: pieces,
+        }),
+    }
+}
+
+/// Limits after their minimum.
+///
+/// # Proved
+///
+/// ```text
+/// ensures { MatchResult result
+/// (λ r. reading.max_at min (map terminal pieces.now) ≡ Ok (r.0, map terminal r.1.now))
+/// (λ f. reading.max_at min (map terminal pieces.now) ≡ Err (fault_of f)) }
+/// ```
+fn maximum<'p, 'a>(
+    min: u32,
+    pieces: &'p [Piece<'a>],
+) -> Result<(Limits, &'p [Piece<'a>]), Fault<'p, 'a>> {
+    match pieces {
+        [Piece::Integer(sign, n), rest @ ..] => {
+            let (max, rest) = small(*sign, *n, pieces, rest)?;
+            let max = Some(max);
+            Ok((Limits { min, max }, rest))
+        }
+        [
+            Piece::Open
+            | Piece::Close
+            | Piece::Word(_)
+            | Piece::Id(_)
+            | Piece::Text(_)
+            | Piece::Other,
+            ..,
+        ] => Ok((Limits { min, max: None }, pieces)),
+        [] => Ok((Limits { min, max: None }, pieces)),
+    }
+}
+
+/// A reference type and `)`.
+///
+/// # Proved
+///
+/// ```text
+/// ensures { MatchResult result
+/// (λ r. reading.reference_at (map terminal pieces.now) ≡ Ok (r.0, map terminal r.1.now))
+/// (λ f. reading.reference_at (map terminal pieces.now) ≡ Err (fault_of f)) }
+/// ```
+pub(crate) fn reference_type<'p, 'a>(
+    pieces: &'p [Piece<'a>],
+) -> Result<(ReferenceType, &'p [Piece<'a>]), Fault<'p, 'a>> {
+    match pieces {
+        [Piece::Word(word), rest @ ..] => match reference_of(word) {
+            Some(of) => closing_reference(of, rest),
+            None => Err(Fault {
+                kind: FaultKind::UnknownWord,
+                left: pieces,
+            }),
+        },
+        [
+            Piece::Open
+            | Piece::Close
+            | Piece::Id(_)
+            | Piece::Integer(_, _)
+            | Piece::Text(_)
+            | Piece::Other,
+            ..,
+        ] => Err(Fault {
+            kind: FaultKind::Unexpected,
+            left: pieces,
+        }),
+        [] => Err(Fault {
+            kind: FaultKind::Unexpected,
+            left: pieces,
+        }),
+    }
+}
+
+/// `)` after a reference type.
+///
+/// # Proved
+///
+/// ```text
+/// ensures { MatchResult result
+/// (λ r. reading.reference_by (Some of) (map terminal pieces.now) (map terminal pieces.now) ≡ Ok (r.0, map terminal r.1.now))
+/// (λ f. reading.reference_by (Some of) (map terminal pieces.now) (map terminal pieces.now) ≡ Err (fault_of f)) }
+/// ```
+fn closing_reference<'p, 'a>(
+    of: ReferenceType,
+    pieces: &'p [Piece<'a>],
+) -> Result<(ReferenceType, &'p [Piece<'a>]), Fault<'p, 'a>> {
+    let rest = closed(pieces)?;
+    Ok((of, rest))
+}
+
+/// The type of a global variable.
+///
+/// # Proved
+///
+/// ```text
+/// ensures { MatchResult result
+/// (λ r. reading.global_type_at (map terminal pieces.now) ≡ Ok (r.0, map terminal r.1.now))
+/// (λ f. reading.global_type_at (map terminal pieces.now) ≡ Err (fault_of f)) }
+/// ```
+pub(crate) fn global_type<'p, 'a>(
+    pieces: &'p [Piece<'a>],
+) -> Result<(GlobalType, &'p [Piece<'a>]), Fault<'p, 'a>> {
+    match pieces {
+        [Piece::Word(word), rest @ ..] => match value_type(word) {
+            Some(value) => {
+                let is_mutable = false;
+                Ok((GlobalType { is_mutable, value }, rest))
+            }
+            None => Err(Fault {
+                kind: FaultKind::UnknownWord,
+                left: pieces,
+            }),
+        },
+        [Piece::Open, rest @ ..] => mutable(rest),
+        [
+            Piece::Close | Piece::Id(_) | Piece::Integer(_, _) | Piece::Text(_) | Piece::Other,
+            ..,
+        ] => Err(Fault {
+            kind: FaultKind::Unexpected,
+            left: pieces,
+        }),
+        [] => Err(Fault {
+            kind: FaultKind::Unexpected,
+            left: pieces,
+        }),
+    }
+}
+
+/// The same after `(`.
+///
+/// # Proved
+///
+/// ```text
+/// ensures { MatchResult result
+/// (λ r. reading.mutable_at (map terminal pieces.now) ≡ Ok (r.0, map terminal r.1.now))
+/// (λ f. reading.mutable_at (map terminal pieces.now) ≡ Err (fault_of f)) }
+/// ```
+fn mutable<'p, 'a>(
+    pieces: &'p [Piece<'a>],
+) -> Result<(GlobalType, &'p [Piece<'a>]), Fault<'p, 'a>> {
+    match pieces {
+        [Piece::Word(word), rest @ ..] => {
+            if *word == "mut" {
+                mutable_type(rest)
+            } else {
+                Err(Fault {
+                    kind: FaultKind::UnknownWord,
+                    left: pieces,
+                })
+            }
+        }
+        [
+            Piece::Open
+            | Piece::Close
+            | Piece::Id(_)
+            | Piece::Integer(_, _)
+            | Piece::Text(_)
+            | Piece::Other,
+            ..,
+        ] => Err(Fault {
+            kind: FaultKind::Unexpected,
+            left: pieces,
+        }),
+        [] => Err(Fault {
+            kind: FaultKind::Unexpected,
+            left: pieces,
+        }),
+    }
+}
+
+/// A value type and `)`, after `(mut`.
+///
+/// # Proved
+///
+/// ```text
+/// ensures { MatchResult result
+/// (λ r. reading.mutable_type (map terminal pieces.now) ≡ Ok (r.0, map terminal r.1.now))
+/// (λ f. reading.mutable_type (map terminal pieces.now) ≡ Err (fault_of f)) }
+/// ```
+fn mutable_type<'p, 'a>(
+    pieces: &'p [Piece<'a>],
+) -> Result<(GlobalType, &'p [Piece<'a>]), Fault<'p, 'a>> {
+    match pieces {
+        [Piece::Word(word), rest @ ..] => match value_type(word) {
+            Some(of) => closing_mutable(of, rest),
+            None => Err(Fault {
+                kind: FaultKind::UnknownWord,
+                left: pieces,
+            }),
+        },
+        [
+            Piece::Open
+            | Piece::Close
+            | Piece::Id(_)
+            | Piece::Integer(_, _)
+            | Piece::Text(_)
+            | Piece::Other,
+            ..,
+        ] => Err(Fault {
+            kind: FaultKind::Unexpected,
+            left: pieces,
+        }),
+        [] => Err(Fault {
+            kind: FaultKind::Unexpected,
+            left: pieces,
+        }),
+    }
+}
+
+/// `)` after the type of a mutable global variable.
+///
+/// # Proved
+///
+/// ```text
+/// ensures { MatchResult result
+/// (λ r. reading.mutable_by (Some of) (map terminal pieces.now) (map terminal pieces.now) ≡ Ok (r.0, map terminal r.1.now))
+/// (λ f. reading.mutable_by (Some of) (map terminal pieces.now) (map terminal pieces.now) ≡ Err (fault_of f)) }
+/// ```
+fn closing_mutable<'p, 'a>(
+    of: ValueType,
+    pieces: &'p [Piece<'a>],
+) -> Result<(GlobalType, &'p [Piece<'a>]), Fault<'p, 'a>> {
+    let rest = closed(pieces)?;
+    let is_mutable = true;
+    Ok((
+        GlobalType {
+            is_mutable,
+            value: of,
+        },
+        rest,
+    ))
+}
+
+/// `)` and `)`.
+///
+/// # Proved
+///
+/// ```text
+/// ensures { MatchResult result
+/// (λ r. reading.twice_closed (map terminal pieces.now) ≡ Ok (map terminal r.now))
+/// (λ f. reading.twice_closed (map terminal pieces.now) ≡ Err (fault_of f)) }
+/// ```
+pub(crate) fn twice_closed<'p, 'a>(
+    pieces: &'p [Piece<'a>],
+) -> Result<&'p [Piece<'a>], Fault<'p, 'a>> {
+    match pieces {
+        [Piece::Close, rest @ ..] => closed(rest),
+        [
+            Piece::Open
+            | Piece::Word(_)
+            | Piece::Id(_)
+            | Piece::Integer(_, _)
+            | Piece::Text(_)
+            | Piece::Other,
+            ..,
+        ] => Err(Fault {
+            kind: FaultKind::Unexpected,
+            left: pieces,
+        }),
+        [] => Err(Fault {
+            kind: FaultKind::Unexpected,
+            left: pieces,
+        }),
+    }
+}
